@@ -1,51 +1,228 @@
 #!/usr/bin/env python3
-"""A simulated floor that is driven by cellplan, and that goes on after its cellplan was killed.
+"""A gateway that drives a floor by cellplan, to be copied from, and a simulated floor on which both are killed.
 
-floor.py [FILE PLAN] [--runs N] [--seed S] [--log] [--bad-line] [--break M UNTIL] [--scrap J@T].. [--down M@T].. [--add ROUTE@T]..
+floor.py [FILE PLAN] [--runs N] [--seed S] [--kills K] [--bad-line] [--break M UNTIL] [--scrap J@T].. [--down M@T].. [--add ROUTE@T]..
          [--program CELLPLAN]
 
 FILE is an instance and PLAN a plan for it that `cellplan check` accepts; without them it is `examples/ft06.txt` with
-`examples/ft06-cleaned.toml`. Each run is one pass of all parts through the cell, with random times of which some are too long:
+`examples/ft06-cleaned.toml`. Each run is one pass of all parts through the cell, with random times of which some are too long.
 
-1. `cellplan drive --lines 2` is killed (SIGKILL) at a random moment, and its log loses its last bytes, as where a machine goes down.
-2. `cellplan resume --lines 2` takes the run up from that log, and is killed in turn.
-3. `cellplan resume --lines 2` takes it up again, and drives the parts until all are out.
+`Gateway` is what a floor of one's own needs. It is a process, which starts `cellplan drive --log LOG --continue`, carries out its orders and
+reports what has ended. Between it and the floor telegrams go to and fro; with `--bad-line` these are lost, doubled, delayed and swapped. It
+keeps nothing but LOG and the texts that LOG was driven by, so whatever dies, it goes on by these and by what the floor tells of itself.
 
-With `--log` each of the three is `cellplan drive --lines 2 --log LOG`, which keeps the log itself, and loses nothing of it.
-
-After a restart the floor first carries out each order of the log that isn't carried out yet, and asks for the state. What has ended and
-still goes on by the state is reported again, with the moment at which it ended. In one of 2 and 3 the floor has forgotten these moments;
-then it goes by where the parts are, and reports what has ended with the present one.
-
-Each order is checked against the parts before it is carried out: the part stands where it is to be fetched and is finished, and
-the machine to which it goes is the next one of its route, holds no part and is clean. Each report that is accepted has to have ended. At
-the end `cellplan audit` has to find the whole run in the last log. What is wrong ends the program with status 1.
-
-With `--bad-line` the line to cellplan loses, doubles, delays and swaps what is sent, also over a restart. Without it no report may be
-refused.
+K times a run (2) the gateway, the cellplan that it has started, or both are killed (SIGKILL), at random moments, and the gateway is started
+again, as a service is. In between the floor goes on.
 
 With `--scrap J@T` part J is scrapped at moment T, or cancelled where it is still outside; with `--down M@T` machine M does no more from then
-on; with `--add ROUTE@T` one more job comes, whose machines and times are ROUTE. Then cellplan is killed, `cellplan revise` tells the shop and
-the plan for the rest, the floor asks for a better one, and hands the run over to it (`Run.hand_over`). A part that is scrapped in the cell,
-or is on the machine, is taken off by hand some time later. In between the run is killed and taken up at random. With `--break M UNTIL` machine
-M stands still until moment UNTIL, from the first part on that it gets before, and the run is handed over in the same way. A time unit lasts
-longer with these, as the search takes some time.
+on; with `--add ROUTE@T` one more job comes, whose machines and times are ROUTE; with `--break M UNTIL` machine M stands still until moment
+UNTIL, from the first part on that it gets before. The gateway is told, and hands the run over to a plan for what has changed, in mid-run, and
+it may be killed within that too. A time unit lasts longer then, as the search for a plan takes some time.
 
-What a floor of one's own needs is in two places: `Told` follows what cellplan has said, and `Floor.serve` is the loop that carries out
-orders, reports what has ended, and sends again what cellplan still waits for.
+Each order is checked as it is carried out: the part stands where it is to be fetched and is finished, and where it goes no part is, and
+nothing is cleaned. At the end LOG has each move that was made, once, and no other; it has no report of what hasn't ended; and `cellplan audit`
+keeps it. What is wrong ends the program with status 1.
 """
-import argparse, collections, heapq, json, os, random, re, select, shutil, signal, subprocess, sys, tempfile, time
+import argparse, collections, heapq, json, multiprocessing, os, random, re, select, shutil, signal, socket, subprocess, sys, tempfile, time, traceback
 
 HERE = os.path.dirname(os.path.abspath(__file__))
-UNIT = 0.0005  # seconds for which a time unit of the instance lasts
-LONG_UNIT = 0.01  # and where a machine breaks down
-SOON = 20  # the time units after which a floor whose report isn't answered asks for the state
-PATIENCE = 30  # the seconds after which a floor on which nothing moves, and nothing comes, is given up
-OUTSIDE = -1  # the place of a part that hasn't entered the cell; after its last step its place is the length of its route
+START_AGAIN = 6  # the status of a gateway that is to be started again
+UNIT, LONG_UNIT = 0.001, 0.01  # the seconds for which a time unit of the instance lasts, and where something changes
+PATIENCE = 30  # the seconds after which a floor on which nothing goes on is given up
+
+
+# ---- the gateway
+
+
+class FieldBus:
+    """The line to the floor. Its telegrams may be lost, come twice, come late, or overtake one another."""
+
+    def __init__(self, line):
+        self.line, self.newest = line, {"now": -1}
+
+    def send(self, *words):
+        try:
+            self.line.send(json.dumps(words).encode(), socket.MSG_DONTWAIT)
+        except BlockingIOError:
+            pass  # lost, like others: all is sent again until the floor tells that it is done
+
+    def state(self):
+        """The newest state that the floor has told, once another telegram has come or some time has gone."""
+        wait = 0.05
+        while select.select([self.line], [], [], wait)[0] or self.newest["now"] < 0:
+            state = json.loads(self.line.recv(1 << 20))
+            self.newest, wait = max(self.newest, state, key=lambda each: each["now"]), 0
+        return self.newest
+
+
+class Gateway:
+    """Drives one run by cellplan. `folder` has the log, and the texts by which it was driven, shop-N.txt and plan-N.toml, none of which is ever
+    written anew. The first line of a plan says after how many changes it is."""
+
+    def __init__(self, program, folder, bus):
+        self.program, self.folder, self.bus = program, folder, bus
+        self.log = os.path.join(folder, "run.log")
+
+    def run(self):
+        """Drives the run, and gives the status with which the process is to end: that of cellplan, and for a fault of its own 6."""
+        try:
+            return self.drive()
+        except Exception:
+            traceback.print_exc()
+            return START_AGAIN
+
+    def drive(self):
+        """Drives the run to its end."""
+        self.number = self.wanted()
+        self.start("--continue")
+        while not self.serve():
+            self.hand_over()
+        return self.close()
+
+    def serve(self):
+        """Carries out what is ordered and reports what has ended, until the run is over, or, which is false, something has changed."""
+        while True:
+            state = self.bus.state()
+            while self.orders and state["moves"].get(str(self.orders[0][0]), 0) >= self.orders[0][1]:
+                self.orders.popleft()  # it is carried out
+            self.bus.send(self.number, *list(self.orders)[:1])
+            changed = len(state["changes"]) > self.changes and self.reports > 0
+            if not self.orders and (self.is_over or changed):
+                return self.is_over
+            ended = sorted((moment, what) for what, moment in state["ended"].items() if what in self.goes_on)
+            if ended and not changed:
+                self.ask(*["%s %d" % (what, max(moment, self.last)) for moment, what in ended])
+
+    def hand_over(self):
+        """Hands the run over to a plan for the next change. All that was ordered is carried out, so each part is where the log has it, and
+        nothing is reported meanwhile. What has ended is kept by the floor, and reported to the new plan."""
+        self.close()
+        state, texts = self.bus.newest, self.texts(self.number)
+        change, now = state["changes"][self.changes], str(max(int(state["now"]), self.last))
+        down = [word for earlier in state["changes"][:self.changes] if earlier[0] == "--down" for word in earlier]
+        words = ["revise", *texts, self.log, "--at", now, *change, *down]
+        plan = self.answer(*words)
+        if plan.startswith("change refused "):  # the run goes on as before
+            file, plan = (open(path).read() for path in texts)
+        else:
+            file = self.answer(*words, "--file")
+        self.number = self.plans()
+        file_path, plan_path = self.texts(self.number)
+        written(file_path, file)
+        written(plan_path + ".last", plan)
+        plan = self.answer("improve", file_path, plan_path + ".last", "--after", self.log, "--at", now, "--rounds", "1")
+        written(plan_path, "# changes %d\n%s" % (self.changes + 1, plan))
+        print("at %s, %s: %s" % (now, " ".join(change), self.answer("check", file_path, plan_path, "--after", self.log, "--at", now)), end="", flush=True)
+        self.start("--hand-over", "--at", now)
+
+    def start(self, *words):
+        """Starts cellplan, and reads what the log has. Which of its orders are carried out, the floor tells."""
+        self.changes = self.changes_of(self.number)
+        words = [self.program, "drive", *self.texts(self.number), "--log", self.log, "--lines", "2", *words]
+        self.cellplan = subprocess.Popen(words, stdin=subprocess.PIPE, stdout=subprocess.PIPE, text=True)
+        self.orders = collections.deque()  # each with its job and how many moves that has made once it is carried out
+        self.moves = collections.Counter()
+        self.reports = self.last = 0
+        self.ask()
+
+    def ask(self, *reports):
+        """Sends these reports, and reads the answers up to the state, which is asked for behind them and tells all that goes on."""
+        try:
+            os.write(self.cellplan.stdin.fileno(), "".join(line + "\n" for line in [*reports, "status"]).encode())
+        except BrokenPipeError:
+            pass  # it has ended: what it has said before is read
+        self.goes_on = set()
+        for line in self.cellplan.stdout:
+            if not line.endswith("\n"):
+                break  # a torn line says nothing
+            if self.follow(line.split()):
+                return
+        sys.exit(self.close() or START_AGAIN)
+
+    def follow(self, words):
+        """Follows a line, and tells whether it ends the state."""
+        kind = words[0] if words else "mark"
+        if kind == "report":
+            self.reports, self.last = self.reports + 1, int(words[1])
+        elif kind == "order":
+            job, self.last = int(words[2]), int(words[1])
+            self.moves[job] += 1
+            self.orders.append((job, self.moves[job], words[3], words[4]))
+        elif kind == "done" or kind == "unfinished" and len(words) == 2:
+            self.is_over = kind == "done"
+            return True
+        elif kind == "unfinished":
+            self.goes_on.update(activity(words[1:]))
+        elif kind not in ("mark", "late"):
+            print("cellplan says:", *words, file=sys.stderr, flush=True)
+            # where a cellplan whose gateway has died has handed the run over meanwhile, the texts are looked for once more
+            sys.exit(START_AGAIN if words[:3] == ["log", "of", "another"] else self.close() or 1)
+        return False
+
+    def close(self):
+        """Ends the input of cellplan, and gives its status: one that was killed has none, and is to be started again."""
+        with self.cellplan:
+            self.cellplan.stdin.close()
+            self.cellplan.stdout.read()
+        return max(self.cellplan.returncode, 0) or (START_AGAIN if self.cellplan.returncode else 0)
+
+    def wanted(self):
+        """The number of the texts by which the log was driven last: its last line of a plan has their digits."""
+        with open(self.log, errors="replace") as log:
+            digits = re.findall(r"^unfinished (plan [0-9a-f]{16} shop [0-9a-f]{16})\n", log.read(), re.MULTILINE)
+        for number in reversed(range(self.plans() if digits else 0)):
+            if self.answer("digest", *self.texts(number)).split("\n")[0] == digits[-1]:
+                return number
+        sys.exit("floor: no texts are those of the log")
+
+    def plans(self):
+        """How many plans there are."""
+        return len([name for name in os.listdir(self.folder) if re.fullmatch(r"plan-\d+\.toml", name)])
+
+    def texts(self, number):
+        return [os.path.join(self.folder, name % number) for name in ("shop-%d.txt", "plan-%d.toml")]
+
+    def changes_of(self, number):
+        """After how many changes the texts are."""
+        with open(self.texts(number)[1]) as plan:
+            found = re.match(r"# changes (\d+)\n", plan.readline())
+        return int(found[1]) if found else 0
+
+    def answer(self, *words):
+        """The answer of a command that needs no input."""
+        ended = subprocess.run([self.program, *words], stdin=subprocess.DEVNULL, stdout=subprocess.PIPE, text=True)
+        if ended.returncode not in (0, 1):
+            sys.exit(max(ended.returncode, 0) or START_AGAIN)
+        return ended.stdout
+
+
+def activity(words):
+    """What a line of a state says to go on, as a report without its moment."""
+    if words[0] == "job" and words[2] == "arrives":
+        yield "arrive " + words[1]
+    elif words[0] == "job" and words[2] == "on":
+        yield "finish %s %s" % (words[1], words[4])
+    elif words[0] == "machine":
+        yield "clean %s %s" % (words[1], words[5])
+
+
+def written(path, text):
+    """The file has this text, and is on the disk."""
+    with open(path + ".new", "w") as file:
+        file.write(text)
+        file.flush()
+        os.fsync(file.fileno())
+    os.rename(path + ".new", path)
+    folder = os.open(os.path.dirname(path), os.O_RDONLY)
+    os.fsync(folder)
+    os.close(folder)
+
+
+# ---- the simulated floor
 
 
 class Wrong(Exception):
-    """Something that must not happen: a wrong order, a refused report, a log that isn't the run's."""
+    """Something that must not happen: a wrong order, a report of what hasn't ended, a log that isn't the run's."""
 
 
 class Shop:
@@ -54,35 +231,12 @@ class Shop:
     def __init__(self, instance, plan):
         with open(instance) as text:
             lines = iter([line.split() for line in text])
-        jobs, self.machines = next(map(int, line) for line in lines if len(line) == 2 and all(map(str.isdigit, line)))
+        jobs, machines = next(map(int, line) for line in lines if len(line) == 2 and all(map(str.isdigit, line)))
         numbers = [list(map(int, next(lines))) for _ in range(jobs)]
         self.routes = [list(zip(row[0::2], row[1::2])) for row in numbers]
         with open(plan) as text:  # one key a line, as `cellplan plan` writes it
             lists = {key: json.loads(value) for key, value in re.findall(r"^(\w+) *= *(\[.*\])", text.read(), re.MULTILINE)}
-        self.release = lists["release"]
-        self.clean = lists.get("clean", [0] * self.machines)
-
-    def text(self):
-        """The instance, as FILE has it."""
-        rows = [(len(self.routes), self.machines), *(sum(route, ()) for route in self.routes)]
-        return "floor\n" + "".join(" ".join(map(str, row)) + "\n" for row in rows)
-
-    def spot(self, job, place):
-        """The word for a place of a job's route in an order line."""
-        on_route = 0 <= place < len(self.routes[job])
-        return str(self.routes[job][place][0]) if on_route else "out"
-
-    def step(self, job, machine):
-        """The step of a job on a machine; one behind all places where its route doesn't come there."""
-        return next((step for step, (at, _) in enumerate(self.routes[job]) if at == machine), len(self.routes[job]) + 1)
-
-    def entered(self, places, machine):
-        """How many parts have come to a machine, by the places of all parts."""
-        return sum(place >= self.step(job, machine) for job, place in enumerate(places))
-
-    def left(self, places, machine):
-        """How many parts have left a machine, by the places of all parts."""
-        return sum(place > self.step(job, machine) for job, place in enumerate(places))
+        self.release, self.clean = lists["release"], lists.get("clean", [0] * machines)
 
     def totals(self):
         """The numbers of reports and of orders of a whole run."""
@@ -91,489 +245,216 @@ class Shop:
         return moves + cleanings, moves
 
 
-class Told:
-    """What cellplan has said so far: the cell as it stands after the lines `report` and `order`."""
+class Line:
+    """A line that loses, doubles, delays and swaps telegrams, if it is bad."""
 
-    def __init__(self, shop, resumed=False, may_refuse=False):
-        self.shop, self.may_refuse = shop, may_refuse
-        self.places = [OUTSIDE] * len(shop.routes)
-        self.ready = [False] * len(shop.routes)
-        self.moved = [0] * len(shop.routes)  # the moment of each job's last order
-        self.cleaning = set()
-        self.reports = self.taken = 0  # how many were accepted by now, and before what was read last
-        self.left_last = {}  # the job that left each machine last
-        self.last = 0  # the moment of the last report or order
-        self.sent = 0  # and the latest of what was sent
-        self.marked = not resumed  # what comes is new, and no event of the log
-        self.ended = False
-        self.goes_on = set()  # what cellplan waits for, by the lines of a state
-        self.state = set()  # the same of the last whole state, until it is acted on
-        self.states = 0  # how many states were told
-        self.doubtful = False  # whether a report was refused for what it says
+    def __init__(self, rng, is_bad):
+        self.rng, self.is_bad, self.under_way = rng, is_bad, []
 
-    def take(self, line):
-        """Follows one line, and gives the job, the source and the target of an order."""
-        words = line.split(" ")
-        self.ended = False
-        if words[0] == "report":
-            self.report(words[1], words[2:])
-        elif words[0] == "order":
-            return self.order(int(words[1]), int(words[2]), words[3], words[4])
-        elif line == "":
-            self.marked = True
-        elif words[0] in ("done", "unfinished"):
-            self.stated(words)
-        elif words[0] == "refused" and len(words) > 3 and self.may_refuse:
-            self.doubtful = True
-        elif words[0] != "late":
-            raise Wrong("cellplan says: " + line)
-        return None
-
-    def stated(self, words):
-        """Follows a line of a state, or its end, which may be the closing line."""
-        if words[1] == "job" and words[3] == "arrives":
-            self.goes_on.add(("arrive", int(words[2])))
-        elif words[1] == "job" and words[3] == "on":
-            self.goes_on.add(("finish", int(words[2]), int(words[5])))
-        elif words[1] == "machine":
-            self.goes_on.add(("clean", int(words[2]), int(words[6])))
-        elif words[1] != "job":
-            self.ended = True
-            self.state, self.goes_on = self.goes_on, set()
-            self.states += 1
-
-    def accepted(self, line):
-        """What a line says to have ended that accepts a new report: of a cleaning, after the job that left the machine last."""
-        words = line.split(" ")
-        if words[0] != "report" or not self.marked:
-            return None
-        numbers = [int(word) for word in words[3:]]
-        return (words[2], *numbers, self.left_last[numbers[0]]) if words[2] == "clean" else (words[2], *numbers)
-
-    def report(self, moment, what):
-        self.last = int(moment)
-        self.reports += 1
-        if what[0] == "clean":
-            self.cleaning.remove(int(what[1]))
-        else:
-            self.ready[int(what[1])] = True
-
-    def order(self, moment, job, source, target):
-        self.places[job] += 1
-        self.last = self.moved[job] = moment
-        self.ready[job] = False
-        if source != "out":
-            self.left_last[int(source)] = job
-        if source != "out" and self.shop.clean[int(source)] > 0:
-            self.cleaning.add(int(source))
-        return job, source, target
+    def passes(self, telegrams, now):
+        """Those that come out at the other end by now: of these and of earlier ones."""
+        if not self.is_bad:
+            return telegrams
+        for telegram in telegrams:
+            for _ in range(self.rng.choice([0, 1, 1, 1, 2])):
+                self.under_way.append((now + self.rng.choice([0, 0, 0, self.rng.uniform(0, 5), self.rng.uniform(0, 50)]), telegram))
+        come = [telegram for moment, telegram in self.under_way if moment <= now]
+        self.under_way = [each for each in self.under_way if each[0] > now]
+        self.rng.shuffle(come)
+        return come
 
 
 class Floor:
     """Parts, machines, one carrier that makes the moves, and a clock that never stops."""
 
-    def __init__(self, rng, shop, broken, is_disturbed):
-        self.rng, self.shop = rng, shop
-        self.broken, self.until = broken or (None, 0)  # a machine that stands still, and until when
-        self.down = set()  # the machines that do no more
-        self.unit = LONG_UNIT if is_disturbed else UNIT
+    def __init__(self, options, rng, gateway):
+        self.rng, self.gateway = rng, gateway
+        self.unit = LONG_UNIT if options.broken or options.changes else UNIT
+        self.broken, self.until = options.broken or (None, 0)  # a machine that stands still, and until when
+        self.to_come = collections.deque(options.changes)  # pairs of a moment and the words for `cellplan revise`
+        self.here, self.there = socket.socketpair(socket.AF_UNIX, socket.SOCK_DGRAM)  # the ends of the line
+        self.line_in, self.line_out = Line(rng, options.bad_line), Line(rng, options.bad_line)
         self.begun = time.monotonic()
-        self.places = [OUTSIDE] * len(shop.routes)
-        self.finished = [False] * len(shop.routes)  # has arrived, or its operation has ended
-        self.cleaning = set()
-        self.ends = []  # a heap of (moment, kind, number): what goes on and when it ends
-        for job, release in enumerate(shop.release):
-            self.awaits(job, rng.uniform(0, release + 3))
-        self.moments = {}  # when what was reported has ended; lost where the floor forgets
+        self.places, self.made = [], []  # where each part is, or "gone", and the moves that were made
+        self.ends, self.ended = [], {}  # a heap of what goes on, by its end, and when what is over has ended
+        self.cleaning, self.changes, self.carrier_free = set(), [], 0
+        self.shops = {}  # by the numbers of the gateway's texts
+        self.driven_by(0)
 
     def now(self):
         return (time.monotonic() - self.begun) / self.unit
 
-    # --- the parts and machines
+    def driven_by(self, number):
+        """The shop of these texts. Parts that it has more come some time later."""
+        if number not in self.shops:
+            self.shops[number] = shop = Shop(*self.gateway.texts(number))
+            for job in range(len(self.places), len(shop.routes)):
+                self.places.append("out")
+                self.ends_at("arrive %d" % job, max(self.now(), shop.release[job]) + self.rng.uniform(-3, 3))
+        return self.shops[number]
 
-    def awaits(self, job, moment):
-        """What the part does now ends at this moment."""
-        heapq.heappush(self.ends, (moment, "part", job))
-
-    def pass_time(self):
-        """Ends what is due by now."""
-        while self.ends and self.ends[0][0] <= self.now():
-            _, kind, number = heapq.heappop(self.ends)
-            if kind == "part":
-                self.finished[number] = True
-            else:
-                self.cleaning.discard(number)
+    def ends_at(self, what, moment):
+        heapq.heappush(self.ends, (moment, what))
 
     def lasts(self, nominal):
         """When something ends that begins now: mostly before its nominal time is over, at times after it."""
         return self.now() + nominal * self.rng.choice([0, 0.5, 0.9, 0.9, 1, 1.3])
 
-    def carry(self, order, again):
-        """Carries out an order, unless it was carried out before (`again`: it may have been)."""
-        job, source, target = order
-        place, route = self.places[job], self.shop.routes[job]
-        if again and self.is_carried_out(job, target):
+    def goes_on(self):
+        """Ends what is due, takes telegrams, and tells its state."""
+        while self.ends and self.ends[0][0] <= self.now():
+            moment, what = heapq.heappop(self.ends)
+            self.ended.setdefault(what, max(0, int(moment)))
+            if what.startswith("clean"):
+                self.cleaning.discard(what.split()[1])
+        self.change()
+        come = []
+        while select.select([self.here], [], [], 0 if come else self.unit)[0]:
+            come.append(self.here.recv(1 << 20))
+        for telegram in self.line_in.passes(come, self.now()):
+            number, *orders = json.loads(telegram)
+            self.driven_by(number)
+            for job, _, source, target in orders:
+                self.carry(number, job, source, target)
+        moves = collections.Counter(job for job, _, _ in self.made)  # how many each part has made
+        state = {"now": self.now(), "moves": moves, "ended": self.ended, "changes": self.changes}
+        for telegram in self.line_out.passes([json.dumps(state).encode()], self.now()):
+            try:
+                self.here.send(telegram, socket.MSG_DONTWAIT)
+            except BlockingIOError:
+                pass  # nobody reads at the moment
+
+    def change(self):
+        """What changes now is told to the gateway. A part that is cancelled never comes, which is told like its arrival."""
+        if self.broken is not None and self.now() < self.until and str(self.broken) in self.places:
+            self.to_come.appendleft((0, ["--until", "%d=%d" % (self.broken, self.until)]))
+            self.broken = None
+        while self.to_come and self.to_come[0][0] <= self.now():
+            _, (kind, value) = self.to_come.popleft()
+            self.changes.append([kind, value])
+            if kind == "--scrap" and self.places[int(value)] == "out":
+                self.ended.setdefault("arrive " + value, int(self.now()))
+
+    def carry(self, number, job, source, target):
+        """Carries out an order by these texts, unless it is a copy of one that was carried out, or the carrier is on its way."""
+        shop = self.driven_by(number)
+        if (job, source, target) in self.made or self.now() < self.carrier_free:
             return
-        if self.shop.spot(job, place) != source or self.shop.spot(job, place + 1) != target or place == len(route):
-            raise Wrong("the order %s, but part %d stands at place %d" % (order, job, place))
-        if not self.finished[job]:
-            raise Wrong("the order %s, but part %d isn't finished" % (order, job))
+        before = "arrive %d" % job if source == "out" else "finish %d %s" % (job, source)
+        if self.places[job] != source or before not in self.ended or not self.is_free(number, target):
+            raise Wrong("the order to take %d from %s to %s: parts are at %s, cleaned is %s" % (job, source, target, self.places, self.cleaning))
+        self.made.append((job, source, target))
+        self.places[job] = "gone" if target == "out" else target
         if target != "out":
-            self.look_whether_free(order, int(target))
-        self.places[job], self.finished[job] = place + 1, False
-        if target != "out":
-            end = self.lasts(route[place + 1][1])
-            self.awaits(job, max(end, self.until) if int(target) == self.broken else end)
-        if source != "out" and self.shop.clean[int(source)] > 0:
-            self.cleaning.add(int(source))
-            heapq.heappush(self.ends, (self.lasts(self.shop.clean[int(source)]), "machine", int(source)))
+            end = self.lasts(dict(shop.routes[job])[int(target)])
+            self.ends_at("finish %d %s" % (job, target), max(end, self.until) if target == str(self.broken) else end)
+        if source != "out" and shop.clean[int(source)] > 0:
+            self.cleaning.add(source)
+            self.ends_at("clean %s %d" % (source, job), self.lasts(shop.clean[int(source)]))
+        self.carrier_free = self.now() + self.rng.uniform(0, 1)
 
-    def part_on(self, machine):
-        """The part on a machine, if there is one."""
-        return next((job for job, place in enumerate(self.places) if self.shop.spot(job, place) == str(machine)), None)
-
-    def is_stuck(self):
-        """Whether a part is on the machine that stands still."""
-        return self.part_on(self.broken) is not None and self.now() < self.until
-
-    def revise(self, shop, kind, number):
-        """Goes on with the shop that a change has made. A part that was put aside has come, as far as cellplan is to know; one that is scrapped
-        in the cell, or is on a machine that is down, is taken off by hand some time later."""
-        before, self.shop = self.shop, shop
-        for job, route in enumerate(shop.routes[len(before.routes):], len(before.routes)):
-            self.places.append(OUTSIDE)
-            self.finished.append(False)
-            self.awaits(job, self.now() + self.rng.uniform(0, 5))
-        for job, route in enumerate(before.routes):
-            if self.places[job] == OUTSIDE and shop.routes[job] != route:
-                self.ends_at(job, self.now())
-        if kind == "down":
-            self.down.add(number)
-        taken_off = {"scrap": number, "down": self.part_on(number) if kind == "down" else None}.get(kind)
-        if taken_off is not None and OUTSIDE < self.places[taken_off] < len(shop.routes[taken_off]):
-            self.ends_at(taken_off, self.now() + self.rng.uniform(0, 5))
-
-    def ends_at(self, job, moment):
-        """What the part does ends at this moment, unless it has."""
-        self.ends = [each for each in self.ends if each[1:] != ("part", job)]
-        heapq.heapify(self.ends)
-        if not self.finished[job]:
-            self.awaits(job, moment)
-
-    def is_carried_out(self, job, target):
-        """Whether a part stands where an order puts it, or further on."""
-        route = self.shop.routes[job]
-        return self.places[job] >= (len(route) if target == "out" else self.shop.step(job, int(target)))
-
-    def look_whether_free(self, order, machine):
-        if self.shop.entered(self.places, machine) > self.shop.left(self.places, machine):
-            raise Wrong("the order %s, but a part is on machine %d" % (order, machine))
-        if machine in self.cleaning:
-            raise Wrong("the order %s, but machine %d is being cleaned" % (order, machine))
-        if machine in self.down:
-            raise Wrong("the order %s, but machine %d is down" % (order, machine))
-
-    # --- what is reported
-
-    def has_ended(self, told):
-        """What cellplan may still wait for and has ended on the floor."""
-        for job, place in enumerate(told.places):
-            if not told.ready[job] and self.is_past(job, place):
-                yield ("arrive", job) if place == OUTSIDE else ("finish", job, int(self.shop.spot(job, place)))
-        for machine in sorted(told.cleaning):
-            if self.is_cleaned(machine, self.shop.left(told.places, machine)):
-                yield "clean", machine, told.left_last[machine]
-
-    def is_past(self, job, place):
-        """Whether a part has ended what it does at a place."""
-        return self.places[job] > place or self.places[job] == place and self.finished[job]
-
-    def is_cleaned(self, machine, departures):
-        """Whether a machine has been cleaned after so many departures: another part has come since, or it is clean now."""
-        if self.shop.entered(self.places, machine) > departures:
-            return True
-        return self.shop.left(self.places, machine) == departures and machine not in self.cleaning
-
-    def reports(self, told, unsure):
-        """The lines for what has ended: what is new with the present moment; of what cellplan may lack, and what goes on by the state that it has
-        told, with its own moment. Where a later one was told or sent before, that."""
-        ended = list(self.has_ended(told))
-        again = sorted((what for what in ended if what in unsure and what in told.state), key=self.moments.get)
-        fresh = [what for what in ended if what not in self.moments]
-        self.moments.update((what, int(self.now())) for what in fresh)
-        told.state = set()
-        unsure.difference_update(again)
-        return [self.line(told, what) for what in again + fresh]
-
-    def line(self, told, what):
-        """The line that reports it."""
-        told.sent = max(self.moments[what], told.last, told.sent)
-        return " ".join(map(str, [*what, told.sent]))
-
-    def asks(self, told, unsure, answered, late):
-        """Whether the state is asked for: where it was told since it was asked for last, and a report was refused, or one was accepted after which
-        cellplan may lack the next; and where an answer has been awaited for too long."""
-        ended = list(self.has_ended(told))
-        lacks = told.taken < told.reports and any(what in unsure for what in ended)
-        return ended != [] and (answered and (told.doubtful or lacks) or late)
-
-    def follow(self, told, lines):
-        """Follows what cellplan says, and gives the orders."""
-        for line in lines:
-            what = told.accepted(line)
-            if what is not None and what not in self.has_ended(told):
-                raise Wrong("accepted, and hasn't ended: " + line)
-            order = told.take(line)
-            if order is not None:
-                yield order
-
-    # --- the loop
-
-    def serve(self, cell, told, enough=lambda: False):
-        """Carries out what cellplan orders and reports what has ended, until all is done or soon after it is enough."""
-        orders = collections.deque()
-        unsure = set(self.moments)  # what was reported, and cellplan may lack
-        begun = not cell.resumed and not unsure  # whether each order of the log is carried out, and the state was asked for
-        carrier_free, moved, stop = 0, self.now(), float("inf")
-        questions, asked = 0, self.now()  # how often the state was asked for, and when something was sent or accepted last
-        while self.now() < stop and not (self.is_done(told) and not orders):
-            self.pass_time()
-            if enough():
-                stop = min(stop, self.now() + self.rng.uniform(0, 3))
-            if orders and self.now() >= carrier_free:
-                self.carry(orders.popleft(), cell.resumed)
-                carrier_free = self.now() + self.rng.uniform(0, 1)
-            lines = self.reports(told, unsure) if begun else []
-            late = told.may_refuse and self.now() > asked + SOON
-            if self.asks(told, unsure, told.states >= questions, late) if begun else told.marked and not orders:
-                lines.append("status")
-                begun, told.doubtful, questions = True, False, told.states + 1
-                unsure.update(self.moments if told.may_refuse else ())
-            cell.send(lines)
-            told.taken = told.reports
-            orders.extend(self.follow(told, cell.lines(self.unit)))
-            if lines or told.reports > told.taken:
-                asked = self.now()
-            if orders or self.ends or told.reports > told.taken:
-                moved = self.now()
-            elif self.now() > moved + PATIENCE / self.unit:
-                raise Wrong("nothing goes on any more, and cellplan orders nothing")
-
-    def is_done(self, told):
-        """Whether all parts are out and all machines clean, and cellplan knows it."""
-        return all(place == len(route) for place, route in zip(told.places, self.shop.routes)) and not told.cleaning
-
-
-class Cell:
-    """A cellplan process: lines go to it, and what it writes goes to a log, unless it keeps one itself, and is read from there on as lines."""
-
-    def __init__(self, words, log, resumed):
-        self.process = subprocess.Popen(words, stdin=subprocess.PIPE, stdout=subprocess.PIPE)
-        self.log, self.resumed, self.held = log, resumed, b""
-        self.keeps_log = "--log" in words
-
-    def send(self, lines):
-        self.process.stdin.write("".join(line + "\n" for line in lines).encode())
-        self.process.stdin.flush()
-
-    def lines(self, seconds):
-        """The whole lines that have come; waits for so many seconds at most."""
-        if not select.select([self.process.stdout], [], [], seconds)[0]:
-            return []
-        read = os.read(self.process.stdout.fileno(), 65536)
-        if not read:
-            raise Wrong("cellplan has ended with status %d" % self.process.wait())
-        return self.split(read)
-
-    def split(self, read):
-        if not self.keeps_log:
-            with open(self.log, "ab") as log:
-                log.write(read)
-        *lines, self.held = (self.held + read).split(b"\n")
-        return [line.decode() for line in lines]
-
-    def kill(self):
-        """Kills it at once; what it had written before still comes."""
-        self.process.send_signal(signal.SIGKILL)
-        self.split(self.process.stdout.read())
-        self.process.wait()
-        self.process.stdin.close()
-        self.process.stdout.close()
-
-    def close(self):
-        """Ends its input, and gives its last lines."""
-        with self.process:
-            self.process.stdin.close()
-            lines = self.split(self.process.stdout.read())
-        if self.process.returncode != 0:
-            raise Wrong("cellplan ends with status %d" % self.process.returncode)
-        return lines
-
-
-class BadLine(Cell):
-    """The same behind a line that loses, doubles, delays and swaps what is sent."""
-
-    def __init__(self, words, log, resumed, rng, delayed):
-        super().__init__(words, log, resumed)
-        self.rng, self.delayed = rng, delayed  # pairs of when a line comes and the line
-
-    def send(self, lines):
-        now = time.monotonic()
-        for line in lines:
-            for _ in range(self.rng.choice([0, 1, 1, 1, 2])):
-                self.delayed.append((now + UNIT * self.rng.choice([0, 0, 0, self.rng.uniform(0, 5), self.rng.uniform(0, 50)]), line))
-        come = [line for moment, line in self.delayed if moment <= now]
-        self.delayed[:] = [each for each in self.delayed if each[0] > now]
-        self.rng.shuffle(come)
-        super().send(come)
-
-
-class Change:
-    """Something that disturbs the run: `--scrap J`, `--down M` or `--add ROUTE` of `cellplan revise` at a moment, or a machine that stands still."""
-
-    def __init__(self, kind, value, moment):
-        self.kind, self.value, self.moment = kind, value, moment
-        self.number = int(value) if kind != "add" else None
-
-    def __str__(self):
-        return "--%s %s" % (self.kind, self.value)
-
-    def is_due(self, floor, told):
-        """Whether it has come in a run that has begun, and of which the log has all that was carried out."""
-        has_come = floor.is_stuck() if self.kind == "break" else floor.now() >= self.moment
-        return has_come and told.reports > 0 and all(place <= known for place, known in zip(floor.places, told.places))
-
-    def words(self, floor):
-        """What it is for `cellplan revise`, to which the machines that are down are said again."""
-        down = [word for machine in sorted(floor.down) for word in ("--down", str(machine))]
-        return (["--until", "%d=%d" % (self.number, floor.until)] if self.kind == "break" else ["--" + self.kind, self.value]) + down
+    def is_free(self, number, target):
+        """Whether a part may come there: outside, or to a machine that holds none, isn't cleaned, and isn't down by these texts."""
+        is_down = ["--down", target] in self.changes[:self.gateway.changes_of(number)]
+        return target == "out" or not (target in self.places or target in self.cleaning or is_down)
 
 
 class Run:
-    """One pass of all parts through the cell, by three processes one after the other."""
+    """One pass of all parts through the cell, with what kills the gateway and starts it again."""
 
-    def __init__(self, options, rng, work):
-        self.options, self.rng, self.work = options, rng, work
-        self.files = [options.instance, options.plan]
-        self.shop = Shop(*self.files)
-        self.floor = Floor(rng, self.shop, options.broken, options.broken or options.changes)
-        self.log = os.path.join(work, "run.log") if options.log else None  # the log that counts
-        self.delayed = []  # what a bad line hasn't brought yet
-
-    def ask(self, *words):
-        """The answer of a command that is given no input."""
-        ended = subprocess.run([self.options.program, *words], stdin=subprocess.DEVNULL, stdout=subprocess.PIPE)
-        return ended.stdout.decode()
-
-    def words(self):
-        """The words that begin the run, or take it up from the log that counts, and whether they take it up."""
-        if self.options.log:
-            return ["drive", *self.files, "--log", self.log], os.path.exists(self.log) and os.path.getsize(self.log) > 0
-        return (["drive", *self.files], False) if self.log is None else (["resume", *self.files, self.log], True)
-
-    def start(self, number, *more):
-        """The process of this number, and what it tells."""
-        words, resumed = self.words()
-        log = self.log if self.options.log else os.path.join(self.work, "run-%d.log" % number)
-        bad = [self.rng, self.delayed] if self.options.bad_line else []
-        cell = (BadLine if bad else Cell)([self.options.program, *words, "--lines", "2", *more], log, resumed, *bad)
-        return cell, Told(self.shop, resumed, self.options.bad_line)
+    def __init__(self, options, rng, folder):
+        self.options, self.rng = options, rng
+        self.gateway = Gateway(options.program, folder, None)
+        for path, text in zip(self.gateway.texts(0), (options.instance, options.plan)):
+            shutil.copyfile(text, path)
+        self.floor = Floor(options, rng, self.gateway)
+        self.process, self.starts = None, 0  # the gateway, and when it starts
+        self.kills = sorted(rng.randint(0, self.floor.driven_by(0).totals()[0]) for _ in range(options.kills))  # after how many ends
+        self.moments, self.told = [], 0  # when something is killed, and after how many changes that was chosen
+        self.before, self.since = None, 0  # what had happened, and since when nothing has
 
     def go(self):
-        forgets = self.rng.choice([2, 3])
-        total, _ = self.shop.totals()
-        killed = sorted([self.rng.randint(0, total), self.rng.randint(0, total)])
-        for number, enough in enumerate([*killed, float("inf")], 1):
-            cell, told = self.start(number)
-            if number == forgets:
-                self.floor.moments.clear()
-            self.floor.serve(cell, told, lambda: told.reports >= enough)
-            if number < 3:
-                cell.kill()
-                self.cut(cell)
-        self.end(cell, told)
+        """The run: a person begins it, and the gateway drives it, whatever is killed."""
+        words = ["drive", *self.gateway.texts(0), "--log", self.gateway.log, "--new"]
+        subprocess.run([self.gateway.program, *words], stdin=subprocess.DEVNULL, stdout=subprocess.DEVNULL)
+        while self.process is None or self.process.exitcode != 0:
+            self.floor.goes_on()
+            self.is_started()
+            self.is_killed()
+            self.is_alive()
+        self.end()
 
-    def go_disturbed(self):
-        """The run, handed over to another plan at each change, and killed and taken up at random in between."""
-        cell, told = self.start(1)
-        for number, change in enumerate(self.options.changes, 1):
-            if self.rng.random() < 0.5:
-                enough = told.reports + self.rng.randint(0, 6)
-                self.floor.serve(cell, told, lambda: told.reports >= enough or change.is_due(self.floor, told))
-                cell.kill()
-                self.cut(cell)
-                cell, told = self.start(2 * number)
-            self.floor.serve(cell, told, lambda: change.is_due(self.floor, told))
-            if self.floor.is_done(told) and self.floor.places == told.places:
-                break
-            cell.kill()
-            now = self.hand_over(cell.log, change)
-            cell, told = self.start(2 * number + 1, "--at", now)
-        self.floor.serve(cell, told)
-        self.end(cell, told)
+    def is_started(self):
+        """Starts the gateway, some time after it has ended, where a service does."""
+        if self.process and self.process.exitcode in (0, None):
+            self.starts = self.floor.now() + self.rng.uniform(0, 5)
+        elif self.process and self.process.exitcode in (1, 2, 3, 5):
+            raise Wrong("the gateway ends with status %d, after which nothing is started again" % self.process.exitcode)
+        elif self.floor.now() >= self.starts:
+            self.process = multiprocessing.get_context("fork").Process(target=self.serve)
+            self.process.start()
 
-    def hand_over(self, log, change):
-        """Revises the instance and the plan for a change, and looks for a better plan for the rest, by which the run is taken up at the moment
-        that is given."""
-        # 1. the log is made whole by the instance and plan that wrote it, and each part is where its last order put it
-        self.log = log
-        whole = self.ask(*self.words()[0])
-        if not self.options.log:
-            self.log = self.written("whole.log", whole)
-        told = Told(self.shop)
-        for order in filter(None, map(told.take, whole.splitlines())):
-            self.floor.carry(order, True)
-        if self.floor.places != told.places:
-            raise Wrong("the parts are at %s, and by the whole log at %s" % (self.floor.places, told.places))
-        # 2. the instance and a plan for the rest, of which nothing is reported meanwhile
-        now = str(int(self.floor.now()))
-        words = ["revise", *self.files, self.log, "--at", now, *change.words(self.floor)]
-        plan, file = self.ask(*words), self.ask(*words, "--file")
-        if plan.startswith("change refused"):
-            print("at %s: %s" % (now, plan.strip()))
-            return now
-        self.files = [self.written("rest.txt", file), self.written("revised.toml", plan)]
-        before = self.outlook(now)
-        self.files[1] = self.written("rest.toml", self.ask("improve", *self.files, "--after", self.log, "--at", now, "--rounds", "2"))
-        print("at %s, %s: by the old orders parts are %s, by the new ones %s" % (now, change, before, self.outlook(now)))
-        self.shop = Shop(*self.files)
-        self.floor.revise(self.shop, change.kind, change.number)
-        # 3. the run is taken up by the new plan. What has ended and isn't in the log is sent again
-        return now
+    def is_killed(self):
+        """Kills something, soon after so many ends, and at times after a change, so that it comes while the run is handed over."""
+        now = self.floor.now()
+        if self.kills and len(self.floor.ended) >= self.kills[0]:
+            del self.kills[0]
+            self.moments.append(now + self.rng.uniform(0, 5))
+        if len(self.floor.changes) > self.told:
+            self.told += 1
+            if self.options.kills and self.rng.random() < 0.5:
+                self.moments.append(now + self.rng.uniform(0, 20))
+        if self.moments and now >= min(self.moments) and self.process and self.process.is_alive():
+            self.moments.remove(min(self.moments))
+            self.kill()
 
-    def outlook(self, now):
-        """How late the parts are in all, and when the last one is out."""
-        told = self.ask("explain", *self.files, "--after", self.log, "--at", now)
-        late = sum(map(int, re.findall(r"^job .* late (\d+)$", told, re.MULTILINE)))
-        leaves = map(int, re.findall(r"^job \d+ (?:left|leaves) (\d+) ", told, re.MULTILINE))
-        return "late by %d in all, and out by %d" % (late, max(leaves))
+    def is_alive(self):
+        """Something goes on."""
+        now, happened = time.monotonic(), (len(self.floor.made), len(self.floor.ended))
+        if happened != self.before:
+            self.before, self.since = happened, now
+        elif now > self.since + PATIENCE:
+            raise Wrong("nothing goes on any more")
 
-    def written(self, name, text):
-        """The path of a file with this text."""
-        path = os.path.join(self.work, name)
-        with open(path, "w") as file:
-            file.write(text)
-        return path
+    def serve(self):
+        os.setpgid(0, 0)
+        self.gateway.bus = FieldBus(self.floor.there)
+        sys.exit(self.gateway.run())
 
-    def cut(self, cell):
-        """Cuts the log's last bytes off. A log counts once its mark is out, the empty line; until then the one before it does."""
-        if cell.keeps_log:
-            return
-        size = os.path.getsize(cell.log) if os.path.exists(cell.log) else 0
-        with open(cell.log, "ab") as log:
-            log.truncate(max(0, size - self.rng.choice([0, 1, self.rng.randint(0, 120)])))
-        with open(cell.log, "rb") as log:
-            if not cell.resumed or b"\n\n" in b"\n" + log.read():
-                self.log = cell.log
+    def kill(self):
+        """Kills the gateway, what it has started, or both at once."""
+        with open("/proc/%d/task/%d/children" % (self.process.pid, self.process.pid)) as children:
+            started = [int(child) for child in children.read().split()]
+        what = self.rng.choice(["gateway", "cellplan", "power"])
+        try:
+            if what == "power":
+                os.killpg(self.process.pid, signal.SIGKILL)
+                self.process.join()
+                if self.process.exitcode != 0:
+                    self.lose()
+            for process in {"gateway": [self.process.pid], "cellplan": started}.get(what, []):
+                os.kill(process, signal.SIGKILL)
+        except ProcessLookupError:
+            pass  # it has ended by itself, or has no group yet
 
-    def end(self, cell, told):
-        """Ends the input, and looks at what is told and at the log."""
-        for line in cell.close():
-            told.take(line)
-        if not told.ended or self.floor.places != told.places or self.floor.cleaning:
-            raise Wrong("the end isn't told as it is")
-        found = self.ask("audit", *self.files, cell.log).strip()
-        if not re.fullmatch(r"log kept reports %d orders %d last \d+ complete" % self.shop.totals(), found):
+    def lose(self):
+        """The power is cut, and both are dead, or die. What isn't on the disk could be lost here."""
+
+    def end(self):
+        """All is out and clean, and the log has just what was done."""
+        if set(self.floor.places) != {"gone"} or self.floor.cleaning:
+            raise Wrong("the run is over, and parts are at %s, cleaned is %s" % (self.floor.places, self.floor.cleaning))
+        with open(self.gateway.log) as log:
+            lines = [line.split() for line in log]
+        orders = [(int(words[2]), words[3], words[4]) for words in lines if words[:1] == ["order"]]
+        if orders != self.floor.made:
+            raise Wrong("the log has the orders %s, and the moves are %s" % (orders, self.floor.made))
+        for words in lines:
+            if words[:1] == ["report"] and words[2] != "clean" and self.floor.ended.get(" ".join(words[2:]), 10**13) > int(words[1]):
+                raise Wrong("reported before it has ended: " + " ".join(words))
+        number = self.gateway.wanted()
+        found = self.gateway.answer("audit", *self.gateway.texts(number), self.gateway.log).strip()
+        if not re.fullmatch(r"log kept reports %d orders %d last \d+ complete" % self.floor.driven_by(number).totals(), found):
             raise Wrong("the audit says: " + found)
 
 
@@ -582,45 +463,56 @@ def found_program():
     return shutil.which("cellplan") or shutil.which(os.path.join(HERE, "../crates/cellplan/out/cellplan"))
 
 
-def words():
-    parser = argparse.ArgumentParser(description="A simulated floor whose cellplan is killed and taken up again.")
+def change(kind):
+    """Reads J@T, M@T or ROUTE@T as a moment and the words for `cellplan revise`."""
+
+    def read(text):
+        value, _, moment = text.rpartition("@")
+        return float(moment), [kind, value]
+
+    return read
+
+
+def chosen(words=None):
+    parser = argparse.ArgumentParser(description="A simulated floor whose gateway and cellplan are killed and started again.")
     parser.add_argument("instance", nargs="?", default=os.path.join(HERE, "ft06.txt"))
     parser.add_argument("plan", nargs="?", default=os.path.join(HERE, "ft06-cleaned.toml"))
     parser.add_argument("--runs", type=int, default=10, help="how many passes (10)")
     parser.add_argument("--seed", type=int, default=0, help="where the random times begin (0)")
-    parser.add_argument("--log", action="store_true", help="let cellplan keep the log")
-    parser.add_argument("--bad-line", action="store_true", help="a line that loses, doubles, delays and swaps reports")
+    parser.add_argument("--kills", type=int, default=2, help="how often something is killed in a run (2)")
+    parser.add_argument("--bad-line", action="store_true", help="a line that loses, doubles, delays and swaps telegrams")
     parser.add_argument("--break", dest="broken", nargs=2, type=int, metavar=("M", "UNTIL"), help="machine M stands still until UNTIL")
     parser.add_argument("--program", default=found_program(), help="cellplan (of the path, else of this clone)")
-    for kind, value in (("scrap", "J"), ("down", "M"), ("add", "ROUTE")):
-        parser.add_argument("--" + kind, action="append", default=[], metavar=value + "@T", help="`cellplan revise --%s %s` at moment T" % (kind, value))
-    options = parser.parse_args()
+    for kind, value in (("--scrap", "J"), ("--down", "M"), ("--add", "ROUTE")):
+        parser.add_argument(kind, dest="changes", action="append", default=[], type=change(kind), metavar=value + "@T", help="`cellplan revise %s %s` at moment T" % (kind, value))
+    options = parser.parse_args(words)
     if options.program is None:
         parser.error("there is no command cellplan: put it on the path, or name it with --program")
-    options.changes = sorted((change(kind, text) for kind in ("scrap", "down", "add") for text in getattr(options, kind)), key=lambda each: each.moment)
-    if options.broken:
-        options.changes.insert(0, Change("break", options.broken[0], 0))
+    options.changes.sort()
     return options
 
 
-def change(kind, text):
-    """The change of a word J@T, M@T or ROUTE@T."""
-    value, _, moment = text.rpartition("@")
-    return Change(kind, value, float(moment))
+def tried(options, seed, kind=Run):
+    """What is wrong in the run with this seed, nothing where all is well."""
+    with tempfile.TemporaryDirectory() as folder:
+        run = kind(options, random.Random(seed), folder)
+        try:
+            run.go()
+        except (Wrong, OSError) as wrong:
+            return str(wrong)
+        finally:
+            if run.process and run.process.is_alive():
+                run.process.kill()
+    return None
 
 
 def main():
-    options = words()
-    for number in range(options.runs):
-        seed = options.seed + number
-        with tempfile.TemporaryDirectory() as work:
-            try:
-                run = Run(options, random.Random(seed), work)
-                run.go_disturbed() if options.changes else run.go()
-            except (Wrong, OSError) as wrong:
-                print("run with seed %d: %s" % (seed, wrong))
-                return 1
-        print("run with seed %d: all parts are out, and the log has the whole run" % seed)
+    options = chosen()
+    for seed in range(options.seed, options.seed + options.runs):
+        wrong = tried(options, seed)
+        print("run with seed %d: %s" % (seed, wrong or "all parts are out, and the log has the whole run"), flush=True)
+        if wrong:
+            return 1
     return 0
 
 

@@ -47,6 +47,8 @@ def rows_of(path):
 def name_of(text):
     """The text as a name."""
     name = re.sub(r"\s+", "-", text)
+    if len(name.encode()) > 40 or re.search(r"[\x00-\x1f\x7f-\x9f\ufffe\uffff]", name):
+        raise Refused("%r is no name: it has more than 40 bytes, or a character that can't be printed" % name)
     return "-" + name if name.isdigit() or name in ("out", "or", "fewer") else name
 
 

@@ -27,7 +27,7 @@
      of it, for texts of any length; give them 32 KiB. A plan's text that nests tables within tables wants more before it is
      refused: the deepest that was found, 80 within 80, touches 1,600,000 bytes, so where a plan may be anybody's text give them
      2 MiB. cellplan_cell_check and cellplan_cell_schedule touch less than 4 KiB, and all other calls less than 1 KiB.
-     (tests/c-library measures it.)
+     (tests/c/c-library measures it.)
    - The library is for Linux on x86-64, with glibc as the C library.
 
    cellplan_check, cellplan_explain, cellplan_cell_new, cellplan_cell_hand_over, cellplan_cell_check and cellplan_cell_schedule

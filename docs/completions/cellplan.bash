@@ -3,7 +3,7 @@ _cellplan() {
   local word=${COMP_WORDS[COMP_CWORD]} before=${COMP_WORDS[COMP_CWORD - 1]} command=${COMP_WORDS[1]} options
   COMPREPLY=()
   if [ "$COMP_CWORD" -eq 1 ]; then
-    mapfile -t COMPREPLY < <(compgen -W 'facts shape check explain schedule bounds plan improve decide revise drive resume hub audit gantt --help --version' -- "$word")
+    mapfile -t COMPREPLY < <(compgen -W 'facts shape check explain schedule bounds margin plan improve decide revise drive resume hub digest audit gantt --help --version' -- "$word")
     return
   fi
   case $before in
@@ -12,13 +12,15 @@ _cellplan() {
   case $command in
     plan) options='--instance --rounds --help' ;;
     improve) options='--instance --after --at --rounds --seed --help' ;;
-    decide) options='--instance --after --at --least --job --choices --help' ;;
-    check | explain) options='--instance --after --at --help' ;;
-    schedule) options='--instance --after --at --svg --help' ;;
-    drive) options='--instance --log --at --lines --leap --help' ;;
+    decide) options='--instance --after --at --least --job --choices --names --help' ;;
+    check) options='--instance --after --at --help' ;;
+    explain) options='--instance --after --at --job --names --help' ;;
+    schedule) options='--instance --after --at --svg --moves --names --help' ;;
+    drive) options='--instance --log --new --continue --hand-over --at --lines --leap --help' ;;
     hub) options='--instance --lines --leap --help' ;;
-    gantt) options='--instance --svg --help' ;;
-    facts | shape | bounds | audit) options='--instance --help' ;;
+    gantt) options='--instance --svg --names --help' ;;
+    bounds | margin) options='--instance --names --help' ;;
+    facts | shape | digest | audit) options='--instance --help' ;;
     revise) options='--instance --at --until --add --release --budget --scrap --down --file --help' ;;
     resume) options='--instance --at --lines --leap --help' ;;
     *) return ;;

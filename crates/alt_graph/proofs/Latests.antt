@@ -1,9 +1,9 @@
 -- The latest moments: by the arcs out of a node, filled in backwards over the ranks, and of an accepted plan its deadlines.
-use Rattle.std.proofs.Common.{◌≡◌, ◌≢◌, ℕ, zero, suc, ◌+◌, ◌-◌, ◌<◌, ◌≤◌, ◌↔◌, List, [], length, get_or, set, Option, None, Some, arith, refl, sym, ap, subst, ◌∙◌, ◌⊎◌, inl, inr, get_or-set_same, get_or-set_other}
+use Rattle.std.proofs.Common.{◌≡◌, ◌≢◌, ℕ, zero, suc, ◌+◌, ◌-◌, ◌<◌, ◌≤◌, List, [], length, get_or, set, Option, None, Some, arith, refl, sym, ap, subst, ◌∙◌, ◌⊎◌, inl, inr, get_or-set_same, get_or-set_other}
 use Rattle.std.proofs.lemmas.Bool.{cases_eq, cases_lt}
 use Rattle.std.proofs.lemmas.List.{length-set}
 use Rattle.shop_base.specs.declared.node.Node.{Node}
-use Rattle.shop_base.specs.Plan.{PlannedShop, jobs, steps, nominal, budget, IsWellShaped}
+use Rattle.shop_base.specs.Plan.{PlannedShop, steps, nominal, budget, IsWellShaped}
 use Rattle.shop_base.specs.Cell.{Cell, start, IsGone}
 use Rattle.shop_base.specs.Sound.{IsSound}
 use Rattle.shop_base.specs.Graph.{node, IsNode, leaving, Arc, RanksRise, MeetBudgets}
@@ -16,8 +16,8 @@ use Rattle.shop_base.proofs.Deadlines.{all_ranks, rank_within}
 use Rattle.alt_graph.specs.Sources.{IsJobArc, IsBlockingArc}
 use Rattle.alt_graph.specs.Times.{NodeTimes, rank_of, earliest_of, AreRanks, AreTimes}
 use Rattle.alt_graph.specs.Layout.{number_of}
-use Rattle.alt_graph.specs.Latest.{IsLatest, AreLatest, HasMoment, AreInside}
-use Rattle.alt_graph.specs.ByRank.{IsTold, AreTold}
+use Rattle.alt_graph.specs.Latest.{IsLatest, AreLatest, AreInside}
+use Rattle.alt_graph.specs.ByRank.{IsAtItsRank, AreAtTheirRanks}
 use Rattle.alt_graph.specs.LatestRows.{moment_in, HasRows, AreLatestFrom}
 use Rattle.alt_graph.proofs.ArcKinds.{arc_kind, arc_once, job_arc_is, blocking_arc_is, target_node, job_target_once, blocking_target_once}
 use Rattle.alt_graph.proofs.NodeNumbers.{node_same, number_inside, number_same, next_first, cases_node}
@@ -101,16 +101,16 @@ module _ (p : PlannedShop) (t : NodeTimes) (are : AreRanks p t) (nodes : List (O
   abbrev more : List (Option Node)
   more = set nodes (rank_of t u) (Some u)
 
-  pub told_new : IsTold t more u
+  pub told_new : IsAtItsRank t more u
   told_new = get_or-set_same nodes (rank_of t u) (Some u) None inside
 
-  pub told_still : (v : Node) → IsNode p v → IsTold t nodes v → IsTold t more v
+  pub told_still : (v : Node) → IsNode p v → IsAtItsRank t nodes v → IsAtItsRank t more v
   told_still v inside_v told = elim (cases_eq (rank_of t v) (rank_of t u)) [
-    | inl same ↦ subst (λ (w : Node). IsTold t more w) (are.apart u v is inside_v (sym same)) told_new
+    | inl same ↦ subst (λ (w : Node). IsAtItsRank t more w) (are.apart u v is inside_v (sym same)) told_new
     | inr other ↦ get_or-set_other nodes (rank_of t u) (rank_of t v) (Some u) None other ∙ told
   ]
 
-  pub told_more : AreTold p t nodes → AreTold p t more
+  pub told_more : AreAtTheirRanks p t nodes → AreAtTheirRanks p t more
   told_more told i v at = elim (cases_eq i (rank_of t u)) [
     | inl same ↦ (
         let here : get_or more i None ≡ Some u = ap (λ k. get_or more k None) same ∙ told_new in
@@ -171,17 +171,6 @@ module _ (p : PlannedShop) (t : NodeTimes) (are : AreRanks p t) (firsts moments 
           let above : left + 1 ≤ rank_of t v = higher apart (cases_eq (rank_of t v) left) in
           subst (λ (m : ℕ). IsLatest p after (Arc p) v m) (sym (after_other v other apart)) (latest_still p now after v (now v) still (below v other above))
 
--- where no node has that rank, there is nothing to do
-pub latest_skip : (p : PlannedShop) (t : NodeTimes) (kept : Node → ℕ) (nodes : List (Option Node)) (left : ℕ) → ((v : Node) → IsNode p v → IsTold t nodes v) → get_or nodes left None ≡ None
-    → AreLatestFrom p t kept (left + 1) → AreLatestFrom p t kept left
-latest_skip p t kept nodes left all none below v inside le = elim (cases_eq (rank_of t v) left) [
-  | inl same ↦ absurd (differ (sym none ∙ sym (ap (λ k. get_or nodes k None) same) ∙ all v inside))
-  | inr other ↦ below v inside (omega (arith, le))
-]
-  where
-    differ : None ≡ Some v → ⊥
-    differ bad = cc
-
 -- ---- the deadlines
 
 module _ (p : PlannedShop) (rank early kept : Node → ℕ) (c : Cell) (rises : RanksRise p rank) (sound : IsSound p c)
@@ -229,17 +218,6 @@ start_deadlines p t kept are meets latest =
 -- ---- which nodes have moments
 
 module _ (p : PlannedShop) (firsts moments : List ℕ) (rows : HasRows p firsts moments) where
-  pub has_moment : (v : Node) → IsNode p v ↔ HasMoment (record { firsts = firsts; moments = moments }) v
-  has_moment v = (there, back)
-    where
-      there : IsNode p v → HasMoment (record { firsts = firsts; moments = moments }) v
-      there is = record { job = omega (arith, is.job, rows.numbers.size); place = omega (arith, is.place, rows.numbers.follows v.job is.job) }
-
-      back : HasMoment (record { firsts = firsts; moments = moments }) v → IsNode p v
-      back has =
-          let inside : v.job < jobs p = omega (arith, has.job, rows.numbers.size) in
-          record { job = inside; place = omega (arith, has.place, rows.numbers.follows v.job inside) }
-
   pub are_inside : AreInside (record { firsts = firsts; moments = moments })
   are_inside j lt = omega (arith, rows.size, next_first p firsts rows.numbers j (omega (arith, lt, rows.numbers.size)))
 

@@ -7,6 +7,7 @@ pub mod Filling
 pub mod Standing
 pub mod Layouts
 pub mod NodeNumbers
+pub mod ClosedWalks
 pub mod Ranks
 pub mod Settling
 pub mod LongestPaths

@@ -2,7 +2,7 @@
 
 ghost use Rattle.std.specs.Prelude.{◌≡◌, ℕ, ◌<◌, ◌≤◌, ◌↔◌, IfSome, MatchOption, Some};
 ghost use Rattle.shop_base.specs.Plan.{IsWellShaped};
-ghost use Rattle.shop_base.specs.Graph.{leaving, IsNode, Arc, HasArc};
+ghost use Rattle.shop_base.specs.Graph.{leaving, Arc};
 ghost use Rattle.shop_base.specs.ExactLaw.{IsNeverGoneBefore};
 ghost use Rattle.alt_graph.specs.Evidence.{IsChain, EndsIn, node_count};
 ghost use Rattle.alt_graph.specs.Bounds.{IsAheadOf, IsChainFrom, HasBound, LeadsAhead, MAX_BOUND};

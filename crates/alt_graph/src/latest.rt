@@ -9,7 +9,7 @@ ghost use Rattle.alt_graph.specs.Evidence.{node_count};
 ghost use Rattle.alt_graph.specs.Sources.{IsJobArc, IsBlockingArc};
 ghost use Rattle.alt_graph.specs.Times.{AreRanks, AreOrdered, earliest_of};
 ghost use Rattle.alt_graph.specs.Latest.{HasMoment, AreLatest, IsLatest, moment_of};
-ghost use Rattle.alt_graph.specs.ByRank.{IsTold, AreTold};
+ghost use Rattle.alt_graph.specs.ByRank.{IsAtItsRank, AreAtTheirRanks};
 ghost use Rattle.alt_graph.specs.LatestRows.{HasRows, moment_in};
 
 use crate::graph::Graph;
@@ -90,8 +90,8 @@ pub fn by_rank(
     requires ranks { AreRanks shaped.now times.now }
     requires count { count ≡ node_count shaped.now }
     ensures size { IfOk result (λ nodes. length nodes.items ≡ count) }
-    ensures told { IfOk result (λ nodes. AreTold shaped.now times.now nodes.items) }
-    ensures all { IfOk result (λ nodes. (v : Node) → IsNode shaped.now v → IsTold times.now nodes.items v) }
+    ensures told { IfOk result (λ nodes. AreAtTheirRanks shaped.now times.now nodes.items) }
+    ensures all { IfOk result (λ nodes. (v : Node) → IsNode shaped.now v → IsAtItsRank times.now nodes.items v) }
 {
     let mut nodes = vec![in alloc; None; count]?;
     for job in 0..shaped.job_count() {
@@ -105,10 +105,10 @@ fn note_ranks(shaped: &Shaped, times: &Times, job: JobNo, nodes: &mut [Option<No
     requires ranks { AreRanks shaped.now times.now }
     requires job { job < jobs shaped.now }
     requires size { length nodes.old ≡ node_count shaped.now }
-    requires told { AreTold shaped.now times.now nodes.old }
-    ensures told { AreTold shaped.now times.now nodes.new }
-    ensures noted { (k : ℕ) → k ≤ steps shaped.now job → IsTold times.now nodes.new (node job k) }
-    ensures still { (v : Node) → IsNode shaped.now v → IsTold times.now nodes.old v → IsTold times.now nodes.new v }
+    requires told { AreAtTheirRanks shaped.now times.now nodes.old }
+    ensures told { AreAtTheirRanks shaped.now times.now nodes.new }
+    ensures noted { (k : ℕ) → k ≤ steps shaped.now job → IsAtItsRank times.now nodes.new (node job k) }
+    ensures still { (v : Node) → IsNode shaped.now v → IsAtItsRank times.now nodes.old v → IsAtItsRank times.now nodes.new v }
 {
     for place in 0..shaped.step_count(job) + 1 {
         let node = Node { job, place };

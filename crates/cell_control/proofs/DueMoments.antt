@@ -1,10 +1,8 @@
 -- The due moments stay tied to the cell: at the start, after a move, and after the end of an activity.
-use Rattle.std.proofs.Common.{◌≡◌, ◌≢◌, ℕ, ◌+◌, ◌<◌, ◌≤◌, List, length, length-set, get_or-set_same, get_or-set_other, set, replicate, below_more, Option, None, sym, ◌∙◌, ap, arith, ◌⊎◌, inl, inr}
+use Rattle.std.proofs.Common.{◌≡◌, ◌≢◌, ℕ, ◌+◌, ◌<◌, List, length, length-set, get_or-set_same, get_or-set_other, set, Option, None, sym, ◌∙◌, ap, arith, ◌⊎◌, inl, inr}
 use Rattle.std.proofs.lemmas.Bool.{cases_eq}
-use Rattle.std.proofs.lemmas.List.{length-replicate, get_or-replicate}
-use Rattle.shop_base.proofs.InShop.{start_unused}
 use Rattle.shop_base.specs.Plan.{PlannedShop, jobs, machines, machine_of}
-use Rattle.shop_base.specs.Cell.{Cell, MachineState, job_in, cleaning, start, IsOutside, IsOn}
+use Rattle.shop_base.specs.Cell.{Cell, job_in, cleaning, IsOutside, IsOn}
 use Rattle.shop_base.specs.Movers.{due_of_job, due_of_cleaning}
 use Rattle.shop_base.proofs.Changes.{IsMoved}
 use Rattle.cell_control.specs.Dues.{due_at}

@@ -1,7 +1,6 @@
 -- What holds of a controller holds where it begins, at the start of a plan or in mid-run, and after each step.
 use Rattle.std.proofs.Common.{◌≡◌, ℕ, ◌+◌, ◌-◌, ◌<◌, ◌≤◌, ◌⊎◌, ◌↔◌, inl, inr, List, [], Option, Bool, true, false, refl, sym, ◌∙◌, ap, subst, arith}
 use Rattle.std.specs.Prelude.{IsTrue}
-use Rattle.std.proofs.lemmas.Bool.{cases_lt}
 use Rattle.shop_base.specs.declared.move_order.MoveOrder.{MoveOrder}
 use Rattle.shop_base.specs.declared.node.Node.{Node}
 use Rattle.shop_base.specs.declared.report.Report.{Report}
@@ -13,7 +12,6 @@ use Rattle.shop_base.specs.Controlled.{after_moves, after_step}
 use Rattle.shop_base.specs.Punctual.{IsPunctualFrom}
 use Rattle.shop_base.specs.ReportsLeft.{reports_left}
 use Rattle.shop_base.specs.Sound.{IsSound}
-use Rattle.shop_base.specs.KeptMoments.{KeepsMoments}
 use Rattle.shop_base.specs.Within.{IsWithin}
 use Rattle.shop_base.proofs.Keeping.{start-sound}
 use Rattle.shop_base.proofs.ControlledRuns.{start_at_rest, after_moves-sound, after_step-sound}
@@ -21,7 +19,8 @@ use Rattle.shop_base.proofs.ReportsLeft.{start-reports_left, after_moves-reports
 use Rattle.shop_base.proofs.StartAhead.{start-keeps_moments}
 use Rattle.shop_base.proofs.InTime.{settled-fits, step-still_fits, present_left}
 use Rattle.shop_base.proofs.Within.{IsNoneLate, none_late-after, moves_more, step_more, from-within}
-use Rattle.alt_graph.specs.Times.{NodeTimes, rank_of, earliest_of, AreRanks, AreOrdered}
+use Rattle.alt_graph.specs.Times.{NodeTimes, rank_of, earliest_of}
+use Rattle.alt_graph.proofs.WholePlans.{times_ranks}
 use Rattle.plan_verifier.specs.Rest.{AreOrderedAhead}
 use Rattle.plan_verifier.specs.Accepted.{VerifiedPlan, IsVerified, kept_at, rank_in}
 use Rattle.cell_tables.specs.PlannedCell as planned
@@ -43,18 +42,9 @@ of_none_late p c t kept none v is ahead = none v (record { ahead = ahead; job = 
 
 -- ---- at the start
 
-ranks_of : (p : PlannedShop) (t : NodeTimes) → AreOrdered p t → AreRanks p t
-ranks_of p t ordered = record {
-  shaped = ordered.times.schedule.shaped;
-  nodes = ordered.times.nodes;
-  rise = ordered.times.schedule.ranks;
-  few = ordered.times.few;
-  apart = ordered.times.apart;
-}
-
 start_control : (v : VerifiedPlan) → IsVerified v → IsControl (at_start v)
 start_control v verified = record {
-  ranks = ranks_of v.planned v.times verified.ordered;
+  ranks = times_ranks v.planned v.times verified.ordered.times;
   sound = start-sound v.planned verified.schedule.shaped;
   at_rest = start_at_rest v.planned;
   counted = sym (start-reports_left v.planned);

@@ -1,6 +1,5 @@
 -- What the fields of a controller stand for, and what holds of them.
-use Rattle.std.specs.Prelude.{◌≡◌, ℕ, ◌+◌, [], max, List, length, Bool, true, Option}
-use Rattle.smallvec.specs.SmallVec.{SmallVec}
+use Rattle.std.specs.Prelude.{◌≡◌, ℕ, ◌+◌, max, List, length, Bool, true, Option}
 use Rattle.shop_base.specs.declared.move_order.MoveOrder.{MoveOrder}
 use Rattle.shop_base.specs.Plan.{PlannedShop, jobs, machines}
 use Rattle.shop_base.specs.ReportsLeft.{reports_left}

@@ -9,6 +9,7 @@ ghost use Rattle.alt_graph.specs.Times.{earliest_of};
 ghost use Rattle.cell_tables.specs.Readings.{IsCleanedFor};
 ghost use Rattle.cell_control.specs.Control.{IsAnswered, IfEndsNow, IsControl};
 ghost use Rattle.cell_control.specs.Fields.{begun_with, IsRoomFor};
+ghost use Rattle.cell_control.specs.Judged.{IsJudged, IsPossible};
 ghost use Rattle.cell_control.specs.Reports.{IsFirstReason, IsOnlyReason, CanCleanAfter, IsFirstCleanReason, IsOnlyCleanReason};
 ghost use Rattle.cell_control.specs.Promises.{IsCalled};
 ghost use Rattle.cell_control.specs.Readings.{IsPhaseOf, IsJobOn, IsDueOf, IsDueOfCleaning, IsOnTime};
@@ -20,6 +21,7 @@ use crate::due_moments::cleaning_key;
 use crate::dues::Dues;
 use crate::noting::note_all;
 use crate::phase::Phase;
+use crate::possible::Possible;
 use crate::readings::phase_of;
 use crate::releasing::Orders;
 use crate::report_fault::ReportFault;
@@ -94,33 +96,63 @@ impl<P: Timed, D: Dues> Core<P, D> {
         ensures called { (es : List Event) × IsCalled self.old report es self.new }
         ensures never_refused { IfEndsNow self.old report (IsOk result) }
     {
-        check_report(&self.cell, report)?;
-        let ack = make_step(&mut self.cell, &mut self.dues, &mut self.orders, report);
-        self.left -= 1;
-        self.punctual = still_punctual(self.punctual, ack, report.at(), self.began);
-        Ok(ack)
+        let possible = self.judge(report)?;
+        Ok(self.take(possible))
     }
 
-    /// Whether a report is possible, or the first reason for which it isn't. Nothing changes.
-    pub fn check(&self, report: Report) -> Result<(), ReportFault>
-        ensures possible { OnOk result (CanReport self.now.planned self.now.cell report) }
+    /// Judges a report: it is possible, and late or not, or this is the first reason for which it isn't possible. Nothing changes.
+    pub fn judge(&self, report: Report) -> Result<Possible, ReportFault>
+        ensures possible { IsOk result ↔ CanReport self.now.planned self.now.cell report }
+        ensures judged { IfOk result (IsJudged self.now.planned self.now.cell report) }
         ensures first_reason { IfErr result (IsFirstReason self.now.planned self.now.cell report) }
+        ensures never_refused { IfEndsNow self.now report (IsOk result) }
     {
         let cell = &self.cell;
-        check_report(cell, report)
+        check_report(cell, report)?;
+        Ok(Possible {
+            report,
+            late: self.is_late(report.at()),
+        })
     }
 
-    /// Whether the report of a cleaning after this job is possible, or the first reason for which it isn't. Nothing changes.
-    pub fn check_clean_after(
+    /// Judges the report of a cleaning after this job, as [`Core::judge`] does. Nothing changes.
+    pub fn judge_clean_after(
         &self,
         machine: MachineNo,
         job: JobNo,
         at: Moment,
-    ) -> Result<(), ReportFault>
+    ) -> Result<Possible, ReportFault>
         ensures possible { OnOk result (CanCleanAfter self.now.planned self.now.cell machine job at) }
+        ensures judged { IfOk result (IsJudged self.now.planned self.now.cell (Report.Clean machine at)) }
         ensures first_reason { IfErr result (IsFirstCleanReason self.now.planned self.now.cell machine job at) }
     {
-        check_cleaning_after(&self.cell, machine, job, at)
+        // Called for its clause alone: the cell is sound.
+        let _plan = self.shaped();
+        let cell = &self.cell;
+        check_cleaning_after(cell, machine, job, at)?;
+        Ok(Possible {
+            report: Report::Clean { machine, at },
+            late: self.is_late(at),
+        })
+    }
+
+    /// Takes a report that was judged possible in this cell, as [`Core::report`] does.
+    pub fn take(&mut self, possible: Possible) -> Ack
+        requires { IsPossible self.old.planned self.old.cell possible }
+        ensures answered { IsAnswered self.old possible.report result self.new }
+        ensures late { result.late ≡ possible.late }
+    {
+        let Possible { report, late } = possible;
+        let ack = make_step(
+            &mut self.cell,
+            &mut self.dues,
+            &mut self.orders,
+            report,
+            late,
+        );
+        self.left -= 1;
+        self.punctual = still_punctual(self.punctual, ack, report.at(), self.began);
+        ack
     }
 
     /// Takes the report that the machine has been cleaned after this job, as [`Core::report`] takes the report of
@@ -140,8 +172,8 @@ impl<P: Timed, D: Dues> Core<P, D> {
     {
         // Called for its clause alone: the cell is sound.
         let _plan = self.shaped();
-        self.check_clean_after(machine, job, at)?;
-        self.report(Report::Clean { machine, at })
+        let possible = self.judge_clean_after(machine, job, at)?;
+        Ok(self.take(possible))
     }
 
     /// The moves that it ordered last, in the order in which they are made: those that the last accepted report has released,

@@ -21,7 +21,7 @@ use std::alloc::Global;
 
 /// A cell as one of the plan that takes over, and what is prepared for it.
 #[derive(Drop)]
-pub(crate) struct Taken<D: Dues> {
+pub(crate) struct TakenOver<D: Dues> {
     pub cell: WorkCell<Shaped>,
     pub prepared: Prepared<D>,
 }
@@ -32,7 +32,7 @@ pub(crate) fn take_over<P: Planned, D: Dues>(
     cell: &WorkCell<P>,
     shaped: Shaped,
     present: Moment,
-) -> Result<Taken<D>, (RestFault, Shaped)>
+) -> Result<TakenOver<D>, (RestFault, Shaped)>
     ensures kept { OnOk result (KeepsSoFar cell.now.plan cell.now.cell shaped) }
     ensures plan { IfOk result (λ new. new.cell.plan ≡ shaped) }
     ensures carried { IfOk result (λ new. IsCarried cell.now.plan cell.now.cell shaped new.cell.cell) }
@@ -60,7 +60,7 @@ fn prepare_cell<D: Dues>(
     alloc: Global,
     cell: WorkCell<Shaped>,
     present: Moment,
-) -> Result<Taken<D>, (RestFault, Shaped)>
+) -> Result<TakenOver<D>, (RestFault, Shaped)>
     ensures same { IfOk result (λ new. new.cell ≡ cell) }
     ensures moment { OnOk result (IsNextMoment cell.cell present) }
     ensures ordered { IfOk result (λ new. AreOrderedAhead cell.plan cell.cell present new.prepared.times) }
@@ -70,7 +70,7 @@ fn prepare_cell<D: Dues>(
     ensures handed_back { IfErr result (λ refused. refused.1 ≡ cell.basis) }
 {
     match prepare(alloc, &cell, present) {
-        Ok(prepared) => Ok(Taken { cell, prepared }),
+        Ok(prepared) => Ok(TakenOver { cell, prepared }),
         Err(fault) => Err((fault, cell.into_basis())),
     }
 }

@@ -8,7 +8,7 @@ ghost use Rattle.cell_control.specs.HandedOver.{IsHandedOver, IsHandOverFault};
 use crate::controller::Controller;
 use crate::core_controller::Core;
 use crate::dues::Dues;
-use crate::handing::{Taken, take_over};
+use crate::handing::{TakenOver, take_over};
 use crate::preparing::{Prepared, prepare};
 use crate::rest_fault::RestFault;
 use crate::room::Room;
@@ -112,7 +112,7 @@ impl<D: Dues> Core<Held, D> {
     {
         match take_over(alloc, &self.cell, shaped, present) {
             Ok(taken) => {
-                let Taken { cell, prepared } = taken;
+                let TakenOver { cell, prepared } = taken;
                 *self = RestController::settled(cell, prepared, present);
                 Ok(())
             }

@@ -2,8 +2,9 @@
 
 ghost use Rattle.std.specs.Prelude.{◌≡◌, ◌≤◌, ◌↔◌, ◌⊎◌, IsTrue, [], false};
 ghost use Rattle.shop_base.specs.Plan.{jobs};
-ghost use Rattle.shop_base.specs.Report.{at, CanReport};
+ghost use Rattle.shop_base.specs.Report.{CanReport};
 ghost use Rattle.shop_base.specs.Run.{IsAtRest};
+ghost use Rattle.shop_base.specs.Punctual.{IsPunctual};
 ghost use Rattle.cell_control.specs.DueMoments.{AreDueMoments};
 ghost use Rattle.cell_control.specs.Steps.{IsMade, AreDueFrom};
 
@@ -14,37 +15,31 @@ use crate::releasing::{Orders, release_moves};
 use cell_tables::WorkCell;
 use shop_base::{Moment, Planned, Report};
 
-/// Makes the step of a possible report. The orders of the last one are dropped.
+/// Makes the step of a possible report, of which it is known whether it is late. The orders of the last one are dropped.
 pub(crate) fn make_step<P: Planned, D: Dues>(
     cell: &mut WorkCell<P>,
     dues: &mut D,
     orders: &mut Orders,
     report: Report,
+    late: bool,
 ) -> Ack
     requires due_moments { AreDueMoments cell.old.plan cell.old.cell (D.dues dues.old) }
     requires rest { IsAtRest cell.old.plan cell.old.cell }
     requires possible { CanReport cell.old.plan cell.old.cell report }
+    requires late { (late ≡ false) ↔ IsPunctual cell.old.plan cell.old.cell report }
     requires room { jobs cell.old.plan ≤ orders.old.capacity }
     ensures made { IsMade cell.old.plan cell.old.cell report result orders.new.items cell.new.cell }
+    ensures acknowledged { result.late ≡ late }
     ensures due_moments { AreDueMoments cell.old.plan cell.new.cell (D.dues dues.new) }
     ensures same_plan { cell.new ≡ record cell.old { cell = cell.new.cell } }
     ensures capacity { orders.new.capacity ≡ orders.old.capacity }
 {
     let _plan = cell.shaped();
-    let ack = Ack {
-        late: is_late(dues, report),
-    };
+    let ack = Ack { late };
     drop_orders(orders);
     let candidate = end_activity(cell, dues, report);
     release_moves(cell, dues, orders, candidate);
     ack
-}
-
-/// Whether the report comes past a due moment.
-fn is_late<D: Dues>(dues: &D, report: Report) -> bool
-    ensures { (result ≡ false) ↔ AreDueFrom (D.dues dues.now) (at report) }
-{
-    is_past_due(dues, report.at())
 }
 
 /// Whether the moment is past a due moment.

@@ -14,7 +14,7 @@ use Rattle.event_lines.specs.AnswerLines.{done_line, unfinished_line}
 use Rattle.event_lines.specs.SentLines.{cell_prefix}
 use Rattle.cell_drive.specs.LineAnswers.{IsClosingLine, closing_line}
 use Rattle.cell_drive.specs.ManyCells.{PlannedCell, CellsClose, AreAllDone}
-use Rattle.cell_drive.specs.Tickets.{AreInRun, closing_text}
+use Rattle.cell_drive.specs.Numbers.{AreInRun, closing_text}
 
 pub closing_unfinished : (p : PlannedShop) (c : Cell) → (reports_left p c ≡ 0 → ⊥) → closing_line p c ≡ unfinished_line (reports_left p c)
 closing_unfinished p c some = ap (λ b. cond b (done_line c.last) (unfinished_line (reports_left p c))) (ne_eqb (reports_left p c) 0 some)

@@ -1,5 +1,5 @@
 -- A log that was cut is taken up.
-use Rattle.std.proofs.Common.{◌≡◌, ℕ, ◌+◌, List, [], ◌∷◌, ◌++◌, map, Option, Some, None, length, ◌⊎◌, inl, inr, refl, sym, ap, ◌∙◌, subst, arith, append_assoc, append-nil}
+use Rattle.std.proofs.Common.{◌≡◌, ℕ, ◌+◌, List, [], ◌∷◌, ◌++◌, map, Option, Some, None, length, ◌⊎◌, inl, inr, sym, ap, ◌∙◌, subst, arith, append_assoc, append-nil}
 use Rattle.shop_base.specs.declared.report.Report.{Report}
 use Rattle.shop_base.specs.Plan.{PlannedShop, IsWellShaped}
 use Rattle.shop_base.specs.Cell.{Cell, start}
@@ -14,15 +14,18 @@ use Rattle.event_lines.specs.LogLines.{LinesTell}
 use Rattle.event_lines.proofs.Readings.{tell-parts}
 use Rattle.run_log.proofs.Audits.{events-join}
 use Rattle.byte_streams.specs.Answering.{AnswerAll}
-use Rattle.cell_drive.specs.LineAnswers.{ReportAnswer}
-use Rattle.cell_drive.specs.AnswerText.{DrivenCell, undriven, CellAnswers, CellCloses}
+use Rattle.event_lines.specs.declared.requests.Request.{Request}
+use Rattle.event_lines.specs.declared.requests.Request.TheVariants.{Claim as ClaimRequest, Status}
+use Rattle.event_lines.specs.Requests.{claimed}
+use Rattle.cell_drive.specs.declared.manner.Manner.{Manner}
+use Rattle.cell_drive.specs.AnswerText.{DrivenCell, undriven, CellCloses}
+use Rattle.cell_drive.specs.Stated.{RequestAnswer, StatedAnswers}
 use Rattle.cell_drive.specs.OneRun.{cell_after, IsRunOf}
 use Rattle.cell_drive.proofs.LogRoom.{events-orders}
-use Rattle.cell_drive.proofs.OneText.{start_on_course}
 use Rattle.event_lines.specs.ReadBack.{TellsFirst}
-use Rattle.event_lines.proofs.Telling.{tells_none, tells_both}
-use Rattle.cell_drive.proofs.ReadBack.{answers_told, closing_told}
-use Rattle.cell_drive.specs.CutLaw.{IsCutFrom, ACutLogIsTakenUp, ACutLogHasItsOrders, WhatWasDrivenHasItsOrders}
+use Rattle.event_lines.proofs.Telling.{tells_none}
+use Rattle.cell_drive.proofs.ReadBack.{closing_told}
+use Rattle.cell_drive.specs.CutLaw.{IsCutFrom, ACutLogIsTakenUp, ACutLogHasItsOrders}
 use Rattle.cell_drive.proofs.Parts.{entries_moved}
 use Rattle.cell_drive.proofs.CutRuns.{cut_of_run}
 use Rattle.text_lines.proofs.EndedLines.{ended-more}
@@ -85,45 +88,47 @@ nothing_led p before end same = record {
   leads = subst (λ (d : DrivenCell). Leads p before.cell [] [] d.cell) (sym same) (done before.cell);
 }
 
-report_leads : (p : PlannedShop) (before end : DrivenCell) (number : ℕ) (report : Report) (text : List ℕ) (more : List Entry) → end.entries ≡ before.entries ++ more
-    → ReportAnswer p [] before.cell number report text more end.cell → AreLed p before end
-report_leads p before end number report text more entries (inl is) = record {
-  more = [];
-  entries = entries ∙ ap (λ (es : List Entry). before.entries ++ es) is.events_are;
-  reports = [];
-  leads = subst (Leads p before.cell [] []) (sym is.next_is) (done before.cell);
-}
-report_leads p before end number report text more entries (inr is) =
-    let orders = step_orders p before.cell report is.movers in
-    let next = after_step p before.cell report is.movers in
-    let moves : moved orders ++ [] ≡ events_of (map OrderEntry orders) = append-nil (moved orders) ∙ sym (events-orders orders) in
-    record {
-      more = ReportEntry report ∷ map OrderEntry orders;
-      entries = entries ∙ ap (λ (es : List Entry). before.entries ++ es) is.events_are;
-      reports = report ∷ [];
-      leads = subst (Leads p before.cell (report ∷ []) (events_of (ReportEntry report ∷ map OrderEntry orders))) (sym is.next_is)
-          (subst (λ es. Leads p before.cell (report ∷ []) (Reported report ∷ es) next) moves (accepted before.cell report is.movers [] [] next is.step (done next)));
-    }
+module _ (p : PlannedShop) (manner : Manner) where
+  abbrev pub LeadsOn : Cell → List Entry → Cell → Type 0
+  LeadsOn c events end = (reports : List Report) × Leads p c reports (events_of events) end
 
-line_leads : (p : PlannedShop) (before end : DrivenCell) (number : ℕ) (line : Option (List ℕ)) (text : List ℕ) → CellAnswers p before number line text end → AreLed p before end
-line_leads p before end number None text is = nothing_led p before end is.end_is
-line_leads p before end number (Some []) text is = nothing_led p before end is.end_is
-line_leads p before end number (Some (b ∷ line)) text (inl is) = nothing_led p before end is.1.end_is
-line_leads p before end number (Some (b ∷ line)) text (inr is) = report_leads p before end number is.what text is.answer.more is.answer.entries is.answer.answer
+  no_events : (c next end : Cell) (events more : List Entry) → events ≡ [] → next ≡ c → LeadsOn next more end → LeadsOn c (events ++ more) end
+  no_events c next end events more none same on =
+      subst (λ (es : List Entry). LeadsOn c (es ++ more) end) (sym none) (subst (λ (x : Cell). LeadsOn x more end) same on)
 
-pub answers_lead : (p : PlannedShop) (lines : List (Option (List ℕ))) (before end : DrivenCell) (number : ℕ) (text : List ℕ) → AnswerAll (CellAnswers p) before number lines text end → AreLed p before end
-answers_lead p [] before end number text all = nothing_led p before end all.1
-answers_lead p (line ∷ lines) before end number text all =
-    let next = all.2 in
-    let first = line_leads p before next number line all.0 all.3 in
-    let rest = answers_lead p lines next end (number + 1) all.1 all.4 in
-    record {
-      more = first.more ++ rest.more;
-      entries = rest.entries ∙ ap (λ (es : List Entry). es ++ rest.more) first.entries ∙ append_assoc before.entries first.more rest.more;
-      reports = first.reports ++ rest.reports;
-      leads = subst (λ es. Leads p before.cell (first.reports ++ rest.reports) es end.cell) (sym (events-join first.more rest.more))
-          (leads_join p before.cell next.cell end.cell first.reports rest.reports (events_of first.more) (events_of rest.more) first.leads rest.leads);
-    }
+  -- a request, and what comes behind it
+  pub answer_leads : (prefix : List ℕ) (c next end : Cell) (number : ℕ) (request : Request) (text : List ℕ) (events more : List Entry) → RequestAnswer p manner prefix c number request text events next → LeadsOn next more end
+      → LeadsOn c (events ++ more) end
+  answer_leads prefix c next end number (ClaimRequest claim) text events more (inl is) on = no_events c next end events more is.events_are is.next_is on
+  answer_leads prefix c next end number (ClaimRequest claim) text events more (inr is) on =
+      let r = claimed claim in
+      let orders = step_orders p c r is.movers in
+      let own = ReportEntry (claimed claim) ∷ map OrderEntry orders in
+      let es = events_of more in
+      let whole : events_of (events ++ more) ≡ Reported r ∷ (moved orders ++ es) =
+      ap (λ (first : List Entry). events_of (first ++ more)) is.events_are ∙ events-join own more ∙ ap (λ (first : List Event). Reported r ∷ (first ++ es)) (events-orders orders) in
+      (r ∷ on.0, subst (λ (all : List Event). Leads p c (r ∷ on.0) all end) (sym whole) (accepted c r is.movers on.0 es end is.step (subst (λ (x : Cell). Leads p x on.0 es end) is.next_is on.1)))
+  answer_leads prefix c next end number Status text events more is on = no_events c next end events more is.events_are is.next_is on
+
+  -- a line, and those behind it
+  line_leads : (before next end : DrivenCell) (number : ℕ) (line : Option (List ℕ)) (text : List ℕ) → StatedAnswers p manner before number line text next → AreLed p next end → AreLed p before end
+  line_leads before next end number None text is on = subst (λ (d : DrivenCell). AreLed p d end) is.end_is on
+  line_leads before next end number (Some []) text is on = subst (λ (d : DrivenCell). AreLed p d end) is.end_is on
+  line_leads before next end number (Some (b ∷ line)) text (inl is) on = subst (λ (d : DrivenCell). AreLed p d end) is.1.end_is on
+  line_leads before next end number (Some (b ∷ line)) text (inr is) on =
+      let more = is.answer.more in
+      let led = answer_leads [] before.cell next.cell end.cell number is.what text more on.more is.answer.answer (on.reports, on.leads) in
+      record {
+        more = more ++ on.more;
+        entries = on.entries ∙ ap (λ (es : List Entry). es ++ on.more) is.answer.entries ∙ append_assoc before.entries more on.more;
+        reports = led.0;
+        leads = led.1;
+      }
+
+  pub stated_answers_lead : (lines : List (Option (List ℕ))) (before end : DrivenCell) (number : ℕ) (text : List ℕ) → AnswerAll (StatedAnswers p manner) before number lines text end → AreLed p before end
+  stated_answers_lead [] before end number text all = nothing_led p before end all.1
+  stated_answers_lead (line ∷ lines) before end number text all =
+      line_leads before all.2 end number line all.0 all.3 (stated_answers_lead lines all.2 end (number + 1) all.1 all.4)
 
 pub closing_part : (p : PlannedShop) (end : DrivenCell) (closing : List ℕ) → (closing ≡ []) ⊎ CellCloses p end closing → TellsFirst p closing []
 closing_part p end closing (inl none) = subst (λ (t : List ℕ). TellsFirst p t []) (sym none) (tells_none p)
@@ -134,13 +139,3 @@ pub cut_of_led : (p : PlannedShop) (cut lost : List ℕ) (end : DrivenCell) → 
 cut_of_led p cut lost end shaped tells led =
     a_cut_log_has_its_orders p cut lost end.entries shaped tells
     (run_of_leads p led.reports end.entries end.cell shaped (subst (λ (es : List Entry). IsControlledRun p led.reports (events_of es) end.cell) (sym led.entries) led.leads))
-
-pub what_was_driven_has_its_orders : WhatWasDrivenHasItsOrders
-what_was_driven_has_its_orders p lines answers closing cut lost end shaped are closes whole =
-    let told = answers_told p shaped lines (undriven p) end 1 answers (start_on_course p shaped) are in
-    let tells : LinesTell p (lines_of ((answers ++ closing) ++ [])) ((told.more ++ []) ++ []) = tells_both p answers closing told.more [] told.tells (closing_part p end closing closes) [] [] refl in
-    let same_text : (answers ++ closing) ++ [] ≡ cut ++ lost = append-nil (answers ++ closing) ∙ whole in
-    let same_entries : (told.more ++ []) ++ [] ≡ end.entries = append-nil (told.more ++ []) ∙ append-nil told.more ∙ sym told.entries in
-    cut_of_led p cut lost end shaped
-    (subst (λ (t : List ℕ). LinesTell p (lines_of t) end.entries) same_text (subst (λ (es : List Entry). LinesTell p (lines_of ((answers ++ closing) ++ [])) es) same_entries tells))
-    (answers_lead p lines (undriven p) end 1 answers are)

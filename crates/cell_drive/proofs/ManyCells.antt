@@ -4,9 +4,8 @@ use Rattle.std.specs.Prelude.{slice_get}
 use Rattle.shop_base.proofs.Keeping.{start-sound}
 use Rattle.shop_base.proofs.ControlledRuns.{start_at_rest}
 use Rattle.plan_verifier.specs.Accepted.{VerifiedPlan, IsVerified}
-use Rattle.cell_drive.specs.ManyCells.{PlannedCell, cell_start, hub_start}
-use Rattle.cell_drive.specs.Tickets.{IsInRun, AreInRun}
-use Rattle.cell_drive.specs.CellsTextLaw.{AreVerified}
+use Rattle.cell_drive.specs.ManyCells.{PlannedCell, AreVerified, cell_start, hub_start}
+use Rattle.cell_drive.specs.Numbers.{IsInRun, AreInRun}
 
 pub starts_in_run : (v : VerifiedPlan) → IsVerified v → IsInRun (cell_start v)
 starts_in_run v verified = record { verified = verified; sound = start-sound v.planned verified.schedule.shaped; rest = start_at_rest v.planned }
@@ -15,17 +14,14 @@ pub start_in_run : (plans : List VerifiedPlan) → AreVerified plans → AreInRu
 start_in_run [] verified = tt
 start_in_run (v ∷ plans) (first, others) = (starts_in_run v first, start_in_run plans others)
 
-plans_verified : (plans : List VerifiedPlan) → AreInRun (hub_start plans) → AreVerified plans
-plans_verified [] all = tt
-plans_verified (v ∷ plans) all = (all.0.verified, plans_verified plans all.1)
-
--- the plans at whose start they stand are accepted ones
-pub starts_verified : (plans : List VerifiedPlan) (cells : List PlannedCell) → cells ≡ hub_start plans → AreInRun cells → AreVerified plans
-starts_verified plans cells at_first all = plans_verified plans (subst AreInRun at_first all)
-
 pub one_more_in_run : (cells : List PlannedCell) (c : PlannedCell) → AreInRun cells → IsInRun c → AreInRun (cells ++ c ∷ [])
 one_more_in_run [] c all is = (is, tt)
 one_more_in_run (d ∷ cells) c all is = (all.0, one_more_in_run cells c all.1 is)
+
+-- those that are accepted join them one by one
+pub one_more_verified : (plans : List VerifiedPlan) (v : VerifiedPlan) → AreVerified plans → IsVerified v → AreVerified (plans ++ v ∷ [])
+one_more_verified [] v all is = (is, tt)
+one_more_verified (w ∷ plans) v all is = (all.0, one_more_verified plans v all.1 is)
 
 pub one_in_run : (cells : List PlannedCell) (k : ℕ) (c : PlannedCell) → AreInRun cells → slice_get cells k ≡ Some c → IsInRun c
 one_in_run [] k c all found = absurd (cc)

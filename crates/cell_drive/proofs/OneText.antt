@@ -1,8 +1,7 @@
--- An input has one answer text.
-use Rattle.std.proofs.Common.{◌≡◌, ◌↔◌, ℕ, suc, ◌+◌, List, [], ◌∷◌, ◌++◌, set, map, Bool, true, false, Option, Some, None, refl, sym, ap, ◌∙◌, subst, inl, inr}
+-- In each manner an input has one answer text.
+use Rattle.std.proofs.Common.{◌≡◌, ◌↔◌, ◌⊎◌, ℕ, suc, ◌+◌, List, [], ◌∷◌, ◌++◌, set, map, Bool, true, false, Option, Some, None, Result, Err, refl, sym, ap, ◌∙◌, subst, inl, inr}
 use Rattle.std.specs.Prelude.{slice_get}
 use Rattle.shop_base.specs.declared.move_order.MoveOrder.{MoveOrder}
-use Rattle.shop_base.specs.declared.report.Report.{Report}
 use Rattle.shop_base.specs.Plan.{PlannedShop, IsWellShaped}
 use Rattle.shop_base.specs.Cell.{Cell}
 use Rattle.shop_base.specs.Run.{IsAtRest}
@@ -11,23 +10,36 @@ use Rattle.shop_base.specs.Sound.{IsSound}
 use Rattle.shop_base.proofs.Keeping.{start-sound}
 use Rattle.shop_base.proofs.ControlledRuns.{start_at_rest, after_step-sound}
 use Rattle.shop_base.proofs.OneStep.{one_step}
+use Rattle.plan_verifier.specs.Accepted.{VerifiedPlan}
 use Rattle.cell_tables.specs.declared.entry.Entry.{Entry}
 use Rattle.cell_tables.specs.declared.entry.Entry.TheVariants.{Report as ReportEntry, Order as OrderEntry}
-use Rattle.cell_control.specs.ReasonNames.{reason_name}
-use Rattle.cell_control.proofs.OneReason.{only_reason}
-use Rattle.cell_control.proofs.Reasons.{reason-cannot}
+use Rattle.byte_streams.specs.declared.drive_fault.DriveFault.{DriveFault}
+use Rattle.byte_streams.specs.declared.drive_fault.DriveFault.TheVariants.{Memory}
+use Rattle.byte_streams.specs.Lent.{Streams}
 use Rattle.byte_streams.specs.Lines.{input_lines}
 use Rattle.byte_streams.specs.Answering.{AnswerAll}
-use Rattle.event_lines.specs.AnswerLines.{refused_line}
-use Rattle.event_lines.specs.SentLines.{IsReportLine, cell_prefix}
-use Rattle.cell_drive.specs.LineAnswers.{LineAnswer, ReportAnswer, IsClosingLine, accepted_lines}
-use Rattle.cell_drive.specs.AnswerText.{DrivenCell, undriven, CellReports, CellCloses}
-use Rattle.cell_drive.specs.OneTextLaw.{OneAnswerText, OneTextForLines}
-use Rattle.cell_drive.specs.ManyCells.{PlannedCell, OnCell, IsOnCell, IsAnsweredIn, CellsReport, CellsClose, hub_start}
-use Rattle.cell_drive.specs.CellsTextLaw.{OneCellsTextForLines, OneCellsAnswerText}
-use Rattle.cell_drive.specs.Tickets.{IsInRun, AreInRun}
-use Rattle.event_lines.proofs.Readings.{one_report, one_cell_report}
+use Rattle.event_lines.specs.StandingLines.{refused_detail_line}
+use Rattle.event_lines.specs.SentLines.{cell_prefix}
+use Rattle.event_lines.specs.declared.requests.Claim.{Claim}
+use Rattle.event_lines.specs.declared.requests.Claim.TheVariants.{Report, CleanAfter}
+use Rattle.event_lines.specs.declared.requests.Request.{Request}
+use Rattle.event_lines.specs.declared.requests.Request.TheVariants.{Claim as ClaimRequest, Status}
+use Rattle.event_lines.specs.Requests.{claimed}
+use Rattle.event_lines.proofs.Readings.{one_report, one_request, one_cell_report, one_cell_request}
+use Rattle.cell_drive.specs.declared.manner.Manner.{Manner}
+use Rattle.cell_drive.specs.declared.refusals.Refusal.{Refusal}
+use Rattle.cell_drive.specs.declared.hub.HubEnd.{HubEnd}
+use Rattle.cell_drive.specs.Refusals.{refusal_word, refusal_detail}
+use Rattle.cell_drive.specs.LineAnswers.{LineAnswer, IsClosingLine}
+use Rattle.cell_drive.specs.AnswerText.{DrivenCell, undriven, CellCloses}
+use Rattle.cell_drive.specs.Stated.{AsksFor, IsClaimRefused, IsClaimTaken, RequestAnswer, CellRequests, refusal_prefix, StatedAnswers, taken_lines, tells_end, told_overdue}
+use Rattle.cell_drive.specs.StatedLaw.{OneAnswerText, OneTextForLines}
+use Rattle.cell_drive.specs.ManyCells.{PlannedCell, CellsClose, hub_start}
+use Rattle.cell_drive.specs.StatedCells.{AsksCell, AsksOf, OfCell, IsToldIn, CellsTell, CellsStated, AreDrivesIn, stated_hub_start}
+use Rattle.cell_drive.specs.StatedCellsLaw.{OneStatedCellsTextForLines, OneStatedCellsText}
+use Rattle.cell_drive.specs.Numbers.{IsInRun, AreInRun}
 use Rattle.cell_drive.proofs.ManyCells.{start_in_run, one_in_run, set_in_run}
+use Rattle.cell_drive.proofs.Refusing.{one_refusal, refused_or_taken}
 
 -- ---- lines, whatever they ask for
 
@@ -61,7 +73,7 @@ module _ {S Q : Type 0} (asks : List ℕ → Q → Type 0) (answers : S → ℕ 
       (subst (λ (s : S). AnswerAll (LineAnswer asks answers) s (number + 1) lines also.1 last) one.1 also.4) in
       (also.5 ∙ ap (λ (t : List ℕ). t ++ also.1) one.0 ∙ ap (λ (t : List ℕ). all.0 ++ t) others.0 ∙ sym all.5, others.1)
 
--- ---- reports on a cell
+-- ---- requests to a cell
 
 pub same_truth : {P : Type 0} (a b : Bool) → ((a ≡ false) ↔ P) → ((b ≡ false) ↔ P) → b ≡ a
 same_truth true true one also = refl
@@ -80,32 +92,84 @@ pub record IsOne (text other : List ℕ) (events events' : List Entry) (next nex
   pub events_are : events' ≡ events
   pub next_is : next' ≡ next
 
-module _ (p : PlannedShop) (prefix : List ℕ) (c : Cell) (number : ℕ) (report : Report) (on : IsOnCourse p c) where
-  one_report_answer : (text other : List ℕ) (events events' : List Entry) (next next' : Cell)
-      → ReportAnswer p prefix c number report text events next → ReportAnswer p prefix c number report other events' next' → IsOne text other events events' next next'
-  one_report_answer text other events events' next next' (inl one) (inl also) =
-      let name = ap reason_name (only_reason p c report also.reason also.first one.reason one.first) in
+one_asked : (tells : Bool) (line : List ℕ) (what other : Request) → AsksFor tells line what → AsksFor tells line other → other ≡ what
+one_asked true line what other is also = one_request line what other is also
+one_asked false line (ClaimRequest (Report report)) (ClaimRequest (Report other)) is also = ap (λ r. ClaimRequest (Report r)) (one_report line report other is also)
+one_asked false line (ClaimRequest (Report report)) (ClaimRequest (CleanAfter machine job at)) is also = absurd also
+one_asked false line (ClaimRequest (Report report)) Status is also = absurd also
+one_asked false line (ClaimRequest (CleanAfter machine job at)) other is also = absurd is
+one_asked false line Status other is also = absurd is
+
+module _ (p : PlannedShop) (manner : Manner) (prefix : List ℕ) (c : Cell) (number : ℕ) (on : IsOnCourse p c) where
+  one_claim_answer : (claim : Claim) (text other : List ℕ) (events events' : List Entry) (next next' : Cell)
+      → IsClaimRefused p manner (refusal_prefix manner prefix) c number claim text events next ⊎ IsClaimTaken p manner prefix c claim text events next
+      → IsClaimRefused p manner (refusal_prefix manner prefix) c number claim other events' next' ⊎ IsClaimTaken p manner prefix c claim other events' next' → IsOne text other events events' next next'
+  one_claim_answer claim text other events events' next next' (inl one) (inl also) =
+      let same : also.refusal ≡ one.refusal = one_refusal p c on.shaped on.sound manner claim one.refusal also.refusal one.first also.first in
       record {
-        text_is = also.text_is ∙ ap (refused_line number) (sym name) ∙ sym one.text_is;
+        text_is = also.text_is ∙ ap (λ (r : Refusal). refusal_prefix manner prefix ++ refused_detail_line number (refusal_word r) (refusal_detail manner p c (claimed claim) r)) same ∙ sym one.text_is;
         events_are = also.events_are ∙ sym one.events_are;
         next_is = also.next_is ∙ sym one.next_is;
       }
-  one_report_answer text other events events' next next' (inl one) (inr also) = absurd (reason-cannot p c report one.reason on.sound one.first also.step.can)
-  one_report_answer text other events events' next next' (inr one) (inl also) = absurd (reason-cannot p c report also.reason on.sound also.first one.step.can)
-  one_report_answer text other events events' next next' (inr one) (inr also) =
-      let only = one_step p c report on.shaped on.sound on.rest one.step.can in
+  one_claim_answer claim text other events events' next next' (inl one) (inr also) = absurd (refused_or_taken p c on.shaped on.sound manner claim one.refusal one.first also.taken)
+  one_claim_answer claim text other events events' next next' (inr one) (inl also) = absurd (refused_or_taken p c on.shaped on.sound manner claim also.refusal also.first one.taken)
+  one_claim_answer claim text other events events' next next' (inr one) (inr also) =
+      let r = claimed claim in
+      let only = one_step p c r on.shaped on.sound on.rest one.step.can in
       let moves : also.movers ≡ one.movers = only.2 also.movers also.step ∙ sym (only.2 one.movers one.step) in
-      let orders : step_orders p c report also.movers ≡ step_orders p c report one.movers = ap (step_orders p c report) moves in
+      let orders : step_orders p c r also.movers ≡ step_orders p c r one.movers = ap (step_orders p c r) moves in
+      let next_is : next' ≡ next = also.next_is ∙ ap (after_step p c r) moves ∙ sym one.next_is in
+      let overdue = told_overdue manner p c (claimed claim) in
       record {
-        text_is = also.text_is ∙ ap (λ (l : Bool). accepted_lines prefix report l (step_orders p c report also.movers)) (same_truth one.late also.late one.late_is also.late_is)
-            ∙ ap (accepted_lines prefix report one.late) orders ∙ sym one.text_is;
-        events_are = also.events_are ∙ ap (λ (os : List MoveOrder). ReportEntry report ∷ map OrderEntry os) orders ∙ sym one.events_are;
-        next_is = also.next_is ∙ ap (after_step p c report) moves ∙ sym one.next_is;
+        text_is = also.text_is
+            ∙ ap (λ (l : Bool). taken_lines prefix (claimed claim) l overdue (step_orders p c r also.movers) (tells_end manner p next')) (same_truth one.late also.late one.late_is also.late_is)
+            ∙ ap (λ (os : List MoveOrder). taken_lines prefix (claimed claim) one.late overdue os (tells_end manner p next')) orders
+            ∙ ap (λ (x : Cell). taken_lines prefix (claimed claim) one.late overdue (step_orders p c r one.movers) (tells_end manner p x)) next_is
+            ∙ sym one.text_is;
+        events_are = also.events_are ∙ ap (λ (os : List MoveOrder). ReportEntry (claimed claim) ∷ map OrderEntry os) orders ∙ sym one.events_are;
+        next_is = next_is;
       }
 
-  pub stays : (text : List ℕ) (events : List Entry) (next : Cell) → ReportAnswer p prefix c number report text events next → IsOnCourse p next
-  stays text events next (inl is) = subst (IsOnCourse p) (sym is.next_is) on
-  stays text events next (inr is) = subst (IsOnCourse p) (sym is.next_is) (record { shaped = on.shaped; sound = after_step-sound p c report is.movers on.shaped on.sound is.step; rest = is.step.rest })
+  pub one_request_answer : (request : Request) (text other : List ℕ) (events events' : List Entry) (next next' : Cell)
+      → RequestAnswer p manner prefix c number request text events next → RequestAnswer p manner prefix c number request other events' next' → IsOne text other events events' next next'
+  one_request_answer (ClaimRequest claim) text other events events' next next' one also = one_claim_answer claim text other events events' next next' one also
+  one_request_answer Status text other events events' next next' one also = record {
+    text_is = also.text_is ∙ sym one.text_is;
+    events_are = also.events_are ∙ sym one.events_are;
+    next_is = also.next_is ∙ sym one.next_is;
+  }
+
+  pub request_keeps : (request : Request) (text : List ℕ) (events : List Entry) (next : Cell) → RequestAnswer p manner prefix c number request text events next → IsOnCourse p next
+  request_keeps (ClaimRequest claim) text events next (inl is) = subst (IsOnCourse p) (sym is.next_is) on
+  request_keeps (ClaimRequest claim) text events next (inr is) =
+      subst (IsOnCourse p) (sym is.next_is) (record { shaped = on.shaped; sound = after_step-sound p c (claimed claim) is.movers on.shaped on.sound is.step; rest = is.step.rest })
+  request_keeps Status text events next is = subst (IsOnCourse p) (sym is.next_is) on
+
+-- ---- lines of one cell
+
+abbrev IsDrivenOn : PlannedShop → DrivenCell → Type 0
+IsDrivenOn p d = IsOnCourse p d.cell
+
+module _ (p : PlannedShop) (manner : Manner) where
+  one_requested : (start : DrivenCell) (number : ℕ) (request : Request) (text other : List ℕ) (end last : DrivenCell) → IsDrivenOn p start
+      → CellRequests p manner start number request text end → CellRequests p manner start number request other last → (other ≡ text) × (last ≡ end)
+  one_requested start number request text other end last on one also =
+      let same = one_request_answer p manner [] start.cell number on request text other one.more also.more end.cell last.cell one.answer also.answer in
+      let entries : last.entries ≡ end.entries = also.entries ∙ ap (λ (es : List Entry). start.entries ++ es) same.events_are ∙ sym one.entries in
+      (same.text_is, ap (λ (x : Cell). record { cell = x; entries = last.entries }) same.next_is ∙ ap (λ (es : List Entry). record { cell = end.cell; entries = es }) entries)
+
+  requested_keeps : (start : DrivenCell) (number : ℕ) (request : Request) (text : List ℕ) (end : DrivenCell) → IsDrivenOn p start → CellRequests p manner start number request text end → IsDrivenOn p end
+  requested_keeps start number request text end on is = request_keeps p manner [] start.cell number on request text is.more end.cell is.answer
+
+  pub stated_lines_keep : (start : DrivenCell) (number : ℕ) (line : Option (List ℕ)) (text : List ℕ) (end : DrivenCell) → IsOnCourse p start.cell
+      → StatedAnswers p manner start number line text end → IsOnCourse p end.cell
+  stated_lines_keep start number line text end on is =
+      line_keeps (AsksFor manner.tells) (CellRequests p manner) (IsDrivenOn p) (one_asked manner.tells) one_requested requested_keeps start number line text end on is
+
+  pub one_lines_text : (lines : List (Option (List ℕ))) (start end last : DrivenCell) (number : ℕ) (text other : List ℕ) → IsOnCourse p start.cell
+      → AnswerAll (StatedAnswers p manner) start number lines text end → AnswerAll (StatedAnswers p manner) start number lines other last → (other ≡ text) × (last ≡ end)
+  one_lines_text lines start end last number text other on all also =
+      one_text (AsksFor manner.tells) (CellRequests p manner) (IsDrivenOn p) (one_asked manner.tells) one_requested requested_keeps lines start end last number text other on all also
 
 pub start_on_course : (p : PlannedShop) → IsWellShaped p → IsOnCourse p (undriven p).cell
 start_on_course p shaped = record { shaped = shaped; sound = start-sound p shaped; rest = start_at_rest p }
@@ -116,33 +180,8 @@ one_closing p c text other (inl ended) (inr not_so) = absurd (not_so.0 ended.0)
 one_closing p c text other (inr unfinished) (inl not_so) = absurd (unfinished.0 not_so.0)
 one_closing p c text other (inr unfinished) (inr also) = also.1 ∙ sym unfinished.1
 
--- ---- one cell
-
-abbrev IsDrivenOn : PlannedShop → DrivenCell → Type 0
-IsDrivenOn p d = IsOnCourse p d.cell
-
-one_driven : (p : PlannedShop) (start : DrivenCell) (number : ℕ) (report : Report) (text other : List ℕ) (end last : DrivenCell) → IsDrivenOn p start
-    → CellReports p start number report text end → CellReports p start number report other last → (other ≡ text) × (last ≡ end)
-one_driven p start number report text other end last on one also =
-    let same = one_report_answer p [] start.cell number report on text other one.more also.more end.cell last.cell one.answer also.answer in
-    let entries : last.entries ≡ end.entries = also.entries ∙ ap (λ (es : List Entry). start.entries ++ es) same.events_are ∙ sym one.entries in
-    (same.text_is, ap (λ (x : Cell). record { cell = x; entries = last.entries }) same.next_is ∙ ap (λ (es : List Entry). record { cell = end.cell; entries = es }) entries)
-
-driven_keeps : (p : PlannedShop) (start : DrivenCell) (number : ℕ) (report : Report) (text : List ℕ) (end : DrivenCell) → IsDrivenOn p start → CellReports p start number report text end → IsDrivenOn p end
-driven_keeps p start number report text end on is = stays p [] start.cell number report on text is.more end.cell is.answer
-
--- lines are answered by one text
-pub one_driven_text : (p : PlannedShop) (lines : List (Option (List ℕ))) (start end last : DrivenCell) (number : ℕ) (text other : List ℕ) → IsOnCourse p start.cell
-    → AnswerAll (LineAnswer IsReportLine (CellReports p)) start number lines text end → AnswerAll (LineAnswer IsReportLine (CellReports p)) start number lines other last → (other ≡ text) × (last ≡ end)
-one_driven_text p lines start end last number text other on all also =
-    one_text IsReportLine (CellReports p) (IsDrivenOn p) one_report (one_driven p) (driven_keeps p) lines start end last number text other on all also
-
-pub driven_lines_keep : (p : PlannedShop) (start : DrivenCell) (number : ℕ) (line : Option (List ℕ)) (text : List ℕ) (end : DrivenCell) → IsOnCourse p start.cell
-    → LineAnswer IsReportLine (CellReports p) start number line text end → IsOnCourse p end.cell
-driven_lines_keep p start number line text end on is = line_keeps IsReportLine (CellReports p) (IsDrivenOn p) one_report (one_driven p) (driven_keeps p) start number line text end on is
-
 pub one_text_for_lines : OneTextForLines
-one_text_for_lines p lines text other end last shaped all also = one_driven_text p lines (undriven p) end last 1 text other (start_on_course p shaped) all also
+one_text_for_lines p manner lines text other end last shaped all also = one_lines_text p manner lines (undriven p) end last 1 text other (start_on_course p shaped) all also
 
 -- with the closing line
 pub one_closed : (p : PlannedShop) (end last : DrivenCell) (answers answers' closing closing' : List ℕ) → CellCloses p end closing → CellCloses p last closing' → (answers' ≡ answers) × (last ≡ end)
@@ -152,49 +191,14 @@ one_closed p end last answers answers' closing closing' is also same =
     ap (λ (t : List ℕ). t ++ closing') same.0 ∙ ap (λ (t : List ℕ). answers ++ t) line
 
 pub one_answer_text : OneAnswerText
-one_answer_text p input text other end last shaped is also =
-    let one = one_text_for_lines p (input_lines input) is.answers also.answers end last shaped is.are_answers also.are_answers in
+one_answer_text p manner input text other end last shaped is also =
+    let one = one_text_for_lines p manner (input_lines input) is.answers also.answers end last shaped is.are_answers also.are_answers in
     (also.whole ∙ one_closed p end last is.answers also.answers is.closing also.closing is.is_closing also.is_closing one ∙ sym is.whole, one.1)
 
 -- ---- many cells
 
 pub on_course : (c : PlannedCell) → IsInRun c → IsOnCourse c.plan.planned c.cell
 on_course c is = record { shaped = is.verified.schedule.shaped; sound = is.sound; rest = is.rest }
-
-one_asked : (line : List ℕ) (on other : OnCell) → IsOnCell line on → IsOnCell line other → other ≡ on
-one_asked line on other is also =
-    let same = one_cell_report line on.cell other.cell on.report other.report is also in
-    ap (λ (k : ℕ). record { cell = k; report = other.report }) same.0 ∙ ap (λ (r : Report). record { cell = on.cell; report = r }) same.1
-
-one_in : (o : Option PlannedCell) (cells : List PlannedCell) (number : ℕ) (on : OnCell) (text other : List ℕ) (end last : List PlannedCell) → ((c : PlannedCell) → o ≡ Some c → IsInRun c)
-    → IsAnsweredIn o cells number on text end → IsAnsweredIn o cells number on other last → (other ≡ text) × (last ≡ end)
-one_in None cells number on text other end last in_run one also = (also.text_is ∙ sym one.text_is, also.end_is ∙ sym one.end_is)
-one_in (Some c) cells number on text other end last in_run one also =
-    let same = one_report_answer c.plan.planned _ c.cell number on.report (on_course c (in_run c refl)) text other one.events also.events one.next also.next one.answer also.answer in
-    (same.text_is, also.end_is ∙ ap (λ (x : Cell). set cells on.cell (record { plan = c.plan; cell = x })) same.next_is ∙ sym one.end_is)
-
-one_of_cells : (cells : List PlannedCell) (number : ℕ) (on : OnCell) (text other : List ℕ) (end last : List PlannedCell) → AreInRun cells
-    → CellsReport cells number on text end → CellsReport cells number on other last → (other ≡ text) × (last ≡ end)
-one_of_cells cells number on text other end last in_run one also =
-    one_in (slice_get cells on.cell) cells number on text other end last (λ c found. one_in_run cells on.cell c in_run found) one also
-
-keeps_in : (o : Option PlannedCell) (cells : List PlannedCell) (number : ℕ) (on : OnCell) (text : List ℕ) (end : List PlannedCell) → AreInRun cells → ((c : PlannedCell) → o ≡ Some c → IsInRun c)
-    → IsAnsweredIn o cells number on text end → AreInRun end
-keeps_in None cells number on text end all in_run is = subst AreInRun (sym is.end_is) all
-keeps_in (Some c) cells number on text end all in_run is =
-    let kept = in_run c refl in
-    let next = stays c.plan.planned _ c.cell number on.report (on_course c kept) text is.events is.next is.answer in
-    subst AreInRun (sym is.end_is) (set_in_run cells on.cell (record { plan = c.plan; cell = is.next }) all (record { verified = kept.verified; sound = next.sound; rest = next.rest }))
-
-pub reports_keep : (cells : List PlannedCell) (number : ℕ) (on : OnCell) (text : List ℕ) (end : List PlannedCell) → AreInRun cells → CellsReport cells number on text end → AreInRun end
-reports_keep cells number on text end all is = keeps_in (slice_get cells on.cell) cells number on text end all (λ c found. one_in_run cells on.cell c all found) is
-
-pub lines_keep : (cells : List PlannedCell) (number : ℕ) (line : Option (List ℕ)) (text : List ℕ) (end : List PlannedCell) → AreInRun cells → LineAnswer IsOnCell CellsReport cells number line text end → AreInRun end
-lines_keep cells number line text end all is = line_keeps IsOnCell CellsReport AreInRun one_asked one_of_cells reports_keep cells number line text end all is
-
-pub one_cells_text_for_lines : OneCellsTextForLines
-one_cells_text_for_lines plans lines text other end last verified all also =
-    one_text IsOnCell CellsReport AreInRun one_asked one_of_cells reports_keep lines (hub_start plans) end last 1 text other (start_in_run plans verified) all also
 
 pub one_closing_text : (cells : List PlannedCell) (number : ℕ) (text other : List ℕ) → CellsClose number cells text → CellsClose number cells other → other ≡ text
 one_closing_text [] number text other is also = also ∙ sym is
@@ -203,8 +207,59 @@ one_closing_text (c ∷ cells) number text other is also =
     let rest = one_closing_text cells (suc number) is.1 also.1 is.3 also.3 in
     also.4 ∙ ap (λ (l : List ℕ). (cell_prefix number ++ l) ++ also.1) line ∙ ap (λ (t : List ℕ). (cell_prefix number ++ is.0) ++ t) rest ∙ sym is.4
 
-pub one_cells_answer_text : OneCellsAnswerText
-one_cells_answer_text plans input text other end last verified is also =
-    let one = one_cells_text_for_lines plans (input_lines input) is.answers also.answers end last verified is.are_answers also.are_answers in
+pub one_asked_of : (tells : Bool) (line : List ℕ) (cell cell' : ℕ) (request other : Request) → AsksCell tells line cell request → AsksCell tells line cell' other → (cell' ≡ cell) × (other ≡ request)
+one_asked_of true line cell cell' request other is also = one_cell_request line cell cell' request other is also
+one_asked_of false line cell cell' (ClaimRequest (Report report)) (ClaimRequest (Report other)) is also =
+    let same = one_cell_report line cell cell' report other is also in (same.0, ap (λ r. ClaimRequest (Report r)) same.1)
+one_asked_of false line cell cell' (ClaimRequest (Report report)) (ClaimRequest (CleanAfter machine job at)) is also = absurd also
+one_asked_of false line cell cell' (ClaimRequest (Report report)) Status is also = absurd also
+one_asked_of false line cell cell' (ClaimRequest (CleanAfter machine job at)) other is also = absurd is
+one_asked_of false line cell cell' Status other is also = absurd is
+
+one_asked_cell : (tells : Bool) (line : List ℕ) (asked other : OfCell) → AsksOf tells line asked → AsksOf tells line other → other ≡ asked
+one_asked_cell tells line asked other is also =
+    let same = one_asked_of tells line asked.cell other.cell asked.request other.request is also in
+    ap (λ (k : ℕ). record { cell = k; request = other.request }) same.0 ∙ ap (λ (r : Request). record { cell = asked.cell; request = r }) same.1
+
+module _ (manner : Manner) where
+  one_in : (o : Option PlannedCell) (cells : List PlannedCell) (number : ℕ) (asked : OfCell) (text other : List ℕ) (end last : List PlannedCell) → ((c : PlannedCell) → o ≡ Some c → IsInRun c)
+      → IsToldIn manner o cells number asked text end → IsToldIn manner o cells number asked other last → (other ≡ text) × (last ≡ end)
+  one_in None cells number asked text other end last in_run one also = (also.text_is ∙ sym one.text_is, also.end_is ∙ sym one.end_is)
+  one_in (Some c) cells number asked text other end last in_run one also =
+      let same = one_request_answer c.plan.planned manner (cell_prefix asked.cell) c.cell number (on_course c (in_run c refl)) asked.request text other one.events also.events one.next also.next one.answer also.answer in
+      (same.text_is, also.end_is ∙ ap (λ (x : Cell). set cells asked.cell (record { plan = c.plan; cell = x })) same.next_is ∙ sym one.end_is)
+
+  one_of_cells : (cells : List PlannedCell) (number : ℕ) (asked : OfCell) (text other : List ℕ) (end last : List PlannedCell) → AreInRun cells
+      → CellsTell manner cells number asked text end → CellsTell manner cells number asked other last → (other ≡ text) × (last ≡ end)
+  one_of_cells cells number asked text other end last in_run one also =
+      one_in (slice_get cells asked.cell) cells number asked text other end last (λ c found. one_in_run cells asked.cell c in_run found) one also
+
+  keeps_in : (o : Option PlannedCell) (cells : List PlannedCell) (number : ℕ) (asked : OfCell) (text : List ℕ) (end : List PlannedCell) → AreInRun cells → ((c : PlannedCell) → o ≡ Some c → IsInRun c)
+      → IsToldIn manner o cells number asked text end → AreInRun end
+  keeps_in None cells number asked text end all in_run is = subst AreInRun (sym is.end_is) all
+  keeps_in (Some c) cells number asked text end all in_run is =
+      let kept = in_run c refl in
+      let next = request_keeps c.plan.planned manner (cell_prefix asked.cell) c.cell number (on_course c kept) asked.request text is.events is.next is.answer in
+      subst AreInRun (sym is.end_is) (set_in_run cells asked.cell (record { plan = c.plan; cell = is.next }) all (record { verified = kept.verified; sound = next.sound; rest = next.rest }))
+
+  pub told_keep : (cells : List PlannedCell) (number : ℕ) (asked : OfCell) (text : List ℕ) (end : List PlannedCell) → AreInRun cells → CellsTell manner cells number asked text end → AreInRun end
+  told_keep cells number asked text end all is = keeps_in (slice_get cells asked.cell) cells number asked text end all (λ c found. one_in_run cells asked.cell c all found) is
+
+  pub cells_lines_keep : (cells : List PlannedCell) (number : ℕ) (line : Option (List ℕ)) (text : List ℕ) (end : List PlannedCell) → AreInRun cells → CellsStated manner cells number line text end → AreInRun end
+  cells_lines_keep cells number line text end all is =
+      line_keeps (AsksOf manner.tells) (CellsTell manner) AreInRun (one_asked_cell manner.tells) one_of_cells told_keep cells number line text end all is
+
+pub one_stated_cells_text_for_lines : OneStatedCellsTextForLines
+one_stated_cells_text_for_lines plans manner lines text other end last verified all also =
+    one_text (AsksOf manner.tells) (CellsTell manner) AreInRun (one_asked_cell manner.tells) (one_of_cells manner) (told_keep manner) lines (hub_start plans) end last 1 text other (start_in_run plans verified) all also
+
+pub one_stated_cells_text : OneStatedCellsText
+one_stated_cells_text plans manner input text other end last verified is also =
+    let one = one_stated_cells_text_for_lines plans manner (input_lines input) is.answers also.answers end last verified is.are_answers also.are_answers in
     let closing = one_closing_text end 0 is.closing also.closing is.is_closing (subst (λ (s : List PlannedCell). CellsClose 0 s also.closing) one.1 also.is_closing) in
     (also.whole ∙ ap (λ (t : List ℕ). t ++ also.closing) one.0 ∙ ap (λ (t : List ℕ). is.answers ++ t) closing ∙ sym is.whole, one.1)
+
+-- where memory ran out before the first byte was read
+pub undriven_hub : (plans : List VerifiedPlan) (manner : Manner) (streams : Streams) (outcome : Result HubEnd DriveFault) → outcome ≡ Err Memory → AreDrivesIn manner plans streams streams outcome
+undriven_hub plans manner streams outcome is =
+    subst (AreDrivesIn manner plans streams streams) (sym is) (record { end = stated_hub_start manner plans; streamed = refl; done = tt; verified = tt })

@@ -1,5 +1,5 @@
 -- What a driven cell wrote, as a log is read.
-use Rattle.std.proofs.Common.{◌≡◌, ℕ, ◌+◌, Bool, true, false, cond, List, [], ◌∷◌, ◌++◌, Option, Some, None, codes, map, refl, sym, ap, ◌∙◌, subst, inl, inr, append_assoc, append-nil}
+use Rattle.std.proofs.Common.{◌≡◌, ℕ, ◌+◌, Bool, true, false, cond, List, [], ◌∷◌, ◌++◌, Option, map, refl, sym, ap, ◌∙◌, subst, inl, inr, append_assoc, append-nil}
 use Rattle.shop_base.specs.declared.report.Report.{Report}
 use Rattle.shop_base.specs.Plan.{PlannedShop, IsWellShaped}
 use Rattle.shop_base.specs.Cell.{Cell}
@@ -23,13 +23,11 @@ use Rattle.event_lines.specs.LogLines.{LinesTell}
 use Rattle.event_lines.specs.ReadBack.{IsSpaceless, TellsFirst}
 use Rattle.event_lines.proofs.Telling.{tells_none, tells_both, tells_entry, others_tell_none}
 use Rattle.run_log.proofs.Audits.{events-join}
-use Rattle.byte_streams.specs.Lines.{input_lines}
 use Rattle.byte_streams.specs.Answering.{AnswerAll}
-use Rattle.cell_drive.specs.LineAnswers.{ReportAnswer}
-use Rattle.cell_drive.specs.AnswerText.{DrivenCell, undriven, CellAnswers, CellCloses}
-use Rattle.cell_drive.specs.AuditLaw.{AnAnswerTextIsALog, IsLogOf}
+use Rattle.cell_drive.specs.AnswerText.{DrivenCell, undriven, CellCloses}
+use Rattle.cell_drive.specs.AuditLaw.{IsLogOf}
 use Rattle.cell_drive.proofs.LogRoom.{events-orders}
-use Rattle.cell_drive.proofs.OneText.{IsOnCourse, start_on_course, driven_lines_keep}
+use Rattle.cell_drive.proofs.OneText.{IsOnCourse}
 use Rattle.cell_drive.proofs.ShopEntries.{report_of_shop, order_of_shop}
 
 pub name_spaceless : (reason : ReportFault) → IsSpaceless (reason_name reason)
@@ -102,31 +100,6 @@ module _ (p : PlannedShop) where
     pub step_report : (c : Cell) (report : Report) (movers : List ℕ) → IsSound p c → IsStep p c report movers → TellsFirst p (report_line report) (ReportEntry report ∷ [])
     step_report c report movers sound step = tells_entry p shaped (ReportEntry report) (report_of_shop p c report shaped sound step.can)
 
-    report_told : (before : DrivenCell) (number : ℕ) (report : Report) (text : List ℕ) (end : DrivenCell) (more : List Entry) → IsSound p before.cell → end.entries ≡ before.entries ++ more
-        → ReportAnswer p [] before.cell number report text more end.cell → AreTold before text end
-    report_told before number report text end more sound entries (inl is) = record {
-      more = [];
-      tells = subst (λ (t : List ℕ). TellsFirst p t []) (sym is.text_is) ((others_tell_none p).refused number (reason_name is.reason) (name_spaceless is.reason));
-      entries = entries ∙ ap (λ (es : List Entry). before.entries ++ es) is.events_are;
-      events = tt;
-      cell = is.next_is;
-    }
-    report_told before number report text end more sound entries (inr is) =
-        let c = before.cell in
-        let orders = step_orders p c report is.movers in
-        let late = cond is.late (late_line (at report)) [] in
-        step_told before report text end is.movers sound is.step
-        (subst (λ (t : List ℕ). TellsFirst p t (ReportEntry report ∷ map OrderEntry orders)) (sym is.text_is)
-        (tells_both p (report_line report) (late ++ order_lines orders) (ReportEntry report ∷ []) (map OrderEntry orders) (step_report c report is.movers sound is.step)
-        (tells_both p late (order_lines orders) [] (map OrderEntry orders) (late_told (at report) is.late) (step_moves c report is.movers sound is.step))))
-        (entries ∙ ap (λ (es : List Entry). before.entries ++ es) is.events_are) is.next_is
-
-    line_told : (before : DrivenCell) (number : ℕ) (line : Option (List ℕ)) (text : List ℕ) (end : DrivenCell) → IsSound p before.cell → CellAnswers p before number line text end → AreTold before text end
-    line_told before number None text end sound is = nothing_told before text _ end is.end_is is.text_is ((others_tell_none p).refused number (codes "LongLine") refl)
-    line_told before number (Some []) text end sound is = nothing_told before text [] end is.end_is is.text_is (tells_none p)
-    line_told before number (Some (b ∷ line)) text end sound (inl is) = nothing_told before text _ end is.1.end_is is.1.text_is ((others_tell_none p).refused number (codes "BadLine") refl)
-    line_told before number (Some (b ∷ line)) text end sound (inr is) = report_told before number is.what text end is.answer.more sound is.answer.entries is.answer.answer
-
     -- lines, whatever is answered to each
     module _ (answers : DrivenCell → ℕ → Option (List ℕ) → List ℕ → DrivenCell → Type 0)
         (keeps : (before : DrivenCell) (number : ℕ) (line : Option (List ℕ)) (text : List ℕ) (end : DrivenCell) → IsOnCourse p before.cell → answers before number line text end → IsOnCourse p end.cell)
@@ -148,10 +121,6 @@ module _ (p : PlannedShop) where
                 ∙ sym (after_all_join p before.cell (events_of first.more) (events_of others.more)) ∙ ap (after_all p before.cell) (sym joined);
           }
 
-    pub answers_told : (lines : List (Option (List ℕ))) (before end : DrivenCell) (number : ℕ) (text : List ℕ) → IsOnCourse p before.cell
-        → AnswerAll (CellAnswers p) before number lines text end → AreTold before text end
-    answers_told lines before end number text on all = all_told (CellAnswers p) (driven_lines_keep p) line_told lines before end number text on all
-
 -- answers from the start of a run on, and the closing line, are a log
 pub log_of_told : (p : PlannedShop) (shaped : IsWellShaped p) (answers closing text : List ℕ) (end : DrivenCell) → AreTold p shaped (undriven p) answers end → CellCloses p end closing
     → text ≡ answers ++ closing → IsLogOf p text end
@@ -165,7 +134,3 @@ log_of_told p shaped answers closing text end told closes whole =
       run = subst (λ (es : List Entry). IsRun p (events_of es)) (sym told.entries) told.events;
       cell = told.cell ∙ ap (λ (es : List Entry). ends_in p (events_of es)) (sym told.entries);
     }
-
-pub an_answer_text_is_a_log : AnAnswerTextIsALog
-an_answer_text_is_a_log p input text end shaped is =
-    log_of_told p shaped is.answers is.closing text end (answers_told p shaped (input_lines input) (undriven p) end 1 is.answers (start_on_course p shaped) is.are_answers) is.is_closing is.whole

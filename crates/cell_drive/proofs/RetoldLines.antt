@@ -1,15 +1,40 @@
 -- The lines of events that are told once more in a manner.
-use Rattle.std.proofs.Common.{◌≡◌, ℕ, ◌+◌, ◌<◌, ◌≤◌, zero, suc, List, [], ◌∷◌, ◌++◌, Bool, length, get_or, take, drop, add-one, drop-cons, refl, sym, ap, ap₂, ◌∙◌, subst, arith}
+use Rattle.std.proofs.Common.{◌≡◌, ℕ, ◌+◌, ◌<◌, ◌≤◌, zero, suc, List, [], ◌∷◌, ◌++◌, Bool, true, false, cond, Option, None, length, get_or, take, drop, add-one, drop-cons, refl, sym, ap, ap₂, ◌∙◌, subst, arith}
 use Rattle.std.proofs.lemmas.List.{take-append-drop}
 use Rattle.shop_base.specs.Plan.{PlannedShop}
 use Rattle.shop_base.specs.Cell.{Cell, start}
 use Rattle.shop_base.specs.Run.{CanHappen, after, AreEvents, IsRun}
+use Rattle.shop_base.specs.Report.{at}
 use Rattle.cell_tables.specs.declared.entry.Entry.{Entry}
+use Rattle.cell_tables.specs.declared.entry.Entry.TheVariants.{Report as ReportEntry, Order as OrderEntry}
 use Rattle.cell_tables.specs.Events.{event_of, events_of}
 use Rattle.run_log.proofs.Audits.{events-join}
+use Rattle.event_lines.specs.EventLines.{report_line, order_line}
+use Rattle.event_lines.specs.AnswerLines.{late_line}
+use Rattle.event_lines.specs.declared.details.Overdue.{Overdue}
 use Rattle.cell_drive.specs.declared.manner.Manner.{Manner}
+use Rattle.cell_drive.specs.Stated.{lateness_part}
+use Rattle.cell_drive.specs.ToldLines.{told_lines}
+use Rattle.cell_drive.specs.StatedLaw.{RetoldAsEver}
 use Rattle.cell_drive.specs.Retold.{retold_line, retold_lines}
 use Rattle.cell_drive.proofs.OwnRuns.{front_events}
+
+-- ---- in version 1
+
+untold_lateness : (tells : Bool) (at : ℕ) (late : Bool) (overdue : Option Overdue) → tells ≡ false → lateness_part [] at late (cond tells overdue None) ≡ cond late (late_line at) []
+untold_lateness true at late overdue plain = absurd (cc)
+untold_lateness false at late overdue plain = refl
+
+pub retold_as_ever : RetoldAsEver
+retold_as_ever p manner c [] late plain = refl
+retold_as_ever p manner c (entry ∷ entries) [] plain = refl
+retold_as_ever p manner c (ReportEntry report ∷ entries) (was_late ∷ late) plain =
+    ap (λ (rest : List ℕ). retold_line p manner c (ReportEntry report) was_late ++ rest) (retold_as_ever p manner (after p c (event_of (ReportEntry report))) entries late plain)
+    ∙ ap (λ (line : List ℕ). (report_line report ++ line) ++ told_lines entries late) (untold_lateness manner.tells (at report) was_late _ plain)
+retold_as_ever p manner c (OrderEntry order ∷ entries) (was_late ∷ late) plain =
+    ap (λ (rest : List ℕ). order_line order ++ rest) (retold_as_ever p manner (after p c (event_of (OrderEntry order))) entries late plain)
+
+-- ---- one after another
 
 next_of : {A : Type 0} (xs : List A) (i : ℕ) (d : A) → i < length xs → drop i xs ≡ get_or xs i d ∷ drop (i + 1) xs
 next_of xs i d below = drop-cons xs i d below ∙ ap (λ (n : ℕ). get_or xs i d ∷ drop n xs) (sym (add-one i))

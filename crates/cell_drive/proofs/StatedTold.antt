@@ -28,10 +28,9 @@ use Rattle.cell_drive.specs.States.{is_over, standing_part, texts_from, jobs_tex
 use Rattle.cell_drive.specs.LineAnswers.{closing_line}
 use Rattle.cell_drive.specs.AnswerText.{DrivenCell, undriven}
 use Rattle.cell_drive.specs.Stated.{RequestAnswer, StatedAnswers, lateness_part, end_part, told_overdue, tells_end}
-use Rattle.cell_drive.specs.StatedLaw.{AStatedTextIsALog}
-use Rattle.cell_drive.proofs.OneText.{start_on_course}
-use Rattle.cell_drive.proofs.Stating.{no_prefix}
-use Rattle.cell_drive.proofs.OneStated.{stated_lines_keep}
+use Rattle.cell_drive.specs.AuditLaw.{AnAnswerTextIsALog}
+use Rattle.cell_drive.proofs.OneText.{start_on_course, stated_lines_keep}
+use Rattle.cell_drive.proofs.Replied.{no_prefix}
 use Rattle.cell_drive.proofs.ReadBack.{AreTold, all_told, log_of_told, name_spaceless, nothing_told, step_moves, step_report, step_told}
 
 word_spaceless : (refusal : Refusal) → IsSpaceless (refusal_word refusal)
@@ -117,8 +116,8 @@ module _ (p : PlannedShop) where
     stated_line_told before number (Some (b ∷ line)) text end sound (inl is) = nothing_told p shaped before text _ end is.1.end_is is.1.text_is ((others_tell_none p).refused number (codes "BadLine") refl)
     stated_line_told before number (Some (b ∷ line)) text end sound (inr is) = request_told before number is.what text end is.answer.more sound is.answer.entries is.answer.answer
 
-pub a_stated_text_is_a_log : AStatedTextIsALog
-a_stated_text_is_a_log p manner input text end shaped is =
+pub an_answer_text_is_a_log : AnAnswerTextIsALog
+an_answer_text_is_a_log p manner input text end shaped is =
     log_of_told p shaped is.answers is.closing text end
     (all_told p shaped (StatedAnswers p manner) (stated_lines_keep p manner) (stated_line_told p shaped manner) (input_lines input) (undriven p) end 1 is.answers (start_on_course p shaped) is.are_answers)
     is.is_closing is.whole

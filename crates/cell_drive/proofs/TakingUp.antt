@@ -28,7 +28,7 @@ use Rattle.cell_drive.specs.TakenUp.{IsTakenRun, CanBeTakenUp, taken_by}
 use Rattle.cell_drive.specs.ResumeFaults.{IsResumeFault, IsRunFault, log_fault}
 use Rattle.cell_drive.specs.declared.resume_fault.ResumeFault.{ResumeFault}
 use Rattle.cell_drive.specs.declared.resume_fault.ResumeFault.TheVariants.{Log, Past, Refused, Memory}
-use Rattle.cell_drive.proofs.RestRoom.{told_moves}
+use Rattle.cell_drive.proofs.Rooms.{told_moves}
 
 -- it is known of each event whether it is late
 pub late_length : (p : PlannedShop) (c : Cell) (entries : List Entry) (late : List Bool) → AreLate p c entries late → length late ≡ length entries
@@ -68,11 +68,11 @@ module _ (control : Control) (entries : List Entry) (late : List Bool) (run : Is
   told_first are = ap (λ n. take n with_orders) (late_length p (start p) entries late are) ∙ take-append_seam entries (map OrderEntry control.orders)
 
   pub taken_run : (log : Noted) → IsWellShaped p → IsControl control → log.entries ≡ with_orders → log.reserved ≡ 2 * stated_number p → AreLate p (start p) entries late
-      → IsTakenRun (taken_by (record { control = control; log = log }) late)
+      → IsTakenRun (taken_by control log late)
   taken_run log shaped is_control noted reserved are =
       let told : take (length late) log.entries ≡ entries = ap (take (length late)) noted ∙ told_first are in
       record {
-        driven = record {
+        kept = record {
           shaped = shaped;
           control = is_control;
           told = subst (λ (es : List Entry). IsTold p control.cell es) (sym noted) told_with_orders;

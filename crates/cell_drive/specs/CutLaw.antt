@@ -10,11 +10,13 @@ use Rattle.cell_tables.specs.declared.entry.Entry.TheVariants.{Order as OrderEnt
 use Rattle.cell_tables.specs.Events.{events_of}
 use Rattle.event_lines.specs.LogLines.{LinesTell}
 use Rattle.byte_streams.specs.Answering.{AnswerAll}
-use Rattle.cell_drive.specs.AnswerText.{DrivenCell, CellAnswers, CellCloses, AreAnswersTo}
+use Rattle.cell_drive.specs.declared.manner.Manner.{Manner}
+use Rattle.cell_drive.specs.AnswerText.{DrivenCell, CellCloses}
 use Rattle.cell_drive.specs.OneRun.{IsRunOf}
 use Rattle.cell_drive.specs.CutLogs.{IsCutLog}
+use Rattle.cell_drive.specs.Stated.{StatedAnswers, AreStatedTo}
 use Rattle.cell_drive.specs.TakenUp.{TakenUp, IsTakenUp, CanBeTakenUp, told_in}
-use Rattle.cell_drive.specs.Resuming.{again_text, again_of, driven_so_far, IsRunToRest}
+use Rattle.cell_drive.specs.Resuming.{again_text, driven_so_far, IsRunToRest}
 
 -- ---- any run
 
@@ -31,17 +33,22 @@ abbrev pub ACutLogIsTakenUp : Type 0
 ACutLogIsTakenUp = (p : PlannedShop) (cut lost : List ℕ) (entries : List Entry)
     → LinesTell p (lines_of (cut ++ lost)) entries → IsRun p (events_of entries) → IsTakenUpFrom p cut entries
 
+-- so do the ended lines of what a cell wrote in a manner, cut at any byte: of the answers to the first lines of an input, and of the closing line, where that stands behind them
+abbrev pub WhatWasDrivenIsTakenUp : Type 0
+WhatWasDrivenIsTakenUp = (p : PlannedShop) (manner : Manner) (lines : List (Option (List ℕ))) (answers closing cut lost : List ℕ) (end : DrivenCell) → IsWellShaped p
+    → AreStatedTo p manner lines answers end → (closing ≡ []) ⊎ CellCloses p end closing → answers ++ closing ≡ cut ++ lost → IsTakenUpFrom p cut end.entries
+
 -- and of what `resume` writes: of the events once more, and of answers behind them, and of the closing line, where that stands behind them
 abbrev pub WhatWasResumedIsTakenUp : Type 0
-WhatWasResumedIsTakenUp = (p : PlannedShop) (entries : List Entry) (late : List Bool) (lines : List (Option (List ℕ))) (answers closing cut lost : List ℕ) (end : DrivenCell) → IsWellShaped p
-    → IsRunToRest p entries → length late ≤ length entries → AnswerAll (CellAnswers p) (driven_so_far p entries) 1 lines answers end
-    → (closing ≡ []) ⊎ CellCloses p end closing → again_text entries late ++ (answers ++ closing) ≡ cut ++ lost → IsTakenUpFrom p cut end.entries
+WhatWasResumedIsTakenUp = (p : PlannedShop) (manner : Manner) (entries : List Entry) (late : List Bool) (lines : List (Option (List ℕ))) (answers closing cut lost : List ℕ) (end : DrivenCell) → IsWellShaped p
+    → IsRunToRest p entries → length late ≤ length entries → AnswerAll (StatedAnswers p manner) (driven_so_far p entries) 1 lines answers end
+    → (closing ≡ []) ⊎ CellCloses p end closing → again_text p manner entries late ++ (answers ++ closing) ≡ cut ++ lost → IsTakenUpFrom p cut end.entries
 
 -- what `resume` writes, cut anywhere behind the line of its first event, or anywhere if the plan is to be accepted, can be taken up by the same plan, without a moment
 abbrev pub WhatWasResumedCanBeTakenUp : Type 0
-WhatWasResumedCanBeTakenUp = (p : PlannedShop) (log : List (List ℕ)) (at : Option ℕ) (taken : TakenUp) (lines : List (Option (List ℕ))) (answers closing cut lost : List ℕ) (end : DrivenCell)
-    → IsTakenUp p log at taken → AnswerAll (CellAnswers p) (driven_so_far p taken.driven.log.entries) 1 lines answers end
-    → (closing ≡ []) ⊎ CellCloses p end closing → again_of taken ++ (answers ++ closing) ≡ cut ++ lost
+WhatWasResumedCanBeTakenUp = (p : PlannedShop) (manner : Manner) (log : List (List ℕ)) (at : Option ℕ) (taken : TakenUp) (lines : List (Option (List ℕ))) (answers closing cut lost : List ℕ) (end : DrivenCell)
+    → IsTakenUp p log at taken → AnswerAll (StatedAnswers p manner) (driven_so_far p taken.log.entries) 1 lines answers end
+    → (closing ≡ []) ⊎ CellCloses p end closing → again_text p manner taken.log.entries taken.late ++ (answers ++ closing) ≡ cut ++ lost
     → IsAcceptable p ⊎ (LinesTell p (ended_lines cut) [] → told_in taken ≡ []) → CanBeTakenUp p (ended_lines cut) None
 
 -- ---- controlled runs
@@ -61,8 +68,8 @@ ACutLogHasItsOrders = (p : PlannedShop) (cut lost : List ℕ) (entries : List En
 
 -- and the first bytes of what `drive` writes: of the answers to the first lines of an input, and of the closing line, where that stands behind them
 abbrev pub WhatWasDrivenHasItsOrders : Type 0
-WhatWasDrivenHasItsOrders = (p : PlannedShop) (lines : List (Option (List ℕ))) (answers closing cut lost : List ℕ) (end : DrivenCell) → IsWellShaped p
-    → AreAnswersTo p lines answers end → (closing ≡ []) ⊎ CellCloses p end closing → answers ++ closing ≡ cut ++ lost → IsCutFrom p cut end.entries
+WhatWasDrivenHasItsOrders = (p : PlannedShop) (manner : Manner) (lines : List (Option (List ℕ))) (answers closing cut lost : List ℕ) (end : DrivenCell) → IsWellShaped p
+    → AreStatedTo p manner lines answers end → (closing ≡ []) ⊎ CellCloses p end closing → answers ++ closing ≡ cut ++ lost → IsCutFrom p cut end.entries
 
 -- such a log can be taken up by a plan that is to be accepted
 abbrev pub ItCanBeTakenUp : Type 0
@@ -71,4 +78,4 @@ ItCanBeTakenUp = (p : PlannedShop) (lines : List (List ℕ)) (told : List Entry)
 -- and it is taken up, without a moment, with just the orders that were due
 abbrev pub ItIsTakenUpWithItsOrders : Type 0
 ItIsTakenUpWithItsOrders = (p : PlannedShop) (lines : List (List ℕ)) (told : List Entry) (due : List MoveOrder) (taken : TakenUp) → IsWellShaped p
-    → IsCutLog p lines told due → IsTakenUp p lines None taken → (told_in taken ≡ told) × (taken.driven.control.orders ≡ due)
+    → IsCutLog p lines told due → IsTakenUp p lines None taken → (told_in taken ≡ told) × (taken.control.orders ≡ due)

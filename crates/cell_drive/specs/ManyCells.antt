@@ -3,7 +3,7 @@ use Rattle.std.specs.Prelude.{◌≡◌, ℕ, suc, List, [], ◌∷◌, ◌++◌
 use Rattle.shop_base.specs.declared.report.Report.{Report}
 use Rattle.shop_base.specs.Cell.{Cell, start}
 use Rattle.shop_base.specs.Ends.{HasEnded}
-use Rattle.plan_verifier.specs.Accepted.{VerifiedPlan}
+use Rattle.plan_verifier.specs.Accepted.{VerifiedPlan, IsVerified}
 use Rattle.cell_tables.specs.declared.entry.Entry.{Entry}
 use Rattle.event_lines.specs.AnswerLines.{refused_line}
 use Rattle.event_lines.specs.SentLines.{IsCellReport, cell_prefix}
@@ -17,6 +17,11 @@ pub record PlannedCell : Type 0 where
 -- before the first line
 abbrev pub cell_start : VerifiedPlan → PlannedCell
 cell_start v = record { plan = v; cell = start v.planned }
+
+-- the plans are accepted ones
+abbrev pub AreVerified : List VerifiedPlan → Type 0
+AreVerified [] = Unit {0}
+AreVerified (v ∷ plans) = IsVerified v × AreVerified plans
 
 abbrev pub hub_start : List VerifiedPlan → List PlannedCell
 hub_start plans = map cell_start plans

@@ -1,5 +1,5 @@
--- What driving a cell comes to.
-use Rattle.std.specs.Prelude.{◌≡◌, ℕ, ◌+◌, ◌*◌, ◌<◌, ◌≤◌, ◌↔◌, List, [], ◌∷◌, ◌++◌, length, Option, Bool, IsTrue, Result, Err, IfOk}
+-- What the log of a driven cell comes to.
+use Rattle.std.specs.Prelude.{◌≡◌, ℕ, ◌+◌, ◌*◌, ◌<◌, ◌≤◌, ◌↔◌, List, [], ◌∷◌, ◌++◌, length, Option, Bool, IsTrue, Result, Err}
 use Rattle.shop_base.specs.declared.report.Report.{Report}
 use Rattle.shop_base.specs.Plan.{PlannedShop, jobs}
 use Rattle.shop_base.specs.Cell.{Cell, start}
@@ -18,8 +18,6 @@ use Rattle.byte_streams.specs.declared.drive_fault.DriveFault.TheVariants.{Memor
 use Rattle.byte_streams.specs.declared.rooms.TheConstants.{MAX_PIECE}
 use Rattle.byte_streams.specs.Lent.{Streams}
 use Rattle.byte_streams.specs.Streams.{IsStreamed}
-use Rattle.cell_drive.specs.declared.one_run.DriveEnd.{DriveEnd}
-use Rattle.cell_drive.specs.OneCell.{DriveState, DriveAnswer, DriveCloses, drive_start}
 
 -- the cell after the events of a log
 abbrev pub cell_after : PlannedShop → List Entry → Cell
@@ -62,23 +60,7 @@ StaysAsPromised v events = (es later : List Event) → events ≡ es ++ later �
 abbrev pub NeverWentWrong : VerifiedPlan → List Entry → Type 0
 NeverWentWrong v entries = StaysAsPromised v (events_of entries)
 
--- what driving has come to, with the cell and the log at its end: the log and the plan; the log is the controlled run of some reports, which leads to that cell; how far that is, and that it was never full and all stayed as the plan promises
-pub record IsEndOf (v : VerifiedPlan) (s : DriveState) (end : DriveEnd) : Type 0 where
-  pub log : end.log ≡ s.log
-  pub plan : end.verified ≡ v
-  pub run : IsRunOf v.planned end.log.entries
-  pub cell : s.control.cell ≡ cell_after v.planned end.log.entries
-  pub so_far : IsSoFar v.planned end.log.entries end.done end.last end.left
-  pub never_full : IsNeverFull v.planned end.log
-  pub promised : NeverWentWrong v end.log.entries
-
 -- the answers to an input, which is read into a room of 65,536 bytes, are streamed from this start on; or memory ran out before the first byte was read, and nothing was touched
 abbrev pub IsStreamedFrom : {S T : Type 0} → (S → ℕ → Option (List ℕ) → List ℕ → S → Type 0) → (S → List ℕ → Type 0) → S → Result T DriveFault → S → Streams → Streams → Type 0
 IsStreamedFrom answers closes start (Err Memory) end before after = after ≡ before
 IsStreamedFrom answers closes start outcome end before after = IsStreamed outcome MAX_PIECE answers closes start end before after
-
--- the cell of the plan was driven from its start to this end; or driving it was broken off by this fault
-pub record IsDrive (v : VerifiedPlan) (before after : Streams) (outcome : Result DriveEnd DriveFault) : Type 0 where
-  pub end : DriveState
-  pub streamed : IsStreamedFrom DriveAnswer DriveCloses (drive_start v) outcome end before after
-  pub came_to : IfOk outcome (IsEndOf v end)

@@ -1,8 +1,9 @@
 -- What a run that is taken up goes on to write.
-use Rattle.std.specs.Prelude.{◌≡◌, ℕ, ◌≤◌, List, ◌∷◌, ◌++◌, length, take, drop, Option, Some, Bool, true, Result, Ok, Err, IfOk, IfErr, MatchResult, ◌⊎◌}
+use Rattle.std.specs.Prelude.{◌≡◌, ℕ, ◌≤◌, List, ◌∷◌, ◌++◌, length, take, drop, Some, Bool, true, Result, Ok, Err, IfOk, IfErr, MatchResult, ◌⊎◌}
 use Rattle.std.specs.Io.KnownBytes.{Appends}
 use Rattle.shop_base.specs.declared.report.Report.{Report}
 use Rattle.shop_base.specs.Plan.{PlannedShop, IsWellShaped}
+use Rattle.shop_base.specs.Cell.{start}
 use Rattle.shop_base.specs.Run.{IsRun, IsAtRest}
 use Rattle.shop_base.specs.Ahead.{GoesOnTo}
 use Rattle.text_lines.specs.Lines.{lines_of}
@@ -10,7 +11,7 @@ use Rattle.cell_tables.specs.declared.entry.Entry.{Entry}
 use Rattle.cell_tables.specs.Events.{events_of}
 use Rattle.run_log.specs.declared.audit_result.Audit.{Audit}
 use Rattle.run_log.specs.declared.audit_fault.AuditFault.{AuditFault}
-use Rattle.run_log.specs.declared.audit_fault.AuditFault.TheVariants.{Memory}
+use Rattle.run_log.specs.declared.audit_fault.AuditFault.TheVariants.{Memory as WantOfMemory}
 use Rattle.run_log.specs.Audits.{IsAudit, TellRun}
 use Rattle.event_lines.specs.EventLines.{entry_lines}
 use Rattle.byte_streams.specs.Sinks.{TookPart}
@@ -21,77 +22,66 @@ use Rattle.byte_streams.specs.Lent.{Output, Streams}
 use Rattle.byte_streams.specs.Lines.{input_lines}
 use Rattle.byte_streams.specs.Streams.{IsStreamed}
 use Rattle.byte_streams.specs.Answering.{AnswerAll}
-use Rattle.cell_drive.specs.AnswerText.{DrivenCell, CellAnswers, CellCloses}
+use Rattle.cell_drive.specs.declared.manner.Manner.{Manner}
+use Rattle.cell_drive.specs.declared.resume.RestEnd.{RestEnd}
+use Rattle.cell_drive.specs.AnswerText.{DrivenCell, CellCloses}
 use Rattle.cell_drive.specs.OneRun.{cell_after}
 use Rattle.cell_drive.specs.AuditLaw.{IsLogOf, IsFoundAgain}
-use Rattle.cell_drive.specs.RestCell.{RestState, RestAnswer, RestCloses, IsRestEndOf, rest_seen}
+use Rattle.cell_drive.specs.Stated.{StatedAnswers}
+use Rattle.cell_drive.specs.Session.{SessionState, SessionAnswer, SessionCloses, IsRestEndOf, session_by, seen}
 use Rattle.cell_drive.specs.TakenUp.{TakenUp, IsTakenRun, plan_of, told_in, cell_told}
-use Rattle.cell_drive.specs.ToldLines.{told_lines}
-use Rattle.cell_drive.specs.declared.rest_run.RestEnd.{RestEnd}
+use Rattle.cell_drive.specs.Retold.{retold_lines, retold_text}
 
 -- an empty line, the mark, and the lines of these events
 abbrev pub marked : List Entry → List ℕ
 marked entries = 10 ∷ entry_lines entries
 
--- the events that were told, an empty line, and the orders that were due
-abbrev pub again_text : List Entry → List Bool → List ℕ
-again_text entries late = told_lines (take (length late) entries) late ++ marked (drop (length late) entries)
+-- the events that were told, in a manner, an empty line, and the orders that were due
+abbrev pub again_text : PlannedShop → Manner → List Entry → List Bool → List ℕ
+again_text p manner entries late = retold_lines p manner (start p) (take (length late) entries) late ++ marked (drop (length late) entries)
 
 -- the cell after these events
 abbrev pub driven_so_far : PlannedShop → List Entry → DrivenCell
 driven_so_far p entries = record { cell = cell_after p entries; entries = entries }
 
--- the events once more, of which so many were told; then the answers to the lines of an input, from there on, and the closing line
-pub record IsResumedText (p : PlannedShop) (entries : List Entry) (late : List Bool) (input text : List ℕ) (end : DrivenCell) : Type 0 where
+-- the events once more, of which so many were told; then the answers to the lines of an input in a manner, from there on, and the closing line
+pub record IsResumedText (p : PlannedShop) (manner : Manner) (entries : List Entry) (late : List Bool) (input text : List ℕ) (end : DrivenCell) : Type 0 where
   pub answers : List ℕ
-  pub are_answers : AnswerAll (CellAnswers p) (driven_so_far p entries) 1 (input_lines input) answers end
+  pub are_answers : AnswerAll (StatedAnswers p manner) (driven_so_far p entries) 1 (input_lines input) answers end
   pub closing : List ℕ
   pub is_closing : CellCloses p end closing
-  pub whole : text ≡ again_text entries late ++ (answers ++ closing)
-
--- the events of a run that was taken up which its log told, once more
-abbrev pub told_text : TakenUp → List ℕ
-told_text taken = told_lines (told_in taken) taken.late
+  pub whole : text ≡ again_text p manner entries late ++ (answers ++ closing)
 
 -- the mark, and the orders that are due
 abbrev pub due_text : TakenUp → List ℕ
-due_text taken = marked (drop (length taken.late) taken.driven.log.entries)
+due_text taken = marked (drop (length taken.late) taken.log.entries)
 
--- both
-abbrev pub again_of : TakenUp → List ℕ
-again_of taken = again_text taken.driven.log.entries taken.late
+-- the events of a run that was taken up which its log told, once more, and behind them the orders that are due
+abbrev pub again_of : Manner → TakenUp → List ℕ
+again_of manner taken = retold_text manner taken ++ due_text taken
 
 -- a write failed before all of this text was written, and nothing was read
 abbrev pub IsCutAgain : List ℕ → Streams → Streams → Result RestEnd DriveFault → Type 0
 IsCutAgain text before after outcome =
     (outcome ≡ Err Write) × (after.output.failed ≡ true) × (after.input ≡ before.input) × TookPart before.output.taken after.output.taken text
 
--- this text was written, and behind it the answers to the input, which is read into a room of 65,536 bytes, are streamed from this state on. It comes to this end or this fault, with this cell and log
-pub record StreamsOn {S : Type 0} (answers : S → ℕ → Option (List ℕ) → List ℕ → S → Type 0) (closes : S → List ℕ → Type 0) (driven : S → RestState) (first : S)
-    (text : List ℕ) (taken : TakenUp) (before after : Streams) (outcome : Result RestEnd DriveFault) : Type 0 where
+-- the session of a run that was taken up
+abbrev pub session_from : Manner → TakenUp → SessionState
+session_from manner taken = session_by manner taken.control taken.log
+
+-- this text was written, and behind it the answers to the input, which is read into a room of 65,536 bytes, are streamed from this session on. It comes to this end or this fault, with this cell and log
+pub record GoesOn (manner : Manner) (text : List ℕ) (taken : TakenUp) (before after : Streams) (outcome : Result RestEnd DriveFault) : Type 0 where
   pub from : IsTakenRun taken
   pub middle : Output
   pub again : Appends before.output.taken middle.taken text
   pub unfailed : middle.failed ≡ before.output.failed
-  pub end : S
-  pub streamed : IsStreamed outcome MAX_PIECE answers closes first end (record { input = before.input; output = middle }) after
-  pub came_to : IfOk outcome (IsRestEndOf (plan_of taken) (driven end))
-
--- so from the cell that was taken up, as `drive` answers
-abbrev pub GoesOn : List ℕ → TakenUp → Streams → Streams → Result RestEnd DriveFault → Type 0
-GoesOn text taken = StreamsOn RestAnswer RestCloses (λ d. d) taken.driven text taken
+  pub end : SessionState
+  pub streamed : IsStreamed outcome MAX_PIECE SessionAnswer SessionCloses (session_from manner taken) end (record { input = before.input; output = middle }) after
+  pub came_to : IfOk outcome (IsRestEndOf (plan_of taken) end)
 
 -- either of these
-abbrev pub WritesAndGoesOn : List ℕ → TakenUp → Streams → Streams → Result RestEnd DriveFault → Type 0
-WritesAndGoesOn text taken before after outcome = IsCutAgain text before after outcome ⊎ GoesOn text taken before after outcome
-
--- behind the events, which were told again, the run was driven on to this end; or that was broken off by this fault
-abbrev pub IsGoneOn : TakenUp → Streams → Streams → Result RestEnd DriveFault → Type 0
-IsGoneOn taken = WritesAndGoesOn (due_text taken) taken
-
--- the events of the run that was taken up were told again, and it was driven on
-abbrev pub IsResume : TakenUp → Streams → Streams → Result RestEnd DriveFault → Type 0
-IsResume taken = WritesAndGoesOn (again_of taken) taken
+abbrev pub WritesAndGoesOn : Manner → List ℕ → TakenUp → Streams → Streams → Result RestEnd DriveFault → Type 0
+WritesAndGoesOn manner text taken before after outcome = IsCutAgain text before after outcome ⊎ GoesOn manner text taken before after outcome
 
 -- the events are a run of the plan, and lead to a cell at rest
 abbrev pub IsRunToRest : PlannedShop → List Entry → Type 0
@@ -99,35 +89,35 @@ IsRunToRest p entries = IsRun p (events_of entries) × IsAtRest p (cell_after p 
 
 -- such a text is by itself a log of the whole run
 abbrev pub AResumedTextIsALog : Type 0
-AResumedTextIsALog = (p : PlannedShop) (entries : List Entry) (late : List Bool) (input text : List ℕ) (end : DrivenCell) → IsWellShaped p
-    → IsRunToRest p entries → length late ≤ length entries → IsResumedText p entries late input text end → IsLogOf p text end
+AResumedTextIsALog = (p : PlannedShop) (manner : Manner) (entries : List Entry) (late : List Bool) (input text : List ℕ) (end : DrivenCell) → IsWellShaped p
+    → IsRunToRest p entries → length late ≤ length entries → IsResumedText p manner entries late input text end → IsLogOf p text end
 
 -- an input has one such text, which leads to one cell with one list of events
 abbrev pub OneResumedText : Type 0
-OneResumedText = (p : PlannedShop) (entries : List Entry) (late : List Bool) (input text other : List ℕ) (end last : DrivenCell) → IsWellShaped p
-    → IsRunToRest p entries → IsResumedText p entries late input text end → IsResumedText p entries late input other last → (other ≡ text) × (last ≡ end)
+OneResumedText = (p : PlannedShop) (manner : Manner) (entries : List Entry) (late : List Bool) (input text other : List ℕ) (end last : DrivenCell) → IsWellShaped p
+    → IsRunToRest p entries → IsResumedText p manner entries late input text end → IsResumedText p manner entries late input other last → (other ≡ text) × (last ≡ end)
 
 -- what was written behind what stood there, where driving on succeeded, is such a text of what was read
 abbrev pub WhatWasResumedIsSuchAText : Type 0
-WhatWasResumedIsSuchAText = (taken : TakenUp) (end : RestEnd) (before after : Streams) (is : GoesOn (again_of taken) taken before after (Ok end))
-    → IsResumedText (plan_of taken) taken.driven.log.entries taken.late is.streamed.input (again_of taken ++ (is.streamed.comes_to.text ++ is.streamed.comes_to.closing)) (rest_seen is.end)
+WhatWasResumedIsSuchAText = (manner : Manner) (taken : TakenUp) (end : RestEnd) (before after : Streams) (is : GoesOn manner (again_of manner taken) taken before after (Ok end))
+    → IsResumedText (plan_of taken) manner taken.log.entries taken.late is.streamed.input (again_of manner taken ++ (is.streamed.comes_to.text ++ is.streamed.comes_to.closing)) (seen is.end)
 
 -- an audit of what was written finds what driving on came to, and its only fault is that it is out of memory
 abbrev pub AnAuditKeepsWhatWasResumed : Type 0
-AnAuditKeepsWhatWasResumed = (taken : TakenUp) (end : RestEnd) (before after : Streams) (start text : List ℕ) (outcome : Result Audit AuditFault)
-    → IsResume taken before after (Ok end)
+AnAuditKeepsWhatWasResumed = (manner : Manner) (taken : TakenUp) (end : RestEnd) (before after : Streams) (start text : List ℕ) (outcome : Result Audit AuditFault)
+    → WritesAndGoesOn manner (again_of manner taken) taken before after (Ok end)
     → before.output.taken ≡ Some start → after.output.taken ≡ Some (start ++ text)
     → IfOk outcome (IsAudit (plan_of taken) (lines_of text))
-    → (TellRun (plan_of taken) (lines_of text) → IfErr outcome (λ fault. fault ≡ Memory))
-    → MatchResult outcome (IsFoundAgain (plan_of taken) end.log.entries end.done end.last end.left) (λ fault. fault ≡ Memory)
+    → (TellRun (plan_of taken) (lines_of text) → IfErr outcome (λ fault. fault ≡ WantOfMemory))
+    → MatchResult outcome (IsFoundAgain (plan_of taken) end.log.entries end.done end.last end.left) (λ fault. fault ≡ WantOfMemory)
 
 -- after the events that the log told come those of the controlled run that goes on from their cell, at the moment at which the controller began
 pub record GoesOnFrom (taken : TakenUp) (end : RestEnd) : Type 0 where
   pub later : List Entry
   pub whole : end.log.entries ≡ told_in taken ++ later
   pub reports : List Report
-  pub goes_on : GoesOnTo (plan_of taken) (cell_told taken) taken.driven.control.began reports (events_of later) (cell_after (plan_of taken) end.log.entries)
+  pub goes_on : GoesOnTo (plan_of taken) (cell_told taken) taken.control.began reports (events_of later) (cell_after (plan_of taken) end.log.entries)
 
 -- so it is where driving on succeeded
 abbrev pub WhatWasResumedGoesOn : Type 0
-WhatWasResumedGoesOn = (text : List ℕ) (taken : TakenUp) (end : RestEnd) (before after : Streams) → GoesOn text taken before after (Ok end) → GoesOnFrom taken end
+WhatWasResumedGoesOn = (text : List ℕ) (manner : Manner) (taken : TakenUp) (end : RestEnd) (before after : Streams) → GoesOn manner text taken before after (Ok end) → GoesOnFrom taken end

@@ -40,6 +40,6 @@ IsToldAgain text before after (Err Read) = ⊥
 IsToldAgain text before after (Err InputTooLong) = ⊥
 IsToldAgain text before after (Err Memory) = ⊥
 
--- so it was, or memory ran out and nothing was touched
-abbrev pub IsRetold : List ℕ → Taker → Taker → Result (Unit {0}) DriveFault → Type 0
-IsRetold text before after outcome = ((outcome ≡ Err Memory) × (after ≡ before)) ⊎ IsToldAgain text before after outcome
+-- so it was, or in version 2 of the lines memory ran out and nothing was touched
+abbrev pub IsRetold : Bool → List ℕ → Taker → Taker → Result (Unit {0}) DriveFault → Type 0
+IsRetold tells text before after outcome = ((tells ≡ true) × (outcome ≡ Err Memory) × (after ≡ before)) ⊎ IsToldAgain text before after outcome

@@ -1,5 +1,5 @@
 -- A cell that is driven in a manner: what is asked for, and how it is answered.
-use Rattle.std.specs.Prelude.{◌≡◌, ◌↔◌, ℕ, List, [], ◌∷◌, ◌++◌, map, Option, None, Some, Bool, true, false, ◌&&◌, ◌==◌, ◌⊎◌, if◌then◌else◌, Result, IfOk}
+use Rattle.std.specs.Prelude.{◌≡◌, ◌↔◌, ℕ, List, [], ◌∷◌, ◌++◌, map, Option, None, Some, Bool, true, false, ◌&&◌, ◌==◌, ◌⊎◌, if◌then◌else◌}
 use Rattle.std.specs.List.{flat_map}
 use Rattle.shop_base.specs.declared.move_order.MoveOrder.{MoveOrder}
 use Rattle.shop_base.specs.Plan.{PlannedShop}
@@ -9,13 +9,8 @@ use Rattle.shop_base.specs.Punctual.{IsPunctual}
 use Rattle.shop_base.specs.ReportsLeft.{reports_left}
 use Rattle.shop_base.specs.Report.{at}
 use Rattle.shop_base.specs.declared.report.Report as reports
-use Rattle.plan_verifier.specs.Accepted.{VerifiedPlan}
 use Rattle.cell_tables.specs.declared.entry.Entry.{Entry}
 use Rattle.cell_tables.specs.declared.entry.Entry.TheVariants.{Report as ReportEntry, Order as OrderEntry}
-use Rattle.cell_control.specs.Control.{Control, verified_in}
-use Rattle.run_log.specs.Log.{Noted}
-use Rattle.byte_streams.specs.declared.drive_fault.DriveFault.{DriveFault}
-use Rattle.byte_streams.specs.Lent.{Streams}
 use Rattle.byte_streams.specs.Lines.{input_lines}
 use Rattle.byte_streams.specs.Answering.{AnswerAll}
 use Rattle.event_lines.specs.EventLines.{report_line, order_line}
@@ -30,13 +25,10 @@ use Rattle.event_lines.specs.declared.requests.Request.{Request}
 use Rattle.event_lines.specs.declared.requests.Request.TheVariants.{Claim as ClaimRequest, Status}
 use Rattle.cell_drive.specs.declared.manner.Manner.{Manner}
 use Rattle.cell_drive.specs.declared.refusals.Refusal.{Refusal}
-use Rattle.cell_drive.specs.declared.one_run.DriveEnd.{DriveEnd}
 use Rattle.cell_drive.specs.Refusals.{IsRefusal, IsTaken, refusal_word, refusal_detail, standing_of}
 use Rattle.cell_drive.specs.States.{overdue_in, state_text}
 use Rattle.cell_drive.specs.LineAnswers.{LineAnswer}
 use Rattle.cell_drive.specs.AnswerText.{DrivenCell, undriven, CellCloses}
-use Rattle.cell_drive.specs.OneCell.{DriveState, DriveCloses, driven_by, drive_start, seen}
-use Rattle.cell_drive.specs.OneRun.{IsEndOf, IsStreamedFrom}
 
 -- the line asks for this: in version 1 of the lines a report, in version 2 whatever is a request
 abbrev pub AsksFor : Bool → List ℕ → Request → Type 0
@@ -127,49 +119,3 @@ pub record IsStatedText (p : PlannedShop) (manner : Manner) (input text : List �
   pub closing : List ℕ
   pub is_closing : CellCloses p end closing
   pub whole : text ≡ answers ++ closing
-
--- ---- the cell of a controller
-
--- a driven cell, and the manner
-pub record StatedState : Type 0 where
-  pub manner : Manner
-  pub driven : DriveState
-
--- a manner, a controller and a log, as one cell
-abbrev pub stated_by : Manner → Control → Noted → StatedState
-stated_by manner control log = record { manner = manner; driven = driven_by control log }
-
--- before the first line
-abbrev pub stated_start : Manner → VerifiedPlan → StatedState
-stated_start manner v = record { manner = manner; driven = drive_start v }
-
--- a request by the line of this number is answered by this text, by the cell and into the log
-pub record AnswersRequest (manner : Manner) (start : DriveState) (number : ℕ) (request : Request) (end : DriveState) (text : List ℕ) : Type 0 where
-  pub answer : CellRequests start.control.planned manner (seen start) number request text (seen end)
-  pub plan : verified_in end.control ≡ verified_in start.control
-  pub reserved : end.log.reserved ≡ start.log.reserved
-
--- the texts that answer a request by the line of this number, by a controller and its log before and after it
-abbrev pub RequestedBy : Manner → Control → Noted → ℕ → Request → Control → Noted → List ℕ → Type 0
-RequestedBy manner control log number request control_then log_then text = AnswersRequest manner (driven_by control log) number request (driven_by control_then log_then) text
-
--- the line of this number is answered by this text
-pub record StatedAnswer (start : StatedState) (number : ℕ) (line : Option (List ℕ)) (text : List ℕ) (end : StatedState) : Type 0 where
-  pub answer : StatedAnswers start.driven.control.planned start.manner (seen start.driven) number line text (seen end.driven)
-  pub plan : verified_in end.driven.control ≡ verified_in start.driven.control
-  pub reserved : end.driven.log.reserved ≡ start.driven.log.reserved
-  pub manner : end.manner ≡ start.manner
-
--- the texts that answer a line of this number that isn't too long, by a controller and its log before and after it
-abbrev pub StatedBy : Manner → Control → Noted → ℕ → List ℕ → Control → Noted → List ℕ → Type 0
-StatedBy manner control log number line control_then log_then text = StatedAnswer (stated_by manner control log) number (Some line) text (stated_by manner control_then log_then)
-
--- the closing line
-abbrev pub StatedCloses : StatedState → List ℕ → Type 0
-StatedCloses s = DriveCloses s.driven
-
--- the cell of the plan was driven in this manner from its start to this end; or driving it was broken off by this fault
-pub record IsStatedDrive (v : VerifiedPlan) (manner : Manner) (before after : Streams) (outcome : Result DriveEnd DriveFault) : Type 0 where
-  pub end : StatedState
-  pub streamed : IsStreamedFrom StatedAnswer StatedCloses (stated_start manner v) outcome end before after
-  pub came_to : IfOk outcome (IsEndOf v end.driven)

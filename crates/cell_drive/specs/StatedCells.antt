@@ -12,11 +12,10 @@ use Rattle.event_lines.specs.declared.requests.Claim.TheVariants.{Report, CleanA
 use Rattle.event_lines.specs.declared.requests.Request.{Request}
 use Rattle.event_lines.specs.declared.requests.Request.TheVariants.{Claim as ClaimRequest, Status}
 use Rattle.cell_drive.specs.declared.manner.Manner.{Manner}
-use Rattle.cell_drive.specs.declared.many_runs.HubEnd.{HubEnd}
+use Rattle.cell_drive.specs.declared.hub.HubEnd.{HubEnd}
 use Rattle.cell_drive.specs.LineAnswers.{SaysOnly, LineAnswer}
 use Rattle.cell_drive.specs.OneRun.{IsStreamedFrom}
-use Rattle.cell_drive.specs.ManyCells.{PlannedCell, hub_start, CellsClose, AreAllDone}
-use Rattle.cell_drive.specs.CellsTextLaw.{AreVerified}
+use Rattle.cell_drive.specs.ManyCells.{PlannedCell, hub_start, AreVerified, CellsClose, AreAllDone}
 use Rattle.cell_drive.specs.Stated.{RequestAnswer}
 
 -- the line asks this of the cell of this number: in version 1 of the lines it is a report on it, in version 2 whatever is a request
@@ -81,7 +80,7 @@ abbrev pub StatedHubCloses : StatedHub → List ℕ → Type 0
 StatedHubCloses s = CellsClose 0 s.cells
 
 -- the cells of these plans, which are accepted ones, were driven in this manner from their starts to this end, and all are done exactly where the run of each has ended; or driving them was broken off by this fault
-pub record AreStatedDrives (plans : List VerifiedPlan) (manner : Manner) (before after : Streams) (outcome : Result HubEnd DriveFault) : Type 0 where
+pub record AreDrivesIn (manner : Manner) (plans : List VerifiedPlan) (before after : Streams) (outcome : Result HubEnd DriveFault) : Type 0 where
   pub end : StatedHub
   pub streamed : IsStreamedFrom StatedHubAnswer StatedHubCloses (stated_hub_start manner plans) outcome end before after
   pub done : IfOk outcome (λ come_to. IsTrue come_to.all_done ↔ AreAllDone end.cells)

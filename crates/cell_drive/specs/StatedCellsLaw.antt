@@ -14,8 +14,7 @@ use Rattle.event_lines.specs.SentLines.{cell_prefix}
 use Rattle.event_lines.specs.declared.requests.Request.{Request}
 use Rattle.cell_drive.specs.declared.manner.Manner.{Manner}
 use Rattle.cell_drive.specs.Manners.{plain_from}
-use Rattle.cell_drive.specs.ManyCells.{PlannedCell, hub_start, CellsAnswer, CellsClose}
-use Rattle.cell_drive.specs.CellsTextLaw.{AreVerified}
+use Rattle.cell_drive.specs.ManyCells.{PlannedCell, hub_start, AreVerified, CellsAnswer, CellsClose}
 use Rattle.cell_drive.specs.OneRun.{StaysAsPromised}
 use Rattle.cell_drive.specs.Stated.{RequestAnswer}
 use Rattle.cell_drive.specs.StatedCells.{AsksCell, CellsStated}

@@ -1,5 +1,5 @@
 -- The laws of cells that are driven in a manner.
-use Rattle.std.specs.Prelude.{◌≡◌, ℕ, List, ◌∷◌, ◌++◌, Option, None, Some, Result, Ok, IfOk, IfErr, MatchResult}
+use Rattle.std.specs.Prelude.{◌≡◌, ℕ, List, ◌∷◌, ◌++◌, Option, None, Some, Bool, false, Result, Ok, IfOk, IfErr, MatchResult}
 use Rattle.shop_base.specs.Plan.{PlannedShop, IsWellShaped}
 use Rattle.shop_base.specs.Cell.{Cell}
 use Rattle.shop_base.specs.Run.{IsRun}
@@ -27,32 +27,36 @@ use Rattle.event_lines.specs.declared.requests.Request.TheVariants.{Claim as Cla
 use Rattle.cell_drive.specs.declared.manner.Manner.{Manner}
 use Rattle.cell_drive.specs.Manners.{plain_from}
 use Rattle.cell_drive.specs.AnswerText.{DrivenCell, CellAnswers}
-use Rattle.cell_drive.specs.declared.one_run.DriveEnd.{DriveEnd}
-use Rattle.cell_drive.specs.AuditLaw.{IsFoundAgain, IsLogOf}
-use Rattle.cell_drive.specs.OneCell.{seen}
+use Rattle.cell_drive.specs.declared.begin.DriveEnd.{DriveEnd}
+use Rattle.cell_drive.specs.AuditLaw.{IsFoundAgain}
+use Rattle.cell_drive.specs.Session.{SessionState, SessionAnswer, seen}
+use Rattle.cell_drive.specs.InManner.{IsDriveIn}
+use Rattle.cell_drive.specs.Retold.{retold_lines}
+use Rattle.cell_drive.specs.ToldLines.{told_lines}
 use Rattle.cell_drive.specs.OneRun.{cell_after}
 use Rattle.cell_drive.specs.Refusals.{CanClaim, IsTaken, standing_of}
 use Rattle.cell_drive.specs.States.{overdue_in}
-use Rattle.cell_drive.specs.Stated.{StatedState, StatedAnswer, StatedAnswers, CellRequests, AreStatedTo, IsStatedText, IsStatedDrive}
+use Rattle.cell_drive.specs.Stated.{StatedAnswers, CellRequests, AreStatedTo, IsStatedText}
 
 -- in each manner an input has one answer text at most, which leads to one cell with one list of events
-abbrev pub OneStatedText : Type 0
-OneStatedText = (p : PlannedShop) (manner : Manner) (input text other : List ℕ) (end last : DrivenCell)
+abbrev pub OneAnswerText : Type 0
+OneAnswerText = (p : PlannedShop) (manner : Manner) (input text other : List ℕ) (end last : DrivenCell)
     → IsWellShaped p → IsStatedText p manner input text end → IsStatedText p manner input other last → (other ≡ text) × (last ≡ end)
 
--- what a cell that is driven in a manner answers to lines is what its cell answers to them by its plan, which stays
-abbrev pub AStatedCellAnswersSo : Type 0
-AStatedCellAnswersSo = (s end : StatedState) (number : ℕ) (lines : List (Option (List ℕ))) (text : List ℕ) → AnswerAll StatedAnswer s number lines text end
-    → AnswerAll (StatedAnswers s.driven.control.planned s.manner) (seen s.driven) number lines text (seen end.driven) × (verified_in end.driven.control ≡ verified_in s.driven.control)
+-- and so have its first lines
+abbrev pub OneTextForLines : Type 0
+OneTextForLines = (p : PlannedShop) (manner : Manner) (lines : List (Option (List ℕ))) (text other : List ℕ) (end last : DrivenCell)
+    → IsWellShaped p → AreStatedTo p manner lines text end → AreStatedTo p manner lines other last → (other ≡ text) × (last ≡ end)
 
--- the answer text is a log of what was accepted and ordered
-abbrev pub AStatedTextIsALog : Type 0
-AStatedTextIsALog = (p : PlannedShop) (manner : Manner) (input text : List ℕ) (end : DrivenCell) → IsWellShaped p → IsStatedText p manner input text end → IsLogOf p text end
+-- what a session answers to lines is what its cell answers to them by its plan, which stays
+abbrev pub ASessionAnswersSo : Type 0
+ASessionAnswersSo = (s end : SessionState) (number : ℕ) (lines : List (Option (List ℕ))) (text : List ℕ) → AnswerAll SessionAnswer s number lines text end
+    → AnswerAll (StatedAnswers s.control.planned s.manner) (seen s) number lines text (seen end) × (verified_in end.control ≡ verified_in s.control)
 
--- an audit of what was written in a manner finds what driving came to, and its only fault is that it is out of memory
-abbrev pub AnAuditKeepsWhatWasStated : Type 0
-AnAuditKeepsWhatWasStated = (v : VerifiedPlan) (manner : Manner) (end : DriveEnd) (before after : Streams) (start text : List ℕ) (outcome : Result Audit AuditFault)
-    → IsWellShaped v.planned → IsStatedDrive v manner before after (Ok end) → before.output.taken ≡ Some start → after.output.taken ≡ Some (start ++ text)
+-- an audit of what was written in a manner finds what driving came to, and its only fault is that it is out of memory. The premises are what is promised of success in driving, into an output that tells its bytes, and of an audit
+abbrev pub AnAuditKeepsWhatWasDriven : Type 0
+AnAuditKeepsWhatWasDriven = (v : VerifiedPlan) (manner : Manner) (end : DriveEnd) (before after : Streams) (start text : List ℕ) (outcome : Result Audit AuditFault)
+    → IsWellShaped v.planned → IsDriveIn manner v before after (Ok end) → before.output.taken ≡ Some start → after.output.taken ≡ Some (start ++ text)
     → IfOk outcome (IsAudit v.planned (lines_of text))
     → (TellRun v.planned (lines_of text) → IfErr outcome (λ fault. fault ≡ Memory))
     → MatchResult outcome (IsFoundAgain v.planned end.log.entries end.done end.last end.left) (λ fault. fault ≡ Memory)
@@ -61,6 +65,10 @@ AnAuditKeepsWhatWasStated = (v : VerifiedPlan) (manner : Manner) (end : DriveEnd
 abbrev pub PlainlyAsEver : Type 0
 PlainlyAsEver = (p : PlannedShop) (from number : ℕ) (lines : List (Option (List ℕ))) (text : List ℕ) (start end : DrivenCell)
     → AnswerAll (StatedAnswers p (plain_from from)) start number lines text end → AnswerAll (CellAnswers p) start number lines text end
+
+-- in version 1 the events of a log are told again each by its line, and that of a late report by the line that it was late
+abbrev pub RetoldAsEver : Type 0
+RetoldAsEver = (p : PlannedShop) (manner : Manner) (c : Cell) (entries : List Entry) (late : List Bool) → manner.tells ≡ false → retold_lines p manner c entries late ≡ told_lines entries late
 
 -- what is claimed to have ended, where the claim names its job
 abbrev pub named : Claim → Option NamedEnd

@@ -9,26 +9,34 @@ use Rattle.cell_tables.specs.declared.entry.Entry.TheVariants.{Order as OrderEnt
 use Rattle.cell_tables.specs.Events.{events_of}
 use Rattle.event_lines.specs.LogLines.{LinesTell}
 use Rattle.cell_control.specs.Begun.{IsBegun}
+use Rattle.cell_control.specs.Control.{Control}
+use Rattle.run_log.specs.Log.{Noted}
+use Rattle.cell_drive.specs.AnswerText.{DrivenCell}
 use Rattle.cell_drive.specs.OneRun.{cell_after}
 use Rattle.cell_drive.specs.LateEvents.{AreLate}
-use Rattle.cell_drive.specs.RestCell.{RestState, IsRestDriven}
+use Rattle.cell_drive.specs.Session.{IsKept}
 
--- a cell that is driven on, and of each event that the log told whether it is a late report
+-- a controller, the log of the whole run, and of each event that the log told whether it is a late report
 pub record TakenUp : Type 0 where
-  pub driven : RestState
+  pub control : Control
+  pub log : Noted
   pub late : List Bool
 
--- such a cell and these, as one value
-abbrev pub taken_by : RestState → List Bool → TakenUp
-taken_by driven late = record { driven = driven; late = late }
+-- these three as one value
+abbrev pub taken_by : Control → Noted → List Bool → TakenUp
+taken_by control log late = record { control = control; log = log; late = late }
+
+-- its cell, and what was accepted and ordered in the whole run
+abbrev pub seen_in : TakenUp → DrivenCell
+seen_in taken = record { cell = taken.control.cell; entries = taken.log.entries }
 
 -- the plan
 abbrev pub plan_of : TakenUp → PlannedShop
-plan_of taken = taken.driven.control.planned
+plan_of taken = taken.control.planned
 
 -- the events that the log told; the others are orders that are due
 abbrev pub told_in : TakenUp → List Entry
-told_in taken = take (length taken.late) taken.driven.log.entries
+told_in taken = take (length taken.late) taken.log.entries
 
 -- the cell after them
 abbrev pub cell_told : TakenUp → Cell
@@ -36,10 +44,10 @@ cell_told taken = cell_after (plan_of taken) (told_in taken)
 
 -- after the events that the log told, the controller begins with the cell to which they lead; what it then orders is due
 pub record IsTakenRun (taken : TakenUp) : Type 0 where
-  pub driven : IsRestDriven taken.driven
-  pub begun : IsBegun (plan_of taken) (cell_told taken) taken.driven.control.began taken.driven.control
-  pub due : taken.driven.log.entries ≡ told_in taken ++ map OrderEntry taken.driven.control.orders
-  pub within : length taken.late ≤ length taken.driven.log.entries
+  pub kept : IsKept taken.control taken.log
+  pub begun : IsBegun (plan_of taken) (cell_told taken) taken.control.began taken.control
+  pub due : taken.log.entries ≡ told_in taken ++ map OrderEntry taken.control.orders
+  pub within : length taken.late ≤ length taken.log.entries
   pub are_late : AreLate (plan_of taken) (start (plan_of taken)) (told_in taken) taken.late
 
 -- it was taken up by this plan behind these events, at the moment that was given or else at their last one; where there are no events, the plan is to be accepted
@@ -47,7 +55,7 @@ pub record IsTakenFrom (p : PlannedShop) (told : List Entry) (at : Option ℕ) (
   pub run : IsTakenRun taken
   pub planned : plan_of taken ≡ p
   pub told_is : told_in taken ≡ told
-  pub began : taken.driven.control.began ≡ unwrap_or at (cell_after p told).last
+  pub began : taken.control.began ≡ unwrap_or at (cell_after p told).last
   pub accepted : told ≡ [] → IsAcceptable p
 
 -- so behind the events that these lines tell, which are a run of the plan

@@ -1,33 +1,23 @@
-//! Whether what is claimed is taken, and what the answer says of it.
+//! Whether what is claimed is taken, and what the cell replies.
 
-ghost use Rattle.std.specs.Prelude.{◌≡◌, ◌++◌, false, OnOk};
+ghost use Rattle.std.specs.Prelude.{◌≡◌, IfOk, IfErr, false};
 ghost use Rattle.shop_base.specs.Report.{at, CanReport};
+ghost use Rattle.cell_control.specs.Control.{IsControl};
+ghost use Rattle.cell_control.specs.Judged.{IsJudged};
 ghost use Rattle.cell_control.specs.Readings.{IsOnTime};
-ghost use Rattle.byte_streams.specs.Lent.{WroteTo};
-ghost use Rattle.event_lines.specs.StandingLines.{refused_detail_line};
 ghost use Rattle.event_lines.specs.Requests.{claimed};
-ghost use Rattle.cell_drive.specs.Refusals.{refusal_word};
+ghost use Rattle.cell_drive.specs.Refusals.{IsClaimReason, IsRefusal, IsTaken, CanClaim};
 ghost use Rattle.cell_drive.specs.Stated.{tells_end, told_overdue};
-ghost use Rattle.cell_drive.specs.Judging.{IsJudged};
+ghost use Rattle.cell_drive.specs.Replies.{IsClaimReply, IsReply};
 
-use crate::answers::put_behind;
 use crate::manner::Manner;
-use crate::refusals::{Refusal, refusal_detail, refusal_of, standing_of};
+use crate::refusals::{Refusal, claim_leaps, first_refusal, refusal_detail, standing_of};
+use crate::replies::Reply;
 use crate::states::overdue_in;
-use byte_streams::{Sink, WriteFault};
-use cell_control::{Core, Dues, Report, Timed};
+use cell_control::{Core, Dues, Possible, Report, ReportFault, Timed};
 use cell_tables::WorkCell;
-use event_lines::{Claim, Detail, Overdue, refused_detail_line};
+use event_lines::{Claim, Overdue, Request};
 use shop_base::Planned;
-
-/// What comes of a claim.
-#[derive(Clone, Copy)]
-pub(crate) enum Judged {
-    /// It is refused, with what the line says after the name.
-    Refused { refusal: Refusal, detail: Detail },
-    /// It is taken; what the line says is overdue, if it is late.
-    Taken { overdue: Option<Overdue> },
-}
 
 /// What the line says is overdue as the report comes. It is looked for only if something is.
 pub(crate) fn told_overdue<P: Planned>(
@@ -50,59 +40,106 @@ pub(crate) fn told_overdue<P: Planned>(
     overdue_in(cell, standing_of(cell, report), report.at())
 }
 
-/// What comes of the claim in the cell, of which it is known whether something that is going on should have ended before.
-pub(crate) fn judge_in<P: Planned>(
-    manner: Manner,
-    cell: &WorkCell<P>,
-    late: bool,
+/// Whether what is claimed is possible, or the first reason for which it isn't.
+fn judge_possible<P: Timed, D: Dues>(
+    controller: &Core<P, D>,
     claim: Claim,
-) -> Judged
-    requires { late ≡ false → IsOnTime cell.now.plan cell.now.cell (at (claimed claim)) }
-    ensures { IsJudged manner cell.now.plan cell.now.cell claim result }
+) -> Result<Possible, ReportFault>
+    ensures possible { IfOk result (λ possible. CanClaim controller.now.planned controller.now.cell claim) }
+    ensures judged { IfOk result (IsJudged controller.now.planned controller.now.cell (claimed claim)) }
+    ensures first_reason { IfErr result (IsClaimReason controller.now.planned controller.now.cell claim) }
 {
-    match refusal_of(manner, cell, claim) {
-        Some(refusal) => Judged::Refused {
+    match claim {
+        Claim::Report(report) => controller.judge(report),
+        Claim::CleanAfter { machine, job, at } => controller.judge_clean_after(machine, job, at),
+    }
+}
+
+/// Whether what is claimed is taken, or why it is refused.
+fn judge<P: Timed, D: Dues>(
+    manner: Manner,
+    controller: &Core<P, D>,
+    claim: Claim,
+) -> Result<Possible, Refusal>
+    ensures taken { IfOk result (λ possible. IsTaken manner controller.now.planned controller.now.cell claim) }
+    ensures judged { IfOk result (IsJudged controller.now.planned controller.now.cell (claimed claim)) }
+    ensures refused { IfErr result (IsRefusal manner controller.now.planned controller.now.cell claim) }
+{
+    let leaps = claim_leaps(manner, controller, claim);
+    match judge_possible(controller, claim) {
+        Ok(possible) => {
+            if leaps {
+                Err(Refusal::Leap)
+            } else {
+                Ok(possible)
+            }
+        }
+        Err(reason) => Err(first_refusal(leaps, reason)),
+    }
+}
+
+/// Whether the end of the run is told at once.
+fn tells_end<P: Timed, D: Dues>(manner: Manner, controller: &Core<P, D>) -> bool
+    ensures { result ≡ tells_end manner controller.now.planned controller.now.cell }
+{
+    manner.tells && controller.reports_left() == 0
+}
+
+/// Takes what was claimed and judged.
+#[inline(always)]
+fn take<P: Timed, D: Dues>(
+    manner: Manner,
+    controller: &mut Core<P, D>,
+    claim: Claim,
+    possible: Possible,
+) -> Reply
+    requires taken { IsTaken manner controller.old.planned controller.old.cell claim }
+    requires judged { IsJudged controller.old.planned controller.old.cell (claimed claim) possible }
+    ensures { IsClaimReply manner controller.old claim result controller.new }
+{
+    let report = possible.report();
+    let overdue = told_overdue(manner, controller.work_cell(), possible.is_late(), report);
+    let ack = controller.take(possible);
+    let ended = tells_end(manner, controller);
+    Reply::Taken {
+        report,
+        late: ack.late,
+        overdue,
+        ended,
+    }
+}
+
+/// Replies to what is claimed.
+fn reply_to_claim<P: Timed, D: Dues>(
+    manner: Manner,
+    controller: &mut Core<P, D>,
+    claim: Claim,
+) -> Reply
+    ensures { IsClaimReply manner controller.old claim result controller.new }
+{
+    match judge(manner, controller, claim) {
+        Ok(possible) => take(manner, controller, claim, possible),
+        Err(refusal) => Reply::Refused {
             refusal,
-            detail: refusal_detail(manner, cell, claim, refusal),
-        },
-        None => Judged::Taken {
-            overdue: told_overdue(manner, cell, late, claim.report()),
+            detail: refusal_detail(manner, controller.work_cell(), claim, refusal),
         },
     }
 }
 
-/// What comes of the claim. Nothing changes.
-pub(crate) fn judge<P: Timed, D: Dues>(
+/// Replies to a request: takes what is claimed, if it is possible and doesn't leap.
+pub(crate) fn reply_to<P: Timed, D: Dues>(
     manner: Manner,
-    controller: &Core<P, D>,
-    claim: Claim,
-) -> Judged
-    ensures { IsJudged manner controller.now.planned controller.now.cell claim result }
+    controller: &mut Core<P, D>,
+    request: Request,
+) -> Reply
+    ensures reply { IsReply manner controller.old request result controller.new }
+    ensures control { IsControl controller.new }
 {
-    let late = controller.is_late(claim.report().at());
-    judge_in(manner, controller.work_cell(), late, claim)
-}
-
-/// Refuses the line of this number.
-#[inline(never)]
-pub(crate) fn put_refusal<W: Sink>(
-    prefix: &[u8],
-    number: u64,
-    refusal: Refusal,
-    detail: Detail,
-    writer: &mut W,
-) -> Result<(), WriteFault>
-    ensures wrote { WroteTo W.Sink result writer.old writer.new
-        (prefix.now ++ refused_detail_line number (refusal_word refusal) detail) }
-    ensures unfailed { OnOk result (W.failed writer.new ≡ W.failed writer.old) }
-{
-    let line = refused_detail_line(number, refusal.name().as_bytes(), detail);
-    put_behind(prefix, line.bytes(), writer)
-}
-
-/// Whether the end of the run is written at once.
-pub(crate) fn tells_end<P: Timed, D: Dues>(manner: Manner, controller: &Core<P, D>) -> bool
-    ensures { result ≡ tells_end manner controller.now.planned controller.now.cell }
-{
-    manner.tells && controller.reports_left() == 0
+    let reply = match request {
+        Request::Claim(claim) => reply_to_claim(manner, controller, claim),
+        Request::Status => Reply::State,
+    };
+    // Called for its clause alone: what holds of every such controller.
+    let _plan = controller.shaped();
+    reply
 }

@@ -1,7 +1,7 @@
 //! In which manner a cell is driven.
 
 ghost use Rattle.std.specs.Prelude.{◌≡◌};
-ghost use Rattle.cell_drive.specs.Manners.{leap_base, leaps};
+ghost use Rattle.cell_drive.specs.Manners.{leap_base, leaps, plain_from};
 
 use shop_base::Moment;
 
@@ -18,6 +18,17 @@ pub struct Manner {
 }
 
 impl Manner {
+    /// The plain one: version 1 of the lines, and no moment leaps.
+    pub fn plain() -> Manner
+        ensures { result ≡ plain_from 0 }
+    {
+        Manner {
+            tells: false,
+            longest: None,
+            from: 0,
+        }
+    }
+
     /// The moment from which a leap counts, if `last` is the moment of the last accepted report.
     pub(crate) fn leap_base(self, last: Moment) -> Moment
         ensures { result ≡ leap_base self last }

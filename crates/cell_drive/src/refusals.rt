@@ -1,13 +1,13 @@
 //! Why what a line claims is refused, and what the answer says of it.
 
-ghost use Rattle.std.specs.Prelude.{◌≡◌, false, OnOk, IfErr, MatchOption};
+ghost use Rattle.std.specs.Prelude.{◌≡◌, false};
 ghost use Rattle.shop_base.specs.Report.{ended};
 ghost use Rattle.cell_control.specs.Reports.{IsOfShop};
 ghost use Rattle.event_lines.specs.Requests.{claimed};
-ghost use Rattle.cell_drive.specs.Refusals.{CanClaim, IsClaimReason, IsRefusal, IsTaken, claim_leaps, first_refusal, is_before_leap, reason_detail, refusal_detail, refusal_word, standing_of};
+ghost use Rattle.cell_drive.specs.Refusals.{IsRefusal, claim_leaps, first_refusal, is_before_leap, reason_detail, refusal_detail, refusal_word, standing_of};
 
 use crate::manner::Manner;
-use cell_control::{Report, ReportFault, check_cleaning_after, check_report};
+use cell_control::{Core, Dues, Report, ReportFault, Timed};
 use cell_tables::{Standing, WorkCell};
 use event_lines::{Claim, Detail};
 use shop_base::Planned;
@@ -49,7 +49,7 @@ fn is_before_leap(reason: ReportFault) -> bool
 }
 
 /// Why that is refused which has this first reason against it, and leaps or doesn't.
-fn first_refusal(leaps: bool, reason: ReportFault) -> Refusal
+pub(crate) fn first_refusal(leaps: bool, reason: ReportFault) -> Refusal
     ensures { result ≡ first_refusal leaps reason }
 {
     if is_before_leap(reason) {
@@ -61,38 +61,15 @@ fn first_refusal(leaps: bool, reason: ReportFault) -> Refusal
     }
 }
 
-/// Whether what is claimed is possible, or the first reason for which it isn't.
-fn check_claim<P: Planned>(cell: &WorkCell<P>, claim: Claim) -> Result<(), ReportFault>
-    ensures possible { OnOk result (CanClaim cell.now.plan cell.now.cell claim) }
-    ensures first_reason { IfErr result (IsClaimReason cell.now.plan cell.now.cell claim) }
-{
-    match claim {
-        Claim::Report(report) => check_report(cell, report),
-        Claim::CleanAfter { machine, job, at } => check_cleaning_after(cell, machine, job, at),
-    }
-}
-
 /// Whether the moment of the claim leaps.
-fn claim_leaps<P: Planned>(manner: Manner, cell: &WorkCell<P>, claim: Claim) -> bool
-    ensures { result ≡ claim_leaps manner cell.now.cell claim }
-{
-    manner.leaps(cell.last(), claim.report().at())
-}
-
-/// Why the claim is refused, unless it is taken.
-pub(crate) fn refusal_of<P: Planned>(
+pub(crate) fn claim_leaps<P: Timed, D: Dues>(
     manner: Manner,
-    cell: &WorkCell<P>,
+    controller: &Core<P, D>,
     claim: Claim,
-) -> Option<Refusal>
-    ensures { MatchOption result (IsTaken manner cell.now.plan cell.now.cell claim)
-        (IsRefusal manner cell.now.plan cell.now.cell claim) }
+) -> bool
+    ensures { result ≡ claim_leaps manner controller.now.cell claim }
 {
-    let leaps = claim_leaps(manner, cell, claim);
-    match check_claim(cell, claim) {
-        Ok(()) => { if leaps { Some(Refusal::Leap) } else { None } }
-        Err(reason) => Some(first_refusal(leaps, reason)),
-    }
+    manner.leaps(controller.now(), claim.report().at())
 }
 
 /// The state of the job or the machine of the report.

@@ -9,10 +9,9 @@ ghost use Rattle.event_lines.specs.EventLines.{order_line};
 ghost use Rattle.cell_drive.specs.Stated.{lateness_part, told_overdue};
 ghost use Rattle.cell_drive.specs.Retold.{retold_line, retold_lines};
 
-use crate::answers::put_report_line;
 use crate::judging::told_overdue;
 use crate::manner::Manner;
-use crate::taken_lines::put_lateness;
+use crate::replies::{put_lateness, put_report_line};
 use byte_streams::{Sink, WriteFault, put_all};
 use cell_control::Report;
 use cell_tables::{Entry, WorkCell};

@@ -6,7 +6,7 @@ ghost use Rattle.byte_streams.specs.Lent.{WroteTo};
 ghost use Rattle.event_lines.specs.StandingLines.{unfinished_standing_line};
 ghost use Rattle.cell_drive.specs.States.{is_over, standing_part, jobs_text, machines_text, state_text, count_of, one_more, with_one, with_jobs, with_machines, own_first, overdue_in};
 
-use crate::answers::{put_behind, put_closing};
+use crate::replies::{put_behind, put_closing};
 use byte_streams::{Sink, WriteFault};
 use cell_control::{Core, Dues, Timed};
 use cell_tables::{Standing, WorkCell};

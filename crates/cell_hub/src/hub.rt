@@ -121,7 +121,7 @@ impl<D: Dues> Hub<D> {
             return Err(HubFault::NoSuchCell);
         };
         let _plan = cell.verified();
-        if let Err(reason) = cell.check_clean_after(machine, job, at) {
+        if let Err(reason) = cell.judge_clean_after(machine, job, at) {
             return Err(HubFault::Cell(reason));
         }
         self.report(ticket, Report::Clean { machine, at })

@@ -1,4 +1,4 @@
-//! Inputs that are driven over devices that give pieces and fail. Whole runs stand in `tests/runs`.
+//! Inputs that are driven over devices that give pieces and fail. Whole runs stand in `tests/commands/runs`.
 
 use super::devices::{GOOD, Limits, driven_over};
 use super::driven_inputs::{DRIVEN, Driven};

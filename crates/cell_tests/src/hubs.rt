@@ -1,4 +1,4 @@
-//! Cells under tickets. How cells under numbers run apart is shown by `tests/runs`.
+//! Cells under tickets. How cells under numbers run apart is shown by `tests/commands/runs`.
 
 use super::cells::{CROSSING, INSTANT, Texts, accepted};
 use super::events::arrive;

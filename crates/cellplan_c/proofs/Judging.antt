@@ -6,12 +6,13 @@ use Rattle.plan_verifier.specs.declared.verdict.Verdict.{Verdict}
 use Rattle.plan_verifier.specs.declared.verdict.Verdict.TheVariants.{Accepted, Refused}
 use Rattle.command_answers.specs.declared.answer.Answer.{Answer}
 use Rattle.command_answers.specs.declared.command_fault.CommandFault.{CommandFault}
-use Rattle.command_answers.specs.declared.command_fault.CommandFault.TheVariants.{Instance, Plan, Read, Write, InputTooLong, Log, LogInUse, Memory}
+use Rattle.command_answers.specs.declared.command_fault.CommandFault.TheVariants.{Instance, Plan, Names, Read, Write, InputTooLong, Log, LogInUse, Memory}
 use Rattle.command_answers.specs.Checks.{IsCheckLine, verdict_status}
 use Rattle.command_answers.specs.Explains.{IsExplanation}
 use Rattle.command_answers.specs.Plans.{IsRightOfBoth}
 use Rattle.command_answers.specs.Statuses.{status_of}
 use Rattle.command_answers.specs.declared.rests.PlanTelling.{PlanTelling}
+use Rattle.people_names.specs.NameBooks.{no_names}
 use Rattle.command_answers.specs.Rests.{rest_status, IsRestTold}
 use Rattle.plan_verifier.specs.declared.verdict.Judged.{Judged}
 use Rattle.plan_verifier.specs.declared.verdict.Judged.TheVariants.{Accepted as AcceptedRest, Refused}
@@ -34,7 +35,7 @@ rest_bound : (verdict : Judged) → rest_status verdict ≤ 1
 rest_bound (AcceptedRest times) = omega arith
 rest_bound (Refused why) = omega arith
 
-pub told_bound : (telling : PlanTelling) (p : PlannedShop) (c : Cell) (t : ℕ) (answer : Answer) → IsRestTold telling p c t answer → answer.status ≤ 1
+pub told_bound : (telling : PlanTelling) (p : PlannedShop) (c : Cell) (t : ℕ) (answer : Answer) → IsRestTold no_names telling p c t answer → answer.status ≤ 1
 told_bound telling p c t answer told = omega (arith, told.status, rest_bound told.verdict)
 
 pub fault_bounds : (instance : List ℕ) (name : Option (List ℕ)) (plan : List ℕ) (fault : CommandFault)
@@ -42,6 +43,7 @@ pub fault_bounds : (instance : List ℕ) (name : Option (List ℕ)) (plan : List
 fault_bounds instance name plan (Instance why) is = (omega arith, omega arith)
 fault_bounds instance name plan (Plan why) is = (omega arith, omega arith)
 fault_bounds instance name plan Memory is = (omega arith, omega arith)
+fault_bounds instance name plan (Names names) is = absurd is
 fault_bounds instance name plan Read is = absurd is
 fault_bounds instance name plan Write is = absurd is
 fault_bounds instance name plan InputTooLong is = absurd is

@@ -5,7 +5,7 @@ use Rattle.orlib_read.specs.declared.or_fault.OrFault.{OrFault}
 use Rattle.plan_text.specs.declared.plan_fault.PlanFault.{PlanFault}
 use Rattle.command_answers.specs.declared.answer.Answer.{Answer}
 use Rattle.command_answers.specs.declared.command_fault.CommandFault.{CommandFault}
-use Rattle.command_answers.specs.declared.command_fault.CommandFault.TheVariants.{Instance, Plan, Read, Write, InputTooLong, Log, LogInUse, Memory}
+use Rattle.command_answers.specs.declared.command_fault.CommandFault.TheVariants.{Instance, Plan, Names, Read, Write, InputTooLong, Log, LogInUse, Memory}
 use Rattle.command_answers.specs.Instances.{IsInstanceRefusal}
 use Rattle.command_answers.specs.Plans.{IsRightOfBoth, IsPlanRefusal}
 use Rattle.command_answers.specs.Readings.{AreTextsAnswered}
@@ -34,6 +34,7 @@ instance_line : (fault : CommandFault) (why : OrFault) (told : Result Answer Com
 instance_line (Instance answered) why told is line = line
 instance_line Memory why told is line = memory_untold (IsTextFaultTold (Instance why)) told line
 instance_line (Plan fault) why told is line = absurd is
+instance_line (Names names) why told is line = absurd is
 instance_line Read why told is line = absurd is
 instance_line Write why told is line = absurd is
 instance_line InputTooLong why told is line = absurd is
@@ -45,6 +46,7 @@ plan_line : (fault : CommandFault) (why : PlanFault) (told : Result Answer Comma
 plan_line (Plan answered) why told is line = line
 plan_line Memory why told is line = memory_untold (IsTextFaultTold (Plan why)) told line
 plan_line (Instance fault) why told is line = absurd is
+plan_line (Names names) why told is line = absurd is
 plan_line Read why told is line = absurd is
 plan_line Write why told is line = absurd is
 plan_line InputTooLong why told is line = absurd is
@@ -56,6 +58,7 @@ of_text : (fault : CommandFault) (answer : Answer) → IsTextFaultTold fault ans
 of_text (Instance why) answer line = refl
 of_text (Plan why) answer line = refl
 of_text Memory answer line = absurd line.0
+of_text (Names names) answer line = absurd line.0
 of_text Read answer line = absurd line.0
 of_text Write answer line = absurd line.0
 of_text InputTooLong answer line = absurd line.0
@@ -68,6 +71,7 @@ memory_alone : (instance : List ℕ) (name : Option (List ℕ)) (plan : List ℕ
 memory_alone instance name plan (Instance why) other is untold = untold
 memory_alone instance name plan (Plan why) other is untold = untold
 memory_alone instance name plan Memory other is untold = untold
+memory_alone instance name plan (Names names) other is untold = absurd is
 memory_alone instance name plan Read other is untold = absurd is
 memory_alone instance name plan Write other is untold = absurd is
 memory_alone instance name plan InputTooLong other is untold = absurd is

@@ -20,7 +20,8 @@ pub fn fault_answer(alloc: Global, fault: CommandFault) -> Result<Answer, Comman
             refusal(alloc, b"cellplan: instance: ", why.to_string(alloc))
         }
         CommandFault::Plan(why) => refusal(alloc, b"cellplan: plan: ", why.to_string(alloc)),
-        CommandFault::Read
+        CommandFault::Names(_)
+        | CommandFault::Read
         | CommandFault::Write
         | CommandFault::InputTooLong
         | CommandFault::Log

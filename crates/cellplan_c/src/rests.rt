@@ -2,6 +2,7 @@
 
 ghost use Rattle.std.specs.Prelude.{◌≡◌, ◌≢◌, ◌≤◌, ◌↔◌, None};
 ghost use Rattle.command_answers.specs.declared.rests.PlanTelling.TheVariants.{Verdict, Moments};
+ghost use Rattle.command_answers.specs.Rests.{job_asked};
 ghost use Rattle.cellplan_c.specs.Cells.{Holding};
 ghost use Rattle.cellplan_c.specs.RestsAsked.{IsRestAsked};
 
@@ -10,6 +11,7 @@ use crate::rooms::put_text;
 use crate::statuses::{BACKWARDS, MOMENT_TOO_LARGE, NO_CELL, status_of_refused};
 use cell_control::{RestController, TourneyDues};
 use command_answers::{PlanTelling, rest_told};
+use people_names::Names;
 use shop_base::limits::MAX_MOMENT;
 use std::alloc::Global;
 
@@ -70,6 +72,7 @@ fn tell_rest(
     room: &mut [u8],
     needed: &mut usize,
 ) -> u32
+    requires { job_asked telling ≡ None }
     ensures asked { IsRestAsked telling at result room.old room.new needed.new controller.now }
     ensures untold { 8 ≤ result → (needed.new ≡ 0) × (room.new ≡ room.old) }
     ensures statuses { result ≢ 8 }
@@ -81,7 +84,8 @@ fn tell_rest(
     if at < controller.now() {
         return BACKWARDS;
     }
-    match rest_told(alloc, controller.work_cell(), at, telling) {
+    let names = Names::none(alloc);
+    match rest_told(alloc, &names, controller.work_cell(), at, telling) {
         Ok(answer) => put_text(&answer.text, u32::from(answer.status), room, needed),
         Err(error) => status_of_refused(error),
     }

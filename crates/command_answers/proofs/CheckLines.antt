@@ -1,7 +1,11 @@
 -- The lines of verdicts.
-use Rattle.std.proofs.Common.{inl, inr, subst}
+use Rattle.std.proofs.Common.{◌≡◌, Result, Ok, Err, IfOk, inl, inr, subst}
 use Rattle.shop_base.specs.Plan.{PlannedShop}
+use Rattle.people_names.specs.NameBooks.{NameBook}
+use Rattle.plan_verifier.specs.declared.verdict.Verdict.{Verdict}
 use Rattle.plan_verifier.specs.declared.verdict.Verdict.TheVariants.{Accepted, Refused}
+use Rattle.plan_verifier.specs.Accepted.{IsAcceptable}
+use Rattle.plan_verifier.specs.Verdicts.{OnAccepted, OnRefused, IsReason}
 use Rattle.plan_verifier.specs.declared.verdict.Why.TheVariants.{Cycle, Late}
 use Rattle.plan_explain.specs.FirstLines.{TellsAccepted}
 use Rattle.plan_verifier.proofs.Reasons.{evident}
@@ -11,6 +15,7 @@ use Rattle.command_answers.specs.declared.loading.Loaded.TheVariants.{NotShaped,
 use Rattle.command_answers.specs.Checks.{IsLoaded, IsLineOf, IsCheckLine}
 use Rattle.command_answers.specs.Explains.{HasEvidence, IsExplanationOf, IsExplanation}
 use Rattle.command_answers.specs.Timetables.{IsTimetableOf, IsTimetable}
+use Rattle.command_answers.specs.Margins.{IsMarginAnswer, IsMarginAnswerOf, IsMarginLine}
 
 -- the line of what is said of a plan is that of its check
 pub line_of_loaded : (p : PlannedShop) (loaded : Loaded) (answer : Answer) → IsLoaded p loaded → IsLineOf loaded answer → IsCheckLine p answer
@@ -36,3 +41,17 @@ explanation_of_loaded p (Judged verdict) answer judged explained = inr (record {
 pub timetable_of_loaded : (p : PlannedShop) (loaded : Loaded) (answer : Answer) → IsLoaded p loaded → IsTimetableOf loaded answer → IsTimetable p answer
 timetable_of_loaded p (NotShaped fault) answer first line = inl (record { fault = fault; first = first; line = line })
 timetable_of_loaded p (Judged verdict) answer judged scheduled = inr (record { verdict = verdict; judged = judged; scheduled = scheduled })
+
+-- what is told of the margin by the verdict is of the plan's
+pub margin_of_verdict : (names : NameBook) (p : PlannedShop) (verdict : Verdict) (answer : Answer) → OnAccepted (λ verified. (verified.planned ≡ p) × IsAcceptable p) verdict → OnRefused (λ back why. (back ≡ p) × IsReason p why) verdict
+    → IsMarginAnswerOf names verdict answer → IsMarginAnswer names p answer
+margin_of_verdict names p (Accepted verified) answer accepted refused line = inl (accepted.1, subst (λ (q : PlannedShop). IsMarginLine names q answer) accepted.0 line)
+margin_of_verdict names p (Refused back (Cycle nodes)) answer accepted refused line = inr (inl (record { nodes = nodes.items; cycle = refused.1; line = line.0; refused = line.1 }))
+margin_of_verdict names p (Refused back (Late job leaves chain times)) answer accepted refused line =
+    inr (inr (record { job = job; leaves = leaves; chain = chain.items; late = refused.1.0; line = line.0; refused = line.1 }))
+
+-- so of an answer that may not come
+pub margin_told : {E : Type 0} (names : NameBook) (p : PlannedShop) (verdict : Verdict) (answered : Result Answer E) → OnAccepted (λ verified. (verified.planned ≡ p) × IsAcceptable p) verdict → OnRefused (λ back why. (back ≡ p) × IsReason p why) verdict
+    → IfOk answered (IsMarginAnswerOf names verdict) → IfOk answered (IsMarginAnswer names p)
+margin_told names p verdict (Ok answer) accepted refused line = margin_of_verdict names p verdict answer accepted refused line
+margin_told names p verdict (Err error) accepted refused line = tt

@@ -1,6 +1,7 @@
 -- The answers of the command `decide`.
 use Rattle.std.proofs.Common.{ℕ, ◌<◌, ◌≤◌, Result, Ok, Err, refl, inl, inr, arith}
 use Rattle.shop_base.specs.Plan.{PlannedShop}
+use Rattle.people_names.specs.NameBooks.{NameBook}
 use Rattle.plan_decide.specs.declared.aim.Aim.{Aim}
 use Rattle.plan_decide.specs.declared.aim.Aim.TheVariants.{Promises, Least}
 use Rattle.plan_decide.specs.declared.aim.Objective.TheVariants.{Makespan, Leaving}
@@ -15,16 +16,17 @@ use Rattle.plan_decide.specs.Excluding.{AreExclusions, NoneIsAlone}
 use Rattle.plan_decide.specs.Decisions.{IsBest, IsDecideFault, IsKept, OnBest, OnKept, OnNever, OnOpen}
 use Rattle.command_answers.specs.declared.answer.Answer.{Answer}
 use Rattle.command_answers.specs.declared.command_fault.CommandFault.{CommandFault}
-use Rattle.command_answers.specs.declared.command_fault.CommandFault.TheVariants.{Instance, Plan, Read, Write, InputTooLong, Log, LogInUse, Memory}
+use Rattle.command_answers.specs.declared.command_fault.CommandFault.TheVariants.{Instance, Plan, Names, Read, Write, InputTooLong, Log, LogInUse, Memory}
 use Rattle.command_answers.specs.DecisionLines.{within_line}
 use Rattle.command_answers.specs.Deciding.{CanBeTold, IsDecidedAnswer, IsDecisionAnswer, IsUndecidedAnswer}
 use Rattle.command_answers.specs.Documents.{IsDocumentAnswer, IsHeadedAnswer}
 
-module _ (t : Case) (aim : Aim) where
+module _ (names : NameBook) (t : Case) (aim : Aim) where
   -- the text of a plan that keeps all budgets is the answer
-  kept_is : (plan : PlannedShop) (outcome : Result Answer CommandFault) → IsKept t aim plan → IsDocumentAnswer plan.plan 0 outcome → IsDecisionAnswer t aim outcome
+  kept_is : (plan : PlannedShop) (outcome : Result Answer CommandFault) → IsKept t aim plan → IsDocumentAnswer plan.plan 0 outcome → IsDecisionAnswer names t aim outcome
   kept_is plan (Ok answer) is text = inl (record { plan = plan; is = is; text = text })
   kept_is plan (Err (Instance fault)) is text = text
+  kept_is plan (Err (Names unread)) is text = text
   kept_is plan (Err Read) is text = text
   kept_is plan (Err Write) is text = text
   kept_is plan (Err InputTooLong) is text = text
@@ -35,9 +37,10 @@ module _ (t : Case) (aim : Aim) where
 
   -- so is that of the best plan, behind its line
   best_is : (plan : PlannedShop) (within : Within) (outcome : Result Answer CommandFault) → IsBest t aim plan within → IsHeadedAnswer (within_line within) plan.plan 0 outcome
-      → IsDecisionAnswer t aim outcome
+      → IsDecisionAnswer names t aim outcome
   best_is plan within (Ok answer) is text = inr (inl (record { plan = plan; within = within; is = is; text = text }))
   best_is plan within (Err (Instance fault)) is text = text
+  best_is plan within (Err (Names unread)) is text = text
   best_is plan within (Err Read) is text = text
   best_is plan within (Err Write) is text = text
   best_is plan within (Err InputTooLong) is text = text
@@ -49,7 +52,7 @@ module _ (t : Case) (aim : Aim) where
   -- what is answered of a decision
   pub decided_is : {K : Type 0} (planned : K → PlannedShop) (decided : Decided K) (outcome : Result Answer CommandFault) → OnKept (λ k. IsKept t aim (planned k)) decided → OnBest (λ k within. IsBest t aim (planned k) within) decided
       → OnNever (λ excluded back. AreExclusions (asked_for t aim) excluded) decided → OnOpen (λ back. NoneIsAlone (asked_for t aim)) decided
-      → IsDecidedAnswer planned decided outcome → IsDecisionAnswer t aim outcome
+      → IsDecidedAnswer names planned decided outcome → IsDecisionAnswer names t aim outcome
   decided_is planned (Kept plan) outcome kept best never left_open text = kept_is (planned plan) outcome kept text
   decided_is planned (Best plan within) outcome kept best never left_open text = best_is (planned plan) within outcome best text
   decided_is planned (Never excluded back) (Ok answer) kept best never left_open text =
@@ -72,14 +75,14 @@ pub outside : (j n : ℕ) → (j < n → ⊥) → n ≤ j
 outside j n isnt = omega (arith, isnt)
 
 -- what is answered where nothing is decided
-pub undecided_is : (t : Case) (aim : Aim) (fault : DecideFault) (outcome : Result Answer CommandFault) → IsDecideFault t aim fault → IsUndecidedAnswer aim fault outcome
-    → IsDecisionAnswer t aim outcome
-undecided_is t Promises JobOutOfRange outcome is text = absurd (is tt)
-undecided_is t (Least Makespan) JobOutOfRange outcome is text = absurd (is tt)
-undecided_is t (Least (Leaving j)) JobOutOfRange (Ok answer) is text =
+pub undecided_is : (names : NameBook) (t : Case) (aim : Aim) (fault : DecideFault) (outcome : Result Answer CommandFault) → IsDecideFault t aim fault → IsUndecidedAnswer aim fault outcome
+    → IsDecisionAnswer names t aim outcome
+undecided_is names t Promises JobOutOfRange outcome is text = absurd (is tt)
+undecided_is names t (Least Makespan) JobOutOfRange outcome is text = absurd (is tt)
+undecided_is names t (Least (Leaving j)) JobOutOfRange (Ok answer) is text =
     inr (inr (inr (inr (record { job = j; aims = refl; outside = outside j (job_count t) is; line = text.0; refused = text.1 }))))
-undecided_is t (Least (Leaving j)) JobOutOfRange (Err fault) is text = rw text tt
-undecided_is t aim WantOfMemory outcome is text = rw text tt
-undecided_is t aim (LogFault fault) outcome is text = absurd is
-undecided_is t aim (EarlierMoment last) outcome is text = absurd is
-undecided_is t aim MomentTooLarge outcome is text = absurd is
+undecided_is names t (Least (Leaving j)) JobOutOfRange (Err fault) is text = rw text tt
+undecided_is names t aim WantOfMemory outcome is text = rw text tt
+undecided_is names t aim (LogFault fault) outcome is text = absurd is
+undecided_is names t aim (EarlierMoment last) outcome is text = absurd is
+undecided_is names t aim MomentTooLarge outcome is text = absurd is

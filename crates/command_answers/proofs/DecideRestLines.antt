@@ -7,6 +7,7 @@ use Rattle.run_log.specs.declared.audit_fault.AuditFault.{AuditFault}
 use Rattle.run_log.specs.declared.audit_fault.AuditFault.TheVariants.{BadLine, NotExpected, Backwards, NotReady, Occupied, OutOfOrder, WrongPlace, NotClean, Memory as WantOfRoom}
 use Rattle.run_log.specs.Audits.{IsFirstBad, IsAuditFault}
 use Rattle.plan_improve.specs.Improved.{present_of}
+use Rattle.people_names.specs.NameBooks.{NameBook}
 use Rattle.plan_decide.specs.declared.aim.Aim.{Aim}
 use Rattle.plan_decide.specs.declared.aim.Aim.TheVariants.{Promises, Least}
 use Rattle.plan_decide.specs.declared.aim.Objective.TheVariants.{Makespan, Leaving}
@@ -22,7 +23,7 @@ use Rattle.plan_decide.specs.Excluding.{AreExclusions, NoneIsAlone}
 use Rattle.plan_decide.specs.Decisions.{IsBest, IsKept, OnBest, OnKept, OnNever, OnOpen}
 use Rattle.command_answers.specs.declared.answer.Answer.{Answer}
 use Rattle.command_answers.specs.declared.command_fault.CommandFault.{CommandFault}
-use Rattle.command_answers.specs.declared.command_fault.CommandFault.TheVariants.{Instance, Plan, Read, Write, InputTooLong, Log, LogInUse, Memory}
+use Rattle.command_answers.specs.declared.command_fault.CommandFault.TheVariants.{Instance, Plan, Names, Read, Write, InputTooLong, Log, LogInUse, Memory}
 use Rattle.command_answers.specs.Deciding.{CanBeTold, IsDecidedAnswer, IsDecisionAnswer, IsUndecidedAnswer}
 use Rattle.command_answers.specs.DecidingRests.{IsRestDecisionAnswer}
 use Rattle.command_answers.specs.LogLines.{IsLogRefused}
@@ -31,11 +32,12 @@ use Rattle.command_answers.specs.Steps.{IsOrMemory}
 use Rattle.command_answers.proofs.LogAnswers.{refused_log}
 use Rattle.command_answers.proofs.DecideLines.{decided_is, outside}
 
-module _ (at : Option ℕ) (lines : List (List ℕ)) (start : PlannedShop) (aim : Aim) where
+module _ (names : NameBook) (at : Option ℕ) (lines : List (List ℕ)) (start : PlannedShop) (aim : Aim) where
   -- what is answered for what has happened by the log is answered of the rest
-  held_is : (outcome : Result Answer CommandFault) → HoldsAfter lines at start (λ t. IsDecisionAnswer t aim outcome) → IsRestDecisionAnswer at lines start aim outcome
+  held_is : (outcome : Result Answer CommandFault) → HoldsAfter lines at start (λ t. IsDecisionAnswer names t aim outcome) → IsRestDecisionAnswer names at lines start aim outcome
   held_is (Ok answer) held = inl held
   held_is (Err (Instance fault)) held = held.says
+  held_is (Err (Names unread)) held = held.says
   held_is (Err Read) held = held.says
   held_is (Err Write) held = held.says
   held_is (Err InputTooLong) held = held.says
@@ -47,15 +49,15 @@ module _ (at : Option ℕ) (lines : List (List ℕ)) (start : PlannedShop) (aim 
   pub rest_decided_is : (decided : Decided PlannedShop) (outcome : Result Answer CommandFault)
       → OnKept (λ plan. HoldsAfter lines at start (λ t. IsKept t aim plan)) decided → OnBest (λ plan within. HoldsAfter lines at start (λ t. IsBest t aim plan within)) decided
       → OnNever (λ told back. HoldsAfter lines at start (λ t. AreExclusions (asked_for t aim) told)) decided → OnOpen (λ back. HoldsAfter lines at start (λ t. NoneIsAlone (asked_for t aim))) decided
-      → IsDecidedAnswer (λ plan. plan) decided outcome → IsRestDecisionAnswer at lines start aim outcome
+      → IsDecidedAnswer names (λ plan. plan) decided outcome → IsRestDecisionAnswer names at lines start aim outcome
   rest_decided_is (Kept plan) outcome kept best never left text =
-      held_is outcome (record { past = kept.past; is = kept.is; says = decided_is _ aim (λ p. p) (Kept plan) outcome kept.says tt tt tt text })
+      held_is outcome (record { past = kept.past; is = kept.is; says = decided_is names _ aim (λ p. p) (Kept plan) outcome kept.says tt tt tt text })
   rest_decided_is (Best plan within) outcome kept best never left text =
-      held_is outcome (record { past = best.past; is = best.is; says = decided_is _ aim (λ p. p) (Best plan within) outcome tt best.says tt tt text })
+      held_is outcome (record { past = best.past; is = best.is; says = decided_is names _ aim (λ p. p) (Best plan within) outcome tt best.says tt tt text })
   rest_decided_is (Never told back) outcome kept best never left text =
-      held_is outcome (record { past = never.past; is = never.is; says = decided_is _ aim (λ p. p) (Never told back) outcome tt tt never.says tt text })
+      held_is outcome (record { past = never.past; is = never.is; says = decided_is names _ aim (λ p. p) (Never told back) outcome tt tt never.says tt text })
   rest_decided_is (Open back) outcome kept best never left text =
-      held_is outcome (record { past = left.past; is = left.is; says = decided_is _ aim (λ p. p) (Open back) outcome tt tt tt left.says text })
+      held_is outcome (record { past = left.past; is = left.is; says = decided_is names _ aim (λ p. p) (Open back) outcome tt tt tt left.says text })
 
 -- a first bad line is a fault of the audit
 audit_of : (p : PlannedShop) (lines : List (List ℕ)) (fault : AuditFault) → IsFirstBad p lines fault → IsAuditFault p lines fault
@@ -89,15 +91,15 @@ rest_can_be_told at lines start aim (EarlierMoment last) early is = tt
 rest_can_be_told at lines start aim MomentTooLarge early is = never_large at is.1.0.last early is.1.2
 rest_can_be_told at lines start aim WantOfMemory early is = tt
 
-module _ (at : Option ℕ) (lines : List (List ℕ)) (start : PlannedShop) where
+module _ (names : NameBook) (at : Option ℕ) (lines : List (List ℕ)) (start : PlannedShop) where
   -- a line, or that memory ran out
-  line_is : (aim : Aim) (IsLine : Answer → Type 0) (outcome : Result Answer CommandFault) → ((answer : Answer) → IsLine answer → IsRestDecisionAnswer at lines start aim (Ok answer))
-      → IsOrMemory IsLine outcome → IsRestDecisionAnswer at lines start aim outcome
+  line_is : (aim : Aim) (IsLine : Answer → Type 0) (outcome : Result Answer CommandFault) → ((answer : Answer) → IsLine answer → IsRestDecisionAnswer names at lines start aim (Ok answer))
+      → IsOrMemory IsLine outcome → IsRestDecisionAnswer names at lines start aim outcome
   line_is aim IsLine (Ok answer) each line = each answer line
-  line_is aim IsLine (Err fault) each line = subst (λ (x : CommandFault). IsRestDecisionAnswer at lines start aim (Err x)) (sym line) tt
+  line_is aim IsLine (Err fault) each line = subst (λ (x : CommandFault). IsRestDecisionAnswer names at lines start aim (Err x)) (sym line) tt
 
   pub rest_undecided_is : (aim : Aim) (fault : DecideFault) (outcome : Result Answer CommandFault) → IfSome at (λ n. n ≤ MAX_MOMENT) → IsDecideRestFault lines at start aim fault → IsUndecidedAnswer aim fault outcome
-      → IsRestDecisionAnswer at lines start aim outcome
+      → IsRestDecisionAnswer names at lines start aim outcome
   rest_undecided_is Promises JobOutOfRange outcome early why told = absurd (why tt)
   rest_undecided_is (Least Makespan) JobOutOfRange outcome early why told = absurd (why tt)
   rest_undecided_is (Least (Leaving j)) JobOutOfRange outcome early why told =
@@ -108,4 +110,4 @@ module _ (at : Option ℕ) (lines : List (List ℕ)) (start : PlannedShop) where
       let before = past_given at why.1.0.last last why.1.2 in
       line_is aim _ outcome (λ answer line. inr (inr (inr (record { cell = why.1.0; run = why.1.1; before = before.0; line = subst (λ n. IsPastLine n answer) before.1 line })))) told
   rest_undecided_is aim MomentTooLarge outcome early why told = absurd (never_large at why.1.0.last early why.1.2)
-  rest_undecided_is aim WantOfMemory outcome early why told = subst (IsRestDecisionAnswer at lines start aim) (sym told) tt
+  rest_undecided_is aim WantOfMemory outcome early why told = subst (IsRestDecisionAnswer names at lines start aim) (sym told) tt

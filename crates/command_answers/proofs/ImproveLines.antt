@@ -14,7 +14,7 @@ use Rattle.plan_improve.specs.Faults.{IsImproveFault}
 use Rattle.command_answers.specs.ImprovingRests.{IsUnfoundAnswer}
 use Rattle.command_answers.specs.declared.answer.Answer.{Answer}
 use Rattle.command_answers.specs.declared.command_fault.CommandFault.{CommandFault}
-use Rattle.command_answers.specs.declared.command_fault.CommandFault.TheVariants.{Instance, Plan, Read, Write, InputTooLong, Log, LogInUse, Memory}
+use Rattle.command_answers.specs.declared.command_fault.CommandFault.TheVariants.{Instance, Plan, Names, Read, Write, InputTooLong, Log, LogInUse, Memory}
 use Rattle.command_answers.specs.Checks.{verdict_status}
 use Rattle.command_answers.specs.Documents.{IsDocumentAnswer}
 use Rattle.command_answers.specs.Improving.{IsBest, IsStatusOf, IsBestAnswer}
@@ -35,6 +35,7 @@ module _ (made : Asked) (rounds : ℕ) (start : PlannedShop) where
     status = rw text.ends (status_is verdict exact);
   })
   best_answer_is verdict (Err (Instance fault)) is few exact text = text
+  best_answer_is verdict (Err (Names names)) is few exact text = text
   best_answer_is verdict (Err Read) is few exact text = text
   best_answer_is verdict (Err Write) is few exact text = text
   best_answer_is verdict (Err InputTooLong) is few exact text = text

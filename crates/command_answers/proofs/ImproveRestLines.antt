@@ -27,7 +27,7 @@ use Rattle.plan_improve.specs.Faults.{IsImproveRestFault, IsMomentFault}
 use Rattle.plan_improve.specs.Improved.{HasNoRestBegin, IsFound, IsNeverWorse, IsVerdictOn, present_of}
 use Rattle.command_answers.specs.declared.answer.Answer.{Answer}
 use Rattle.command_answers.specs.declared.command_fault.CommandFault.{CommandFault}
-use Rattle.command_answers.specs.declared.command_fault.CommandFault.TheVariants.{Instance, Plan, Read, Write, InputTooLong, Log, LogInUse, Memory}
+use Rattle.command_answers.specs.declared.command_fault.CommandFault.TheVariants.{Instance, Plan, Names, Read, Write, InputTooLong, Log, LogInUse, Memory}
 use Rattle.command_answers.specs.Documents.{IsDocumentAnswer}
 use Rattle.command_answers.specs.LogLines.{IsLogRefused}
 use Rattle.command_answers.specs.Rests.{IsPastLine}
@@ -79,6 +79,7 @@ module _ (made : RestAsked) (at : Option ℕ) (rounds : ℕ) (lines : List (List
     }),
   )
   text_is c best status (Err (Instance fault)) few here present is says text = text
+  text_is c best status (Err (Names names)) few here present is says text = text
   text_is c best status (Err Read) few here present is says text = text
   text_is c best status (Err Write) few here present is says text = text
   text_is c best status (Err InputTooLong) few here present is says text = text

@@ -11,3 +11,4 @@ pub mod CellPlans
 pub mod BoundTexts
 pub mod DecideLines
 pub mod DecideRestLines
+pub mod Unnamed

@@ -7,11 +7,14 @@ use Rattle.orlib_read.specs.declared.or_fault.OrFault.{OrFault}
 use Rattle.orlib_read.specs.declared.or_fault.OrFault.TheVariants.{Memory as WantOfReader}
 use Rattle.plan_text.specs.declared.plan_fault.PlanFault.{PlanFault}
 use Rattle.plan_text.specs.declared.plan_fault.PlanFault.TheVariants.{Memory as WantOfMemory}
+use Rattle.people_names.specs.declared.names_fault.NamesFault.{NamesFault}
+use Rattle.people_names.specs.declared.names_fault.NamesFault.TheVariants.{Memory as WantOfNames}
 use Rattle.command_answers.specs.declared.command_fault.CommandFault.{CommandFault}
-use Rattle.command_answers.specs.declared.command_fault.CommandFault.TheVariants.{Instance, Plan, Read, Write, InputTooLong, Log, LogInUse, Memory}
+use Rattle.command_answers.specs.declared.command_fault.CommandFault.TheVariants.{Instance, Plan, Names, Read, Write, InputTooLong, Log, LogInUse, Memory}
 use Rattle.command_answers.specs.Instances.{Holds, IsInstanceRefusal, instance_command_fault}
 use Rattle.command_answers.specs.Steps.{IsOrMemory}
 use Rattle.command_answers.specs.Plans.{IsPlanRefusal, IsRightOfBoth, plan_command_fault}
+use Rattle.command_answers.specs.Naming.{IsNamesRefusal, names_command_fault}
 use Rattle.command_answers.specs.Readings.{IsInstanceRead, IsPlanRead, AreTextsAnswered}
 
 -- an answer that passes on that memory ran out holds to every property
@@ -31,6 +34,12 @@ pub passed_plan : {A : Type 0} (answer : Result A CommandFault) (told fault : Pl
 passed_plan (Ok a) told fault same passed = absurd passed
 passed_plan (Err answered) WantOfMemory fault same passed = rw passed tt
 passed_plan (Err answered) told fault same passed = rw passed (same (λ memory. cc memory))
+
+pub passed_names : {A : Type 0} (answer : Result A CommandFault) (told fault : NamesFault) → (told ≢ WantOfNames → told ≡ fault)
+    → IsErrAnd answer (λ passed. passed ≡ names_command_fault told) → IsNamesRefusal answer fault
+passed_names (Ok a) told fault same passed = absurd passed
+passed_names (Err answered) WantOfNames fault same passed = rw passed tt
+passed_names (Err answered) told fault same passed = rw passed (same (λ memory. cc memory))
 
 -- what is said of a fault is said of an answer that passes it on
 pub at_fault : {A : Type 0} (P : Result A CommandFault → Type 0) (answer : Result A CommandFault) (fault : CommandFault) → IsErrAnd answer (λ passed. passed ≡ fault) → P (Err fault) → P answer
@@ -57,6 +66,7 @@ module _ (instance : List ℕ) (name : Option (List ℕ)) (text : List ℕ) wher
     second = λ other tells is. tt;
   }
   refused_instance Is (Plan why) read = absurd read.fault
+  refused_instance Is (Names why) read = absurd read.fault
   refused_instance Is Read read = absurd read.fault
   refused_instance Is Write read = absurd read.fault
   refused_instance Is InputTooLong read = absurd read.fault
@@ -81,6 +91,7 @@ module _ (instance : List ℕ) (name : Option (List ℕ)) (text : List ℕ) wher
     second = λ other tells is. tt;
   }
   refused_plan Is named (Instance why) shop read = absurd read.fault
+  refused_plan Is named (Names why) shop read = absurd read.fault
   refused_plan Is named Read shop read = absurd read.fault
   refused_plan Is named Write shop read = absurd read.fault
   refused_plan Is named InputTooLong shop read = absurd read.fault
@@ -117,6 +128,7 @@ module _ (instance : List ℕ) (name : Option (List ℕ)) (text : List ℕ) wher
   passed_on Is More (Instance why) came = record { found = tt; only = came.only; fault = came.fault; first = came.first; second = came.second }
   passed_on Is More (Plan why) came = record { found = tt; only = came.only; fault = came.fault; first = came.first; second = came.second }
   passed_on Is More Memory came = record { found = tt; only = came.only; fault = came.fault; first = came.first; second = came.second }
+  passed_on Is More (Names why) came = absurd came.fault
   passed_on Is More Read came = absurd came.fault
   passed_on Is More Write came = absurd came.fault
   passed_on Is More InputTooLong came = absurd came.fault

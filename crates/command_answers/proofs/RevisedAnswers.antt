@@ -17,7 +17,7 @@ use Rattle.plan_revise.specs.declared.not_revised.NotRevised.TheVariants.{Refuse
 use Rattle.plan_revise.specs.Revised.{IsReason}
 use Rattle.command_answers.specs.declared.answer.Answer.{Answer}
 use Rattle.command_answers.specs.declared.command_fault.CommandFault.{CommandFault}
-use Rattle.command_answers.specs.declared.command_fault.CommandFault.TheVariants.{Instance, Plan, Read, Write, InputTooLong, Log, LogInUse, Memory}
+use Rattle.command_answers.specs.declared.command_fault.CommandFault.TheVariants.{Instance, Plan, Names, Read, Write, InputTooLong, Log, LogInUse, Memory}
 use Rattle.command_answers.specs.declared.command_fault.Unrevised.{Unrevised}
 use Rattle.command_answers.specs.declared.revises.Revised.{Revised}
 use Rattle.command_answers.specs.Revising.{IsChangeRefused, IsInstanceAnswer, IsReviseAnswer, IsRevisedFrom, IsPlaced, IsUnread, IsUnrevised, unrevised_of, unwritten_fault}
@@ -61,6 +61,7 @@ module _ (shop : JobShop) where
   undescribed description (Err Memory) unread is = tt
   undescribed description (Err (Plan fault)) unread is = (is.0, unread, is.2)
   undescribed description (Err (Instance fault)) unread is = is
+  undescribed description (Err (Names names)) unread is = is
   undescribed description (Err Read) unread is = is
   undescribed description (Err Write) unread is = is
   undescribed description (Err InputTooLong) unread is = is

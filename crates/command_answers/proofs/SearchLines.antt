@@ -8,7 +8,7 @@ use Rattle.plan_seek.specs.Turns.{PlanSearch}
 use Rattle.plan_seek.specs.Search.{IsSought, IsSeekFault}
 use Rattle.command_answers.specs.declared.answer.Answer.{Answer}
 use Rattle.command_answers.specs.declared.command_fault.CommandFault.{CommandFault}
-use Rattle.command_answers.specs.declared.command_fault.CommandFault.TheVariants.{Instance, Plan, Read, Write, InputTooLong, Log, LogInUse, Memory}
+use Rattle.command_answers.specs.declared.command_fault.CommandFault.TheVariants.{Instance, Plan, Names, Read, Write, InputTooLong, Log, LogInUse, Memory}
 use Rattle.command_answers.specs.Documents.{IsDocumentAnswer}
 use Rattle.command_answers.specs.Search.{IsFound, IsSearchAnswer, IsNoPlanAnswer}
 
@@ -25,6 +25,7 @@ module _ (s : PlanSearch) (rounds : ℕ) where
       → IsSought s rounds v.plan.order → IsDocumentAnswer v.plan 0 answer → IsSearchAnswer s rounds answer
   found_answer v (Ok answer) same accepted sought text = inl (record { plan = v.plan; found = found_is v same accepted sought; text = text })
   found_answer v (Err (Instance fault)) same accepted sought text = text
+  found_answer v (Err (Names names)) same accepted sought text = text
   found_answer v (Err Read) same accepted sought text = text
   found_answer v (Err Write) same accepted sought text = text
   found_answer v (Err InputTooLong) same accepted sought text = text
@@ -39,6 +40,7 @@ module _ (s : PlanSearch) (rounds : ℕ) where
       → IsNoPlanAnswer fault answer → IsSearchAnswer s rounds answer
   no_plan_answer_is fault (Ok answer) is line = inr (record { fault = fault; is = is; line = line })
   no_plan_answer_is fault (Err (Instance other)) is line = line
+  no_plan_answer_is fault (Err (Names names)) is line = line
   no_plan_answer_is fault (Err Read) is line = line
   no_plan_answer_is fault (Err Write) is line = line
   no_plan_answer_is fault (Err InputTooLong) is line = line

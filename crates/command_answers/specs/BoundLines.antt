@@ -1,5 +1,5 @@
 -- The lines that answer `bounds`.
-use Rattle.std.specs.Prelude.{◌≡◌, ◌⊎◌, ℕ, zero, suc, ◌<◌, ◌≤◌, nat_lt, if◌then◌else◌, List, [], ◌∷◌, ◌++◌, codes, decimal, slice_index}
+use Rattle.std.specs.Prelude.{◌≡◌, ◌⊎◌, ℕ, zero, suc, ◌<◌, ◌≤◌, nat_lt, if◌then◌else◌, List, [], ◌∷◌, ◌++◌, codes, slice_index}
 use Rattle.shop_base.specs.declared.shape_fault.ShapeFault.{ShapeFault}
 use Rattle.shop_base.specs.Plan.{PlannedShop, IsWellShaped}
 use Rattle.shop_base.specs.ShapeFault.{IsFirstShapeFault}
@@ -8,38 +8,44 @@ use Rattle.plan_bounds.specs.declared.makespan.By.TheVariants.{Machine, Job}
 use Rattle.plan_bounds.specs.declared.makespan.LeastMakespan.{LeastMakespan}
 use Rattle.plan_bounds.specs.Bounds.{ShopTimes, times_of, job_count, job_bound}
 use Rattle.plan_bounds.specs.Makespan.{IsLeastMakespan}
+use Rattle.people_names.specs.NameBooks.{NameBook, no_names}
+use Rattle.people_names.specs.Words.{job_word, machine_word, moment_word, is_budget_told}
 use Rattle.plan_explain.specs.Arcs.{before}
 use Rattle.command_answers.specs.declared.answer.Answer.{Answer}
 use Rattle.command_answers.specs.Shapes.{IsLineOfFault}
 use Rattle.command_answers.specs.Serial.{serially}
 
 -- ` by machine M` or ` by job J`: whose bound it is
-abbrev pub by_words : By → List ℕ
-by_words (Machine m) = codes " by machine " ++ decimal m
-by_words (Job j) = codes " by job " ++ decimal j
+abbrev pub by_words : NameBook → By → List ℕ
+by_words names (Machine m) = codes " by machine " ++ machine_word names m
+by_words names (Job j) = codes " by job " ++ job_word names j
 
 -- `makespan at least N by machine M`, or `.. by job J`
-abbrev pub makespan_line : LeastMakespan → List ℕ
-makespan_line least = before (codes "makespan at least " ∷ decimal least.at_least ∷ by_words least.by ∷ []) (codes "\n")
+abbrev pub makespan_line : NameBook → LeastMakespan → List ℕ
+makespan_line names least = before (codes "makespan at least " ∷ moment_word names least.at_least ∷ by_words names least.by ∷ []) (codes "\n")
 
--- ` never` where the bound is past the budget, else nothing
-abbrev pub never_words : ℕ → ℕ → List ℕ
-never_words bound budget = if nat_lt budget bound then codes " never" else []
+-- ` budget B`, and ` never` where the bound is past it; where people aren't told a budget that nobody gave, ` no budget`
+abbrev pub budget_words : NameBook → ℕ → ℕ → List ℕ
+budget_words names bound budget =
+    if nat_lt budget bound then codes " budget " ++ (moment_word names budget ++ codes " never")
+    else if is_budget_told names budget then codes " budget " ++ moment_word names budget
+    else codes " no budget"
 
 -- `job J leaves at least N budget B`, and ` never` where N is past B
-abbrev pub bound_line : ℕ → ℕ → ℕ → List ℕ
-bound_line j bound budget = before (codes "job " ∷ decimal j ∷ codes " leaves at least " ∷ decimal bound ∷ codes " budget " ∷ decimal budget ∷ never_words bound budget ∷ []) (codes "\n")
+abbrev pub bound_line : NameBook → ℕ → ℕ → ℕ → List ℕ
+bound_line names j bound budget = before (codes "job " ∷ job_word names j ∷ codes " leaves at least " ∷ moment_word names bound ∷ budget_words names bound budget ∷ []) (codes "\n")
 
-module _ (t : ShopTimes) (budgets : List ℕ) where
+module _ (names : NameBook) (t : ShopTimes) (budgets : List ℕ) where
   -- the lines of the first n jobs
   abbrev pub bound_lines_below : ℕ → List ℕ
   bound_lines_below zero = []
-  bound_lines_below (suc n) = bound_lines_below n ++ bound_line n (job_bound t n) (slice_index budgets n)
+  bound_lines_below (suc n) = bound_lines_below n ++ bound_line names n (job_bound t n) (slice_index budgets n)
 
   -- the line of the greatest bound, and then those of all jobs, in ascending order
   abbrev pub bound_lines : LeastMakespan → List ℕ
-  bound_lines least = makespan_line least ++ bound_lines_below (job_count t)
+  bound_lines least = makespan_line names least ++ bound_lines_below (job_count t)
 
+module _ (t : ShopTimes) (budgets : List ℕ) where
   -- none of the first n jobs has a bound past its budget
   abbrev pub CanBeInTime : ℕ → Type 0
   CanBeInTime n = (j : ℕ) → j < n → job_bound t j ≤ slice_index budgets j
@@ -52,12 +58,12 @@ module _ (t : ShopTimes) (budgets : List ℕ) where
   abbrev pub IsBoundsStatus : ℕ → Type 0
   IsBoundsStatus status = (CanBeInTime (job_count t) × (status ≡ 0)) ⊎ ((j : ℕ) × IsNeverInTime j × (status ≡ 1))
 
-  -- the lines of the bounds of a shop with these releases and cleaning times, and of these budgets
-  pub record AreBoundLines (answer : Answer) : Type 0 where
-    pub least : LeastMakespan
-    pub greatest : IsLeastMakespan t least
-    pub lines : answer.text.items ≡ bound_lines least
-    pub status : IsBoundsStatus answer.status
+-- the lines of the bounds of a shop with these releases and cleaning times, and of these budgets
+pub record AreBoundLines (names : NameBook) (t : ShopTimes) (budgets : List ℕ) (answer : Answer) : Type 0 where
+  pub least : LeastMakespan
+  pub greatest : IsLeastMakespan t least
+  pub lines : answer.text.items ≡ bound_lines names t budgets least
+  pub status : IsBoundsStatus t budgets answer.status
 
 -- the line of numbers that are too few, too many or over a limit: the first fault of the serial plan with them
 pub record IsBadNumbersLine (p : PlannedShop) (answer : Answer) : Type 0 where
@@ -65,6 +71,6 @@ pub record IsBadNumbersLine (p : PlannedShop) (answer : Answer) : Type 0 where
   pub first : IsFirstShapeFault (serially p) fault
   pub line : IsLineOfFault (codes "bad numbers ") answer
 
--- what is answered, whatever the plan's orders: the lines of the bounds where its numbers are sound, else their first fault
+-- what is answered without names, whatever the plan's orders: the lines of the bounds where its numbers are sound, else their first fault
 abbrev pub AreBounds : PlannedShop → Answer → Type 0
-AreBounds p answer = (IsWellShaped (serially p) × AreBoundLines (times_of p) p.plan.budget answer) ⊎ IsBadNumbersLine p answer
+AreBounds p answer = (IsWellShaped (serially p) × AreBoundLines no_names (times_of p) p.plan.budget answer) ⊎ IsBadNumbersLine p answer

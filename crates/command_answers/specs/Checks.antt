@@ -66,7 +66,11 @@ IsVerdictLine p answer = IsAcceptedLine p answer ⊎ (IsCycleLine p answer ⊎ I
 abbrev pub IsCheckLine : PlannedShop → Answer → Type 0
 IsCheckLine p answer = IsNotShapedLine p answer ⊎ (IsWellShaped p × IsVerdictLine p answer)
 
+-- the first line of a verdict, with its status
+abbrev pub IsLineOfVerdict : Verdict → Answer → Type 0
+IsLineOfVerdict verdict answer = IsFirstLine verdict answer.text.items × (answer.status ≡ verdict_status verdict)
+
 -- the line of what is said of a plan: the refusal of a plan that isn't well shaped, or the first line of the verdict, with its status
 abbrev pub IsLineOf : Loaded → Answer → Type 0
 IsLineOf (NotShaped fault) answer = IsRefusedLine answer
-IsLineOf (Judged verdict) answer = IsFirstLine verdict answer.text.items × (answer.status ≡ verdict_status verdict)
+IsLineOf (Judged verdict) answer = IsLineOfVerdict verdict answer

@@ -1,33 +1,42 @@
 -- What each command does with the files that it is given.
-use Rattle.std.specs.Prelude.{◌≡◌, ◌⊎◌, ℕ, List, Option, Result, Ok}
+use Rattle.std.specs.Prelude.{◌≡◌, ◌⊎◌, ℕ, ◌<◌, ◌≤◌, List, Option, None, Some, Result, Ok}
 use Rattle.shop_base.specs.Shop.{JobShop}
 use Rattle.shop_base.specs.declared.shape_fault.ShapeFault.{ShapeFault}
-use Rattle.shop_base.specs.Plan.{ShopPlan, PlannedShop, IsWellShaped}
+use Rattle.shop_base.specs.Plan.{ShopPlan, PlannedShop, IsWellShaped, jobs}
 use Rattle.orlib_read.specs.declared.named.Named.{Named}
 use Rattle.plan_seek.specs.Orders.{Proposal}
 use Rattle.plan_seek.specs.Tasks.{PlanTask, task_in}
 use Rattle.plan_seek.specs.Turns.{PlanSearch, search_by}
 use Rattle.plan_improve.specs.Runs.{Asked}
+use Rattle.plan_bounds.specs.Bounds.{times_of}
 use Rattle.plan_decide.specs.declared.aim.Aim.{Aim}
+use Rattle.plan_decide.specs.Pasts.{whole_case}
+use Rattle.people_names.specs.NameBooks.{NameBook}
 use Rattle.command_answers.specs.declared.answer.Answer.{Answer}
 use Rattle.command_answers.specs.declared.command_fault.CommandFault.{CommandFault}
 use Rattle.command_answers.specs.declared.loading.Loaded.{Loaded}
 use Rattle.command_answers.specs.Steps.{Then, Told, IsOrMemory}
 use Rattle.command_answers.specs.Texts.{Asks}
+use Rattle.command_answers.specs.Naming.{ReadsNames}
 use Rattle.command_answers.specs.Readings.{IsInstanceRead, IsPlanRead, AreFactsAnswered}
 use Rattle.command_answers.specs.Checks.{IsCheckLine, IsLoaded}
-use Rattle.command_answers.specs.Explains.{IsExplanation}
-use Rattle.command_answers.specs.Timetables.{IsTimetable}
-use Rattle.command_answers.specs.BoundLines.{AreBounds}
-use Rattle.command_answers.specs.Deciding.{IsDecideAnswer}
+use Rattle.command_answers.specs.AskedJobs.{IsNoJobLine}
+use Rattle.command_answers.specs.Explains.{IsPlanExplained}
+use Rattle.command_answers.specs.Timetables.{IsPlanScheduled}
+use Rattle.command_answers.specs.Serial.{serially}
+use Rattle.command_answers.specs.BoundLines.{AreBoundLines, IsBadNumbersLine}
+use Rattle.command_answers.specs.Margins.{IsMarginAnswer}
+use Rattle.command_answers.specs.Moves.{AreMovesOfLog, AreMovesOfPlan}
+use Rattle.command_answers.specs.Deciding.{IsDecisionAnswer}
 use Rattle.command_answers.specs.Shapes.{IsShapeLine, IsNotShapedLine, IsShapedOrNot}
+use Rattle.command_answers.specs.Digests.{IsDigestAnswer}
 use Rattle.command_answers.specs.DecidingRests.{IsRestDecisionAnswer, IsUnfitLine}
 use Rattle.command_answers.specs.Search.{IsSearchAnswer}
 use Rattle.command_answers.specs.Improving.{IsImproveAnswer, ordered}
 use Rattle.command_answers.specs.declared.logs.Telling.{Telling}
 use Rattle.command_answers.specs.LogLines.{IsLogLine}
 use Rattle.command_answers.specs.declared.rests.PlanTelling.{PlanTelling}
-use Rattle.command_answers.specs.Rests.{IsRestLine}
+use Rattle.command_answers.specs.Rests.{IsRestLine, job_asked}
 use Rattle.command_answers.specs.ImprovingRests.{RestAsked, IsRestAnswer}
 use Rattle.text_lines.specs.Lines.{ended_lines}
 use Rattle.plan_revise.specs.declared.change.Change.{Change}
@@ -65,21 +74,58 @@ module _ {W : Type 0} (gives : W → List ℕ → Result (List ℕ) CommandFault
   abbrev pub RunsShape : PairOfFiles → W → Result Answer CommandFault → W → Type 0
   RunsShape pair = WithBoth pair (λ p. Told (IsOrMemory (IsShapeLine p)))
 
+  -- `digest`: both are read, and the digits of a well-shaped plan and its shop are answered
+  abbrev pub RunsDigest : PairOfFiles → W → Result Answer CommandFault → W → Type 0
+  RunsDigest pair = WithBoth pair (λ p. Told (IsOrMemory (IsDigestAnswer p)))
+
   -- `check`: both are read, and the verdict is answered
   abbrev pub RunsCheck : PairOfFiles → W → Result Answer CommandFault → W → Type 0
   RunsCheck pair = WithBoth pair (λ p. Told (IsOrMemory (IsCheckLine p)))
 
-  -- `explain`: both are read, and the verdict is explained
-  abbrev pub RunsExplain : PairOfFiles → W → Result Answer CommandFault → W → Type 0
-  RunsExplain pair = WithBoth pair (λ p. Told (IsOrMemory (IsExplanation p)))
+  -- where a plan is well shaped there is this step; else its first fault is answered
+  abbrev pub IfShaped : PlannedShop → (W → Result Answer CommandFault → W → Type 0) → W → Result Answer CommandFault → W → Type 0
+  IfShaped p next before outcome after = (IsWellShaped p × next before outcome after) ⊎ Told (IsOrMemory (IsNotShapedLine p)) before outcome after
 
-  -- `schedule`: both are read, and the plan's schedule is told
-  abbrev pub RunsSchedule : PairOfFiles → W → Result Answer CommandFault → W → Type 0
-  RunsSchedule pair = WithBoth pair (λ p. Told (IsOrMemory (IsTimetable p)))
+  -- where the job that is asked for is one of the shop, or none is asked for, there is this step; else its line is answered
+  abbrev pub IfThere : Option ℕ → PlannedShop → (W → Result Answer CommandFault → W → Type 0) → W → Result Answer CommandFault → W → Type 0
+  IfThere None p next before outcome after = next before outcome after
+  IfThere (Some j) p next before outcome after = ((j < jobs p) × next before outcome after) ⊎ ((jobs p ≤ j) × Told (IsOrMemory (IsNoJobLine j)) before outcome after)
 
-  -- `bounds`: both are read, and what no plan can do with these numbers is told
-  abbrev pub RunsBounds : PairOfFiles → W → Result Answer CommandFault → W → Type 0
-  RunsBounds pair = WithBoth pair (λ p. Told (IsOrMemory (AreBounds p)))
+  -- names for the plan's shop are read, and then this comes of them
+  abbrev pub WithNames : {B : Type 0} → Option (List ℕ) → PlannedShop → (NameBook → Result B CommandFault → Type 0) → W → Result B CommandFault → W → Type 0
+  WithNames names p Comes = Then (ReadsNames gives names p) (λ book. Told (Comes book))
+
+  -- so names and then a log
+  abbrev pub WithNamesAndLog : {B : Type 0} → Option (List ℕ) → List ℕ → PlannedShop → (NameBook → List ℕ → B → Type 0) → W → Result B CommandFault → W → Type 0
+  WithNamesAndLog names path p IsLine = Then (ReadsNames gives names p) (λ book. Then (Asks gives path) (λ log. Told (IsOrMemory (IsLine book log))))
+
+  -- `explain`: both are read, then the names, and the verdict is explained
+  abbrev pub RunsExplain : PairOfFiles → Option (List ℕ) → Option ℕ → W → Result Answer CommandFault → W → Type 0
+  RunsExplain pair names told = WithBoth pair (λ p. IfShaped p (IfThere told p (WithNames names p (λ book. IsOrMemory (IsPlanExplained book told p)))))
+
+  -- `schedule`: both are read, then the names, and the plan's schedule is told
+  abbrev pub RunsSchedule : PairOfFiles → Option (List ℕ) → W → Result Answer CommandFault → W → Type 0
+  RunsSchedule pair names = WithBoth pair (λ p. IfShaped p (WithNames names p (λ book. IsOrMemory (IsPlanScheduled book p))))
+
+  -- `schedule --moves`: both are read, then the names, and the moves of the plan are told
+  abbrev pub RunsMoves : PairOfFiles → Option (List ℕ) → W → Result Answer CommandFault → W → Type 0
+  RunsMoves pair names = WithBoth pair (λ p. IfShaped p (WithNames names p (λ book. IsOrMemory (AreMovesOfPlan book p))))
+
+  -- where the numbers of a plan are sound, whatever its orders, there is this step; else their first fault is answered
+  abbrev pub IfSound : PlannedShop → (W → Result Answer CommandFault → W → Type 0) → W → Result Answer CommandFault → W → Type 0
+  IfSound p next before outcome after = (IsWellShaped (serially p) × next before outcome after) ⊎ Told (IsOrMemory (IsBadNumbersLine p)) before outcome after
+
+  -- so names are read, and then this comes of them
+  abbrev pub WithSoundNames : (NameBook → Result Answer CommandFault → Type 0) → Option (List ℕ) → PlannedShop → W → Result Answer CommandFault → W → Type 0
+  WithSoundNames Comes names p = IfSound p (WithNames names (serially p) Comes)
+
+  -- `bounds`: both are read, then the names, and what no plan can do with these numbers is told
+  abbrev pub RunsBounds : PairOfFiles → Option (List ℕ) → W → Result Answer CommandFault → W → Type 0
+  RunsBounds pair names = WithBoth pair (λ p. WithSoundNames (λ book. IsOrMemory (AreBoundLines book (times_of p) p.plan.budget)) names p)
+
+  -- `margin`: both are read, then the names, and how much longer everything may take is told
+  abbrev pub RunsMargin : PairOfFiles → Option (List ℕ) → W → Result Answer CommandFault → W → Type 0
+  RunsMargin pair names = WithBoth pair (λ p. IfShaped p (WithNames names p (λ book. IsOrMemory (IsMarginAnswer book p))))
 
   -- both are read, and what is to be said of the plan is found
   abbrev pub Loads : PairOfFiles → W → Result Loaded CommandFault → W → Type 0
@@ -101,40 +147,39 @@ module _ {W : Type 0} (gives : W → List ℕ → Result (List ℕ) CommandFault
   abbrev pub RunsImprove : Asked → ℕ → PairOfFiles → W → Result Answer CommandFault → W → Type 0
   RunsImprove made rounds pair = WithBoth pair (λ p. Told (IsImproveAnswer made rounds (ordered p)))
 
-  -- `decide`: both are read, and what is decided of the plan's budgets is answered
-  abbrev pub RunsDecide : Aim → PairOfFiles → W → Result Answer CommandFault → W → Type 0
-  RunsDecide aim pair = WithBoth pair (λ p. Told (IsDecideAnswer p aim))
+  -- `decide`: both are read, then the names, and what is decided of the plan's budgets is answered
+  abbrev pub RunsDecide : Aim → PairOfFiles → Option (List ℕ) → W → Result Answer CommandFault → W → Type 0
+  RunsDecide aim pair names = WithBoth pair (λ p. WithSoundNames (λ book. IsDecisionAnswer book (whole_case p) aim) names p)
 
   -- the log of a well-shaped plan is asked for, and then this comes of it; any other plan is answered by its first fault
   abbrev pub WithLogOf : (PlannedShop → List ℕ → Result Answer CommandFault → Type 0) → List ℕ → PlannedShop → W → Result Answer CommandFault → W → Type 0
-  WithLogOf Comes path p before outcome after =
-      (IsWellShaped p × Then (Asks gives path) (λ log. Told (Comes p log)) before outcome after)
-      ⊎ Told (IsOrMemory (IsNotShapedLine p)) before outcome after
+  WithLogOf Comes path p = IfShaped p (Then (Asks gives path) (λ log. Told (Comes p log)))
 
-  -- so of a line of this kind
-  abbrev pub WithLog : (PlannedShop → List ℕ → Answer → Type 0) → List ℕ → PlannedShop → W → Result Answer CommandFault → W → Type 0
-  WithLog IsLine = WithLogOf (λ p log. IsOrMemory (IsLine p log))
+  -- `audit` and `gantt`: both are read, then the names, and then the log
+  abbrev pub RunsLog : Telling → PairOfFiles → Option (List ℕ) → List ℕ → W → Result Answer CommandFault → W → Type 0
+  RunsLog telling pair names log = WithBoth pair (λ p. IfShaped p (WithNamesAndLog names log p (λ book. IsLogLine book telling p)))
 
-  -- `audit` and `gantt`: both are read, and then the log
-  abbrev pub RunsLog : Telling → PairOfFiles → List ℕ → W → Result Answer CommandFault → W → Type 0
-  RunsLog telling pair log = WithBoth pair (WithLog (IsLogLine telling) log)
+  -- `check`, `explain` and `schedule` of the rest of a run: both are read, then the names, and then its log
+  abbrev pub RunsRest : PlanTelling → Option ℕ → PairOfFiles → Option (List ℕ) → List ℕ → W → Result Answer CommandFault → W → Type 0
+  RunsRest telling at pair names log =
+      WithBoth pair (λ p. IfShaped p (IfThere (job_asked telling) p (WithNamesAndLog names log p (λ book. IsRestLine book telling at p))))
 
-  -- `check`, `explain` and `schedule` of the rest of a run: both are read, and then its log
-  abbrev pub RunsRest : PlanTelling → Option ℕ → PairOfFiles → List ℕ → W → Result Answer CommandFault → W → Type 0
-  RunsRest telling at pair log = WithBoth pair (WithLog (IsRestLine telling at) log)
+  -- `schedule --moves` of the rest of a run: both are read, then the names, and then its log
+  abbrev pub RunsRestMoves : Option ℕ → PairOfFiles → Option (List ℕ) → List ℕ → W → Result Answer CommandFault → W → Type 0
+  RunsRestMoves at pair names log = WithBoth pair (λ p. IfShaped p (WithNamesAndLog names log p (λ book. AreMovesOfLog book at p)))
 
   -- `improve` of the rest of a run: both are read, then its log where the plan is well shaped, and what the search from this plan comes to is answered, or from the serial plan where it has no orders at all
   abbrev pub WithRest : RestAsked → Option ℕ → ℕ → List ℕ → PlannedShop → W → Result Answer CommandFault → W → Type 0
   WithRest made at rounds = WithLogOf (λ p log. IsRestAnswer made at rounds (ended_lines log) p)
 
-  -- `decide` of the rest of a run: both are read, and then its log
-  abbrev pub WithRestDecision : Aim → Option ℕ → List ℕ → PlannedShop → W → Result Answer CommandFault → W → Type 0
-  WithRestDecision aim at path p before outcome after =
-      (IsWellShaped p × Then (Asks gives path) (λ log. Told (IsRestDecisionAnswer at (ended_lines log) p aim)) before outcome after)
+  -- `decide` of the rest of a run: both are read, then the names, and then its log
+  abbrev pub WithRestDecision : Aim → Option ℕ → Option (List ℕ) → List ℕ → PlannedShop → W → Result Answer CommandFault → W → Type 0
+  WithRestDecision aim at names path p before outcome after =
+      (IsWellShaped p × Then (ReadsNames gives names p) (λ book. Then (Asks gives path) (λ log. Told (IsRestDecisionAnswer book at (ended_lines log) p aim))) before outcome after)
       ⊎ Told (IsOrMemory (IsUnfitLine p)) before outcome after
 
-  abbrev pub RunsDecideRest : Aim → Option ℕ → PairOfFiles → List ℕ → W → Result Answer CommandFault → W → Type 0
-  RunsDecideRest aim at pair log = WithBoth pair (λ p. WithRestDecision aim at log (ordered p))
+  abbrev pub RunsDecideRest : Aim → Option ℕ → PairOfFiles → Option (List ℕ) → List ℕ → W → Result Answer CommandFault → W → Type 0
+  RunsDecideRest aim at pair names log = WithBoth pair (λ p. WithRestDecision aim at names log (ordered p))
 
   abbrev pub RunsImproveRest : RestAsked → Option ℕ → ℕ → PairOfFiles → List ℕ → W → Result Answer CommandFault → W → Type 0
   RunsImproveRest made at rounds pair log = WithBoth pair (λ p. WithRest made at rounds log (ordered p))

@@ -1,6 +1,7 @@
 -- The answers of the command `decide`.
 use Rattle.std.specs.Prelude.{◌≡◌, ◌⊎◌, ℕ, ◌≤◌, List, [], ◌++◌, Option, None, Some, Result, Ok, Err, codes, decimal}
-use Rattle.shop_base.specs.Plan.{PlannedShop, IsWellShaped}
+use Rattle.shop_base.specs.Plan.{PlannedShop}
+use Rattle.people_names.specs.NameBooks.{NameBook}
 use Rattle.plan_text.specs.declared.plan_fault.PlanFault.TheVariants.{NotReadBack}
 use Rattle.plan_text.specs.Lines.{plan_lines}
 use Rattle.plan_text.specs.Documents.{IsPlanText}
@@ -14,19 +15,17 @@ use Rattle.plan_decide.specs.declared.decided.Decided.TheVariants.{Kept, Best, N
 use Rattle.plan_decide.specs.declared.decided.Within.{Within}
 use Rattle.plan_decide.specs.declared.excluded.Excluded.{Excluded}
 use Rattle.plan_decide.specs.Cases.{Case, job_count}
-use Rattle.plan_decide.specs.Pasts.{whole_case, HoldsAfter}
 use Rattle.plan_decide.specs.Promises.{asked_for}
 use Rattle.plan_decide.specs.Excluding.{AreExclusions, NoneIsAlone}
 use Rattle.plan_decide.specs.Decisions.{IsKept, IsBest}
 use Rattle.command_answers.specs.declared.answer.Answer.{Answer}
 use Rattle.command_answers.specs.declared.command_fault.CommandFault.{CommandFault}
 use Rattle.command_answers.specs.declared.command_fault.CommandFault.TheVariants.{Plan, Memory}
-use Rattle.command_answers.specs.BoundLines.{IsBadNumbersLine}
+use Rattle.command_answers.specs.AskedJobs.{no_job_line}
 use Rattle.command_answers.specs.DecisionLines.{never_lines, within_line}
 use Rattle.command_answers.specs.Documents.{IsDocumentOf, IsDocumentAnswer, IsHeadedBy, IsHeadedAnswer}
 use Rattle.command_answers.specs.LogLines.{IsFaultTold, IsLogRefused}
 use Rattle.command_answers.specs.Rests.{IsPastLine}
-use Rattle.command_answers.specs.Serial.{serially}
 use Rattle.command_answers.specs.Steps.{IsOrMemory}
 
 -- the text of an accepted plan that keeps all budgets
@@ -43,10 +42,10 @@ pub record IsBestText (t : Case) (aim : Aim) (answer : Answer) : Type 0 where
   pub text : IsHeadedBy (within_line within) plan.plan 0 answer
 
 -- the lines of jobs that exclude each other
-pub record AreNeverLines (t : Case) (aim : Aim) (answer : Answer) : Type 0 where
+pub record AreNeverLines (names : NameBook) (t : Case) (aim : Aim) (answer : Answer) : Type 0 where
   pub excluded : List Excluded
   pub are : AreExclusions (asked_for t aim) excluded
-  pub lines : answer.text.items ≡ never_lines excluded
+  pub lines : answer.text.items ≡ never_lines names excluded
   pub refused : answer.status ≡ 1
 
 -- the line of what isn't decided
@@ -60,7 +59,7 @@ pub record IsOutOfRangeLine (t : Case) (aim : Aim) (answer : Answer) : Type 0 wh
   pub job : ℕ
   pub aims : aim ≡ Least (Leaving job)
   pub outside : job_count t ≤ job
-  pub line : answer.text.items ≡ codes "bad numbers JobOutOfRange job " ++ decimal job ++ codes "\n"
+  pub line : answer.text.items ≡ no_job_line job
   pub refused : answer.status ≡ 1
 
 -- the fault of a command that the decision's is, if memory ran out
@@ -69,10 +68,10 @@ decide_command_fault WantOfMemory = Some Memory
 decide_command_fault fault = None
 
 -- what is printed where the numbers are sound
-abbrev pub IsDecisionText : Case → Aim → Answer → Type 0
-IsDecisionText t aim answer =
+abbrev pub IsDecisionText : NameBook → Case → Aim → Answer → Type 0
+IsDecisionText names t aim answer =
     IsKeptText t aim answer
-    ⊎ (IsBestText t aim answer ⊎ (AreNeverLines t aim answer ⊎ (IsOpenLine t aim answer ⊎ IsOutOfRangeLine t aim answer)))
+    ⊎ (IsBestText t aim answer ⊎ (AreNeverLines names t aim answer ⊎ (IsOpenLine t aim answer ⊎ IsOutOfRangeLine t aim answer)))
 
 -- a plan that was found has a text that isn't read as this plan
 pub record IsFoundUnread (t : Case) (aim : Aim) : Type 0 where
@@ -81,27 +80,22 @@ pub record IsFoundUnread (t : Case) (aim : Aim) : Type 0 where
   pub unreadable : IsPlanText (plan_lines plan.plan) plan.plan → ⊥
 
 -- what is answered where the numbers are sound: that, or that the plan that was found isn't read back, or out of memory
-abbrev pub IsDecisionAnswer : Case → Aim → Result Answer CommandFault → Type 0
-IsDecisionAnswer t aim (Ok answer) = IsDecisionText t aim answer
-IsDecisionAnswer t aim (Err Memory) = Unit {0}
-IsDecisionAnswer t aim (Err (Plan fault)) = (fault ≡ NotReadBack) × IsFoundUnread t aim
-IsDecisionAnswer t aim (Err other) = ⊥
-
--- what is answered, whatever the plan's orders: the decision where its numbers are sound, else their first fault
-abbrev pub IsDecideAnswer : PlannedShop → Aim → Result Answer CommandFault → Type 0
-IsDecideAnswer p aim outcome =
-    (IsWellShaped (serially p) × IsDecisionAnswer (whole_case p) aim outcome) ⊎ IsOrMemory (IsBadNumbersLine p) outcome
+abbrev pub IsDecisionAnswer : NameBook → Case → Aim → Result Answer CommandFault → Type 0
+IsDecisionAnswer names t aim (Ok answer) = IsDecisionText names t aim answer
+IsDecisionAnswer names t aim (Err Memory) = Unit {0}
+IsDecisionAnswer names t aim (Err (Plan fault)) = (fault ≡ NotReadBack) × IsFoundUnread t aim
+IsDecisionAnswer names t aim (Err other) = ⊥
 
 -- these lines, which refuse
 abbrev pub IsLineRefused : List ℕ → Answer → Type 0
 IsLineRefused text answer = (answer.text.items ≡ text) × (answer.status ≡ 1)
 
 -- what is answered of a decision: its lines, its plan's text, that this isn't read as that plan, or that memory ran out
-abbrev pub IsDecidedAnswer : {K : Type 0} → (K → PlannedShop) → Decided K → Result Answer CommandFault → Type 0
-IsDecidedAnswer planned (Kept plan) = IsDocumentAnswer (planned plan).plan 0
-IsDecidedAnswer planned (Best plan within) = IsHeadedAnswer (within_line within) (planned plan).plan 0
-IsDecidedAnswer planned (Never excluded back) = IsOrMemory (IsLineRefused (never_lines excluded.items))
-IsDecidedAnswer planned (Open back) = IsOrMemory (IsLineRefused (codes "open\n"))
+abbrev pub IsDecidedAnswer : {K : Type 0} → NameBook → (K → PlannedShop) → Decided K → Result Answer CommandFault → Type 0
+IsDecidedAnswer names planned (Kept plan) = IsDocumentAnswer (planned plan).plan 0
+IsDecidedAnswer names planned (Best plan within) = IsHeadedAnswer (within_line within) (planned plan).plan 0
+IsDecidedAnswer names planned (Never excluded back) = IsOrMemory (IsLineRefused (never_lines names excluded.items))
+IsDecidedAnswer names planned (Open back) = IsOrMemory (IsLineRefused (codes "open\n"))
 
 -- a job's leaving is asked for
 abbrev pub AsksForJob : Aim → Type 0
@@ -119,7 +113,7 @@ CanBeTold aim fault = Unit {0}
 abbrev pub out_of_range_line : Aim → List ℕ
 out_of_range_line Promises = []
 out_of_range_line (Least Makespan) = []
-out_of_range_line (Least (Leaving j)) = codes "bad numbers JobOutOfRange job " ++ decimal j ++ codes "\n"
+out_of_range_line (Least (Leaving j)) = no_job_line j
 
 -- what is answered where nothing is decided: the line of a job that isn't of the shop, of the log's first fault, or of a moment that is past; or that memory ran out
 abbrev pub IsUndecidedAnswer : Aim → DecideFault → Result Answer CommandFault → Type 0

@@ -4,6 +4,7 @@ use Rattle.shop_base.specs.declared.shape_fault.ShapeFault.{ShapeFault}
 use Rattle.shop_base.specs.declared.shape_fault.ShapeFault.TheVariants.{OrderCount, JobOutOfRange, NotOnRoute, JobTwice, JobMissing}
 use Rattle.shop_base.specs.Plan.{PlannedShop}
 use Rattle.shop_base.specs.ShapeFault.{IsFirstShapeFault}
+use Rattle.people_names.specs.NameBooks.{NameBook}
 use Rattle.plan_text.specs.declared.plan_fault.PlanFault.TheVariants.{NotReadBack}
 use Rattle.plan_decide.specs.declared.aim.Aim.{Aim}
 use Rattle.plan_decide.specs.Pasts.{whole_case, HoldsAfter}
@@ -30,11 +31,11 @@ pub record IsUnfitLine (p : PlannedShop) (answer : Answer) : Type 0 where
   pub first : IsFirstShapeFault p fault
   pub line : IsLineOfFault (refusal fault) answer
 
-module _ (at : Option ℕ) (lines : List (List ℕ)) (start : PlannedShop) (aim : Aim) where
+module _ (names : NameBook) (at : Option ℕ) (lines : List (List ℕ)) (start : PlannedShop) (aim : Aim) where
   -- what is printed of a plan that is well shaped: what is decided of the rest of the run that the lines tell; or the line of a job that isn't of the shop, of the log's first fault, or of a moment that is past
   abbrev pub IsRestDecisionText : Answer → Type 0
   IsRestDecisionText answer =
-      HoldsAfter lines at start (λ t. IsDecisionText t aim answer)
+      HoldsAfter lines at start (λ t. IsDecisionText names t aim answer)
       ⊎ (IsOutOfRangeLine (whole_case start) aim answer ⊎ (IsLogRefused start lines answer ⊎ IsRestPast at lines start answer))
 
   -- what is answered: that, or that the plan that was found isn't read back, or out of memory

@@ -1,14 +1,16 @@
 -- The lines of what `decide` says.
 use Rattle.std.specs.Prelude.{◌==◌, ℕ, if◌then◌else◌, Bool, List, [], ◌++◌, codes, decimal}
 use Rattle.std.specs.List.{flat_map}
+use Rattle.people_names.specs.NameBooks.{NameBook}
+use Rattle.people_names.specs.Words.{job_word}
 use Rattle.plan_decide.specs.declared.decided.Within.{Within}
 use Rattle.plan_decide.specs.declared.excluded.Excluded.{Excluded}
 use Rattle.plan_decide.specs.declared.excluded.Excluded.TheVariants.{Alone, Pair, Several}
 use Rattle.plan_decide.specs.Excluding.{jobs_in}
 
--- the numbers of the jobs, with a blank before each
-abbrev pub job_words : List ℕ → List ℕ
-job_words js = flat_map (λ j. codes " " ++ decimal j) js
+-- the words of the jobs, with a blank before each
+abbrev pub job_words : NameBook → List ℕ → List ℕ
+job_words names js = flat_map (λ j. codes " " ++ job_word names j) js
 
 -- ` or fewer`, or nothing
 abbrev pub fewer_if : Bool → List ℕ
@@ -20,17 +22,17 @@ fewer_words (Alone j) = []
 fewer_words (Pair i j) = []
 fewer_words (Several js or_fewer) = fewer_if or_fewer
 
--- the numbers of the jobs that exclude each other, and that
-abbrev pub excluded_words : Excluded → List ℕ
-excluded_words e = job_words (jobs_in e) ++ fewer_words e
+-- the words of the jobs that exclude each other, and that
+abbrev pub excluded_words : NameBook → Excluded → List ℕ
+excluded_words names e = job_words names (jobs_in e) ++ fewer_words e
 
 -- `never jobs J0 J1 ..`
-abbrev pub never_line : Excluded → List ℕ
-never_line e = codes "never jobs" ++ excluded_words e ++ codes "\n"
+abbrev pub never_line : NameBook → Excluded → List ℕ
+never_line names e = codes "never jobs" ++ excluded_words names e ++ codes "\n"
 
 -- one such line for each
-abbrev pub never_lines : List Excluded → List ℕ
-never_lines es = flat_map never_line es
+abbrev pub never_lines : NameBook → List Excluded → List ℕ
+never_lines names es = flat_map (never_line names) es
 
 -- `# least X`
 abbrev pub least_line : ℕ → List ℕ

@@ -7,12 +7,16 @@ pub mod Instances
 pub mod Facts
 pub mod Plans
 pub mod Readings
+pub mod Naming
 pub mod Shapes
+pub mod AskedJobs
+pub mod Digests
 pub mod Checks
 pub mod Explains
 pub mod Timetables
 pub mod Serial
 pub mod BoundLines
+pub mod Margins
 pub mod Documents
 pub mod Search
 pub mod Improving
@@ -20,6 +24,7 @@ pub mod DecisionLines
 pub mod Deciding
 pub mod LogLines
 pub mod Rests
+pub mod Moves
 pub mod ImprovingRests
 pub mod Revising
 pub mod DecidingRests

@@ -7,6 +7,7 @@ use Rattle.run_log.specs.declared.audit_fault.AuditFault.{AuditFault}
 use Rattle.run_log.specs.declared.audit_fault.AuditFault.TheVariants.{Memory}
 use Rattle.run_log.specs.Audits.{IsAudit, IsFirstBad, fault_line}
 use Rattle.run_log.specs.AuditNames.{fault_name}
+use Rattle.people_names.specs.NameBooks.{NameBook}
 use Rattle.run_gantt.specs.GanttText.{gantt_text}
 use Rattle.command_answers.specs.declared.answer.Answer.{Answer}
 use Rattle.command_answers.specs.declared.command_fault.CommandFault.{CommandFault}
@@ -29,18 +30,18 @@ abbrev pub log_refused_line : ℕ → List ℕ → List ℕ
 log_refused_line line name = codes "log refused " ++ decimal line ++ codes " " ++ name ++ codes "\n"
 
 -- what is told of a run: its numbers, or its Gantt text
-abbrev pub run_text : Telling → PlannedShop → Audit → List ℕ
-run_text Numbers p run = kept_line run
-run_text Drawing p run = gantt_text (machines p) run.entries.items
+abbrev pub run_text : NameBook → Telling → PlannedShop → Audit → List ℕ
+run_text names Numbers p run = kept_line run
+run_text names Drawing p run = gantt_text names (machines p) run.entries.items
 
-abbrev pub IsRunTold : Telling → PlannedShop → Audit → Answer → Type 0
-IsRunTold telling p run answer = (answer.text.items ≡ run_text telling p run) × (answer.status ≡ 0)
+abbrev pub IsRunTold : NameBook → Telling → PlannedShop → Audit → Answer → Type 0
+IsRunTold names telling p run answer = (answer.text.items ≡ run_text names telling p run) × (answer.status ≡ 0)
 
 -- what is told of a log that tells a run of the plan
-pub record IsLogKept (telling : Telling) (p : PlannedShop) (log : List ℕ) (answer : Answer) : Type 0 where
+pub record IsLogKept (names : NameBook) (telling : Telling) (p : PlannedShop) (log : List ℕ) (answer : Answer) : Type 0 where
   pub run : Audit
   pub is : IsAudit p (lines_of log) run
-  pub told : IsRunTold telling p run answer
+  pub told : IsRunTold names telling p run answer
 
 -- the line of a fault
 abbrev pub IsFaultLine : AuditFault → Answer → Type 0
@@ -53,8 +54,8 @@ pub record IsLogRefused (p : PlannedShop) (lines : List (List ℕ)) (answer : An
   pub line : IsFaultLine fault answer
 
 -- what is told of a log
-abbrev pub IsLogLine : Telling → PlannedShop → List ℕ → Answer → Type 0
-IsLogLine telling p log answer = IsLogKept telling p log answer ⊎ IsLogRefused p (lines_of log) answer
+abbrev pub IsLogLine : NameBook → Telling → PlannedShop → List ℕ → Answer → Type 0
+IsLogLine names telling p log answer = IsLogKept names telling p log answer ⊎ IsLogRefused p (lines_of log) answer
 
 -- the fault of a command that the audit's is, if memory ran out
 abbrev pub audit_command_fault : AuditFault → Option CommandFault

@@ -6,6 +6,7 @@ use Rattle.shop_base.specs.Run.{ends_in}
 use Rattle.text_lines.specs.Lines.{lines_of, ended_lines}
 use Rattle.cell_tables.specs.declared.entry.Entry.{Entry}
 use Rattle.cell_tables.specs.Events.{events_of}
+use Rattle.people_names.specs.NameBooks.{NameBook, no_names}
 use Rattle.run_picture.specs.declared.head.Head.{Head}
 use Rattle.run_picture.specs.declared.head.Head.TheVariants.{Accepted as InTime, Late as TooLate, Log}
 use Rattle.run_picture.specs.declared.head.Sheet.{Sheet}
@@ -28,12 +29,11 @@ use Rattle.command_answers.specs.declared.answer.Answer.{Answer}
 use Rattle.command_answers.specs.declared.command_fault.CommandFault.{CommandFault}
 use Rattle.command_answers.specs.declared.pictures.Drawn.{Drawn}
 use Rattle.command_answers.specs.declared.pictures.Drawn.TheVariants.{Picture, Line}
-use Rattle.command_answers.specs.Steps.{Then, Told, IsOrMemory}
-use Rattle.command_answers.specs.Texts.{Asks}
+use Rattle.command_answers.specs.Steps.{Told, IsOrMemory}
 use Rattle.command_answers.specs.Shapes.{IsNotShapedLine}
 use Rattle.command_answers.specs.LogLines.{IsLogRefused}
 use Rattle.command_answers.specs.Rests.{IsPastLine, present_at}
-use Rattle.command_answers.specs.Commands.{PairOfFiles, WithBoth}
+use Rattle.command_answers.specs.Commands.{PairOfFiles, WithBoth, WithNames, WithNamesAndLog}
 
 -- nothing is drawn, but there is such a line
 abbrev pub IsLineAlone : (Answer → Type 0) → Drawn → Type 0
@@ -56,14 +56,14 @@ abbrev pub log_sheet : PlannedShop → Audit → Sheet
 log_sheet p run = record { machines = machines p; last = run.last; head = Log run.last run.complete; present = None }
 
 -- the picture of the run that a log tells: its visits, up to its last moment, and the jobs that have left late marked
-pub record IsLogPicture (p : PlannedShop) (log picture : List ℕ) : Type 0 where
+pub record IsLogPicture (names : NameBook) (p : PlannedShop) (log picture : List ℕ) : Type 0 where
   pub run : Audit
   pub is : IsAudit p (lines_of log) run
-  pub drawn : IsPicture (log_sheet p run) (drawn_visits p run.entries.items) (late_leavings p (leavings_told (jobs p) run.entries.items)) picture
+  pub drawn : IsPicture names (log_sheet p run) (drawn_visits p run.entries.items) (late_leavings p (leavings_told (jobs p) run.entries.items)) picture
 
 -- what comes of a log: its picture, or the line of its first fault
-abbrev pub IsLogDrawn : PlannedShop → List ℕ → Drawn → Type 0
-IsLogDrawn p log drawn = IsPictureAlone (IsLogPicture p log) 0 drawn ⊎ IsLineAlone (IsLogRefused p (lines_of log)) drawn
+abbrev pub IsLogDrawn : NameBook → PlannedShop → List ℕ → Drawn → Type 0
+IsLogDrawn names p log drawn = IsPictureAlone (IsLogPicture names p log) 0 drawn ⊎ IsLineAlone (IsLogRefused p (lines_of log)) drawn
 
 -- ---- the exact run, from any cell on
 
@@ -81,12 +81,12 @@ run_sheet p t line in_time run = record {
   present = line;
 }
 
-module _ (p : PlannedShop) (c : Cell) (t : ℕ) (line : Option ℕ) (told : List DrawnVisit) where
+module _ (names : NameBook) (p : PlannedShop) (c : Cell) (t : ℕ) (line : Option ℕ) (told : List DrawnVisit) where
   -- the picture of the run that goes on from a cell c and the present moment t: the visits told so far and those ahead, and the jobs that leave or have left late marked
   pub record IsRunPicture (in_time : Bool) (picture : List ℕ) : Type 0 where
     pub run : DrawnRun
     pub is : IsDrawnRun p c t told run
-    pub drawn : IsPicture (run_sheet p t line in_time run) run.visits.items (late_leavings p run.leavings.items) picture
+    pub drawn : IsPicture names (run_sheet p t line in_time run) run.visits.items (late_leavings p run.leavings.items) picture
 
   -- what comes of a verdict: a picture with the verdict's status, but of a cycle the line of the verdict
   abbrev pub IsVerdictDrawn : Judged → Drawn → Type 0
@@ -101,8 +101,12 @@ module _ (p : PlannedShop) (c : Cell) (t : ℕ) (line : Option ℕ) (told : List
     pub is : IsVerdictDrawn verdict drawn
 
 -- what comes of a well-shaped plan: the whole of it is the rest of a run that hasn't begun
-abbrev pub IsPlanDrawn : PlannedShop → Drawn → Type 0
-IsPlanDrawn p drawn = IsRestDrawn p (start p) 0 None [] drawn ⊎ IsUnshapedDrawn p drawn
+abbrev pub IsPlanDrawn : NameBook → PlannedShop → Drawn → Type 0
+IsPlanDrawn names p = IsRestDrawn names p (start p) 0 None []
+
+-- what comes of any plan without names: so, or the line of its first fault
+abbrev pub IsAnyPlanDrawn : PlannedShop → Drawn → Type 0
+IsAnyPlanDrawn p drawn = IsPlanDrawn no_names p drawn ⊎ IsUnshapedDrawn p drawn
 
 -- the present moment has a line, unless no moment is given and the log tells nothing
 abbrev pub line_at : Option ℕ → List Entry → ℕ → Option ℕ
@@ -111,35 +115,33 @@ line_at None (entry ∷ entries) t = Some t
 line_at (Some given) entries t = Some t
 
 -- what comes of the cell at the end of these entries: that the present moment is past, or else the rest from there
-abbrev pub IsCellDrawn : Option ℕ → PlannedShop → Cell → List Entry → Drawn → Type 0
-IsCellDrawn at p c entries drawn =
+abbrev pub IsCellDrawn : Option ℕ → NameBook → PlannedShop → Cell → List Entry → Drawn → Type 0
+IsCellDrawn at names p c entries drawn =
     ((present_at at c < c.last) × IsLineAlone (IsPastLine c.last) drawn)
-    ⊎ ((c.last ≤ present_at at c) × IsRestDrawn p c (present_at at c) (line_at at entries (present_at at c)) (drawn_visits p entries) drawn)
+    ⊎ ((c.last ≤ present_at at c) × IsRestDrawn names p c (present_at at c) (line_at at entries (present_at at c)) (drawn_visits p entries) drawn)
 
 -- what comes of a log whose whole lines tell a run of the plan: the run that goes on from the cell at its end
-pub record IsRestOfLogDrawn (at : Option ℕ) (p : PlannedShop) (log : List ℕ) (drawn : Drawn) : Type 0 where
+pub record IsRestOfLogDrawn (at : Option ℕ) (names : NameBook) (p : PlannedShop) (log : List ℕ) (drawn : Drawn) : Type 0 where
   pub run : TellRun p (ended_lines log)
-  pub is : IsCellDrawn at p (ends_in p (events_of run.0)) run.0 drawn
+  pub is : IsCellDrawn at names p (ends_in p (events_of run.0)) run.0 drawn
 
 -- what comes of a log: so, or the line of the first fault of its whole lines
-abbrev pub IsRestDrawing : Option ℕ → PlannedShop → List ℕ → Drawn → Type 0
-IsRestDrawing at p log drawn = IsRestOfLogDrawn at p log drawn ⊎ IsLineAlone (IsLogRefused p (ended_lines log)) drawn
+abbrev pub IsRestDrawing : Option ℕ → NameBook → PlannedShop → List ℕ → Drawn → Type 0
+IsRestDrawing at names p log drawn = IsRestOfLogDrawn at names p log drawn ⊎ IsLineAlone (IsLogRefused p (ended_lines log)) drawn
+
+-- where a plan is well shaped there is this step; else the line of its first fault
+abbrev pub IfDrawable : {W : Type 0} → PlannedShop → (W → Result Drawn CommandFault → W → Type 0) → W → Result Drawn CommandFault → W → Type 0
+IfDrawable p next before outcome after = (IsWellShaped p × next before outcome after) ⊎ Told (IsOrMemory (IsUnshapedDrawn p)) before outcome after
 
 module _ {W : Type 0} (gives : W → List ℕ → Result (List ℕ) CommandFault → W → Type 0) where
-  -- the log of a well-shaped plan is asked for, and then drawn so; any other plan is answered by its first fault
-  abbrev pub WithDrawnLog : (PlannedShop → List ℕ → Drawn → Type 0) → List ℕ → PlannedShop → W → Result Drawn CommandFault → W → Type 0
-  WithDrawnLog IsDrawing path p before outcome after =
-      (IsWellShaped p × Then (Asks gives path) (λ log. Told (IsOrMemory (IsDrawing p log))) before outcome after)
-      ⊎ Told (IsOrMemory (IsUnshapedDrawn p)) before outcome after
+  -- `gantt --svg`: both are read, then the names, and then the log
+  abbrev pub DrawsLog : PairOfFiles → Option (List ℕ) → List ℕ → W → Result Drawn CommandFault → W → Type 0
+  DrawsLog pair names log = WithBoth gives pair (λ p. IfDrawable p (WithNamesAndLog gives names log p (λ book. IsLogDrawn book p)))
 
-  -- `gantt --svg`: both are read, and then the log
-  abbrev pub DrawsLog : PairOfFiles → List ℕ → W → Result Drawn CommandFault → W → Type 0
-  DrawsLog pair log = WithBoth gives pair (WithDrawnLog IsLogDrawn log)
+  -- `schedule --svg`: both are read, then the names, and the plan's exact run is drawn
+  abbrev pub DrawsSchedule : PairOfFiles → Option (List ℕ) → W → Result Drawn CommandFault → W → Type 0
+  DrawsSchedule pair names = WithBoth gives pair (λ p. IfDrawable p (WithNames gives names p (λ book. IsOrMemory (IsPlanDrawn book p))))
 
-  -- `schedule --svg`: both are read, and the plan's exact run is drawn
-  abbrev pub DrawsSchedule : PairOfFiles → W → Result Drawn CommandFault → W → Type 0
-  DrawsSchedule pair = WithBoth gives pair (λ p. Told (IsOrMemory (IsPlanDrawn p)))
-
-  -- `schedule --svg` of the rest of a run: both are read, and then its log
-  abbrev pub DrawsRest : Option ℕ → PairOfFiles → List ℕ → W → Result Drawn CommandFault → W → Type 0
-  DrawsRest at pair log = WithBoth gives pair (WithDrawnLog (IsRestDrawing at) log)
+  -- `schedule --svg` of the rest of a run: both are read, then the names, and then its log
+  abbrev pub DrawsRest : Option ℕ → PairOfFiles → Option (List ℕ) → List ℕ → W → Result Drawn CommandFault → W → Type 0
+  DrawsRest at pair names log = WithBoth gives pair (λ p. IfDrawable p (WithNamesAndLog gives names log p (λ book. IsRestDrawing at book p)))

@@ -1,5 +1,5 @@
 -- The answers of `check`, `explain` and `schedule` of the rest of a run.
-use Rattle.std.specs.Prelude.{◌≡◌, ℕ, ◌<◌, ◌≤◌, List, ◌++◌, ◌⊎◌, Option, codes, decimal, unwrap_or}
+use Rattle.std.specs.Prelude.{◌≡◌, ℕ, ◌<◌, ◌≤◌, List, ◌++◌, ◌⊎◌, Option, None, codes, decimal, unwrap_or}
 use Rattle.shop_base.specs.Plan.{PlannedShop}
 use Rattle.shop_base.specs.Cell.{Cell}
 use Rattle.shop_base.specs.Run.{ends_in}
@@ -8,6 +8,7 @@ use Rattle.cell_tables.specs.Events.{events_of}
 use Rattle.run_log.specs.Audits.{TellRun}
 use Rattle.plan_verifier.specs.declared.verdict.Judged.{Judged}
 use Rattle.plan_verifier.specs.declared.verdict.Judged.TheVariants.{Accepted, Refused}
+use Rattle.people_names.specs.NameBooks.{NameBook}
 use Rattle.plan_explain.specs.RestVerdicts.{IsRestJudged}
 use Rattle.plan_explain.specs.RestFirstLines.{IsRestFirstLine}
 use Rattle.plan_explain.specs.RestExplained.{IsRestExplained}
@@ -22,17 +23,23 @@ abbrev pub rest_status : Judged → ℕ
 rest_status (Accepted times) = 0
 rest_status (Refused why) = 1
 
+-- the job whose chain is asked for, if there is one
+abbrev pub job_asked : PlanTelling → Option ℕ
+job_asked Verdict = None
+job_asked (Reasons told) = told
+job_asked Moments = None
+
 -- the text of a verdict on the rest: its first line, its explanation or its schedule
-abbrev pub IsTextOf : PlanTelling → PlannedShop → Cell → ℕ → Judged → List ℕ → Type 0
-IsTextOf Verdict p c t verdict text = IsRestFirstLine p c t verdict text
-IsTextOf Reasons p c t verdict text = IsRestExplained p c t verdict text
-IsTextOf Moments p c t verdict text = IsRestScheduled p c t verdict text
+abbrev pub IsTextOf : NameBook → PlanTelling → PlannedShop → Cell → ℕ → Judged → List ℕ → Type 0
+IsTextOf names Verdict p c t verdict text = IsRestFirstLine p c t verdict text
+IsTextOf names (Reasons told) p c t verdict text = IsRestExplained names told p c t verdict text
+IsTextOf names Moments p c t verdict text = IsRestScheduled names p c t verdict text
 
 -- what is told of the rest from a cell c and a present moment t on: the text of the verdict on it, with its status
-pub record IsRestTold (telling : PlanTelling) (p : PlannedShop) (c : Cell) (t : ℕ) (answer : Answer) : Type 0 where
+pub record IsRestTold (names : NameBook) (telling : PlanTelling) (p : PlannedShop) (c : Cell) (t : ℕ) (answer : Answer) : Type 0 where
   pub verdict : Judged
   pub judged : IsRestJudged p c t verdict
-  pub text : IsTextOf telling p c t verdict answer.text.items
+  pub text : IsTextOf names telling p c t verdict answer.text.items
   pub status : answer.status ≡ rest_status verdict
 
 -- `log past L`
@@ -47,16 +54,20 @@ IsPastLine last answer = (answer.text.items ≡ log_past_line last) × (answer.s
 abbrev pub present_at : Option ℕ → Cell → ℕ
 present_at at c = unwrap_or at c.last
 
--- what is told of the rest from a cell on: that the present moment is past, or else the rest from there
-abbrev pub IsCellTold : PlanTelling → Option ℕ → PlannedShop → Cell → Answer → Type 0
-IsCellTold telling at p c answer =
-    ((present_at at c < c.last) × IsPastLine c.last answer) ⊎ ((c.last ≤ present_at at c) × IsRestTold telling p c (present_at at c) answer)
+-- what is told from a cell on: that the present moment is past, or else this from there
+abbrev pub IsCellTold : (PlannedShop → Cell → ℕ → Answer → Type 0) → Option ℕ → PlannedShop → Cell → Answer → Type 0
+IsCellTold IsTold at p c answer =
+    ((present_at at c < c.last) × IsPastLine c.last answer) ⊎ ((c.last ≤ present_at at c) × IsTold p c (present_at at c) answer)
 
 -- what is told of a log whose whole lines tell a run of the plan: that of the cell at its end
-pub record IsRestOfLog (telling : PlanTelling) (at : Option ℕ) (p : PlannedShop) (log : List ℕ) (answer : Answer) : Type 0 where
+pub record IsRestOfLog (IsTold : PlannedShop → Cell → ℕ → Answer → Type 0) (at : Option ℕ) (p : PlannedShop) (log : List ℕ) (answer : Answer) : Type 0 where
   pub run : TellRun p (ended_lines log)
-  pub told : IsCellTold telling at p (ends_in p (events_of run.0)) answer
+  pub told : IsCellTold IsTold at p (ends_in p (events_of run.0)) answer
 
 -- what is told of a log: so, or the line of the first fault of its whole lines
-abbrev pub IsRestLine : PlanTelling → Option ℕ → PlannedShop → List ℕ → Answer → Type 0
-IsRestLine telling at p log answer = IsRestOfLog telling at p log answer ⊎ IsLogRefused p (ended_lines log) answer
+abbrev pub IsLogTold : (PlannedShop → Cell → ℕ → Answer → Type 0) → Option ℕ → PlannedShop → List ℕ → Answer → Type 0
+IsLogTold IsTold at p log answer = IsRestOfLog IsTold at p log answer ⊎ IsLogRefused p (ended_lines log) answer
+
+-- so of the rest
+abbrev pub IsRestLine : NameBook → PlanTelling → Option ℕ → PlannedShop → List ℕ → Answer → Type 0
+IsRestLine names telling = IsLogTold (IsRestTold names telling)

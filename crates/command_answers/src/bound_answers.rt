@@ -6,14 +6,16 @@ ghost use Rattle.plan_bounds.specs.Bounds.{times_of};
 ghost use Rattle.command_answers.specs.Readings.{AreTextsAnswered};
 ghost use Rattle.command_answers.specs.BoundLines.{AreBounds, AreBoundLines, IsBoundsStatus};
 ghost use Rattle.command_answers.specs.Steps.{IsOrMemory};
-ghost use Rattle.command_answers.specs.Commands.{RunsBounds};
+ghost use Rattle.command_answers.specs.Commands.{RunsBounds, WithSoundNames};
 
 use crate::answer::{Answer, Answered, GOOD, REFUSED};
 use crate::both::{Both, Pair, read_both, serially};
 use crate::bound_lines::{push_bound_lines, push_makespan_line};
-use crate::lines::fault_answer;
+use crate::lines::bad_numbers_answer;
+use crate::naming::names_of;
 use crate::readings::{load_instance, load_plan};
 use crate::texts::Texts;
+use people_names::Names;
 use plan_bounds::{job_bound, least_makespan};
 use shop_base::Shaped;
 use std::alloc::{AllocError, Global};
@@ -29,31 +31,55 @@ pub fn bounds(alloc: Global, instance: &[u8], name: Option<&[u8]>, plan: &[u8]) 
     both_bounded(alloc, Both { shop, plan })
 }
 
-/// What no plan can do for the instance of a file with the releases and the cleaning times of the plan of another.
-pub fn bounds_answer<T: Texts>(alloc: Global, texts: &mut T, pair: &Pair<'_>) -> Answered
-    ensures { RunsBounds T.gives pair.now texts.old result texts.new }
+/// What no plan can do for the instance of a file with the releases and the cleaning times of the plan of another, with
+/// the names and the clock of a third, which is read once the numbers are sound.
+pub fn bounds_answer<T: Texts>(
+    alloc: Global,
+    texts: &mut T,
+    pair: &Pair<'_>,
+    names: Option<&str>,
+) -> Answered
+    ensures { RunsBounds T.gives pair.now (option_copied names.entry) texts.old result texts.new }
 {
     let both = read_both(alloc, texts, pair)?;
-    both_bounded(alloc, both)
+    named_bounded(alloc, texts, both, names)
 }
 
 /// The bounds for a shop with the numbers of a plan, if these are sound, else their first fault.
+fn named_bounded<T: Texts>(
+    alloc: Global,
+    texts: &mut T,
+    both: Both,
+    names: Option<&str>,
+) -> Answered
+    ensures { WithSoundNames T.gives (λ book. IsOrMemory (AreBoundLines book (times_of both) both.plan.budget)) (option_copied names.entry) both texts.old result texts.new }
+{
+    match serially(alloc, both)?.shaped() {
+        Ok(shaped) => {
+            let names = names_of(alloc, texts, names, &shaped)?;
+            Ok(shaped_bounded(alloc, &names, &shaped)?)
+        }
+        Err(fault) => Ok(bad_numbers_answer(alloc, fault)?),
+    }
+}
+
+/// The same without names.
 fn both_bounded(alloc: Global, both: Both) -> Answered
     ensures { IsOrMemory (AreBounds both) result }
 {
     match serially(alloc, both)?.shaped() {
-        Ok(shaped) => Ok(shaped_bounded(alloc, &shaped)?),
-        Err(fault) => Ok(fault_answer(alloc, b"bad numbers ", fault)?),
+        Ok(shaped) => Ok(shaped_bounded(alloc, &Names::none(alloc), &shaped)?),
+        Err(fault) => Ok(bad_numbers_answer(alloc, fault)?),
     }
 }
 
 /// The lines of the bounds.
-fn shaped_bounded(alloc: Global, shaped: &Shaped) -> Result<Answer, AllocError>
-    ensures { IfOk result (AreBoundLines (times_of shaped.now) shaped.now.plan.budget) }
+fn shaped_bounded(alloc: Global, names: &Names, shaped: &Shaped) -> Result<Answer, AllocError>
+    ensures { IfOk result (AreBoundLines names.now (times_of shaped.now) shaped.now.plan.budget) }
 {
     let (mut text, status) = (Vec::new(alloc), bounds_status(shaped));
-    push_makespan_line(&mut text, &least_makespan(shaped))?;
-    push_bound_lines(&mut text, shaped)?;
+    push_makespan_line(&mut text, names, &least_makespan(shaped))?;
+    push_bound_lines(&mut text, names, shaped)?;
     Ok(Answer { text, status })
 }
 

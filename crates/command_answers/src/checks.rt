@@ -3,7 +3,7 @@
 ghost use Rattle.std.specs.Prelude.{◌≡◌, IfOk};
 ghost use Rattle.std.specs.Option.{option_copied};
 ghost use Rattle.command_answers.specs.Readings.{AreTextsAnswered};
-ghost use Rattle.command_answers.specs.Checks.{IsCheckLine, IsLineOf, verdict_status};
+ghost use Rattle.command_answers.specs.Checks.{IsCheckLine, IsLineOf, IsLineOfVerdict, verdict_status};
 ghost use Rattle.command_answers.specs.Commands.{RunsCheck};
 
 use crate::answer::{Answer, Answered, GOOD, REFUSED};
@@ -40,12 +40,17 @@ pub fn loaded_answer(alloc: Global, loaded: &Loaded) -> Result<Answer, AllocErro
 {
     match loaded {
         Loaded::NotShaped(fault) => not_shaped_answer(alloc, *fault),
-        Loaded::Judged(verdict) => {
-            let text = first_line(alloc, verdict)?;
-            let status = status_of(verdict);
-            Ok(Answer { text, status })
-        }
+        Loaded::Judged(verdict) => verdict_answer(alloc, verdict),
     }
+}
+
+/// The first line of a verdict, with its status.
+pub(crate) fn verdict_answer(alloc: Global, verdict: &Verdict) -> Result<Answer, AllocError>
+    ensures { IfOk result (IsLineOfVerdict verdict.now) }
+{
+    let text = first_line(alloc, verdict)?;
+    let status = status_of(verdict);
+    Ok(Answer { text, status })
 }
 
 /// The status of a verdict.

@@ -3,14 +3,18 @@ ghost use Rattle.command_answers.specs.declared.command_fault.CommandFault.TheVa
 ghost use Rattle.command_answers.specs.Reading.{IsFaultOfSystem};
 ghost use Rattle.command_answers.specs.Instances.{instance_command_fault};
 ghost use Rattle.command_answers.specs.Plans.{plan_command_fault};
+ghost use Rattle.command_answers.specs.Naming.{names_command_fault};
 ghost use Rattle.command_answers.specs.Search.{search_command_fault};
 ghost use Rattle.command_answers.specs.ImprovingRests.{improve_command_fault};
 ghost use Rattle.command_answers.specs.Deciding.{decide_command_fault};
 ghost use Rattle.command_answers.specs.LogLines.{audit_command_fault};
+ghost use Rattle.command_answers.specs.Moves.{moves_command_fault};
 ghost use Rattle.command_answers.specs.Revising.{unrevised_of, unwritten_fault};
 ghost use Rattle.command_answers.specs.Statuses.{status_of};
 
+use cell_control::RestFault;
 use orlib_read::{NotWritten, OrFault};
+use people_names::NamesFault;
 use plan_decide::DecideFault;
 use plan_improve::ImproveFault;
 use plan_revise::{ChangeFault, NotRevised};
@@ -22,7 +26,7 @@ use std::io::{self, ErrorKind};
 use thiserror::Error;
 
 /// Why a command has no answer. `Memory` may come in place of any other answer.
-#[derive(Clone, Copy, Debug, PartialEq, Eq, Error)]
+#[derive(Debug, Drop, Error)]
 pub enum CommandFault {
     /// The instance's text is refused, for another cause than memory.
     #[error("Instance {0}")]
@@ -30,6 +34,9 @@ pub enum CommandFault {
     /// The plan's text is refused, for another cause than memory.
     #[error("Plan {0}")]
     Plan(PlanFault),
+    /// The text of names is refused, for another cause than memory.
+    #[error("Names {0}")]
+    Names(NamesFault),
     /// A file or the input can't be opened or read.
     #[error("Read")]
     Read,
@@ -91,6 +98,17 @@ impl From<PlanFault> for CommandFault {
     }
 }
 
+impl From<NamesFault> for CommandFault {
+    ghost from_gives = { λ told fault. fault ≡ names_command_fault told };
+
+    fn from(told: NamesFault) -> CommandFault {
+        match told {
+            NamesFault::Memory => CommandFault::Memory,
+            _ => CommandFault::Names(told),
+        }
+    }
+}
+
 impl From<NotWritten> for CommandFault {
     ghost from_gives = { λ told fault. fault ≡ unwritten_fault told };
 
@@ -120,7 +138,8 @@ impl From<NotRevised> for Unrevised {
     }
 }
 
-/// The fault of a command that a fault of a search, of a decision or of the audit is: out of memory. Each other one has an answer.
+/// The fault of a command that a fault of a search, of a decision, of the moves or of the audit is: out of memory. Each other one
+/// has an answer.
 #[derive(Drop)]
 pub(crate) struct Unanswered(pub Option<CommandFault>);
 
@@ -168,13 +187,24 @@ impl From<AuditFault> for Unanswered {
     }
 }
 
+impl From<RestFault> for Unanswered {
+    ghost from_gives = { λ told unanswered. unanswered.0 ≡ moves_command_fault told };
+
+    fn from(told: RestFault) -> Unanswered {
+        match told {
+            RestFault::Memory => Unanswered(Some(CommandFault::Memory)),
+            _ => Unanswered(None),
+        }
+    }
+}
+
 impl CommandFault {
     /// The status that the program ends with at this fault.
     pub fn status(&self) -> u8
         ensures { result ≡ status_of self.now }
     {
         match self {
-            CommandFault::Instance(_) | CommandFault::Plan(_) => 3,
+            CommandFault::Instance(_) | CommandFault::Plan(_) | CommandFault::Names(_) => 3,
             CommandFault::Memory => 4,
             CommandFault::Read
             | CommandFault::Write

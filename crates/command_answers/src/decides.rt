@@ -1,87 +1,103 @@
 //! The command `decide`.
 
 ghost use Rattle.std.specs.Prelude.{◌≡◌, IfOk, None};
+ghost use Rattle.std.specs.Option.{option_copied};
 ghost use Rattle.plan_decide.specs.Pasts.{whole_case};
-ghost use Rattle.command_answers.specs.Deciding.{AsksForJob, CanBeTold, IsDecideAnswer, IsDecidedAnswer, IsDecisionAnswer, IsLineRefused, IsUndecidedAnswer, decide_command_fault, out_of_range_line};
+ghost use Rattle.command_answers.specs.Deciding.{AsksForJob, CanBeTold, IsDecidedAnswer, IsDecisionAnswer, IsLineRefused, IsUndecidedAnswer, decide_command_fault, out_of_range_line};
 ghost use Rattle.command_answers.specs.DecisionLines.{never_lines, within_line};
 ghost use Rattle.command_answers.specs.Documents.{IsHeadedAnswer};
-ghost use Rattle.command_answers.specs.Commands.{RunsDecide};
+ghost use Rattle.command_answers.specs.Commands.{RunsDecide, WithSoundNames};
 
 use crate::answer::{Answer, Answered, GOOD, REFUSED};
+use crate::asked_job::no_job_answer;
 use crate::both::{Both, Pair, read_both, serially};
 use crate::command_fault::Unanswered;
 use crate::decision_lines::{push_never_lines, push_within_line};
-use crate::lines::{document_answer, fault_answer, headed_answer, line_answer, push_fact};
+use crate::lines::{bad_numbers_answer, document_answer, headed_answer, line_answer};
 use crate::logs::fault_told;
+use crate::naming::names_of;
 use crate::rests::past_answer;
 use crate::texts::Texts;
 use arc_choice::Choose;
+use people_names::Names;
 use plan_decide::{Aim, DecideFault, Decided, Excluded, Objective, Watch, Within, decide};
 use shop_base::{Plan, Planned, Shaped};
 use std::alloc::{AllocError, Global};
 
 /// Whether any plan with the releases, budgets and cleaning times of the one in a file keeps all budgets, for the
 /// instance of another file, by complete searches of at most so many choices each. The orders of the given plan are
-/// read and not used. Where no plan keeps them, there is a line of jobs that exclude each other, or more than one. The
-/// words after `bad numbers ` are in no clause, but for those of a job that isn't of the shop. The text of a plan is
-/// read again: if it isn't that plan's, the fault is `NotReadBack`.
+/// read and not used. Where no plan keeps them, there is a line of jobs that exclude each other, or more than one, with
+/// their names where the file of names, which is read once the numbers are sound, has some. The words after
+/// `bad numbers ` are in no clause, but for those of a job that isn't of the shop. The text of a plan is read again: if it
+/// isn't that plan's, the fault is `NotReadBack`.
 pub fn decide_answer<T: Texts, C: Choose, W: Watch>(
     alloc: Global,
     texts: &mut T,
     pair: &Pair<'_>,
+    names: Option<&str>,
     aim: Aim,
     choices: u64,
     chooser: &mut C,
     watch: &mut W,
 ) -> Answered
-    ensures { RunsDecide T.gives aim pair.now texts.old result texts.new }
+    ensures { RunsDecide T.gives aim pair.now (option_copied names.entry) texts.old result texts.new }
 {
     let both = read_both(alloc, texts, pair)?;
-    both_decided(alloc, both, aim, choices, chooser, watch)
+    both_decided(alloc, texts, both, names, aim, choices, chooser, watch)
 }
 
 /// What is decided for a shop with the numbers of a plan, if these are sound, else their first fault.
-fn both_decided<C: Choose, W: Watch>(
+fn both_decided<T: Texts, C: Choose, W: Watch>(
     alloc: Global,
+    texts: &mut T,
     both: Both,
+    names: Option<&str>,
     aim: Aim,
     choices: u64,
     chooser: &mut C,
     watch: &mut W,
 ) -> Answered
-    ensures { IsDecideAnswer both aim result }
+    ensures { WithSoundNames T.gives (λ book. IsDecisionAnswer book (whole_case both) aim) (option_copied names.entry) both texts.old result texts.new }
 {
     match serially(alloc, both)?.shaped() {
-        Ok(shaped) => shaped_decided(alloc, shaped, aim, choices, chooser, watch),
-        Err(fault) => Ok(fault_answer(alloc, b"bad numbers ", fault)?),
+        Ok(shaped) => {
+            let names = names_of(alloc, texts, names, &shaped)?;
+            shaped_decided(alloc, &names, shaped, aim, choices, chooser, watch)
+        }
+        Err(fault) => Ok(bad_numbers_answer(alloc, fault)?),
     }
 }
 
 /// What is decided for a shop with the numbers of this plan.
 fn shaped_decided<C: Choose, W: Watch>(
     alloc: Global,
+    names: &Names,
     shaped: Shaped,
     aim: Aim,
     choices: u64,
     chooser: &mut C,
     watch: &mut W,
 ) -> Answered
-    ensures { IsDecisionAnswer (whole_case shaped) aim result }
+    ensures { IsDecisionAnswer names.now (whole_case shaped) aim result }
 {
     match decide(alloc, shaped, aim, choices, chooser, watch) {
-        Ok(decided) => decided_answer(alloc, &decided),
+        Ok(decided) => decided_answer(alloc, names, &decided),
         Err(undecided) => undecided_answer(alloc, aim, undecided.fault),
     }
 }
 
 /// The text of a decision.
-pub(crate) fn decided_answer<K: Planned>(alloc: Global, decided: &Decided<K>) -> Answered
-    ensures { IsDecidedAnswer (λ plan. K.planned plan) decided.now result }
+pub(crate) fn decided_answer<K: Planned>(
+    alloc: Global,
+    names: &Names,
+    decided: &Decided<K>,
+) -> Answered
+    ensures { IsDecidedAnswer names.now (λ plan. K.planned plan) decided.now result }
 {
     match decided {
         Decided::Kept(kept) => document_answer(alloc, kept.shaped().plan(), GOOD),
         Decided::Best(best, within) => best_answer(alloc, best.shaped().plan(), *within),
-        Decided::Never(excluded, _) => Ok(never_answer(alloc, excluded)?),
+        Decided::Never(excluded, _) => Ok(never_answer(alloc, names, excluded)?),
         Decided::Open(_) => Ok(line_answer(alloc, b"open\n", REFUSED)?),
     }
 }
@@ -96,11 +112,11 @@ fn best_answer(alloc: Global, plan: &Plan, within: Within) -> Answered
 }
 
 /// The lines of jobs that exclude each other.
-fn never_answer(alloc: Global, excluded: &[Excluded]) -> Result<Answer, AllocError>
-    ensures { IfOk result (IsLineRefused (never_lines excluded.now)) }
+fn never_answer(alloc: Global, names: &Names, excluded: &[Excluded]) -> Result<Answer, AllocError>
+    ensures { IfOk result (IsLineRefused (never_lines names.now excluded.now)) }
 {
     let (mut text, status) = (Vec::new(alloc), REFUSED);
-    push_never_lines(&mut text, excluded)?;
+    push_never_lines(&mut text, names, excluded)?;
     Ok(Answer { text, status })
 }
 
@@ -139,8 +155,5 @@ fn out_of_range_answer(alloc: Global, aim: Aim) -> Result<Answer, AllocError>
     let Aim::Least(Objective::Leaving(job)) = aim else {
         unreachable!();
     };
-    let (mut text, status) = (Vec::new(alloc), REFUSED);
-    push_fact(&mut text, b"bad numbers JobOutOfRange job ", u64::from(job))?;
-    text.push(b'\n')?;
-    Ok(Answer { text, status })
+    no_job_answer(alloc, job)
 }

@@ -1,54 +1,75 @@
 //! The lines of what is decided.
 
 ghost use Rattle.std.specs.Prelude.{◌≡◌, ◌++◌, OnOk, codes};
+ghost use Rattle.people_names.specs.Words.{job_word};
 ghost use Rattle.command_answers.specs.DecisionLines.{bounds_line, excluded_words, fewer_if, job_words, least_line, never_line, never_lines, within_line};
 
 use crate::lines::push_fact;
+use people_names::{LONGEST_NAME, Names};
 use plan_decide::{Excluded, Within};
 use shop_base::{JobNo, Moment};
 use std::alloc::AllocError;
+use text_lines::LineText;
+
+/// The bytes of a job's word and the blank before it.
+const ROOM: usize = LONGEST_NAME + 1;
 
 /// Adds `never jobs J0 J1 ..` for each of these.
-pub(crate) fn push_never_lines(text: &mut Vec<u8>, excluded: &[Excluded]) -> Result<(), AllocError>
-    ensures { OnOk result (text.new.items ≡ text.old.items ++ never_lines excluded.now) }
+pub(crate) fn push_never_lines(
+    text: &mut Vec<u8>,
+    names: &Names,
+    excluded: &[Excluded],
+) -> Result<(), AllocError>
+    ensures { OnOk result (text.new.items ≡ text.old.items ++ never_lines names.now excluded.now) }
 {
     for several in excluded {
-        push_never_line(text, several)?;
+        push_never_line(text, names, several)?;
     }
     Ok(())
 }
 
 /// Adds `never jobs J0 J1 ..`, and ` or fewer` where that is so.
-fn push_never_line(text: &mut Vec<u8>, excluded: &Excluded) -> Result<(), AllocError>
-    ensures { OnOk result (text.new.items ≡ text.old.items ++ never_line excluded.now) }
+fn push_never_line(text: &mut Vec<u8>, names: &Names, excluded: &Excluded) -> Result<(), AllocError>
+    ensures { OnOk result (text.new.items ≡ text.old.items ++ never_line names.now excluded.now) }
 {
     text.extend_from_slice(b"never jobs")?;
-    push_excluded(text, excluded)?;
+    push_excluded(text, names, excluded)?;
     text.push(b'\n')?;
     Ok(())
 }
 
-/// Adds the numbers of the jobs, and that fewer of them may do.
-fn push_excluded(text: &mut Vec<u8>, excluded: &Excluded) -> Result<(), AllocError>
-    ensures { OnOk result (text.new.items ≡ text.old.items ++ excluded_words excluded.now) }
+/// Adds the words of the jobs, and that fewer of them may do.
+fn push_excluded(text: &mut Vec<u8>, names: &Names, excluded: &Excluded) -> Result<(), AllocError>
+    ensures { OnOk result (text.new.items ≡ text.old.items ++ excluded_words names.now excluded.now) }
 {
     match excluded {
-        Excluded::Alone(job) => push_jobs(text, &[*job]),
-        Excluded::Pair(first, second) => push_jobs(text, &[*first, *second]),
+        Excluded::Alone(job) => push_jobs(text, names, &[*job]),
+        Excluded::Pair(first, second) => push_jobs(text, names, &[*first, *second]),
         Excluded::Several { jobs, or_fewer } => {
-            push_jobs(text, jobs)?;
+            push_jobs(text, names, jobs)?;
             push_fewer(text, *or_fewer)
         }
     }
 }
 
-/// Adds the numbers of the jobs, with a blank before each.
-fn push_jobs(text: &mut Vec<u8>, jobs: &[JobNo]) -> Result<(), AllocError>
-    ensures { OnOk result (text.new.items ≡ text.old.items ++ job_words jobs.now) }
+/// Adds the words of the jobs, with a blank before each.
+fn push_jobs(text: &mut Vec<u8>, names: &Names, jobs: &[JobNo]) -> Result<(), AllocError>
+    ensures { OnOk result (text.new.items ≡ text.old.items ++ job_words names.now jobs.now) }
 {
     for job in jobs {
-        push_fact(text, b" ", u64::from(*job))?;
+        push_job(text, names, *job)?;
     }
+    Ok(())
+}
+
+/// Adds the word of a job, with a blank before it.
+fn push_job(text: &mut Vec<u8>, names: &Names, job: JobNo) -> Result<(), AllocError>
+    ensures { OnOk result (text.new.items ≡ text.old.items ++ (codes " " ++ job_word names.now job)) }
+{
+    let mut word = LineText::<ROOM>::empty();
+    names.put_job(&mut word, job);
+    word.put_text(b" ");
+    text.extend_from_slice(word.bytes())?;
     Ok(())
 }
 

@@ -1,17 +1,25 @@
 //! The command `explain`.
 
-ghost use Rattle.std.specs.Prelude.{IfOk};
+ghost use Rattle.std.specs.Prelude.{◌<◌, None, IfOk, IfSome};
 ghost use Rattle.std.specs.Option.{option_copied};
+ghost use Rattle.shop_base.specs.Plan.{jobs};
 ghost use Rattle.command_answers.specs.Readings.{AreTextsAnswered};
-ghost use Rattle.command_answers.specs.Explains.{IsExplanation, IsExplanationOf, HasEvidence};
-ghost use Rattle.command_answers.specs.Commands.{RunsExplain};
+ghost use Rattle.command_answers.specs.Explains.{IsExplanation, IsExplanationOf, IsPlanExplained, HasEvidence};
+ghost use Rattle.command_answers.specs.Steps.{IsOrMemory};
+ghost use Rattle.command_answers.specs.Commands.{IfThere, RunsExplain, WithNames};
 
 use crate::answer::{Answer, Answered};
+use crate::asked_job::{absent_job, no_job_answer};
 use crate::both::{Pair, read_both};
 use crate::checks::status_of;
-use crate::loading::{Loaded, judged, load};
+use crate::loading::{Loaded, load};
+use crate::naming::names_of;
 use crate::shapes::not_shaped_answer;
 use crate::texts::Texts;
+use people_names::Names;
+use plan_explain::explain_for;
+use plan_verifier::verify;
+use shop_base::{JobNo, Shaped};
 use std::alloc::{AllocError, Global};
 
 /// Why a plan is accepted or refused for an instance, both given as texts: the line of its verdict, and after it
@@ -24,13 +32,60 @@ pub fn explain(alloc: Global, instance: &[u8], name: Option<&[u8]>, plan: &[u8])
     Ok(loaded_explained(alloc, &loaded)?)
 }
 
-/// Why the plan of a file is accepted or refused for the instance of another.
-pub fn explain_answer<T: Texts>(alloc: Global, texts: &mut T, pair: &Pair<'_>) -> Answered
-    ensures { RunsExplain T.gives pair.now texts.old result texts.new }
+/// Why the plan of a file is accepted or refused for the instance of another, with the names and the clock of a third,
+/// which is read once the plan is shaped. Where a job is asked for, the chain to its leaving is told.
+pub fn explain_answer<T: Texts>(
+    alloc: Global,
+    texts: &mut T,
+    pair: &Pair<'_>,
+    names: Option<&str>,
+    job: Option<JobNo>,
+) -> Answered
+    ensures { RunsExplain T.gives pair.now (option_copied names.entry) job texts.old result texts.new }
 {
-    let both = read_both(alloc, texts, pair)?;
-    let loaded = judged(alloc, both)?;
-    Ok(loaded_explained(alloc, &loaded)?)
+    match read_both(alloc, texts, pair)?.shaped() {
+        Ok(shaped) => shaped_explained(alloc, texts, shaped, names, job),
+        Err(fault) => Ok(not_shaped_answer(alloc, fault)?),
+    }
+}
+
+/// The explanation of a plan, if the job that is asked for is one of its shop.
+fn shaped_explained<T: Texts>(
+    alloc: Global,
+    texts: &mut T,
+    shaped: Shaped,
+    names: Option<&str>,
+    job: Option<JobNo>,
+) -> Answered
+    ensures { IfThere T.gives job shaped (WithNames T.gives (option_copied names.entry) shaped (λ book. IsOrMemory (IsPlanExplained book job shaped))) texts.old result texts.new }
+{
+    if let Some(absent) = absent_job(&shaped, job) {
+        return Ok(no_job_answer(alloc, absent)?);
+    }
+    let names = names_of(alloc, texts, names, &shaped)?;
+    Ok(plan_explained(alloc, &names, job, shaped)?)
+}
+
+/// The explanation of the verdict on a plan.
+fn plan_explained(
+    alloc: Global,
+    names: &Names,
+    job: Option<JobNo>,
+    shaped: Shaped,
+) -> Result<Answer, AllocError>
+    requires { IfSome job (λ j. j < jobs shaped) }
+    ensures { IfOk result (IsPlanExplained names.now job shaped) }
+{
+    // Called for its clause alone: the plan is well shaped.
+    let _shop = shaped.shop();
+    match verify(alloc, shaped) {
+        Ok(verdict) => {
+            let text = explain_for(alloc, names, job, &verdict)?;
+            let status = status_of(&verdict);
+            Ok(Answer { text, status })
+        }
+        Err((error, _)) => Err(error),
+    }
 }
 
 /// The explanation of what is said of a plan.

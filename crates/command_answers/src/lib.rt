@@ -3,11 +3,13 @@
 //! What comes of texts belongs to the shop and the plan that they give, and comes whenever they give them, unless
 //! memory runs out. A fault is the instance's first, or the plan's first if the instance gives a shop.
 //!
-//! A command over files asks for the instance's file and reads it, then for the plan's, and then for the log's if the
-//! plan is well shaped. The first that can't be had, or gives no instance or no plan, ends the command with its fault.
+//! A command over files asks for the instance's file and reads it, then for the plan's, and if the plan is well shaped for
+//! that of names, where one is given, and then for the log's. The first that can't be had, or gives no instance, no plan
+//! or no names, ends the command with its fault.
 #![tactic(auto)]
 
 mod answer;
+mod asked_job;
 mod both;
 mod bound_answers;
 mod bound_lines;
@@ -16,12 +18,16 @@ mod checks;
 mod command_fault;
 mod decides;
 mod decision_lines;
+mod digests;
 mod explains;
 mod facts;
 mod improves;
 mod lines;
 mod loading;
 mod logs;
+mod margins;
+mod moves;
+mod naming;
 mod pictures;
 mod reading;
 mod readings;
@@ -42,12 +48,15 @@ pub use cells::{Cells, load_cells};
 pub use checks::{check, check_answer, loaded_answer};
 pub use command_fault::CommandFault;
 pub use decides::decide_answer;
+pub use digests::digest_answer;
 pub use explains::{explain, explain_answer};
 pub use facts::{facts_answer, facts_of};
 pub use improves::improve_answer;
 pub use lines::log_refused;
 pub use loading::{Loaded, load, load_files, load_shaped};
 pub use logs::{Telling, fault_told, log_answer};
+pub use margins::margin_answer;
+pub use moves::{moves_answer, rest_moves_answer};
 pub use pictures::{Drawn, log_picture, rest_picture, schedule_picture};
 pub use reading::read_whole;
 pub use rest_decides::decide_rest_answer;

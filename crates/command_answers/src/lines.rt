@@ -1,6 +1,6 @@
 //! The texts of answers.
 
-ghost use Rattle.std.specs.Prelude.{◌≡◌, ◌++◌, IfOk, OnOk, decimal};
+ghost use Rattle.std.specs.Prelude.{◌≡◌, ◌++◌, IfOk, OnOk, codes, decimal};
 ghost use Rattle.command_answers.specs.Documents.{IsDocumentAnswer, IsHeadedAnswer};
 ghost use Rattle.command_answers.specs.Shapes.{IsLineOfFault};
 ghost use Rattle.command_answers.specs.LogLines.{log_refused_line};
@@ -61,6 +61,13 @@ pub(crate) fn fault_answer(
     text.extend_from_slice(words.as_bytes())?;
     text.push(b'\n')?;
     Ok(Answer { text, status })
+}
+
+/// The line of numbers that are too few, too many or over a limit, with their first fault.
+pub(crate) fn bad_numbers_answer(alloc: Global, fault: ShapeFault) -> Result<Answer, AllocError>
+    ensures { IfOk result (IsLineOfFault (codes "bad numbers ")) }
+{
+    fault_answer(alloc, b"bad numbers ", fault)
 }
 
 /// The line of a log that is refused: the number of its first bad line, and the name of the fault.

@@ -1,6 +1,7 @@
 //! The commands `audit` and `gantt`.
 
 ghost use Rattle.std.specs.Prelude.{◌≡◌, IfOk};
+ghost use Rattle.std.specs.Option.{option_copied};
 ghost use Rattle.command_answers.specs.LogLines.{IsRunTold, IsLogLine, IsFaultTold, kept_line, end_words};
 ghost use Rattle.command_answers.specs.Steps.{IsOrMemory};
 ghost use Rattle.command_answers.specs.Commands.{RunsLog};
@@ -9,9 +10,11 @@ use crate::answer::{Answer, Answered, GOOD};
 use crate::both::{Pair, read_both};
 use crate::command_fault::Unanswered;
 use crate::lines::{log_refused, push_fact};
+use crate::naming::names_of;
 use crate::shapes::not_shaped_answer;
 use crate::texts::Texts;
-use run_gantt::gantt;
+use people_names::Names;
+use run_gantt::gantt_for;
 use run_log::{Audit, AuditFault, audit};
 use shop_base::Shaped;
 use std::alloc::{AllocError, Global};
@@ -25,31 +28,34 @@ pub enum Telling {
     Drawing,
 }
 
-/// Whether the log of a file records a run of the plan of another for the instance of a third, by any controller.
+/// Whether the log of a file records a run of the plan of another for the instance of a third, by any controller. Names and
+/// the clock are those of a fourth file, which is read once the plan is shaped.
 pub fn log_answer<T: Texts>(
     alloc: Global,
     texts: &mut T,
     pair: &Pair<'_>,
+    names: Option<&str>,
     log: &str,
     telling: Telling,
 ) -> Answered
-    ensures { RunsLog T.gives telling pair.now log.now texts.old result texts.new }
+    ensures { RunsLog T.gives telling pair.now (option_copied names.entry) log.now texts.old result texts.new }
 {
     match read_both(alloc, texts, pair)?.shaped() {
         Ok(shaped) => {
+            let names = names_of(alloc, texts, names, &shaped)?;
             let text = texts.text(alloc, log)?;
-            audited(alloc, &shaped, &text, telling)
+            audited(alloc, &names, &shaped, &text, telling)
         }
         Err(fault) => Ok(not_shaped_answer(alloc, fault)?),
     }
 }
 
 /// What is answered for a log that is audited against a plan.
-fn audited(alloc: Global, shaped: &Shaped, log: &[u8], telling: Telling) -> Answered
-    ensures { IsOrMemory (IsLogLine telling shaped.now log.now) result }
+fn audited(alloc: Global, names: &Names, shaped: &Shaped, log: &[u8], telling: Telling) -> Answered
+    ensures { IsOrMemory (IsLogLine names.now telling shaped.now log.now) result }
 {
     match audit(alloc, shaped, log) {
-        Ok(found) => Ok(run_told(alloc, shaped, &found, telling)?),
+        Ok(found) => Ok(run_told(alloc, names, shaped, &found, telling)?),
         Err(fault) => fault_told(alloc, fault),
     }
 }
@@ -57,16 +63,17 @@ fn audited(alloc: Global, shaped: &Shaped, log: &[u8], telling: Telling) -> Answ
 /// What is answered for the run of a log.
 fn run_told(
     alloc: Global,
+    names: &Names,
     shaped: &Shaped,
     run: &Audit,
     telling: Telling,
 ) -> Result<Answer, AllocError>
-    ensures { IfOk result (IsRunTold telling shaped.now run.now) }
+    ensures { IfOk result (IsRunTold names.now telling shaped.now run.now) }
 {
     match telling {
         Telling::Numbers => kept_answer(alloc, run),
         Telling::Drawing => {
-            let text = gantt(alloc, shaped, run.entries.as_slice())?.into_bytes();
+            let text = gantt_for(alloc, names, shaped, run.entries.as_slice())?.into_bytes();
             Ok(Answer { text, status: GOOD })
         }
     }

@@ -1,10 +1,10 @@
 //! The pictures of the commands `gantt` and `schedule`.
 
-ghost use Rattle.std.specs.Prelude.{◌≡◌, ◌≤◌, [], IfOk, IfSome, None};
+ghost use Rattle.std.specs.Prelude.{◌≡◌, ◌≤◌, IfOk, IfSome};
+ghost use Rattle.std.specs.Option.{option_copied};
 ghost use Rattle.shop_base.specs.Plan.{jobs};
 ghost use Rattle.shop_base.specs.declared.limits.TheConstants.{MAX_MOMENT};
 ghost use Rattle.shop_base.specs.Report.{IsNextMoment};
-ghost use Rattle.shop_base.specs.Cell.{start};
 ghost use Rattle.plan_verifier.specs.Rest.{AreOrderedAhead};
 ghost use Rattle.run_picture.specs.Late.{late_leavings};
 ghost use Rattle.run_picture.specs.PictureText.{IsPicture};
@@ -15,16 +15,18 @@ ghost use Rattle.plan_verifier.specs.declared.verdict.Judged.TheVariants.{Refuse
 ghost use Rattle.plan_explain.specs.FirstLines.{cycle_line};
 ghost use Rattle.plan_explain.specs.RestVerdicts.{IsRestJudged};
 ghost use Rattle.command_answers.specs.Steps.{IsOrMemory};
-ghost use Rattle.command_answers.specs.Pictures.{DrawsLog, DrawsRest, DrawsSchedule, IsCellDrawn, IsLogDrawn, IsRestDrawing, IsRestDrawn, IsRunPicture, IsVerdictDrawn, line_at, log_sheet, run_head, run_sheet};
+ghost use Rattle.command_answers.specs.Pictures.{DrawsLog, DrawsRest, DrawsSchedule, IsCellDrawn, IsLogDrawn, IsPlanDrawn, IsRestDrawing, IsRestDrawn, IsRunPicture, IsVerdictDrawn, line_at, log_sheet, run_head, run_sheet};
 
 use crate::answer::{Answer, GOOD, Outcome, REFUSED};
 use crate::both::{Pair, read_both};
 use crate::logs::fault_told;
+use crate::naming::names_of;
 use crate::rests::{past_answer, present_at};
 use crate::shapes::not_shaped_answer;
 use crate::texts::Texts;
 use alt_graph::Times;
 use cell_tables::{Entry, WorkCell};
+use people_names::Names;
 use plan_explain::push_cycle_line;
 use plan_schedule::{DrawnRun, drawn_run};
 use plan_verifier::{Judged, Why, verify_after};
@@ -34,7 +36,7 @@ use shop_base::{Moment, Node, Shaped};
 use std::alloc::{AllocError, Global};
 
 /// What a command draws.
-#[derive(Debug, Drop)]
+#[derive(Drop)]
 pub enum Drawn {
     /// A picture.
     Picture {
@@ -47,32 +49,34 @@ pub enum Drawn {
     Line(Answer),
 }
 
-/// Draws the run that the log of one file records, of the plan of another, for the instance of a third. A plan that
-/// isn't well shaped, or a log that records no run of it, has a line instead.
+/// Draws the run that the log of one file records, of the plan of another, for the instance of a third, with the names
+/// of a fourth if there is one. A plan that isn't well shaped, or a log that records no run of it, has a line instead.
 pub fn log_picture<T: Texts>(
     alloc: Global,
     texts: &mut T,
     pair: &Pair<'_>,
+    names: Option<&str>,
     log: &str,
 ) -> Outcome<Drawn>
-    ensures { DrawsLog T.gives pair.now log.now texts.old result texts.new }
+    ensures { DrawsLog T.gives pair.now (option_copied names.entry) log.now texts.old result texts.new }
 {
     match read_both(alloc, texts, pair)?.shaped() {
         Ok(shaped) => {
+            let names = names_of(alloc, texts, names, &shaped)?;
             let text = texts.text(alloc, log)?;
-            log_drawn(alloc, &shaped, &text)
+            log_drawn(alloc, names, &shaped, &text)
         }
         Err(fault) => Ok(Drawn::Line(not_shaped_answer(alloc, fault)?)),
     }
 }
 
 /// Draws a log that is audited against a plan.
-fn log_drawn(alloc: Global, shaped: &Shaped, log: &[u8]) -> Outcome<Drawn>
-    ensures { IsOrMemory (IsLogDrawn shaped.now log.now) result }
+fn log_drawn(alloc: Global, names: Names, shaped: &Shaped, log: &[u8]) -> Outcome<Drawn>
+    ensures { IsOrMemory (IsLogDrawn names shaped.now log.now) result }
 {
     match audit(alloc, shaped, log) {
         Ok(found) => {
-            let picture = audit_picture(alloc, shaped, &found)?;
+            let picture = audit_picture(alloc, names, shaped, &found)?;
             let status = GOOD;
             Ok(Drawn::Picture { picture, status })
         }
@@ -81,15 +85,20 @@ fn log_drawn(alloc: Global, shaped: &Shaped, log: &[u8]) -> Outcome<Drawn>
 }
 
 /// The picture of the run that an audit found.
-fn audit_picture(alloc: Global, shaped: &Shaped, found: &Audit) -> Result<Picture, AllocError>
+fn audit_picture(
+    alloc: Global,
+    names: Names,
+    shaped: &Shaped,
+    found: &Audit,
+) -> Result<Picture, AllocError>
     ensures { let run = found.now in let p = shaped.now in IfOk result
-        (IsPicture (log_sheet p run) (drawn_visits p run.entries.items) (late_leavings p (leavings_told (jobs p) run.entries.items))) }
+        (IsPicture names (log_sheet p run) (drawn_visits p run.entries.items) (late_leavings p (leavings_told (jobs p) run.entries.items))) }
 {
     let entries = found.entries.as_slice();
     let visits = run_gantt::drawn_visits(alloc, shaped, entries)?;
     let leavings = run_gantt::leavings_told(alloc, shaped, entries)?;
     let late = late_leavings(alloc, shaped, &leavings)?;
-    Ok(Picture::new(log_sheet(shaped, found), visits, late))
+    Ok(Picture::new(names, log_sheet(shaped, found), visits, late))
 }
 
 /// What the picture of a log's run is of.
@@ -105,57 +114,73 @@ fn log_sheet(shaped: &Shaped, run: &Audit) -> Sheet
     }
 }
 
-/// Draws the exact run of the plan of one file for the instance of another, whether it is in time or late. A plan that
-/// isn't well shaped, or has a cycle, has the line of its check instead.
-pub fn schedule_picture<T: Texts>(alloc: Global, texts: &mut T, pair: &Pair<'_>) -> Outcome<Drawn>
-    ensures { DrawsSchedule T.gives pair.now texts.old result texts.new }
+/// Draws the exact run of the plan of one file for the instance of another, whether it is in time or late, with the
+/// names of a third if there is one. A plan that isn't well shaped, or has a cycle, has the line of its check instead.
+pub fn schedule_picture<T: Texts>(
+    alloc: Global,
+    texts: &mut T,
+    pair: &Pair<'_>,
+    names: Option<&str>,
+) -> Outcome<Drawn>
+    ensures { DrawsSchedule T.gives pair.now (option_copied names.entry) texts.old result texts.new }
 {
     match read_both(alloc, texts, pair)?.shaped() {
-        Ok(shaped) => Ok(plan_drawn(alloc, shaped)?),
+        Ok(shaped) => {
+            let names = names_of(alloc, texts, names, &shaped)?;
+            Ok(plan_drawn(alloc, names, shaped)?)
+        }
         Err(fault) => Ok(Drawn::Line(not_shaped_answer(alloc, fault)?)),
     }
 }
 
 /// Draws a whole plan: the rest of a run that hasn't begun.
-fn plan_drawn(alloc: Global, shaped: Shaped) -> Result<Drawn, AllocError>
-    ensures { IfOk result (IsRestDrawn shaped (start shaped) 0 None []) }
+fn plan_drawn(alloc: Global, names: Names, shaped: Shaped) -> Result<Drawn, AllocError>
+    ensures { IfOk result (IsPlanDrawn names shaped) }
 {
     match WorkCell::start(alloc, shaped) {
-        Ok(cell) => rest_drawn(alloc, &cell, 0, None, &[]),
+        Ok(cell) => rest_drawn(alloc, names, &cell, 0, None, &[]),
         Err((error, _)) => Err(error),
     }
 }
 
-/// Draws the run in the log of a file and its rest, by the plan of another for the instance of a third: from a present
-/// moment on, or from the last one of that run. What comes after the log's last line feed isn't looked at. A plan that
-/// isn't well shaped or has a cycle, a log that records no run of it, or a present moment before the last one has a line
-/// instead.
+/// Draws the run in the log of a file and its rest, by the plan of another for the instance of a third, with the names
+/// of a fourth if there is one: from a present moment on, or from the last one of that run. What comes after the log's
+/// last line feed isn't looked at. A plan that isn't well shaped or has a cycle, a log that records no run of it, or a
+/// present moment before the last one has a line instead.
 pub fn rest_picture<T: Texts>(
     alloc: Global,
     texts: &mut T,
     pair: &Pair<'_>,
+    names: Option<&str>,
     log: &str,
     at: Option<Moment>,
 ) -> Outcome<Drawn>
     requires { IfSome at (λ present. present ≤ MAX_MOMENT) }
-    ensures { DrawsRest T.gives at pair.now log.now texts.old result texts.new }
+    ensures { DrawsRest T.gives at pair.now (option_copied names.entry) log.now texts.old result texts.new }
 {
     match read_both(alloc, texts, pair)?.shaped() {
         Ok(shaped) => {
+            let names = names_of(alloc, texts, names, &shaped)?;
             let text = texts.text(alloc, log)?;
-            rest_of_log(alloc, shaped, &text, at)
+            rest_of_log(alloc, names, shaped, &text, at)
         }
         Err(fault) => Ok(Drawn::Line(not_shaped_answer(alloc, fault)?)),
     }
 }
 
 /// Draws the run in a log and its rest.
-fn rest_of_log(alloc: Global, shaped: Shaped, log: &[u8], at: Option<Moment>) -> Outcome<Drawn>
+fn rest_of_log(
+    alloc: Global,
+    names: Names,
+    shaped: Shaped,
+    log: &[u8],
+    at: Option<Moment>,
+) -> Outcome<Drawn>
     requires { IfSome at (λ present. present ≤ MAX_MOMENT) }
-    ensures { IsOrMemory (IsRestDrawing at shaped log.now) result }
+    ensures { IsOrMemory (IsRestDrawing at names shaped log.now) result }
 {
     match run_of_log(alloc, shaped, log) {
-        Ok(run) => Ok(cell_drawn(alloc, &run.cell, at, &run.entries)?),
+        Ok(run) => Ok(cell_drawn(alloc, names, &run.cell, at, &run.entries)?),
         Err(fault) => Ok(Drawn::Line(fault_told(alloc, fault)?)),
     }
 }
@@ -163,12 +188,13 @@ fn rest_of_log(alloc: Global, shaped: Shaped, log: &[u8], at: Option<Moment>) ->
 /// Draws the run of these entries and its rest from their cell on, if the present moment isn't before its last one.
 fn cell_drawn(
     alloc: Global,
+    names: Names,
     cell: &WorkCell<Shaped>,
     at: Option<Moment>,
     entries: &[Entry],
 ) -> Result<Drawn, AllocError>
     requires { IfSome at (λ present. present ≤ MAX_MOMENT) }
-    ensures { IfOk result (IsCellDrawn at cell.now.plan cell.now.cell entries.now) }
+    ensures { IfOk result (IsCellDrawn at names cell.now.plan cell.now.cell entries.now) }
 {
     // Called for its clause alone: the cell is sound.
     let shaped = cell.shaped();
@@ -179,7 +205,7 @@ fn cell_drawn(
     }
     let told = run_gantt::drawn_visits(alloc, shaped, entries)?;
     let line = line_at(at, entries, present);
-    rest_drawn(alloc, cell, present, line, &told)
+    rest_drawn(alloc, names, cell, present, line, &told)
 }
 
 /// The moment that has a line: the present one, unless no moment is given and the log tells nothing.
@@ -195,21 +221,23 @@ fn line_at(at: Option<Moment>, entries: &[Entry], present: Moment) -> Option<Mom
 /// Draws the run that goes on from a cell and a present moment, of which these visits are told so far.
 fn rest_drawn(
     alloc: Global,
+    names: Names,
     cell: &WorkCell<Shaped>,
     present: Moment,
     line: Option<Moment>,
     told: &[DrawnVisit],
 ) -> Result<Drawn, AllocError>
     requires { IsNextMoment cell.now.cell present }
-    ensures { IfOk result (IsRestDrawn cell.now.plan cell.now.cell present line told.now) }
+    ensures { IfOk result (IsRestDrawn names cell.now.plan cell.now.cell present line told.now) }
 {
     let verdict = verify_after(alloc, cell, present)?;
-    verdict_drawn(alloc, cell, present, line, told, &verdict)
+    verdict_drawn(alloc, names, cell, present, line, told, &verdict)
 }
 
 /// Draws what the verdict on the rest is about, with its status. Of a cycle there is its line.
 fn verdict_drawn(
     alloc: Global,
+    names: Names,
     cell: &WorkCell<Shaped>,
     present: Moment,
     line: Option<Moment>,
@@ -218,21 +246,22 @@ fn verdict_drawn(
 ) -> Result<Drawn, AllocError>
     requires present { IsNextMoment cell.now.cell present }
     requires judged { IsRestJudged cell.now.plan cell.now.cell present verdict.now }
-    ensures { IfOk result (IsVerdictDrawn cell.now.plan cell.now.cell present line told.now verdict.now) }
+    ensures { IfOk result (IsVerdictDrawn names cell.now.plan cell.now.cell present line told.now verdict.now) }
 {
     match verdict {
         Judged::Accepted(times) => {
-            let picture = run_picture(alloc, cell, present, line, told, times, true)?;
+            let picture = run_picture(alloc, names, cell, present, line, told, times, true)?;
             let status = GOOD;
             Ok(Drawn::Picture { picture, status })
         }
-        Judged::Refused(why) => refused_drawn(alloc, cell, present, line, told, why),
+        Judged::Refused(why) => refused_drawn(alloc, names, cell, present, line, told, why),
     }
 }
 
 /// Draws a late run. Of a cycle there is its line.
 fn refused_drawn(
     alloc: Global,
+    names: Names,
     cell: &WorkCell<Shaped>,
     present: Moment,
     line: Option<Moment>,
@@ -241,7 +270,7 @@ fn refused_drawn(
 ) -> Result<Drawn, AllocError>
     requires present { IsNextMoment cell.now.cell present }
     requires reason { IsReasonAhead cell.now.plan cell.now.cell present (Refused why.now) }
-    ensures { IfOk result (IsVerdictDrawn cell.now.plan cell.now.cell present line told.now (Refused why.now)) }
+    ensures { IfOk result (IsVerdictDrawn names cell.now.plan cell.now.cell present line told.now (Refused why.now)) }
 {
     match why {
         Why::Cycle(nodes) => Ok(Drawn::Line(cycle_answer(alloc, nodes)?)),
@@ -251,7 +280,7 @@ fn refused_drawn(
             chain: _,
             times,
         } => {
-            let picture = run_picture(alloc, cell, present, line, told, times, false)?;
+            let picture = run_picture(alloc, names, cell, present, line, told, times, false)?;
             let status = REFUSED;
             Ok(Drawn::Picture { picture, status })
         }
@@ -270,6 +299,7 @@ fn cycle_answer(alloc: Global, nodes: &[Node]) -> Result<Answer, AllocError>
 /// The picture of the run that goes on from a cell and a present moment, by its earliest moments.
 fn run_picture(
     alloc: Global,
+    names: Names,
     cell: &WorkCell<Shaped>,
     present: Moment,
     line: Option<Moment>,
@@ -279,13 +309,13 @@ fn run_picture(
 ) -> Result<Picture, AllocError>
     requires present { IsNextMoment cell.now.cell present }
     requires ordered { AreOrderedAhead cell.now.plan cell.now.cell present times.now }
-    ensures { IfOk result (IsRunPicture cell.now.plan cell.now.cell present line told.now in_time) }
+    ensures { IfOk result (IsRunPicture names cell.now.plan cell.now.cell present line told.now in_time) }
 {
     let run = drawn_run(alloc, cell, present, times, told)?;
     let shaped = cell.shaped();
     let late = late_leavings(alloc, shaped, &run.leavings)?;
     let sheet = run_sheet(shaped, present, line, in_time, &run);
-    Ok(Picture::new(sheet, run.visits, late))
+    Ok(Picture::new(names, sheet, run.visits, late))
 }
 
 /// What the picture of such a run is of.

@@ -1,6 +1,7 @@
 //! The command `decide` of the rest of a run.
 
 ghost use Rattle.std.specs.Prelude.{◌≡◌, ◌≤◌, IfOk, IfSome};
+ghost use Rattle.std.specs.Option.{option_copied};
 ghost use Rattle.shop_base.specs.declared.limits.TheConstants.{MAX_MOMENT};
 ghost use Rattle.text_lines.specs.Lines.{ended_lines};
 ghost use Rattle.command_answers.specs.Shapes.{IsLineOfFault};
@@ -11,9 +12,11 @@ use crate::answer::{Answer, Answered};
 use crate::both::{Both, Pair, read_both};
 use crate::decides::{decided_answer, undecided_answer};
 use crate::improves::with_orders;
-use crate::lines::fault_answer;
+use crate::lines::{bad_numbers_answer, fault_answer};
+use crate::naming::names_of;
 use crate::texts::Texts;
 use arc_choice::Choose;
+use people_names::Names;
 use plan_decide::{Aim, Watch, decide_after};
 use shop_base::{Moment, ShapeFault, Shaped};
 use std::alloc::{AllocError, Global};
@@ -27,6 +30,7 @@ pub fn decide_rest_answer<T: Texts, C: Choose, W: Watch>(
     alloc: Global,
     texts: &mut T,
     pair: &Pair<'_>,
+    names: Option<&str>,
     log: &str,
     at: Option<Moment>,
     aim: Aim,
@@ -35,11 +39,13 @@ pub fn decide_rest_answer<T: Texts, C: Choose, W: Watch>(
     watch: &mut W,
 ) -> Answered
     requires { IfSome at (λ present. present ≤ MAX_MOMENT) }
-    ensures { RunsDecideRest T.gives aim at pair.now log.now texts.old result texts.new }
+    ensures { RunsDecideRest T.gives aim at pair.now (option_copied names.entry) log.now texts.old result texts.new }
 {
     let both = read_both(alloc, texts, pair)?;
     let both = with_orders(alloc, both)?;
-    both_rest_decided(alloc, texts, both, log, at, aim, choices, chooser, watch)
+    both_rest_decided(
+        alloc, texts, both, names, log, at, aim, choices, chooser, watch,
+    )
 }
 
 /// What is decided of the rest of the run in a log by a plan, if it is well shaped, else its first fault.
@@ -47,6 +53,7 @@ fn both_rest_decided<T: Texts, C: Choose, W: Watch>(
     alloc: Global,
     texts: &mut T,
     both: Both,
+    names: Option<&str>,
     log: &str,
     at: Option<Moment>,
     aim: Aim,
@@ -55,12 +62,15 @@ fn both_rest_decided<T: Texts, C: Choose, W: Watch>(
     watch: &mut W,
 ) -> Answered
     requires { IfSome at (λ present. present ≤ MAX_MOMENT) }
-    ensures { WithRestDecision T.gives aim at log.now both texts.old result texts.new }
+    ensures { WithRestDecision T.gives aim at (option_copied names.entry) log.now both texts.old result texts.new }
 {
     match both.shaped() {
         Ok(shaped) => {
+            let names = names_of(alloc, texts, names, &shaped)?;
             let text = texts.text(alloc, log)?;
-            rest_decided(alloc, shaped, &text, at, aim, choices, chooser, watch)
+            rest_decided(
+                alloc, &names, shaped, &text, at, aim, choices, chooser, watch,
+            )
         }
         Err(fault) => Ok(unfit_answer(alloc, fault)?),
     }
@@ -69,6 +79,7 @@ fn both_rest_decided<T: Texts, C: Choose, W: Watch>(
 /// What is decided of the rest of the run in a log.
 fn rest_decided<C: Choose, W: Watch>(
     alloc: Global,
+    names: &Names,
     shaped: Shaped,
     log: &[u8],
     at: Option<Moment>,
@@ -78,10 +89,10 @@ fn rest_decided<C: Choose, W: Watch>(
     watch: &mut W,
 ) -> Answered
     requires { IfSome at (λ present. present ≤ MAX_MOMENT) }
-    ensures { IsRestDecisionAnswer at (ended_lines log.now) shaped aim result }
+    ensures { IsRestDecisionAnswer names.now at (ended_lines log.now) shaped aim result }
 {
     match decide_after(alloc, shaped, log, at, aim, choices, chooser, watch) {
-        Ok(decided) => decided_answer(alloc, &decided),
+        Ok(decided) => decided_answer(alloc, names, &decided),
         Err(undecided) => undecided_answer(alloc, aim, undecided.fault),
     }
 }
@@ -96,6 +107,6 @@ fn unfit_answer(alloc: Global, fault: ShapeFault) -> Result<Answer, AllocError>
         | ShapeFault::NotOnRoute { .. }
         | ShapeFault::JobTwice { .. }
         | ShapeFault::JobMissing { .. } => fault_answer(alloc, b"not shaped ", fault),
-        _ => fault_answer(alloc, b"bad numbers ", fault),
+        _ => bad_numbers_answer(alloc, fault),
     }
 }

@@ -1,26 +1,31 @@
 //! The commands `check`, `explain` and `schedule` of the rest of a run.
 
-ghost use Rattle.std.specs.Prelude.{◌≡◌, ◌≤◌, IfOk, IfSome, unwrap_or};
+ghost use Rattle.std.specs.Prelude.{◌≡◌, ◌<◌, ◌≤◌, IfOk, IfSome, unwrap_or};
+ghost use Rattle.std.specs.Option.{option_copied};
+ghost use Rattle.shop_base.specs.Plan.{jobs};
 ghost use Rattle.shop_base.specs.declared.limits.TheConstants.{MAX_MOMENT};
 ghost use Rattle.shop_base.specs.Report.{IsNextMoment};
-ghost use Rattle.command_answers.specs.Rests.{IsRestLine, IsCellTold, IsPastLine, IsRestTold, IsTextOf, rest_status};
+ghost use Rattle.command_answers.specs.Rests.{IsRestLine, IsCellTold, IsPastLine, IsRestTold, IsTextOf, job_asked, rest_status};
 ghost use Rattle.command_answers.specs.Steps.{IsOrMemory};
-ghost use Rattle.command_answers.specs.Commands.{RunsRest};
+ghost use Rattle.command_answers.specs.Commands.{IfThere, RunsRest, WithNamesAndLog};
 ghost use Rattle.plan_explain.specs.RestVerdicts.{IsRestJudged};
 ghost use Rattle.plan_verifier.specs.Seen.{lent};
 
 use crate::answer::{Answer, Answered, GOOD, REFUSED};
+use crate::asked_job::{absent_job, no_job_answer};
 use crate::both::{Pair, read_both};
 use crate::lines::push_fact;
 use crate::logs::fault_told;
+use crate::naming::names_of;
 use crate::shapes::not_shaped_answer;
 use crate::texts::Texts;
 use cell_tables::WorkCell;
+use people_names::Names;
 use plan_explain::{explain_after, first_line_after};
 use plan_schedule::schedule_after;
 use plan_verifier::{Judged, Seen, verify_after};
 use run_log::run_of_log;
-use shop_base::{Moment, Planned, Shaped};
+use shop_base::{JobNo, Moment, Planned, Shaped};
 use std::alloc::{AllocError, Global};
 
 /// What is answered for a plan, or for the rest of a run of it.
@@ -28,48 +33,82 @@ use std::alloc::{AllocError, Global};
 pub enum PlanTelling {
     /// The verdict, as `check` does.
     Verdict,
-    /// Why it is so, as `explain` does.
-    Reasons,
+    /// Why it is so, as `explain` does, with the chain of the job that is asked for, if one is.
+    Reasons(Option<JobNo>),
     /// When what begins and ends, as `schedule` does.
     Moments,
 }
 
+impl PlanTelling {
+    /// The job whose chain is asked for, if there is one.
+    pub(crate) fn job_asked(self) -> Option<JobNo>
+        ensures { result ≡ job_asked self }
+    {
+        match self {
+            PlanTelling::Reasons(job) => job,
+            PlanTelling::Verdict | PlanTelling::Moments => None,
+        }
+    }
+}
+
 /// What is answered for the rest of the run in the log of a file, by the plan of another for the instance of a third:
 /// from a present moment on, or from the last one of that run. What comes after the log's last line feed isn't looked
-/// at. A present moment before the last one gets the line `log past L`.
+/// at. A present moment before the last one gets the line `log past L`. Names and the clock are those of a fourth file, which
+/// is read once the plan is shaped and the job that is asked for is one of the shop.
 pub fn rest_answer<T: Texts>(
     alloc: Global,
     texts: &mut T,
     pair: &Pair<'_>,
+    names: Option<&str>,
     log: &str,
     at: Option<Moment>,
     telling: PlanTelling,
 ) -> Answered
     requires { IfSome at (λ present. present ≤ MAX_MOMENT) }
-    ensures { RunsRest T.gives telling at pair.now log.now texts.old result texts.new }
+    ensures { RunsRest T.gives telling at pair.now (option_copied names.entry) log.now texts.old result texts.new }
 {
     match read_both(alloc, texts, pair)?.shaped() {
-        Ok(shaped) => {
-            let text = texts.text(alloc, log)?;
-            log_told(alloc, shaped, &text, at, telling)
-        }
+        Ok(shaped) => shaped_rest(alloc, texts, shaped, names, log, at, telling),
         Err(fault) => Ok(not_shaped_answer(alloc, fault)?),
     }
+}
+
+/// What is answered for the rest of a run of a plan, if the job that is asked for is one of its shop.
+fn shaped_rest<T: Texts>(
+    alloc: Global,
+    texts: &mut T,
+    shaped: Shaped,
+    names: Option<&str>,
+    log: &str,
+    at: Option<Moment>,
+    telling: PlanTelling,
+) -> Answered
+    requires { IfSome at (λ present. present ≤ MAX_MOMENT) }
+    ensures { IfThere T.gives (job_asked telling) shaped (WithNamesAndLog T.gives (option_copied names.entry) log.now shaped (λ book. IsRestLine book telling at shaped)) texts.old result texts.new }
+{
+    if let Some(absent) = absent_job(&shaped, telling.job_asked()) {
+        return Ok(no_job_answer(alloc, absent)?);
+    }
+    let names = names_of(alloc, texts, names, &shaped)?;
+    let text = texts.text(alloc, log)?;
+    log_told(alloc, &names, shaped, &text, at, telling)
 }
 
 /// What is answered for the rest of the run in a log.
 fn log_told(
     alloc: Global,
+    names: &Names,
     shaped: Shaped,
     log: &[u8],
     at: Option<Moment>,
     telling: PlanTelling,
 ) -> Answered
-    requires { IfSome at (λ present. present ≤ MAX_MOMENT) }
-    ensures { IsOrMemory (IsRestLine telling at shaped log.now) result }
+    requires present { IfSome at (λ present. present ≤ MAX_MOMENT) }
+    requires job { IfSome (job_asked telling) (λ j. j < jobs shaped) }
+    ensures { IsOrMemory (IsRestLine names.now telling at shaped log.now) result }
 {
     match run_of_log(alloc, shaped, log) {
-        Ok(run) => Ok(cell_told(alloc, &run.cell, at, telling)?),
+        Ok(run) => Ok(cell_told(alloc, names, &run.cell, at, telling)?),
         Err(fault) => fault_told(alloc, fault),
     }
 }
@@ -77,12 +116,14 @@ fn log_told(
 /// What is answered for the rest from a cell on, if the present moment isn't before its last one.
 fn cell_told(
     alloc: Global,
+    names: &Names,
     cell: &WorkCell<Shaped>,
     at: Option<Moment>,
     telling: PlanTelling,
 ) -> Result<Answer, AllocError>
-    requires { IfSome at (λ present. present ≤ MAX_MOMENT) }
-    ensures { IfOk result (IsCellTold telling at cell.now.plan cell.now.cell) }
+    requires present { IfSome at (λ present. present ≤ MAX_MOMENT) }
+    requires job { IfSome (job_asked telling) (λ j. j < jobs cell.now.plan) }
+    ensures { IfOk result (IsCellTold (IsRestTold names.now telling) at cell.now.plan cell.now.cell) }
 {
     // Called for its clause alone: the cell is sound.
     let _plan = cell.shaped();
@@ -91,7 +132,7 @@ fn cell_told(
     if present < last {
         return past_answer(alloc, last);
     }
-    rest_told(alloc, cell, present, telling)
+    rest_told(alloc, names, cell, present, telling)
 }
 
 /// The present moment: the one that is given, or the last one.
@@ -117,15 +158,17 @@ pub fn past_answer(alloc: Global, last: Moment) -> Result<Answer, AllocError>
 /// What is answered for the rest from a cell and a present moment on: the text of the verdict on it, with its status.
 pub fn rest_told<P: Planned>(
     alloc: Global,
+    names: &Names,
     cell: &WorkCell<P>,
     present: Moment,
     telling: PlanTelling,
 ) -> Result<Answer, AllocError>
-    requires { IsNextMoment cell.now.cell present }
-    ensures { IfOk result (IsRestTold telling cell.now.plan cell.now.cell present) }
+    requires present { IsNextMoment cell.now.cell present }
+    requires job { IfSome (job_asked telling) (λ j. j < jobs cell.now.plan) }
+    ensures { IfOk result (IsRestTold names.now telling cell.now.plan cell.now.cell present) }
 {
     let verdict = verify_after(alloc, cell, present)?;
-    let text = verdict_text(alloc, cell, present, verdict.seen(), telling)?;
+    let text = verdict_text(alloc, names, cell, present, verdict.seen(), telling)?;
     let status = rest_status(&verdict);
     Ok(Answer { text, status })
 }
@@ -133,25 +176,27 @@ pub fn rest_told<P: Planned>(
 /// The text of a verdict on the rest.
 fn verdict_text<P: Planned>(
     alloc: Global,
+    names: &Names,
     cell: &WorkCell<P>,
     present: Moment,
     verdict: Seen<'_>,
     telling: PlanTelling,
 ) -> Result<Vec<u8>, AllocError>
     requires present { IsNextMoment cell.now.cell present }
+    requires job { IfSome (job_asked telling) (λ j. j < jobs cell.now.plan) }
     requires judged { IsRestJudged cell.now.plan cell.now.cell present (lent verdict) }
     ensures { let p = cell.now.plan in
-        IfOk result (λ text. IsTextOf telling p cell.now.cell present (lent verdict.entry) text.items) }
+        IfOk result (λ text. IsTextOf names.now telling p cell.now.cell present (lent verdict.entry) text.items) }
 {
     match telling {
         PlanTelling::Verdict => first_line_after(alloc, cell, verdict),
-        PlanTelling::Reasons => explain_after(alloc, cell, present, verdict),
-        PlanTelling::Moments => schedule_after(alloc, cell, present, verdict),
+        PlanTelling::Reasons(job) => explain_after(alloc, names, job, cell, present, verdict),
+        PlanTelling::Moments => schedule_after(alloc, names, cell, present, verdict),
     }
 }
 
 /// The status of a verdict on the rest.
-fn rest_status(verdict: &Judged) -> u8
+pub(crate) fn rest_status(verdict: &Judged) -> u8
     ensures { result ≡ rest_status verdict.now }
 {
     match verdict {

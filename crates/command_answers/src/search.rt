@@ -8,7 +8,7 @@ ghost use Rattle.command_answers.specs.Commands.{RunsPlanWith};
 use crate::answer::{Answered, GOOD, REFUSED};
 use crate::both::{Both, Pair, read_both};
 use crate::command_fault::Unanswered;
-use crate::lines::{document_answer, fault_answer, line_answer};
+use crate::lines::{bad_numbers_answer, document_answer, line_answer};
 use crate::texts::Texts;
 use plan_seek::{Proposer, SeekFault, seek};
 use std::alloc::Global;
@@ -55,7 +55,7 @@ fn no_plan_answer(alloc: Global, fault: SeekFault) -> Answered
         return Err(fault);
     }
     match fault {
-        SeekFault::BadNumbers(fault) => Ok(fault_answer(alloc, b"bad numbers ", fault)?),
+        SeekFault::BadNumbers(fault) => Ok(bad_numbers_answer(alloc, fault)?),
         SeekFault::Exhausted => Ok(line_answer(alloc, b"exhausted\n", REFUSED)?),
         SeekFault::TooManyRounds => Ok(line_answer(alloc, b"too many rounds\n", REFUSED)?),
         SeekFault::Memory => unreachable!(),

@@ -17,12 +17,12 @@ module _ {W : Type 0} (gives : W → List ℕ → Result (List ℕ) CommandFault
       subst (λ (log : Option (List ℕ)). RunsChosen gives log chosen before outcome mid after None) (sym none) (runs, same)
 
   pub logged : (chosen : Chosen) (before after : Devices W) (outcome : Result Answer CommandFault) (mid : Streams) (end : Option LogEnd) (path : List ℕ) (pair : PairOfFiles) (manner : Manner) → kept_log_in chosen ≡ Some path
-      → pair ≡ pair_in chosen → manner ≡ manner_in chosen → RunsLoggedDrive gives before.folder after.folder path manner chosen.at pair before.texts (step_of before.streams outcome mid end) after.texts
+      → pair ≡ pair_in chosen → manner ≡ manner_in chosen → RunsLoggedDrive gives before.folder after.folder path chosen.start manner chosen.at pair before.texts (step_of before.streams outcome mid end) after.texts
       → RunsChosen gives (kept_log_in chosen) chosen before outcome mid after end
   logged chosen before after outcome mid end path pair manner keeps same_pair same_manner runs =
       subst (λ (log : Option (List ℕ)). RunsChosen gives log chosen before outcome mid after end) (sym keeps)
-      (subst (λ (m : Manner). RunsLoggedDrive gives before.folder after.folder path m chosen.at (pair_in chosen) before.texts (step_of before.streams outcome mid end) after.texts) same_manner
-      (subst (λ (q : PairOfFiles). RunsLoggedDrive gives before.folder after.folder path manner chosen.at q before.texts (step_of before.streams outcome mid end) after.texts) same_pair runs))
+      (subst (λ (m : Manner). RunsLoggedDrive gives before.folder after.folder path chosen.start m chosen.at (pair_in chosen) before.texts (step_of before.streams outcome mid end) after.texts) same_manner
+      (subst (λ (q : PairOfFiles). RunsLoggedDrive gives before.folder after.folder path chosen.start manner chosen.at q before.texts (step_of before.streams outcome mid end) after.texts) same_pair runs))
 
   pub told_of_path : (chosen : Chosen) (before : Devices W) (path : List ℕ) (told : Option (List ℕ × List ℕ)) → kept_log_in chosen ≡ Some path → IfSome told (IsToldOfChosen gives chosen before)
       → IfSome told (IsToldOfLog gives before.folder (pair_in chosen) path (manner_in chosen) chosen.at before.texts before.streams.output.taken)

@@ -1,30 +1,27 @@
 -- How each run of the program ends.
-use Rattle.std.proofs.Common.{◌≡◌, ℕ, ◌≤◌, List, [], Bool, true, false, Option, None, Some, Result, Ok, Err, option_map, string_bytes, inl, inr, ◌⊎◌, ap, sym, ◌∙◌, subst, arith, refl}
+use Rattle.std.proofs.Common.{◌≡◌, ℕ, ◌≤◌, ◌==◌, ◌&&◌, if◌then◌else◌, List, [], Bool, true, false, Option, None, Some, Result, Ok, Err, option_map, string_bytes, inl, inr, ◌⊎◌, ap, sym, ◌∙◌, subst, arith, refl}
+use Rattle.std.proofs.lemmas.Bool.{and_parts, cases_Bool, eqb-true}
 use Rattle.cell_drive.specs.declared.manner.Manner.{Manner}
 use Rattle.shop_base.specs.declared.shape_fault.ShapeFault.{ShapeFault}
 use Rattle.shop_base.specs.Plan.{PlannedShop}
-use Rattle.cell_drive.specs.declared.one_run.DriveEnd.{DriveEnd}
-use Rattle.cell_drive.specs.declared.rest_run.RestEnd.{RestEnd}
-use Rattle.cell_drive.specs.declared.many_runs.HubEnd.{HubEnd}
+use Rattle.cell_drive.specs.declared.begin.DriveEnd.{DriveEnd}
+use Rattle.cell_drive.specs.declared.resume.RestEnd.{RestEnd}
+use Rattle.cell_drive.specs.declared.hub.HubEnd.{HubEnd}
 use Rattle.byte_streams.specs.declared.drive_fault.DriveFault.{DriveFault}
 use Rattle.byte_streams.specs.declared.drive_fault.DriveFault.TheVariants.{Read as NotRead, Write as NotWritten, InputTooLong as TooLong, Memory as WantOfMemory}
 use Rattle.byte_streams.specs.Streams.{IsStreamed}
 use Rattle.plan_verifier.specs.Accepted.{VerifiedPlan}
-use Rattle.cell_drive.specs.OneCell.{DriveAnswer, DriveCloses, drive_start}
 use Rattle.cell_drive.specs.OneRun.{IsStreamedFrom}
-use Rattle.cell_drive.specs.Stated.{StatedAnswer, StatedCloses, stated_start}
-use Rattle.cell_drive.specs.ManyCells.{hub_start, CellsAnswer, CellsClose}
+use Rattle.cell_drive.specs.Session.{SessionAnswer, SessionCloses, session_start}
 use Rattle.cell_drive.specs.StatedCells.{StatedHubAnswer, StatedHubCloses, stated_hub_start}
 use Rattle.plan_verifier.specs.declared.verdict.Verdict.TheVariants.{Accepted, Refused}
 use Rattle.cell_drive.specs.declared.resume_fault.ResumeFault.{ResumeFault}
-use Rattle.cell_drive.specs.RestCell.{RestAnswer, RestCloses}
 use Rattle.cell_drive.specs.TakenUp.{TakenUp}
-use Rattle.cell_drive.specs.StatedRest.{StatedRestAnswer, StatedRestCloses}
-use Rattle.cell_drive.specs.StatedResume.{stated_from}
-use Rattle.cell_drive.specs.InManner.{ResumesBy}
+use Rattle.cell_drive.specs.Resuming.{session_from}
+use Rattle.cell_drive.specs.InManner.{IsResumeIn}
 use Rattle.command_words.specs.declared.words.Chosen.{Chosen}
 use Rattle.command_words.specs.declared.words.CommandName.{CommandName}
-use Rattle.command_words.specs.declared.words.CommandName.TheVariants.{Input as NoWords, Facts, Shape, Check, Explain, Schedule, Bounds, Plan as Search, Improve, Decide, Revise, Drive, Resume, Hub, Audit, Gantt}
+use Rattle.command_words.specs.declared.words.CommandName.TheVariants.{Input as NoWords, Facts, Shape, Check, Explain, Schedule, Bounds, Margin, Plan as Search, Improve, Decide, Revise, Drive, Resume, Hub, Digest, Audit, Gantt}
 use Rattle.command_words.specs.declared.words.WordsFault.{WordsFault}
 use Rattle.command_words.specs.declared.words.WordsFault.TheVariants.{Usage, Memory as NoWordsMemory}
 use Rattle.command_words.specs.Choice.{IsChoiceOf, TellsOneOf, reasons_in, found_in}
@@ -32,7 +29,7 @@ use Rattle.command_answers.specs.declared.answer.Answer.{Answer}
 use Rattle.command_answers.specs.declared.cells.Cells.{Cells}
 use Rattle.command_answers.specs.declared.cells.Cells.TheVariants.{Accepted as AllAccepted, Line}
 use Rattle.command_answers.specs.declared.command_fault.CommandFault.{CommandFault}
-use Rattle.command_answers.specs.declared.command_fault.CommandFault.TheVariants.{Instance, Plan, Read, Write, InputTooLong, Log, LogInUse, Memory}
+use Rattle.command_answers.specs.declared.command_fault.CommandFault.TheVariants.{Instance, Plan, Names, Read, Write, InputTooLong, Log, LogInUse, Memory}
 use Rattle.command_answers.specs.declared.loading.Loaded.{Loaded}
 use Rattle.command_answers.specs.declared.loading.Loaded.TheVariants.{NotShaped, Judged}
 use Rattle.command_answers.specs.Statuses.{status_of}
@@ -44,12 +41,14 @@ use Rattle.command_answers.specs.Pictures.{DrawsLog}
 use Rattle.command_answers.specs.Cells.{LoadsCells}
 use Rattle.command_run.specs.Streams.{Streams, Output, Errors, Devices}
 use Rattle.command_run.specs.Pictures.{Draws, DrawsTimetable, IsPictureOut, RunsTimetable, RunsDrawing}
-use Rattle.command_run.specs.Drives.{Drives, DrivesBy, is_plain}
+use Rattle.command_run.specs.declared.pictures.Timetable.{Timetable}
+use Rattle.command_run.specs.declared.pictures.Timetable.TheVariants.{Moments, Moves, Picture as DrawnForm}
+use Rattle.command_run.specs.Drives.{Drives, IsDriveIn}
 use Rattle.command_run.specs.Resumes.{IsTaking, ResumesTaken, ResumesText, Resumes}
-use Rattle.command_run.specs.Hubs.{DriveBy, DrivesAll}
+use Rattle.command_run.specs.Hubs.{AreDrivesIn, DrivesAll}
 use Rattle.command_run.specs.Ending.{Ends, EndsBy, EndsAside, IsPrinted, IsTold, IsToldAfter, IsOfText, IsLineOut, WasTold}
-use Rattle.command_run.specs.Logs.{LogEnd, step_of}
-use Rattle.command_run.specs.Program.{AreWordsRead, RunsCommand, RunsChosen, Follows, draws_in, file_at, kept_log_in, log_in, manner_in, name_in, pair_in, plans_in}
+use Rattle.command_run.specs.Logs.{LogEnd, is_driven, step_of}
+use Rattle.command_run.specs.Program.{AreWordsRead, RunsCommand, RunsChosen, Follows, starts_again, status_by, draws_in, file_at, form_in, kept_log_in, log_in, manner_in, name_in, names_in, pair_in, plans_in}
 use Rattle.command_run.specs.Laws.{IsOutcomeOfWords, IsFailureOf, EndsAsTold, HoldsNothing, WereDriven, WereRefused, IsUnanswered, Ran, RanCommand, WroteNoMore}
 use Rattle.command_run.proofs.LowStatuses.{IsLow, low}
 use Rattle.command_run.proofs.Keepers.{keeper}
@@ -60,12 +59,36 @@ use Rattle.command_run.proofs.LoggedEndings.{logged_shown, logged_written, low_l
 at_least_two : (fault : CommandFault) (status : ℕ) → status ≡ status_of fault → 2 ≤ status
 at_least_two (Instance fault) status own = omega (arith, own)
 at_least_two (Plan fault) status own = omega (arith, own)
+at_least_two (Names names) status own = omega (arith, own)
 at_least_two Read status own = omega (arith, own)
 at_least_two Write status own = omega (arith, own)
 at_least_two InputTooLong status own = omega (arith, own)
 at_least_two Log status own = omega (arith, own)
 at_least_two LogInUse status own = omega (arith, own)
 at_least_two Memory status own = omega (arith, own)
+
+-- the status is the fault's own, or 6 in place of 5
+abbrev pub IsOwnOr : ℕ → ℕ → Type 0
+IsOwnOr own status = (status ≡ own) ⊎ ((own ≡ 5) × (status ≡ 6))
+
+pub own_or : (keeps : Option (List ℕ)) (log : Option LogEnd) (outcome : Result Answer CommandFault) (own status : ℕ) → status ≡ status_by keeps log outcome own → IsOwnOr own status
+own_or None log outcome own status is = inl is
+own_or (Some path) log outcome own status is = elim (cases_Bool (own == 5 && starts_again (is_driven log) outcome)) [
+  | inl again ↦ inr (eqb-true own 5 (and_parts (own == 5) (starts_again (is_driven log) outcome) again).0, is ∙ ap (λ (b : Bool). if b then 6 else own) again)
+  | inr never ↦ inl (is ∙ ap (λ (b : Bool). if b then 6 else own) never)
+]
+
+own_high : (own status : ℕ) → IsOwnOr own status → 2 ≤ status → 2 ≤ own
+own_high own status (inl same) high = omega (arith, same, high)
+own_high own status (inr (five, six)) high = omega (arith, five)
+
+status_high : (own status : ℕ) → IsOwnOr own status → 2 ≤ own → 2 ≤ status
+status_high own status (inl same) high = omega (arith, same, high)
+status_high own status (inr (five, six)) high = omega (arith, six)
+
+low_own : (own status : ℕ) → IsOwnOr own status → own ≤ 1 → status ≡ own
+low_own own status (inl same) low = same
+low_own own status (inr (five, six)) low = absurd (omega (arith, five, low))
 
 -- the fault was told, which failed, or out of memory in its place
 pub record IsFailureTold (outcome : Result Answer CommandFault) (output : Output) (before after : Errors) (status : ℕ) : Type 0 where
@@ -155,26 +178,27 @@ module _ {W : Type 0} (gives : W → List ℕ → Result (List ℕ) CommandFault
   resumes_written (Ok (Err fault)) mid later outcome shapes is = kept Resume is.1
   resumes_written (Ok (Ok p)) mid later outcome shapes is = text_written p mid shapes later outcome is.text is.asks is.resumes
 
-  schedule_drawn : (drawn : Result Drawn CommandFault) (later : W) (outcome : Result Answer CommandFault) → DrawsTimetable gives chosen.at (pair_in chosen) (log_in chosen) texts drawn later
+  schedule_drawn : (drawn : Result Drawn CommandFault) (later : W) (outcome : Result Answer CommandFault) → DrawsTimetable gives chosen.at (pair_in chosen) (names_in chosen) (log_in chosen) texts drawn later
       → Draws drawn before after outcome → WereDriven gives Schedule chosen texts before after
   schedule_drawn (Err fault) later outcome came is = kept Schedule is.1
   schedule_drawn (Ok (LineDrawn answer)) later outcome came is = kept Schedule is.1
   schedule_drawn (Ok (Picture picture status)) later outcome came is =
       inr (inr (inr (inr (inl (refl, record { picture = picture; status = status; later = later; came = came; outcome = outcome; out = is.1 })))))
 
-  log_drawn : (drawn : Result Drawn CommandFault) (later : W) (outcome : Result Answer CommandFault) → DrawsLog gives (pair_in chosen) (file_at chosen 2) texts drawn later
+  log_drawn : (drawn : Result Drawn CommandFault) (later : W) (outcome : Result Answer CommandFault) → DrawsLog gives (pair_in chosen) (names_in chosen) (file_at chosen 2) texts drawn later
       → Draws drawn before after outcome → WereDriven gives Gantt chosen texts before after
   log_drawn (Err fault) later outcome came is = kept Gantt is.1
   log_drawn (Ok (LineDrawn answer)) later outcome came is = kept Gantt is.1
   log_drawn (Ok (Picture picture status)) later outcome came is =
       inr (inr (inr (inr (inr (refl, record { picture = picture; status = status; later = later; came = came; outcome = outcome; out = is.1 })))))
 
-  timetable_written : (svg : Bool) (later : W) (outcome : Result Answer CommandFault) → RunsTimetable gives svg chosen.at (pair_in chosen) (log_in chosen) texts before outcome later after
+  timetable_written : (form : Timetable) (later : W) (outcome : Result Answer CommandFault) → RunsTimetable gives form chosen.at (pair_in chosen) (names_in chosen) (log_in chosen) texts before outcome later after
       → WereDriven gives Schedule chosen texts before after
-  timetable_written false later outcome run = kept Schedule run.1
-  timetable_written true later outcome run = schedule_drawn run.drawn later outcome run.came run.draws
+  timetable_written Moments later outcome run = kept Schedule run.1
+  timetable_written Moves later outcome run = kept Schedule run.1
+  timetable_written DrawnForm later outcome run = schedule_drawn run.drawn later outcome run.came run.draws
 
-  drawing_written : (svg : Bool) (later : W) (outcome : Result Answer CommandFault) → RunsDrawing gives svg (pair_in chosen) (file_at chosen 2) texts before outcome later after
+  drawing_written : (svg : Bool) (later : W) (outcome : Result Answer CommandFault) → RunsDrawing gives svg (pair_in chosen) (names_in chosen) (file_at chosen 2) texts before outcome later after
       → WereDriven gives Gantt chosen texts before after
   drawing_written false later outcome run = kept Gantt run.1
   drawing_written true later outcome run = log_drawn run.drawn later outcome run.came run.draws
@@ -186,8 +210,9 @@ module _ {W : Type 0} (gives : W → List ℕ → Result (List ℕ) CommandFault
   written Shape later outcome run = kept Shape run.1
   written Check later outcome run = kept Check run.1
   written Explain later outcome run = kept Explain run.1
-  written Schedule later outcome run = timetable_written chosen.svg later outcome run
+  written Schedule later outcome run = timetable_written (form_in chosen) later outcome run
   written Bounds later outcome run = kept Bounds run.1
+  written Margin later outcome run = kept Margin run.1
   written Search later outcome run = kept Search run.1
   written Improve later outcome run = kept Improve run.1
   written Decide later outcome run = kept Decide run.1
@@ -195,6 +220,7 @@ module _ {W : Type 0} (gives : W → List ℕ → Result (List ℕ) CommandFault
   written Drive later outcome run = drives_written run.loaded later outcome run.loads run.drives
   written Resume later outcome run = resumes_written run.shaped run.texts_mid later outcome run.shapes run.resumes
   written Hub later outcome run = hub_written run.loaded later outcome run.loads run.drives
+  written Digest later outcome run = kept Digest run.1
   written Audit later outcome run = kept Audit run.1
   written Gantt later outcome run = drawing_written chosen.svg later outcome run
 
@@ -216,25 +242,17 @@ streamed_from_shown answers closes start last before after (Err NotWritten) is n
 streamed_from_shown answers closes start last before after (Err TooLong) is none = streamed_shown answers closes start last before after (Err TooLong) is
 streamed_from_shown answers closes start last before after (Err WantOfMemory) is none = inl (ap (λ (s : Streams). s.output.pending) is ∙ none)
 
-resume_shown : (plain : Bool) (manner : Manner) (t : TakenUp) (before after : Streams) (end : Result RestEnd DriveFault) → ResumesBy plain manner t before after end → before.output.pending ≡ []
-    → HoldsNothing after.output
-resume_shown true manner t before after end (inl cut) none = inr cut.1
-resume_shown true manner t before after end (inr on) none =
-    streamed_shown RestAnswer RestCloses t.driven on.end (record { input = before.input; output = on.middle }) after end on.streamed
-resume_shown false manner t before after end (inl (wanting, same)) none = inl (ap (λ (s : Streams). s.output.pending) same ∙ none)
-resume_shown false manner t before after end (inr (inl cut)) none = inr cut.1
-resume_shown false manner t before after end (inr (inr on)) none =
-    streamed_shown StatedRestAnswer StatedRestCloses (stated_from manner t) on.end (record { input = before.input; output = on.middle }) after end on.streamed
+resume_shown : (manner : Manner) (t : TakenUp) (before after : Streams) (end : Result RestEnd DriveFault) → IsResumeIn manner t before after end → before.output.pending ≡ [] → HoldsNothing after.output
+resume_shown manner t before after end (inl (second, wanting, same)) none = inl (ap (λ (s : Streams). s.output.pending) same ∙ none)
+resume_shown manner t before after end (inr (inl cut)) none = inr cut.1
+resume_shown manner t before after end (inr (inr on)) none =
+    streamed_shown SessionAnswer SessionCloses (session_from manner t) on.end (record { input = before.input; output = on.middle }) after end on.streamed
 
-drive_shown : (plain : Bool) (manner : Manner) (v : VerifiedPlan) (before after : Streams) (end : Result DriveEnd DriveFault) → DrivesBy plain manner v before after end → before.output.pending ≡ []
-    → HoldsNothing after.output
-drive_shown true manner v before after end is none = streamed_from_shown DriveAnswer DriveCloses (drive_start v) is.end before after end is.streamed none
-drive_shown false manner v before after end is none = streamed_from_shown StatedAnswer StatedCloses (stated_start manner v) is.end before after end is.streamed none
+drive_shown : (manner : Manner) (v : VerifiedPlan) (before after : Streams) (end : Result DriveEnd DriveFault) → IsDriveIn manner v before after end → before.output.pending ≡ [] → HoldsNothing after.output
+drive_shown manner v before after end is none = streamed_from_shown SessionAnswer SessionCloses (session_start manner v) is.end before after end is.streamed none
 
-hub_shown : (plain : Bool) (manner : Manner) (cells : List VerifiedPlan) (before after : Streams) (end : Result HubEnd DriveFault) → DriveBy plain manner cells before after end → before.output.pending ≡ []
-    → HoldsNothing after.output
-hub_shown true manner cells before after end is none = streamed_from_shown CellsAnswer (CellsClose 0) (hub_start cells) is.end before after end is.streamed none
-hub_shown false manner cells before after end is none = streamed_from_shown StatedHubAnswer StatedHubCloses (stated_hub_start manner cells) is.end before after end is.streamed none
+hub_shown : (manner : Manner) (cells : List VerifiedPlan) (before after : Streams) (end : Result HubEnd DriveFault) → AreDrivesIn manner cells before after end → before.output.pending ≡ [] → HoldsNothing after.output
+hub_shown manner cells before after end is none = streamed_from_shown StatedHubAnswer StatedHubCloses (stated_hub_start manner cells) is.end before after end is.streamed none
 
 picture_shown : (picture : List ℕ) (status : ℕ) (before after : Output) (outcome : Result Answer CommandFault) → IsPictureOut picture status before after outcome → HoldsNothing after
 picture_shown picture status before after (Ok answer) out = inl out.4
@@ -245,10 +263,10 @@ driven_shown : {W : Type 0} (gives : W → List ℕ → Result (List ℕ) Comman
 driven_shown gives chosen texts before after name (inl same) none = inl (ap (λ (o : Output). o.pending) same ∙ none)
 driven_shown gives chosen texts before after name (inr (inl (is, inr drove))) none = logged_shown gives (manner_in chosen) (pair_in chosen) texts before after drove none
 driven_shown gives chosen texts before after name (inr (inl (is, inl drove))) none =
-    drive_shown (is_plain (manner_in chosen)) (manner_in chosen) drove.cell before after drove.end drove.is none
-driven_shown gives chosen texts before after name (inr (inr (inl (is, drove)))) none = resume_shown (is_plain (manner_in chosen)) (manner_in chosen) drove.taken before after drove.end drove.is none
+    drive_shown (manner_in chosen) drove.cell before after drove.end drove.is none
+driven_shown gives chosen texts before after name (inr (inr (inl (is, drove)))) none = resume_shown (manner_in chosen) drove.taken before after drove.end drove.is none
 driven_shown gives chosen texts before after name (inr (inr (inr (inl (is, drove))))) none =
-    hub_shown (is_plain (manner_in chosen)) (manner_in chosen) drove.cells before after drove.end drove.are none
+    hub_shown (manner_in chosen) drove.cells before after drove.end drove.are none
 driven_shown gives chosen texts before after name (inr (inr (inr (inr (inl (is, drew)))))) none = picture_shown drew.picture drew.status before.output after.output drew.outcome drew.out
 driven_shown gives chosen texts before after name (inr (inr (inr (inr (inr (is, drew)))))) none = picture_shown drew.picture drew.status before.output after.output drew.outcome drew.out
 
@@ -293,7 +311,7 @@ module _ {W : Type 0} (gives : W → List ℕ → Result (List ℕ) CommandFault
   chosen_written : (log : Option (List ℕ)) → kept_log_in chosen ≡ log → RunsChosen gives log chosen before outcome mid after end → WereDriven gives chosen.name chosen before.texts before.streams mid
   chosen_written None none run = written gives chosen before.texts before.streams mid chosen.name after.texts outcome run.0
   chosen_written (Some path) keeps run =
-      elim (logged_written gives (pair_in chosen) (manner_in chosen) before.texts after.texts before.streams mid outcome end before.folder after.folder path chosen.at run.shaped run.shapes run.drives) [
+      elim (logged_written gives (pair_in chosen) (manner_in chosen) before.texts after.texts before.streams mid outcome end before.folder after.folder path chosen.start chosen.at run.shaped run.shapes run.drives) [
         | inl same ↦ inl same
         | inr drove ↦ inr (inl (keeper chosen.name (option_map string_bytes chosen.log) path keeps, inr drove))
       ]
@@ -301,7 +319,7 @@ module _ {W : Type 0} (gives : W → List ℕ → Result (List ℕ) CommandFault
   -- and its answer is a good one, or one that refuses
   chosen_low : (log : Option (List ℕ)) → RunsChosen gives log chosen before outcome mid after end → IsLow outcome
   chosen_low None run = low gives chosen.name chosen before.texts before.streams outcome after.texts mid run.0
-  chosen_low (Some path) run = low_logged before.folder after.folder path (manner_in chosen) chosen.at run.shaped (step_of before.streams outcome mid end) run.drives
+  chosen_low (Some path) run = low_logged before.folder after.folder path chosen.start (manner_in chosen) chosen.at run.shaped (step_of before.streams outcome mid end) run.drives
 
 module _ {W : Type 0} (gives : W → List ℕ → Result (List ℕ) CommandFault → W → Type 0) (words : List (List ℕ)) (before : Devices W) (status : ℕ) (after : Devices W) (end : Option LogEnd) where
   -- a command that was run, as a part of the program's run
@@ -315,18 +333,18 @@ module _ {W : Type 0} (gives : W → List ℕ → Result (List ℕ) CommandFault
   chose_none fault refused outcome is = inr (record { fault = fault; refused = refused; is = is; same = refl })
 
   -- what was told at the end of what ran
-  ends_told : (outcome : Result Answer CommandFault) (mid : Streams) → Ran gives words before outcome mid after end
-      → EndsWell outcome after.streams.output before.errors after.errors status → EndsAsTold gives words before status after end
-  ends_told outcome mid ran (inl failure) =
-      inl (failure.high, inr (record { outcome = outcome; mid = mid; ran = ran; fault = failure.fault; failed = failure.failed; told = failure.told }))
-  ends_told outcome mid ran (inr good) = inr (good.0, inl good.1)
+  ends_told : (outcome : Result Answer CommandFault) (mid : Streams) (own : ℕ) → IsOwnOr own status → Ran gives words before outcome mid after end
+      → EndsWell outcome after.streams.output before.errors after.errors own → EndsAsTold gives words before status after end
+  ends_told outcome mid own rel ran (inl failure) =
+      inl (status_high own status rel failure.high, inr (record { outcome = outcome; mid = mid; ran = ran; fault = failure.fault; failed = failure.failed; own = own; told = failure.told; status_is = rel }))
+  ends_told outcome mid own rel ran (inr good) = inr (subst (λ (n : ℕ). n ≤ 1) (sym (low_own own status rel good.0)) good.0, inl good.1)
 
   -- of a command
-  command_told : (chosen : Chosen) (taken : reasons_in words ≡ []) (is : IsChoiceOf words (found_in words) chosen) (outcome : Result Answer CommandFault) (mid : Streams)
+  command_told : (chosen : Chosen) (taken : reasons_in words ≡ []) (is : IsChoiceOf words (found_in words) chosen) (outcome : Result Answer CommandFault) (mid : Streams) (own : ℕ) → IsOwnOr own status
       → RunsChosen gives (kept_log_in chosen) chosen before outcome mid after end
-      → EndsWellBy (draws_in chosen) outcome after.streams.output before.errors after.errors status → EndsAsTold gives words before status after end
-  command_told chosen taken is outcome mid runs (inl well) = ends_told outcome mid (ran chosen taken is outcome mid runs) well
-  command_told chosen taken is outcome mid runs (inr (low, (answer, same, draws, told, own))) =
+      → EndsWellBy (draws_in chosen) outcome after.streams.output before.errors after.errors own → EndsAsTold gives words before status after end
+  command_told chosen taken is outcome mid own rel runs (inl well) = ends_told outcome mid own rel (ran chosen taken is outcome mid runs) well
+  command_told chosen taken is outcome mid own rel runs (inr (low, (answer, same, draws, told, answered))) =
       let run : RunsChosen gives (kept_log_in chosen) chosen before (Ok answer) mid after end =
       subst (λ (o : Result Answer CommandFault). RunsChosen gives (kept_log_in chosen) chosen before o mid after end) same runs in
       let here : RanCommand gives words before (Ok answer) mid after end = record {
@@ -336,24 +354,25 @@ module _ {W : Type 0} (gives : W → List ℕ → Result (List ℕ) CommandFault
         runs = run;
         driven = chosen_written gives chosen before after (Ok answer) mid end (kept_log_in chosen) refl run;
       } in
-      inr (low, inr (record { answer = answer; mid = mid; ran = here; draws = draws; told = told; own = own }))
+      let status_is = low_own own status rel low in
+      inr (subst (λ (n : ℕ). n ≤ 1) (sym status_is) low, inr (record { answer = answer; mid = mid; ran = here; draws = draws; told = told; own = status_is ∙ answered }))
 
   pub follows_ends : (read : Result Chosen WordsFault) → AreWordsRead words read → Follows gives read before status after end → EndsAsTold gives words before status after end
   follows_ends (Ok chosen) are is =
-      command_told chosen are.taken are.chosen is.outcome is.mid is.runs
-      (by_ends (draws_in chosen) is.outcome is.mid.output after.streams.output before.errors after.errors status (chosen_low gives chosen before after is.outcome is.mid end (kept_log_in chosen) is.runs) is.ends)
+      command_told chosen are.taken are.chosen is.outcome is.mid is.own (own_or (kept_log_in chosen) end is.outcome is.own status is.status_is) is.runs
+      (by_ends (draws_in chosen) is.outcome is.mid.output after.streams.output before.errors after.errors is.own (chosen_low gives chosen before after is.outcome is.mid end (kept_log_in chosen) is.runs) is.ends)
   follows_ends (Err (Usage true text)) are is =
-      ends_told (Ok is.help) before.streams (chose_none (Usage true text) are.refused (Ok is.help) (is.help, refl, is.text_is.0))
+      ends_told (Ok is.help) before.streams status (inl refl) (chose_none (Usage true text) are.refused (Ok is.help) (is.help, refl, is.text_is.0))
       (outcome_ends (Ok is.help) before.streams.output after.streams.output before.errors after.errors status (omega (arith, is.text_is.1)) is.ends)
   follows_ends (Err (Usage false text)) are is =
       inl (omega (arith, is.1), inl (record { fault = Usage false text; refused = are.refused; told = (is.1, is.0); same = is.3 }))
   follows_ends (Err NoWordsMemory) are is =
-      ends_told (Err Memory) before.streams (chose_none NoWordsMemory are.refused (Err Memory) refl)
+      ends_told (Err Memory) before.streams status (inl refl) (chose_none NoWordsMemory are.refused (Err Memory) refl)
       (outcome_ends (Err Memory) before.streams.output after.streams.output before.errors after.errors status tt is.0)
 
   pub follows_shown : (read : Result Chosen WordsFault) → before.streams.output.pending ≡ [] → Follows gives read before status after end → HoldsNothing after.streams.output
   follows_shown (Ok chosen) none is =
-      aside_shown (draws_in chosen) is.outcome is.mid.output after.streams.output before.errors after.errors status
+      aside_shown (draws_in chosen) is.outcome is.mid.output after.streams.output before.errors after.errors is.own
       (driven_shown gives chosen before.texts before.streams is.mid chosen.name (chosen_written gives chosen before after is.outcome is.mid end (kept_log_in chosen) refl is.runs) none) is.ends
   follows_shown (Err (Usage true text)) none is = printed_shown is.help is.ends.printed before.streams.output after.streams.output is.ends.is
   follows_shown (Err (Usage false text)) none is = inl (ap (λ (s : Streams). s.output.pending) is.3 ∙ none)
@@ -366,8 +385,8 @@ module _ {W : Type 0} (gives : W → List ℕ → Result (List ℕ) CommandFault
         outcome = is.outcome;
         mid = is.mid;
         ran = ran chosen are.taken are.chosen is.outcome is.mid is.runs;
-        unanswered = aside_no_more (draws_in chosen) is.outcome is.mid.output after.streams.output before.errors after.errors status
-            (chosen_low gives chosen before after is.outcome is.mid end (kept_log_in chosen) is.runs) high is.ends;
+        unanswered = aside_no_more (draws_in chosen) is.outcome is.mid.output after.streams.output before.errors after.errors is.own
+            (chosen_low gives chosen before after is.outcome is.mid end (kept_log_in chosen) is.runs) (own_high is.own status (own_or (kept_log_in chosen) end is.outcome is.own status is.status_is) high) is.ends;
       })
   follows_no_more (Err (Usage true text)) are high is =
       inr (record {

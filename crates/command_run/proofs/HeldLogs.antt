@@ -1,31 +1,40 @@
 -- What is held after a run with a log.
-use Rattle.std.proofs.Common.{◌≡◌, ℕ, List, [], Bool, Option, None, Some, IfSome, Result, Ok, Err, IfOk, ap, sym, ◌∙◌, subst, refl}
-use Rattle.std.specs.Prelude.{IsOk, is_some}
+use Rattle.std.proofs.Common.{◌≡◌, ◌⊎◌, ℕ, List, [], Bool, false, true, inl, inr, option_map, Option, None, Some, IfSome, Result, Ok, Err, IfOk, ap, sym, ◌∙◌, subst, refl}
+use Rattle.std.specs.Prelude.{IsOk, MatchOption, is_some}
+use Rattle.text_lines.specs.Lines.{ended_lines}
 use Rattle.shop_base.specs.Plan.{PlannedShop}
 use Rattle.byte_streams.specs.declared.drive_fault.DriveFault.{DriveFault}
-use Rattle.cell_drive.specs.declared.one_run.DriveEnd.{DriveEnd}
-use Rattle.cell_drive.specs.declared.rest_run.RestEnd.{RestEnd}
+use Rattle.cell_drive.specs.declared.begin.DriveEnd.{DriveEnd}
+use Rattle.cell_drive.specs.declared.resume.RestEnd.{RestEnd}
 use Rattle.cell_tables.specs.declared.entry.Entry.{Entry}
-use Rattle.run_journal.specs.Folders.{NamedLog}
+use Rattle.event_lines.specs.LogLines.{LinesTell}
+use Rattle.event_lines.specs.RunDigits.{plan_line}
+use Rattle.plan_digest.proofs.SixteenDigits.{digits_are}
+use Rattle.run_journal.specs.declared.file_fault.FileFault.{FileFault}
+use Rattle.run_journal.specs.declared.file_fault.FileFault.TheVariants.{Log}
+use Rattle.run_journal.specs.Folders.{Folder, NamedLog, IsOpenFault, handed, with_fault, with_log}
+use Rattle.run_journal.specs.LogFiles.{IsReadFault, Leaves}
 use Rattle.run_journal.specs.Logged.{Held, StayInStep}
+use Rattle.run_journal.specs.Openings.{IsFound, IsOfLog, IsUnmade, IsUnnamed}
 use Rattle.run_journal.specs.WholeLines.{whole_lines}
+use Rattle.run_journal.proofs.NamedLogs.{logs_before, plan_tells, whole_plan}
 use Rattle.logged_drive.specs.CrashLaw.{IsTakenUpAfter}
 use Rattle.logged_drive.specs.LoggedRuns.{IsAllInLog, KeepsShown}
 use Rattle.command_answers.specs.declared.answer.Answer.{Answer}
 use Rattle.command_answers.specs.declared.command_fault.CommandFault.{CommandFault}
 use Rattle.command_run.specs.Drives.{end_of_drive}
 use Rattle.command_run.specs.Resumes.{end_of_rest}
-use Rattle.command_run.specs.Logs.{IsEmptyLog, IsHeldAfter, IsLoggedAnswer, IsToldOfNew, KeepsInLog, LogEnd, WithLog, left_if}
+use Rattle.command_run.specs.Logs.{Found, IsEmptyLog, IsFoundLog, IsHeldAfter, IsLoggedAnswer, IsNewLogFault, IsToldOfNew, KeepsInLog, LogEnd, Unlined, Unread, WithLog, digits_in, is_driven, left_if}
 
 -- where none is
-pub none_held : {D : Type 0} (seen : D → Option (List ℕ)) (may_leave : D → List ℕ → Type 0) (failed : D → Bool) (told : Option (List ℕ × List ℕ)) (taken : Option (List ℕ)) (good : Type 0) (done : Option LogEnd → Type 0)
-    → done None → WithLog seen may_leave failed told taken good None done
-none_held seen may_leave failed told taken good done is = record { end = None; is = is; held = tt }
+pub none_held : {D : Type 0} (seen : D → Option (List ℕ)) (may_leave : D → List ℕ → Type 0) (fault : D → Option FileFault) (written : D → Bool) (told : Option (List ℕ × List ℕ)) (taken : Option (List ℕ)) (good : Type 0) (done : Option LogEnd → Type 0)
+    → done None → WithLog seen may_leave fault written told taken good None done
+none_held seen may_leave fault written told taken good done is = record { end = None; is = is; held = tt }
 
 -- what was done is something else, too
-pub held_as : {D : Type 0} (seen : D → Option (List ℕ)) (may_leave : D → List ℕ → Type 0) (failed : D → Bool) (told : Option (List ℕ × List ℕ)) (taken : Option (List ℕ)) (good : Type 0) (log : Option D)
-    (one other : Option LogEnd → Type 0) → ((end : Option LogEnd) → one end → other end) → WithLog seen may_leave failed told taken good log one → WithLog seen may_leave failed told taken good log other
-held_as seen may_leave failed told taken good log one other becomes done = record { end = done.end; is = becomes done.end done.is; held = done.held }
+pub held_as : {D : Type 0} (seen : D → Option (List ℕ)) (may_leave : D → List ℕ → Type 0) (fault : D → Option FileFault) (written : D → Bool) (told : Option (List ℕ × List ℕ)) (taken : Option (List ℕ)) (good : Type 0) (log : Option D)
+    (one other : Option LogEnd → Type 0) → ((end : Option LogEnd) → one end → other end) → WithLog seen may_leave fault written told taken good log one → WithLog seen may_leave fault written told taken good log other
+held_as seen may_leave fault written told taken good log one other becomes done = record { end = done.end; is = becomes done.end done.is; held = done.held }
 
 -- all that is said of a log with which a cell was driven
 module _ (seen : Option (List ℕ)) (may_leave : List ℕ → Type 0) (taken : Option (List ℕ)) (good : Type 0) (p : PlannedShop) (events : List Entry) (held : Held) where
@@ -47,10 +56,14 @@ pub gone_on_to_end : {X : Type 0} (log_failed : Bool) (end : Result RestEnd Driv
 gone_on_to_end log_failed (Ok end) outcome answer x good = x
 gone_on_to_end log_failed (Err fault) outcome answer x good = at_good_end log_failed (Err fault) outcome answer x good
 
--- a log without bytes has whole lines alone
-pub none_whole : (told : Option (List ℕ × List ℕ)) → IfSome told (λ t. t.0 ≡ []) → IfSome told (λ t. whole_lines t.0 ≡ t.0)
-none_whole None none = tt
-none_whole (Some t) none = subst (λ (l : List ℕ). whole_lines l ≡ l) (sym none) (let empty : List ℕ = [] in refl)
+-- a log with the line of the plan alone has whole lines alone, and tells no event
+pub line_whole : (p : PlannedShop) (told : Option (List ℕ × List ℕ)) → IfSome told (λ t. t.0 ≡ plan_line (digits_in p)) → IfSome told (λ t. whole_lines t.0 ≡ t.0)
+line_whole p None line = tt
+line_whole p (Some t) line = subst (λ (l : List ℕ). whole_lines l ≡ l) (sym line) (whole_plan (digits_in p))
+
+pub line_untold : (p : PlannedShop) (told : Option (List ℕ × List ℕ)) → IfSome told (λ t. t.0 ≡ plan_line (digits_in p)) → IfSome told (λ t. LinesTell p (ended_lines t.0) [])
+line_untold p None line = tt
+line_untold p (Some t) line = subst (λ (l : List ℕ). LinesTell p (ended_lines l) []) (sym line) (plan_tells p (digits_in p) (digits_are p.shop p.plan))
 
 -- from what is told to something else
 pub told_as : {P Q : List ℕ × List ℕ → Type 0} (told : Option (List ℕ × List ℕ)) → ((t : List ℕ × List ℕ) → P t → Q t) → IfSome told P → IfSome told Q
@@ -64,16 +77,76 @@ told_both (Some t) becomes one other = becomes t one other
 pub at_told : {X : Type 0} (o : Option X) (x : X) (P : X → Type 0) → o ≡ Some x → IfSome o P → P x
 at_told o x P is holds = subst (λ o. IfSome o P) is holds
 
--- a log without bytes has what is told of it
-has_told : (folder : Option (List NamedLog)) (seen taken : Option (List ℕ)) (t : List ℕ × List ℕ) → IfSome folder (λ _. seen ≡ Some []) → IsToldOfNew folder taken t → seen ≡ Some t.0
-has_told folder seen taken t none is = at_told folder is.logs (λ _. seen ≡ Some []) is.there none ∙ ap Some (sym is.log)
+-- one that was opened and has no bytes is left so
+pub undriven : (there : Bool) → false ≡ is_driven (left_if there)
+undriven true = refl
+undriven false = refl
 
--- so it is with one that was opened, and is left
-pub left_held : {D : Type 0} (seen : D → Option (List ℕ)) (may_leave : D → List ℕ → Type 0) (failed : D → Bool) (folder : Option (List NamedLog)) (told : Option (List ℕ × List ℕ)) (start taken : Option (List ℕ)) (good : Type 0) (opened : Option D)
-    → IfSome opened (λ log. IsEmptyLog (seen log) (may_leave log) (failed log) folder) → IfSome told (IsToldOfNew folder start) → IsHeldAfter seen may_leave failed told taken good opened (left_if (is_some opened))
-left_held seen may_leave failed folder told start taken good None empty is_new = tt
-left_held seen may_leave failed folder told start taken good (Some log) empty is_new =
-    (empty.ready.unfailed, told_as told (λ t is. (has_told folder (seen log) start t empty.told is, empty.ready.settled)) is_new)
+pub left_held : {D : Type 0} (seen : D → Option (List ℕ)) (may_leave : D → List ℕ → Type 0) (fault : D → Option FileFault) (written : D → Bool) (folder : Folder) (p : PlannedShop) (told : Option (List ℕ × List ℕ)) (start taken : Option (List ℕ)) (good : Type 0)
+    (opened : Option D) → IfSome opened (λ log. IsEmptyLog (seen log) (may_leave log) (fault log) folder) → IfSome told (IsToldOfNew folder p start)
+    → IsHeldAfter seen may_leave fault written told taken good opened (left_if (is_some opened))
+left_held seen may_leave fault written folder p told start taken good None empty is_new = tt
+left_held seen may_leave fault written folder p told start taken good (Some log) empty is_new =
+    (empty.ready.unfailed, tt, told_as told (λ t is. (at_told folder.logs is.logs (λ _. seen log ≡ Some []) is.there empty.told, empty.ready.settled)) is_new)
+
+-- so is one that was found, with its bytes
+pub undriven_found : (there : Option (List ℕ)) → false ≡ is_driven (option_map Found there)
+undriven_found None = refl
+undriven_found (Some bytes) = refl
+
+pub found_held : {D : Type 0} (seen : D → Option (List ℕ)) (may_leave : D → List ℕ → Type 0) (fault : D → Option FileFault) (written : D → Bool) (folder : Folder) (told : Option (List ℕ × List ℕ)) (taken : Option (List ℕ))
+    (good : Type 0) (found : Option (D × List ℕ)) → IfSome found (λ there. IsFoundLog (seen there.0) (may_leave there.0) (fault there.0) folder there.1)
+    → IfSome told (λ t. (logs : List NamedLog) × (folder.logs ≡ Some logs))
+    → IsHeldAfter seen may_leave fault written told taken good (option_map (λ there. there.0) found) (option_map Found (option_map (λ there. there.1) found))
+found_held seen may_leave fault written folder told taken good None is logs = tt
+found_held seen may_leave fault written folder told taken good (Some there) is logs =
+    (is.ready.unfailed, tt, told_as told (λ t has. (at_told folder.logs has.0 (λ _. seen there.0 ≡ Some there.1) has.1 is.told, is.ready.settled)) logs)
+
+-- where a new log can't be had
+module _ {D : Type 0} (seen : D → Option (List ℕ)) (may_leave : D → List ℕ → Type 0) (fault : D → Option FileFault) (written : D → Bool) (folder after : Folder) (path : List ℕ) (p : PlannedShop) (there : Bool) (told : Option (List ℕ × List ℕ)) (start taken : Option (List ℕ)) (good : Type 0) (why : FileFault)
+    (is_new : IfSome told (IsToldOfNew folder p start)) where
+  pub record LacksHeld (log : Option D) : Type 0 where
+    pub end : Option LogEnd
+    pub driven : false ≡ is_driven end
+    pub why_is : IsNewLogFault folder after path p there why end
+    pub held : IsHeldAfter seen may_leave fault written told taken good log end
+
+  pub lacks_held : (log : Option D) → MatchOption log (IsUnmade there path folder after why) (λ l. IsUnnamed path (digits_in p) (with_log there path folder) after (seen l) (may_leave l) (fault l) why) → LacksHeld log
+  lacks_held None is = record { end = None; driven = refl; why_is = inl (is, refl); held = tt }
+  lacks_held (Some log) (inl is) = record {
+    end = Some (Found []);
+    driven = refl;
+    why_is = inr (inl (is.is, is.own, refl));
+    held = (is.unfailed, tt, told_as told (λ t new. (at_told folder.logs new.logs (λ _. seen log ≡ Some []) new.there (logs_before there path folder (seen log ≡ Some []) is.empty), is.settled)) is_new);
+  }
+  lacks_held (Some log) (inr is) = record {
+    end = Some (Unlined p);
+    driven = refl;
+    why_is = inr (inr (is.is.0, is.named, refl));
+    held = (
+      is.is.1,
+      tt,
+      told_as told (λ t new.
+          at_told folder.logs new.logs (λ _. Leaves (may_leave log) 0 (plan_line (digits_in p))) new.there (logs_before there path folder (Leaves (may_leave log) 0 (plan_line (digits_in p))) is.crash)) is_new,
+    );
+  }
+
+-- where one can't be opened or read
+module _ {D : Type 0} (seen : D → Option (List ℕ)) (may_leave : D → List ℕ → Type 0) (fault : D → Option FileFault) (written : D → Bool) (folder after : Folder) (told : Option (List ℕ × List ℕ)) (taken : Option (List ℕ)) (good : Type 0) (why : FileFault) where
+  pub record UnopenedHeld (log : Option D) : Type 0 where
+    pub end : Option LogEnd
+    pub driven : false ≡ is_driven end
+    pub why_is : (IsOpenFault why × (after ≡ with_fault why folder) × (end ≡ None)) ⊎ (((why ≡ Log) ⊎ IsReadFault why) × (after ≡ handed folder) × (end ≡ Some (Unread why)))
+    pub held : IsHeldAfter seen may_leave fault written told taken good log end
+
+  pub unopened_held : (path : List ℕ) (log : Option D) → MatchOption log (IsOpenFault why × (after ≡ with_fault why folder)) (λ l. IsOfLog (fault l) why × (after ≡ handed folder))
+      → IfSome log (λ l. IsFound folder path (seen l) (written l)) → UnopenedHeld log
+  unopened_held path None is found = record { end = None; driven = refl; why_is = inl (is.0, is.1, refl); held = tt }
+  unopened_held path (Some log) is found = record { end = Some (Unread why); driven = refl; why_is = inr (is.0.0, is.1, refl); held = (is.0.1, found.unwritten, unread told) }
+    where
+      unread : (o : Option (List ℕ × List ℕ)) → IfSome o (λ t. Unit {0})
+      unread None = tt
+      unread (Some t) = tt
 
 -- from what holds of a log that was opened to something else
 pub opened_as : {X : Type 0} {P Q : X → Type 0} (opened : Option X) → ((x : X) → P x → Q x) → IfSome opened P → IfSome opened Q

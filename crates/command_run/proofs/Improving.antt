@@ -8,7 +8,7 @@ use Rattle.plan_improve.specs.Runs.{Asked, EndsAfter, AfterSome, nobody, one_mor
 use Rattle.plan_improve.specs.Watching.{Told as Telling}
 use Rattle.command_answers.specs.declared.answer.Answer.{Answer}
 use Rattle.command_answers.specs.declared.command_fault.CommandFault.{CommandFault}
-use Rattle.command_answers.specs.declared.command_fault.CommandFault.TheVariants.{Instance, Plan, Read, Write, InputTooLong, Log, LogInUse, Memory}
+use Rattle.command_answers.specs.declared.command_fault.CommandFault.TheVariants.{Instance, Plan, Names, Read, Write, InputTooLong, Log, LogInUse, Memory}
 use Rattle.command_answers.specs.Improving.{IsBest, IsBestAnswer, IsImproveAnswer, ordered}
 use Rattle.command_answers.specs.Steps.{Told}
 use Rattle.command_answers.specs.Commands.{PairOfFiles, ReadsBoth, RunsImprove}
@@ -31,6 +31,7 @@ module _ (made more : Asked) (rounds : ℕ) (less : (p q : PlannedShop) → made
   best_answer_more start (Err (Plan fault)) is = (is.0, record { best = is.1.best; is = best_more start is.1.best is.1.is; unreadable = is.1.unreadable })
   best_answer_more start (Err Memory) is = is
   best_answer_more start (Err (Instance fault)) is = is
+  best_answer_more start (Err (Names names)) is = is
   best_answer_more start (Err Read) is = is
   best_answer_more start (Err Write) is = is
   best_answer_more start (Err InputTooLong) is = is

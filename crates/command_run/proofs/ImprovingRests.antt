@@ -7,7 +7,7 @@ use Rattle.plan_seek.specs.Orders.{Proposal}
 use Rattle.plan_improve.specs.Settings.{Left, rest_after}
 use Rattle.command_answers.specs.declared.answer.Answer.{Answer}
 use Rattle.command_answers.specs.declared.command_fault.CommandFault.{CommandFault}
-use Rattle.command_answers.specs.declared.command_fault.CommandFault.TheVariants.{Instance, Plan, Read, Write, InputTooLong, Log, LogInUse, Memory}
+use Rattle.command_answers.specs.declared.command_fault.CommandFault.TheVariants.{Instance, Plan, Names, Read, Write, InputTooLong, Log, LogInUse, Memory}
 use Rattle.command_answers.specs.Improving.{ordered}
 use Rattle.command_answers.specs.ImprovingRests.{RestAsked, RestRoundsOf, IsBestRest, IsRestAnswer}
 use Rattle.command_answers.specs.Steps.{Told}
@@ -50,6 +50,7 @@ module _ (made more : RestAsked) (less : (lines : List (List ℕ)) (t : ℕ) (p 
   )
   answer_more lines start (Err Memory) is = is
   answer_more lines start (Err (Instance fault)) is = is
+  answer_more lines start (Err (Names names)) is = is
   answer_more lines start (Err Read) is = is
   answer_more lines start (Err Write) is = is
   answer_more lines start (Err InputTooLong) is = is

@@ -3,7 +3,7 @@ use Rattle.std.proofs.Common.{◌≡◌, ◌<◌, ℕ, List, Option, Some, lengt
 use Rattle.command_words.specs.Choice.{IsWithin, TakesFiles}
 use Rattle.command_words.specs.declared.words.Chosen.{Chosen}
 use Rattle.command_words.specs.declared.words.CommandName.{CommandName}
-use Rattle.command_words.specs.declared.words.CommandName.TheVariants.{Input as NoWords, Facts, Shape, Check, Explain, Schedule, Bounds, Plan as Search, Improve, Decide, Revise, Drive, Resume, Hub, Audit, Gantt}
+use Rattle.command_words.specs.declared.words.CommandName.TheVariants.{Input as NoWords, Facts, Shape, Check, Explain, Schedule, Bounds, Margin, Plan as Search, Improve, Decide, Revise, Drive, Resume, Hub, Digest, Audit, Gantt}
 use Rattle.command_answers.specs.declared.answer.Answer.{Answer}
 use Rattle.command_answers.specs.declared.command_fault.CommandFault.{CommandFault}
 use Rattle.command_run.specs.Streams.{Output, Errors}
@@ -19,6 +19,7 @@ keeper Check log path is = absurd (cc is)
 keeper Explain log path is = absurd (cc is)
 keeper Schedule log path is = absurd (cc is)
 keeper Bounds log path is = absurd (cc is)
+keeper Margin log path is = absurd (cc is)
 keeper Search log path is = absurd (cc is)
 keeper Improve log path is = absurd (cc is)
 keeper Decide log path is = absurd (cc is)
@@ -26,6 +27,7 @@ keeper Revise log path is = absurd (cc is)
 keeper Drive log path is = refl
 keeper Resume log path is = absurd (cc is)
 keeper Hub log path is = absurd (cc is)
+keeper Digest log path is = absurd (cc is)
 keeper Audit log path is = absurd (cc is)
 keeper Gantt log path is = absurd (cc is)
 

@@ -1,5 +1,6 @@
 -- What is known of the log of a driven cell.
 use Rattle.std.proofs.Common.{◌≡◌, ◌≤◌, ◌==◌, if◌then◌else◌, ℕ, suc, List, [], ◌∷◌, length, Bool, true, false, Option, None, Some, IfSome, Ok, Err, option_map, inl, inr, ap, sym, ◌∙◌, subst, arith, refl}
+use Rattle.std.specs.Prelude.{is_some}
 use Rattle.std.specs.Io.KnownBytes.{Keeps}
 use Rattle.std.proofs.KnownBytes.{Appends-kept}
 use Rattle.std.proofs.lemmas.List.{append-nil}
@@ -11,36 +12,34 @@ use Rattle.byte_streams.specs.declared.drive_fault.DriveFault.TheVariants.{Write
 use Rattle.byte_streams.specs.Lent.{Output, taker}
 use Rattle.cell_drive.specs.declared.manner.Manner.{Manner}
 use Rattle.cell_drive.specs.TakenUp.{TakenUp, IsTakenUp}
-use Rattle.cell_drive.specs.InManner.{TellsBy}
-use Rattle.run_journal.specs.Folders.{NamedLog, held}
+use Rattle.cell_drive.specs.InManner.{IsToldAgainIn}
+use Rattle.event_lines.specs.declared.run_digits.RunDigits.{RunDigits}
+use Rattle.plan_digest.proofs.SixteenDigits.{digits_are}
+use Rattle.run_journal.specs.declared.file_fault.FileFault.{FileFault}
+use Rattle.run_journal.specs.Folders.{Folder, held, handed_if}
+use Rattle.run_journal.specs.LogFiles.{IsSettled}
+use Rattle.run_journal.specs.LogRuns.{IsNamedFor}
+use Rattle.run_journal.proofs.NamedLogs.{named_tells, named_whole, whole_again}
 use Rattle.run_journal.specs.WholeLines.{before_any, whole_lines}
 use Rattle.logged_drive.specs.declared.taken_log.TakeUpFault.{TakeUpFault}
 use Rattle.logged_drive.specs.declared.taken_log.TakeUpFault.TheVariants.{Resume, NoTornEnd, File}
-use Rattle.logged_drive.specs.TakenLogs.{IsOfText, IsTakeUpFault}
-use Rattle.command_run.specs.Logs.{Begins, DrivesOpened, HasFewLines, IsTakenFromLog, IsToldOfOld, Step, TakesUp, is_of_file}
+use Rattle.logged_drive.specs.TakenLogs.{IsTakeUpFault}
+use Rattle.command_words.specs.declared.words.log_start.LogStart.{LogStart}
+use Rattle.command_run.specs.Logs.{Begins, DrivesFitting, DrivesFound, HasFewLines, IsEmptyLog, IsFoundLog, IsTakenFromLog, IsToldOf, IsToldOfFound, IsToldOfNew, IsToldOfOld, IsToldOfPath, Step, TakesUp, digits_in}
+use Rattle.command_run.proofs.HeldLogs.{at_told}
 
 -- ---- what is told again
 
-pub never_shown : (plain : Bool) (manner : Manner) (t : TakenUp) (before mid after : Output) → TellsBy plain manner t (taker before) (taker mid) (Ok tt)
-    → Keeps mid.taken after.taken → after.failed ≡ true → TellsBy plain manner t (taker before) (taker after) (Err NotWritten)
-never_shown true manner t before mid after is kept failed = (failed, ([], record { out = _; took = Appends-kept _ _ _ _ is.0 kept; whole = append-nil _ }))
-never_shown false manner t before mid after (inl wanting) kept failed = absurd (cc wanting.0)
-never_shown false manner t before mid after (inr is) kept failed = inr (failed, ([], record { out = _; took = Appends-kept _ _ _ _ is.0 kept; whole = append-nil _ }))
+pub never_shown : (manner : Manner) (t : TakenUp) (before mid after : Output) → IsToldAgainIn manner t (taker before) (taker mid) (Ok tt)
+    → Keeps mid.taken after.taken → after.failed ≡ true → IsToldAgainIn manner t (taker before) (taker after) (Err NotWritten)
+never_shown manner t before mid after (inl wanting) kept failed = absurd (cc wanting.1)
+never_shown manner t before mid after (inr is) kept failed = inr (failed, ([], record { out = _; took = Appends-kept _ _ _ _ is.0 kept; whole = append-nil _ }))
 
 -- ---- the whole lines of a log
 
 -- one byte before the whole lines of the others
 abbrev with_byte : Bool → ℕ → List ℕ → List ℕ
 with_byte feed byte lines = if feed then byte ∷ lines else before_any byte lines
-
-with_byte_whole : (feed : Bool) (byte : ℕ) (lines : List ℕ) → (byte == 10) ≡ feed → whole_lines lines ≡ lines → whole_lines (with_byte feed byte lines) ≡ with_byte feed byte lines
-with_byte_whole true byte lines is same = ap (λ (feed : Bool). with_byte feed byte (whole_lines lines)) is ∙ ap (λ xs. byte ∷ xs) same
-with_byte_whole false byte [] is same = refl
-with_byte_whole false byte (x ∷ xs) is same = ap (λ (feed : Bool). with_byte feed byte (whole_lines (x ∷ xs))) is ∙ ap (before_any byte) same
-
-whole_whole : (bytes : List ℕ) → whole_lines (whole_lines bytes) ≡ whole_lines bytes
-whole_whole [] = refl
-whole_whole (byte ∷ bytes) = with_byte_whole (byte == 10) byte (whole_lines bytes) refl (whole_whole bytes)
 
 with_byte_length : (feed : Bool) (byte : ℕ) (lines : List ℕ) (n : ℕ) → length lines ≤ n → length (with_byte feed byte lines) ≤ suc n
 with_byte_length true byte lines n few = omega (arith, few)
@@ -51,39 +50,112 @@ whole_length : (bytes : List ℕ) → length (whole_lines bytes) ≤ length byte
 whole_length [] = omega arith
 whole_length (byte ∷ bytes) = with_byte_length (byte == 10) byte (whole_lines bytes) (length bytes) (whole_length bytes)
 
-module _ (p : PlannedShop) (manner : Manner) (at : Option ℕ) (text : List ℕ) (seen taken : Option (List ℕ)) where
-  pub old_taken : (told : Option (List ℕ × List ℕ)) → IfSome told (λ b. (seen ≡ Some text) × IsToldOfOld p manner at text taken b)
-      → (t : TakenUp) → IsTakenUp p (ended_lines (whole_lines text)) at t → IfSome told (λ b. IsTakenFromLog t b.0)
+module _ (p : PlannedShop) (manner : Manner) (at : Option ℕ) (text : List ℕ) (taken : Option (List ℕ)) where
+  pub old_taken : (told : Option (List ℕ × List ℕ)) → IfSome told (IsToldOfOld p manner at text taken) → (t : TakenUp) → IsTakenUp p (ended_lines (whole_lines text)) at t → IfSome told (λ b. IsTakenFromLog t b.0)
   old_taken None is t up = tt
-  old_taken (Some b) is t up = (
-    ap whole_lines is.1.log ∙ whole_whole text ∙ sym is.1.log,
-    at,
-    subst (λ (q : PlannedShop). IsTakenUp q (ended_lines b.0) at t) (sym up.taken_from.planned) (subst (λ (base : List ℕ). IsTakenUp p (ended_lines base) at t) (sym is.1.log) up),
-  )
+  old_taken (Some b) is t up =
+      let lines = whole_lines text in
+      let whole = whole_again text in
+      let again : IsTakenUp p (ended_lines b.0) at t = record {
+        told = up.told;
+        tells = named_tells p (digits_in p) lines b.0 up.told (digits_are p.shop p.plan) whole is.log up.tells;
+        is_run = up.is_run;
+        taken_from = up.taken_from;
+      } in (
+        named_whole (digits_in p) lines b.0 whole is.log,
+        at,
+        subst (λ (q : PlannedShop). IsTakenUp q (ended_lines b.0) at t) (sym up.taken_from.planned) again,
+      )
+
+-- two logs that are named for the same digits have the same bytes
+pub named_same : (digits : RunDigits) (lines one other : List ℕ) → IsNamedFor digits lines one → IsNamedFor digits lines other → one ≡ other
+named_same digits lines one other (inl is) (inl also) = is.1 ∙ sym also.1
+named_same digits lines one other (inl is) (inr also) = absurd (also.0 is.0)
+named_same digits lines one other (inr is) (inl also) = absurd (is.0 also.0)
+named_same digits lines one other (inr is) (inr also) = is.1 ∙ sym also.1
+
+-- what the log has once it is taken up is what is told of it
+pub old_named : (p : PlannedShop) (manner : Manner) (at : Option ℕ) (text : List ℕ) (taken seen now : Option (List ℕ)) (told : Option (List ℕ × List ℕ))
+    → IfSome told (λ b. (seen ≡ Some text) × IsToldOfOld p manner at text taken b) → IfSome seen (λ file. (base : List ℕ) × IsNamedFor (digits_in p) (whole_lines file) base × (now ≡ Some base)) → IfSome told (λ b. now ≡ Some b.0)
+old_named p manner at text taken seen now None is named = tt
+old_named p manner at text taken seen now (Some b) is named =
+    let has = subst (λ (s : Option (List ℕ)). IfSome s (λ file. (base : List ℕ) × IsNamedFor (digits_in p) (whole_lines file) base × (now ≡ Some base))) is.0 named in
+    has.2 ∙ ap Some (named_same (digits_in p) (whole_lines text) has.0 b.0 has.1 is.1.log)
 
 pub few_lines : (p : PlannedShop) (at : Option ℕ) (text : List ℕ) (fault : TakeUpFault) → length text ≤ MAX_INPUT → IsTakeUpFault p text at fault → HasFewLines fault
 few_lines p at text (Resume fault) few is = tt
 few_lines p at text (NoTornEnd lines) few is = (let count = lines_of-le (whole_lines text) in let whole = whole_length text in omega (arith, is.2, count, whole, few))
 few_lines p at text (File fault) few is = tt
 
--- a log that isn't taken up has failed just where the fault is its own
-pub untaken_failed : (fault : TakeUpFault) (failed before : Bool) → before ≡ false → (IsOfText fault → failed ≡ before) → ((IsOfText fault → ⊥) → failed ≡ true) → failed ≡ is_of_file fault
-untaken_failed (Resume fault) failed before was same own = same tt ∙ was
-untaken_failed (NoTornEnd lines) failed before was same own = same tt ∙ was
-untaken_failed (File fault) failed before was same own = own (λ bad. bad)
-
 -- ---- what follows the opening of the log
 
--- the bytes that were found
-pub found_as : {A : Type 0} (folder : Option (List NamedLog)) (path : List ℕ) (opened : Option A) (text : A → List ℕ) (bytes : Option (List ℕ)) → option_map text opened ≡ bytes
-    → IfSome folder (λ logs. option_map text opened ≡ held logs path) → IfSome folder (λ logs. bytes ≡ held logs path)
-found_as None path opened text bytes same is = tt
-found_as (Some logs) path opened text bytes same is = sym same ∙ is
+-- what is told of the folder is told of it once a log was opened
+logs_handed : (there : Bool) (folder : Folder) → (handed_if there folder).logs ≡ folder.logs
+logs_handed true folder = refl
+logs_handed false folder = refl
 
-module _ (folder folder_after : Option (List NamedLog)) (path : List ℕ) (manner : Manner) (at : Option ℕ) (p : PlannedShop) (step : Step) where
-  pub empty_begins : (text : List ℕ) → text ≡ [] → Begins folder folder_after path manner p true step → DrivesOpened folder folder_after path manner at p (Ok (Some text)) step
-  empty_begins text empty is = subst (λ (xs : List ℕ). DrivesOpened folder folder_after path manner at p (Ok (Some xs)) step) (sym empty) is
+module _ (folder folder_after : Folder) (path : List ℕ) (manner : Manner) (at : Option ℕ) (p : PlannedShop) (step : Step) where
+  pub empty_begins : (text : List ℕ) → text ≡ [] → Begins folder folder_after path manner p true step → DrivesFitting folder folder_after path manner at p (Some text) step
+  empty_begins text empty is = subst (λ (xs : List ℕ). DrivesFitting folder folder_after path manner at p (Some xs) step) (sym empty) is
 
-  pub bytes_taken : (text : List ℕ) → (text ≡ [] → ⊥) → TakesUp p manner at text step → folder_after ≡ folder → DrivesOpened folder folder_after path manner at p (Ok (Some text)) step
+  pub bytes_taken : (text : List ℕ) → (text ≡ [] → ⊥) → TakesUp p manner at text step → folder_after ≡ folder → DrivesFitting folder folder_after path manner at p (Some text) step
   bytes_taken [] some is same = absurd (some refl)
   bytes_taken (byte ∷ bytes) some is same = (is, same)
+
+module _ (folder : Folder) (p : PlannedShop) (manner : Manner) (at : Option ℕ) (taken : Option (List ℕ)) (t : List ℕ × List ℕ) where
+  pub new_told : (text : List ℕ) → text ≡ [] → IsToldOf folder p manner at (Some text) taken t → IsToldOfNew folder p taken t
+  new_told text empty is = subst (λ (xs : List ℕ). IsToldOf folder p manner at (Some xs) taken t) empty is
+
+  pub old_told : (text : List ℕ) → (text ≡ [] → ⊥) → IsToldOf folder p manner at (Some text) taken t → IsToldOfOld p manner at text taken t
+  old_told [] some is = absurd (some refl)
+  old_told (byte ∷ bytes) some is = is
+
+  told_in : (mid : Folder) (there : Option (List ℕ)) → mid.logs ≡ folder.logs → IsToldOf folder p manner at there taken t → IsToldOf mid p manner at there taken t
+  told_in mid None same is = record { logs = is.logs; there = same ∙ is.there; log = is.log; output = is.output }
+  told_in mid (Some []) same is = record { logs = is.logs; there = same ∙ is.there; log = is.log; output = is.output }
+  told_in mid (Some (byte ∷ bytes)) same is = is
+
+-- so is what was found by the path
+pub path_told : {D : Type 0} (folder mid : Folder) (path : List ℕ) (p : PlannedShop) (manner : Manner) (at : Option ℕ) (taken : Option (List ℕ)) (found : Option (D × List ℕ)) → mid ≡ handed_if (is_some found) folder
+    → IfSome folder.logs (λ logs. option_map (λ there. there.1) found ≡ held logs path) → (t : List ℕ × List ℕ) → IsToldOfPath folder path p manner at taken t
+    → IsToldOfFound mid p manner at (option_map (λ there. there.1) found) taken t
+path_told folder mid path p manner at taken found opened there t is =
+    let same : mid.logs ≡ folder.logs = ap (λ (f : Folder). f.logs) opened ∙ logs_handed (is_some found) folder in
+    let here = at_told folder.logs is.logs (λ logs. option_map (λ there. there.1) found ≡ held logs path) is.there there in
+    record {
+      logs = is.logs;
+      in_folder = same ∙ is.there;
+      is = told_in folder p manner at taken t mid (option_map (λ there. there.1) found) same (subst (λ (o : Option (List ℕ)). IsToldOf folder p manner at o taken t) (sym here) is.is);
+    }
+
+-- ---- the log that was found
+
+read_empty : (seen : Option (List ℕ)) (text : List ℕ) → text ≡ [] → IfSome seen (λ file. text ≡ file) → IfSome seen (λ file. file ≡ [])
+read_empty None text empty read = tt
+read_empty (Some file) text empty read = sym read ∙ empty
+
+module _ (seen : Option (List ℕ)) (may_leave : List ℕ → Type 0) (fault : Option FileFault) (folder : Folder) where
+  pub empty_found : (text : List ℕ) → text ≡ [] → IsFoundLog seen may_leave fault folder text → IsEmptyLog seen may_leave fault folder
+  empty_found text empty is = record {
+    ready = is.ready;
+    empty = read_empty seen text empty is.read;
+    told = subst (λ (xs : List ℕ). IfSome folder.logs (λ _. seen ≡ Some xs)) empty is.told;
+  }
+
+pub opened_found : {D : Type 0} (seen : D → Option (List ℕ)) (may_leave : D → List ℕ → Type 0) (fault : D → Option FileFault) (folder mid : Folder) (found : Option (D × List ℕ)) → mid ≡ handed_if (is_some found) folder
+    → IfSome found (λ there. IfSome (seen there.0) (λ file. there.1 ≡ file)) → IfSome found (λ there. length there.1 ≤ MAX_INPUT) → IfSome found (λ there. IsSettled (seen there.0) (may_leave there.0))
+    → IfSome found (λ there. fault there.0 ≡ None) → IfSome found (λ there. IfSome folder.logs (λ _. seen there.0 ≡ Some there.1)) → IfSome found (λ there. IsFoundLog (seen there.0) (may_leave there.0) (fault there.0) mid there.1)
+opened_found seen may_leave fault folder mid None opened read within settled unfailed told = tt
+opened_found seen may_leave fault folder mid (Some there) opened read within settled unfailed told = record {
+  ready = record { settled = settled; unfailed = unfailed };
+  read = read;
+  within = within;
+  told = subst (λ (f : Folder). IfSome f.logs (λ _. seen there.0 ≡ Some there.1)) (sym opened) told;
+}
+
+-- the folder in which it was opened
+pub found_in_folder : {D : Type 0} (folder mid after : Folder) (path : List ℕ) (start : LogStart) (manner : Manner) (at : Option ℕ) (p : PlannedShop) (step : Step) (found : Option (D × List ℕ)) → mid ≡ handed_if (is_some found) folder
+    → DrivesFound mid after path start manner at p (option_map (λ there. there.1) found) step
+    → DrivesFound (handed_if (is_some (option_map (λ there. there.1) found)) folder) after path start manner at p (option_map (λ there. there.1) found) step
+found_in_folder folder mid after path start manner at p step None opened drives = subst (λ (f : Folder). DrivesFound f after path start manner at p None step) opened drives
+found_in_folder folder mid after path start manner at p step (Some there) opened drives = subst (λ (f : Folder). DrivesFound f after path start manner at p (Some there.1) step) opened drives

@@ -13,3 +13,4 @@ pub mod Keepers
 pub mod Choosing
 pub mod Endings
 pub mod LogsAtEnd
+pub mod FittingLogs

@@ -1,5 +1,5 @@
 -- How a driven cell with a log of its own ends.
-use Rattle.std.proofs.Common.{◌≡◌, ℕ, suc, List, [], ◌∷◌, Bool, true, false, Option, None, Some, Result, Ok, Err, IfOk, inl, inr, ◌⊎◌, ap, sym, subst, refl}
+use Rattle.std.proofs.Common.{◌≡◌, ℕ, suc, List, [], ◌∷◌, Bool, true, false, Option, None, Some, Result, Ok, Err, IfOk, is_some, option_map, inl, inr, ◌⊎◌, arith, ap, sym, subst, refl}
 use Rattle.shop_base.specs.declared.shape_fault.ShapeFault.{ShapeFault}
 use Rattle.shop_base.specs.Plan.{PlannedShop}
 use Rattle.plan_verifier.specs.declared.verdict.Verdict.{Verdict}
@@ -10,9 +10,9 @@ use Rattle.byte_streams.specs.Lent.{Taker, taker}
 use Rattle.run_log.specs.declared.audit_fault.AuditFault.TheVariants.{BadLine}
 use Rattle.cell_drive.specs.declared.manner.Manner.{Manner}
 use Rattle.cell_drive.specs.TakenUp.{TakenUp}
-use Rattle.cell_drive.specs.InManner.{TellsBy, is_plain}
+use Rattle.cell_drive.specs.InManner.{IsToldAgainIn}
 use Rattle.run_journal.specs.declared.file_fault.FileFault.{FileFault}
-use Rattle.run_journal.specs.Folders.{NamedLog}
+use Rattle.run_journal.specs.Folders.{Folder, handed_if}
 use Rattle.logged_drive.specs.declared.taken_log.TakeUpFault.{TakeUpFault}
 use Rattle.logged_drive.specs.declared.taken_log.TakeUpFault.TheVariants.{Resume, NoTornEnd, File}
 use Rattle.command_answers.specs.declared.answer.Answer.{Answer}
@@ -23,7 +23,10 @@ use Rattle.command_answers.specs.Commands.{PairOfFiles, Shapes}
 use Rattle.command_run.specs.Streams.{Streams, Output}
 use Rattle.command_run.specs.Drives.{end_of_drive}
 use Rattle.command_run.specs.Resumes.{end_of_rest}
-use Rattle.command_run.specs.Logs.{Begins, BeginsBy, DrivesNothing, DrivesOpened, DrivesShaped, GoesOnAfter, GoesOnTaken, IsLoggedAnswer, IsLogUntakenTold, IsVerdict, LogEnd, Driven, Untaken, Left, Step, TakesLog, TellsAgain, left_if, step_of}
+use Rattle.command_words.specs.declared.words.log_start.LogStart.{LogStart}
+use Rattle.command_run.specs.declared.misfits.Misfit.{Misfit}
+use Rattle.command_run.specs.Misfits.{IsMisfitLine}
+use Rattle.command_run.specs.Logs.{Begins, BeginsBy, DrivesAs, DrivesFitting, DrivesNothing, DrivesOpened, DrivesShaped, GoesOnAfter, GoesOnTaken, IsLoggedAnswer, IsLogUntakenTold, IsVerdict, LogEnd, Driven, Untaken, Left, Found, Unread, Unlined, Step, TakesLog, TellsAgain, left_if, step_of}
 use Rattle.command_run.specs.Laws.{DroveWithLog, HoldsNothing}
 use Rattle.command_run.proofs.LowStatuses.{IsLow, low_end, low_line_of, low_log_fault, low_or, low_untaken}
 
@@ -38,7 +41,7 @@ low_log_untaken (Resume fault) outcome is = low_untaken fault outcome is
 low_log_untaken (NoTornEnd lines) outcome is = low_log_fault (BadLine (suc lines)) outcome is
 low_log_untaken (File fault) outcome is = subst IsLow (sym is) tt
 
-module _ (folder folder_after : Option (List NamedLog)) (path : List ℕ) (manner : Manner) (at : Option ℕ) where
+module _ (folder folder_after : Folder) (path : List ℕ) (manner : Manner) (at : Option ℕ) where
   low_begun : (there : Bool) (verdict : Verdict) (step : Step) → BeginsBy folder folder_after path manner there verdict step → IsLow step.outcome
   low_begun there (Refused back why) step is = low_or (IsLineOf (Judged (Refused back why))) step.outcome (low_line_of (Judged (Refused back why))) is.0
   low_begun there (Accepted v) step (inl lacks) = subst IsLow (sym lacks.is) tt
@@ -53,20 +56,29 @@ module _ (folder folder_after : Option (List NamedLog)) (path : List ℕ) (manne
   low_after t mid (Ok done) step (inr lacks) = low_logged_end lacks.log_failed (end_of_rest lacks.end) step.outcome lacks.answer
   low_after t mid (Err fault) step is = subst IsLow (sym is.0) tt
 
-  low_taken_up : (text : List ℕ) (taken : Result TakenUp TakeUpFault) (step : Step) → GoesOnTaken manner text taken step → IsLow step.outcome
-  low_taken_up text (Ok t) step on = low_after t on.mid on.told step on.goes_on
-  low_taken_up text (Err fault) step is = low_log_untaken fault step.outcome is.0
+  low_taken_up : (p : PlannedShop) (text : List ℕ) (taken : Result TakenUp TakeUpFault) (step : Step) → GoesOnTaken p manner text taken step → IsLow step.outcome
+  low_taken_up p text (Ok t) step on = low_after t on.mid on.told step on.goes_on
+  low_taken_up p text (Err fault) step is = low_log_untaken fault step.outcome is.0
 
-  low_opened : (p : PlannedShop) (opened : Result (Option (List ℕ)) FileFault) (step : Step) → DrivesOpened folder folder_after path manner at p opened step → IsLow step.outcome
+  low_fitting : (p : PlannedShop) (there : Option (List ℕ)) (step : Step) → DrivesFitting folder folder_after path manner at p there step → IsLow step.outcome
+  low_fitting p None step is = low_begins p false step is
+  low_fitting p (Some []) step is = low_begins p true step is
+  low_fitting p (Some (byte ∷ bytes)) step is = low_taken_up p (byte ∷ bytes) is.0.taken step is.0.goes_on
+
+  low_as : (misfit : Option Misfit) (p : PlannedShop) (there : Option (List ℕ)) (step : Step) → DrivesAs folder folder_after path misfit manner at p there step → IsLow step.outcome
+  low_as (Some misfit) p there step is = low_or (IsMisfitLine misfit) step.outcome (λ answer line. omega (arith, line.1)) is.0
+  low_as None p there step is = low_fitting p there step is
+
+module _ (folder folder_after : Folder) (path : List ℕ) (start : LogStart) (manner : Manner) (at : Option ℕ) where
+  low_opened : (p : PlannedShop) (opened : Result (Option (List ℕ)) FileFault) (step : Step) → DrivesOpened folder folder_after path start manner at p opened step → IsLow step.outcome
   low_opened p (Err fault) step is = subst IsLow (sym is.0) tt
-  low_opened p (Ok None) step is = low_begins p false step is
-  low_opened p (Ok (Some [])) step is = low_begins p true step is
-  low_opened p (Ok (Some (byte ∷ bytes))) step is = low_taken_up (byte ∷ bytes) is.0.taken step is.0.goes_on
+  low_opened p (Ok there) step is = low_as (handed_if (is_some there) folder) folder_after path manner at is.misfit p there step is.drives
 
-  pub low_logged : (shaped : Result (Result PlannedShop ShapeFault) CommandFault) (step : Step) → DrivesShaped folder folder_after path manner at shaped step → IsLow step.outcome
+  pub low_logged : (shaped : Result (Result PlannedShop ShapeFault) CommandFault) (step : Step) → DrivesShaped folder folder_after path start manner at shaped step → IsLow step.outcome
   low_logged (Err fault) step is = subst IsLow (sym is.0) tt
   low_logged (Ok (Err fault)) step is = low_or (IsLineOf (NotShaped fault)) step.outcome (low_line_of (NotShaped fault)) is.0
-  low_logged (Ok (Ok p)) step is = low_opened p is.opened step is.drives
+  low_logged (Ok (Ok p)) step (inl is) = low_opened p is.opened step is.drives
+  low_logged (Ok (Ok p)) step (inr wanting) = subst IsLow (sym wanting.0) tt
 
 -- ---- what is written
 
@@ -79,59 +91,61 @@ module _ {W : Type 0} (gives : W → List ℕ → Result (List ℕ) CommandFault
   unwritten : after ≡ before → Written
   unwritten same = inl (ap (λ (s : Streams). s.output) same)
 
-  nothing : (there : Bool) → DrivesNothing there (step_of before outcome after end) → Written
-  nothing there none = unwritten none.same
-
   module _ (p : PlannedShop) (shapes : Shapes gives pair texts (Ok (Ok p)) later) where
-    begun : (folder folder_after : Option (List NamedLog)) (path : List ℕ) (there : Bool) (verdict : Verdict) → IsVerdict p verdict
+    begun : (folder folder_after : Folder) (path : List ℕ) (there : Bool) (verdict : Verdict) → IsVerdict p verdict
         → BeginsBy folder folder_after path manner there verdict (step_of before outcome after end) → Written
-    begun folder folder_after path there (Refused back why) is by = nothing there by.1
-    begun folder folder_after path there (Accepted v) is (inl lacks) = nothing false lacks.nothing
+    begun folder folder_after path there (Refused back why) is by = unwritten by.1.same
+    begun folder folder_after path there (Accepted v) is (inl lacks) = unwritten lacks.same
     begun folder folder_after path there (Accepted v) is (inr run) =
         inr (record { plan = p; later = later; shapes = shapes; outcome = outcome; log = end; is = inl (v, is.accepted.0, run.drove) })
 
-    begins : (folder folder_after : Option (List NamedLog)) (path : List ℕ) (there : Bool) → Begins folder folder_after path manner p there (step_of before outcome after end) → Written
+    begins : (folder folder_after : Folder) (path : List ℕ) (there : Bool) → Begins folder folder_after path manner p there (step_of before outcome after end) → Written
     begins folder folder_after path there (inl (verdict, is, by)) = begun folder folder_after path there verdict is by
-    begins folder folder_after path there (inr wanting) = nothing there wanting.1
+    begins folder folder_after path there (inr wanting) = unwritten wanting.1.same
 
-    taken_up : (at : Option ℕ) (text : List ℕ) (taken : Result TakenUp TakeUpFault) → TakesLog p at text taken → GoesOnTaken manner text taken (step_of before outcome after end) → Written
+    taken_up : (at : Option ℕ) (text : List ℕ) (taken : Result TakenUp TakeUpFault) → TakesLog p at text taken → GoesOnTaken p manner text taken (step_of before outcome after end) → Written
     taken_up at text (Ok t) takes on =
         inr (record { plan = p; later = later; shapes = shapes; outcome = outcome; log = end; is = inr (t, takes.is.taken_from.planned, on) })
-    taken_up at text (Err fault) takes is = unwritten is.1
+    taken_up at text (Err fault) takes is = unwritten is.1.same
 
-    opened_written : (folder folder_after : Option (List NamedLog)) (path : List ℕ) (at : Option ℕ) (opened : Result (Option (List ℕ)) FileFault)
-        → DrivesOpened folder folder_after path manner at p opened (step_of before outcome after end) → Written
-    opened_written folder folder_after path at (Err fault) is = nothing false is.1
-    opened_written folder folder_after path at (Ok None) is = begins folder folder_after path false is
-    opened_written folder folder_after path at (Ok (Some [])) is = begins folder folder_after path true is
-    opened_written folder folder_after path at (Ok (Some (byte ∷ bytes))) is = taken_up at (byte ∷ bytes) is.0.taken is.0.takes is.0.goes_on
+    fitting : (folder folder_after : Folder) (path : List ℕ) (at : Option ℕ) (there : Option (List ℕ)) → DrivesFitting folder folder_after path manner at p there (step_of before outcome after end) → Written
+    fitting folder folder_after path at None is = begins folder folder_after path false is
+    fitting folder folder_after path at (Some []) is = begins folder folder_after path true is
+    fitting folder folder_after path at (Some (byte ∷ bytes)) is = taken_up at (byte ∷ bytes) is.0.taken is.0.takes is.0.goes_on
 
-  pub logged_written : (folder folder_after : Option (List NamedLog)) (path : List ℕ) (at : Option ℕ) (shaped : Result (Result PlannedShop ShapeFault) CommandFault) → Shapes gives pair texts shaped later
-      → DrivesShaped folder folder_after path manner at shaped (step_of before outcome after end) → Written
-  logged_written folder folder_after path at (Err fault) shapes is = nothing false is.1
-  logged_written folder folder_after path at (Ok (Err fault)) shapes is = nothing false is.1
-  logged_written folder folder_after path at (Ok (Ok p)) shapes is = opened_written p shapes folder folder_after path at is.opened is.drives
+    as_asked : (folder folder_after : Folder) (path : List ℕ) (at : Option ℕ) (misfit : Option Misfit) (there : Option (List ℕ)) → DrivesAs folder folder_after path misfit manner at p there (step_of before outcome after end) → Written
+    as_asked folder folder_after path at (Some misfit) there is = unwritten is.1.same
+    as_asked folder folder_after path at None there is = fitting folder folder_after path at there is
+
+    opened_written : (folder folder_after : Folder) (path : List ℕ) (start : LogStart) (at : Option ℕ) (opened : Result (Option (List ℕ)) FileFault)
+        → DrivesOpened folder folder_after path start manner at p opened (step_of before outcome after end) → Written
+    opened_written folder folder_after path start at (Err fault) is = unwritten is.1
+    opened_written folder folder_after path start at (Ok there) is = as_asked (handed_if (is_some there) folder) folder_after path at is.misfit there is.drives
+
+  pub logged_written : (folder folder_after : Folder) (path : List ℕ) (start : LogStart) (at : Option ℕ) (shaped : Result (Result PlannedShop ShapeFault) CommandFault) → Shapes gives pair texts shaped later
+      → DrivesShaped folder folder_after path start manner at shaped (step_of before outcome after end) → Written
+  logged_written folder folder_after path start at (Err fault) shapes is = unwritten is.1.same
+  logged_written folder folder_after path start at (Ok (Err fault)) shapes is = unwritten is.1.same
+  logged_written folder folder_after path start at (Ok (Ok p)) shapes (inl is) = opened_written p shapes folder folder_after path start at is.opened is.drives
+  logged_written folder folder_after path start at (Ok (Ok p)) shapes (inr wanting) = unwritten wanting.1.same
 
 -- ---- what is shown
 
-told_failed : (plain : Bool) (manner : Manner) (t : TakenUp) (before after : Taker) → TellsBy plain manner t before after (Err NotWritten) → after.failed ≡ true
-told_failed true manner t before after is = is.0
-told_failed false manner t before after (inl wanting) = absurd (cc wanting.0)
-told_failed false manner t before after (inr is) = is.0
+told_failed : (manner : Manner) (t : TakenUp) (before after : Taker) → IsToldAgainIn manner t before after (Err NotWritten) → after.failed ≡ true
+told_failed manner t before after (inl wanting) = absurd (cc wanting.1)
+told_failed manner t before after (inr is) = is.0
 
-told_never : (plain : Bool) (manner : Manner) (t : TakenUp) (before after : Taker) → TellsBy plain manner t before after (Err NotRead) ⊎ TellsBy plain manner t before after (Err TooLong) → ⊥
-told_never true manner t before after (inl is) = is
-told_never true manner t before after (inr is) = is
-told_never false manner t before after (inl (inl wanting)) = absurd (cc wanting.0)
-told_never false manner t before after (inl (inr is)) = is
-told_never false manner t before after (inr (inl wanting)) = absurd (cc wanting.0)
-told_never false manner t before after (inr (inr is)) = is
+told_never : (manner : Manner) (t : TakenUp) (before after : Taker) → IsToldAgainIn manner t before after (Err NotRead) ⊎ IsToldAgainIn manner t before after (Err TooLong) → ⊥
+told_never manner t before after (inl (inl wanting)) = absurd (cc wanting.1)
+told_never manner t before after (inl (inr is)) = is
+told_never manner t before after (inr (inl wanting)) = absurd (cc wanting.1)
+told_never manner t before after (inr (inr is)) = is
 
 telling_shown : (manner : Manner) (t : TakenUp) (before mid : Output) (fault : DriveFault) → TellsAgain manner t before mid (Err fault) → before.pending ≡ [] → HoldsNothing mid
-telling_shown manner t before mid NotWritten tells none = inr (told_failed (is_plain manner) manner t (taker before) (taker mid) tells.is)
+telling_shown manner t before mid NotWritten tells none = inr (told_failed manner t (taker before) (taker mid) tells.is)
 telling_shown manner t before mid WantOfMemory tells none = inl (subst (λ (o : Output). o.pending ≡ []) (sym (tells.untouched refl)) none)
-telling_shown manner t before mid NotRead tells none = absurd (told_never (is_plain manner) manner t (taker before) (taker mid) (inl tells.is))
-telling_shown manner t before mid TooLong tells none = absurd (told_never (is_plain manner) manner t (taker before) (taker mid) (inr tells.is))
+telling_shown manner t before mid NotRead tells none = absurd (told_never manner t (taker before) (taker mid) (inl tells.is))
+telling_shown manner t before mid TooLong tells none = absurd (told_never manner t (taker before) (taker mid) (inr tells.is))
 
 gone_on_shown : (manner : Manner) (t : TakenUp) (mid : Output) (told : Result (Unit {0}) DriveFault) (step : Step) → TellsAgain manner t step.before.output mid told → GoesOnAfter manner t mid told step
     → step.before.output.pending ≡ [] → HoldsNothing step.after.output
@@ -157,8 +171,11 @@ IsSilent outcome = IfOk outcome (λ answer. answer.text.items ≡ [])
 abbrev pub IsDriven : Option LogEnd → Type 0
 IsDriven None = ⊥
 IsDriven (Some (Driven p told held)) = Unit {0}
-IsDriven (Some (Untaken text fault)) = ⊥
+IsDriven (Some (Untaken p text fault)) = ⊥
 IsDriven (Some Left) = ⊥
+IsDriven (Some (Found bytes)) = ⊥
+IsDriven (Some (Unread fault)) = ⊥
+IsDriven (Some (Unlined p)) = ⊥
 
 never_driven : (end other : Option LogEnd) (outcome : Result Answer CommandFault) → end ≡ other → (IsDriven other → ⊥) → IsDriven end → IsSilent outcome
 never_driven end other outcome is other_isnt driven = absurd (other_isnt (subst IsDriven is driven))
@@ -175,32 +192,45 @@ left_undriven : (there : Bool) → IsDriven (left_if there) → ⊥
 left_undriven true driven = driven
 left_undriven false driven = driven
 
-nothing_driven : (there : Bool) (step : Step) → DrivesNothing there step → IsDriven step.log → IsSilent step.outcome
-nothing_driven there step none = never_driven step.log (left_if there) step.outcome none.log (left_undriven there)
+found_undriven : (there : Option (List ℕ)) → IsDriven (option_map Found there) → ⊥
+found_undriven None driven = driven
+found_undriven (Some bytes) driven = driven
 
-module _ (folder folder_after : Option (List NamedLog)) (path : List ℕ) (manner : Manner) (at : Option ℕ) where
+nothing_driven : (log : Option LogEnd) (step : Step) → (IsDriven log → ⊥) → DrivesNothing log step → IsDriven step.log → IsSilent step.outcome
+nothing_driven log step isnt none = never_driven step.log log step.outcome none.is isnt
+
+module _ (folder folder_after : Folder) (path : List ℕ) (manner : Manner) (at : Option ℕ) where
   silent_begins : (p : PlannedShop) (there : Bool) (step : Step) → Begins folder folder_after path manner p there step → IsDriven step.log → IsSilent step.outcome
-  silent_begins p there step (inl (Refused back why, is, by)) = nothing_driven there step by.1
-  silent_begins p there step (inl (Accepted v, is, inl lacks)) = nothing_driven false step lacks.nothing
+  silent_begins p there step (inl (Refused back why, is, by)) = nothing_driven (left_if there) step (left_undriven there) by.1
+  silent_begins p there step (inl (Accepted v, is, inl lacks)) = λ driven. silent_fault _ step.outcome lacks.is
   silent_begins p there step (inl (Accepted v, is, inr run)) = λ driven. silent_end run.drove.log_failed (end_of_drive run.drove.end) step.outcome run.drove.answer
-  silent_begins p there step (inr wanting) = nothing_driven there step wanting.1
+  silent_begins p there step (inr wanting) = nothing_driven (left_if there) step (left_undriven there) wanting.1
 
   silent_after : (t : TakenUp) (mid : Output) (told : Result (Unit {0}) DriveFault) (step : Step) → GoesOnAfter manner t mid told step → IsSilent step.outcome
   silent_after t mid (Ok done) step (inl run) = silent_end run.log_failed (end_of_rest run.end) step.outcome run.answer
   silent_after t mid (Ok done) step (inr lacks) = silent_end lacks.log_failed (end_of_rest lacks.end) step.outcome lacks.answer
   silent_after t mid (Err fault) step is = silent_fault _ step.outcome is.0
 
-  silent_taken_up : (text : List ℕ) (taken : Result TakenUp TakeUpFault) (step : Step) → GoesOnTaken manner text taken step → IsDriven step.log → IsSilent step.outcome
-  silent_taken_up text (Ok t) step on = λ driven. silent_after t on.mid on.told step on.goes_on
-  silent_taken_up text (Err fault) step is = never_driven step.log (Some (Untaken text fault)) step.outcome is.2 (λ bad. bad)
+  silent_taken_up : (p : PlannedShop) (text : List ℕ) (taken : Result TakenUp TakeUpFault) (step : Step) → GoesOnTaken p manner text taken step → IsDriven step.log → IsSilent step.outcome
+  silent_taken_up p text (Ok t) step on = λ driven. silent_after t on.mid on.told step on.goes_on
+  silent_taken_up p text (Err fault) step is = nothing_driven (Some (Untaken p text fault)) step (λ bad. bad) is.1
 
-  silent_opened : (p : PlannedShop) (opened : Result (Option (List ℕ)) FileFault) (step : Step) → DrivesOpened folder folder_after path manner at p opened step → IsDriven step.log → IsSilent step.outcome
-  silent_opened p (Err fault) step is = nothing_driven false step is.1
-  silent_opened p (Ok None) step is = silent_begins p false step is
-  silent_opened p (Ok (Some [])) step is = silent_begins p true step is
-  silent_opened p (Ok (Some (byte ∷ bytes))) step is = silent_taken_up (byte ∷ bytes) is.0.taken step is.0.goes_on
+  silent_fitting : (p : PlannedShop) (there : Option (List ℕ)) (step : Step) → DrivesFitting folder folder_after path manner at p there step → IsDriven step.log → IsSilent step.outcome
+  silent_fitting p None step is = silent_begins p false step is
+  silent_fitting p (Some []) step is = silent_begins p true step is
+  silent_fitting p (Some (byte ∷ bytes)) step is = silent_taken_up p (byte ∷ bytes) is.0.taken step is.0.goes_on
 
-  pub silent_logged : (shaped : Result (Result PlannedShop ShapeFault) CommandFault) (step : Step) → DrivesShaped folder folder_after path manner at shaped step → IsDriven step.log → IsSilent step.outcome
-  silent_logged (Err fault) step is = nothing_driven false step is.1
-  silent_logged (Ok (Err fault)) step is = nothing_driven false step is.1
-  silent_logged (Ok (Ok p)) step is = silent_opened p is.opened step is.drives
+  silent_as : (misfit : Option Misfit) (p : PlannedShop) (there : Option (List ℕ)) (step : Step) → DrivesAs folder folder_after path misfit manner at p there step → IsDriven step.log → IsSilent step.outcome
+  silent_as (Some misfit) p there step is = nothing_driven (option_map Found there) step (found_undriven there) is.1
+  silent_as None p there step is = silent_fitting p there step is
+
+module _ (folder folder_after : Folder) (path : List ℕ) (start : LogStart) (manner : Manner) (at : Option ℕ) where
+  silent_opened : (p : PlannedShop) (opened : Result (Option (List ℕ)) FileFault) (step : Step) → DrivesOpened folder folder_after path start manner at p opened step → IsDriven step.log → IsSilent step.outcome
+  silent_opened p (Err fault) step is = λ driven. silent_fault _ step.outcome is.0
+  silent_opened p (Ok there) step is = silent_as (handed_if (is_some there) folder) folder_after path manner at is.misfit p there step is.drives
+
+  pub silent_logged : (shaped : Result (Result PlannedShop ShapeFault) CommandFault) (step : Step) → DrivesShaped folder folder_after path start manner at shaped step → IsDriven step.log → IsSilent step.outcome
+  silent_logged (Err fault) step is = nothing_driven None step (λ bad. bad) is.1
+  silent_logged (Ok (Err fault)) step is = nothing_driven None step (λ bad. bad) is.1
+  silent_logged (Ok (Ok p)) step (inl is) = silent_opened p is.opened step is.drives
+  silent_logged (Ok (Ok p)) step (inr wanting) = nothing_driven None step (λ bad. bad) wanting.1

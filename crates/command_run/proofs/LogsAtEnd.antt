@@ -1,10 +1,11 @@
 -- What the log of a driven cell has at the end of the program.
-use Rattle.std.proofs.Common.{◌≡◌, ◌≤◌, ◌++◌, ℕ, List, [], ◌∷◌, Bool, Option, None, Some, IfSome, Result, Ok, Err, IfOk, ap, sym, ◌∙◌, subst, arith, refl}
+use Rattle.std.proofs.Common.{◌≡◌, ◌≤◌, ◌++◌, ℕ, List, [], ◌∷◌, Bool, Option, None, Some, IfSome, Result, Ok, Err, IfOk, inl, inr, ap, sym, ◌∙◌, subst, arith, refl}
 use Rattle.std.specs.Prelude.{IsOk}
 use Rattle.std.specs.Io.KnownBytes.{Appends}
 use Rattle.std.proofs.lemmas.List.{append-nil}
 use Rattle.shop_base.specs.Plan.{PlannedShop}
 use Rattle.cell_tables.specs.declared.entry.Entry.{Entry}
+use Rattle.run_journal.specs.declared.file_fault.FileFault.{FileFault}
 use Rattle.run_journal.specs.Logged.{Held}
 use Rattle.logged_drive.specs.CrashLaw.{IsTakenUpAfter}
 use Rattle.logged_drive.specs.LoggedRuns.{IsAllInLog, KeepsShown}
@@ -12,8 +13,8 @@ use Rattle.command_answers.specs.declared.answer.Answer.{Answer}
 use Rattle.command_answers.specs.declared.command_fault.CommandFault.{CommandFault}
 use Rattle.command_run.specs.Streams.{Errors, Output}
 use Rattle.command_run.specs.Ending.{Ends, IsPrinted}
-use Rattle.command_run.specs.Logs.{Driven, Untaken, Left, IsHeldAfter, IsLogAfter, KeepsInLog, LogEnd}
-use Rattle.command_run.proofs.Endings.{fault_ends}
+use Rattle.command_run.specs.Logs.{Driven, Untaken, Left, Found, Unread, Unlined, IsHeldAfter, IsLogAfter, KeepsInLog, LogEnd}
+use Rattle.command_run.proofs.Endings.{IsOwnOr, fault_ends}
 use Rattle.command_run.proofs.LoggedEndings.{IsDriven}
 
 no_more : (before after : Option (List ℕ)) (start text : List ℕ) → before ≡ Some start → Appends before after text → text ≡ [] → after ≡ before
@@ -45,32 +46,40 @@ moved seen may_leave before after one other p events held told same is_good keep
   in_log = λ good. subst (IsAllInLog told.0 told.1 seen may_leave) (sym same) (keeps.in_log (is_good good));
 }
 
-kept_one : (seen : Option (List ℕ)) (may_leave : List ℕ → Type 0) (outcome : Result Answer CommandFault) (before after : Output) (told_before told_after : Errors) (status : ℕ)
-    (p : PlannedShop) (events : List Entry) (held : Held) (told : List ℕ × List ℕ) → IfOk outcome (λ answer. answer.text.items ≡ []) → Ends outcome before after told_before told_after status
+too_low : (own status : ℕ) → 2 ≤ own → status ≤ 1 → IsOwnOr own status → ⊥
+too_low own status high low (inl same) = omega (arith, high, low, same)
+too_low own status high low (inr (five, six)) = omega (arith, low, six)
+
+kept_one : (seen : Option (List ℕ)) (may_leave : List ℕ → Type 0) (outcome : Result Answer CommandFault) (before after : Output) (told_before told_after : Errors) (own status : ℕ)
+    (p : PlannedShop) (events : List Entry) (held : Held) (told : List ℕ × List ℕ) → IfOk outcome (λ answer. answer.text.items ≡ []) → Ends outcome before after told_before told_after own → IsOwnOr own status
     → KeepsInLog seen may_leave before.taken (IsOk outcome) p events held told → KeepsInLog seen may_leave after.taken (status ≤ 1) p events held told
-kept_one seen may_leave (Ok answer) before after told_before told_after status p events held told none ends keeps =
+kept_one seen may_leave (Ok answer) before after told_before told_after own status p events held told none ends rel keeps =
     moved seen may_leave before.taken after.taken (IsGood (Ok answer)) (status ≤ 1) p events held told
     (silent_print answer ends.printed before after _ keeps.crash.output none ends.is) (λ low. refl) keeps
-kept_one seen may_leave (Err fault) before after told_before told_after status p events held told none ends keeps =
-    let high = (fault_ends fault after told_before told_after status ends.1).high in
+kept_one seen may_leave (Err fault) before after told_before told_after own status p events held told none ends rel keeps =
+    let high = (fault_ends fault after told_before told_after own ends.1).high in
     moved seen may_leave before.taken after.taken (IsGood (Err fault)) (status ≤ 1) p events held told
-    (ap (λ (o : Output). o.taken) ends.0) (λ low. absurd (omega (arith, low, high))) keeps
+    (ap (λ (o : Output). o.taken) ends.0) (λ low. absurd (too_low own status high low rel)) keeps
 
-kept_at_end : (told : Option (List ℕ × List ℕ)) (seen : Option (List ℕ)) (may_leave : List ℕ → Type 0) (outcome : Result Answer CommandFault) (before after : Output) (told_before told_after : Errors) (status : ℕ)
-    (end : LogEnd) → (IsDriven (Some end) → IfOk outcome (λ answer. answer.text.items ≡ [])) → Ends outcome before after told_before told_after status
+kept_at_end : (told : Option (List ℕ × List ℕ)) (seen : Option (List ℕ)) (may_leave : List ℕ → Type 0) (outcome : Result Answer CommandFault) (before after : Output) (told_before told_after : Errors) (own status : ℕ)
+    (end : LogEnd) → (IsDriven (Some end) → IfOk outcome (λ answer. answer.text.items ≡ [])) → Ends outcome before after told_before told_after own → IsOwnOr own status
     → IfSome told (IsLogAfter seen may_leave before.taken (IsOk outcome) end) → IfSome told (IsLogAfter seen may_leave after.taken (status ≤ 1) end)
-kept_at_end None seen may_leave outcome before after told_before told_after status end silent ends is = tt
-kept_at_end (Some t) seen may_leave outcome before after told_before told_after status (Driven p events held) silent ends keeps =
-    kept_one seen may_leave outcome before after told_before told_after status p events held t (silent tt) ends keeps
-kept_at_end (Some t) seen may_leave outcome before after told_before told_after status (Untaken text fault) silent ends is = is
-kept_at_end (Some t) seen may_leave outcome before after told_before told_after status Left silent ends is = is
+kept_at_end None seen may_leave outcome before after told_before told_after own status end silent ends rel is = tt
+kept_at_end (Some t) seen may_leave outcome before after told_before told_after own status (Driven p events held) silent ends rel keeps =
+    kept_one seen may_leave outcome before after told_before told_after own status p events held t (silent tt) ends rel keeps
+kept_at_end (Some t) seen may_leave outcome before after told_before told_after own status (Untaken p text fault) silent ends rel is = is
+kept_at_end (Some t) seen may_leave outcome before after told_before told_after own status Left silent ends rel is = is
+kept_at_end (Some t) seen may_leave outcome before after told_before told_after own status (Found bytes) silent ends rel is = is
+kept_at_end (Some t) seen may_leave outcome before after told_before told_after own status (Unread fault) silent ends rel is = is
+kept_at_end (Some t) seen may_leave outcome before after told_before told_after own status (Unlined p) silent ends rel is = is
 
 -- of the log that is held
-pub held_at_end : {D : Type 0} (seen : D → Option (List ℕ)) (may_leave : D → List ℕ → Type 0) (failed : D → Bool) (told : Option (List ℕ × List ℕ)) (outcome : Result Answer CommandFault)
-    (before after : Output) (told_before told_after : Errors) (status : ℕ) (log : Option D) (end : Option LogEnd) → (IsDriven end → IfOk outcome (λ answer. answer.text.items ≡ []))
-    → Ends outcome before after told_before told_after status → IsHeldAfter seen may_leave failed told before.taken (IsOk outcome) log end → IsHeldAfter seen may_leave failed told after.taken (status ≤ 1) log end
-held_at_end seen may_leave failed told outcome before after told_before told_after status None None silent ends is = tt
-held_at_end seen may_leave failed told outcome before after told_before told_after status None (Some end) silent ends is = is
-held_at_end seen may_leave failed told outcome before after told_before told_after status (Some l) None silent ends is = is
-held_at_end seen may_leave failed told outcome before after told_before told_after status (Some l) (Some end) silent ends is =
-    (is.0, kept_at_end told (seen l) (may_leave l) outcome before after told_before told_after status end silent ends is.1)
+pub held_at_end : {D : Type 0} (seen : D → Option (List ℕ)) (may_leave : D → List ℕ → Type 0) (fault : D → Option FileFault) (written : D → Bool) (told : Option (List ℕ × List ℕ)) (outcome : Result Answer CommandFault)
+    (before after : Output) (told_before told_after : Errors) (own status : ℕ) (log : Option D) (end : Option LogEnd) → (IsDriven end → IfOk outcome (λ answer. answer.text.items ≡ []))
+    → Ends outcome before after told_before told_after own → IsOwnOr own status → IsHeldAfter seen may_leave fault written told before.taken (IsOk outcome) log end
+    → IsHeldAfter seen may_leave fault written told after.taken (status ≤ 1) log end
+held_at_end seen may_leave fault written told outcome before after told_before told_after own status None None silent ends rel is = tt
+held_at_end seen may_leave fault written told outcome before after told_before told_after own status None (Some end) silent ends rel is = is
+held_at_end seen may_leave fault written told outcome before after told_before told_after own status (Some l) None silent ends rel is = is
+held_at_end seen may_leave fault written told outcome before after told_before told_after own status (Some l) (Some end) silent ends rel is =
+    (is.0, is.1, kept_at_end told (seen l) (may_leave l) outcome before after told_before told_after own status end silent ends rel is.2)

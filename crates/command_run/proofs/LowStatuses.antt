@@ -6,9 +6,10 @@ use Rattle.plan_verifier.specs.declared.verdict.Verdict.TheVariants.{Accepted, R
 use Rattle.plan_verifier.specs.declared.verdict.Judged.{Judged as JudgedRest}
 use Rattle.plan_verifier.specs.declared.verdict.Judged.TheVariants.{Accepted as InTime, Refused as NotInTime}
 use Rattle.plan_verifier.specs.declared.verdict.Why.TheVariants.{Cycle, Late}
-use Rattle.shop_base.specs.Cell.{Cell}
+use Rattle.shop_base.specs.Cell.{Cell, start}
 use Rattle.cell_tables.specs.declared.entry.Entry.{Entry}
 use Rattle.run_picture.specs.declared.visit.DrawnVisit.{DrawnVisit}
+use Rattle.people_names.specs.NameBooks.{NameBook, no_names}
 use Rattle.plan_seek.specs.Tasks.{task_in}
 use Rattle.plan_seek.specs.Turns.{PlanSearch}
 use Rattle.plan_seek.specs.declared.seek_fault.SeekFault.{SeekFault}
@@ -38,7 +39,7 @@ use Rattle.run_log.specs.declared.audit_fault.AuditFault.{AuditFault}
 use Rattle.run_log.specs.declared.audit_fault.AuditFault.TheVariants.{BadLine, NotExpected, Backwards, NotReady, Occupied, OutOfOrder, WrongPlace, NotClean, Memory as NoMemoryToAudit}
 use Rattle.command_words.specs.declared.words.Chosen.{Chosen}
 use Rattle.command_words.specs.declared.words.CommandName.{CommandName}
-use Rattle.command_words.specs.declared.words.CommandName.TheVariants.{Input as NoWords, Facts, Shape, Check, Explain, Schedule, Bounds, Plan, Improve, Decide, Revise, Drive, Resume, Hub, Audit, Gantt}
+use Rattle.command_words.specs.declared.words.CommandName.TheVariants.{Input as NoWords, Facts, Shape, Check, Explain, Schedule, Bounds, Margin, Plan, Improve, Decide, Revise, Drive, Resume, Hub, Digest, Audit, Gantt}
 use Rattle.command_answers.specs.declared.answer.Answer.{Answer}
 use Rattle.command_answers.specs.declared.cells.Cells.{Cells}
 use Rattle.command_answers.specs.declared.cells.Cells.TheVariants.{Accepted as AllAccepted, Line}
@@ -49,10 +50,14 @@ use Rattle.command_answers.specs.Steps.{Then, GoesOn, Told, IsOrMemory}
 use Rattle.command_answers.specs.Readings.{AreFactsAnswered}
 use Rattle.command_answers.specs.Shapes.{IsShapeLine, IsNotShapedLine}
 use Rattle.command_answers.specs.Checks.{IsCheckLine, IsLineOf, accepted_in, verdict_status}
-use Rattle.command_answers.specs.Explains.{IsExplanation}
-use Rattle.command_answers.specs.Timetables.{IsTimetable}
-use Rattle.command_answers.specs.BoundLines.{AreBounds, IsBadNumbersLine}
-use Rattle.command_answers.specs.Deciding.{IsDecideAnswer, IsDecisionAnswer, IsDecisionText}
+use Rattle.command_answers.specs.AskedJobs.{IsNoJobLine}
+use Rattle.command_answers.specs.Texts.{Asks}
+use Rattle.command_answers.specs.Explains.{IsPlanExplained}
+use Rattle.command_answers.specs.Timetables.{IsPlanScheduled}
+use Rattle.people_names.specs.NameBooks.{NameBook}
+use Rattle.plan_bounds.specs.Bounds.{ShopTimes, times_of}
+use Rattle.command_answers.specs.BoundLines.{AreBoundLines, IsBadNumbersLine}
+use Rattle.command_answers.specs.Deciding.{IsDecisionAnswer, IsDecisionText}
 use Rattle.command_answers.specs.DecidingRests.{IsUnfitLine, IsRestDecisionText, IsRestDecisionAnswer}
 use Rattle.command_answers.specs.Improving.{IsStatusOf, IsBestAnswer, IsImproveAnswer, ordered}
 use Rattle.command_answers.specs.Search.{IsSearchLine, IsSearchAnswer, IsNoPlanLine}
@@ -61,15 +66,20 @@ use Rattle.command_answers.specs.declared.logs.Telling.TheVariants.{Numbers, Dra
 use Rattle.command_answers.specs.LogLines.{IsFaultLine, IsFaultTold, IsLogLine, IsLogRefused}
 use Rattle.command_answers.specs.declared.rests.PlanTelling.{PlanTelling}
 use Rattle.command_answers.specs.declared.rests.PlanTelling.TheVariants.{Verdict as OfVerdict, Reasons, Moments}
-use Rattle.command_answers.specs.Rests.{IsPastLine, IsRestLine}
+use Rattle.command_answers.specs.Rests.{IsPastLine, IsRestLine, job_asked}
 use Rattle.command_answers.specs.declared.pictures.Drawn.{Drawn}
 use Rattle.command_answers.specs.declared.pictures.Drawn.TheVariants.{Picture, Line as LineDrawn}
-use Rattle.command_answers.specs.Pictures.{IsCellDrawn, IsLogDrawn, IsPlanDrawn, IsRestDrawing, IsRestDrawn, IsUnshapedDrawn, IsVerdictDrawn, WithDrawnLog, DrawsLog, DrawsRest, DrawsSchedule}
-use Rattle.command_answers.specs.Commands.{PairOfFiles, WithBoth, WithLog, WithLogOf, WithRest, WithRestDecision}
+use Rattle.command_answers.specs.Pictures.{IsCellDrawn, IsLogDrawn, IsPlanDrawn, IsRestDrawing, IsRestDrawn, IsUnshapedDrawn, IsVerdictDrawn, IfDrawable, DrawsLog, DrawsRest, DrawsSchedule}
+use Rattle.command_answers.specs.Commands.{PairOfFiles, IfShaped, IfThere, WithBoth, WithLogOf, WithNames, WithNamesAndLog, WithRest, WithRestDecision, WithSoundNames}
 use Rattle.command_answers.specs.Cells.{IsCellLine, AfterPlan, LoadsEach}
-use Rattle.command_answers.proofs.RestAnswers.{low_rest}
+use Rattle.command_answers.specs.Digests.{IsDigestAnswer}
+use Rattle.command_answers.specs.Margins.{IsMarginAnswer}
+use Rattle.command_answers.specs.Moves.{AreMovesOfLog, AreMovesOfPlan}
+use Rattle.command_answers.proofs.RestAnswers.{low_log_moves, low_moves, low_rest}
 use Rattle.command_run.specs.Streams.{Streams, Output}
-use Rattle.command_run.specs.Pictures.{Draws, DrawsTimetable, IsPictureOut, RunsTimetable, RunsDrawing}
+use Rattle.command_run.specs.Pictures.{Draws, DrawsTimetable, IsPictureOut, RunsTimetable, RunsDrawing, TellsMoves}
+use Rattle.command_run.specs.declared.pictures.Timetable.{Timetable}
+use Rattle.command_run.specs.declared.pictures.Timetable.TheVariants.{Moments as ByMoments, Moves as ByMoves, Picture as AsPicture}
 use Rattle.command_run.specs.Drives.{IsEnded, IsEndAnswer, Drives, status_at, end_of_drive}
 use Rattle.command_run.specs.Resumes.{IsUntakenTold, ResumesTaken, ResumesText, Resumes, end_of_rest}
 use Rattle.command_run.specs.Hubs.{DrivesAll, end_of_hub}
@@ -79,7 +89,7 @@ use Rattle.command_answers.specs.ImprovingRests.{RestAsked, IsRestAnswer}
 use Rattle.command_run.specs.Choosers.{Decides}
 use Rattle.command_run.specs.Improvers.{AsksOne, AsksOneForRest, ImprovesPlan, ImprovesRest, Improves}
 use Rattle.command_run.specs.Tellings.{RunsTelling}
-use Rattle.command_run.specs.Program.{RunsCommand, aim_in, file_at, log_in, manner_in, name_in, pair_in, plans_in}
+use Rattle.command_run.specs.Program.{RunsCommand, aim_in, file_at, form_in, log_in, names_in, manner_in, name_in, pair_in, plans_in}
 
 -- the answer's status is 0 or 1
 abbrev pub IsLow : Result Answer CommandFault → Type 0
@@ -130,6 +140,15 @@ low_check p answer (inr (shaped, inl accepted)) = zero_low answer.status accepte
 low_check p answer (inr (shaped, inr (inl cycle))) = one_low answer.status cycle.refused
 low_check p answer (inr (shaped, inr (inr late))) = one_low answer.status late.refused
 
+low_digest : (p : PlannedShop) (answer : Answer) → IsDigestAnswer p answer → answer.status ≤ 1
+low_digest p answer (inl digits) = zero_low answer.status digits.good
+low_digest p answer (inr not_shaped) = low_not_shaped p answer not_shaped
+
+low_margin : (names : NameBook) (p : PlannedShop) (answer : Answer) → IsMarginAnswer names p answer → answer.status ≤ 1
+low_margin names p answer (inl (acceptable, margin)) = zero_low answer.status margin.good
+low_margin names p answer (inr (inl cycle)) = one_low answer.status cycle.refused
+low_margin names p answer (inr (inr late)) = one_low answer.status late.refused
+
 low_no_plan : (fault : SeekFault) (answer : Answer) → IsNoPlanLine fault answer → answer.status ≤ 1
 low_no_plan (BadNumbers fault) answer is = one_low answer.status is.refused
 low_no_plan Exhausted answer is = one_low answer.status is.1
@@ -144,53 +163,47 @@ low_sought : (s : PlanSearch) (rounds : ℕ) (outcome : Result Answer CommandFau
 low_sought s rounds (Ok answer) is = low_search s rounds answer is
 low_sought s rounds (Err fault) is = tt
 
-low_log : (telling : Telling) (p : PlannedShop) (log : List ℕ) (answer : Answer) → IsLogLine telling p log answer → answer.status ≤ 1
-low_log telling p log answer (inl kept) = zero_low answer.status kept.told.1
-low_log telling p log answer (inr refused) = one_low answer.status refused.line.1
+low_log : (names : NameBook) (telling : Telling) (p : PlannedShop) (log : List ℕ) (answer : Answer) → IsLogLine names telling p log answer → answer.status ≤ 1
+low_log names telling p log answer (inl kept) = zero_low answer.status kept.told.1
+low_log names telling p log answer (inr refused) = one_low answer.status refused.line.1
 
 low_verdict : (verdict : Verdict) (status : ℕ) → status ≡ verdict_status verdict → status ≤ 1
 low_verdict (Accepted v) status is = zero_low status is
 low_verdict (Refused back why) status is = one_low status is
 
-low_explained : (p : PlannedShop) (answer : Answer) → IsExplanation p answer → answer.status ≤ 1
-low_explained p answer (inl not_shaped) = low_not_shaped p answer not_shaped
-low_explained p answer (inr explained) = low_verdict explained.verdict answer.status explained.explained.status
+low_explained : (names : NameBook) (told : Option ℕ) (p : PlannedShop) (answer : Answer) → IsPlanExplained names told p answer → answer.status ≤ 1
+low_explained names told p answer explained = low_verdict explained.verdict answer.status explained.explained.status
 
-low_scheduled : (p : PlannedShop) (answer : Answer) → IsTimetable p answer → answer.status ≤ 1
-low_scheduled p answer (inl not_shaped) = low_not_shaped p answer not_shaped
-low_scheduled p answer (inr scheduled) = low_verdict scheduled.verdict answer.status scheduled.scheduled.status
+low_scheduled : (names : NameBook) (p : PlannedShop) (answer : Answer) → IsPlanScheduled names p answer → answer.status ≤ 1
+low_scheduled names p answer scheduled = low_verdict scheduled.verdict answer.status scheduled.scheduled.status
 
-low_bounds : (p : PlannedShop) (answer : Answer) → AreBounds p answer → answer.status ≤ 1
-low_bounds p answer (inl sound) = elim sound.1.status [
+low_bounds : (names : NameBook) (t : ShopTimes) (budgets : List ℕ) (answer : Answer) → AreBoundLines names t budgets answer → answer.status ≤ 1
+low_bounds names t budgets answer are = elim are.status [
   | inl good ↦ zero_low answer.status good.1
   | inr never ↦ one_low answer.status never.2
 ]
-low_bounds p answer (inr bad) = one_low answer.status bad.line.refused
 
-low_decision : (t : Case) (aim : Aim) (answer : Answer) → IsDecisionText t aim answer → answer.status ≤ 1
-low_decision t aim answer (inl kept) = zero_low answer.status kept.text.ends
-low_decision t aim answer (inr (inl best)) = zero_low answer.status best.text.ends
-low_decision t aim answer (inr (inr (inl never))) = one_low answer.status never.refused
-low_decision t aim answer (inr (inr (inr (inl left_open)))) = one_low answer.status left_open.refused
-low_decision t aim answer (inr (inr (inr (inr outside)))) = one_low answer.status outside.refused
+module _ (names : NameBook) where
+  low_decision : (t : Case) (aim : Aim) (answer : Answer) → IsDecisionText names t aim answer → answer.status ≤ 1
+  low_decision t aim answer (inl kept) = zero_low answer.status kept.text.ends
+  low_decision t aim answer (inr (inl best)) = zero_low answer.status best.text.ends
+  low_decision t aim answer (inr (inr (inl never))) = one_low answer.status never.refused
+  low_decision t aim answer (inr (inr (inr (inl left_open)))) = one_low answer.status left_open.refused
+  low_decision t aim answer (inr (inr (inr (inr outside)))) = one_low answer.status outside.refused
 
-low_decided : (t : Case) (aim : Aim) (outcome : Result Answer CommandFault) → IsDecisionAnswer t aim outcome → IsLow outcome
-low_decided t aim (Ok answer) is = low_decision t aim answer is
-low_decided t aim (Err fault) is = tt
+  low_decided : (t : Case) (aim : Aim) (outcome : Result Answer CommandFault) → IsDecisionAnswer names t aim outcome → IsLow outcome
+  low_decided t aim (Ok answer) is = low_decision t aim answer is
+  low_decided t aim (Err fault) is = tt
 
-low_decides : (p : PlannedShop) (aim : Aim) (outcome : Result Answer CommandFault) → IsDecideAnswer p aim outcome → IsLow outcome
-low_decides p aim outcome (inl sound) = low_decided (whole_case p) aim outcome sound.1
-low_decides p aim outcome (inr bad) = low_or (IsBadNumbersLine p) outcome (λ answer line. one_low answer.status line.line.refused) bad
+  low_rest_decision : (at : Option ℕ) (lines : List (List ℕ)) (start : PlannedShop) (aim : Aim) (answer : Answer) → IsRestDecisionText names at lines start aim answer → answer.status ≤ 1
+  low_rest_decision at lines start aim answer (inl held) = low_decision _ aim answer held.says
+  low_rest_decision at lines start aim answer (inr (inl outside)) = one_low answer.status outside.refused
+  low_rest_decision at lines start aim answer (inr (inr (inl refused))) = one_low answer.status refused.line.1
+  low_rest_decision at lines start aim answer (inr (inr (inr past))) = one_low answer.status past.line.1
 
-low_rest_decision : (at : Option ℕ) (lines : List (List ℕ)) (start : PlannedShop) (aim : Aim) (answer : Answer) → IsRestDecisionText at lines start aim answer → answer.status ≤ 1
-low_rest_decision at lines start aim answer (inl held) = low_decision _ aim answer held.says
-low_rest_decision at lines start aim answer (inr (inl outside)) = one_low answer.status outside.refused
-low_rest_decision at lines start aim answer (inr (inr (inl refused))) = one_low answer.status refused.line.1
-low_rest_decision at lines start aim answer (inr (inr (inr past))) = one_low answer.status past.line.1
-
-low_rest_decided : (at : Option ℕ) (lines : List (List ℕ)) (start : PlannedShop) (aim : Aim) (outcome : Result Answer CommandFault) → IsRestDecisionAnswer at lines start aim outcome → IsLow outcome
-low_rest_decided at lines start aim (Ok answer) is = low_rest_decision at lines start aim answer is
-low_rest_decided at lines start aim (Err fault) is = tt
+  low_rest_decided : (at : Option ℕ) (lines : List (List ℕ)) (start : PlannedShop) (aim : Aim) (outcome : Result Answer CommandFault) → IsRestDecisionAnswer names at lines start aim outcome → IsLow outcome
+  low_rest_decided at lines start aim (Ok answer) is = low_rest_decision at lines start aim answer is
+  low_rest_decided at lines start aim (Err fault) is = tt
 
 low_status : (best : PlannedShop) (status : ℕ) → IsStatusOf best status → status ≤ 1
 low_status best status (inl accepted) = zero_low status accepted.1
@@ -256,42 +269,39 @@ IsLowDrawn (Err fault) = Unit {0}
 low_drawn_failed : (fault : CommandFault) → IsLowDrawn (Err fault)
 low_drawn_failed fault = tt
 
-low_verdict_drawn : (p : PlannedShop) (c : Cell) (t : ℕ) (line : Option ℕ) (told : List DrawnVisit) (verdict : JudgedRest) (drawn : Drawn) → IsVerdictDrawn p c t line told verdict drawn → IsLowDrawn (Ok drawn)
-low_verdict_drawn p c t line told (InTime times) (Picture picture status) is = zero_low status is.1
-low_verdict_drawn p c t line told (InTime times) (LineDrawn answer) none = absurd none
-low_verdict_drawn p c t line told (NotInTime (Late job leaves chain times)) (Picture picture status) is = one_low status is.1
-low_verdict_drawn p c t line told (NotInTime (Late job leaves chain times)) (LineDrawn answer) none = absurd none
-low_verdict_drawn p c t line told (NotInTime (Cycle nodes)) (Picture picture status) none = absurd none
-low_verdict_drawn p c t line told (NotInTime (Cycle nodes)) (LineDrawn answer) is = one_low answer.status is.1
+low_verdict_drawn : (names : NameBook) (p : PlannedShop) (c : Cell) (t : ℕ) (line : Option ℕ) (told : List DrawnVisit) (verdict : JudgedRest) (drawn : Drawn) → IsVerdictDrawn names p c t line told verdict drawn → IsLowDrawn (Ok drawn)
+low_verdict_drawn names p c t line told (InTime times) (Picture picture status) is = zero_low status is.1
+low_verdict_drawn names p c t line told (InTime times) (LineDrawn answer) none = absurd none
+low_verdict_drawn names p c t line told (NotInTime (Late job leaves chain times)) (Picture picture status) is = one_low status is.1
+low_verdict_drawn names p c t line told (NotInTime (Late job leaves chain times)) (LineDrawn answer) none = absurd none
+low_verdict_drawn names p c t line told (NotInTime (Cycle nodes)) (Picture picture status) none = absurd none
+low_verdict_drawn names p c t line told (NotInTime (Cycle nodes)) (LineDrawn answer) is = one_low answer.status is.1
 
-low_rest_drawn : (p : PlannedShop) (c : Cell) (t : ℕ) (line : Option ℕ) (told : List DrawnVisit) (drawn : Drawn) → IsRestDrawn p c t line told drawn → IsLowDrawn (Ok drawn)
-low_rest_drawn p c t line told drawn is = low_verdict_drawn p c t line told is.verdict drawn is.is
+low_rest_drawn : (names : NameBook) (p : PlannedShop) (c : Cell) (t : ℕ) (line : Option ℕ) (told : List DrawnVisit) (drawn : Drawn) → IsRestDrawn names p c t line told drawn → IsLowDrawn (Ok drawn)
+low_rest_drawn names p c t line told drawn is = low_verdict_drawn names p c t line told is.verdict drawn is.is
 
-low_cell_drawn : (at : Option ℕ) (p : PlannedShop) (c : Cell) (entries : List Entry) (drawn : Drawn) → IsCellDrawn at p c entries drawn → IsLowDrawn (Ok drawn)
-low_cell_drawn at p c entries (LineDrawn answer) (inl past) = one_low answer.status past.1.1
-low_cell_drawn at p c entries (Picture picture status) (inl past) = absurd past.1
-low_cell_drawn at p c entries drawn (inr rest) = low_rest_drawn p c _ _ _ drawn rest.1
+low_cell_drawn : (at : Option ℕ) (names : NameBook) (p : PlannedShop) (c : Cell) (entries : List Entry) (drawn : Drawn) → IsCellDrawn at names p c entries drawn → IsLowDrawn (Ok drawn)
+low_cell_drawn at names p c entries (LineDrawn answer) (inl past) = one_low answer.status past.1.1
+low_cell_drawn at names p c entries (Picture picture status) (inl past) = absurd past.1
+low_cell_drawn at names p c entries drawn (inr rest) = low_rest_drawn names p c _ _ _ drawn rest.1
 
-low_rest_drawing : (at : Option ℕ) (p : PlannedShop) (log : List ℕ) (drawn : Result Drawn CommandFault) → IsOrMemory (IsRestDrawing at p log) drawn → IsLowDrawn drawn
-low_rest_drawing at p log (Ok (LineDrawn answer)) (inl run) = low_cell_drawn at p _ _ (LineDrawn answer) run.is
-low_rest_drawing at p log (Ok (LineDrawn answer)) (inr refused) = one_low answer.status refused.line.1
-low_rest_drawing at p log (Ok (Picture picture status)) (inl run) = low_cell_drawn at p _ _ (Picture picture status) run.is
-low_rest_drawing at p log (Ok (Picture picture status)) (inr none) = absurd none
-low_rest_drawing at p log (Err fault) is = tt
+low_rest_drawing : (at : Option ℕ) (names : NameBook) (p : PlannedShop) (log : List ℕ) (drawn : Result Drawn CommandFault) → IsOrMemory (IsRestDrawing at names p log) drawn → IsLowDrawn drawn
+low_rest_drawing at names p log (Ok (LineDrawn answer)) (inl run) = low_cell_drawn at names p _ _ (LineDrawn answer) run.is
+low_rest_drawing at names p log (Ok (LineDrawn answer)) (inr refused) = one_low answer.status refused.line.1
+low_rest_drawing at names p log (Ok (Picture picture status)) (inl run) = low_cell_drawn at names p _ _ (Picture picture status) run.is
+low_rest_drawing at names p log (Ok (Picture picture status)) (inr none) = absurd none
+low_rest_drawing at names p log (Err fault) is = tt
 
-low_plan_drawn : (p : PlannedShop) (drawn : Result Drawn CommandFault) → IsOrMemory (IsPlanDrawn p) drawn → IsLowDrawn drawn
-low_plan_drawn p (Ok (LineDrawn answer)) (inl rest) = low_rest_drawn p _ 0 None [] (LineDrawn answer) rest
-low_plan_drawn p (Ok (LineDrawn answer)) (inr not_shaped) = low_not_shaped p answer not_shaped
-low_plan_drawn p (Ok (Picture picture status)) (inl rest) = low_rest_drawn p _ 0 None [] (Picture picture status) rest
-low_plan_drawn p (Ok (Picture picture status)) (inr none) = absurd none
-low_plan_drawn p (Err fault) is = tt
+low_plan_drawn : (names : NameBook) (p : PlannedShop) (drawn : Result Drawn CommandFault) → IsOrMemory (IsPlanDrawn names p) drawn → IsLowDrawn drawn
+low_plan_drawn names p (Ok drawn) rest = low_rest_drawn names p _ 0 None [] drawn rest
+low_plan_drawn names p (Err fault) is = tt
 
-low_log_drawn : (p : PlannedShop) (log : List ℕ) (drawn : Result Drawn CommandFault) → IsOrMemory (IsLogDrawn p log) drawn → IsLowDrawn drawn
-low_log_drawn p log (Ok (LineDrawn answer)) (inl none) = absurd none
-low_log_drawn p log (Ok (LineDrawn answer)) (inr refused) = one_low answer.status refused.line.1
-low_log_drawn p log (Ok (Picture picture status)) (inl is) = zero_low status is.1
-low_log_drawn p log (Ok (Picture picture status)) (inr none) = absurd none
-low_log_drawn p log (Err fault) is = tt
+low_log_drawn : (names : NameBook) (p : PlannedShop) (log : List ℕ) (drawn : Result Drawn CommandFault) → IsOrMemory (IsLogDrawn names p log) drawn → IsLowDrawn drawn
+low_log_drawn names p log (Ok (LineDrawn answer)) (inl none) = absurd none
+low_log_drawn names p log (Ok (LineDrawn answer)) (inr refused) = one_low answer.status refused.line.1
+low_log_drawn names p log (Ok (Picture picture status)) (inl is) = zero_low status is.1
+low_log_drawn names p log (Ok (Picture picture status)) (inr none) = absurd none
+low_log_drawn names p log (Err fault) is = tt
 
 low_unshaped_drawn : (p : PlannedShop) (drawn : Result Drawn CommandFault) → IsOrMemory (IsUnshapedDrawn p) drawn → IsLowDrawn drawn
 low_unshaped_drawn p (Ok (LineDrawn answer)) is = low_not_shaped p answer is
@@ -403,56 +413,115 @@ module _ {W : Type 0} (gives : W → List ℕ → Result (List ℕ) CommandFault
       held IsLow _ (λ text. Told (Comes p text)) mid outcome after low_failed (λ text later on. each p text outcome on.0) run
   low_with_log_of Comes each log p mid outcome after (inr told) = low_or (IsNotShapedLine p) outcome (low_not_shaped p) told.0
 
-  low_with_log : (IsLine : PlannedShop → List ℕ → Answer → Type 0) → ((p : PlannedShop) (text : List ℕ) (answer : Answer) → IsLine p text answer → answer.status ≤ 1)
-      → (log : List ℕ) (p : PlannedShop) (mid : W) (outcome : Result Answer CommandFault) (after : W) → WithLog gives IsLine log p mid outcome after → IsLow outcome
-  low_with_log IsLine each = low_with_log_of (λ p text. IsOrMemory (IsLine p text)) (λ p text outcome. low_or (IsLine p text) outcome (each p text))
+  -- what comes of a plan that is well shaped
+  low_if_shaped : (next : W → Result Answer CommandFault → W → Type 0) (p : PlannedShop) (mid : W) (outcome : Result Answer CommandFault) (after : W)
+      → (next mid outcome after → IsLow outcome) → IfShaped gives p next mid outcome after → IsLow outcome
+  low_if_shaped next p mid outcome after each (inl (shaped, run)) = each run
+  low_if_shaped next p mid outcome after each (inr told) = low_or (IsNotShapedLine p) outcome (low_not_shaped p) told.0
 
-  low_telling : (telling : PlanTelling) (at : Option ℕ) (pair : PairOfFiles) (log : Option (List ℕ)) (texts : W) (outcome : Result Answer CommandFault) (after : W)
-      → RunsTelling gives telling at pair log texts outcome after → IsLow outcome
-  low_telling telling at pair (Some log) texts outcome after run =
-      low_both pair (WithLog gives (IsRestLine telling at) log) texts outcome after (λ p mid on. low_with_log (IsRestLine telling at) (low_rest telling at) log p mid outcome after on) run
-  low_telling OfVerdict at pair None texts outcome after run =
+  -- and where the job that is asked for is one of its shop
+  low_if_there : (told : Option ℕ) (next : W → Result Answer CommandFault → W → Type 0) (p : PlannedShop) (mid : W) (outcome : Result Answer CommandFault) (after : W)
+      → (next mid outcome after → IsLow outcome) → IfThere gives told p next mid outcome after → IsLow outcome
+  low_if_there None next p mid outcome after each run = each run
+  low_if_there (Some j) next p mid outcome after each (inl (few, run)) = each run
+  low_if_there (Some j) next p mid outcome after each (inr (many, told)) = low_or (IsNoJobLine j) outcome (λ answer line. one_low answer.status line.1) told.0
+
+  low_with_names : (Comes : NameBook → Result Answer CommandFault → Type 0) → ((book : NameBook) (outcome : Result Answer CommandFault) → Comes book outcome → IsLow outcome)
+      → (names : Option (List ℕ)) (p : PlannedShop) (mid : W) (outcome : Result Answer CommandFault) (after : W) → WithNames gives names p Comes mid outcome after → IsLow outcome
+  low_with_names Comes each names p mid outcome after run = held IsLow _ (λ book. Told (Comes book)) mid outcome after low_failed (λ book later on. each book outcome on.0) run
+
+  low_names_and_log : (IsLine : NameBook → List ℕ → Answer → Type 0) → ((book : NameBook) (text : List ℕ) (answer : Answer) → IsLine book text answer → answer.status ≤ 1)
+      → (names : Option (List ℕ)) (log : List ℕ) (p : PlannedShop) (mid : W) (outcome : Result Answer CommandFault) (after : W) → WithNamesAndLog gives names log p IsLine mid outcome after → IsLow outcome
+  low_names_and_log IsLine each names log p mid outcome after run =
+      held IsLow _ (λ book. Then (Asks gives log) (λ text. Told (IsOrMemory (IsLine book text)))) mid outcome after low_failed
+      (λ book later on. held IsLow _ (λ text. Told (IsOrMemory (IsLine book text))) later outcome after low_failed
+      (λ text last said. low_or (IsLine book text) outcome (each book text) said.0) on) run
+
+  -- a line for a plan that is well shaped, with names
+  low_named : (Is : NameBook → PlannedShop → Answer → Type 0) → ((book : NameBook) (p : PlannedShop) (answer : Answer) → Is book p answer → answer.status ≤ 1)
+      → (pair : PairOfFiles) (names : Option (List ℕ)) (texts : W) (outcome : Result Answer CommandFault) (after : W)
+      → WithBoth gives pair (λ p. IfShaped gives p (WithNames gives names p (λ book. IsOrMemory (Is book p)))) texts outcome after → IsLow outcome
+  low_named Is each pair names texts outcome after run =
+      low_both pair (λ p. IfShaped gives p (WithNames gives names p (λ book. IsOrMemory (Is book p)))) texts outcome after
+      (λ p mid on. low_if_shaped (WithNames gives names p (λ book. IsOrMemory (Is book p))) p mid outcome after
+      (low_with_names (λ book. IsOrMemory (Is book p)) (λ book told. low_or (Is book p) told (each book p)) names p mid outcome after) on) run
+
+  -- and with a log
+  low_named_and_logged : (Is : NameBook → PlannedShop → List ℕ → Answer → Type 0) → ((book : NameBook) (p : PlannedShop) (text : List ℕ) (answer : Answer) → Is book p text answer → answer.status ≤ 1)
+      → (pair : PairOfFiles) (names : Option (List ℕ)) (log : List ℕ) (texts : W) (outcome : Result Answer CommandFault) (after : W)
+      → WithBoth gives pair (λ p. IfShaped gives p (WithNamesAndLog gives names log p (λ book. Is book p))) texts outcome after → IsLow outcome
+  low_named_and_logged Is each pair names log texts outcome after run =
+      low_both pair (λ p. IfShaped gives p (WithNamesAndLog gives names log p (λ book. Is book p))) texts outcome after
+      (λ p mid on. low_if_shaped (WithNamesAndLog gives names log p (λ book. Is book p)) p mid outcome after
+      (low_names_and_log (λ book. Is book p) (λ book. each book p) names log p mid outcome after) on) run
+
+  low_telling : (telling : PlanTelling) (at : Option ℕ) (pair : PairOfFiles) (names log : Option (List ℕ)) (texts : W) (outcome : Result Answer CommandFault) (after : W)
+      → RunsTelling gives telling at pair names log texts outcome after → IsLow outcome
+  low_telling telling at pair names (Some log) texts outcome after run =
+      low_both pair (λ p. IfShaped gives p (IfThere gives (job_asked telling) p (WithNamesAndLog gives names log p (λ book. IsRestLine book telling at p)))) texts outcome after
+      (λ p mid on. low_if_shaped (IfThere gives (job_asked telling) p (WithNamesAndLog gives names log p (λ book. IsRestLine book telling at p))) p mid outcome after
+      (low_if_there (job_asked telling) (WithNamesAndLog gives names log p (λ book. IsRestLine book telling at p)) p mid outcome after
+      (low_names_and_log (λ book. IsRestLine book telling at p) (λ book. low_rest book telling at p) names log p mid outcome after)) on) run
+  low_telling OfVerdict at pair names None texts outcome after run =
       low_both pair (λ p. Told (IsOrMemory (IsCheckLine p))) texts outcome after (λ p mid on. low_or (IsCheckLine p) outcome (low_check p) on.0) run
-  low_telling Reasons at pair None texts outcome after run =
-      low_both pair (λ p. Told (IsOrMemory (IsExplanation p))) texts outcome after (λ p mid on. low_or (IsExplanation p) outcome (low_explained p) on.0) run
-  low_telling Moments at pair None texts outcome after run =
-      low_both pair (λ p. Told (IsOrMemory (IsTimetable p))) texts outcome after (λ p mid on. low_or (IsTimetable p) outcome (low_scheduled p) on.0) run
+  low_telling (Reasons told) at pair names None texts outcome after run =
+      low_both pair (λ p. IfShaped gives p (IfThere gives told p (WithNames gives names p (λ book. IsOrMemory (IsPlanExplained book told p))))) texts outcome after
+      (λ p mid on. low_if_shaped (IfThere gives told p (WithNames gives names p (λ book. IsOrMemory (IsPlanExplained book told p)))) p mid outcome after
+      (low_if_there told (WithNames gives names p (λ book. IsOrMemory (IsPlanExplained book told p))) p mid outcome after
+      (low_with_names (λ book. IsOrMemory (IsPlanExplained book told p)) (λ book said. low_or (IsPlanExplained book told p) said (low_explained book told p)) names p mid outcome after)) on) run
+  low_telling Moments at pair names None texts outcome after run = low_named IsPlanScheduled low_scheduled pair names texts outcome after run
 
-  low_with_drawn_log : (IsDrawing : PlannedShop → List ℕ → Drawn → Type 0) → ((p : PlannedShop) (text : List ℕ) (drawn : Result Drawn CommandFault) → IsOrMemory (IsDrawing p text) drawn → IsLowDrawn drawn)
-      → (log : List ℕ) (p : PlannedShop) (mid : W) (drawn : Result Drawn CommandFault) (after : W) → WithDrawnLog gives IsDrawing log p mid drawn after → IsLowDrawn drawn
-  low_with_drawn_log IsDrawing each log p mid drawn after (inl (shaped, run)) =
-      held IsLowDrawn _ (λ text. Told (IsOrMemory (IsDrawing p text))) mid drawn after low_drawn_failed (λ text later on. each p text drawn on.0) run
-  low_with_drawn_log IsDrawing each log p mid drawn after (inr told) = low_unshaped_drawn p drawn told.0
+  low_moves_told : (at : Option ℕ) (pair : PairOfFiles) (names log : Option (List ℕ)) (texts : W) (outcome : Result Answer CommandFault) (after : W) → TellsMoves gives at pair names log texts outcome after → IsLow outcome
+  low_moves_told at pair names None texts outcome after run = low_named AreMovesOfPlan (λ book p. low_moves book p (start p) 0) pair names texts outcome after run
+  low_moves_told at pair names (Some log) texts outcome after run =
+      low_named_and_logged (λ book p. AreMovesOfLog book at p) (λ book p. low_log_moves book at p) pair names log texts outcome after run
 
-  low_schedule_picture : (pair : PairOfFiles) (texts : W) (drawn : Result Drawn CommandFault) (after : W) → DrawsSchedule gives pair texts drawn after → IsLowDrawn drawn
-  low_schedule_picture pair texts drawn after came =
-      held IsLowDrawn _ (λ p. Told (IsOrMemory (IsPlanDrawn p))) texts drawn after low_drawn_failed (λ p mid on. low_plan_drawn p drawn on.0) came
+  low_drawable : (next : W → Result Drawn CommandFault → W → Type 0) (p : PlannedShop) (mid : W) (drawn : Result Drawn CommandFault) (after : W)
+      → (next mid drawn after → IsLowDrawn drawn) → IfDrawable p next mid drawn after → IsLowDrawn drawn
+  low_drawable next p mid drawn after each (inl (shaped, run)) = each run
+  low_drawable next p mid drawn after each (inr told) = low_unshaped_drawn p drawn told.0
 
-  low_rest_picture : (at : Option ℕ) (pair : PairOfFiles) (log : List ℕ) (texts : W) (drawn : Result Drawn CommandFault) (after : W) → DrawsRest gives at pair log texts drawn after → IsLowDrawn drawn
-  low_rest_picture at pair log texts drawn after came =
-      held IsLowDrawn _ (WithDrawnLog gives (IsRestDrawing at) log) texts drawn after low_drawn_failed
-      (λ p mid on. low_with_drawn_log (IsRestDrawing at) (low_rest_drawing at) log p mid drawn after on) came
+  low_named_log : (IsDrawing : NameBook → List ℕ → Drawn → Type 0) → ((book : NameBook) (text : List ℕ) (drawn : Result Drawn CommandFault) → IsOrMemory (IsDrawing book text) drawn → IsLowDrawn drawn)
+      → (names : Option (List ℕ)) (log : List ℕ) (p : PlannedShop) (mid : W) (drawn : Result Drawn CommandFault) (after : W) → WithNamesAndLog gives names log p IsDrawing mid drawn after → IsLowDrawn drawn
+  low_named_log IsDrawing each names log p mid drawn after run =
+      held IsLowDrawn _ (λ book. Then (Asks gives log) (λ text. Told (IsOrMemory (IsDrawing book text)))) mid drawn after low_drawn_failed
+      (λ book later on. held IsLowDrawn _ (λ text. Told (IsOrMemory (IsDrawing book text))) later drawn after low_drawn_failed (λ text last said. each book text drawn said.0) on) run
 
-  low_timetable_picture : (at : Option ℕ) (pair : PairOfFiles) (log : Option (List ℕ)) (texts : W) (drawn : Result Drawn CommandFault) (after : W) → DrawsTimetable gives at pair log texts drawn after → IsLowDrawn drawn
-  low_timetable_picture at pair None texts drawn after came = low_schedule_picture pair texts drawn after came
-  low_timetable_picture at pair (Some log) texts drawn after came = low_rest_picture at pair log texts drawn after came
+  low_schedule_picture : (pair : PairOfFiles) (names : Option (List ℕ)) (texts : W) (drawn : Result Drawn CommandFault) (after : W) → DrawsSchedule gives pair names texts drawn after → IsLowDrawn drawn
+  low_schedule_picture pair names texts drawn after came =
+      held IsLowDrawn _ (λ p. IfDrawable p (WithNames gives names p (λ book. IsOrMemory (IsPlanDrawn book p)))) texts drawn after low_drawn_failed
+      (λ p mid on. low_drawable (WithNames gives names p (λ book. IsOrMemory (IsPlanDrawn book p))) p mid drawn after
+      (λ run. held IsLowDrawn _ (λ book. Told (IsOrMemory (IsPlanDrawn book p))) mid drawn after low_drawn_failed (λ book later said. low_plan_drawn book p drawn said.0) run) on) came
 
-  low_log_picture : (pair : PairOfFiles) (log : List ℕ) (texts : W) (drawn : Result Drawn CommandFault) (after : W) → DrawsLog gives pair log texts drawn after → IsLowDrawn drawn
-  low_log_picture pair log texts drawn after came =
-      held IsLowDrawn _ (WithDrawnLog gives IsLogDrawn log) texts drawn after low_drawn_failed (λ p mid on. low_with_drawn_log IsLogDrawn low_log_drawn log p mid drawn after on) came
+  low_rest_picture : (at : Option ℕ) (pair : PairOfFiles) (names : Option (List ℕ)) (log : List ℕ) (texts : W) (drawn : Result Drawn CommandFault) (after : W) → DrawsRest gives at pair names log texts drawn after → IsLowDrawn drawn
+  low_rest_picture at pair names log texts drawn after came =
+      held IsLowDrawn _ (λ p. IfDrawable p (WithNamesAndLog gives names log p (λ book. IsRestDrawing at book p))) texts drawn after low_drawn_failed
+      (λ p mid on. low_drawable (WithNamesAndLog gives names log p (λ book. IsRestDrawing at book p)) p mid drawn after
+      (low_named_log (λ book. IsRestDrawing at book p) (λ book. low_rest_drawing at book p) names log p mid drawn after) on) came
 
-  low_timetable : (svg : Bool) (at : Option ℕ) (pair : PairOfFiles) (log : Option (List ℕ)) (texts : W) (before : Streams) (outcome : Result Answer CommandFault) (texts_after : W) (after : Streams)
-      → RunsTimetable gives svg at pair log texts before outcome texts_after after → IsLow outcome
-  low_timetable false at pair log texts before outcome texts_after after run = low_telling Moments at pair log texts outcome texts_after run.0
-  low_timetable true at pair log texts before outcome texts_after after run =
-      low_draws run.drawn before after outcome (low_timetable_picture at pair log texts run.drawn texts_after run.came) run.draws
+  low_timetable_picture : (at : Option ℕ) (pair : PairOfFiles) (names log : Option (List ℕ)) (texts : W) (drawn : Result Drawn CommandFault) (after : W) → DrawsTimetable gives at pair names log texts drawn after → IsLowDrawn drawn
+  low_timetable_picture at pair names None texts drawn after came = low_schedule_picture pair names texts drawn after came
+  low_timetable_picture at pair names (Some log) texts drawn after came = low_rest_picture at pair names log texts drawn after came
 
-  low_drawing : (svg : Bool) (pair : PairOfFiles) (log : List ℕ) (texts : W) (before : Streams) (outcome : Result Answer CommandFault) (texts_after : W) (after : Streams)
-      → RunsDrawing gives svg pair log texts before outcome texts_after after → IsLow outcome
-  low_drawing false pair log texts before outcome texts_after after run =
-      low_both pair (WithLog gives (IsLogLine Drawing) log) texts outcome texts_after (λ p mid on. low_with_log (IsLogLine Drawing) (low_log Drawing) log p mid outcome texts_after on) run.0
-  low_drawing true pair log texts before outcome texts_after after run =
-      low_draws run.drawn before after outcome (low_log_picture pair log texts run.drawn texts_after run.came) run.draws
+  low_log_picture : (pair : PairOfFiles) (names : Option (List ℕ)) (log : List ℕ) (texts : W) (drawn : Result Drawn CommandFault) (after : W) → DrawsLog gives pair names log texts drawn after → IsLowDrawn drawn
+  low_log_picture pair names log texts drawn after came =
+      held IsLowDrawn _ (λ p. IfDrawable p (WithNamesAndLog gives names log p (λ book. IsLogDrawn book p))) texts drawn after low_drawn_failed
+      (λ p mid on. low_drawable (WithNamesAndLog gives names log p (λ book. IsLogDrawn book p)) p mid drawn after
+      (low_named_log (λ book. IsLogDrawn book p) (λ book. low_log_drawn book p) names log p mid drawn after) on) came
+
+  low_timetable : (form : Timetable) (at : Option ℕ) (pair : PairOfFiles) (names log : Option (List ℕ)) (texts : W) (before : Streams) (outcome : Result Answer CommandFault) (texts_after : W) (after : Streams)
+      → RunsTimetable gives form at pair names log texts before outcome texts_after after → IsLow outcome
+  low_timetable ByMoments at pair names log texts before outcome texts_after after run = low_telling Moments at pair names log texts outcome texts_after run.0
+  low_timetable ByMoves at pair names log texts before outcome texts_after after run = low_moves_told at pair names log texts outcome texts_after run.0
+  low_timetable AsPicture at pair names log texts before outcome texts_after after run =
+      low_draws run.drawn before after outcome (low_timetable_picture at pair names log texts run.drawn texts_after run.came) run.draws
+
+  low_drawing : (svg : Bool) (pair : PairOfFiles) (names : Option (List ℕ)) (log : List ℕ) (texts : W) (before : Streams) (outcome : Result Answer CommandFault) (texts_after : W) (after : Streams)
+      → RunsDrawing gives svg pair names log texts before outcome texts_after after → IsLow outcome
+  low_drawing false pair names log texts before outcome texts_after after run =
+      low_named_and_logged (λ book. IsLogLine book Drawing) (λ book. low_log book Drawing) pair names log texts outcome texts_after run.0
+  low_drawing true pair names log texts before outcome texts_after after run =
+      low_draws run.drawn before after outcome (low_log_picture pair names log texts run.drawn texts_after run.came) run.draws
 
   low_seeks : (rounds : ℕ) (pair : PairOfFiles) (texts : W) (outcome : Result Answer CommandFault) (after : W)
       → SeeksPlan gives rounds pair texts outcome after → IsLow outcome
@@ -491,19 +560,27 @@ module _ {W : Type 0} (gives : W → List ℕ → Result (List ℕ) CommandFault
       (λ p. low_revised (printed_for file) named.description.items at run.changes (values_asked asked) p) log (record { shop = named.shop; plan = plan }) later outcome after goes) on) run.runs
   low_revises file at asked pair log texts outcome after (inr wanting) = subst IsLow (sym wanting.0) tt
 
-  low_with_decision : (aim : Aim) (at : Option ℕ) (log : List ℕ) (p : PlannedShop) (mid : W) (outcome : Result Answer CommandFault) (after : W)
-      → WithRestDecision gives aim at log p mid outcome after → IsLow outcome
-  low_with_decision aim at log p mid outcome after (inl (shaped, is)) =
-      held IsLow _ (λ text. Told (IsRestDecisionAnswer at (ended_lines text) p aim)) mid outcome after low_failed
-      (λ text later on. low_rest_decided at (ended_lines text) p aim outcome on.0) is
-  low_with_decision aim at log p mid outcome after (inr told) = low_or (IsUnfitLine p) outcome (λ answer line. one_low answer.status line.line.refused) told.0
+  -- what comes of a plan whose numbers are sound, with names
+  low_sound : (Comes : NameBook → Result Answer CommandFault → Type 0) (names : Option (List ℕ)) (p : PlannedShop) (mid : W) (outcome : Result Answer CommandFault) (after : W)
+      → ((book : NameBook) → Comes book outcome → IsLow outcome) → WithSoundNames gives Comes names p mid outcome after → IsLow outcome
+  low_sound Comes names p mid outcome after each (inl (sound, is)) = held IsLow _ (λ book. Told (Comes book)) mid outcome after low_failed (λ book later on. each book on.0) is
+  low_sound Comes names p mid outcome after each (inr told) = low_or (IsBadNumbersLine p) outcome (λ answer line. one_low answer.status line.line.refused) told.0
 
-  low_all_decided : (aim : Aim) (at : Option ℕ) (pair : PairOfFiles) (log : Option (List ℕ)) (texts : W) (outcome : Result Answer CommandFault) (after : W)
-      → Decides gives aim at pair log texts outcome after → IsLow outcome
-  low_all_decided aim at pair None texts outcome after run =
-      low_both pair (λ p. Told (IsDecideAnswer p aim)) texts outcome after (λ p mid on. low_decides p aim outcome on.0) run
-  low_all_decided aim at pair (Some log) texts outcome after run =
-      low_both pair (λ p. WithRestDecision gives aim at log (ordered p)) texts outcome after (λ p mid on. low_with_decision aim at log (ordered p) mid outcome after on) run
+  low_with_decision : (aim : Aim) (at : Option ℕ) (names : Option (List ℕ)) (log : List ℕ) (p : PlannedShop) (mid : W) (outcome : Result Answer CommandFault) (after : W)
+      → WithRestDecision gives aim at names log p mid outcome after → IsLow outcome
+  low_with_decision aim at names log p mid outcome after (inl (shaped, is)) =
+      held IsLow _ _ mid outcome after low_failed
+      (λ book named on. held IsLow _ (λ text. Told (IsRestDecisionAnswer book at (ended_lines text) p aim)) named outcome after low_failed
+      (λ text later goes. low_rest_decided book at (ended_lines text) p aim outcome goes.0) on) is
+  low_with_decision aim at names log p mid outcome after (inr told) = low_or (IsUnfitLine p) outcome (λ answer line. one_low answer.status line.line.refused) told.0
+
+  low_all_decided : (aim : Aim) (at : Option ℕ) (pair : PairOfFiles) (names log : Option (List ℕ)) (texts : W) (outcome : Result Answer CommandFault) (after : W)
+      → Decides gives aim at pair names log texts outcome after → IsLow outcome
+  low_all_decided aim at pair names None texts outcome after run =
+      low_both pair (λ p. WithSoundNames gives (λ book. IsDecisionAnswer book (whole_case p) aim) names p) texts outcome after
+      (λ p mid on. low_sound (λ book. IsDecisionAnswer book (whole_case p) aim) names p mid outcome after (λ book is. low_decided book (whole_case p) aim outcome is) on) run
+  low_all_decided aim at pair names (Some log) texts outcome after run =
+      low_both pair (λ p. WithRestDecision gives aim at names log (ordered p)) texts outcome after (λ p mid on. low_with_decision aim at names log (ordered p) mid outcome after on) run
 
   low_resumes : (manner : Manner) (at : Option ℕ) (log : List ℕ) (shaped : Result (Result PlannedShop ShapeFault) CommandFault) (texts : W) (before : Streams) (outcome : Result Answer CommandFault) (texts_after : W) (after : Streams)
       → Resumes gives manner at log shaped texts before outcome texts_after after → IsLow outcome
@@ -522,14 +599,17 @@ module _ {W : Type 0} (gives : W → List ℕ → Result (List ℕ) CommandFault
   low Shape chosen texts before outcome texts_after after run =
       low_both (pair_in chosen) (λ p. Told (IsOrMemory (IsShapeLine p))) texts outcome texts_after (λ p mid on. low_or (IsShapeLine p) outcome (low_shape p) on.0) run.0
   low Check chosen texts before outcome texts_after after run =
-      low_telling OfVerdict chosen.at (pair_in chosen) (log_in chosen) texts outcome texts_after run.0
+      low_telling OfVerdict chosen.at (pair_in chosen) (names_in chosen) (log_in chosen) texts outcome texts_after run.0
   low Explain chosen texts before outcome texts_after after run =
-      low_telling Reasons chosen.at (pair_in chosen) (log_in chosen) texts outcome texts_after run.0
-  low Schedule chosen texts before outcome texts_after after run = low_timetable chosen.svg chosen.at (pair_in chosen) (log_in chosen) texts before outcome texts_after after run
+      low_telling (Reasons chosen.job) chosen.at (pair_in chosen) (names_in chosen) (log_in chosen) texts outcome texts_after run.0
+  low Schedule chosen texts before outcome texts_after after run = low_timetable (form_in chosen) chosen.at (pair_in chosen) (names_in chosen) (log_in chosen) texts before outcome texts_after after run
   low Bounds chosen texts before outcome texts_after after run =
-      low_both (pair_in chosen) (λ p. Told (IsOrMemory (AreBounds p))) texts outcome texts_after (λ p mid on. low_or (AreBounds p) outcome (low_bounds p) on.0) run.0
+      low_both (pair_in chosen) (λ p. WithSoundNames gives (λ book. IsOrMemory (AreBoundLines book (times_of p) p.plan.budget)) (names_in chosen) p) texts outcome texts_after
+      (λ p mid on. low_sound (λ book. IsOrMemory (AreBoundLines book (times_of p) p.plan.budget)) (names_in chosen) p mid outcome texts_after
+      (λ book is. low_or (AreBoundLines book (times_of p) p.plan.budget) outcome (low_bounds book (times_of p) p.plan.budget) is) on) run.0
+  low Margin chosen texts before outcome texts_after after run = low_named IsMarginAnswer low_margin (pair_in chosen) (names_in chosen) texts outcome texts_after run.0
   low Plan chosen texts before outcome texts_after after run = low_seeks chosen.rounds _ texts outcome texts_after run.0
-  low Decide chosen texts before outcome texts_after after run = low_all_decided (aim_in chosen) chosen.at (pair_in chosen) (log_in chosen) texts outcome texts_after run.0
+  low Decide chosen texts before outcome texts_after after run = low_all_decided (aim_in chosen) chosen.at (pair_in chosen) (names_in chosen) (log_in chosen) texts outcome texts_after run.0
   low Improve chosen texts before outcome texts_after after run = low_bettered chosen.at chosen.rounds (pair_in chosen) (log_in chosen) texts outcome texts_after run.0
   low Revise chosen texts before outcome texts_after after run = low_revises chosen.file chosen.at chosen.changes.items (pair_in chosen) (file_at chosen 2) texts outcome texts_after run.0
   low Drive chosen texts before outcome texts_after after run = low_drives (manner_in chosen) run.loaded before after outcome run.drives
@@ -537,6 +617,8 @@ module _ {W : Type 0} (gives : W → List ℕ → Result (List ℕ) CommandFault
   low Hub chosen texts before outcome texts_after after run =
       low_drives_all (manner_in chosen) run.loaded before after outcome
       (held IsLowLine _ (λ text. LoadsEach gives text (name_in chosen) [] (plans_in chosen)) texts run.loaded texts_after low_line_failed (λ text mid on. low_loaded gives text (name_in chosen) [] (plans_in chosen) mid run.loaded texts_after on) run.loads) run.drives
+  low Digest chosen texts before outcome texts_after after run =
+      low_both (pair_in chosen) (λ p. Told (IsOrMemory (IsDigestAnswer p))) texts outcome texts_after (λ p mid on. low_or (IsDigestAnswer p) outcome (low_digest p) on.0) run.0
   low Audit chosen texts before outcome texts_after after run =
-      low_both (pair_in chosen) (WithLog gives (IsLogLine Numbers) (file_at chosen 2)) texts outcome texts_after (λ p mid on. low_with_log (IsLogLine Numbers) (low_log Numbers) (file_at chosen 2) p mid outcome texts_after on) run.0
-  low Gantt chosen texts before outcome texts_after after run = low_drawing chosen.svg (pair_in chosen) (file_at chosen 2) texts before outcome texts_after after run
+      low_named_and_logged (λ book. IsLogLine book Numbers) (λ book. low_log book Numbers) (pair_in chosen) None (file_at chosen 2) texts outcome texts_after run.0
+  low Gantt chosen texts before outcome texts_after after run = low_drawing chosen.svg (pair_in chosen) (names_in chosen) (file_at chosen 2) texts before outcome texts_after after run

@@ -11,7 +11,7 @@ use Rattle.plan_seek.specs.Turns.{Turn, Proposals, MayPropose, MayFail, EachMayF
 use Rattle.plan_seek.specs.Search.{IsSought, IsSeekFault}
 use Rattle.command_answers.specs.declared.answer.Answer.{Answer}
 use Rattle.command_answers.specs.declared.command_fault.CommandFault.{CommandFault}
-use Rattle.command_answers.specs.declared.command_fault.CommandFault.TheVariants.{Instance, Plan, Read, Write, InputTooLong, Log, LogInUse, Memory}
+use Rattle.command_answers.specs.declared.command_fault.CommandFault.TheVariants.{Instance, Plan, Names, Read, Write, InputTooLong, Log, LogInUse, Memory}
 use Rattle.command_answers.specs.Search.{IsFound, IsSearchLine, IsSearchAnswer}
 use Rattle.command_answers.specs.Steps.{Then, GoesOn, Told}
 use Rattle.command_answers.specs.Commands.{PairOfFiles, ReadsBoth, RunsPlan}
@@ -55,6 +55,7 @@ module _ (t : PlanTask) (proposers : ℕ) (may wide : Proposals) (within : (turn
   answer_more (Err Memory) is = is
   answer_more (Err (Plan fault)) is = (is.0, record { plan = is.1.plan; found = found_more is.1.plan is.1.found; unreadable = is.1.unreadable })
   answer_more (Err (Instance fault)) is = is
+  answer_more (Err (Names names)) is = is
   answer_more (Err Read) is = is
   answer_more (Err Write) is = is
   answer_more (Err InputTooLong) is = is

@@ -6,6 +6,6 @@ use Rattle.command_answers.specs.declared.command_fault.CommandFault.{CommandFau
 use Rattle.command_answers.specs.Commands.{PairOfFiles, RunsDecide, RunsDecideRest}
 
 -- it is decided of whole plans or, where a log is given, for the rest of its run
-abbrev pub Decides : {W : Type 0} → (W → List ℕ → Result (List ℕ) CommandFault → W → Type 0) → Aim → Option ℕ → PairOfFiles → Option (List ℕ) → W → Result Answer CommandFault → W → Type 0
-Decides gives aim at pair None = RunsDecide gives aim pair
-Decides gives aim at pair (Some log) = RunsDecideRest gives aim at pair log
+abbrev pub Decides : {W : Type 0} → (W → List ℕ → Result (List ℕ) CommandFault → W → Type 0) → Aim → Option ℕ → PairOfFiles → Option (List ℕ) → Option (List ℕ) → W → Result Answer CommandFault → W → Type 0
+Decides gives aim at pair names None = RunsDecide gives aim pair names
+Decides gives aim at pair names (Some log) = RunsDecideRest gives aim at pair names log

@@ -2,11 +2,11 @@
 use Rattle.std.specs.Prelude.{◌≡◌, ℕ, [], Bool, true, false, Result, Ok, Err}
 use Rattle.plan_verifier.specs.declared.verdict.Verdict.TheVariants.{Accepted, Refused}
 use Rattle.plan_verifier.specs.Accepted.{VerifiedPlan}
-use Rattle.cell_drive.specs.declared.one_run.DriveEnd.{DriveEnd}
+use Rattle.cell_drive.specs.declared.begin.DriveEnd.{DriveEnd}
 use Rattle.byte_streams.specs.declared.drive_fault.DriveFault.{DriveFault}
 use Rattle.byte_streams.specs.declared.drive_fault.DriveFault.TheVariants.{Read as NotRead, Write as NotWritten, InputTooLong as TooLong, Memory as WantOfMemory}
 use Rattle.cell_drive.specs.declared.manner.Manner.{Manner}
-pub use Rattle.cell_drive.specs.InManner.{DrivesBy, IsDriveIn, is_plain}
+pub use Rattle.cell_drive.specs.InManner.{IsDriveIn}
 use Rattle.command_answers.specs.declared.answer.Answer.{Answer}
 use Rattle.command_answers.specs.declared.command_fault.CommandFault.{CommandFault}
 use Rattle.command_answers.specs.declared.command_fault.CommandFault.TheVariants.{Read, Write, InputTooLong, Memory}

@@ -4,7 +4,7 @@ use Rattle.std.specs.Io.KnownBytes.{Appends}
 use Rattle.byte_streams.specs.Sinks.{TookPart}
 use Rattle.command_answers.specs.declared.answer.Answer.{Answer}
 use Rattle.command_answers.specs.declared.command_fault.CommandFault.{CommandFault}
-use Rattle.command_answers.specs.declared.command_fault.CommandFault.TheVariants.{Instance, Plan, Read, Write, InputTooLong, Log, LogInUse, Memory}
+use Rattle.command_answers.specs.declared.command_fault.CommandFault.TheVariants.{Instance, Plan, Names, Read, Write, InputTooLong, Log, LogInUse, Memory}
 use Rattle.command_answers.specs.Statuses.{status_of}
 use Rattle.command_run.specs.Streams.{Output, Errors}
 
@@ -21,6 +21,7 @@ IsRefusalLine what line = (words : List ℕ) × (line ≡ what ++ words ++ codes
 abbrev pub IsErrorLine : CommandFault → List ℕ → Type 0
 IsErrorLine (Instance fault) line = IsRefusalLine (codes "cellplan: instance: ") line
 IsErrorLine (Plan fault) line = IsRefusalLine (codes "cellplan: plan: ") line
+IsErrorLine (Names fault) line = IsRefusalLine (codes "cellplan: names: ") line
 IsErrorLine Read line = line ≡ codes "cellplan: read\n"
 IsErrorLine Write line = line ≡ codes "cellplan: write\n"
 IsErrorLine InputTooLong line = line ≡ codes "cellplan: input too long\n"
@@ -32,12 +33,14 @@ IsErrorLine Memory line = line ≡ codes "cellplan: out of memory\n"
 abbrev pub IsOfText : CommandFault → Type 0
 IsOfText (Instance fault) = Unit {0}
 IsOfText (Plan fault) = Unit {0}
+IsOfText (Names fault) = Unit {0}
 IsOfText other = ⊥
 
 -- the line of a refused text; of another fault anything
 abbrev pub IsTextLine : CommandFault → List ℕ → Type 0
 IsTextLine (Instance fault) line = IsErrorLine (Instance fault) line
 IsTextLine (Plan fault) line = IsErrorLine (Plan fault) line
+IsTextLine (Names fault) line = IsErrorLine (Names fault) line
 IsTextLine other line = Unit {0}
 
 -- the line of the fault was told on the standard error, and the status is its own

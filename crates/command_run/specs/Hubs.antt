@@ -1,30 +1,21 @@
 -- What driving the cells of several plans comes to.
-use Rattle.std.specs.Prelude.{◌≡◌, List, Bool, true, false, Result, Ok, Err}
+use Rattle.std.specs.Prelude.{◌≡◌, List, Bool, Result, Ok, Err}
 use Rattle.plan_verifier.specs.Accepted.{VerifiedPlan}
-use Rattle.cell_drive.specs.declared.many_runs.HubEnd.{HubEnd}
+use Rattle.cell_drive.specs.declared.hub.HubEnd.{HubEnd}
 use Rattle.byte_streams.specs.declared.drive_fault.DriveFault.{DriveFault}
 use Rattle.cell_drive.specs.declared.manner.Manner.{Manner}
-use Rattle.cell_drive.specs.StatedCells.{AreStatedDrives}
-pub use Rattle.cell_drive.specs.ManyRuns.{AreDrives}
+pub use Rattle.cell_drive.specs.StatedCells.{AreDrivesIn}
 use Rattle.command_answers.specs.declared.answer.Answer.{Answer}
 use Rattle.command_answers.specs.declared.cells.Cells.{Cells}
 use Rattle.command_answers.specs.declared.cells.Cells.TheVariants.{Accepted, Line}
 use Rattle.command_answers.specs.declared.command_fault.CommandFault.{CommandFault}
 use Rattle.command_run.specs.Streams.{Streams}
-use Rattle.command_run.specs.Drives.{IsEndAnswer, is_plain}
+use Rattle.command_run.specs.Drives.{IsEndAnswer}
 
 -- whether all runs have ended
 abbrev pub end_of_hub : Result HubEnd DriveFault → Result Bool DriveFault
 end_of_hub (Ok end) = Ok end.all_done
 end_of_hub (Err fault) = Err fault
-
--- the cells were driven as ever, or in this manner
-abbrev pub DriveBy : Bool → Manner → List VerifiedPlan → Streams → Streams → Result HubEnd DriveFault → Type 0
-DriveBy true manner cells before after end = AreDrives cells before after end
-DriveBy false manner cells before after end = AreStatedDrives cells manner before after end
-
-abbrev pub AreDrivesIn : Manner → List VerifiedPlan → Streams → Streams → Result HubEnd DriveFault → Type 0
-AreDrivesIn manner = DriveBy (is_plain manner) manner
 
 -- the cells were driven in this manner, and the status says whether all their runs have ended
 pub record DrivesCells (manner : Manner) (cells : List VerifiedPlan) (before after : Streams) (outcome : Result Answer CommandFault) : Type 0 where

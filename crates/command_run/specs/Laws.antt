@@ -7,6 +7,7 @@ use Rattle.shop_base.specs.Run.{IsRun}
 use Rattle.text_lines.specs.declared.limits.TheConstants.{MAX_INPUT}
 use Rattle.text_lines.specs.Lines.{ended_lines}
 use Rattle.orlib_read.specs.declared.or_fault.OrFault.{OrFault}
+use Rattle.people_names.specs.NameBooks.{no_names}
 use Rattle.plan_verifier.specs.Accepted.{VerifiedPlan, HasNoCycle, IsAcceptable}
 use Rattle.plan_verifier.specs.declared.verdict.Verdict.TheVariants.{Accepted}
 use Rattle.plan_seek.specs.Tasks.{task_in}
@@ -18,9 +19,9 @@ use Rattle.cell_drive.specs.OneRun.{cell_after}
 use Rattle.cell_drive.specs.TakenUp.{TakenUp, plan_of}
 use Rattle.cell_drive.specs.InManner.{IsResumeIn}
 use Rattle.cell_drive.specs.declared.manner.Manner.{Manner}
-use Rattle.cell_drive.specs.declared.one_run.DriveEnd.{DriveEnd}
-use Rattle.cell_drive.specs.declared.rest_run.RestEnd.{RestEnd}
-use Rattle.cell_drive.specs.declared.many_runs.HubEnd.{HubEnd}
+use Rattle.cell_drive.specs.declared.begin.DriveEnd.{DriveEnd}
+use Rattle.cell_drive.specs.declared.resume.RestEnd.{RestEnd}
+use Rattle.cell_drive.specs.declared.hub.HubEnd.{HubEnd}
 use Rattle.byte_streams.specs.declared.drive_fault.DriveFault.{DriveFault}
 use Rattle.command_words.specs.declared.words.CommandName.TheVariants.{Schedule, Drive, Resume, Hub, Gantt}
 use Rattle.command_words.specs.Choice.{word_of, word_found, rows_found, files_in, instance_in, kept_in, reasons_in, found_in, IsChoiceOf, TellsOneOf}
@@ -38,19 +39,22 @@ use Rattle.command_answers.specs.Texts.{Asks}
 use Rattle.command_answers.specs.Instances.{Tells, IsFirstInstanceFault}
 use Rattle.command_answers.specs.Plans.{TellBoth}
 use Rattle.command_answers.specs.Facts.{AreFacts}
-use Rattle.command_answers.specs.Shapes.{IsShapeLine}
+use Rattle.command_answers.specs.Shapes.{IsNotShapedLine, IsShapeLine}
 use Rattle.command_answers.specs.Checks.{IsCheckLine}
 use Rattle.command_answers.specs.Explains.{IsExplanation}
 use Rattle.command_answers.specs.Timetables.{IsTimetable}
 use Rattle.command_answers.specs.BoundLines.{AreBounds}
+use Rattle.command_answers.specs.Digests.{IsDigestAnswer}
+use Rattle.command_answers.specs.Margins.{IsMarginAnswer}
+use Rattle.command_answers.specs.Moves.{AreMovesOfLog, AreMovesOfPlan}
 use Rattle.command_answers.specs.LogLines.{IsLogLine}
 use Rattle.command_answers.specs.Search.{IsSearchAnswer}
 use Rattle.command_answers.specs.Improving.{IsImproveAnswer, ordered}
 use Rattle.command_answers.specs.declared.rests.PlanTelling.{PlanTelling}
-use Rattle.command_answers.specs.Rests.{IsRestLine}
+use Rattle.command_answers.specs.Rests.{IsRestLine, job_asked}
 use Rattle.command_answers.specs.ImprovingRests.{IsRestAnswer}
-use Rattle.command_answers.specs.Commands.{PairOfFiles, RunsFacts, RunsShape, RunsCheck, RunsExplain, RunsSchedule, RunsBounds, RunsLog, RunsRest, Loads, Shapes}
-use Rattle.command_answers.specs.Pictures.{IsLogDrawn, IsPlanDrawn, IsRestDrawing, DrawsLog, DrawsRest, DrawsSchedule}
+use Rattle.command_answers.specs.Commands.{PairOfFiles, RunsFacts, RunsShape, RunsDigest, RunsCheck, RunsExplain, RunsSchedule, RunsMoves, RunsRestMoves, RunsBounds, RunsMargin, RunsLog, RunsRest, Loads, Shapes}
+use Rattle.command_answers.specs.Pictures.{IsLogDrawn, IsAnyPlanDrawn, IsRestDrawing, DrawsLog, DrawsRest, DrawsSchedule}
 use Rattle.command_answers.specs.declared.loading.Loaded.TheVariants.{Judged}
 use Rattle.command_answers.specs.declared.cells.Cells.{Cells}
 use Rattle.command_answers.specs.Cells.{AreAccepted, LoadsCells}
@@ -64,7 +68,7 @@ use Rattle.command_run.specs.Logs.{DrivesWithLog, GoesOnWithLog, LogEnd, step_of
 use Rattle.command_run.specs.Resumes.{ResumesText, IsTaking}
 use Rattle.command_run.specs.Hubs.{AreDrivesIn, DrivesCells}
 use Rattle.command_run.specs.Ending.{WasTold, IsLineOut, IsOfText}
-use Rattle.command_run.specs.Program.{RunsDrive, RunsResume, RunsHub, RunsChosen, RunsProgram, draws_in, file_at, kept_log_in, log_in, manner_in, name_in, pair_in, plans_in}
+use Rattle.command_run.specs.Program.{RunsDrive, RunsResume, RunsHub, RunsChosen, RunsProgram, draws_in, file_at, kept_log_in, log_in, manner_in, name_in, names_in, pair_in, plans_in}
 
 -- ---- what is told first where the files don't change
 
@@ -88,25 +92,37 @@ FactsTellInstanceFirst = TellsInstanceFirst (λ gives pair. RunsFacts gives pair
 abbrev pub ShapeTellsInstanceFirst : Type 0
 ShapeTellsInstanceFirst = TellsInstanceFirst (λ gives pair. RunsShape gives pair)
 
+abbrev pub DigestTellsInstanceFirst : Type 0
+DigestTellsInstanceFirst = TellsInstanceFirst (λ gives pair. RunsDigest gives pair)
+
 abbrev pub CheckTellsInstanceFirst : Type 0
 CheckTellsInstanceFirst = TellsInstanceFirst (λ gives pair. RunsCheck gives pair)
 
 abbrev pub ExplainTellsInstanceFirst : Type 0
-ExplainTellsInstanceFirst = TellsInstanceFirst (λ gives pair. RunsExplain gives pair)
+ExplainTellsInstanceFirst = (names : Option (List ℕ)) (told : Option ℕ) → TellsInstanceFirst (λ gives pair. RunsExplain gives pair names told)
 
 abbrev pub ScheduleTellsInstanceFirst : Type 0
-ScheduleTellsInstanceFirst = TellsInstanceFirst (λ gives pair. RunsSchedule gives pair)
+ScheduleTellsInstanceFirst = (names : Option (List ℕ)) → TellsInstanceFirst (λ gives pair. RunsSchedule gives pair names)
 
 abbrev pub BoundsTellInstanceFirst : Type 0
-BoundsTellInstanceFirst = TellsInstanceFirst (λ gives pair. RunsBounds gives pair)
+BoundsTellInstanceFirst = (names : Option (List ℕ)) → TellsInstanceFirst (λ gives pair. RunsBounds gives pair names)
+
+abbrev pub MarginTellsInstanceFirst : Type 0
+MarginTellsInstanceFirst = (names : Option (List ℕ)) → TellsInstanceFirst (λ gives pair. RunsMargin gives pair names)
+
+abbrev pub MovesTellInstanceFirst : Type 0
+MovesTellInstanceFirst = (names : Option (List ℕ)) → TellsInstanceFirst (λ gives pair. RunsMoves gives pair names)
 
 -- so it is for `audit` and for `gantt`
 abbrev pub LogTellsInstanceFirst : Type 0
-LogTellsInstanceFirst = (telling : Telling) (log : List ℕ) → TellsInstanceFirst (λ gives pair. RunsLog gives telling pair log)
+LogTellsInstanceFirst = (telling : Telling) (names : Option (List ℕ)) (log : List ℕ) → TellsInstanceFirst (λ gives pair. RunsLog gives telling pair names log)
 
 -- so it is for `check`, `explain` and `schedule` of the rest of a run
 abbrev pub RestTellsInstanceFirst : Type 0
-RestTellsInstanceFirst = (telling : PlanTelling) (at : Option ℕ) (log : List ℕ) → TellsInstanceFirst (λ gives pair. RunsRest gives telling at pair log)
+RestTellsInstanceFirst = (telling : PlanTelling) (at : Option ℕ) (names : Option (List ℕ)) (log : List ℕ) → TellsInstanceFirst (λ gives pair. RunsRest gives telling at pair names log)
+
+abbrev pub RestMovesTellInstanceFirst : Type 0
+RestMovesTellInstanceFirst = (at : Option ℕ) (names : Option (List ℕ)) (log : List ℕ) → TellsInstanceFirst (λ gives pair. RunsRestMoves gives at pair names log)
 
 -- so it is, unless memory runs out for planners or improvers before any file is asked for
 abbrev pub TellsInstanceFirstOrNothing : ((List (List ℕ) → List ℕ → Result (List ℕ) CommandFault → List (List ℕ) → Type 0) → PairOfFiles
@@ -140,13 +156,13 @@ ResumeTellsInstanceFirst = (manner : Manner) (at : Option ℕ) (log : List ℕ) 
 
 -- so it is where pictures are asked for
 abbrev pub ScheduleDrawsInstanceFirst : Type 0
-ScheduleDrawsInstanceFirst = TellsInstanceFirstUnread (λ gives pair. RunsPicture (DrawsSchedule gives pair))
+ScheduleDrawsInstanceFirst = (names : Option (List ℕ)) → TellsInstanceFirstUnread (λ gives pair. RunsPicture (DrawsSchedule gives pair names))
 
 abbrev pub RestDrawsInstanceFirst : Type 0
-RestDrawsInstanceFirst = (at : Option ℕ) (log : List ℕ) → TellsInstanceFirstUnread (λ gives pair. RunsPicture (DrawsRest gives at pair log))
+RestDrawsInstanceFirst = (at : Option ℕ) (names : Option (List ℕ)) (log : List ℕ) → TellsInstanceFirstUnread (λ gives pair. RunsPicture (DrawsRest gives at pair names log))
 
 abbrev pub LogDrawsInstanceFirst : Type 0
-LogDrawsInstanceFirst = (log : List ℕ) → TellsInstanceFirstUnread (λ gives pair. RunsPicture (DrawsLog gives pair log))
+LogDrawsInstanceFirst = (names : Option (List ℕ)) (log : List ℕ) → TellsInstanceFirstUnread (λ gives pair. RunsPicture (DrawsLog gives pair names log))
 
 -- of any number of plans
 abbrev pub HubTellsInstanceFirst : Type 0
@@ -181,29 +197,45 @@ FactsAnswerShop = (content : List ℕ → Result (List ℕ) CommandFault) (path 
 abbrev pub ShapeAnswersPlan : Type 0
 ShapeAnswersPlan = AnswersPlan (λ gives pair. RunsShape gives pair) IsShapeLine
 
+abbrev pub DigestAnswersPlan : Type 0
+DigestAnswersPlan = AnswersPlan (λ gives pair. RunsDigest gives pair) IsDigestAnswer
+
 abbrev pub CheckAnswersPlan : Type 0
 CheckAnswersPlan = AnswersPlan (λ gives pair. RunsCheck gives pair) IsCheckLine
 
+-- without names, and with no job asked for
 abbrev pub ExplainAnswersPlan : Type 0
-ExplainAnswersPlan = AnswersPlan (λ gives pair. RunsExplain gives pair) IsExplanation
+ExplainAnswersPlan = AnswersPlan (λ gives pair. RunsExplain gives pair None None) IsExplanation
 
 abbrev pub ScheduleAnswersPlan : Type 0
-ScheduleAnswersPlan = AnswersPlan (λ gives pair. RunsSchedule gives pair) IsTimetable
+ScheduleAnswersPlan = AnswersPlan (λ gives pair. RunsSchedule gives pair None) IsTimetable
 
 abbrev pub BoundsAnswerPlan : Type 0
-BoundsAnswerPlan = AnswersPlan (λ gives pair. RunsBounds gives pair) AreBounds
+BoundsAnswerPlan = AnswersPlan (λ gives pair. RunsBounds gives pair None) AreBounds
+
+abbrev pub MarginAnswersPlan : Type 0
+MarginAnswersPlan = AnswersPlan (λ gives pair. RunsMargin gives pair None) (λ p answer. IsNotShapedLine p answer ⊎ IsMarginAnswer no_names p answer)
+
+abbrev pub MovesAnswerPlan : Type 0
+MovesAnswerPlan = AnswersPlan (λ gives pair. RunsMoves gives pair None) (λ p answer. IsNotShapedLine p answer ⊎ AreMovesOfPlan no_names p answer)
 
 -- `audit` and `gantt`: where the plan is well shaped, what is told of the log
 abbrev pub LogIsAnswered : Type 0
 LogIsAnswered = (telling : Telling) (content : List ℕ → Result (List ℕ) CommandFault) (pair : PairOfFiles) (log text : List ℕ) (p : PlannedShop) (outcome : Result Answer CommandFault) (asked : List (List ℕ))
-    → TellPlan content pair p → content log ≡ Ok text → IsWellShaped p → RunsLog (Shelf content) telling pair log [] outcome asked
-    → IsAnswered (IsLogLine telling p text) (pair.path ∷ pair.plan ∷ log ∷ []) outcome asked
+    → TellPlan content pair p → content log ≡ Ok text → IsWellShaped p → RunsLog (Shelf content) telling pair None log [] outcome asked
+    → IsAnswered (IsLogLine no_names telling p text) (pair.path ∷ pair.plan ∷ log ∷ []) outcome asked
 
--- `check`, `explain` and `schedule` of the rest of a run: where the plan is well shaped, what is told of its log
+-- `check`, `explain` and `schedule` of the rest of a run: where the plan is well shaped, and no job asked for, what is told of its log
 abbrev pub RestIsAnswered : Type 0
 RestIsAnswered = (telling : PlanTelling) (at : Option ℕ) (content : List ℕ → Result (List ℕ) CommandFault) (pair : PairOfFiles) (log text : List ℕ) (p : PlannedShop) (outcome : Result Answer CommandFault) (asked : List (List ℕ))
-    → TellPlan content pair p → content log ≡ Ok text → IsWellShaped p → RunsRest (Shelf content) telling at pair log [] outcome asked
-    → IsAnswered (IsRestLine telling at p text) (pair.path ∷ pair.plan ∷ log ∷ []) outcome asked
+    → TellPlan content pair p → content log ≡ Ok text → IsWellShaped p → job_asked telling ≡ None → RunsRest (Shelf content) telling at pair None log [] outcome asked
+    → IsAnswered (IsRestLine no_names telling at p text) (pair.path ∷ pair.plan ∷ log ∷ []) outcome asked
+
+-- `schedule --moves` of the rest of a run: where the plan is well shaped, the moves ahead by its log
+abbrev pub RestMovesAreAnswered : Type 0
+RestMovesAreAnswered = (at : Option ℕ) (content : List ℕ → Result (List ℕ) CommandFault) (pair : PairOfFiles) (log text : List ℕ) (p : PlannedShop) (outcome : Result Answer CommandFault) (asked : List (List ℕ))
+    → TellPlan content pair p → content log ≡ Ok text → IsWellShaped p → RunsRestMoves (Shelf content) at pair None log [] outcome asked
+    → IsAnswered (AreMovesOfLog no_names at p text) (pair.path ∷ pair.plan ∷ log ∷ []) outcome asked
 
 -- one of these was drawn, for which these files were asked for; nothing is only where memory ran out, with no byte read or written
 abbrev pub IsDrawn : (Drawn → Type 0) → List (List ℕ) → Streams → Result Answer CommandFault → List (List ℕ) → Streams → Type 0
@@ -213,20 +245,20 @@ IsDrawn Is files before outcome asked after =
 -- `schedule --svg`: what comes of the plan is drawn
 abbrev pub ScheduleIsDrawn : Type 0
 ScheduleIsDrawn = (before after : Streams) (content : List ℕ → Result (List ℕ) CommandFault) (pair : PairOfFiles) (p : PlannedShop) (outcome : Result Answer CommandFault) (asked : List (List ℕ))
-    → TellPlan content pair p → RunsPicture (DrawsSchedule (Shelf content) pair) [] before outcome asked after
-    → IsDrawn (IsPlanDrawn p) (pair.path ∷ pair.plan ∷ []) before outcome asked after
+    → TellPlan content pair p → RunsPicture (DrawsSchedule (Shelf content) pair None) [] before outcome asked after
+    → IsDrawn (IsAnyPlanDrawn p) (pair.path ∷ pair.plan ∷ []) before outcome asked after
 
 -- `schedule --svg` of the rest of a run: where the plan is well shaped, what comes of the log is drawn
 abbrev pub RestIsDrawn : Type 0
 RestIsDrawn = (at : Option ℕ) (before after : Streams) (content : List ℕ → Result (List ℕ) CommandFault) (pair : PairOfFiles) (log text : List ℕ) (p : PlannedShop) (outcome : Result Answer CommandFault) (asked : List (List ℕ))
-    → TellPlan content pair p → content log ≡ Ok text → IsWellShaped p → RunsPicture (DrawsRest (Shelf content) at pair log) [] before outcome asked after
-    → IsDrawn (IsRestDrawing at p text) (pair.path ∷ pair.plan ∷ log ∷ []) before outcome asked after
+    → TellPlan content pair p → content log ≡ Ok text → IsWellShaped p → RunsPicture (DrawsRest (Shelf content) at pair None log) [] before outcome asked after
+    → IsDrawn (IsRestDrawing at no_names p text) (pair.path ∷ pair.plan ∷ log ∷ []) before outcome asked after
 
 -- `gantt --svg`: where the plan is well shaped, what comes of the log is drawn
 abbrev pub LogIsDrawn : Type 0
 LogIsDrawn = (before after : Streams) (content : List ℕ → Result (List ℕ) CommandFault) (pair : PairOfFiles) (log text : List ℕ) (p : PlannedShop) (outcome : Result Answer CommandFault) (asked : List (List ℕ))
-    → TellPlan content pair p → content log ≡ Ok text → IsWellShaped p → RunsPicture (DrawsLog (Shelf content) pair log) [] before outcome asked after
-    → IsDrawn (IsLogDrawn p text) (pair.path ∷ pair.plan ∷ log ∷ []) before outcome asked after
+    → TellPlan content pair p → content log ≡ Ok text → IsWellShaped p → RunsPicture (DrawsLog (Shelf content) pair None log) [] before outcome asked after
+    → IsDrawn (IsLogDrawn no_names p text) (pair.path ∷ pair.plan ∷ log ∷ []) before outcome asked after
 
 -- `plan`: what the search allows for the numbers of this plan, with exactly these files asked for, unless memory runs out before
 abbrev pub PlanAnswersPlan : Type 0
@@ -473,8 +505,8 @@ module _ {W : Type 0} (gives : W → List ℕ → Result (List ℕ) CommandFault
       ⊎ (((name ≡ Drive) × (DroveCell (manner_in chosen) (pair_in chosen) texts before after ⊎ DroveWithLog (manner_in chosen) (pair_in chosen) texts before after))
       ⊎ (((name ≡ Resume) × DroveOn (manner_in chosen) chosen.at (pair_in chosen) (file_at chosen 2) texts before after)
       ⊎ (((name ≡ Hub) × DroveCells (manner_in chosen) (file_at chosen 0) (name_in chosen) (plans_in chosen) texts before after)
-      ⊎ (((name ≡ Schedule) × DrewPicture (DrawsTimetable gives chosen.at (pair_in chosen) (log_in chosen)) texts before after)
-      ⊎ ((name ≡ Gantt) × DrewPicture (DrawsLog gives (pair_in chosen) (file_at chosen 2)) texts before after)))))
+      ⊎ (((name ≡ Schedule) × DrewPicture (DrawsTimetable gives chosen.at (pair_in chosen) (names_in chosen) (log_in chosen)) texts before after)
+      ⊎ ((name ≡ Gantt) × DrewPicture (DrawsLog gives (pair_in chosen) (names_in chosen) (file_at chosen 2)) texts before after)))))
 
   -- the command that the words choose was run to an outcome
   pub record RanCommand (words : List (List ℕ)) (before : Devices W) (outcome : Result Answer CommandFault) (mid : Streams) (after : Devices W) (log : Option LogEnd) : Type 0 where
@@ -488,14 +520,16 @@ module _ {W : Type 0} (gives : W → List ℕ → Result (List ℕ) CommandFault
   abbrev pub Ran : List (List ℕ) → Devices W → Result Answer CommandFault → Streams → Devices W → Option LogEnd → Type 0
   Ran words before outcome mid after log = RanCommand words before outcome mid after log ⊎ ChoseNone words before.streams outcome mid
 
-  -- what failed was told by its own line with its status
+  -- what failed was told by its own line with its status, or by `drive` with a log with 6 in place of 5
   pub record WasFailureTold (words : List (List ℕ)) (before : Devices W) (status : ℕ) (after : Devices W) (log : Option LogEnd) : Type 0 where
     pub outcome : Result Answer CommandFault
     pub mid : Streams
     pub ran : Ran words before outcome mid after log
     pub fault : CommandFault
     pub failed : IsFailureOf outcome after.streams.output fault
-    pub told : IsLineOut fault before.errors after.errors status
+    pub own : ℕ
+    pub told : IsLineOut fault before.errors after.errors own
+    pub status_is : (status ≡ own) ⊎ ((own ≡ 5) × (status ≡ 6))
 
   -- a command that draws said on the standard error what is answered in place of a picture: nothing, where there is one
   pub record WasToldAside (words : List (List ℕ)) (before : Devices W) (status : ℕ) (after : Devices W) (log : Option LogEnd) : Type 0 where

@@ -8,6 +8,7 @@ pub mod Choosers
 pub mod Drives
 pub mod Resumes
 pub mod Revisions
+pub mod Misfits
 pub mod Logs
 pub mod Hubs
 pub mod Ending

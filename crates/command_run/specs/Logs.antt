@@ -1,9 +1,10 @@
 -- What driving a cell with a log of its own comes to.
-use Rattle.std.specs.Prelude.{◌≡◌, ◌≤◌, ◌⊎◌, ◌++◌, ℕ, suc, List, [], ◌∷◌, Bool, true, false, if◌then◌else◌, Option, None, Some, Result, Ok, Err, IsOk, IfOk, IfErr, IfSome, OnOk}
+use Rattle.std.specs.Prelude.{◌≡◌, ◌≤◌, ◌⊎◌, ◌++◌, ℕ, suc, List, [], ◌∷◌, length, Bool, true, false, if◌then◌else◌, Option, None, Some, option_map, is_some, unwrap_or, Result, Ok, Err, IsOk, IfOk, IfErr, IfSome, OnOk}
 use Rattle.shop_base.specs.declared.shape_fault.ShapeFault.{ShapeFault}
 use Rattle.shop_base.specs.Plan.{PlannedShop}
 use Rattle.text_lines.specs.declared.limits.TheConstants.{MAX_INPUT}
-use Rattle.text_lines.specs.Lines.{ended_lines}
+use Rattle.text_lines.specs.Lines.{ended_lines, lines_of}
+use Rattle.text_lines.specs.Searches.{SomeIfAny}
 use Rattle.plan_verifier.specs.declared.verdict.Verdict.{Verdict}
 use Rattle.plan_verifier.specs.declared.verdict.Verdict.TheVariants.{Accepted, Refused}
 use Rattle.plan_verifier.specs.Accepted.{VerifiedPlan, IsAcceptable}
@@ -12,25 +13,31 @@ use Rattle.byte_streams.specs.declared.drive_fault.DriveFault.{DriveFault}
 use Rattle.byte_streams.specs.declared.drive_fault.DriveFault.TheVariants.{Read as NotReadOn, Write as NotWritten, InputTooLong as InputTooLongToDrive, Memory as NoMemoryToDrive}
 use Rattle.byte_streams.specs.Lent.{taker}
 use Rattle.cell_tables.specs.declared.entry.Entry.{Entry}
+use Rattle.event_lines.specs.RunDigits.{plan_line}
+use Rattle.event_lines.specs.declared.run_digits.RunDigits.{RunDigits}
 use Rattle.run_log.specs.declared.audit_fault.AuditFault.TheVariants.{BadLine}
 use Rattle.cell_drive.specs.declared.manner.Manner.{Manner}
-use Rattle.cell_drive.specs.declared.rest_run.RestEnd.{RestEnd}
+use Rattle.cell_drive.specs.declared.resume.RestEnd.{RestEnd}
 use Rattle.cell_drive.specs.TakenUp.{TakenUp, IsTakenUp, CanBeTakenUp, plan_of, told_in}
-use Rattle.cell_drive.specs.Resuming.{told_text}
 use Rattle.cell_drive.specs.Retold.{retold_text}
-use Rattle.cell_drive.specs.InManner.{IsDriveIn, IsGoneOnIn, IsToldAgainIn, is_plain}
+use Rattle.cell_drive.specs.InManner.{IsDriveIn, IsGoneOnIn, IsToldAgainIn}
 use Rattle.run_journal.specs.declared.file_fault.FileFault.{FileFault}
 use Rattle.run_journal.specs.declared.file_fault.FileFault.TheVariants.{Log as NotLogged, InUse, Read as NotRead, TooLong, Memory as NoMemoryForLog}
-use Rattle.run_journal.specs.Folders.{NamedLog, held, with_log, with_name}
-use Rattle.run_journal.specs.LogFiles.{IsSettled}
-use Rattle.run_journal.specs.Logged.{AreInStep, Held}
+use Rattle.run_journal.specs.declared.log_run.LogRun.{LogRun}
+use Rattle.run_journal.specs.Folders.{Folder, NamedLog, IsDiskFault, IsOpenFault, handed, handed_if, held, with_fault, with_log, with_name}
+use Rattle.run_journal.specs.LogFiles.{IsReadFault, IsSettled, Leaves}
+use Rattle.run_journal.specs.Logged.{AreInStep, Held, fault_if}
+use Rattle.run_journal.specs.LogRuns.{IsNamedFor, IsNamedOrNot, IsRunOf}
+use Rattle.run_journal.specs.Openings.{IsUnmade}
 use Rattle.run_journal.specs.TornEnds.{is_torn}
 use Rattle.run_journal.specs.WholeLines.{torn_end, whole_lines}
 use Rattle.logged_drive.specs.declared.taken_log.TakeUpFault.{TakeUpFault}
 use Rattle.logged_drive.specs.declared.taken_log.TakeUpFault.TheVariants.{Resume, NoTornEnd, File}
 use Rattle.logged_drive.specs.CrashLaw.{IsTakenUpAfter}
 use Rattle.logged_drive.specs.LoggedRuns.{IsAllInLog, IsUnbegun, KeepsShown, ShowsRun, nothing_held}
-use Rattle.logged_drive.specs.TakenLogs.{IsOfDevice, IsOfText, IsOnlyTakeUpFault, IsTakeUpFault}
+use Rattle.logged_drive.specs.TakenLogs.{IsOfDevice, IsOfText, IsOnlyTakeUpFault, IsTakeUpFault, file_fault}
+use Rattle.plan_digest.specs.Digits.{digits_of}
+use Rattle.command_words.specs.declared.words.log_start.LogStart.{LogStart}
 use Rattle.command_answers.specs.declared.answer.Answer.{Answer}
 use Rattle.command_answers.specs.declared.command_fault.CommandFault.{CommandFault}
 use Rattle.command_answers.specs.declared.command_fault.CommandFault.TheVariants.{Read, Write, InputTooLong, Log, LogInUse, Memory}
@@ -39,7 +46,9 @@ use Rattle.command_answers.specs.Commands.{PairOfFiles, Shapes}
 use Rattle.command_answers.specs.LogLines.{IsFaultTold}
 use Rattle.command_run.specs.Streams.{Streams, Output}
 use Rattle.command_run.specs.Drives.{IsEnded, IsLineTold, drive_command_fault, end_of_drive}
+use Rattle.command_run.specs.Misfits.{IsMisfit, IsMisfitTold}
 use Rattle.command_run.specs.Resumes.{IsUntakenTold, end_of_rest}
+use Rattle.command_run.specs.declared.misfits.Misfit.{Misfit}
 
 -- ---- faults
 
@@ -77,12 +86,19 @@ HasFewLines (File fault) = Unit {0}
 
 -- ---- a cell that is driven with a log
 
--- what became of a log that is held: a run of the plan went on with it, behind the events that it told, up to what its writer held; or it wasn't taken up for this reason, and its bytes were these;
--- or it was left with what is told of it
+-- the digits of a plan and its shop
+abbrev pub digits_in : PlannedShop → RunDigits
+digits_in p = digits_of p.shop p.plan
+
+-- what became of a log that is held: a run of the plan went on with it, behind the events that it told, up to what its writer held; or it wasn't taken up by the plan for this reason, and its bytes were these;
+-- or it was left with what is told of it, or with the bytes that were found; or it couldn't be synced or read, for this reason, and was left as it was found; or a new one couldn't be given the line of the plan
 pub data LogEnd : Type 0 where
   Driven : PlannedShop → List Entry → Held → LogEnd
-  Untaken : List ℕ → TakeUpFault → LogEnd
+  Untaken : PlannedShop → List ℕ → TakeUpFault → LogEnd
   Left : LogEnd
+  Found : List ℕ → LogEnd
+  Unread : FileFault → LogEnd
+  Unlined : PlannedShop → LogEnd
 
 -- the streams before a step and after it, what the step has come to, and what became of the log, if it is held behind it
 pub record Step : Type 0 where
@@ -94,15 +110,15 @@ pub record Step : Type 0 where
 abbrev pub step_of : Streams → Result Answer CommandFault → Streams → Option LogEnd → Step
 step_of before outcome after log = record { before = before; outcome = outcome; after = after; log = log }
 
--- one that was opened is left so
-abbrev pub left_if : Bool → Option LogEnd
-left_if true = Some Left
-left_if false = None
-
--- nothing was driven: no byte was read or written, and a log is held only if it was opened
-pub record DrivesNothing (there : Bool) (step : Step) : Type 0 where
+-- nothing was driven: no byte was read or written, and of the log that is held, if one is, became this
+pub record DrivesNothing (log : Option LogEnd) (step : Step) : Type 0 where
   pub same : step.after ≡ step.before
-  pub log : step.log ≡ left_if there
+  pub is : step.log ≡ log
+
+-- one that was opened, and has no bytes, is left so
+abbrev pub left_if : Bool → Option LogEnd
+left_if true = Some (Found [])
+left_if false = None
 
 -- a cell was driven so by the plan, behind these events, by a writer that keeps a log, and shows only what the log has got; where a write failed, and not the log's, the output has. The status says whether the run has ended, and the log is held
 pub record DrivesWithLog {T : Type 0} (p : PlannedShop) (told : List Entry) (drives : Streams → Streams → Result T DriveFault → Type 0) (ends : Result T DriveFault → Result Bool DriveFault) (step : Step) : Type 0 where
@@ -129,28 +145,34 @@ pub record IsVerdict (p : PlannedShop) (verdict : Verdict) : Type 0 where
 
 -- ---- a new log: of the logs that there were, and those that are there in the end
 
-module _ (folder folder_after : Option (List NamedLog)) (path : List ℕ) where
-  -- the log can't be had, for this reason, and isn't held; at most one without bytes was made, where there was none
-  pub record LacksLog (there : Bool) (step : Step) : Type 0 where
+module _ (folder folder_after : Folder) (path : List ℕ) where
+  -- why a new log can't be had: none could be made; or it has no byte, since its name couldn't be put onto the disk; or its line of the plan couldn't
+  abbrev pub IsNewLogFault : PlannedShop → Bool → FileFault → Option LogEnd → Type 0
+  IsNewLogFault p there fault log = (IsUnmade there path folder folder_after fault × (log ≡ None))
+      ⊎ (IsDiskFault fault × (folder_after ≡ with_fault fault (with_log there path folder)) × (log ≡ Some (Found [])))
+      ⊎ ((fault ≡ NotLogged) × (folder_after ≡ with_name path (with_log there path folder)) × (log ≡ Some (Unlined p)))
+
+  -- the log can't be had, for this reason
+  pub record LacksLog (p : PlannedShop) (there : Bool) (step : Step) : Type 0 where
     pub fault : FileFault
     pub is : step.outcome ≡ Err (log_command_fault fault)
-    pub nothing : DrivesNothing false step
-    pub at_most : IfSome folder (λ logs. (folder_after ≡ Some logs) ⊎ (folder_after ≡ Some (with_log there path logs)))
+    pub same : step.after ≡ step.before
+    pub why : IsNewLogFault p there fault step.log
 
   -- the log is there with its name on the disk, made if there was none, and the cell was driven with it
   pub record BeginsRun (manner : Manner) (there : Bool) (v : VerifiedPlan) (step : Step) : Type 0 where
     pub drove : DrivesWithLog v.planned [] (IsDriveIn manner v) end_of_drive step
-    pub made : IfSome folder (λ logs. folder_after ≡ Some (with_name path (with_log there path logs)))
+    pub made : folder_after ≡ with_name path (with_log there path folder)
 
   -- an accepted plan has its cell driven; any other is answered by its line, and no log is made
   abbrev pub BeginsBy : Manner → Bool → Verdict → Step → Type 0
-  BeginsBy manner there (Refused back why) step = IsLineTold (Judged (Refused back why)) step.outcome × DrivesNothing there step × (folder_after ≡ folder)
-  BeginsBy manner there (Accepted v) step = LacksLog there step ⊎ BeginsRun manner there v step
+  BeginsBy manner there (Refused back why) step = IsLineTold (Judged (Refused back why)) step.outcome × DrivesNothing (left_if there) step × (folder_after ≡ folder)
+  BeginsBy manner there (Accepted v) step = LacksLog v.planned there step ⊎ BeginsRun manner there v step
 
   -- the plan is judged, and then a new run begins by it, unless memory runs out before
   abbrev pub Begins : Manner → PlannedShop → Bool → Step → Type 0
   Begins manner p there step =
-      ((verdict : Verdict) × IsVerdict p verdict × BeginsBy manner there verdict step) ⊎ ((step.outcome ≡ Err Memory) × DrivesNothing there step × (folder_after ≡ folder))
+      ((verdict : Verdict) × IsVerdict p verdict × BeginsBy manner there verdict step) ⊎ ((step.outcome ≡ Err Memory) × DrivesNothing (left_if there) step × (folder_after ≡ folder))
 
 -- ---- a log with bytes
 
@@ -189,37 +211,68 @@ pub record GoesOnWithLog (manner : Manner) (t : TakenUp) (step : Step) : Type 0 
   pub goes_on : GoesOnAfter manner t mid told step
 
 -- what follows the taking up of a log with these bytes: the run goes on with it; of one that isn't taken up the fault is told, with no byte read or written, and it is held
-abbrev pub GoesOnTaken : Manner → List ℕ → Result TakenUp TakeUpFault → Step → Type 0
-GoesOnTaken manner text (Ok t) step = GoesOnWithLog manner t step
-GoesOnTaken manner text (Err fault) step = IsLogUntakenTold fault step.outcome × (step.after ≡ step.before) × (step.log ≡ Some (Untaken text fault))
+abbrev pub GoesOnTaken : PlannedShop → Manner → List ℕ → Result TakenUp TakeUpFault → Step → Type 0
+GoesOnTaken p manner text (Ok t) step = GoesOnWithLog manner t step
+GoesOnTaken p manner text (Err fault) step = IsLogUntakenTold fault step.outcome × DrivesNothing (Some (Untaken p text fault)) step
 
 -- the log with these bytes is taken up, and the run goes on
 pub record TakesUp (p : PlannedShop) (manner : Manner) (at : Option ℕ) (text : List ℕ) (step : Step) : Type 0 where
   pub taken : Result TakenUp TakeUpFault
   pub takes : TakesLog p at text taken
-  pub goes_on : GoesOnTaken manner text taken step
+  pub goes_on : GoesOnTaken p manner text taken step
 
 -- ---- any log
 
-module _ (folder folder_after : Option (List NamedLog)) (path : List ℕ) (manner : Manner) (at : Option ℕ) (p : PlannedShop) where
-  -- a log that isn't there, or has no bytes, begins a run; any other is taken up; one that can't be opened, locked or read ends all
+-- the bytes that were found, none where there is no log
+abbrev pub bytes_in : Option (List ℕ) → List ℕ
+bytes_in there = unwrap_or there []
+
+module _ (folder folder_after : Folder) (path : List ℕ) where
+  -- a log that isn't there, or has no bytes, begins a run; any other is taken up
+  abbrev pub DrivesFitting : Manner → Option ℕ → PlannedShop → Option (List ℕ) → Step → Type 0
+  DrivesFitting manner at p None step = Begins folder folder_after path manner p false step
+  DrivesFitting manner at p (Some []) step = Begins folder folder_after path manner p true step
+  DrivesFitting manner at p (Some (byte ∷ bytes)) step = TakesUp p manner at (byte ∷ bytes) step × (folder_after ≡ folder)
+
+  -- a log that isn't as the words ask is answered by a line, and is left as it was found
+  abbrev pub DrivesAs : Option Misfit → Manner → Option ℕ → PlannedShop → Option (List ℕ) → Step → Type 0
+  DrivesAs (Some misfit) manner at p there step = IsMisfitTold misfit step.outcome × DrivesNothing (option_map Found there) step × (folder_after ≡ folder)
+  DrivesAs None manner at p there step = DrivesFitting manner at p there step
+
+  -- what was found is driven, if it is as the words ask, by its whole lines
+  pub record DrivesFound (start : LogStart) (manner : Manner) (at : Option ℕ) (p : PlannedShop) (there : Option (List ℕ)) (step : Step) : Type 0 where
+    pub run : LogRun
+    pub tells : IsRunOf (lines_of (whole_lines (bytes_in there))) run
+    pub misfit : Option Misfit
+    pub is_misfit : SomeIfAny misfit (IsMisfit start run (digits_in p))
+    pub drives : DrivesAs misfit manner at p there step
+
+module _ (folder folder_after : Folder) (path : List ℕ) (start : LogStart) (manner : Manner) (at : Option ℕ) (p : PlannedShop) where
+  -- the folder tells that no log could be opened, or locked; or the log that it couldn't be synced or read
+  abbrev pub IsOpeningFault : FileFault → Option LogEnd → Type 0
+  IsOpeningFault fault log = (IsOpenFault fault × (folder_after ≡ with_fault fault folder) × (log ≡ None))
+      ⊎ (((fault ≡ NotLogged) ⊎ IsReadFault fault) × (folder_after ≡ handed folder) × (log ≡ Some (Unread fault)))
+
+  -- what was found by the path is driven; a log that can't be opened, locked or read ends all
   abbrev pub DrivesOpened : Result (Option (List ℕ)) FileFault → Step → Type 0
-  DrivesOpened (Err fault) step = (step.outcome ≡ Err (log_command_fault fault)) × DrivesNothing false step × (folder_after ≡ folder)
-  DrivesOpened (Ok None) step = Begins folder folder_after path manner p false step
-  DrivesOpened (Ok (Some [])) step = Begins folder folder_after path manner p true step
-  DrivesOpened (Ok (Some (byte ∷ bytes))) step = TakesUp p manner at (byte ∷ bytes) step × (folder_after ≡ folder)
+  DrivesOpened (Err fault) step = (step.outcome ≡ Err (log_command_fault fault)) × (step.after ≡ step.before) × IsOpeningFault fault step.log
+  DrivesOpened (Ok there) step = DrivesFound (handed_if (is_some there) folder) folder_after path start manner at p there step
 
   -- the log of the path is opened
-  pub record DrivesByLog (step : Step) : Type 0 where
+  pub record OpensLog (step : Step) : Type 0 where
     pub opened : Result (Option (List ℕ)) FileFault
-    pub found : IfOk opened (λ there. IfSome folder (λ logs. there ≡ held logs path))
+    pub found : IfOk opened (λ there. IfSome folder.logs (λ logs. there ≡ held logs path))
     pub drives : DrivesOpened opened step
 
+  -- unless memory runs out for the digits of the plan before
+  abbrev pub DrivesByLog : Step → Type 0
+  DrivesByLog step = OpensLog step ⊎ ((step.outcome ≡ Err Memory) × DrivesNothing None step × (folder_after ≡ folder))
+
 -- what follows the plan: a well-shaped one has its log opened; any other is answered by its first fault, and no log is opened
-abbrev pub DrivesShaped : Option (List NamedLog) → Option (List NamedLog) → List ℕ → Manner → Option ℕ → Result (Result PlannedShop ShapeFault) CommandFault → Step → Type 0
-DrivesShaped folder folder_after path manner at (Err fault) step = (step.outcome ≡ Err fault) × DrivesNothing false step × (folder_after ≡ folder)
-DrivesShaped folder folder_after path manner at (Ok (Err fault)) step = IsLineTold (NotShaped fault) step.outcome × DrivesNothing false step × (folder_after ≡ folder)
-DrivesShaped folder folder_after path manner at (Ok (Ok p)) step = DrivesByLog folder folder_after path manner at p step
+abbrev pub DrivesShaped : Folder → Folder → List ℕ → LogStart → Manner → Option ℕ → Result (Result PlannedShop ShapeFault) CommandFault → Step → Type 0
+DrivesShaped folder folder_after path start manner at (Err fault) step = (step.outcome ≡ Err fault) × DrivesNothing None step × (folder_after ≡ folder)
+DrivesShaped folder folder_after path start manner at (Ok (Err fault)) step = IsLineTold (NotShaped fault) step.outcome × DrivesNothing None step × (folder_after ≡ folder)
+DrivesShaped folder folder_after path start manner at (Ok (Ok p)) step = DrivesByLog folder folder_after path start manner at p step
 
 -- ---- what the log has
 
@@ -231,60 +284,78 @@ pub record KeepsInLog (seen : Option (List ℕ)) (may_leave : List ℕ → Type 
   pub taken_up : IsTakenUpAfter p before told.1 may_leave taken
   pub in_log : good → IsAllInLog told.0 told.1 seen may_leave taken
 
--- a log with these bytes that wasn't taken up has them still, unless cutting off its torn end has failed; what a crash leaves of it has the same whole lines, and of a torn end a torn end again
-pub record IsAsItWas (seen : Option (List ℕ)) (may_leave : List ℕ → Type 0) (text : List ℕ) (fault : TakeUpFault) : Type 0 where
+-- a log with these bytes that wasn't taken up by the plan has them still, unless it couldn't be cut or written; what a crash leaves of it has the same whole lines, with the plan's or without, and of a torn end a torn end again
+pub record IsAsItWas (seen : Option (List ℕ)) (may_leave : List ℕ → Type 0) (p : PlannedShop) (text : List ℕ) (fault : TakeUpFault) : Type 0 where
   pub untouched : IsOfText fault → (seen ≡ Some text) × IsSettled seen may_leave
-  pub crash : (left : List ℕ) → may_leave left → whole_lines left ≡ whole_lines text
+  pub crash : (left : List ℕ) → may_leave left → IsNamedOrNot (digits_in p) (whole_lines text) (whole_lines left)
   pub torn_again : is_torn (torn_end text) ≡ true → (left : List ℕ) → may_leave left → is_torn (torn_end left) ≡ true
 
 -- so by what became of it
 abbrev pub IsLogAfter : Option (List ℕ) → (List ℕ → Type 0) → Option (List ℕ) → Type 0 → LogEnd → List ℕ × List ℕ → Type 0
 IsLogAfter seen may_leave taken good (Driven p before held) told = KeepsInLog seen may_leave taken good p before held told
-IsLogAfter seen may_leave taken good (Untaken text fault) told = IsAsItWas seen may_leave text fault
+IsLogAfter seen may_leave taken good (Untaken p text fault) told = IsAsItWas seen may_leave p text fault
 IsLogAfter seen may_leave taken good Left told = (seen ≡ Some told.0) × IsSettled seen may_leave
+IsLogAfter seen may_leave taken good (Found bytes) told = (seen ≡ Some bytes) × IsSettled seen may_leave
+IsLogAfter seen may_leave taken good (Unread fault) told = Unit {0}
+IsLogAfter seen may_leave taken good (Unlined p) told = Leaves may_leave 0 (plan_line (digits_in p))
 
--- whether the fault is the log's own, and not that of its text
-abbrev pub is_of_file : TakeUpFault → Bool
-is_of_file (Resume fault) = false
-is_of_file (NoTornEnd lines) = false
-is_of_file (File fault) = true
+-- the fault that the log itself tells, by what became of it
+abbrev pub fault_of : LogEnd → Option FileFault
+fault_of (Driven p before held) = fault_if held.log_failed
+fault_of (Untaken p text fault) = file_fault fault
+fault_of Left = None
+fault_of (Found bytes) = None
+fault_of (Unread fault) = Some fault
+fault_of (Unlined p) = Some NotLogged
 
--- whether the log has failed, by what became of it
-abbrev pub has_failed : LogEnd → Bool
-has_failed (Driven p before held) = held.log_failed
-has_failed (Untaken text fault) = is_of_file fault
-has_failed Left = false
+-- one that couldn't be synced or read was left with no byte changed
+abbrev pub IsUntouched : Bool → LogEnd → Type 0
+IsUntouched written (Unread fault) = written ≡ false
+IsUntouched written other = Unit {0}
 
--- so it is with the log that is held, if one is: it has failed just where that is told, and where it is told what there was before, it has this
-abbrev pub IsHeldAfter : {D : Type 0} → (D → Option (List ℕ)) → (D → List ℕ → Type 0) → (D → Bool) → Option (List ℕ × List ℕ) → Option (List ℕ) → Type 0 → Option D → Option LogEnd → Type 0
-IsHeldAfter seen may_leave failed told taken good None None = Unit {0}
-IsHeldAfter seen may_leave failed told taken good None (Some end) = ⊥
-IsHeldAfter seen may_leave failed told taken good (Some log) None = ⊥
-IsHeldAfter seen may_leave failed told taken good (Some log) (Some end) = (failed log ≡ has_failed end) × IfSome told (IsLogAfter (seen log) (may_leave log) taken good end)
+-- so it is with the log that is held, if one is: it tells just this fault, and where it is told what there was before, it has this
+abbrev pub IsHeldAfter : {D : Type 0} → (D → Option (List ℕ)) → (D → List ℕ → Type 0) → (D → Option FileFault) → (D → Bool) → Option (List ℕ × List ℕ) → Option (List ℕ) → Type 0 → Option D → Option LogEnd → Type 0
+IsHeldAfter seen may_leave fault written told taken good None None = Unit {0}
+IsHeldAfter seen may_leave fault written told taken good None (Some end) = ⊥
+IsHeldAfter seen may_leave fault written told taken good (Some log) None = ⊥
+IsHeldAfter seen may_leave fault written told taken good (Some log) (Some end) = (fault log ≡ fault_of end) × IsUntouched (written log) end × IfSome told (IsLogAfter (seen log) (may_leave log) taken good end)
 
 -- something was done with a log, and the log that is held after it, if one is, is as is said of it
-pub record WithLog {D : Type 0} (seen : D → Option (List ℕ)) (may_leave : D → List ℕ → Type 0) (failed : D → Bool) (told : Option (List ℕ × List ℕ)) (taken : Option (List ℕ)) (good : Type 0) (log : Option D)
-    (done : Option LogEnd → Type 0) : Type 0 where
+pub record WithLog {D : Type 0} (seen : D → Option (List ℕ)) (may_leave : D → List ℕ → Type 0) (fault : D → Option FileFault) (written : D → Bool) (told : Option (List ℕ × List ℕ)) (taken : Option (List ℕ)) (good : Type 0)
+    (log : Option D) (done : Option LogEnd → Type 0) : Type 0 where
   pub end : Option LogEnd
   pub is : done end
-  pub held : IsHeldAfter seen may_leave failed told taken good log end
+  pub held : IsHeldAfter seen may_leave fault written told taken good log end
 
--- a step was made with a log
-abbrev pub StepsWith : {D : Type 0} → (D → Option (List ℕ)) → (D → List ℕ → Type 0) → (D → Bool) → Option (List ℕ × List ℕ) → Streams → Result Answer CommandFault → Streams → Option D → (Step → Type 0) → Type 0
-StepsWith seen may_leave failed told before outcome after log makes = WithLog seen may_leave failed told after.output.taken (IsOk outcome) log (λ end. makes (step_of before outcome after end))
+-- whether a cell was driven with it
+abbrev pub is_driven : Option LogEnd → Bool
+is_driven (Some (Driven p before held)) = true
+is_driven other = false
+
+-- a step was made with a log, and it is known whether a cell was driven
+abbrev pub StepsWith : {D : Type 0} → (D → Option (List ℕ)) → (D → List ℕ → Type 0) → (D → Option FileFault) → (D → Bool) → Option (List ℕ × List ℕ) → Streams → Result Answer CommandFault → Streams → Bool → Option D → (Step → Type 0) → Type 0
+StepsWith seen may_leave fault written told before outcome after driven log makes = WithLog seen may_leave fault written told after.output.taken (IsOk outcome) log
+    (λ end. (driven ≡ is_driven end) × makes (step_of before outcome after end))
 
 -- ---- what a log is before a run
 
 -- it is on the disk, and no call of it has failed
-pub record IsReady (seen : Option (List ℕ)) (may_leave : List ℕ → Type 0) (failed : Bool) : Type 0 where
+pub record IsReady (seen : Option (List ℕ)) (may_leave : List ℕ → Type 0) (fault : Option FileFault) : Type 0 where
   pub settled : IsSettled seen may_leave
-  pub unfailed : failed ≡ false
+  pub unfailed : fault ≡ None
 
 -- and it has no bytes, which is told where the logs are
-pub record IsEmptyLog (seen : Option (List ℕ)) (may_leave : List ℕ → Type 0) (failed : Bool) (folder : Option (List NamedLog)) : Type 0 where
-  pub ready : IsReady seen may_leave failed
+pub record IsEmptyLog (seen : Option (List ℕ)) (may_leave : List ℕ → Type 0) (fault : Option FileFault) (folder : Folder) : Type 0 where
+  pub ready : IsReady seen may_leave fault
   pub empty : IfSome seen (λ file. file ≡ [])
-  pub told : IfSome folder (λ _. seen ≡ Some [])
+  pub told : IfSome folder.logs (λ _. seen ≡ Some [])
+
+-- a log that was opened and read, with these bytes, which are told where the logs are
+pub record IsFoundLog (seen : Option (List ℕ)) (may_leave : List ℕ → Type 0) (fault : Option FileFault) (folder : Folder) (text : List ℕ) : Type 0 where
+  pub ready : IsReady seen may_leave fault
+  pub read : IfSome seen (λ file. text ≡ file)
+  pub within : length text ≤ MAX_INPUT
+  pub told : IfSome folder.logs (λ _. seen ≡ Some text)
 
 -- the run was taken up from the whole lines that the log has
 abbrev pub IsTakenFromLog : TakenUp → List ℕ → Type 0
@@ -292,45 +363,43 @@ IsTakenFromLog t base = (whole_lines base ≡ base) × (at : Option ℕ) × IsTa
 
 -- ---- what the log holds before
 
--- the events of a run that was taken up which its log told, once more as ever, or in this manner
-abbrev pub told_by : Bool → Manner → TakenUp → List ℕ
-told_by true manner t = told_text t
-told_by false manner t = retold_text manner t
-
-abbrev pub told_in_manner : Manner → TakenUp → List ℕ
-told_in_manner manner = told_by (is_plain manner) manner
-
 -- behind what the output has taken stands this text
 pub record IsToldBehind (taken : Option (List ℕ)) (text told : List ℕ) : Type 0 where
   pub start : List ℕ
   pub was : taken ≡ Some start
   pub is : told ≡ start ++ text
 
--- what is told of a log without bytes, in a folder that is told, and of what the output has taken
-pub record IsToldOfNew (folder : Option (List NamedLog)) (taken : Option (List ℕ)) (told : List ℕ × List ℕ) : Type 0 where
+-- what is told of a new log by this plan, in a folder that is told: the line of the plan; and of what the output has taken
+pub record IsToldOfNew (folder : Folder) (p : PlannedShop) (taken : Option (List ℕ)) (told : List ℕ × List ℕ) : Type 0 where
   pub logs : List NamedLog
-  pub there : folder ≡ Some logs
-  pub log : told.0 ≡ []
+  pub there : folder.logs ≡ Some logs
+  pub log : told.0 ≡ plan_line (digits_in p)
   pub output : taken ≡ Some told.1
 
--- what is told of the whole lines of a log, and of what the output has taken once the events in it are told again
+-- what is told of the whole lines of a log, with the line of the plan behind them unless it is their last one; and of what the output has taken once the events in it are told again
 pub record IsToldOfOld (p : PlannedShop) (manner : Manner) (at : Option ℕ) (bytes : List ℕ) (taken : Option (List ℕ)) (told : List ℕ × List ℕ) : Type 0 where
-  pub log : told.0 ≡ whole_lines bytes
-  pub output : (t : TakenUp) → IsTakenUp p (ended_lines (whole_lines bytes)) at t → IsToldBehind taken (told_in_manner manner t) told.1
+  pub log : IsNamedFor (digits_in p) (whole_lines bytes) told.0
+  pub output : (t : TakenUp) → IsTakenUp p (ended_lines (whole_lines bytes)) at t → IsToldBehind taken (retold_text manner t) told.1
 
 -- so of any log
-abbrev pub IsToldOf : Option (List NamedLog) → PlannedShop → Manner → Option ℕ → Option (List ℕ) → Option (List ℕ) → List ℕ × List ℕ → Type 0
-IsToldOf folder p manner at None taken told = IsToldOfNew folder taken told
-IsToldOf folder p manner at (Some []) taken told = IsToldOfNew folder taken told
+abbrev pub IsToldOf : Folder → PlannedShop → Manner → Option ℕ → Option (List ℕ) → Option (List ℕ) → List ℕ × List ℕ → Type 0
+IsToldOf folder p manner at None taken told = IsToldOfNew folder p taken told
+IsToldOf folder p manner at (Some []) taken told = IsToldOfNew folder p taken told
 IsToldOf folder p manner at (Some (byte ∷ bytes)) taken told = IsToldOfOld p manner at (byte ∷ bytes) taken told
 
--- so of the log of this path, in a folder that is told
-pub record IsToldOfPath (folder : Option (List NamedLog)) (path : List ℕ) (p : PlannedShop) (manner : Manner) (at : Option ℕ) (taken : Option (List ℕ)) (told : List ℕ × List ℕ) : Type 0 where
+-- so of one that was found, in a folder that is told
+pub record IsToldOfFound (folder : Folder) (p : PlannedShop) (manner : Manner) (at : Option ℕ) (there taken : Option (List ℕ)) (told : List ℕ × List ℕ) : Type 0 where
   pub logs : List NamedLog
-  pub there : folder ≡ Some logs
+  pub in_folder : folder.logs ≡ Some logs
+  pub is : IsToldOf folder p manner at there taken told
+
+-- so of the log of this path, in a folder that is told
+pub record IsToldOfPath (folder : Folder) (path : List ℕ) (p : PlannedShop) (manner : Manner) (at : Option ℕ) (taken : Option (List ℕ)) (told : List ℕ × List ℕ) : Type 0 where
+  pub logs : List NamedLog
+  pub there : folder.logs ≡ Some logs
   pub is : IsToldOf folder p manner at (held logs path) taken told
 
 -- by each plan that the files tell
-abbrev pub IsToldOfLog : {W : Type 0} → (W → List ℕ → Result (List ℕ) CommandFault → W → Type 0) → Option (List NamedLog) → PairOfFiles → List ℕ → Manner → Option ℕ
+abbrev pub IsToldOfLog : {W : Type 0} → (W → List ℕ → Result (List ℕ) CommandFault → W → Type 0) → Folder → PairOfFiles → List ℕ → Manner → Option ℕ
     → W → Option (List ℕ) → List ℕ × List ℕ → Type 0
 IsToldOfLog {W} gives folder pair path manner at texts taken told = (p : PlannedShop) (mid : W) → Shapes gives pair texts (Ok (Ok p)) mid → IsToldOfPath folder path p manner at taken told

@@ -9,10 +9,12 @@ use Rattle.command_answers.specs.declared.logs.Telling.TheVariants.{Drawing}
 use Rattle.command_answers.specs.declared.pictures.Drawn.{Drawn}
 use Rattle.command_answers.specs.declared.pictures.Drawn.TheVariants.{Picture, Line}
 use Rattle.command_answers.specs.declared.rests.PlanTelling.TheVariants.{Moments}
-use Rattle.command_answers.specs.Commands.{PairOfFiles, RunsLog}
+use Rattle.command_answers.specs.Commands.{PairOfFiles, RunsLog, RunsMoves, RunsRestMoves}
 use Rattle.command_answers.specs.Pictures.{DrawsLog, DrawsRest, DrawsSchedule}
 use Rattle.command_run.specs.Streams.{Streams, Output}
 use Rattle.command_run.specs.Tellings.{RunsTelling}
+use Rattle.command_run.specs.declared.pictures.Timetable.{Timetable}
+use Rattle.command_run.specs.declared.pictures.Timetable.TheVariants.{Moments as ByMoments, Moves as ByMoves, Picture as AsPicture}
 
 -- the picture was written and shown, so that no more is answered, with this status; or its first bytes were, up to a write that failed
 abbrev pub IsPictureOut : List ℕ → ℕ → Output → Output → Result Answer CommandFault → Type 0
@@ -34,16 +36,22 @@ pub record RunsPicture {W : Type 0} (comes : W → Result Drawn CommandFault →
 
 module _ {W : Type 0} (gives : W → List ℕ → Result (List ℕ) CommandFault → W → Type 0) where
   -- the exact run of the plan comes to be drawn, or the run in a log and its rest, if there is one
-  abbrev pub DrawsTimetable : Option ℕ → PairOfFiles → Option (List ℕ) → W → Result Drawn CommandFault → W → Type 0
-  DrawsTimetable at pair None = DrawsSchedule gives pair
-  DrawsTimetable at pair (Some log) = DrawsRest gives at pair log
+  abbrev pub DrawsTimetable : Option ℕ → PairOfFiles → Option (List ℕ) → Option (List ℕ) → W → Result Drawn CommandFault → W → Type 0
+  DrawsTimetable at pair names None = DrawsSchedule gives pair names
+  DrawsTimetable at pair names (Some log) = DrawsRest gives at pair names log
 
-  -- `schedule`: the schedule of the plan is told, or that of the rest of the run in a log; or with `--svg` it is drawn
-  abbrev pub RunsTimetable : Bool → Option ℕ → PairOfFiles → Option (List ℕ) → W → Streams → Result Answer CommandFault → W → Streams → Type 0
-  RunsTimetable false at pair log texts before outcome texts_after after = RunsTelling gives Moments at pair log texts outcome texts_after × (after ≡ before)
-  RunsTimetable true at pair log texts before outcome texts_after after = RunsPicture (DrawsTimetable at pair log) texts before outcome texts_after after
+  -- the moves of the plan are told, or those ahead in the run in a log, if there is one
+  abbrev pub TellsMoves : Option ℕ → PairOfFiles → Option (List ℕ) → Option (List ℕ) → W → Result Answer CommandFault → W → Type 0
+  TellsMoves at pair names None = RunsMoves gives pair names
+  TellsMoves at pair names (Some log) = RunsRestMoves gives at pair names log
+
+  -- `schedule`: the schedule of the plan is told, or that of the rest of the run in a log; or with `--moves` the moves are, or with `--svg` it is drawn
+  abbrev pub RunsTimetable : Timetable → Option ℕ → PairOfFiles → Option (List ℕ) → Option (List ℕ) → W → Streams → Result Answer CommandFault → W → Streams → Type 0
+  RunsTimetable ByMoments at pair names log texts before outcome texts_after after = RunsTelling gives Moments at pair names log texts outcome texts_after × (after ≡ before)
+  RunsTimetable ByMoves at pair names log texts before outcome texts_after after = TellsMoves at pair names log texts outcome texts_after × (after ≡ before)
+  RunsTimetable AsPicture at pair names log texts before outcome texts_after after = RunsPicture (DrawsTimetable at pair names log) texts before outcome texts_after after
 
   -- `gantt`: the log is drawn in text, or with `--svg` as a picture
-  abbrev pub RunsDrawing : Bool → PairOfFiles → List ℕ → W → Streams → Result Answer CommandFault → W → Streams → Type 0
-  RunsDrawing false pair log texts before outcome texts_after after = RunsLog gives Drawing pair log texts outcome texts_after × (after ≡ before)
-  RunsDrawing true pair log texts before outcome texts_after after = RunsPicture (DrawsLog gives pair log) texts before outcome texts_after after
+  abbrev pub RunsDrawing : Bool → PairOfFiles → Option (List ℕ) → List ℕ → W → Streams → Result Answer CommandFault → W → Streams → Type 0
+  RunsDrawing false pair names log texts before outcome texts_after after = RunsLog gives Drawing pair names log texts outcome texts_after × (after ≡ before)
+  RunsDrawing true pair names log texts before outcome texts_after after = RunsPicture (DrawsLog gives pair names log) texts before outcome texts_after after

@@ -1,41 +1,44 @@
 -- What the whole program does: what it answers to the words of its command line, and how it ends.
-use Rattle.std.specs.Prelude.{◌≡◌, ℕ, Bool, List, [], Option, None, Some, true, false, Result, Ok, Err, IfOk, IfErr, get_or, map, option_map, unwrap_or, drop}
+use Rattle.std.specs.Prelude.{◌≡◌, ℕ, ◌==◌, ◌&&◌, if◌then◌else◌, Bool, List, [], Option, None, Some, true, false, Result, Ok, Err, IfOk, IfErr, get_or, map, option_map, unwrap_or, drop}
 use Rattle.std.specs.String.{string_bytes}
 use Rattle.shop_base.specs.declared.shape_fault.ShapeFault.{ShapeFault}
 use Rattle.shop_base.specs.Plan.{PlannedShop}
 use Rattle.cell_drive.specs.declared.manner.Manner.{Manner}
-use Rattle.run_journal.specs.Folders.{NamedLog}
+use Rattle.run_journal.specs.Folders.{Folder}
 use Rattle.plan_decide.specs.declared.aim.Aim.{Aim}
 use Rattle.plan_decide.specs.declared.aim.Aim.TheVariants.{Promises, Least}
 use Rattle.plan_decide.specs.declared.aim.Objective.TheVariants.{Makespan, Leaving}
 use Rattle.command_words.specs.declared.words.Chosen.{Chosen}
 use Rattle.command_words.specs.declared.words.CommandName.{CommandName}
-use Rattle.command_words.specs.declared.words.CommandName.TheVariants.{Input as NoWords, Facts, Shape, Check, Explain, Schedule, Bounds, Plan, Improve, Decide, Revise, Drive, Resume, Hub, Audit, Gantt}
+use Rattle.command_words.specs.declared.words.CommandName.TheVariants.{Input as NoWords, Facts, Shape, Check, Explain, Schedule, Bounds, Margin, Plan, Improve, Decide, Revise, Drive, Resume, Hub, Digest, Audit, Gantt}
 use Rattle.command_words.specs.declared.words.Lines.{Lines}
 use Rattle.command_words.specs.declared.words.Lines.TheVariants.{One, Two}
+use Rattle.command_words.specs.declared.words.log_start.LogStart.{LogStart}
 use Rattle.command_words.specs.declared.words.WordsFault.{WordsFault}
 use Rattle.command_words.specs.declared.words.WordsFault.TheVariants.{Usage, Memory}
 use Rattle.command_words.specs.Choice.{IsChoiceOf, IsWithin, TellsOneOf, reasons_in, found_in}
 use Rattle.command_answers.specs.declared.answer.Answer.{Answer}
 use Rattle.command_answers.specs.declared.cells.Cells.{Cells}
 use Rattle.command_answers.specs.declared.command_fault.CommandFault.{CommandFault}
-use Rattle.command_answers.specs.declared.command_fault.CommandFault.TheVariants.{Memory as Wanting}
+use Rattle.command_answers.specs.declared.command_fault.CommandFault.TheVariants.{Read, Write, InputTooLong, LogInUse, Memory as Wanting}
 use Rattle.command_answers.specs.declared.loading.Loaded.{Loaded}
 use Rattle.command_answers.specs.declared.logs.Telling.TheVariants.{Numbers}
 use Rattle.command_answers.specs.declared.rests.PlanTelling.TheVariants.{Verdict, Reasons}
-use Rattle.command_answers.specs.Commands.{PairOfFiles, RunsFacts, RunsShape, RunsBounds, RunsLog, Loads, Shapes}
+use Rattle.command_answers.specs.Commands.{PairOfFiles, RunsFacts, RunsShape, RunsDigest, RunsBounds, RunsMargin, RunsLog, Loads, Shapes}
 use Rattle.command_answers.specs.Cells.{LoadsCells}
 use Rattle.command_run.specs.Streams.{Streams, Devices}
 use Rattle.command_run.specs.Inputs.{RunsInput}
 use Rattle.command_run.specs.Tellings.{RunsTelling}
 use Rattle.command_run.specs.Pictures.{RunsTimetable, RunsDrawing}
+use Rattle.command_run.specs.declared.pictures.Timetable.{Timetable}
+use Rattle.command_run.specs.declared.pictures.Timetable.TheVariants.{Moments, Moves, Picture}
 use Rattle.command_run.specs.Planners.{SeeksPlan}
 use Rattle.command_run.specs.Improvers.{Improves}
 use Rattle.command_run.specs.Choosers.{Decides}
 use Rattle.command_run.specs.Drives.{Drives}
 use Rattle.command_run.specs.Resumes.{Resumes}
 use Rattle.command_run.specs.Revisions.{Revises}
-use Rattle.command_run.specs.Logs.{DrivesShaped, IsToldOfLog, LogEnd, Step, step_of}
+use Rattle.command_run.specs.Logs.{DrivesShaped, IsToldOfLog, LogEnd, Step, is_driven, step_of}
 use Rattle.command_run.specs.Hubs.{DrivesAll}
 use Rattle.command_run.specs.Ending.{Ends, EndsBy, IsAnswerEnd, WasTold}
 
@@ -62,6 +65,10 @@ name_in chosen = option_map string_bytes chosen.instance
 abbrev pub log_in : Chosen → Option (List ℕ)
 log_in chosen = option_map string_bytes chosen.after
 
+-- the file of names
+abbrev pub names_in : Chosen → Option (List ℕ)
+names_in chosen = option_map string_bytes chosen.names
+
 -- what is to be decided where no job is named: the least makespan, or whether the budgets can be kept
 abbrev pub overall_aim : Bool → Aim
 overall_aim true = Least Makespan
@@ -74,6 +81,15 @@ aim_of None least = overall_aim least
 
 abbrev pub aim_in : Chosen → Aim
 aim_in chosen = aim_of chosen.job chosen.least
+
+-- in which form a schedule is told, by whether a picture is asked for, and by whether the moves are
+abbrev pub form_of : Bool → Bool → Timetable
+form_of true moves = Picture
+form_of false true = Moves
+form_of false false = Moments
+
+abbrev pub form_in : Chosen → Timetable
+form_in chosen = form_of chosen.svg chosen.moves
 
 -- whether a command draws a picture, where it is asked for one
 abbrev pub draws : CommandName → Bool → Bool
@@ -111,6 +127,20 @@ manner_in chosen = record { tells = is_second chosen.lines; longest = chosen.lea
 abbrev pub pair_in : Chosen → PairOfFiles
 pair_in chosen = record { path = file_at chosen 0; name = name_in chosen; plan = file_at chosen 1 }
 
+-- where starting again is right: the output couldn't be written, another process has the log, or the input couldn't be read to its end
+abbrev pub starts_again : Bool → Result Answer CommandFault → Bool
+starts_again driven (Ok answer) = true
+starts_again driven (Err Write) = true
+starts_again driven (Err LogInUse) = true
+starts_again driven (Err Read) = driven
+starts_again driven (Err InputTooLong) = driven
+starts_again driven (Err fault) = false
+
+-- a command that keeps a log has a status of its own there, in place of that of the fault
+abbrev pub status_by : Option (List ℕ) → Option LogEnd → Result Answer CommandFault → ℕ → ℕ
+status_by None log outcome own = own
+status_by (Some path) log outcome own = if own == 5 && starts_again (is_driven log) outcome then 6 else own
+
 -- no log was touched, and none is held
 abbrev pub NoLog : {W : Type 0} → Devices W → Devices W → Option LogEnd → Type 0
 NoLog before after log = (after.folder ≡ before.folder) × (log ≡ None)
@@ -123,10 +153,10 @@ module _ {W : Type 0} (gives : W → List ℕ → Result (List ℕ) CommandFault
     pub drives : Drives manner loaded before after outcome
 
   -- the plan is read, its log opened, and then the cell is driven with that
-  pub record RunsLoggedDrive (folder folder_after : Option (List NamedLog)) (path : List ℕ) (manner : Manner) (at : Option ℕ) (pair : PairOfFiles) (texts : W) (step : Step) (texts_after : W) : Type 0 where
+  pub record RunsLoggedDrive (folder folder_after : Folder) (path : List ℕ) (start : LogStart) (manner : Manner) (at : Option ℕ) (pair : PairOfFiles) (texts : W) (step : Step) (texts_after : W) : Type 0 where
     pub shaped : Result (Result PlannedShop ShapeFault) CommandFault
     pub shapes : Shapes gives pair texts shaped texts_after
-    pub drives : DrivesShaped folder folder_after path manner at shaped step
+    pub drives : DrivesShaped folder folder_after path start manner at shaped step
 
   -- the plan is read, then its log taken up at a moment, and then the input is read
   pub record RunsResume (manner : Manner) (at : Option ℕ) (pair : PairOfFiles) (log : List ℕ) (texts : W) (before : Streams) (outcome : Result Answer CommandFault) (texts_after : W) (after : Streams) : Type 0 where
@@ -150,19 +180,21 @@ module _ {W : Type 0} (gives : W → List ℕ → Result (List ℕ) CommandFault
   RunsCommand Shape chosen texts before outcome texts_after after =
       RunsShape gives (pair_in chosen) texts outcome texts_after × (after ≡ before)
   RunsCommand Check chosen texts before outcome texts_after after =
-      RunsTelling gives Verdict chosen.at (pair_in chosen) (log_in chosen) texts outcome texts_after × (after ≡ before)
+      RunsTelling gives Verdict chosen.at (pair_in chosen) (names_in chosen) (log_in chosen) texts outcome texts_after × (after ≡ before)
   RunsCommand Explain chosen texts before outcome texts_after after =
-      RunsTelling gives Reasons chosen.at (pair_in chosen) (log_in chosen) texts outcome texts_after × (after ≡ before)
+      RunsTelling gives (Reasons chosen.job) chosen.at (pair_in chosen) (names_in chosen) (log_in chosen) texts outcome texts_after × (after ≡ before)
   RunsCommand Schedule chosen texts before outcome texts_after after =
-      RunsTimetable gives chosen.svg chosen.at (pair_in chosen) (log_in chosen) texts before outcome texts_after after
+      RunsTimetable gives (form_in chosen) chosen.at (pair_in chosen) (names_in chosen) (log_in chosen) texts before outcome texts_after after
   RunsCommand Bounds chosen texts before outcome texts_after after =
-      RunsBounds gives (pair_in chosen) texts outcome texts_after × (after ≡ before)
+      RunsBounds gives (pair_in chosen) (names_in chosen) texts outcome texts_after × (after ≡ before)
+  RunsCommand Margin chosen texts before outcome texts_after after =
+      RunsMargin gives (pair_in chosen) (names_in chosen) texts outcome texts_after × (after ≡ before)
   RunsCommand Plan chosen texts before outcome texts_after after =
       SeeksPlan gives chosen.rounds (pair_in chosen) texts outcome texts_after × (after ≡ before)
   RunsCommand Improve chosen texts before outcome texts_after after =
       Improves gives chosen.at chosen.rounds (pair_in chosen) (log_in chosen) texts outcome texts_after × (after ≡ before)
   RunsCommand Decide chosen texts before outcome texts_after after =
-      Decides gives (aim_in chosen) chosen.at (pair_in chosen) (log_in chosen) texts outcome texts_after × (after ≡ before)
+      Decides gives (aim_in chosen) chosen.at (pair_in chosen) (names_in chosen) (log_in chosen) texts outcome texts_after × (after ≡ before)
   RunsCommand Revise chosen texts before outcome texts_after after =
       Revises gives chosen.file chosen.at chosen.changes.items (pair_in chosen) (file_at chosen 2) texts outcome texts_after × (after ≡ before)
   RunsCommand Drive chosen texts before outcome texts_after after =
@@ -171,25 +203,29 @@ module _ {W : Type 0} (gives : W → List ℕ → Result (List ℕ) CommandFault
       RunsResume (manner_in chosen) chosen.at (pair_in chosen) (file_at chosen 2) texts before outcome texts_after after
   RunsCommand Hub chosen texts before outcome texts_after after =
       RunsHub (manner_in chosen) (file_at chosen 0) (name_in chosen) (plans_in chosen) texts before outcome texts_after after
+  RunsCommand Digest chosen texts before outcome texts_after after =
+      RunsDigest gives (pair_in chosen) texts outcome texts_after × (after ≡ before)
   RunsCommand Audit chosen texts before outcome texts_after after =
-      RunsLog gives Numbers (pair_in chosen) (file_at chosen 2) texts outcome texts_after × (after ≡ before)
+      RunsLog gives Numbers (pair_in chosen) None (file_at chosen 2) texts outcome texts_after × (after ≡ before)
   RunsCommand Gantt chosen texts before outcome texts_after after =
-      RunsDrawing gives chosen.svg (pair_in chosen) (file_at chosen 2) texts before outcome texts_after after
+      RunsDrawing gives chosen.svg (pair_in chosen) (names_in chosen) (file_at chosen 2) texts before outcome texts_after after
 
   -- the command that was chosen, with the log that it keeps, if it keeps one; else no log is touched
   abbrev pub RunsChosen : Option (List ℕ) → Chosen → Devices W → Result Answer CommandFault → Streams → Devices W → Option LogEnd → Type 0
   RunsChosen None chosen before outcome mid after log =
       RunsCommand chosen.name chosen before.texts before.streams outcome after.texts mid × NoLog before after log
   RunsChosen (Some path) chosen before outcome mid after log =
-      RunsLoggedDrive before.folder after.folder path (manner_in chosen) chosen.at (pair_in chosen) before.texts (step_of before.streams outcome mid log) after.texts
+      RunsLoggedDrive before.folder after.folder path chosen.start (manner_in chosen) chosen.at (pair_in chosen) before.texts (step_of before.streams outcome mid log) after.texts
 
-  -- the command is run, and then its answer printed, or its fault told; what is answered in place of a picture is told too
+  -- the command is run, and then its answer printed, or its fault told, with its own status; what is answered in place of a picture is told too
   pub record Commands (chosen : Chosen) (before : Devices W) (status : ℕ) (after : Devices W) (log : Option LogEnd) : Type 0 where
     pub outcome : Result Answer CommandFault
     pub mid : Streams
     pub runs : RunsChosen (kept_log_in chosen) chosen before outcome mid after log
     pub input : after.streams.input ≡ mid.input
-    pub ends : EndsBy (draws_in chosen) outcome mid.output after.streams.output before.errors after.errors status
+    pub own : ℕ
+    pub ends : EndsBy (draws_in chosen) outcome mid.output after.streams.output before.errors after.errors own
+    pub status_is : status ≡ status_by (kept_log_in chosen) log outcome own
 
   -- help or the version that was asked for is a good answer
   pub record Helps (text : List ℕ) (before : Devices W) (status : ℕ) (after : Devices W) (log : Option LogEnd) : Type 0 where

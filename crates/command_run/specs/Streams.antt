@@ -1,11 +1,10 @@
 -- What lies outside of the program, as it is seen before and after a step.
-use Rattle.std.specs.Prelude.{List, Option}
-use Rattle.run_journal.specs.Folders.{NamedLog}
+use Rattle.run_journal.specs.Folders.{Folder}
 pub use Rattle.byte_streams.specs.Lent.{Input, Output, Streams, Taker as Errors, input_of, output_of, streams_of, taker_of as errors_of}
 
--- the files, the standard streams, the error output, and the logs that are there, where these are told
+-- the files, the standard streams, the error output, and the logs that are there
 pub record Devices (W : Type 0) : Type 0 where
   pub texts : W
   pub streams : Streams
   pub errors : Errors
-  pub folder : Option (List NamedLog)
+  pub folder : Folder

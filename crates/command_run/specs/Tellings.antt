@@ -7,13 +7,13 @@ use Rattle.command_answers.specs.declared.rests.PlanTelling.TheVariants.{Verdict
 use Rattle.command_answers.specs.Commands.{PairOfFiles, RunsCheck, RunsExplain, RunsSchedule, RunsRest}
 
 module _ {W : Type 0} (gives : W → List ℕ → Result (List ℕ) CommandFault → W → Type 0) where
-  -- what is told of the plan
-  abbrev pub RunsOfPlan : PlanTelling → PairOfFiles → W → Result Answer CommandFault → W → Type 0
-  RunsOfPlan Verdict pair = RunsCheck gives pair
-  RunsOfPlan Reasons pair = RunsExplain gives pair
-  RunsOfPlan Moments pair = RunsSchedule gives pair
+  -- what is told of the plan, by names where it isn't its verdict alone
+  abbrev pub RunsOfPlan : PlanTelling → PairOfFiles → Option (List ℕ) → W → Result Answer CommandFault → W → Type 0
+  RunsOfPlan Verdict pair names = RunsCheck gives pair
+  RunsOfPlan (Reasons told) pair names = RunsExplain gives pair names told
+  RunsOfPlan Moments pair names = RunsSchedule gives pair names
 
   -- what is told of the plan, or of the rest of the run in a log, if there is one
-  abbrev pub RunsTelling : PlanTelling → Option ℕ → PairOfFiles → Option (List ℕ) → W → Result Answer CommandFault → W → Type 0
-  RunsTelling telling at pair None = RunsOfPlan telling pair
-  RunsTelling telling at pair (Some log) = RunsRest gives telling at pair log
+  abbrev pub RunsTelling : PlanTelling → Option ℕ → PairOfFiles → Option (List ℕ) → Option (List ℕ) → W → Result Answer CommandFault → W → Type 0
+  RunsTelling telling at pair names None = RunsOfPlan telling pair names
+  RunsTelling telling at pair names (Some log) = RunsRest gives telling at pair names log

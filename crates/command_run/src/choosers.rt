@@ -19,6 +19,7 @@ pub(crate) fn decided_answer<T: Texts, S: Screen>(
     alloc: Global,
     texts: &mut T,
     pair: &Pair<'_>,
+    names: Option<&str>,
     log: Option<&str>,
     at: Option<Moment>,
     aim: Aim,
@@ -26,11 +27,11 @@ pub(crate) fn decided_answer<T: Texts, S: Screen>(
     screen: &mut S,
 ) -> Answered
     requires { IfSome at (λ present. present ≤ MAX_MOMENT) }
-    ensures { Decides T.gives aim at pair.now (option_copied log.entry) texts.old result texts.new }
+    ensures { Decides T.gives aim at pair.now (option_copied names.entry) (option_copied log.entry) texts.old result texts.new }
 {
     match log {
-        Some(log) => rest_decision_answer(alloc, texts, pair, log, at, aim, choices, screen),
-        None => decision_answer(alloc, texts, pair, aim, choices, screen),
+        Some(log) => rest_decision_answer(alloc, texts, pair, names, log, at, aim, choices, screen),
+        None => decision_answer(alloc, texts, pair, names, aim, choices, screen),
     }
 }
 
@@ -40,11 +41,12 @@ fn decision_answer<T: Texts, S: Screen>(
     alloc: Global,
     texts: &mut T,
     pair: &Pair<'_>,
+    names: Option<&str>,
     aim: Aim,
     choices: u32,
     screen: &mut S,
 ) -> Answered
-    ensures { RunsDecide T.gives aim pair.now texts.old result texts.new }
+    ensures { RunsDecide T.gives aim pair.now (option_copied names.entry) texts.old result texts.new }
 {
     let (mut chooser, choices) = (LeastSlack::new(alloc), u64::from(choices));
     let mut progress = ChoiceProgress { screen };
@@ -52,6 +54,7 @@ fn decision_answer<T: Texts, S: Screen>(
         alloc,
         texts,
         pair,
+        names,
         aim,
         choices,
         &mut chooser,
@@ -66,6 +69,7 @@ fn rest_decision_answer<T: Texts, S: Screen>(
     alloc: Global,
     texts: &mut T,
     pair: &Pair<'_>,
+    names: Option<&str>,
     log: &str,
     at: Option<Moment>,
     aim: Aim,
@@ -73,7 +77,7 @@ fn rest_decision_answer<T: Texts, S: Screen>(
     screen: &mut S,
 ) -> Answered
     requires { IfSome at (λ present. present ≤ MAX_MOMENT) }
-    ensures { RunsDecideRest T.gives aim at pair.now log.now texts.old result texts.new }
+    ensures { RunsDecideRest T.gives aim at pair.now (option_copied names.entry) log.now texts.old result texts.new }
 {
     let (mut chooser, choices) = (LeastSlack::new(alloc), u64::from(choices));
     let mut progress = ChoiceProgress { screen };
@@ -81,6 +85,7 @@ fn rest_decision_answer<T: Texts, S: Screen>(
         alloc,
         texts,
         pair,
+        names,
         log,
         at,
         aim,

@@ -8,7 +8,7 @@ ghost use Rattle.command_words.specs.Choice.{IsWithin};
 ghost use Rattle.command_run.specs.Choosers.{Decides};
 ghost use Rattle.command_run.specs.Improvers.{Improves};
 ghost use Rattle.command_run.specs.Tellings.{RunsTelling};
-ghost use Rattle.command_run.specs.Program.{RunsCommand, aim_in, file_at, is_second, kept_log_in, log_in, manner_in, name_in, overall_aim, pair_in};
+ghost use Rattle.command_run.specs.Program.{RunsCommand, aim_in, file_at, is_second, kept_log_in, form_in, log_in, names_in, manner_in, name_in, overall_aim, pair_in};
 
 use crate::choosers::decided_answer;
 use crate::devices::{Screen, Streams};
@@ -16,15 +16,15 @@ use crate::drives::drive_answer;
 use crate::hubs::hub_answer;
 use crate::improvers::{better_answer, better_rest_answer};
 use crate::input::input_answer;
-use crate::pictures::{drawing_answer, timetable_answer};
+use crate::pictures::{Timetable, drawing_answer, timetable_answer};
 use crate::planners::seek_answer;
 use crate::resumes::resume_answer;
 use crate::revisions::revision_answer;
 use crate::tellings::telling_answer;
 use cell_drive::{Manner, Outlet, Source};
 use command_answers::{
-    Answered, Pair, PlanTelling, Telling, Texts, bounds_answer, facts_answer, log_answer,
-    shape_answer,
+    Answered, Pair, PlanTelling, Telling, Texts, bounds_answer, digest_answer, facts_answer,
+    log_answer, margin_answer, shape_answer,
 };
 use command_words::{Chosen, CommandName, Lines};
 use plan_decide::{Aim, Objective};
@@ -66,6 +66,13 @@ fn rest_log(chosen: &Chosen) -> Option<&str>
     path_of(&chosen.after)
 }
 
+/// The file of names.
+fn names(chosen: &Chosen) -> Option<&str>
+    ensures { option_copied result ≡ names_in chosen.now }
+{
+    path_of(&chosen.names)
+}
+
 /// The files of the instance and of the first plan.
 pub(crate) fn pair(chosen: &Chosen) -> Pair<'_>
     requires { 1 < length chosen.now.files.items }
@@ -82,10 +89,11 @@ pub(crate) fn pair(chosen: &Chosen) -> Pair<'_>
 fn told<T: Texts>(alloc: Global, chosen: &Chosen, texts: &mut T, telling: PlanTelling) -> Answered
     requires files { 1 < length chosen.now.files.items }
     requires at { IfSome chosen.now.at (λ present. present ≤ MAX_MOMENT) }
-    ensures { RunsTelling T.gives telling chosen.now.at (pair_in chosen.now) (log_in chosen.now) texts.old result texts.new }
+    ensures { RunsTelling T.gives telling chosen.now.at (pair_in chosen.now) (names_in chosen.now) (log_in chosen.now) texts.old result texts.new }
 {
     let pair = pair(chosen);
-    telling_answer(alloc, texts, &pair, rest_log(chosen), chosen.at, telling)
+    let (names, log) = (names(chosen), rest_log(chosen));
+    telling_answer(alloc, texts, &pair, names, log, chosen.at, telling)
 }
 
 /// Whether this is version 2.
@@ -150,13 +158,14 @@ fn decided<T: Texts, S: Screen>(
 ) -> Answered
     requires files { 1 < length chosen.now.files.items }
     requires at { IfSome chosen.now.at (λ present. present ≤ MAX_MOMENT) }
-    ensures { Decides T.gives aim chosen.now.at (pair_in chosen.now) (log_in chosen.now) texts.old result texts.new }
+    ensures { Decides T.gives aim chosen.now.at (pair_in chosen.now) (names_in chosen.now) (log_in chosen.now) texts.old result texts.new }
 {
     let (pair, choices) = (pair(chosen), chosen.choices);
     decided_answer(
         alloc,
         texts,
         &pair,
+        names(chosen),
         rest_log(chosen),
         chosen.at,
         aim,
@@ -183,6 +192,17 @@ fn overall_aim(least: bool) -> Aim
         Aim::Least(Objective::Makespan)
     } else {
         Aim::Promises
+    }
+}
+
+/// In which form a schedule is told.
+fn form(chosen: &Chosen) -> Timetable
+    ensures { result ≡ form_in chosen.now }
+{
+    match (chosen.svg, chosen.moves) {
+        (true, _) => Timetable::Picture,
+        (false, true) => Timetable::Moves,
+        (false, false) => Timetable::Moments,
     }
 }
 
@@ -213,12 +233,22 @@ pub(crate) fn command<T: Texts, R: Source, W: Outlet, S: Screen>(
         CommandName::Facts => facts_answer(alloc, texts, file(chosen, 0), name(chosen)),
         CommandName::Shape => shape_answer(alloc, texts, &pair(chosen)),
         CommandName::Check => told(alloc, chosen, texts, PlanTelling::Verdict),
-        CommandName::Explain => told(alloc, chosen, texts, PlanTelling::Reasons),
+        CommandName::Explain => told(alloc, chosen, texts, PlanTelling::Reasons(chosen.job)),
         CommandName::Schedule => {
-            let (pair, log) = (pair(chosen), rest_log(chosen));
-            timetable_answer(alloc, texts, &pair, log, chosen.at, chosen.svg, streams)
+            let (pair, names, log) = (pair(chosen), names(chosen), rest_log(chosen));
+            timetable_answer(
+                alloc,
+                texts,
+                &pair,
+                names,
+                log,
+                chosen.at,
+                form(chosen),
+                streams,
+            )
         }
-        CommandName::Bounds => bounds_answer(alloc, texts, &pair(chosen)),
+        CommandName::Bounds => bounds_answer(alloc, texts, &pair(chosen), names(chosen)),
+        CommandName::Margin => margin_answer(alloc, texts, &pair(chosen), names(chosen)),
         CommandName::Plan => seek_answer(alloc, texts, &pair(chosen), chosen.rounds),
         CommandName::Improve => bettered(alloc, chosen, texts, screen),
         CommandName::Decide => decided(alloc, chosen, aim(chosen), texts, screen),
@@ -245,13 +275,22 @@ pub(crate) fn command<T: Texts, R: Source, W: Outlet, S: Screen>(
                 streams,
             )
         }
+        CommandName::Digest => digest_answer(alloc, texts, &pair(chosen)),
         CommandName::Audit => {
             let log = file(chosen, 2);
-            log_answer(alloc, texts, &pair(chosen), log, Telling::Numbers)
+            log_answer(alloc, texts, &pair(chosen), None, log, Telling::Numbers)
         }
         CommandName::Gantt => {
             let log = file(chosen, 2);
-            drawing_answer(alloc, texts, &pair(chosen), log, chosen.svg, streams)
+            drawing_answer(
+                alloc,
+                texts,
+                &pair(chosen),
+                names(chosen),
+                log,
+                chosen.svg,
+                streams,
+            )
         }
     }
 }

@@ -78,6 +78,9 @@ fn text_line(alloc: Global, fault: &CommandFault) -> Result<Vec<u8>, AllocError>
         CommandFault::Plan(fault) => {
             refusal_line(alloc, b"cellplan: plan: ", fault.to_string(alloc))
         }
+        CommandFault::Names(fault) => {
+            refusal_line(alloc, b"cellplan: names: ", fault.to_string(alloc))
+        }
         _ => Ok(Vec::new(alloc)),
     }
 }
@@ -104,7 +107,7 @@ fn error_line<'a>(fault: &CommandFault, line: &'a [u8]) -> &'a [u8]
     ensures { IsErrorLine fault.now result.now }
 {
     match fault {
-        CommandFault::Instance(_) | CommandFault::Plan(_) => line,
+        CommandFault::Instance(_) | CommandFault::Plan(_) | CommandFault::Names(_) => line,
         CommandFault::Read => b"cellplan: read\n",
         CommandFault::Write => b"cellplan: write\n",
         CommandFault::InputTooLong => b"cellplan: input too long\n",

@@ -1,38 +1,17 @@
 //! The command `hub`.
 
-ghost use Rattle.std.specs.Prelude.{◌≡◌, map};
-ghost use Rattle.byte_streams.specs.Lent.{streams_of};
+ghost use Rattle.std.specs.Prelude.{map};
 ghost use Rattle.std.specs.Option.{option_copied};
 ghost use Rattle.std.specs.String.{string_bytes};
-ghost use Rattle.command_run.specs.Hubs.{AreDrivesIn, DrivesCells};
+ghost use Rattle.command_run.specs.Hubs.{DrivesCells};
 ghost use Rattle.command_run.specs.Program.{RunsHub};
 
 use crate::devices::Streams;
 use crate::drives::{Told, ended};
-use cell_drive::{
-    DriveFault, HubEnd, Manner, Outlet, Source, drive_hub, drive_hub_stated, is_plain,
-};
+use cell_drive::{Manner, Outlet, Source, drive_hub_in};
 use command_answers::{Answered, Cells, Texts, load_cells};
 use plan_verifier::Verified;
 use std::alloc::Global;
-
-/// Drives the cells of accepted plans in this manner.
-fn drive_hub_in<R: Source, W: Outlet>(
-    alloc: Global,
-    cells: Vec<Verified>,
-    manner: Manner,
-    reader: &mut R,
-    writer: &mut W,
-) -> Result<HubEnd, DriveFault>
-    ensures { AreDrivesIn manner cells.items (streams_of R.Source W.Sink W.pending reader.old writer.old)
-        (streams_of R.Source W.Sink W.pending reader.new writer.new) result }
-{
-    if is_plain(manner) {
-        drive_hub(alloc, cells, reader, writer)
-    } else {
-        drive_hub_stated(alloc, cells, manner, reader, writer)
-    }
-}
 
 /// Loads several plans, and drives their cells in this manner if all are accepted; else the line of the first that isn't is answered.
 pub(crate) fn hub_answer<T: Texts, R: Source, W: Outlet>(

@@ -11,6 +11,7 @@ mod hubs;
 mod improvers;
 mod input;
 mod logs;
+mod misfits;
 mod pictures;
 mod planners;
 mod program;
@@ -22,4 +23,5 @@ mod unchosen;
 
 pub use devices::{Devices, Screen, Streams};
 pub use ending::tell;
+pub use misfits::Misfit;
 pub use program::run;

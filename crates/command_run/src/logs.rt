@@ -1,27 +1,38 @@
 //! The command `drive` with a log of its own.
 
-ghost use Rattle.std.specs.Prelude.{◌≡◌, ◌≤◌, ◌⊎◌, [], length, is_some, Some, IfSome};
+ghost use Rattle.std.specs.Prelude.{◌≡◌, ◌≤◌, ◌⊎◌, [], length, is_some, option_map, Some, None, IfSome};
 ghost use Rattle.shop_base.specs.declared.limits.TheConstants.{MAX_MOMENT};
 ghost use Rattle.text_lines.specs.declared.limits.TheConstants.{MAX_INPUT};
+ghost use Rattle.text_lines.specs.Lines.{lines_of};
 ghost use Rattle.byte_streams.specs.Lent.{output_of};
+ghost use Rattle.event_lines.specs.RunDigits.{plan_line};
 ghost use Rattle.cell_drive.specs.TakenUp.{plan_of, told_in};
+ghost use Rattle.run_journal.specs.declared.log_run.LogRun.{LogRun};
 ghost use Rattle.run_journal.specs.Logged.{AreBefore};
+ghost use Rattle.run_journal.specs.LogRuns.{IsNamedFor, IsRunOf};
+ghost use Rattle.run_journal.specs.WholeLines.{whole_lines};
 ghost use Rattle.cell_drive.specs.InManner.{IsDriveIn, IsGoneOnIn};
+ghost use Rattle.plan_verifier.specs.Seen.{judged};
 ghost use Rattle.command_run.specs.Drives.{IsLineTold, end_of_drive};
 ghost use Rattle.command_run.specs.Resumes.{end_of_rest};
-ghost use Rattle.command_run.specs.Logs.{Begins, BeginsBy, BeginsRun, DrivesByLog, DrivesWithLog, GoesOnWithLog, HasFewLines, IsEmptyLog, IsLogUntakenTold, IsLoggedAnswer, IsReady, IsTakenFromLog, IsToldBehind, IsToldOfLog, IsToldOfNew, IsToldOfOld, IsToldOfPath, LacksLog, LacksWriter, StepsWith, TakesUp, TellsAgain, log_command_fault, logged_command_fault, told_in_manner};
+ghost use Rattle.command_run.specs.Logs.{Begins, BeginsBy, BeginsRun, DrivesByLog, DrivesFitting, DrivesFound, DrivesWithLog, GoesOnWithLog, HasFewLines, IsEmptyLog, IsFoundLog, IsLogUntakenTold, IsLoggedAnswer, IsReady, IsTakenFromLog, IsToldBehind, IsToldOfFound, IsToldOfLog, IsToldOfNew, IsToldOfOld, IsToldOfPath, LacksLog, LacksWriter, OpensLog, StepsWith, TakesUp, TellsAgain, bytes_in, digits_in, log_command_fault, logged_command_fault};
+ghost use Rattle.cell_drive.specs.Retold.{retold_text};
 ghost use Rattle.command_run.specs.Program.{RunsLoggedDrive};
 
 use crate::devices::Streams;
 use crate::drives::{Told, ended};
+use crate::misfits::{Misfit, misfit_answer, misfit_of};
 use crate::resumes::untaken_answer;
 use cell_drive::{DriveEnd, DriveFault, Manner, Outlet, RestEnd, Source, Taken, tell_again_in};
 use command_answers::{
     Answered, CommandFault, Loaded, Pair, Texts, fault_told, loaded_answer, shape_files,
 };
+use command_words::LogStart;
+use event_lines::RunDigits;
 use logged_drive::{LoggedEnd, TakeUpFault, drive_logged, go_on_logged, take_up_log};
+use plan_digest::run_digits;
 use plan_verifier::{Verdict, Verified, verify};
-use run_journal::{Before, FileFault, LogFile, LogText, Logs, new_log, open_log};
+use run_journal::{Before, FileFault, LogFile, LogRun, LogText, Logs, new_log, open_log};
 use run_log::AuditFault;
 use shop_base::{Moment, Shaped};
 use std::alloc::Global;
@@ -75,7 +86,9 @@ impl From<LoggedFault> for LogTold {
 pub(crate) struct LoggedRun<R: Source, W: Outlet, D: Drop> {
     pub outcome: Answered,
     pub streams: Streams<R, W>,
-    /// The log that was opened or made, unless a call for that has failed.
+    /// Whether a cell was driven, so that what couldn't be read is the input.
+    pub driven: bool,
+    /// The log that was opened or made, if one was.
     pub log: Option<D>,
 }
 
@@ -130,7 +143,7 @@ fn untaken_log_answer(alloc: Global, fault: TakeUpFault) -> Answered
     }
 }
 
-/// Drives the cell of an accepted plan with a log that has no bytes yet.
+/// Drives the cell of an accepted plan with a log that has the line of the plan alone.
 fn drive_with<R: Source, W: Outlet + Drop, D: LogFile + Drop, B: Before>(
     alloc: Global,
     verified: Verified,
@@ -139,11 +152,11 @@ fn drive_with<R: Source, W: Outlet + Drop, D: LogFile + Drop, B: Before>(
     streams: Streams<R, W>,
     before: B,
 ) -> LoggedRun<R, W, D>
-    requires ready { IsReady (D.seen log) (D.may_leave log) (D.failed log) }
+    requires ready { IsReady (D.seen log) (D.may_leave log) (D.fault log) }
     requires before { AreBefore B.before (D.seen log) streams.output.taken }
-    requires empty { IfSome B.before (λ told. told.0 ≡ []) }
+    requires line { IfSome B.before (λ told. told.0 ≡ plan_line (digits_in verified.planned)) }
     requires shown { streams.output.pending ≡ [] }
-    ensures drove { StepsWith D.seen D.may_leave D.failed B.before streams result.outcome result.streams result.log (DrivesWithLog verified.planned [] (IsDriveIn manner verified) end_of_drive) }
+    ensures drove { StepsWith D.seen D.may_leave D.fault D.written B.before streams result.outcome result.streams result.driven result.log (DrivesWithLog verified.planned [] (IsDriveIn manner verified) end_of_drive) }
 {
     let Streams { mut input, output } = streams;
     let LoggedEnd {
@@ -156,6 +169,7 @@ fn drive_with<R: Source, W: Outlet + Drop, D: LogFile + Drop, B: Before>(
     LoggedRun {
         outcome,
         streams: Streams { input, output },
+        driven: true,
         log: Some(log),
     }
 }
@@ -169,11 +183,11 @@ fn go_on_with<R: Source, W: Outlet + Drop, D: LogFile + Drop, B: Before>(
     streams: Streams<R, W>,
     before: B,
 ) -> LoggedRun<R, W, D>
-    requires ready { IsReady (D.seen log) (D.may_leave log) (D.failed log) }
+    requires ready { IsReady (D.seen log) (D.may_leave log) (D.fault log) }
     requires before { AreBefore B.before (D.seen log) streams.output.taken }
     requires taken_up { IfSome B.before (λ told. IsTakenFromLog taken told.0) }
     requires shown { streams.output.pending ≡ [] }
-    ensures went_on { StepsWith D.seen D.may_leave D.failed B.before streams result.outcome result.streams result.log
+    ensures went_on { StepsWith D.seen D.may_leave D.fault D.written B.before streams result.outcome result.streams result.driven result.log
         (λ step. DrivesWithLog (plan_of taken) (told_in taken) (IsGoneOnIn manner taken) end_of_rest step ⊎ LacksWriter (plan_of taken) (told_in taken) step) }
 {
     let Streams { mut input, output } = streams;
@@ -187,6 +201,7 @@ fn go_on_with<R: Source, W: Outlet + Drop, D: LogFile + Drop, B: Before>(
     LoggedRun {
         outcome,
         streams: Streams { input, output },
+        driven: true,
         log: Some(log),
     }
 }
@@ -218,11 +233,11 @@ fn tell_and_go_on<R: Source, W: Outlet + Drop, D: LogFile + Drop, B: Before>(
     streams: Streams<R, W>,
     before: B,
 ) -> LoggedRun<R, W, D>
-    requires ready { IsReady (D.seen log) (D.may_leave log) (D.failed log) }
+    requires ready { IsReady (D.seen log) (D.may_leave log) (D.fault log) }
     requires seen { IfSome B.before (λ told. D.seen log ≡ Some told.0) }
     requires taken_up { IfSome B.before (λ told. IsTakenFromLog taken told.0) }
-    requires output { IfSome B.before (λ told. IsToldBehind streams.output.taken (told_in_manner manner taken) told.1) }
-    ensures went_on { StepsWith D.seen D.may_leave D.failed B.before streams result.outcome result.streams result.log (GoesOnWithLog manner taken) }
+    requires output { IfSome B.before (λ told. IsToldBehind streams.output.taken (retold_text manner taken) told.1) }
+    ensures went_on { StepsWith D.seen D.may_leave D.fault D.written B.before streams result.outcome result.streams result.driven result.log (GoesOnWithLog manner taken) }
 {
     let Streams { input, mut output } = streams;
     match show_again(alloc, &taken, manner, &mut output) {
@@ -230,12 +245,14 @@ fn tell_and_go_on<R: Source, W: Outlet + Drop, D: LogFile + Drop, B: Before>(
         Err(fault) => LoggedRun {
             outcome: Err(Told::from(fault).0),
             streams: Streams { input, output },
+            driven: false,
             log: Some(log),
         },
     }
 }
 
-/// Takes up the run in a log that has bytes, and goes on with it; why it isn't taken up is the answer.
+/// Takes up the run in a log that has bytes by the plan with these digits, and goes on with it; why it isn't taken up is the
+/// answer.
 fn take_up_with<R: Source, W: Outlet + Drop, D: LogFile + Drop, B: Before>(
     alloc: Global,
     shaped: Shaped,
@@ -243,32 +260,36 @@ fn take_up_with<R: Source, W: Outlet + Drop, D: LogFile + Drop, B: Before>(
     at: Option<Moment>,
     log: D,
     text: &LogText,
+    digits: &RunDigits,
     streams: Streams<R, W>,
     before: B,
 ) -> LoggedRun<R, W, D>
+    requires digits { digits.now ≡ digits_in shaped }
     requires at_most { IfSome at (λ present. present ≤ MAX_MOMENT) }
-    requires ready { IsReady (D.seen log) (D.may_leave log) (D.failed log) }
+    requires ready { IsReady (D.seen log) (D.may_leave log) (D.fault log) }
     requires read { IfSome (D.seen log) (λ file. text.now ≡ file) }
     requires within { length text.now ≤ MAX_INPUT }
     requires told { IfSome B.before (λ told. (D.seen log ≡ Some text.now) × IsToldOfOld shaped manner at text.now streams.output.taken told) }
-    ensures took_up { StepsWith D.seen D.may_leave D.failed B.before streams result.outcome result.streams result.log (TakesUp shaped manner at text.now) }
+    ensures took_up { StepsWith D.seen D.may_leave D.fault D.written B.before streams result.outcome result.streams result.driven result.log (TakesUp shaped manner at text.now) }
 {
     let mut log = log;
-    match take_up_log(alloc, shaped, &mut log, text, at) {
+    match take_up_log(alloc, shaped, &mut log, text, at, digits) {
         Ok(taken) => tell_and_go_on(alloc, taken, manner, log, streams, before),
         Err(fault) => LoggedRun {
             outcome: untaken_log_answer(alloc, fault),
             streams,
+            driven: false,
             log: Some(log),
         },
     }
 }
 
-/// Drives the cell of an accepted plan with the log of this path, which has no bytes: the one that was opened, or one that
-/// is made.
+/// Drives the cell of an accepted plan with the log of this path, which has no bytes, and gets the line of the plan: the one
+/// that was opened, or one that is made.
 fn drive_new<R: Source, W: Outlet + Drop, L: Logs, B: Before>(
     alloc: Global,
     verified: Verified,
+    digits: &RunDigits,
     manner: Manner,
     path: &str,
     opened: Option<L::Log>,
@@ -276,19 +297,21 @@ fn drive_new<R: Source, W: Outlet + Drop, L: Logs, B: Before>(
     logs: &mut L,
     before: B,
 ) -> LoggedRun<R, W, L::Log>
-    requires empty { IfSome opened (λ log. IsEmptyLog (L.Log.seen log) (L.Log.may_leave log) (L.Log.failed log) (L.folder logs.old)) }
+    requires digits { digits.now ≡ digits_in verified.planned }
+    requires empty { IfSome opened (λ log. IsEmptyLog (L.Log.seen log) (L.Log.may_leave log) (L.Log.fault log) (L.folder logs.old)) }
     requires shown { streams.output.pending ≡ [] }
-    requires told { IfSome B.before (IsToldOfNew (L.folder logs.old) streams.output.taken) }
-    ensures drove { StepsWith L.Log.seen L.Log.may_leave L.Log.failed B.before streams result.outcome result.streams result.log
-        (λ step. LacksLog (L.folder logs.old) (L.folder logs.new) path.now (is_some opened) step
+    requires told { IfSome B.before (IsToldOfNew (L.folder logs.old) verified.planned streams.output.taken) }
+    ensures drove { StepsWith L.Log.seen L.Log.may_leave L.Log.fault L.Log.written B.before streams result.outcome result.streams result.driven result.log
+        (λ step. LacksLog (L.folder logs.old) (L.folder logs.new) path.now verified.planned (is_some opened) step
         ⊎ BeginsRun (L.folder logs.old) (L.folder logs.new) path.now manner (is_some opened) verified step) }
 {
-    match new_log(logs, path, opened) {
+    match new_log(logs, path, opened, digits) {
         Ok(log) => drive_with(alloc, verified, manner, log, streams, before),
-        Err(fault) => LoggedRun {
-            outcome: Err(LogTold::from(fault).0),
+        Err(back) => LoggedRun {
+            outcome: Err(LogTold::from(back.fault).0),
             streams,
-            log: None,
+            driven: false,
+            log: back.log,
         },
     }
 }
@@ -298,6 +321,7 @@ fn drive_new<R: Source, W: Outlet + Drop, L: Logs, B: Before>(
 fn begin_by<R: Source, W: Outlet + Drop, L: Logs, B: Before>(
     alloc: Global,
     verdict: Verdict,
+    digits: &RunDigits,
     manner: Manner,
     path: &str,
     opened: Option<L::Log>,
@@ -305,21 +329,25 @@ fn begin_by<R: Source, W: Outlet + Drop, L: Logs, B: Before>(
     logs: &mut L,
     before: B,
 ) -> LoggedRun<R, W, L::Log>
-    requires empty { IfSome opened (λ log. IsEmptyLog (L.Log.seen log) (L.Log.may_leave log) (L.Log.failed log) (L.folder logs.old)) }
+    requires digits { digits.now ≡ digits_in (judged verdict) }
+    requires empty { IfSome opened (λ log. IsEmptyLog (L.Log.seen log) (L.Log.may_leave log) (L.Log.fault log) (L.folder logs.old)) }
     requires shown { streams.output.pending ≡ [] }
-    requires told { IfSome B.before (IsToldOfNew (L.folder logs.old) streams.output.taken) }
-    ensures began { StepsWith L.Log.seen L.Log.may_leave L.Log.failed B.before streams result.outcome result.streams result.log
+    requires told { IfSome B.before (IsToldOfNew (L.folder logs.old) (judged verdict) streams.output.taken) }
+    ensures began { StepsWith L.Log.seen L.Log.may_leave L.Log.fault L.Log.written B.before streams result.outcome result.streams result.driven result.log
         (BeginsBy (L.folder logs.old) (L.folder logs.new) path.now manner (is_some opened) verdict) }
 {
     match verdict {
         Verdict::Accepted(verified) => {
-            drive_new(alloc, verified, manner, path, opened, streams, logs, before)
+            drive_new(
+                alloc, verified, digits, manner, path, opened, streams, logs, before,
+            )
         }
         Verdict::Refused(shaped, why) => {
             let refused = Loaded::Judged(Verdict::Refused(shaped, why));
             LoggedRun {
                 outcome: line_answer(alloc, &refused),
                 streams,
+                driven: false,
                 log: opened,
             }
         }
@@ -330,6 +358,7 @@ fn begin_by<R: Source, W: Outlet + Drop, L: Logs, B: Before>(
 fn begin<R: Source, W: Outlet + Drop, L: Logs, B: Before>(
     alloc: Global,
     shaped: Shaped,
+    digits: &RunDigits,
     manner: Manner,
     path: &str,
     opened: Option<L::Log>,
@@ -337,27 +366,187 @@ fn begin<R: Source, W: Outlet + Drop, L: Logs, B: Before>(
     logs: &mut L,
     before: B,
 ) -> LoggedRun<R, W, L::Log>
-    requires empty { IfSome opened (λ log. IsEmptyLog (L.Log.seen log) (L.Log.may_leave log) (L.Log.failed log) (L.folder logs.old)) }
+    requires digits { digits.now ≡ digits_in shaped }
+    requires empty { IfSome opened (λ log. IsEmptyLog (L.Log.seen log) (L.Log.may_leave log) (L.Log.fault log) (L.folder logs.old)) }
     requires shown { streams.output.pending ≡ [] }
-    requires told { IfSome B.before (IsToldOfNew (L.folder logs.old) streams.output.taken) }
-    ensures began { StepsWith L.Log.seen L.Log.may_leave L.Log.failed B.before streams result.outcome result.streams result.log
+    requires told { IfSome B.before (IsToldOfNew (L.folder logs.old) shaped streams.output.taken) }
+    ensures began { StepsWith L.Log.seen L.Log.may_leave L.Log.fault L.Log.written B.before streams result.outcome result.streams result.driven result.log
         (Begins (L.folder logs.old) (L.folder logs.new) path.now manner shaped (is_some opened)) }
 {
     match verify(alloc, shaped) {
-        Ok(verdict) => begin_by(alloc, verdict, manner, path, opened, streams, logs, before),
+        Ok(verdict) => begin_by(
+            alloc, verdict, digits, manner, path, opened, streams, logs, before,
+        ),
         Err((error, _)) => LoggedRun {
             outcome: Err(CommandFault::from(error)),
             streams,
+            driven: false,
             log: opened,
         },
     }
 }
 
-/// Opens the log of this path, and drives the cell of a plan with it: from its start where there is none or it has no bytes,
-/// else from what the log tells.
+/// What was found by a path: the log and its bytes.
+type FoundLog<D> = Option<(D, LogText)>;
+
+/// What the whole lines of the log that was found tell of its run.
+fn run_found<D: LogFile + Drop>(found: &FoundLog<D>) -> LogRun
+    ensures { IsRunOf (lines_of (whole_lines (bytes_in (option_map (λ there. there.1) found.now)))) result }
+{
+    match found {
+        Some((_, text)) => text.run(),
+        None => LogRun::Unbegun,
+    }
+}
+
+/// The log that was found, without its bytes.
+fn log_found<D: LogFile + Drop>(found: FoundLog<D>) -> Option<D>
+    ensures { result ≡ option_map (λ there. there.0) found }
+{
+    match found {
+        Some((log, _)) => Some(log),
+        None => None,
+    }
+}
+
+/// Drives the cell of a plan with the log that was found by this path: from its start where there is none or it has no bytes,
+/// else from what the log tells. Why it isn't as the words ask is answered before.
+fn drive_found<R: Source, W: Outlet + Drop, L: Logs, B: Before>(
+    alloc: Global,
+    shaped: Shaped,
+    digits: &RunDigits,
+    start: LogStart,
+    manner: Manner,
+    at: Option<Moment>,
+    path: &str,
+    found: FoundLog<L::Log>,
+    streams: Streams<R, W>,
+    logs: &mut L,
+    before: B,
+) -> LoggedRun<R, W, L::Log>
+    requires digits { digits.now ≡ digits_in shaped }
+    requires at_most { IfSome at (λ present. present ≤ MAX_MOMENT) }
+    requires shown { streams.output.pending ≡ [] }
+    requires found { IfSome found (λ there. IsFoundLog (L.Log.seen there.0) (L.Log.may_leave there.0) (L.Log.fault there.0) (L.folder logs.old) there.1) }
+    requires told { IfSome B.before (IsToldOfFound (L.folder logs.old) shaped manner at (option_map (λ there. there.1) found) streams.output.taken) }
+    ensures drove { StepsWith L.Log.seen L.Log.may_leave L.Log.fault L.Log.written B.before streams result.outcome result.streams result.driven result.log
+        (DrivesFound (L.folder logs.old) (L.folder logs.new) path.now start manner at shaped (option_map (λ there. there.1) found)) }
+{
+    match misfit_of(start, run_found(&found), digits) {
+        Some(misfit) => LoggedRun {
+            outcome: misfit_answer(alloc, misfit),
+            streams,
+            driven: false,
+            log: log_found(found),
+        },
+        None => drive_fitting(
+            alloc, shaped, digits, manner, at, path, found, streams, logs, before,
+        ),
+    }
+}
+
+/// The same of one that is as the words ask.
+fn drive_fitting<R: Source, W: Outlet + Drop, L: Logs, B: Before>(
+    alloc: Global,
+    shaped: Shaped,
+    digits: &RunDigits,
+    manner: Manner,
+    at: Option<Moment>,
+    path: &str,
+    found: FoundLog<L::Log>,
+    streams: Streams<R, W>,
+    logs: &mut L,
+    before: B,
+) -> LoggedRun<R, W, L::Log>
+    requires digits { digits.now ≡ digits_in shaped }
+    requires at_most { IfSome at (λ present. present ≤ MAX_MOMENT) }
+    requires shown { streams.output.pending ≡ [] }
+    requires found { IfSome found (λ there. IsFoundLog (L.Log.seen there.0) (L.Log.may_leave there.0) (L.Log.fault there.0) (L.folder logs.old) there.1) }
+    requires told { IfSome B.before (IsToldOfFound (L.folder logs.old) shaped manner at (option_map (λ there. there.1) found) streams.output.taken) }
+    ensures drove { StepsWith L.Log.seen L.Log.may_leave L.Log.fault L.Log.written B.before streams result.outcome result.streams result.driven result.log
+        (DrivesFitting (L.folder logs.old) (L.folder logs.new) path.now manner at shaped (option_map (λ there. there.1) found)) }
+{
+    match found {
+        None => begin(
+            alloc, shaped, digits, manner, path, None, streams, logs, before,
+        ),
+        Some((log, text)) => drive_there(
+            alloc, shaped, digits, manner, at, path, log, text, streams, logs, before,
+        ),
+    }
+}
+
+/// The same of one that is there.
+fn drive_there<R: Source, W: Outlet + Drop, L: Logs, B: Before>(
+    alloc: Global,
+    shaped: Shaped,
+    digits: &RunDigits,
+    manner: Manner,
+    at: Option<Moment>,
+    path: &str,
+    log: L::Log,
+    text: LogText,
+    streams: Streams<R, W>,
+    logs: &mut L,
+    before: B,
+) -> LoggedRun<R, W, L::Log>
+    requires digits { digits.now ≡ digits_in shaped }
+    requires at_most { IfSome at (λ present. present ≤ MAX_MOMENT) }
+    requires shown { streams.output.pending ≡ [] }
+    requires found { IsFoundLog (L.Log.seen log) (L.Log.may_leave log) (L.Log.fault log) (L.folder logs.old) text }
+    requires told { IfSome B.before (IsToldOfFound (L.folder logs.old) shaped manner at (Some text) streams.output.taken) }
+    ensures drove { StepsWith L.Log.seen L.Log.may_leave L.Log.fault L.Log.written B.before streams result.outcome result.streams result.driven result.log
+        (DrivesFitting (L.folder logs.old) (L.folder logs.new) path.now manner at shaped (Some text)) }
+{
+    if text.is_empty() {
+        let opened = Some(log);
+        return begin(
+            alloc, shaped, digits, manner, path, opened, streams, logs, before,
+        );
+    }
+    take_up_with(
+        alloc, shaped, manner, at, log, &text, digits, streams, before,
+    )
+}
+
+/// Opens the log of this path, and drives the cell of a plan, which has these digits, with it.
+fn open_and_drive<R: Source, W: Outlet + Drop, L: Logs, B: Before>(
+    alloc: Global,
+    shaped: Shaped,
+    digits: &RunDigits,
+    start: LogStart,
+    manner: Manner,
+    at: Option<Moment>,
+    path: &str,
+    streams: Streams<R, W>,
+    logs: &mut L,
+    before: B,
+) -> LoggedRun<R, W, L::Log>
+    requires digits { digits.now ≡ digits_in shaped }
+    requires at_most { IfSome at (λ present. present ≤ MAX_MOMENT) }
+    requires shown { streams.output.pending ≡ [] }
+    requires told { IfSome B.before (IsToldOfPath (L.folder logs.old) path.now shaped manner at streams.output.taken) }
+    ensures drove { StepsWith L.Log.seen L.Log.may_leave L.Log.fault L.Log.written B.before streams result.outcome result.streams result.driven result.log
+        (OpensLog (L.folder logs.old) (L.folder logs.new) path.now start manner at shaped) }
+{
+    match open_log(alloc, logs, path) {
+        Ok(found) => drive_found(
+            alloc, shaped, digits, start, manner, at, path, found, streams, logs, before,
+        ),
+        Err(back) => LoggedRun {
+            outcome: Err(LogTold::from(back.fault).0),
+            streams,
+            driven: false,
+            log: back.log,
+        },
+    }
+}
+
+/// Opens the log of this path, and drives the cell of a plan with it, by the digits of the plan.
 fn drive_by_log<R: Source, W: Outlet + Drop, L: Logs, B: Before>(
     alloc: Global,
     shaped: Shaped,
+    start: LogStart,
     manner: Manner,
     at: Option<Moment>,
     path: &str,
@@ -368,30 +557,17 @@ fn drive_by_log<R: Source, W: Outlet + Drop, L: Logs, B: Before>(
     requires at_most { IfSome at (λ present. present ≤ MAX_MOMENT) }
     requires shown { streams.output.pending ≡ [] }
     requires told { IfSome B.before (IsToldOfPath (L.folder logs.old) path.now shaped manner at streams.output.taken) }
-    ensures drove { StepsWith L.Log.seen L.Log.may_leave L.Log.failed B.before streams result.outcome result.streams result.log
-        (DrivesByLog (L.folder logs.old) (L.folder logs.new) path.now manner at shaped) }
+    ensures drove { StepsWith L.Log.seen L.Log.may_leave L.Log.fault L.Log.written B.before streams result.outcome result.streams result.driven result.log
+        (DrivesByLog (L.folder logs.old) (L.folder logs.new) path.now start manner at shaped) }
 {
-    match open_log(alloc, logs, path) {
-        Ok(None) => begin(alloc, shaped, manner, path, None, streams, logs, before),
-        Ok(Some((log, text))) => {
-            if text.is_empty() {
-                begin(
-                    alloc,
-                    shaped,
-                    manner,
-                    path,
-                    Some(log),
-                    streams,
-                    logs,
-                    before,
-                )
-            } else {
-                take_up_with(alloc, shaped, manner, at, log, &text, streams, before)
-            }
-        }
-        Err(fault) => LoggedRun {
-            outcome: Err(LogTold::from(fault).0),
+    match run_digits(alloc, shaped.shop(), shaped.plan()) {
+        Ok(digits) => open_and_drive(
+            alloc, shaped, &digits, start, manner, at, path, streams, logs, before,
+        ),
+        Err(error) => LoggedRun {
+            outcome: Err(CommandFault::from(error)),
             streams,
+            driven: false,
             log: None,
         },
     }
@@ -403,6 +579,7 @@ pub(crate) fn logged_answer<T: Texts, R: Source, W: Outlet + Drop, L: Logs, B: B
     alloc: Global,
     texts: &mut T,
     pair: &Pair<'_>,
+    start: LogStart,
     manner: Manner,
     at: Option<Moment>,
     path: &str,
@@ -413,19 +590,23 @@ pub(crate) fn logged_answer<T: Texts, R: Source, W: Outlet + Drop, L: Logs, B: B
     requires at_most { IfSome at (λ present. present ≤ MAX_MOMENT) }
     requires shown { streams.output.pending ≡ [] }
     requires told { IfSome B.before (IsToldOfLog T.gives (L.folder logs.old) pair.now path.now manner at texts.old streams.output.taken) }
-    ensures runs { StepsWith L.Log.seen L.Log.may_leave L.Log.failed B.before streams result.outcome result.streams result.log
-        (λ step. RunsLoggedDrive T.gives (L.folder logs.old) (L.folder logs.new) path.now manner at pair.now texts.old step texts.new) }
+    ensures runs { StepsWith L.Log.seen L.Log.may_leave L.Log.fault L.Log.written B.before streams result.outcome result.streams result.driven result.log
+        (λ step. RunsLoggedDrive T.gives (L.folder logs.old) (L.folder logs.new) path.now start manner at pair.now texts.old step texts.new) }
 {
     match shape_files(alloc, texts, pair) {
-        Ok(Ok(shaped)) => drive_by_log(alloc, shaped, manner, at, path, streams, logs, before),
+        Ok(Ok(shaped)) => drive_by_log(
+            alloc, shaped, start, manner, at, path, streams, logs, before,
+        ),
         Ok(Err(fault)) => LoggedRun {
             outcome: line_answer(alloc, &Loaded::NotShaped(fault)),
             streams,
+            driven: false,
             log: None,
         },
         Err(fault) => LoggedRun {
             outcome: Err(fault),
             streams,
+            driven: false,
             log: None,
         },
     }

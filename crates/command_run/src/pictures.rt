@@ -4,37 +4,71 @@ ghost use Rattle.std.specs.Prelude.{◌≤◌, IfSome};
 ghost use Rattle.std.specs.Option.{option_copied};
 ghost use Rattle.shop_base.specs.declared.limits.TheConstants.{MAX_MOMENT};
 ghost use Rattle.command_run.specs.Streams.{output_of};
-ghost use Rattle.command_run.specs.Pictures.{Draws, DrawsTimetable, IsPictureOut, RunsDrawing, RunsTimetable};
+ghost use Rattle.command_run.specs.Pictures.{Draws, DrawsTimetable, IsPictureOut, RunsDrawing, RunsTimetable, TellsMoves};
 
 use crate::devices::Streams;
 use crate::tellings::telling_answer;
 use cell_drive::{Outlet, Source};
 use command_answers::{
     Answer, Answered, CommandFault, Drawn, Outcome, Pair, PlanTelling, Telling, Texts, log_answer,
-    log_picture, rest_picture, schedule_picture,
+    log_picture, moves_answer, rest_moves_answer, rest_picture, schedule_picture,
 };
 use run_picture::Picture;
 use shop_base::Moment;
 use std::alloc::Global;
 
-/// The schedule of a plan, or of the rest of the run in a log, in text or as a picture.
+/// In which form a schedule is told.
+#[derive(Clone, Copy, Debug)]
+pub(crate) enum Timetable {
+    /// When what begins and ends.
+    Moments,
+    /// The moves in their order.
+    Moves,
+    /// A picture.
+    Picture,
+}
+
+/// The schedule of a plan, or of the rest of the run in a log, in this form.
 pub(crate) fn timetable_answer<T: Texts, R: Source, W: Outlet>(
     alloc: Global,
     texts: &mut T,
     pair: &Pair<'_>,
+    names: Option<&str>,
     log: Option<&str>,
     at: Option<Moment>,
-    svg: bool,
+    form: Timetable,
     streams: &mut Streams<R, W>,
 ) -> Answered
     requires { IfSome at (λ present. present ≤ MAX_MOMENT) }
-    ensures { RunsTimetable T.gives svg at pair.now (option_copied log.entry) texts.old streams.old result texts.new streams.new }
+    ensures { RunsTimetable T.gives form at pair.now (option_copied names.entry) (option_copied log.entry) texts.old streams.old result texts.new streams.new }
 {
-    if svg {
-        let drawn = timetable_drawn(alloc, texts, pair, log, at);
-        drawn_answer(alloc, drawn, streams)
-    } else {
-        telling_answer(alloc, texts, pair, log, at, PlanTelling::Moments)
+    match form {
+        Timetable::Moments => {
+            telling_answer(alloc, texts, pair, names, log, at, PlanTelling::Moments)
+        }
+        Timetable::Moves => moves_told(alloc, texts, pair, names, log, at),
+        Timetable::Picture => {
+            let drawn = timetable_drawn(alloc, texts, pair, names, log, at);
+            drawn_answer(alloc, drawn, streams)
+        }
+    }
+}
+
+/// The moves of a plan, or those ahead in the run in a log.
+fn moves_told<T: Texts>(
+    alloc: Global,
+    texts: &mut T,
+    pair: &Pair<'_>,
+    names: Option<&str>,
+    log: Option<&str>,
+    at: Option<Moment>,
+) -> Answered
+    requires { IfSome at (λ present. present ≤ MAX_MOMENT) }
+    ensures { TellsMoves T.gives at pair.now (option_copied names.entry) (option_copied log.entry) texts.old result texts.new }
+{
+    match log {
+        Some(log) => rest_moves_answer(alloc, texts, pair, names, log, at),
+        None => moves_answer(alloc, texts, pair, names),
     }
 }
 
@@ -43,15 +77,16 @@ fn timetable_drawn<T: Texts>(
     alloc: Global,
     texts: &mut T,
     pair: &Pair<'_>,
+    names: Option<&str>,
     log: Option<&str>,
     at: Option<Moment>,
 ) -> Outcome<Drawn>
     requires { IfSome at (λ present. present ≤ MAX_MOMENT) }
-    ensures { DrawsTimetable T.gives at pair.now (option_copied log.entry) texts.old result texts.new }
+    ensures { DrawsTimetable T.gives at pair.now (option_copied names.entry) (option_copied log.entry) texts.old result texts.new }
 {
     match log {
-        Some(log) => rest_picture(alloc, texts, pair, log, at),
-        None => schedule_picture(alloc, texts, pair),
+        Some(log) => rest_picture(alloc, texts, pair, names, log, at),
+        None => schedule_picture(alloc, texts, pair, names),
     }
 }
 
@@ -60,17 +95,18 @@ pub(crate) fn drawing_answer<T: Texts, R: Source, W: Outlet>(
     alloc: Global,
     texts: &mut T,
     pair: &Pair<'_>,
+    names: Option<&str>,
     log: &str,
     svg: bool,
     streams: &mut Streams<R, W>,
 ) -> Answered
-    ensures { RunsDrawing T.gives svg pair.now log.now texts.old streams.old result texts.new streams.new }
+    ensures { RunsDrawing T.gives svg pair.now (option_copied names.entry) log.now texts.old streams.old result texts.new streams.new }
 {
     if svg {
-        let drawn = log_picture(alloc, texts, pair, log);
+        let drawn = log_picture(alloc, texts, pair, names, log);
         drawn_answer(alloc, drawn, streams)
     } else {
-        log_answer(alloc, texts, pair, log, Telling::Drawing)
+        log_answer(alloc, texts, pair, names, log, Telling::Drawing)
     }
 }
 

@@ -1,11 +1,11 @@
 //! The whole program.
 
-ghost use Rattle.std.specs.Prelude.{◌≡◌, ◌≤◌, [], map, None, Some, Err, IfSome};
+ghost use Rattle.std.specs.Prelude.{◌≡◌, ◌≤◌, ◌==◌, ◌&&◌, if◌then◌else◌, [], map, None, Some, Err, IfSome};
 ghost use Rattle.command_words.specs.Choice.{IsWithin};
 ghost use Rattle.command_run.specs.Logs.{WithLog};
 ghost use Rattle.command_run.specs.Streams.{errors_of};
 ghost use Rattle.command_run.specs.Ending.{EndsBy};
-ghost use Rattle.command_run.specs.Program.{Commands, Follows, IsToldOfChosen, IsToldOfWords, RunsProgram, draws_in, kept_log_in};
+ghost use Rattle.command_run.specs.Program.{Commands, Follows, IsToldOfChosen, IsToldOfWords, RunsProgram, draws_in, kept_log_in, starts_again};
 
 use crate::command::{command, kept_log, manner, pair};
 use crate::devices::{Devices, Screen, Streams};
@@ -13,15 +13,14 @@ use crate::ending::{end, end_aside, tell_line};
 use crate::logs::{LoggedRun, logged_answer};
 use crate::unchosen::Unchosen;
 use cell_drive::{Outlet, Source};
-use command_answers::{Answered, Texts};
+use command_answers::{Answered, CommandFault, Texts};
 use command_words::{Chosen, CommandName, WordsFault, read_words};
 use run_journal::{Before, Logs};
 use run_log::Sink;
 use std::alloc::Global;
 
 /// Runs the program on the words of a command line, the program's name first. It gives the status that it ends with, the
-/// devices, and the log that it opened or made, unless a call for that has failed. What is known of that log stands for a
-/// type.
+/// devices, and the log that it opened or made, if it did. What is known of that log stands for a type.
 pub fn run<T: Texts, R: Source, W: Outlet + Drop, E: Sink, S: Screen, L: Logs, B: Before>(
     alloc: Global,
     words: &[&str],
@@ -32,7 +31,7 @@ pub fn run<T: Texts, R: Source, W: Outlet + Drop, E: Sink, S: Screen, L: Logs, B
     requires told { IfSome B.before (IsToldOfWords T.gives (map (λ word. word.now) words.now) devices) }
 
     // What a crash leaves of the log has all that was shown. Where the status is 0 or 1, the log has it on the disk.
-    ensures runs { WithLog L.Log.seen L.Log.may_leave L.Log.failed B.before result.1.streams.output.taken (result.0 ≤ 1) result.2
+    ensures runs { WithLog L.Log.seen L.Log.may_leave L.Log.fault L.Log.written B.before result.1.streams.output.taken (result.0 ≤ 1) result.2
         (RunsProgram T.gives (map (λ word. word.now) words.now) devices result.0 result.1) }
 {
     let mut devices = devices;
@@ -55,7 +54,7 @@ fn follow<T: Texts, R: Source, W: Outlet + Drop, E: Sink, S: Screen, L: Logs, B:
     requires within { IsWithin chosen.now }
     requires shown { devices.streams.output.pending ≡ [] }
     requires told { IfSome B.before (IsToldOfChosen T.gives chosen.now devices) }
-    ensures runs { WithLog L.Log.seen L.Log.may_leave L.Log.failed B.before result.1.streams.output.taken (result.0 ≤ 1) result.2
+    ensures runs { WithLog L.Log.seen L.Log.may_leave L.Log.fault L.Log.written B.before result.1.streams.output.taken (result.0 ≤ 1) result.2
         (Commands T.gives chosen.now devices result.0 result.1) }
 {
     match kept_log(chosen) {
@@ -80,7 +79,7 @@ fn drive_logged<T: Texts, R: Source, W: Outlet + Drop, E: Sink, S, L: Logs, B: B
     requires kept { kept_log_in chosen.now ≡ Some path.now }
     requires shown { devices.streams.output.pending ≡ [] }
     requires told { IfSome B.before (IsToldOfChosen T.gives chosen.now devices) }
-    ensures runs { WithLog L.Log.seen L.Log.may_leave L.Log.failed B.before result.1.streams.output.taken (result.0 ≤ 1) result.2
+    ensures runs { WithLog L.Log.seen L.Log.may_leave L.Log.fault L.Log.written B.before result.1.streams.output.taken (result.0 ≤ 1) result.2
         (Commands T.gives chosen.now devices result.0 result.1) }
 {
     let Devices {
@@ -94,11 +93,23 @@ fn drive_logged<T: Texts, R: Source, W: Outlet + Drop, E: Sink, S, L: Logs, B: B
     let LoggedRun {
         outcome,
         mut streams,
+        driven,
         log,
     } = logged_answer(
-        alloc, &mut texts, &pair, manner, at, path, streams, &mut logs, before,
+        alloc,
+        &mut texts,
+        &pair,
+        chosen.start,
+        manner,
+        at,
+        path,
+        streams,
+        &mut logs,
+        before,
     );
-    let status = end(alloc, outcome, &mut streams, &mut errors);
+    let again = starts_again(&outcome, driven);
+    let own = end(alloc, outcome, &mut streams, &mut errors);
+    let status = status_with_log(own, again);
     let devices = Devices {
         texts,
         streams,
@@ -107,6 +118,26 @@ fn drive_logged<T: Texts, R: Source, W: Outlet + Drop, E: Sink, S, L: Logs, B: B
         logs,
     };
     (status, devices, log)
+}
+
+/// Whether it is right to start a driven cell with a log again, where it ends with a fault: if the output couldn't be written,
+/// another process has the log, or the input couldn't be read to its end.
+fn starts_again(outcome: &Answered, driven: bool) -> bool
+    ensures { result ≡ starts_again driven outcome.now }
+{
+    match outcome {
+        Ok(_) | Err(CommandFault::Write) | Err(CommandFault::LogInUse) => true,
+        Err(CommandFault::Read) | Err(CommandFault::InputTooLong) => driven,
+        Err(_) => false,
+    }
+}
+
+/// The status that a driven cell with a log ends with, in place of that of a fault: whatever runs it as a service tells by it
+/// whether to start it again.
+fn status_with_log(own: u8, again: bool) -> u8
+    ensures { result ≡ (if own == 5 && again then 6 else own) }
+{
+    if own == 5 && again { 6 } else { own }
 }
 
 /// Runs the command that was chosen, which keeps no log, and ends.

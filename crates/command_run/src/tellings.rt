@@ -16,16 +16,17 @@ pub(crate) fn telling_answer<T: Texts>(
     alloc: Global,
     texts: &mut T,
     pair: &Pair<'_>,
+    names: Option<&str>,
     log: Option<&str>,
     at: Option<Moment>,
     telling: PlanTelling,
 ) -> Answered
     requires { IfSome at (λ present. present ≤ MAX_MOMENT) }
-    ensures { RunsTelling T.gives telling at pair.now (option_copied log.entry) texts.old result texts.new }
+    ensures { RunsTelling T.gives telling at pair.now (option_copied names.entry) (option_copied log.entry) texts.old result texts.new }
 {
     match log {
-        Some(log) => rest_answer(alloc, texts, pair, log, at, telling),
-        None => of_plan(alloc, texts, pair, telling),
+        Some(log) => rest_answer(alloc, texts, pair, names, log, at, telling),
+        None => of_plan(alloc, texts, pair, names, telling),
     }
 }
 
@@ -34,13 +35,14 @@ fn of_plan<T: Texts>(
     alloc: Global,
     texts: &mut T,
     pair: &Pair<'_>,
+    names: Option<&str>,
     telling: PlanTelling,
 ) -> Answered
-    ensures { RunsOfPlan T.gives telling pair.now texts.old result texts.new }
+    ensures { RunsOfPlan T.gives telling pair.now (option_copied names.entry) texts.old result texts.new }
 {
     match telling {
         PlanTelling::Verdict => check_answer(alloc, texts, pair),
-        PlanTelling::Reasons => explain_answer(alloc, texts, pair),
-        PlanTelling::Moments => schedule_answer(alloc, texts, pair),
+        PlanTelling::Reasons(job) => explain_answer(alloc, texts, pair, names, job),
+        PlanTelling::Moments => schedule_answer(alloc, texts, pair, names),
     }
 }

@@ -1,5 +1,5 @@
 //! What the calls behind the commands answer, with ample memory, over a shelf of files. What whole commands write is shown
-//! on the built program, by `tests/golden` and `tests/command-lines`.
+//! on the built program, by `tests/commands/golden` and `tests/commands/command-lines`.
 
 use super::shelf::{PAIR, Shelf};
 use super::texts::{IN_TIME, TWO};
@@ -55,13 +55,19 @@ fn each_command_answers_over_a_shelf(rt: HostRuntime) {
     assert!(rt; tells(shape_answer(alloc, &mut shelf, &PAIR), b"shaped\n", 0));
     let checked = check_answer(alloc, &mut shelf, &PAIR);
     assert!(rt; tells(checked, b"accepted makespan 10 leaves 5 10\n", 0));
-    assert!(rt; tells(explain_answer(alloc, &mut shelf, &PAIR), EXPLAINED, 0));
+    assert!(rt;
+        tells(
+            explain_answer(alloc, &mut shelf, &PAIR, None, None),
+            EXPLAINED,
+            0
+        )
+    );
     let checked = check(alloc, TWO, None, IN_TIME);
     assert!(rt; tells(checked, b"accepted makespan 10 leaves 5 10\n", 0));
     assert!(rt; tells(explain(alloc, TWO, None, IN_TIME), EXPLAINED, 0));
-    let numbers = log_answer(alloc, &mut shelf, &PAIR, "log", Telling::Numbers);
+    let numbers = log_answer(alloc, &mut shelf, &PAIR, None, "log", Telling::Numbers);
     assert!(rt; tells(numbers, b"log kept reports 6 orders 6 last 9 complete\n", 0));
-    let drawing = log_answer(alloc, &mut shelf, &PAIR, "log", Telling::Drawing);
+    let drawing = log_answer(alloc, &mut shelf, &PAIR, None, "log", Telling::Drawing);
     assert!(rt; tells(drawing, DRAWN, 0));
 }
 

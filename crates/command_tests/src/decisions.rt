@@ -1,5 +1,5 @@
 //! What is decided of budgets, over a shelf of files and of a plan alone. Whole answers of other kinds are shown on the built
-//! program, by `tests/golden` and `tests/command-lines`.
+//! program, by `tests/commands/golden` and `tests/commands/command-lines`.
 
 use super::answers::tells;
 use super::shelf::{PAIR, Shelf};
@@ -71,6 +71,7 @@ fn budgets_are_decided_over_a_shelf(rt: HostRuntime) {
             alloc,
             &mut shelf,
             &PAIR,
+            None,
             aim,
             10,
             &mut LeastSlack::new(alloc),

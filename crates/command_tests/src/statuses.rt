@@ -5,6 +5,7 @@ use cell_drive::ResumeFault;
 use command_answers::{CommandFault, Loaded, load};
 use command_words::WordsFault;
 use orlib_read::OrFault;
+use people_names::NamesFault;
 use plan_seek::SeekFault;
 use plan_text::PlanFault;
 use plan_verifier::{Verdict, Why};
@@ -20,40 +21,47 @@ fn says(alloc: Global, fault: &impl Display, text: &str) -> Result<bool, AllocEr
 }
 
 /// Faults, their texts and their statuses.
-const FAULTS: &[(CommandFault, &str, u8)] = &[
-    (
-        CommandFault::Instance(OrFault::BadSizes { line: 5 }),
-        "Instance BadSizes line 5",
-        3,
-    ),
-    (
-        CommandFault::Instance(OrFault::Shop(ShopFault::NoJobs)),
-        "Instance Shop NoJobs",
-        3,
-    ),
-    (
-        CommandFault::Plan(PlanFault::UnknownKey),
-        "Plan UnknownKey",
-        3,
-    ),
-    (
-        CommandFault::Plan(PlanFault::NotReadBack),
-        "Plan NotReadBack",
-        3,
-    ),
-    (CommandFault::Memory, "Memory", 4),
-    (CommandFault::Read, "Read", 5),
-    (CommandFault::Write, "Write", 5),
-    (CommandFault::InputTooLong, "InputTooLong", 5),
-    (CommandFault::Log, "Log", 5),
-    (CommandFault::LogInUse, "LogInUse", 5),
-];
+fn faults() -> [(CommandFault, &'static str, u8); 11] {
+    [
+        (
+            CommandFault::Instance(OrFault::BadSizes { line: 5 }),
+            "Instance BadSizes line 5",
+            3,
+        ),
+        (
+            CommandFault::Instance(OrFault::Shop(ShopFault::NoJobs)),
+            "Instance Shop NoJobs",
+            3,
+        ),
+        (
+            CommandFault::Plan(PlanFault::UnknownKey),
+            "Plan UnknownKey",
+            3,
+        ),
+        (
+            CommandFault::Plan(PlanFault::NotReadBack),
+            "Plan NotReadBack",
+            3,
+        ),
+        (
+            CommandFault::Names(NamesFault::BadClock),
+            "Names BadClock",
+            3,
+        ),
+        (CommandFault::Memory, "Memory", 4),
+        (CommandFault::Read, "Read", 5),
+        (CommandFault::Write, "Write", 5),
+        (CommandFault::InputTooLong, "InputTooLong", 5),
+        (CommandFault::Log, "Log", 5),
+        (CommandFault::LogInUse, "LogInUse", 5),
+    ]
+}
 
 #[test]
 fn faults_have_a_text_and_a_status(rt: HostRuntime) -> Result<(), Fail> {
-    for (fault, text, status) in FAULTS {
+    for (fault, text, status) in faults() {
         assert!(rt;
-            says(rt.alloc(), fault, text)? && fault.status() == *status,
+            says(rt.alloc(), &fault, text)? && fault.status() == status,
             "{text}"
         );
     }

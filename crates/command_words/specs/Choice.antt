@@ -1,5 +1,5 @@
 -- What the words of a command line ask for, by the matches that `clap` finds in them.
-use Rattle.std.specs.Prelude.{◌≡◌, ◌≢◌, ◌≤◌, ◌++◌, ◌&&◌, ◌==◌, ℕ, nat_le, nat_lt, if◌then◌else◌, Bool, true, false, List, [], ◌∷◌, Option, Some, None, IfSome, String, bytes_eq, length, map, option_map, unwrap_or, pos, codes}
+use Rattle.std.specs.Prelude.{◌≡◌, ◌≢◌, ◌≤◌, ◌++◌, ◌&&◌, ◌==◌, ℕ, nat_le, nat_lt, if◌then◌else◌, Bool, true, false, List, [], ◌∷◌, Option, Some, None, IfSome, String, bytes_eq, length, map, option_map, unwrap_or, is_some, not, pos, codes}
 use Rattle.std.specs.List.{list_all}
 use Rattle.std.specs.Option.{option_map_or}
 use Rattle.std.specs.String.{string_bytes}
@@ -15,9 +15,11 @@ use Rattle.command_words.specs.Changes.{change_seen, changes_in, revision_misfit
 use Rattle.command_words.specs.CommandLine.{command_line, most_rounds, greatest_seed, most_choices, latest_moment}
 use Rattle.command_words.specs.declared.words.Chosen.{Chosen}
 use Rattle.command_words.specs.declared.words.CommandName.{CommandName}
-use Rattle.command_words.specs.declared.words.CommandName.TheVariants.{Input, Facts, Shape, Check, Explain, Schedule, Bounds, Plan, Improve, Decide, Revise, Drive, Resume, Hub, Audit, Gantt}
+use Rattle.command_words.specs.declared.words.CommandName.TheVariants.{Input, Facts, Shape, Check, Explain, Schedule, Bounds, Margin, Plan, Improve, Decide, Revise, Drive, Resume, Hub, Digest, Audit, Gantt}
 use Rattle.command_words.specs.declared.words.Lines.{Lines}
 use Rattle.command_words.specs.declared.words.Lines.TheVariants.{One, Two}
+use Rattle.command_words.specs.declared.words.log_start.LogStart.{LogStart}
+use Rattle.command_words.specs.declared.words.log_start.LogStart.TheVariants.{Any, New, Continue, HandOver}
 use Rattle.command_words.specs.declared.words.WordsFault.{WordsFault}
 use Rattle.command_words.specs.declared.words.WordsFault.TheVariants.{Usage, Memory}
 
@@ -30,6 +32,7 @@ word_of Check = Some (codes "check")
 word_of Explain = Some (codes "explain")
 word_of Schedule = Some (codes "schedule")
 word_of Bounds = Some (codes "bounds")
+word_of Margin = Some (codes "margin")
 word_of Plan = Some (codes "plan")
 word_of Improve = Some (codes "improve")
 word_of Decide = Some (codes "decide")
@@ -37,6 +40,7 @@ word_of Revise = Some (codes "revise")
 word_of Drive = Some (codes "drive")
 word_of Resume = Some (codes "resume")
 word_of Hub = Some (codes "hub")
+word_of Digest = Some (codes "digest")
 word_of Audit = Some (codes "audit")
 word_of Gantt = Some (codes "gantt")
 
@@ -49,6 +53,7 @@ TakesFiles Check n = n ≡ 2
 TakesFiles Explain n = n ≡ 2
 TakesFiles Schedule n = n ≡ 2
 TakesFiles Bounds n = n ≡ 2
+TakesFiles Margin n = n ≡ 2
 TakesFiles Plan n = n ≡ 2
 TakesFiles Improve n = n ≡ 2
 TakesFiles Decide n = n ≡ 2
@@ -56,6 +61,7 @@ TakesFiles Revise n = n ≡ 3
 TakesFiles Drive n = n ≡ 2
 TakesFiles Resume n = n ≡ 3
 TakesFiles Hub n = 2 ≤ n
+TakesFiles Digest n = n ≡ 2
 TakesFiles Audit n = n ≡ 3
 TakesFiles Gantt n = n ≡ 3
 
@@ -142,6 +148,20 @@ is_set name rows = option_map_or (λ text. bytes_eq text (codes "true")) (first_
 abbrev pub svg_in : List Row → Bool
 svg_in = is_set (codes "svg")
 
+-- whether the moves are asked for in place of the moments
+abbrev pub moves_in : List Row → Bool
+moves_in = is_set (codes "moves")
+
+-- the file of the names
+abbrev pub names_in : List Row → Option Text
+names_in rows = first_of (codes "names") rows
+
+-- how the log that is kept has to begin: handed over, or gone on with, or new, or in any way
+abbrev pub start_in : List Row → LogStart
+start_in rows = if is_set (codes "hand-over") rows then HandOver
+    else (if is_set (codes "continue") rows then Continue
+    else (if is_set (codes "new") rows then New else Any))
+
 -- whether the least makespan is asked for
 abbrev pub least_in : List Row → Bool
 least_in = is_set (codes "least")
@@ -150,7 +170,7 @@ least_in = is_set (codes "least")
 abbrev pub file_in : List Row → Bool
 file_in = is_set (codes "file")
 
--- the choice holds the command, the files, the instance's name, the rounds, the seed, the choices, the job, the log of whose rest is asked, the log that is kept, the moment, the version of the lines, the longest time, the changes and the switches that were found in these words
+-- the choice holds the command, the files, the instance's name, the rounds, the seed, the choices, the job, the log of whose rest is asked, the log that is kept, the moment, the version of the lines, the longest time, the file of the names, how the log has to begin, the changes and the switches that were found in these words
 pub record IsChoiceOf (words : List Text) (found : Found) (chosen : Chosen) : Type 0 where
   pub name : word_of chosen.name ≡ word_found found
   pub files : texts_of chosen.files.items ≡ files_in (rows_found found)
@@ -166,6 +186,9 @@ pub record IsChoiceOf (words : List Text) (found : Found) (chosen : Chosen) : Ty
   pub lines : chosen.lines ≡ lines_in (rows_found found)
   pub leap : chosen.leap ≡ leap_in (rows_found found)
   pub svg : chosen.svg ≡ svg_in (rows_found found)
+  pub moves : chosen.moves ≡ moves_in (rows_found found)
+  pub names : option_map string_bytes chosen.names ≡ names_in (rows_found found)
+  pub start : chosen.start ≡ start_in (rows_found found)
   pub changes : map change_seen chosen.changes.items ≡ changes_in words (rows_found found)
   pub file : chosen.file ≡ file_in (rows_found found)
 
@@ -220,9 +243,13 @@ has_both (Some text) set = set
 abbrev pub are_both : Text → Text → List Row → Bool
 are_both option switch rows = has_both (first_of option rows) (is_set switch rows)
 
--- these don't go together; where they aren't both there, its matches aren't taken for these reasons
-abbrev pub unless_both : Text → Text → List Row → Kinds → Kinds
-unless_both option switch rows reasons = if are_both option switch rows then ArgumentConflict ∷ [] else reasons
+-- so of two switches
+abbrev pub are_both_set : Text → Text → List Row → Bool
+are_both_set one other rows = is_set one rows && is_set other rows
+
+-- why its matches aren't taken: for this reason where that is so, else for these
+abbrev pub refused_if : Bool → ErrorKind → Kinds → Kinds
+refused_if is kind others = if is then kind ∷ [] else others
 
 -- why its matches aren't taken for the moment
 abbrev pub misfits_of : List Row → Kinds
@@ -234,14 +261,47 @@ job_misfit rows = number_misfit 9 0 999999999 (first_of (codes "job") rows)
 
 -- so of a decision: the least makespan and a job don't go together
 abbrev pub decision_misfit : List Row → Kinds
-decision_misfit rows = unless_both (codes "job") (codes "least") rows (job_misfit rows)
+decision_misfit rows = refused_if (are_both (codes "job") (codes "least") rows) ArgumentConflict (job_misfit rows)
+
+-- so of the moves: they aren't drawn
+abbrev pub moves_misfit : List Row → Kinds
+moves_misfit rows = refused_if (are_both_set (codes "svg") (codes "moves") rows) ArgumentConflict []
+
+-- the log has to have begun
+abbrev pub goes_on : LogStart → Bool
+goes_on Any = false
+goes_on New = false
+goes_on Continue = true
+goes_on HandOver = true
+
+-- the log is to be new and to have begun
+abbrev pub is_twofold : LogStart → List Row → Bool
+is_twofold start rows = is_set (codes "new") rows && goes_on start
+
+-- a beginning is asked for
+abbrev pub is_asked : LogStart → Bool
+is_asked Any = false
+is_asked New = true
+is_asked Continue = true
+is_asked HandOver = true
+
+-- a beginning is asked for, and there is no log
+abbrev pub lacks_log : LogStart → List Row → Bool
+lacks_log start rows = is_asked start && not (is_some (log_given rows))
+
+-- so of how the log has to begin: it isn't both new and begun, and there has to be one
+abbrev pub start_misfit : List Row → Kinds
+start_misfit rows = refused_if (is_twofold (start_in rows) rows) ArgumentConflict
+    (refused_if (lacks_log (start_in rows) rows) MissingRequiredArgument [])
 
 -- so of what was found in these words
 abbrev pub misfit_in : List Text → Found → Kinds
 misfit_in words found = or_else (misfits_of (rows_found found))
     (or_else (lines_misfit (rows_found found))
     (or_else (leap_misfit (rows_found found))
-    (or_else (decision_misfit (rows_found found)) (revision_misfit words (rows_found found)))))
+    (or_else (decision_misfit (rows_found found))
+    (or_else (moves_misfit (rows_found found))
+    (or_else (start_misfit (rows_found found)) (revision_misfit words (rows_found found)))))))
 
 -- why the words are refused, or nothing where they are taken: `clap`'s reasons, or else that what they ask for doesn't fit together
 abbrev pub reasons_in : List Text → Kinds

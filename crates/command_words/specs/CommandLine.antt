@@ -6,7 +6,7 @@ use Rattle.clap.specs.Simple.{new_shape, with_subcommand}
 use Rattle.clap.specs.declared.builder.command.Command.{Command}
 use Rattle.clap.specs.declared.builder.command.Command.TheViews.{out-Command}
 use Rattle.command_words.specs.declared.words.CommandName.{CommandName}
-use Rattle.command_words.specs.declared.words.CommandName.TheVariants.{Input, Facts, Shape as ShapeName, Check, Explain, Schedule, Bounds, Plan, Improve, Decide, Revise, Drive, Resume, Hub, Audit, Gantt}
+use Rattle.command_words.specs.declared.words.CommandName.TheVariants.{Input, Facts, Shape as ShapeName, Check, Explain, Schedule, Bounds, Margin, Plan, Improve, Decide, Revise, Drive, Resume, Hub, Digest, Audit, Gantt}
 use Rattle.clap.specs.declared.builder.value_parser.ValueParser.TheVariants.{Signed}
 use Rattle.clap.specs.declared.builder.action.ArgAction.TheVariants.{Append, SetTrue}
 
@@ -65,9 +65,13 @@ choices_rule = record (option_rule (codes "choices")) {
 abbrev pub switch_rule : Text → Rule
 switch_rule name = record (new_rule name) { long = Some name; action = Some SetTrue }
 
--- `--least` or `--job J`, and `--choices K`: what is asked besides the budgets, and how long is searched
+-- `--names NAMES`: the names of jobs and machines, and the clock
+abbrev pub names_rule : Rule
+names_rule = option_rule (codes "names")
+
+-- `--least` or `--job J`, `--choices K` and names: what is asked besides the budgets, and how long is searched
 abbrev pub decision_rules : List Rule
-decision_rules = switch_rule (codes "least") ∷ option_rule (codes "job") ∷ choices_rule ∷ []
+decision_rules = switch_rule (codes "least") ∷ option_rule (codes "job") ∷ choices_rule ∷ names_rule ∷ []
 
 -- a command with `--instance NAME` and the instance's file, and what it takes besides
 abbrev pub command : Text → List Rule → Shape
@@ -106,9 +110,14 @@ revising_rules = option_rule (codes "at") ∷ repeated_rule (codes "until") ∷ 
 abbrev pub driven_rules : List Rule
 driven_rules = option_rule (codes "lines") ∷ option_rule (codes "leap") ∷ []
 
--- `--log LOG` and `--at N`, and these: the log that a driven cell keeps, and the present moment of the run in it
+-- `--log LOG`, `--new`, `--continue` and `--hand-over`: the log that a driven cell keeps, and how it has to begin
+abbrev pub log_rules : List Rule
+log_rules = option_rule (codes "log") ∷ switch_rule (codes "new") ∷ switch_rule (codes "continue") ∷ switch_rule (codes "hand-over") ∷ []
+
+-- these, `--at N`, the present moment of the run in it, and those of driven cells
 abbrev pub kept_rules : List Rule
-kept_rules = option_rule (codes "log") ∷ option_rule (codes "at") ∷ driven_rules
+kept_rules = option_rule (codes "log") ∷ switch_rule (codes "new") ∷ switch_rule (codes "continue") ∷ switch_rule (codes "hand-over")
+    ∷ option_rule (codes "at") ∷ driven_rules
 
 -- the plans of several cells, and these options
 abbrev pub hub_rules : List Rule
@@ -128,9 +137,10 @@ described Input = bare_program
 described Facts = command (codes "facts") []
 described ShapeName = plan_command (codes "shape") []
 described Check = rest_command (codes "check") []
-described Explain = rest_command (codes "explain") []
-described Schedule = rest_command (codes "schedule") (switch_rule (codes "svg") ∷ [])
-described Bounds = plan_command (codes "bounds") []
+described Explain = rest_command (codes "explain") (option_rule (codes "job") ∷ names_rule ∷ [])
+described Schedule = rest_command (codes "schedule") (switch_rule (codes "svg") ∷ switch_rule (codes "moves") ∷ names_rule ∷ [])
+described Bounds = plan_command (codes "bounds") (names_rule ∷ [])
+described Margin = plan_command (codes "margin") (names_rule ∷ [])
 described Plan = plan_command (codes "plan") (rounds_rule ∷ [])
 described Improve = plan_command (codes "improve") (option_rule (codes "after") ∷ option_rule (codes "at") ∷ rounds_rule ∷ seed_rule ∷ [])
 described Decide = rest_command (codes "decide") decision_rules
@@ -138,8 +148,9 @@ described Revise = log_command (codes "revise") revising_rules
 described Drive = plan_command (codes "drive") kept_rules
 described Resume = log_command (codes "resume") (option_rule (codes "at") ∷ driven_rules)
 described Hub = command (codes "hub") hub_rules
+described Digest = plan_command (codes "digest") []
 described Audit = log_command (codes "audit") []
-described Gantt = log_command (codes "gantt") (switch_rule (codes "svg") ∷ [])
+described Gantt = log_command (codes "gantt") (switch_rule (codes "svg") ∷ names_rule ∷ [])
 
 -- a command line of one command alone
 abbrev pub leaf : Shape → App
@@ -152,8 +163,8 @@ program_with names = fold with_subcommand (leaf bare_program) (map described nam
 -- the whole command line, with the commands in the order in which help lists them
 abbrev pub command_line : App
 command_line = program_with
-    (Facts ∷ ShapeName ∷ Check ∷ Explain ∷ Schedule ∷ Bounds ∷ Plan ∷ Improve
-    ∷ Decide ∷ Revise ∷ Drive ∷ Resume ∷ Hub ∷ Audit ∷ Gantt ∷ [])
+    (Facts ∷ ShapeName ∷ Check ∷ Explain ∷ Schedule ∷ Bounds ∷ Margin ∷ Plan ∷ Improve
+    ∷ Decide ∷ Revise ∷ Drive ∷ Resume ∷ Hub ∷ Digest ∷ Audit ∷ Gantt ∷ [])
 
 -- the command that the code builds is the described one
 pub record Describes (a : App) (c : Command) : Type 0 where

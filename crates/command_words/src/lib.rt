@@ -3,4 +3,6 @@
 
 mod words;
 
-pub use words::{AskedChange, ChangeKind, Chosen, CommandName, Lines, WordsFault, read_words};
+pub use words::{
+    AskedChange, ChangeKind, Chosen, CommandName, Lines, LogStart, WordsFault, read_words,
+};

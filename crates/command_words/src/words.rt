@@ -7,15 +7,18 @@ ghost use Rattle.clap.specs.Words.{first_of, found_of, kind_of, one_of, rows_of,
 ghost use Rattle.command_words.specs.declared.words.CommandName.{CommandName};
 ghost use Rattle.command_words.specs.CommandLine.{most_rounds, greatest_seed, most_choices, latest_moment};
 ghost use Rattle.command_words.specs.Given.{is_moment, is_number, values_of};
-ghost use Rattle.command_words.specs.Choice.{FitsBetween, IsChoiceOf, IsFit, IsWithin, TellsOneOf, TellsReason, are_both, at_in, choices_in, decision_misfit, files_in, first_given, found_in, is_set, job_in, job_misfit, kept_in, leap_in, leap_misfit, lines_in, lines_misfit, log_given, misfit_in, misfit_of, misfits_of, number_misfit, reasons_in, rounds_in, seed_in, texts_of, version_of, word_of};
+ghost use Rattle.command_words.specs.Choice.{FitsBetween, IsChoiceOf, IsFit, IsWithin, TellsOneOf, TellsReason, are_both, at_in, choices_in, decision_misfit, are_both_set, files_in, first_given, found_in, is_set, job_in, job_misfit, kept_in, leap_in, leap_misfit, lines_in, lines_misfit, log_given, misfit_in, misfit_of, misfits_of, moves_in, moves_misfit, number_misfit, reasons_in, rounds_in, seed_in, texts_of, version_of, word_of};
 
 mod changes;
 mod command_line;
+mod log_start;
 
 use changes::changes_of;
 pub use changes::{AskedChange, ChangeKind};
 use clap::ArgMatches;
 use clap::error::ErrorKind;
+pub use log_start::LogStart;
+use log_start::start_of;
 use std::alloc::{AllocError, Global};
 use text_lines::number_of;
 use thiserror::Error;
@@ -51,6 +54,8 @@ pub enum CommandName {
     Schedule,
     /// What no plan can do, whatever its orders.
     Bounds,
+    /// How much longer everything may take.
+    Margin,
     /// The search of an accepted plan.
     Plan,
     /// The search of a better plan.
@@ -65,6 +70,8 @@ pub enum CommandName {
     Resume,
     /// Several cells, one for each plan.
     Hub,
+    /// By which digits a log names a plan and its shop.
+    Digest,
     /// Whether a log is the log of a run.
     Audit,
     /// A log as a chart.
@@ -95,7 +102,7 @@ pub struct Chosen {
     pub seed: u32,
     /// The choices of a complete search, 200,000 if none are given.
     pub choices: u32,
-    /// The job of whose leaving is asked, if one is given.
+    /// The job of whose leaving is asked or told, if one is given.
     pub job: Option<u32>,
     /// Whether the least makespan is asked for.
     pub least: bool,
@@ -111,6 +118,12 @@ pub struct Chosen {
     pub leap: Option<u64>,
     /// Whether a picture is drawn in place of the text.
     pub svg: bool,
+    /// Whether the moves are told in place of the moments.
+    pub moves: bool,
+    /// The file of the names of jobs and machines, and of the clock.
+    pub names: Option<String>,
+    /// How the log that a driven cell keeps has to begin.
+    pub start: LogStart,
     /// The changes of a plan in mid-run, in the order in which they are made.
     pub changes: Vec<AskedChange>,
     /// Whether the changed instance is printed in place of the changed plan.
@@ -171,10 +184,10 @@ impl From<Refusal> for WordsFault {
 /// Reads the command line, whose first word is the program's name. `WordsFault::Memory` may come in place of any other
 /// answer. The number of files is one that the command takes, the rounds are at most 1000, the seed at most 1,000,000,
 /// the choices from 1 to 1,000,000,000, and the moment, a number of 1 to 13 digits, at most 1,000,000,000,000. Exactly
-/// these are refused: what `clap` refuses, a moment that isn't one, or that comes without a log, a picture of the rest
-/// of a run, a version of the lines or a longest time that isn't one, a job that isn't a number of 1 to 9 digits, or that
-/// comes with the least makespan, a change that isn't one, and a release or a budget that goes with no job that is added,
-/// or with one that has it.
+/// these are refused: what `clap` refuses, a moment that isn't one, or that comes without a log, a version of the lines
+/// or a longest time that isn't one, a job that isn't a number of 1 to 9 digits, or that comes with the least makespan,
+/// moves that come with a picture, a beginning that comes without a log to keep, or of a log that is to be new and to have
+/// begun, a change that isn't one, and a release or a budget that goes with no job that is added, or with one that has it.
 pub fn read_words(alloc: Global, words: &[&str]) -> Result<Chosen, WordsFault>
     ensures chosen { let given = map (λ word. word.now) words.now in IfOk result (IsChoiceOf given (found_in given)) }
     ensures within { IfOk result IsWithin }
@@ -224,6 +237,9 @@ fn chosen_by(alloc: Global, words: &[&str], matches: &ArgMatches<'_>) -> Result<
             lines: None,
             leap: None,
             svg: false,
+            moves: false,
+            names: None,
+            start: LogStart::Any,
             changes: Vec::new(alloc),
             file: false,
         }),
@@ -258,6 +274,9 @@ fn chosen_of(
         job: job_of(alloc, matches)?,
         least: is_set(matches, "least"),
         svg: is_set(matches, "svg"),
+        moves: moves_of(alloc, matches)?,
+        names: text_of(alloc, matches, "names")?,
+        start: start_of(alloc, matches)?,
         changes: changes_of(alloc, words, matches)?,
         file: is_set(matches, "file"),
     })
@@ -275,6 +294,7 @@ fn name_of(word: &str) -> CommandName
         "explain" => CommandName::Explain,
         "schedule" => CommandName::Schedule,
         "bounds" => CommandName::Bounds,
+        "margin" => CommandName::Margin,
         "plan" => CommandName::Plan,
         "improve" => CommandName::Improve,
         "decide" => CommandName::Decide,
@@ -282,6 +302,7 @@ fn name_of(word: &str) -> CommandName
         "drive" => CommandName::Drive,
         "resume" => CommandName::Resume,
         "hub" => CommandName::Hub,
+        "digest" => CommandName::Digest,
         "audit" => CommandName::Audit,
         _ => CommandName::Gantt,
     }
@@ -377,6 +398,13 @@ fn are_both(matches: &ArgMatches<'_>, option: &str, switch: &str) -> bool
         Some(_) => is_set(matches, switch),
         None => false,
     }
+}
+
+/// Whether two switches are set.
+fn are_both_set(matches: &ArgMatches<'_>, one: &str, other: &str) -> bool
+    ensures { result ≡ are_both_set one.now other.now (rows_of (found_of matches.now)) }
+{
+    is_set(matches, one) && is_set(matches, other)
 }
 
 /// Whether there is a log: that of whose rest is asked, the file of one, or that which a driven cell keeps.
@@ -515,7 +543,7 @@ fn job_of(alloc: Global, matches: &ArgMatches<'_>) -> Result<Option<u32>, WordsF
     ensures refused { IfErr result (TellsOneOf (decision_misfit (rows_of (found_of matches.now)))) }
 {
     if are_both(matches, "job", "least") {
-        return Err(no_two_aims(alloc));
+        return Err(no_both(alloc, "--least", "--job <J>"));
     }
     job_given(alloc, matches)
 }
@@ -539,11 +567,23 @@ fn job_given(alloc: Global, matches: &ArgMatches<'_>) -> Result<Option<u32>, Wor
     }
 }
 
-/// The fault of two aims of one decision.
-fn no_two_aims(alloc: Global) -> WordsFault
+/// Whether the moves are told in place of the moments. They aren't drawn.
+fn moves_of(alloc: Global, matches: &ArgMatches<'_>) -> Result<bool, WordsFault>
+    ensures exact { IfOk result (λ moves. moves ≡ moves_in (rows_of (found_of matches.now))) }
+    ensures fits { IfOk result (λ _. moves_misfit (rows_of (found_of matches.now)) ≡ []) }
+    ensures refused { IfErr result (TellsOneOf (moves_misfit (rows_of (found_of matches.now)))) }
+{
+    if are_both_set(matches, "svg", "moves") {
+        return Err(no_both(alloc, "--svg", "--moves"));
+    }
+    Ok(is_set(matches, "moves"))
+}
+
+/// The fault of two arguments that don't go together.
+fn no_both(alloc: Global, one: &str, other: &str) -> WordsFault
     ensures { TellsReason ErrorKind.ArgumentConflict result }
 {
-    let parts = ["the argument '--least' cannot be used with '--job <J>'"];
+    let parts = ["the argument '", one, "' cannot be used with '", other, "'"];
     misfit(alloc, ErrorKind::ArgumentConflict, parts.as_slice())
 }
 

@@ -8,7 +8,6 @@ use Rattle.shop_base.specs.Ahead.{GoesOnTo}
 use Rattle.shop_base.proofs.Keeping.{run-sound}
 use Rattle.shop_base.proofs.ControlledRuns.{events_join, after_all_join}
 use Rattle.shop_base.proofs.GoingOn.{goes_on_to_run}
-use Rattle.cell_control.specs.Kept.{KeepsSoFar}
 use Rattle.cell_control.specs.Carried.{IsCarried}
 use Rattle.control_laws.specs.HandOverLaw.{AHandedOverRunIsOneRun}
 use Rattle.control_laws.proofs.KeptRuns.{a_kept_run_is_one_of_the_other_plan}
@@ -39,9 +38,8 @@ carried_alone p c q a b one two = same_cell a b
 
 pub a_handed_over_run_is_one_run : AHandedOverRunIsOneRun
 a_handed_over_run_is_one_run p q es later t rs old new end shaped_p shaped run planned cell handed calls =
-    let kept : KeepsSoFar p (ends_in p es) q = subst (λ (c : Cell). KeepsSoFar p c q) cell (subst (λ (o : PlannedShop). KeepsSoFar o old.cell q) planned handed.kept) in
-    let carried : IsCarried p (ends_in p es) q handed.carried =
-    subst (λ (c : Cell). IsCarried p c q handed.carried) cell (subst (λ (o : PlannedShop). IsCarried o old.cell q handed.carried) planned handed.is_carried) in
+    let kept = rw (planned, cell) at handed.kept in
+    let carried = rw (planned, cell) at handed.is_carried in
     let (before, there) = a_kept_run_is_one_of_the_other_plan p q es shaped_p shaped run kept in
     let same : handed.carried ≡ ends_in q es = carried_alone p (ends_in p es) q handed.carried (ends_in q es) carried there in
     let on = subst (λ (c : Cell). GoesOnTo q c t rs _ end.cell) same (calls_go_on q handed.carried t new rs later end handed.begun calls).goes_on in

@@ -5,6 +5,7 @@ use Rattle.std.specs.Io.KnownBytes.{Appends}
 use Rattle.std.proofs.lemmas.Bool.{false≢true}
 use Rattle.std.proofs.lemmas.List.{append_cancel_left}
 use Rattle.shop_base.specs.Plan.{PlannedShop}
+use Rattle.shop_base.specs.Cell.{Cell}
 use Rattle.shop_base.specs.Run.{IsRun}
 use Rattle.shop_base.specs.Ends.{HasEnded, moves_in, reports_in}
 use Rattle.text_lines.specs.Lines.{lines_of}
@@ -17,14 +18,13 @@ use Rattle.run_log.specs.Log.{Noted}
 use Rattle.event_lines.specs.LogLines.{LinesTell}
 use Rattle.run_log.specs.Audits.{IsAudit, TellRun}
 use Rattle.event_lines.proofs.Readings.{one_reading}
-use Rattle.plan_verifier.specs.Accepted.{VerifiedPlan}
 use Rattle.byte_streams.specs.Lent.{Streams}
-use Rattle.cell_drive.specs.declared.one_run.DriveEnd.{DriveEnd}
-use Rattle.cell_drive.specs.OneRun.{cell_after, IsSoFar, IsEndOf}
-use Rattle.cell_drive.specs.OneCell.{DriveState, seen}
-use Rattle.cell_drive.proofs.OneRun.{driven_text}
-use Rattle.cell_drive.specs.AuditLaw.{IsLogOf, IsFoundAgain, AnAuditKeepsWhatWasDriven}
-use Rattle.cell_drive.proofs.ReadBack.{an_answer_text_is_a_log}
+use Rattle.cell_drive.specs.OneRun.{cell_after, IsSoFar}
+use Rattle.cell_drive.specs.Session.{seen}
+use Rattle.cell_drive.specs.AuditLaw.{IsLogOf, IsFoundAgain}
+use Rattle.cell_drive.specs.StatedLaw.{AnAuditKeepsWhatWasDriven}
+use Rattle.cell_drive.proofs.Sessions.{driven_text}
+use Rattle.cell_drive.proofs.StatedTold.{an_answer_text_is_a_log}
 
 same_answer : {A : Type 0} (x y : Bool) → ((x ≡ true) ↔ A) → (IsTrue y ↔ A) → x ≡ y
 same_answer true true one other = refl
@@ -61,21 +61,22 @@ pub appended : (before after : Option (List ℕ)) (start text out : List ℕ) �
 appended before after start text out from to wrote = subst (λ o. Appends o (Some (start ++ text)) out) from (subst (λ o. Appends before o out) to wrote)
 
 -- what was written is a log of the cell that came to this
-pub found_of : (v : VerifiedPlan) (s : DriveState) (end : DriveEnd) (before after : Streams) (start text whole : List ℕ) (outcome : Result Audit AuditFault)
-    → Appends before.output.taken after.output.taken whole → IsLogOf v.planned whole (seen s) → IsEndOf v s end → before.output.taken ≡ Some start → after.output.taken ≡ Some (start ++ text)
-    → IfOk outcome (IsAudit v.planned (lines_of text)) → (TellRun v.planned (lines_of text) → IfErr outcome (λ fault. fault ≡ Memory))
-    → MatchResult outcome (IsFoundAgain v.planned end.log.entries end.done end.last end.left) (λ fault. fault ≡ Memory)
-found_of v s end before after start text whole outcome written log came_to from to kept only =
+pub found_of : (p : PlannedShop) (entries noted : List Entry) (cell : Cell) (done : Bool) (last left : ℕ) (before after : Streams) (start text whole : List ℕ) (outcome : Result Audit AuditFault)
+    → Appends before.output.taken after.output.taken whole → IsLogOf p whole (record { cell = cell; entries = noted }) → noted ≡ entries → IsSoFar p entries done last left
+    → before.output.taken ≡ Some start → after.output.taken ≡ Some (start ++ text)
+    → IfOk outcome (IsAudit p (lines_of text)) → (TellRun p (lines_of text) → IfErr outcome (λ fault. fault ≡ Memory))
+    → MatchResult outcome (IsFoundAgain p entries done last left) (λ fault. fault ≡ Memory)
+found_of p entries noted cell done last left before after start text whole outcome written log same_entries so_far from to kept only =
     let same : whole ≡ text = append_cancel_left start whole text (sym (appended before.output.taken after.output.taken start text whole from to written)) in
-    let is_log : IsLogOf v.planned text (seen s) = subst (λ (t : List ℕ). IsLogOf v.planned t (seen s)) same log in
-    let entries : s.log.entries ≡ end.log.entries = ap (λ (l : Noted). l.entries) (sym came_to.log) in
-    let tells : LinesTell v.planned (lines_of text) end.log.entries = subst (LinesTell v.planned (lines_of text)) entries is_log.tells in
-    let run : IsRun v.planned (events_of end.log.entries) = subst (λ (es : List Entry). IsRun v.planned (events_of es)) entries is_log.run in
-    found_where v.planned end.log.entries end.done end.last end.left text outcome tells came_to.so_far kept (only (end.log.entries, tells, run))
+    let is_log : IsLogOf p text (record { cell = cell; entries = noted }) = subst (λ (t : List ℕ). IsLogOf p t (record { cell = cell; entries = noted })) same log in
+    let tells : LinesTell p (lines_of text) entries = subst (LinesTell p (lines_of text)) same_entries is_log.tells in
+    let run : IsRun p (events_of entries) = subst (λ (es : List Entry). IsRun p (events_of es)) same_entries is_log.run in
+    found_where p entries done last left text outcome tells so_far kept (only (entries, tells, run))
 
 pub an_audit_keeps_what_was_driven : AnAuditKeepsWhatWasDriven
-an_audit_keeps_what_was_driven v end before after start text outcome shaped is from to kept only =
+an_audit_keeps_what_was_driven v manner end before after start text outcome shaped is from to kept only =
     let all = is.streamed.comes_to in
-    found_of v is.end end before after start text (all.text ++ all.closing) outcome all.written
-    (an_answer_text_is_a_log v.planned is.streamed.input (all.text ++ all.closing) (seen is.end) shaped (driven_text v end before after is))
-    is.came_to from to kept only
+    let came_to = is.came_to in
+    found_of v.planned end.log.entries is.end.log.entries is.end.control.cell end.done end.last end.left before after start text (all.text ++ all.closing) outcome all.written
+    (an_answer_text_is_a_log v.planned manner is.streamed.input (all.text ++ all.closing) (seen is.end) shaped (driven_text v manner end before after is))
+    (ap (λ (l : Noted). l.entries) (sym came_to.log)) came_to.so_far from to kept only

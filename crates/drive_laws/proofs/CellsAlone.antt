@@ -5,9 +5,11 @@ use Rattle.std.specs.Prelude.{slice_get, IsTrue}
 use Rattle.shop_base.specs.declared.report.Report.{Report}
 use Rattle.shop_base.specs.Cell.{Cell}
 use Rattle.shop_base.specs.Report.{at}
+use Rattle.shop_base.specs.Plan.{PlannedShop}
 use Rattle.shop_base.specs.Run.{Event, Reported}
 use Rattle.shop_base.specs.Controlled.{moved, step_orders}
 use Rattle.shop_base.specs.ReportsLeft.{reports_left}
+use Rattle.shop_base.proofs.ControlledRuns.{after_step-sound}
 use Rattle.shop_base.proofs.ReportsLeft.{start-reports_left, after_step-reports_left}
 use Rattle.shop_base.proofs.StatedNumber.{ends_on_the_stated_number-holds}
 use Rattle.plan_verifier.specs.Accepted.{VerifiedPlan, IsVerified}
@@ -20,13 +22,12 @@ use Rattle.cell_control.proofs.Reasons.{reason-cannot}
 use Rattle.byte_streams.specs.Answering.{AnswerAll}
 use Rattle.event_lines.specs.SentLines.{IsCellReport, cell_prefix}
 use Rattle.cell_drive.specs.LineAnswers.{ReportAnswer}
-use Rattle.cell_drive.specs.ManyCells.{PlannedCell, hub_start, cell_start, OnCell, IsOnCell, IsAnsweredIn, CellsReport, CellsAnswer}
-use Rattle.cell_drive.specs.CellsTextLaw.{AreVerified}
+use Rattle.cell_drive.specs.ManyCells.{PlannedCell, AreVerified, hub_start, cell_start, OnCell, IsOnCell, IsAnsweredIn, CellsReport, CellsAnswer}
 use Rattle.drive_laws.specs.CellsAlone.{IsNotOn, HaveReports, none_left, on_it, passed_over, EachCellIsAsAlone}
-use Rattle.cell_drive.specs.Tickets.{planned_cell, IsInRun, AreInRun}
+use Rattle.cell_drive.specs.Numbers.{planned_cell, IsInRun, AreInRun}
 use Rattle.event_lines.proofs.Readings.{one_cell_report}
-use Rattle.cell_drive.proofs.ManyCells.{start_in_run, one_in_run}
-use Rattle.cell_drive.proofs.OneText.{lines_keep}
+use Rattle.cell_drive.proofs.ManyCells.{start_in_run, one_in_run, set_in_run}
+use Rattle.cell_drive.proofs.OneText.{IsOnCourse, on_course}
 use Rattle.cell_drive.proofs.PromisesKept.{stays_as_promised}
 
 -- ---- lines that are no report on a cell
@@ -45,6 +46,28 @@ other_not_on : (k : ℕ) (line : List ℕ) (on : OnCell) → IsOnCell line on �
 other_not_on k line on is_line differ words other same is =
     let e : words ≡ line = cc in
     differ (sym (one_cell_report line on.cell k on.report other is_line (subst (λ (w : List ℕ). IsCellReport w k other) e is)).0)
+
+-- ---- each stays as it can be in a run
+
+stays : (p : PlannedShop) (prefix : List ℕ) (c : Cell) (number : ℕ) (report : Report) → IsOnCourse p c → (text : List ℕ) (events : List Entry) (next : Cell) → ReportAnswer p prefix c number report text events next → IsOnCourse p next
+stays p prefix c number report on text events next (inl is) = subst (IsOnCourse p) (sym is.next_is) on
+stays p prefix c number report on text events next (inr is) =
+    subst (IsOnCourse p) (sym is.next_is) (record { shaped = on.shaped; sound = after_step-sound p c report is.movers on.shaped on.sound is.step; rest = is.step.rest })
+
+keeps_in : (o : Option PlannedCell) (cells : List PlannedCell) (number : ℕ) (on : OnCell) (text : List ℕ) (end : List PlannedCell) → AreInRun cells → ((c : PlannedCell) → o ≡ Some c → IsInRun c)
+    → IsAnsweredIn o cells number on text end → AreInRun end
+keeps_in None cells number on text end all in_run is = subst AreInRun (sym is.end_is) all
+keeps_in (Some c) cells number on text end all in_run is =
+    let kept = in_run c refl in
+    let next = stays c.plan.planned _ c.cell number on.report (on_course c kept) text is.events is.next is.answer in
+    subst AreInRun (sym is.end_is) (set_in_run cells on.cell (record { plan = c.plan; cell = is.next }) all (record { verified = kept.verified; sound = next.sound; rest = next.rest }))
+
+lines_keep : (cells : List PlannedCell) (number : ℕ) (line : Option (List ℕ)) (text : List ℕ) (end : List PlannedCell) → AreInRun cells → CellsAnswer cells number line text end → AreInRun end
+lines_keep cells number None text end all is = subst AreInRun (sym is.end_is) all
+lines_keep cells number (Some []) text end all is = subst AreInRun (sym is.end_is) all
+lines_keep cells number (Some (b ∷ line)) text end all (inl is) = subst AreInRun (sym is.1.end_is) all
+lines_keep cells number (Some (b ∷ line)) text end all (inr is) =
+    keeps_in (slice_get cells is.what.cell) cells number is.what text end all (λ c found. one_in_run cells is.what.cell c all found) is.answer
 
 -- ---- the cell of a number
 

@@ -1,5 +1,5 @@
 -- A run that is taken up by its own plan goes on as one run.
-use Rattle.std.proofs.Common.{◌≡◌, ℕ, List, ◌++◌, map, length, None, inl, inr, refl, sym, ap, ap₂, ◌∙◌, subst, arith, append_assoc}
+use Rattle.std.proofs.Common.{◌≡◌, ℕ, List, ◌++◌, map, length, None, refl, sym, ap, ap₂, ◌∙◌, subst, arith, append_assoc}
 use Rattle.shop_base.specs.declared.move_order.MoveOrder.{MoveOrder}
 use Rattle.shop_base.specs.declared.report.Report.{Report}
 use Rattle.shop_base.specs.Plan.{PlannedShop, IsWellShaped}
@@ -19,16 +19,14 @@ use Rattle.cell_drive.specs.CutLogs.{reported}
 use Rattle.cell_drive.specs.OneRun.{cell_after, IsRunOf}
 use Rattle.cell_drive.specs.TakenUp.{plan_of, told_in, cell_told, TakenUp}
 use Rattle.cell_drive.specs.Resuming.{driven_so_far}
-use Rattle.cell_drive.proofs.CutLogs.{AreLed, answers_lead, leads_join, run_of_leads}
+use Rattle.cell_drive.proofs.CutLogs.{AreLed, leads_join, run_of_leads, stated_answers_lead}
 use Rattle.cell_drive.proofs.CutRuns.{cut_of_run}
 use Rattle.cell_drive.proofs.OwnRuns.{own_run, run_of_own, due_events}
 use Rattle.cell_drive.proofs.Parts.{entries_moved}
 use Rattle.cell_drive.proofs.PromisesKept.{stays_as_promised}
-use Rattle.drive_laws.specs.AsOneLaw.{IsTakenUpByItsPlan, ItIsTakenUpAsOne, ItIsOneSoFar, ADrivenRunGoesOnAsOne, ItStaysAsPromised, TheFirstEventsHaveTheirOrders, WhatWasResumedHasItsOrders, WhatWasStatedOnHasItsOrders}
-use Rattle.drive_laws.proofs.ResumedTexts.{taken_to_rest, what_was_resumed_is_taken_up}
+use Rattle.drive_laws.specs.AsOneLaw.{IsTakenUpByItsPlan, ItIsTakenUpAsOne, ItIsOneSoFar, ADrivenRunGoesOnAsOne, ItStaysAsPromised, TheFirstEventsHaveTheirOrders, WhatWasResumedHasItsOrders}
+use Rattle.drive_laws.proofs.Resumes.{taken_to_rest, what_was_resumed_is_taken_up}
 use Rattle.drive_laws.proofs.SettledCuts.{cut_settles, it_is_taken_up_with_its_orders}
-use Rattle.drive_laws.proofs.StatedLeads.{stated_answers_lead}
-use Rattle.drive_laws.proofs.StatedResumes.{what_was_stated_on_is_taken_up}
 
 -- events to which a controlled run leads on, behind its own
 run_behind : (p : PlannedShop) (entries more : List Entry) (reports : List Report) (end : Cell) → IsWellShaped p → IsRunOf p entries → Leads p (cell_after p entries) reports (events_of more) end → IsRunOf p (entries ++ more)
@@ -41,8 +39,7 @@ run_so_far : (p : PlannedShop) (entries : List Entry) (end : DrivenCell) → IsW
 run_so_far p entries end shaped run led = subst (IsRunOf p) (sym led.entries) (run_behind p entries led.more led.reports end.cell shaped run led.leads)
 
 pub it_is_one_so_far : ItIsOneSoFar
-it_is_one_so_far p manner entries number lines text end shaped run (inl all) = run_so_far p entries end shaped run (answers_lead p lines (driven_so_far p entries) end number text all)
-it_is_one_so_far p manner entries number lines text end shaped run (inr all) = run_so_far p entries end shaped run (stated_answers_lead p manner lines (driven_so_far p entries) end number text all)
+it_is_one_so_far p manner entries number lines text end shaped run all = run_so_far p entries end shaped run (stated_answers_lead p manner lines (driven_so_far p entries) end number text all)
 
 -- ---- taken up
 
@@ -50,7 +47,7 @@ module _ (p : PlannedShop) (taken : TakenUp) (is : IsTakenUpByItsPlan p taken) w
   shaped_there : IsWellShaped p
   shaped_there = (taken_to_rest p is.lines None taken is.up).0
 
-  entries_there : taken.driven.log.entries ≡ is.told ++ map OrderEntry is.due
+  entries_there : taken.log.entries ≡ is.told ++ map OrderEntry is.due
   entries_there =
       let with_orders = it_is_taken_up_with_its_orders p is.lines is.told is.due taken shaped_there is.log is.up in
       is.up.taken_from.run.due ∙ ap₂ (λ (es : List Entry) (os : List MoveOrder). es ++ map OrderEntry os) with_orders.0 with_orders.1
@@ -93,7 +90,7 @@ it_is_taken_up_as_one p taken is = subst (IsRunOf p) (sym (entries_there p taken
 pub a_driven_run_goes_on_as_one : ADrivenRunGoesOnAsOne
 a_driven_run_goes_on_as_one p taken end is on =
     let from = is.up.taken_from in
-    let began = taken.driven.control.began in
+    let began = taken.control.began in
     let last : Cell = cell_after (plan_of taken) end.log.entries in
     let same : is.up.told ≡ is.told = one_reading p is.lines is.up.told is.told is.up.tells is.log.tells in
     let told : told_in taken ≡ is.told = from.told_is ∙ same in
@@ -133,17 +130,9 @@ the_first_events_have_their_orders p log entries shaped run from =
     }
 
 pub what_was_resumed_has_its_orders : WhatWasResumedHasItsOrders
-what_was_resumed_has_its_orders p taken lines answers closing cut lost end is are closes whole =
-    let entries = taken.driven.log.entries in
-    let (shaped, run) = taken_to_rest p is.lines None taken is.up in
-    the_first_events_have_their_orders p cut end.entries shaped
-    (run_so_far p entries end shaped (it_is_taken_up_as_one p taken is) (answers_lead p lines (driven_so_far p entries) end 1 answers are))
-    (what_was_resumed_is_taken_up p entries taken.late lines answers closing cut lost end shaped run is.up.taken_from.run.within are closes whole)
-
-pub what_was_stated_on_has_its_orders : WhatWasStatedOnHasItsOrders
-what_was_stated_on_has_its_orders p manner taken lines answers closing cut lost end is are closes whole =
-    let entries = taken.driven.log.entries in
+what_was_resumed_has_its_orders p manner taken lines answers closing cut lost end is are closes whole =
+    let entries = taken.log.entries in
     let (shaped, run) = taken_to_rest p is.lines None taken is.up in
     the_first_events_have_their_orders p cut end.entries shaped
     (run_so_far p entries end shaped (it_is_taken_up_as_one p taken is) (stated_answers_lead p manner lines (driven_so_far p entries) end 1 answers are))
-    (what_was_stated_on_is_taken_up p manner entries taken.late lines answers closing cut lost end shaped run is.up.taken_from.run.within are closes whole)
+    (what_was_resumed_is_taken_up p manner entries taken.late lines answers closing cut lost end shaped run is.up.taken_from.run.within are closes whole)

@@ -19,10 +19,8 @@ use Rattle.cell_drive.specs.OneRun.{cell_after}
 use Rattle.cell_drive.specs.LateEvents.{IsLateEvent, AreLate}
 use Rattle.cell_drive.specs.TakenUp.{TakenUp, IsTakenFrom, IsTakenUp, told_in}
 use Rattle.cell_drive.specs.Resuming.{IsResumedText, IsRunToRest}
-use Rattle.drive_laws.specs.StatedRestLaw.{IsStatedResumedText}
-use Rattle.drive_laws.specs.TakingUpLaw.{OneTakingUp, OneTextFromALog, OneStatedTextFromALog, ALogWithoutEventsIsDriven, ALogWithoutEventsIsDrivenSo}
-use Rattle.drive_laws.proofs.ResumedTexts.{to_rest, one_resumed_text}
-use Rattle.drive_laws.proofs.StatedResumes.{one_stated_resumed_text}
+use Rattle.drive_laws.specs.TakingUpLaw.{OneTakingUp, OneTextFromALog, ALogWithoutEventsIsDriven}
+use Rattle.drive_laws.proofs.Resumes.{to_rest, one_resumed_text}
 use Rattle.drive_laws.proofs.SettledCuts.{it_is_taken_up_with_its_orders}
 
 -- ---- the jobs that move
@@ -69,9 +67,9 @@ module _ (p : PlannedShop) where
       ap₂ (λ (x : Bool) (xs : List Bool). x ∷ xs) (same_late_event c entry f g are.0 also.0) (same_late (after p c (event_of entry)) entries one other are.1 also.1)
 
   module _ (told : List Entry) (at : Option ℕ) (taken : TakenUp) (from : IsTakenFrom p told at taken) where
-    settled_behind : HasSettled p (unwrap_or at (cell_after p told).last) (cell_after p told) taken.driven.control.orders taken.driven.control.cell
+    settled_behind : HasSettled p (unwrap_or at (cell_after p told).last) (cell_after p told) taken.control.orders taken.control.cell
     settled_behind =
-        let control = taken.driven.control in
+        let control = taken.control in
         subst (λ t. HasSettled p t (cell_after p told) control.orders control.cell) from.began
         (subst (λ (es : List Entry). HasSettled p control.began (cell_after p es) control.orders control.cell) from.told_is
         (subst (λ (q : PlannedShop). HasSettled q control.began (cell_after q (told_in taken)) control.orders control.cell) from.planned from.run.begun.settled))
@@ -81,11 +79,11 @@ module _ (p : PlannedShop) where
         subst (λ (es : List Entry). AreLate p (start p) es taken.late) from.told_is
         (subst (λ (q : PlannedShop). AreLate q (start q) (told_in taken) taken.late) from.planned from.run.are_late)
 
-    entries_behind : taken.driven.log.entries ≡ told ++ map OrderEntry taken.driven.control.orders
-    entries_behind = from.run.due ∙ ap (λ (es : List Entry). es ++ map OrderEntry taken.driven.control.orders) from.told_is
+    entries_behind : taken.log.entries ≡ told ++ map OrderEntry taken.control.orders
+    entries_behind = from.run.due ∙ ap (λ (es : List Entry). es ++ map OrderEntry taken.control.orders) from.told_is
 
     shaped_behind : IsWellShaped p
-    shaped_behind = subst IsWellShaped from.planned from.run.driven.shaped
+    shaped_behind = subst IsWellShaped from.planned from.run.kept.shaped
 
 pub one_taking_up : OneTakingUp
 one_taking_up p lines at taken other up also =
@@ -97,14 +95,14 @@ one_taking_up p lines at taken other up also =
     let one = settled_behind p told at taken from in
     let two = settled_behind p told at other from_too in
     let movers : two.movers ≡ one.movers = same_movers p c t two.movers one.movers two.in_order one.in_order two.settles.rest one.settles.rest in
-    let orders : other.driven.control.orders ≡ taken.driven.control.orders = two.orders_are ∙ ap (orders_for p c t) movers ∙ sym one.orders_are in
-    let cells : other.driven.control.cell ≡ taken.driven.control.cell = two.leads ∙ ap (after_moves p c t) movers ∙ sym one.leads in
-    let entries : other.driven.log.entries ≡ taken.driven.log.entries =
+    let orders : other.control.orders ≡ taken.control.orders = two.orders_are ∙ ap (orders_for p c t) movers ∙ sym one.orders_are in
+    let cells : other.control.cell ≡ taken.control.cell = two.leads ∙ ap (after_moves p c t) movers ∙ sym one.leads in
+    let entries : other.log.entries ≡ taken.log.entries =
     entries_behind p told at other from_too ∙ ap (λ (os : List MoveOrder). told ++ map OrderEntry os) orders ∙ sym (entries_behind p told at taken from) in
     (ap₂ (λ (d : Cell) (es : List Entry). let seen : DrivenCell = record { cell = d; entries = es } in seen) cells entries, same_late p (start p) told other.late taken.late (late_behind p told at other from_too) (late_behind p told at taken from))
 
 module _ (p : PlannedShop) (lines : List (List ℕ)) (at : Option ℕ) (taken other : TakenUp) (up : IsTakenUp p lines at taken) (also : IsTakenUp p lines at other) where
-  same_entries : other.driven.log.entries ≡ taken.driven.log.entries
+  same_entries : other.log.entries ≡ taken.log.entries
   same_entries = ap (λ (d : DrivenCell). d.entries) (one_taking_up p lines at taken other up also).0
 
   same_late_ones : other.late ≡ taken.late
@@ -113,26 +111,19 @@ module _ (p : PlannedShop) (lines : List (List ℕ)) (at : Option ℕ) (taken ot
   shaped_there : IsWellShaped p
   shaped_there = shaped_behind p up.told at taken up.taken_from
 
-  run_there : IsRunToRest p taken.driven.log.entries
-  run_there = subst (λ (q : PlannedShop). IsRunToRest q taken.driven.log.entries) up.taken_from.planned (to_rest taken up.taken_from.run)
+  run_there : IsRunToRest p taken.log.entries
+  run_there = subst (λ (q : PlannedShop). IsRunToRest q taken.log.entries) up.taken_from.planned (to_rest taken up.taken_from.run)
 
 pub one_text_from_a_log : OneTextFromALog
-one_text_from_a_log p lines at taken other input text other_text end last up also is is_too =
-    let same : IsResumedText p taken.driven.log.entries taken.late input other_text last =
-    subst (λ (fs : List Bool). IsResumedText p taken.driven.log.entries fs input other_text last) (same_late_ones p lines at taken other up also)
-    (subst (λ (es : List Entry). IsResumedText p es other.late input other_text last) (same_entries p lines at taken other up also) is_too) in
-    one_resumed_text p taken.driven.log.entries taken.late input text other_text end last (shaped_there p lines at taken other up also) (run_there p lines at taken other up also) is same
-
-pub one_stated_text_from_a_log : OneStatedTextFromALog
-one_stated_text_from_a_log p manner lines at taken other input text other_text end last up also is is_too =
-    let same : IsStatedResumedText p manner taken.driven.log.entries taken.late input other_text last =
-    subst (λ (fs : List Bool). IsStatedResumedText p manner taken.driven.log.entries fs input other_text last) (same_late_ones p lines at taken other up also)
-    (subst (λ (es : List Entry). IsStatedResumedText p manner es other.late input other_text last) (same_entries p lines at taken other up also) is_too) in
-    one_stated_resumed_text p manner taken.driven.log.entries taken.late input text other_text end last (shaped_there p lines at taken other up also) (run_there p lines at taken other up also) is same
+one_text_from_a_log p manner lines at taken other input text other_text end last up also is is_too =
+    let same : IsResumedText p manner taken.log.entries taken.late input other_text last =
+    subst (λ (fs : List Bool). IsResumedText p manner taken.log.entries fs input other_text last) (same_late_ones p lines at taken other up also)
+    (subst (λ (es : List Entry). IsResumedText p manner es other.late input other_text last) (same_entries p lines at taken other up also) is_too) in
+    one_resumed_text p manner taken.log.entries taken.late input text other_text end last (shaped_there p lines at taken other up also) (run_there p lines at taken other up also) is same
 
 -- ---- a log without events
 
-nothing_taken : (p : PlannedShop) (lines : List (List ℕ)) (taken : TakenUp) → LinesTell p lines [] → IsTakenUp p lines None taken → (taken.driven.log.entries ≡ []) × (taken.late ≡ [])
+nothing_taken : (p : PlannedShop) (lines : List (List ℕ)) (taken : TakenUp) → LinesTell p lines [] → IsTakenUp p lines None taken → (taken.log.entries ≡ []) × (taken.late ≡ [])
 nothing_taken p lines taken none up =
     let from = up.taken_from in
     let (told_none, due_none) = it_is_taken_up_with_its_orders p lines [] [] taken (shaped_behind p up.told None taken from) (record { tells = none; run = done (start p) }) up in
@@ -142,20 +133,10 @@ nothing_taken p lines taken none up =
     )
 
 pub a_log_without_events_is_driven : ALogWithoutEventsIsDriven
-a_log_without_events_is_driven p lines taken input text end none up is =
+a_log_without_events_is_driven p manner lines taken input text end none up is =
     let nothing = nothing_taken p lines taken none up in
-    let from_start : IsResumedText p [] [] input text end =
-    subst (λ (fs : List Bool). IsResumedText p [] fs input text end) nothing.1 (subst (λ (es : List Entry). IsResumedText p es taken.late input text end) nothing.0 is) in (
-      from_start.answers ++ from_start.closing,
-      record { answers = from_start.answers; are_answers = from_start.are_answers; closing = from_start.closing; is_closing = from_start.is_closing; whole = refl },
-      from_start.whole,
-    )
-
-pub a_log_without_events_is_driven_so : ALogWithoutEventsIsDrivenSo
-a_log_without_events_is_driven_so p manner lines taken input text end none up is =
-    let nothing = nothing_taken p lines taken none up in
-    let from_start : IsStatedResumedText p manner [] [] input text end =
-    subst (λ (fs : List Bool). IsStatedResumedText p manner [] fs input text end) nothing.1 (subst (λ (es : List Entry). IsStatedResumedText p manner es taken.late input text end) nothing.0 is) in (
+    let from_start : IsResumedText p manner [] [] input text end =
+    subst (λ (fs : List Bool). IsResumedText p manner [] fs input text end) nothing.1 (subst (λ (es : List Entry). IsResumedText p manner es taken.late input text end) nothing.0 is) in (
       from_start.answers ++ from_start.closing,
       record { answers = from_start.answers; are_answers = from_start.are_answers; closing = from_start.closing; is_closing = from_start.is_closing; whole = refl },
       from_start.whole,

@@ -13,24 +13,12 @@ use Rattle.event_lines.specs.AnswerLines.{late_line}
 use Rattle.event_lines.specs.declared.details.Overdue.{Overdue}
 use Rattle.cell_drive.specs.Stated.{lateness_part, taken_lines, told_overdue}
 use Rattle.cell_drive.specs.ToldLines.{told_lines}
-use Rattle.cell_drive.specs.Retold.{retold_line, retold_lines}
+use Rattle.cell_drive.specs.Retold.{retold_lines}
 use Rattle.cell_drive.specs.Resuming.{again_text, driven_so_far}
-use Rattle.drive_laws.specs.StatedRestLaw.{RetoldAsEver, ResumingOnlyAdds, restated_text}
+use Rattle.cell_drive.proofs.RetoldLines.{retold_as_ever}
+use Rattle.drive_laws.specs.ResumedLaw.{ResumingOnlyAdds}
 use Rattle.drive_laws.specs.VersionsLaw.{IsPlainText, taken, ordered, empty_line, in_version}
 use Rattle.drive_laws.proofs.Versions.{version_2_only_adds}
-
-untold_lateness : (tells : Bool) (at : ℕ) (late : Bool) (overdue : Option Overdue) → tells ≡ false → lateness_part [] at late (cond tells overdue None) ≡ cond late (late_line at) []
-untold_lateness true at late overdue plain = absurd (cc)
-untold_lateness false at late overdue plain = refl
-
-pub retold_as_ever : RetoldAsEver
-retold_as_ever p manner c [] late plain = refl
-retold_as_ever p manner c (entry ∷ entries) [] plain = refl
-retold_as_ever p manner c (ReportEntry report ∷ entries) (was_late ∷ late) plain =
-    ap (λ (rest : List ℕ). retold_line p manner c (ReportEntry report) was_late ++ rest) (retold_as_ever p manner (after p c (event_of (ReportEntry report))) entries late plain)
-    ∙ ap (λ (line : List ℕ). (report_line report ++ line) ++ told_lines entries late) (untold_lateness manner.tells (at report) was_late _ plain)
-retold_as_ever p manner c (OrderEntry order ∷ entries) (was_late ∷ late) plain =
-    ap (λ (rest : List ℕ). order_line order ++ rest) (retold_as_ever p manner (after p c (event_of (OrderEntry order))) entries late plain)
 
 -- the line of a report and that it was late, and what stands behind them, as the lines of an accepted report without orders
 as_taken : (report : Report) (late : Bool) (overdue : Option Overdue) (rest more : List ℕ)
@@ -77,13 +65,14 @@ module _ (p : PlannedShop) (longest : Option ℕ) (from : ℕ) where
       (ordered order (rest ++ more) (told_lines entries late ++ others) (plain_again next entries late more others plain)))
 
   plain_text : (entries : List Entry) (late : List Bool) (text other : List ℕ) → IsPlainText text other
-      → IsPlainText (restated_text p (in_version true longest from) entries late ++ text) (again_text entries late ++ other)
+      → IsPlainText (again_text p (in_version true longest from) entries late ++ text) (again_text p (in_version false longest from) entries late ++ other)
   plain_text entries late text other plain =
       let told = take (length late) entries in
       let due = entry_lines (drop (length late) entries) in
-      subst (λ (t : List ℕ). IsPlainText t (again_text entries late ++ other)) (sym (append_assoc (retold_lines p (in_version true longest from) (start p) told late) (10 ∷ due) text))
+      subst (λ (t : List ℕ). IsPlainText (again_text p (in_version true longest from) entries late ++ text) ((t ++ (10 ∷ due)) ++ other)) (sym (retold_as_ever p (in_version false longest from) (start p) told late refl))
+      (subst (λ (t : List ℕ). IsPlainText t ((told_lines told late ++ (10 ∷ due)) ++ other)) (sym (append_assoc (retold_lines p (in_version true longest from) (start p) told late) (10 ∷ due) text))
       (subst (λ (t : List ℕ). IsPlainText (retold_lines p (in_version true longest from) (start p) told late ++ (10 ∷ (due ++ text))) t) (sym (append_assoc (told_lines told late) (10 ∷ due) other))
-      (plain_again (start p) told late (10 ∷ (due ++ text)) (10 ∷ (due ++ other)) (empty_line (due ++ text) (due ++ other) (plain_entries (drop (length late) entries) text other plain))))
+      (plain_again (start p) told late (10 ∷ (due ++ text)) (10 ∷ (due ++ other)) (empty_line (due ++ text) (due ++ other) (plain_entries (drop (length late) entries) text other plain)))))
 
 pub resuming_only_adds : ResumingOnlyAdds
 resuming_only_adds p longest from entries late lines text end of all =

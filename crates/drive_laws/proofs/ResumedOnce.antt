@@ -12,9 +12,9 @@ use Rattle.cell_drive.specs.Refusals.{CanClaim}
 use Rattle.cell_drive.specs.OneRun.{cell_after}
 use Rattle.cell_drive.specs.Resuming.{driven_so_far}
 use Rattle.cell_drive.specs.StatedLaw.{NothingOfARunIsClaimedAgain}
-use Rattle.drive_laws.specs.StatedRestLaw.{NothingOfALogIsTakenAgain}
+use Rattle.drive_laws.specs.ResumedLaw.{NothingOfALogIsTakenAgain}
 use Rattle.cell_drive.proofs.Refusing.{can_report}
-use Rattle.drive_laws.proofs.ResumedTexts.{rests_on_course}
+use Rattle.drive_laws.proofs.Resumes.{rests_on_course}
 use Rattle.drive_laws.proofs.TakenOnce.{tells_named, told}
 
 pub nothing_of_a_run_is_claimed_again : NothingOfARunIsClaimedAgain

@@ -28,7 +28,7 @@ use Rattle.cell_drive.specs.Stated.{IsClaimTaken, RequestAnswer, StatedAnswers, 
 use Rattle.cell_drive.specs.StatedCellsLaw.{SeesLines, none_left, asked, passed_over}
 use Rattle.cell_drive.proofs.LineAnswers.{asked_line}
 use Rattle.cell_drive.proofs.ReadBack.{name_spaceless}
-use Rattle.cell_drive.proofs.Stating.{no_prefix}
+use Rattle.cell_drive.proofs.Replied.{no_prefix}
 use Rattle.drive_laws.specs.AnswerLaw.{AreReportLines}
 use Rattle.drive_laws.specs.SameReportsLaw.{KeepsReports, nothing_more, refused, state, taken, TheSameReportsAreAnsweredSo, TheSameReportsOfACell}
 

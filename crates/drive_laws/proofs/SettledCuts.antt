@@ -171,7 +171,7 @@ it_is_taken_up_with_its_orders p lines told due taken shaped log up =
     let from = up.taken_from in
     let same : up.told ≡ told = one_reading p lines up.told told up.tells log.tells in
     let told_is : told_in taken ≡ told = from.told_is ∙ same in
-    let control = taken.driven.control in
+    let control = taken.control in
     let here : cell_after (plan_of taken) (told_in taken) ≡ cell_after p told =
     ap (λ (q : PlannedShop). cell_after q (told_in taken)) from.planned ∙ ap (cell_after p) told_is in
     let began : control.began ≡ (cell_after p told).last = from.began ∙ ap (λ (es : List Entry). (cell_after p es).last) same in

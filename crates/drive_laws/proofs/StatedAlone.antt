@@ -19,9 +19,9 @@ use Rattle.cell_drive.specs.Stated.{RequestAnswer}
 use Rattle.cell_drive.specs.StatedCells.{AsksCell, AsksOf, OfCell, IsToldIn, CellsTell, CellsStated}
 use Rattle.cell_drive.specs.StatedCellsLaw.{AsksNotOf, SeesLines, none_left, asked, passed_over, EachStatedCellIsAlone}
 use Rattle.drive_laws.proofs.CellsAlone.{set_same, set_other, starts_at, verified_at}
-use Rattle.cell_drive.proofs.OneStatedCells.{one_asked_of}
+use Rattle.cell_drive.proofs.OneText.{one_asked_of}
 use Rattle.cell_drive.proofs.PromisesKept.{stays_as_promised}
-use Rattle.drive_laws.proofs.StatedLeads.{LeadsOn, answer_leads}
+use Rattle.cell_drive.proofs.CutLogs.{LeadsOn, answer_leads}
 
 -- ---- lines that ask nothing of a cell
 

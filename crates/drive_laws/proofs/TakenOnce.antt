@@ -21,8 +21,7 @@ use Rattle.cell_drive.specs.Refusals.{CanClaim, IsTaken}
 use Rattle.cell_drive.specs.AnswerText.{DrivenCell, undriven}
 use Rattle.cell_drive.specs.Stated.{StatedAnswers, IsClaimRefused, IsClaimTaken, refusal_prefix}
 use Rattle.cell_drive.specs.StatedLaw.{named, NothingIsTakenTwice}
-use Rattle.cell_drive.proofs.OneText.{IsOnCourse, start_on_course}
-use Rattle.cell_drive.proofs.OneStated.{request_keeps, stated_lines_keep}
+use Rattle.cell_drive.proofs.OneText.{IsOnCourse, request_keeps, start_on_course, stated_lines_keep}
 use Rattle.cell_drive.proofs.ReadBack.{AreTold, all_told}
 use Rattle.cell_drive.proofs.Refusing.{can_report, refused_or_taken}
 use Rattle.cell_drive.proofs.StatedTold.{stated_line_told}

@@ -30,7 +30,7 @@ use Rattle.cell_drive.specs.Stated.{AreStatedTo, tells_end, end_part}
 use Rattle.cell_drive.specs.ToldLines.{told_lines}
 use Rattle.drive_laws.specs.AnswerLaw.{AreReportLines, AreClaimLines, ToldAsAnswered, ToldAsStated, end_told}
 use Rattle.drive_laws.proofs.AnsweredAgain.{end_behind, told_again}
-use Rattle.drive_laws.proofs.OnlyAdds.{retold_as_ever}
+use Rattle.cell_drive.proofs.RetoldLines.{retold_as_ever}
 use Rattle.drive_laws.proofs.Plainly.{plainly_as_ever}
 
 -- ---- in any manner

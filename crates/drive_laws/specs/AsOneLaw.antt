@@ -6,15 +6,14 @@ use Rattle.plan_verifier.specs.Accepted.{VerifiedPlan, IsVerified}
 use Rattle.cell_tables.specs.declared.entry.Entry.{Entry}
 use Rattle.byte_streams.specs.Answering.{AnswerAll}
 use Rattle.cell_drive.specs.declared.manner.Manner.{Manner}
-use Rattle.cell_drive.specs.declared.rest_run.RestEnd.{RestEnd}
-use Rattle.cell_drive.specs.AnswerText.{DrivenCell, CellAnswers, CellCloses}
+use Rattle.cell_drive.specs.declared.resume.RestEnd.{RestEnd}
+use Rattle.cell_drive.specs.AnswerText.{DrivenCell, CellCloses}
 use Rattle.cell_drive.specs.OneRun.{IsRunOf, NeverWentWrong}
 use Rattle.cell_drive.specs.CutLogs.{IsCutLog}
 use Rattle.cell_drive.specs.CutLaw.{IsTakenUpFrom, IsCutFrom}
 use Rattle.cell_drive.specs.TakenUp.{TakenUp, IsTakenUp}
-use Rattle.cell_drive.specs.Resuming.{again_of, driven_so_far, GoesOnFrom}
+use Rattle.cell_drive.specs.Resuming.{again_text, driven_so_far, GoesOnFrom}
 use Rattle.cell_drive.specs.Stated.{StatedAnswers}
-use Rattle.drive_laws.specs.StatedRestLaw.{restated_text}
 
 -- a run was taken up by its own plan: from the log of a controlled run of that, which may be cut, and without a moment
 pub record IsTakenUpByItsPlan (p : PlannedShop) (taken : TakenUp) : Type 0 where
@@ -28,12 +27,12 @@ pub record IsTakenUpByItsPlan (p : PlannedShop) (taken : TakenUp) : Type 0 where
 
 -- the events of its log and the orders that are due are one controlled run
 abbrev pub ItIsTakenUpAsOne : Type 0
-ItIsTakenUpAsOne = (p : PlannedShop) (taken : TakenUp) → IsTakenUpByItsPlan p taken → IsRunOf p taken.driven.log.entries
+ItIsTakenUpAsOne = (p : PlannedShop) (taken : TakenUp) → IsTakenUpByItsPlan p taken → IsRunOf p taken.log.entries
 
--- behind a controlled run all that is answered, in version 1 of the lines or in a manner, makes it longer
+-- behind a controlled run all that is answered, in any manner, makes it longer
 abbrev pub ItIsOneSoFar : Type 0
 ItIsOneSoFar = (p : PlannedShop) (manner : Manner) (entries : List Entry) (number : ℕ) (lines : List (Option (List ℕ))) (text : List ℕ) (end : DrivenCell) → IsWellShaped p → IsRunOf p entries
-    → AnswerAll (CellAnswers p) (driven_so_far p entries) number lines text end ⊎ AnswerAll (StatedAnswers p manner) (driven_so_far p entries) number lines text end → IsRunOf p end.entries
+    → AnswerAll (StatedAnswers p manner) (driven_so_far p entries) number lines text end → IsRunOf p end.entries
 
 -- so where driving on succeeded, all events of the log are one controlled run: those from before, the orders that were due, and those that came since
 abbrev pub ADrivenRunGoesOnAsOne : Type 0
@@ -51,12 +50,6 @@ TheFirstEventsHaveTheirOrders = (p : PlannedShop) (log : List ℕ) (entries : Li
 
 -- so it is with what `resume` writes then, cut at any byte: with the events once more, and the answers and the closing line behind them
 abbrev pub WhatWasResumedHasItsOrders : Type 0
-WhatWasResumedHasItsOrders = (p : PlannedShop) (taken : TakenUp) (lines : List (Option (List ℕ))) (answers closing cut lost : List ℕ) (end : DrivenCell) → IsTakenUpByItsPlan p taken
-    → AnswerAll (CellAnswers p) (driven_so_far p taken.driven.log.entries) 1 lines answers end
-    → (closing ≡ []) ⊎ CellCloses p end closing → again_of taken ++ (answers ++ closing) ≡ cut ++ lost → IsCutFrom p cut end.entries
-
--- and with what it writes in a manner
-abbrev pub WhatWasStatedOnHasItsOrders : Type 0
-WhatWasStatedOnHasItsOrders = (p : PlannedShop) (manner : Manner) (taken : TakenUp) (lines : List (Option (List ℕ))) (answers closing cut lost : List ℕ) (end : DrivenCell) → IsTakenUpByItsPlan p taken
-    → AnswerAll (StatedAnswers p manner) (driven_so_far p taken.driven.log.entries) 1 lines answers end
-    → (closing ≡ []) ⊎ CellCloses p end closing → restated_text p manner taken.driven.log.entries taken.late ++ (answers ++ closing) ≡ cut ++ lost → IsCutFrom p cut end.entries
+WhatWasResumedHasItsOrders = (p : PlannedShop) (manner : Manner) (taken : TakenUp) (lines : List (Option (List ℕ))) (answers closing cut lost : List ℕ) (end : DrivenCell) → IsTakenUpByItsPlan p taken
+    → AnswerAll (StatedAnswers p manner) (driven_so_far p taken.log.entries) 1 lines answers end
+    → (closing ≡ []) ⊎ CellCloses p end closing → again_text p manner taken.log.entries taken.late ++ (answers ++ closing) ≡ cut ++ lost → IsCutFrom p cut end.entries

@@ -7,8 +7,8 @@ use Rattle.plan_verifier.specs.Accepted.{VerifiedPlan}
 use Rattle.cell_control.specs.Control.{Control, verified_in}
 use Rattle.cell_control.specs.Promises.{IsControllerAfter}
 use Rattle.event_lines.specs.SentLines.{IsCellReport}
-use Rattle.cell_drive.specs.ManyCells.{PlannedCell}
-use Rattle.cell_drive.specs.CellsTextLaw.{AreVerified, AreCellsAnswersTo}
+use Rattle.byte_streams.specs.Answering.{AnswerAll}
+use Rattle.cell_drive.specs.ManyCells.{PlannedCell, AreVerified, CellsAnswer, hub_start}
 use Rattle.cell_drive.specs.OneRun.{StaysAsPromised}
 
 -- the line is no report on the cell of this number
@@ -33,6 +33,10 @@ pub record IsAsAlone (v : VerifiedPlan) (cell : ℕ) (lines : List (Option (List
   pub same : end ≡ record { plan = verified_in alone; cell = alone.cell }
   pub counted : HasEnded v.planned end.cell ↔ (reports_in events ≡ stated_number v.planned)
   pub promised : StaysAsPromised v events
+
+-- the first lines of an input of cells by these plans are answered by this text, in version 1 of the lines
+abbrev pub AreCellsAnswersTo : List VerifiedPlan → List (Option (List ℕ)) → List ℕ → List PlannedCell → Type 0
+AreCellsAnswersTo plans lines text end = AnswerAll CellsAnswer (hub_start plans) 1 lines text end
 
 -- so is the cell of each of these plans
 abbrev pub AreAsAlone : List VerifiedPlan → List (Option (List ℕ)) → List PlannedCell → Type 0

@@ -6,7 +6,7 @@ pub mod FloorLaw
 pub mod StatesLaw
 pub mod LeapLaw
 pub mod VersionsLaw
-pub mod StatedRestLaw
+pub mod ResumedLaw
 pub mod ShortLinesLaw
 pub mod CellsVersionsLaw
 pub mod SameReportsLaw

@@ -3,42 +3,40 @@
 
 // Nothing is done here: a function's contract is the law, so a check of this crate proves it.
 
-ghost use Rattle.cell_drive.specs.OneTextLaw.{OneAnswerText, OneTextForLines, ADrivenCellAnswersSo};
-ghost use Rattle.cell_drive.specs.CellsTextLaw.{OneCellsAnswerText, OneCellsTextForLines};
-ghost use Rattle.drive_laws.specs.CellsAlone.{EachCellIsAsAlone};
-ghost use Rattle.cell_drive.specs.AuditLaw.{AnAnswerTextIsALog, AnAuditKeepsWhatWasDriven};
-ghost use Rattle.drive_laws.specs.AnswerLaw.{ToldAsAnswered, ToldAsStated};
-ghost use Rattle.cell_drive.specs.CutLaw.{ACutLogIsTakenUp, WhatWasResumedIsTakenUp, WhatWasResumedCanBeTakenUp, ACutLogHasItsOrders, WhatWasDrivenHasItsOrders, ItCanBeTakenUp, ItIsTakenUpWithItsOrders};
+ghost use Rattle.cell_drive.specs.AuditLaw.{AnAnswerTextIsALog};
+ghost use Rattle.cell_drive.specs.CutLaw.{ACutLogIsTakenUp, WhatWasDrivenIsTakenUp, WhatWasResumedIsTakenUp, WhatWasResumedCanBeTakenUp, ACutLogHasItsOrders, WhatWasDrivenHasItsOrders, ItCanBeTakenUp, ItIsTakenUpWithItsOrders};
 ghost use Rattle.cell_drive.specs.Resuming.{AResumedTextIsALog, AnAuditKeepsWhatWasResumed, OneResumedText, WhatWasResumedIsSuchAText, WhatWasResumedGoesOn};
-ghost use Rattle.drive_laws.specs.TakingUpLaw.{OneTakingUp, OneTextFromALog, OneStatedTextFromALog, ALogWithoutEventsIsDriven, ALogWithoutEventsIsDrivenSo};
-ghost use Rattle.drive_laws.specs.StatesLaw.{OnlyGoneJobsAreLeftOut, OnlyCleanMachinesAreLeftOut};
-ghost use Rattle.drive_laws.specs.ShortLinesLaw.{StateLinesAreShort, RefusalsAreShort, LateLinesAreShort, StandingsAreShort, DetailsAreShort, OverdueIsShort, LineNumbersAreShort};
 ghost use Rattle.cell_drive.specs.StatedCellsLaw.{OneStatedCellsText, OneStatedCellsTextForLines, EachStatedCellIsAlone, PlainlyAsEverForCells};
+ghost use Rattle.cell_drive.specs.StatedLaw.{OneAnswerText, OneTextForLines, ASessionAnswersSo, AnAuditKeepsWhatWasDriven, PlainlyAsEver, RetoldAsEver, NothingIsTakenTwice, NothingOfARunIsClaimedAgain, ALateReportFindsSomethingOverdue};
+ghost use Rattle.drive_laws.specs.AnswerLaw.{ToldAsAnswered, ToldAsStated};
+ghost use Rattle.drive_laws.specs.AsOneLaw.{ItIsTakenUpAsOne, ItIsOneSoFar, ADrivenRunGoesOnAsOne, ItStaysAsPromised, TheFirstEventsHaveTheirOrders, WhatWasResumedHasItsOrders};
+ghost use Rattle.drive_laws.specs.CellsAlone.{EachCellIsAsAlone};
+ghost use Rattle.drive_laws.specs.CellsVersionsLaw.{Version2OnlyAddsForCells};
 ghost use Rattle.drive_laws.specs.FloorLaw.{NothingIsOrderedWrongly, ADrivenCellOrdersRightly, ARunThatGoesOnOrdersRightly, EachCellOrdersRightly};
 ghost use Rattle.drive_laws.specs.LeapLaw.{NoPunctualReportLeaps};
-ghost use Rattle.drive_laws.specs.VersionsLaw.{Version2OnlyAdds};
+ghost use Rattle.drive_laws.specs.ResumedLaw.{NothingOfALogIsTakenAgain, ResumingOnlyAdds};
 ghost use Rattle.drive_laws.specs.SameReportsLaw.{TheSameReportsAreAnsweredSo, TheSameReportsOfACell, EachReportHasALine};
-ghost use Rattle.drive_laws.specs.AsOneLaw.{ItIsTakenUpAsOne, ItIsOneSoFar, ADrivenRunGoesOnAsOne, ItStaysAsPromised, TheFirstEventsHaveTheirOrders, WhatWasResumedHasItsOrders, WhatWasStatedOnHasItsOrders};
-ghost use Rattle.drive_laws.specs.CellsVersionsLaw.{Version2OnlyAddsForCells};
-ghost use Rattle.drive_laws.specs.StatedRestLaw.{AStatedRestAnswersSo, NothingOfALogIsTakenAgain, RetoldAsEver, ResumingOnlyAdds, AStatedResumedTextIsALog, OneStatedResumedText, WhatWasStatedIsTakenUp, WhatWasStatedHasItsOrders, WhatWasStatedOnIsTakenUp, WhatWasStatedOnCanBeTakenUp, WhatWasStatedOnIsSuchAText, AnAuditKeepsWhatWasStatedOn, WhatWasStatedOnGoesOn};
-ghost use Rattle.cell_drive.specs.StatedLaw.{OneStatedText, AStatedCellAnswersSo, AStatedTextIsALog, AnAuditKeepsWhatWasStated, PlainlyAsEver, NothingIsTakenTwice, NothingOfARunIsClaimedAgain, ALateReportFindsSomethingOverdue};
+ghost use Rattle.drive_laws.specs.ShortLinesLaw.{StateLinesAreShort, RefusalsAreShort, LateLinesAreShort, StandingsAreShort, DetailsAreShort, OverdueIsShort, LineNumbersAreShort};
+ghost use Rattle.drive_laws.specs.StatesLaw.{OnlyGoneJobsAreLeftOut, OnlyCleanMachinesAreLeftOut};
+ghost use Rattle.drive_laws.specs.TakingUpLaw.{OneTakingUp, OneTextFromALog, ALogWithoutEventsIsDriven};
+ghost use Rattle.drive_laws.specs.VersionsLaw.{Version2OnlyAdds};
 
 pub use byte_streams::laws::the_limits_of_an_input_in_numbers;
 
-/// For a well-shaped plan an input has one answer text at most, which leads to one cell with one list of events; and
-/// so have its first lines. So what is written depends on the plan and on the bytes of the input, and not on the
-/// pieces in which these come. What a driven cell has answered is such a text.
+/// For a well-shaped plan, and in each manner in which a cell can be driven, an input has one answer text at most, which
+/// leads to one cell with one list of events; and so have its first lines. So what is written depends on the plan, the
+/// manner and the bytes of the input, and not on the pieces in which these come. What a session has answered is such a text.
 pub fn one_answer_text()
     ensures whole { OneAnswerText }
     ensures lines { OneTextForLines }
-    ensures driven { ADrivenCellAnswersSo }
+    ensures driven { ASessionAnswersSo }
 {}
 
-/// The same of an input of several cells, each of an accepted plan: one text at most, which leads to one list of what
-/// the cells hold.
+/// The same of an input of several cells, each of an accepted plan, in each manner: one text at most, which leads to one
+/// list of what the cells hold.
 pub fn one_answer_text_of_cells()
-    ensures whole { OneCellsAnswerText }
-    ensures lines { OneCellsTextForLines }
+    ensures whole { OneStatedCellsText }
+    ensures lines { OneStatedCellsTextForLines }
 {}
 
 /// Let cells by accepted plans answer any lines. Each of them is then as with a controller alone that was made of its
@@ -48,7 +46,7 @@ pub fn each_cell_is_as_alone()
     ensures { EachCellIsAsAlone }
 {}
 
-/// For a well-shaped plan the lines of an answer text record, in order, exactly the reports that were accepted and the
+/// For a well-shaped plan the lines of an answer text, in any manner, record, in order, exactly the reports that were accepted and the
 /// moves that were ordered. These are a run of the plan, which leads to the cell at the end.
 pub fn an_answer_text_is_a_log()
     ensures { AnAnswerTextIsALog }
@@ -58,26 +56,17 @@ pub fn an_answer_text_is_a_log()
 /// The only fault of the audit is `Memory`. The audit finds the events of the log, how many reports were accepted and
 /// moves ordered, the last moment, and `complete` exactly if driving was `done`.
 pub fn an_audit_keeps_what_was_driven()
-    ensures plain { AnAuditKeepsWhatWasDriven }
-    ensures stated { AnAuditKeepsWhatWasStated }
+    ensures { AnAuditKeepsWhatWasDriven }
 {}
 
 /// Cut the log of a run after any number of bytes. The ended lines of what is left tell the first events of that run. So
-/// it is with what `resume` writes, up to any point; and that can be taken up again by the same plan, wherever the line of
-/// its first event is out, or the plan is an accepted one.
+/// it is with what a cell has written in any manner, from the start of its run or from where that was taken up; and what was
+/// taken up can be taken up again by the same plan, wherever the line of its first event is out, or the plan is an accepted one.
 pub fn a_cut_log_is_taken_up()
     ensures log { ACutLogIsTakenUp }
+    ensures driven { WhatWasDrivenIsTakenUp }
     ensures resumed { WhatWasResumedIsTakenUp }
     ensures again { WhatWasResumedCanBeTakenUp }
-{}
-
-/// Cut what a cell has written in any manner, from the start of its run or from where that was taken up, after any number of
-/// bytes. The ended lines of what is left tell the first events of the run; and what was taken up can be taken up again, under
-/// the same condition.
-pub fn a_cut_log_of_any_manner_is_taken_up()
-    ensures driven { WhatWasStatedIsTakenUp }
-    ensures resumed { WhatWasStatedOnIsTakenUp }
-    ensures again { WhatWasStatedOnCanBeTakenUp }
 {}
 
 /// Cut the log of a controlled run after any number of bytes, as one that `drive` writes in any manner. The events of its
@@ -86,7 +75,6 @@ pub fn a_cut_log_of_any_manner_is_taken_up()
 pub fn a_cut_log_has_its_orders()
     ensures log { ACutLogHasItsOrders }
     ensures driven { WhatWasDrivenHasItsOrders }
-    ensures stated { WhatWasStatedHasItsOrders }
     ensures can { ItCanBeTakenUp }
     ensures orders { ItIsTakenUpWithItsOrders }
 {}
@@ -100,8 +88,8 @@ pub fn told_as_answered()
     ensures stated { ToldAsStated }
 {}
 
-/// For a well-shaped plan an input has one text that answers it after what was taken up, which leads to one cell
-/// with one list of events. What `resume` writes, if it succeeds, is that text for what it read.
+/// For a well-shaped plan, and in each manner, an input has one text that answers it after what was taken up, which leads to
+/// one cell with one list of events. What `resume` writes, if it succeeds, is that text for what it read.
 pub fn one_resumed_text()
     ensures one { OneResumedText }
     ensures resumed { WhatWasResumedIsSuchAText }
@@ -112,14 +100,12 @@ pub fn one_resumed_text()
 pub fn one_taking_up()
     ensures one { OneTakingUp }
     ensures text { OneTextFromALog }
-    ensures stated { OneStatedTextFromALog }
 {}
 
 /// Let a log tell no event, and be taken up without a present moment. What is written to answer an input is then an empty line
 /// and, behind that, what `drive` answers, in each manner.
 pub fn a_log_without_events_is_driven()
-    ensures plain { ALogWithoutEventsIsDriven }
-    ensures stated { ALogWithoutEventsIsDrivenSo }
+    ensures { ALogWithoutEventsIsDriven }
 {}
 
 /// What a run that was taken up writes is by itself a log of the whole run. Let `resume` succeed, into a writer whose bytes
@@ -128,15 +114,13 @@ pub fn a_log_without_events_is_driven()
 pub fn an_audit_keeps_what_was_resumed()
     ensures log { AResumedTextIsALog }
     ensures audit { AnAuditKeepsWhatWasResumed }
-    ensures stated { AnAuditKeepsWhatWasStatedOn }
 {}
 
 /// After the events of its log, a run that was taken up is the controlled run that goes on from their cell, at the present
 /// moment. So each law of the rest of a run holds of it: it is never stuck, ends after exactly the reports that were left, and
 /// keeps to the moments kept for it.
 pub fn what_was_resumed_goes_on()
-    ensures plain { WhatWasResumedGoesOn }
-    ensures stated { WhatWasStatedOnGoesOn }
+    ensures { WhatWasResumedGoesOn }
 {}
 
 /// Let a run be taken up by its own plan, with no moment given, from the log of a controlled run, which may be cut after any
@@ -150,24 +134,7 @@ pub fn a_driven_run_goes_on_as_one()
     ensures taken { ItIsTakenUpAsOne }
     ensures so_far { ItIsOneSoFar }
     ensures resumed { WhatWasResumedHasItsOrders }
-    ensures stated { WhatWasStatedOnHasItsOrders }
     ensures first { TheFirstEventsHaveTheirOrders }
-{}
-
-/// In each manner in which a cell of a well-shaped plan can be driven, an input has one answer text at most, which
-/// leads to one cell with one list of events, and is a log of these. What a cell that is driven so has answered is such
-/// a text.
-pub fn one_stated_text_which_is_a_log()
-    ensures one { OneStatedText }
-    ensures driven { AStatedCellAnswersSo }
-    ensures log { AStatedTextIsALog }
-{}
-
-/// The same of an input of several cells, each of an accepted plan, in each manner: one answer text at most, which
-/// leads to one list of what the cells hold.
-pub fn one_stated_text_of_cells()
-    ensures whole { OneStatedCellsText }
-    ensures lines { OneStatedCellsTextForLines }
 {}
 
 /// Let cells by accepted plans answer any lines in a manner. Each of them answers what the lines ask of it as it would
@@ -175,16 +142,6 @@ pub fn one_stated_text_of_cells()
 /// as the plan promises, and which has ended exactly where as many reports were accepted as the stated number.
 pub fn each_stated_cell_is_alone()
     ensures { EachStatedCellIsAlone }
-{}
-
-/// In each manner in which a run that was taken up can be driven on, an input has one text at most, which leads to one cell with
-/// one list of events, and is by itself a log of the whole run. What is written, if driving on succeeds, is that text for what was
-/// read.
-pub fn one_stated_resumed_text()
-    ensures one { OneStatedResumedText }
-    ensures driven { AStatedRestAnswersSo }
-    ensures resumed { WhatWasStatedOnIsSuchAText }
-    ensures log { AStatedResumedTextIsALog }
 {}
 
 /// In version 1 of the lines, and with no moment that leaps, each line is answered as `drive` answers it, and by several cells

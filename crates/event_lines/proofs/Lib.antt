@@ -3,3 +3,4 @@ pub mod Ends
 pub mod Readings
 pub mod WrittenWords
 pub mod Telling
+pub mod PlanLines

@@ -7,5 +7,6 @@ pub mod Requests
 pub mod StandingLines
 pub mod LogLines
 pub mod ReadBack
+pub mod RunDigits
 -- Of proofs and private contracts alone.
 pub mod FirstWords

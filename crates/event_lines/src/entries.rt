@@ -40,7 +40,7 @@ pub fn put_entry_line<const ROOM: usize>(lines: &mut text_lines::LineText<ROOM>,
 
 /// The report or the order that the line is.
 #[inline(always)]
-fn entry_of(line: &[u8]) -> Option<Entry>
+pub fn entry_of(line: &[u8]) -> Option<Entry>
     ensures { SomeIfAny result (IsEntryLine line.now) }
 {
     if line.starts_with(b"o") {

@@ -14,6 +14,7 @@ pub mod laws;
 mod line_text;
 mod orders;
 mod requests;
+mod run_digits;
 mod sent_reports;
 mod told_reports;
 mod words;
@@ -25,9 +26,10 @@ pub use cell_numbers::{cell_prefix, cell_report_of};
 pub use details::{
     Detail, DetailText, Overdue, late_overdue_line, put_unfinished_standing, refused_detail_line,
 };
-pub use entries::{put_entry_line, told_entry};
+pub use entries::{entry_of, put_entry_line, told_entry};
 pub use line_text::LineText;
 pub use orders::put_order;
 pub use requests::{Claim, Request, cell_request_of, request_of};
+pub use run_digits::{RunDigits, digits_of_line, plan_line, put_digits};
 pub use sent_reports::report_of;
 pub use told_reports::put_report;

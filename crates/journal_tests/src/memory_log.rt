@@ -1,4 +1,4 @@
-ghost use Rattle.std.specs.Prelude.{◌≡◌, ◌≤◌, true, false, length, take, Some};
+ghost use Rattle.std.specs.Prelude.{◌≡◌, ◌≤◌, true, false, length, take, None, Some, Err};
 
 use run_journal::{FileFault, LogFile};
 use std::alloc::{AllocError, Global};
@@ -19,8 +19,10 @@ pub struct MemoryLog {
     calls: usize,
     /// How many bytes an append that fails appends.
     torn: usize,
-    /// Whether an append, a cut or a sync has failed.
-    failed: bool,
+    /// The fault of the call that has failed.
+    fault: Option<FileFault>,
+    /// Whether an append or a cut was called.
+    written: bool,
 }
 
 impl Model for MemoryLog {
@@ -29,7 +31,7 @@ impl Model for MemoryLog {
 
     ghost Value = { InMemory };
 
-    ghost view = { λ m. record { seen = take m.len m.most.items; most = m.most.items; least = m.least; synced = m.synced; failed = m.failed } };
+    ghost view = { λ m. record { seen = take m.len m.most.items; most = m.most.items; least = m.least; synced = m.synced; fault = m.fault; written = m.written } };
 
     ghost invariant = { λ m. (m.least ≤ m.len) × (m.len ≤ length m.most.items) };
 }
@@ -40,7 +42,8 @@ impl MemoryLog {
     pub fn new(bytes: Vec<u8>, calls: usize, torn: usize) -> MemoryLog
         ensures seen { result.seen ≡ bytes.items }
         ensures synced { result.synced ≡ true }
-        ensures unfailed { result.failed ≡ false }
+        ensures unfailed { result.fault ≡ None }
+        ensures unwritten { result.written ≡ false }
     {
         let len = bytes.len();
         MemoryLog {
@@ -50,7 +53,8 @@ impl MemoryLog {
             synced: true,
             calls,
             torn,
-            failed: false,
+            fault: None,
+            written: false,
         }
     }
 
@@ -85,6 +89,20 @@ impl MemoryLog {
         self.calls
     }
 
+    /// Tells this fault.
+    fn told<T: Drop>(&mut self, fault: FileFault) -> Result<T, FileFault>
+        ensures told { result ≡ Err fault }
+        ensures seen { self.new.seen ≡ self.old.seen }
+        ensures most { self.new.most ≡ self.old.most }
+        ensures least { self.new.least ≡ self.old.least }
+        ensures synced { self.new.synced ≡ self.old.synced }
+        ensures fault { self.new.fault ≡ Some fault }
+        ensures written { self.new.written ≡ self.old.written }
+    {
+        self.fault = Some(fault);
+        Err(fault)
+    }
+
     /// Counts a call, and tells whether it doesn't fail.
     fn passes(&mut self) -> bool
         ensures { self.new ≡ self.old }
@@ -105,18 +123,20 @@ impl LogFile for MemoryLog {
 
     ghost may_leave = { MayLeave };
 
-    ghost failed = { λ m. m.failed };
+    ghost fault = { λ m. m.fault };
+
+    ghost written = { λ m. m.written };
 
     fn read(&mut self, alloc: Global, most: usize) -> Result<Vec<u8>, FileFault> {
         if !self.passes() {
-            return Err(FileFault::Read);
+            return self.told(FileFault::Read);
         }
         if self.len > most {
-            return Err(FileFault::TooLong);
+            return self.told(FileFault::TooLong);
         }
         match self.most[..self.len].to_vec(alloc) {
             Ok(bytes) => Ok(bytes),
-            Err(_) => Err(FileFault::Memory),
+            Err(_) => self.told(FileFault::Memory),
         }
     }
 
@@ -124,29 +144,29 @@ impl LogFile for MemoryLog {
         let passes = self.passes();
         let most = if passes { bytes.len() } else { self.torn };
         let count = bytes.len().min(most);
+        self.written = true;
         self.most.truncate(self.len);
         self.least = self.len;
         self.synced = false;
         if self.most.extend_from_slice(&bytes[..count]).is_err() {
-            self.failed = true;
-            return Err(FileFault::Memory);
+            return self.told(FileFault::Log);
         }
         self.len = self.most.len();
         if passes {
             return Ok(());
         }
-        self.failed = true;
+        self.fault = Some(FileFault::Log);
         Err(FileFault::Log)
     }
 
     fn cut(&mut self, len: usize) -> Result<(), FileFault> {
         let passes = self.passes();
+        self.written = true;
         self.most.truncate(self.len);
         self.least = len;
         self.synced = false;
         if !passes {
-            self.failed = true;
-            return Err(FileFault::Log);
+            return self.told(FileFault::Log);
         }
         self.len = len;
         Ok(())
@@ -154,8 +174,7 @@ impl LogFile for MemoryLog {
 
     fn sync(&mut self) -> Result<(), FileFault> {
         if !self.passes() {
-            self.failed = true;
-            return Err(FileFault::Log);
+            return self.told(FileFault::Log);
         }
         self.most.truncate(self.len);
         self.least = self.len;

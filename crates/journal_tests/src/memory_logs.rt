@@ -15,6 +15,10 @@ pub struct MemoryLogs {
     bytes: Option<Vec<u8>>,
     /// Whether its name is on the disk.
     named: bool,
+    /// The fault of the call that has failed.
+    fault: Option<FileFault>,
+    /// Whether the log was opened or made.
+    given: bool,
     /// How many calls don't fail any more.
     calls: usize,
 }
@@ -25,7 +29,7 @@ impl Model for MemoryLogs {
 
     ghost Value = { OneLog };
 
-    ghost view = { λ m. record { path = m.path.items; bytes = option_map (λ bytes. bytes.items) m.bytes; named = m.named } };
+    ghost view = { λ m. record { path = m.path.items; bytes = option_map (λ bytes. bytes.items) m.bytes; named = m.named; fault = m.fault; given = m.given } };
 }
 
 /// Whether both have the same bytes.
@@ -43,6 +47,8 @@ impl MemoryLogs {
             path,
             bytes: None,
             named: false,
+            fault: None,
+            given: false,
             calls,
         }
     }
@@ -65,15 +71,15 @@ impl MemoryLogs {
 }
 
 impl Logs for MemoryLogs {
-    ghost use Rattle.std.specs.Prelude.{Some};
-    ghost use Rattle.journal_tests.specs.Memory.{logs_in};
+    ghost use Rattle.journal_tests.specs.Memory.{folder_of};
 
     type Log = MemoryLog;
 
-    ghost folder = { λ m. Some (logs_in m) };
+    ghost folder = { folder_of };
 
     fn open(&mut self, path: &str) -> Result<Option<MemoryLog>, FileFault> {
         if !self.passes() {
+            self.fault = Some(FileFault::Log);
             return Err(FileFault::Log);
         }
         if !are_same(&self.path, path.as_bytes()) {
@@ -81,8 +87,14 @@ impl Logs for MemoryLogs {
         }
         match &self.bytes {
             Some(bytes) => match bytes.to_vec(self.alloc) {
-                Ok(bytes) => Ok(Some(MemoryLog::new(bytes, self.calls, 0))),
-                Err(_) => Err(FileFault::Memory),
+                Ok(bytes) => {
+                    self.given = true;
+                    Ok(Some(MemoryLog::new(bytes, self.calls, 0)))
+                }
+                Err(_) => {
+                    self.fault = Some(FileFault::Memory);
+                    Err(FileFault::Memory)
+                }
             },
             None => Ok(None),
         }
@@ -90,15 +102,18 @@ impl Logs for MemoryLogs {
 
     fn make(&mut self, path: &str) -> Result<MemoryLog, FileFault> {
         if !self.passes() || self.bytes.is_some() || !are_same(&self.path, path.as_bytes()) {
+            self.fault = Some(FileFault::Log);
             return Err(FileFault::Log);
         }
         self.bytes = Some(Vec::new(self.alloc));
         self.named = false;
+        self.given = true;
         Ok(MemoryLog::new(Vec::new(self.alloc), self.calls, 0))
     }
 
     fn sync_name(&mut self, path: &str) -> Result<(), FileFault> {
         if !self.passes() || self.bytes.is_none() || !are_same(&self.path, path.as_bytes()) {
+            self.fault = Some(FileFault::Log);
             return Err(FileFault::Log);
         }
         self.named = true;

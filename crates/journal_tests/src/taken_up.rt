@@ -2,7 +2,7 @@
 
 use super::MemoryLog;
 use super::two_jobs::{
-    FIRST, LATER, PLAIN, PieceReader, REPORTS, TELLING, accepted, joined, shaped,
+    DIGITS, FIRST, LATER, LINE, PLAIN, PieceReader, REPORTS, TELLING, accepted, joined, shaped,
 };
 use byte_streams::{FromRead, Gathered, Outlet};
 use cell_drive::{Manner, tell_again_in};
@@ -11,10 +11,11 @@ use run_journal::{LogFile, Untold, read_log};
 use std::alloc::Global;
 use std::test::Fail;
 
-/// The log of the run, each answer of which is shown before the next report comes. So many calls of it don't fail.
+/// The log of the run, each answer of which is shown before the next report comes, behind the line of its plan. So many calls
+/// of it don't fail.
 fn broken_off(alloc: Global, manner: Manner, calls: usize) -> Result<MemoryLog, Fail> {
     let mut reader = FromRead::new(PieceReader { bytes: REPORTS });
-    let log = MemoryLog::new(Vec::new(alloc), calls, 5);
+    let log = MemoryLog::new(LINE.to_vec(alloc)?, calls, 5);
     let output = Gathered::new(alloc, 16, Vec::new(alloc))?;
     let verified = accepted(alloc)?;
     let run = drive_logged(alloc, verified, manner, &mut reader, log, output, Untold);
@@ -25,7 +26,7 @@ fn broken_off(alloc: Global, manner: Manner, calls: usize) -> Result<MemoryLog, 
 fn taken_up(alloc: Global, manner: Manner, left: Vec<u8>) -> Result<Vec<u8>, Fail> {
     let mut log = MemoryLog::new(left, 1000, 0);
     let text = read_log(alloc, &mut log)?;
-    let Ok(taken) = take_up_log(alloc, shaped(alloc)?, &mut log, &text, None) else {
+    let Ok(taken) = take_up_log(alloc, shaped(alloc)?, &mut log, &text, None, &DIGITS) else {
         return Err("the run isn't taken up".into());
     };
     let mut output = Gathered::new(alloc, 16, Vec::new(alloc))?;
@@ -65,7 +66,7 @@ fn goes_on(alloc: Global, manner: Manner, log: &MemoryLog, events: &[u8]) -> Res
 
 #[test]
 fn a_run_goes_on_after_each_crash(rt: HostRuntime) -> Result<(), Fail> {
-    let events = joined(rt.alloc(), &[FIRST, LATER])?;
+    let events = joined(rt.alloc(), &[LINE, FIRST, LATER])?;
     for calls in 0..14 {
         let log = broken_off(rt.alloc(), PLAIN, calls)?;
         assert!(rt; goes_on(rt.alloc(), PLAIN, &log, &events)?);
@@ -75,7 +76,7 @@ fn a_run_goes_on_after_each_crash(rt: HostRuntime) -> Result<(), Fail> {
 
 #[test]
 fn a_run_in_version_2_goes_on_after_a_crash(rt: HostRuntime) -> Result<(), Fail> {
-    let events = joined(rt.alloc(), &[FIRST, LATER])?;
+    let events = joined(rt.alloc(), &[LINE, FIRST, LATER])?;
     let log = broken_off(rt.alloc(), TELLING, 5)?;
     assert!(rt; goes_on(rt.alloc(), TELLING, &log, &events)?);
     Ok(())

@@ -1,6 +1,6 @@
 //! Runs with a log and an output whose bytes are told, so that what is said of these is asked for, and used.
 
-ghost use Rattle.std.specs.Prelude.{◌≡◌, [], Some, true, false, IfOk};
+ghost use Rattle.std.specs.Prelude.{◌≡◌, [], None, Some, true, false, IfOk};
 ghost use Rattle.run_journal.specs.LogFiles.{IsSettled};
 ghost use Rattle.logged_drive.specs.LoggedRuns.{IsAllInLog, KeepsShown};
 ghost use Rattle.journal_tests.specs.Memory.{MayLeave};
@@ -8,8 +8,8 @@ ghost use Rattle.journal_tests.specs.Told.{HasWhatIsShown};
 
 use crate::memory_log::MemoryLog;
 use byte_streams::{FromRead, Gathered, Outlet, Sink};
-use cell_drive::{DriveEnd, Manner, RestEnd, Taken};
-use logged_drive::{LoggedEnd, drive_logged, go_on_logged, take_up_log};
+use cell_drive::{DriveEnd, Manner, RestEnd, Taken, take_up};
+use logged_drive::{LoggedEnd, drive_logged, go_on_logged};
 use plan_verifier::Verified;
 use run_journal::{Before, FileFault, LogFile, read_log};
 use shop_base::Shaped;
@@ -34,7 +34,7 @@ fn drive_from_nothing(
     log: MemoryLog,
     output: Gathered<Vec<u8>>,
 ) -> LoggedEnd<DriveEnd, Gathered<Vec<u8>>, MemoryLog>
-    requires log { (log.seen ≡ []) × (log.synced ≡ true) × (log.failed ≡ false) }
+    requires log { (log.seen ≡ []) × (log.synced ≡ true) × (log.fault ≡ None) }
     requires output { ⟦<Gathered<Vec<u8>> as Sink>⟧.taken output ≡ Some [] }
     requires shown { ⟦<Gathered<Vec<u8>> as Outlet>⟧.pending output ≡ [] }
     ensures crash { KeepsShown [] [] (MayLeave result.log) (⟦<Gathered<Vec<u8>> as Sink>⟧.taken result.output) }
@@ -61,7 +61,7 @@ fn go_on_from_nothing(
     log: MemoryLog,
     output: Gathered<Vec<u8>>,
 ) -> LoggedEnd<RestEnd, Gathered<Vec<u8>>, MemoryLog>
-    requires log { (log.seen ≡ []) × IsSettled (Some log.seen) (MayLeave log) × (log.failed ≡ false) }
+    requires log { (log.seen ≡ []) × IsSettled (Some log.seen) (MayLeave log) × (log.fault ≡ None) }
     requires output { ⟦<Gathered<Vec<u8>> as Sink>⟧.taken output ≡ Some [] }
     requires shown { ⟦<Gathered<Vec<u8>> as Outlet>⟧.pending output ≡ [] }
     ensures crash { KeepsShown [] [] (MayLeave result.log) (⟦<Gathered<Vec<u8>> as Sink>⟧.taken result.output) }
@@ -119,7 +119,7 @@ pub fn gone_on_from_nothing(
 {
     let mut log = MemoryLog::new(Vec::new(alloc), 1000, 0);
     let text = read_log(alloc, &mut log)?;
-    let Ok(taken) = take_up_log(alloc, shaped, &mut log, &text, None) else {
+    let Ok(taken) = take_up(alloc, shaped, text.lines(), None) else {
         return Err(FileFault::Log);
     };
     let Ok(output) = Gathered::new(alloc, 16, Vec::new(alloc)) else {

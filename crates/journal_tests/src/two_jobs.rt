@@ -1,6 +1,7 @@
 //! Two jobs that cross on two machines, and their run.
 
 use cell_drive::Manner;
+use event_lines::RunDigits;
 use orlib_read::read_instance;
 use plan_text::read_plan;
 use plan_verifier::{Verdict, Verified, verify};
@@ -11,6 +12,15 @@ use std::test::Fail;
 
 /// Their steps.
 const TWO: &[u8] = b"two\n2 2\n0 3 1 2\n1 4 0 1\n";
+
+/// The digits of some plan and its shop.
+pub(crate) const DIGITS: RunDigits = RunDigits {
+    plan: *b"9d494b630a55b7fb",
+    shop: *b"b59842d39b1df915",
+};
+
+/// The line of that plan.
+pub(super) const LINE: &[u8] = b"unfinished plan 9d494b630a55b7fb shop b59842d39b1df915\n";
 
 /// The two jobs, job 0 before job 1.
 const CROSSING: &[u8] = b"release = [0, 0]\nbudget = [5, 10]\norder = [[0, 1], [0, 1]]\n";

@@ -27,10 +27,9 @@ use Rattle.cell_drive.specs.Stated.{StatedAnswers}
 use Rattle.cell_drive.specs.TakenUp.{TakenUp, IsTakenRun, IsTakenUp, plan_of, told_in, cell_told}
 use Rattle.cell_drive.specs.Resuming.{due_text, driven_so_far}
 use Rattle.cell_drive.proofs.CutLogs.{closing_part}
-use Rattle.cell_drive.proofs.OneText.{IsOnCourse, start_on_course}
-use Rattle.cell_drive.proofs.OneStated.{stated_lines_keep}
+use Rattle.cell_drive.proofs.OneText.{IsOnCourse, start_on_course, stated_lines_keep}
 use Rattle.cell_drive.proofs.OwnRuns.{front_events}
-use Rattle.cell_drive.proofs.ReadBack.{AreTold, all_told, answers_told, tells_moves}
+use Rattle.cell_drive.proofs.ReadBack.{AreTold, all_told, tells_moves}
 use Rattle.cell_drive.proofs.StatedTold.{stated_line_told}
 use Rattle.run_journal.specs.LogFiles.{IsLeft}
 use Rattle.run_journal.specs.WholeLines.{whole_lines}
@@ -38,7 +37,7 @@ use Rattle.run_journal.specs.LoggedLines.{logged}
 use Rattle.run_journal.proofs.Formed.{IsFormed, formed-both, formed-line, left_torn}
 use Rattle.run_journal.proofs.LeftEvents.{left_log, ended_whole}
 use Rattle.logged_drive.specs.CrashLaw.{IsTakenUpAgain, AreAnswered, IsGiven, ADrivenRunIsTakenUp, IsTakenUpOnceMore, ATakenUpRunIsTakenUp}
-use Rattle.logged_drive.proofs.FormedAnswers.{answers_formed, all_formed, formed_moves, last_formed}
+use Rattle.logged_drive.proofs.FormedAnswers.{all_formed, formed_moves, last_formed}
 use Rattle.logged_drive.proofs.FormedStates.{stated_formed}
 
 none_in_front : (front back : List Entry) → front ++ back ≡ [] → front ≡ []
@@ -79,25 +78,23 @@ module _ (p : PlannedShop) (base : List ℕ) (told : List Entry) (text shown pen
 
 module _ (p : PlannedShop) (shaped : IsWellShaped p) (manner : Manner) where
   answered_told : (before end : DrivenCell) (lines : List (Option (List ℕ))) (text : List ℕ) → IsOnCourse p before.cell → AreAnswered p manner before lines text end → AreTold p shaped before text end
-  answered_told before end lines text on (inl plain) = answers_told p shaped lines before end 1 text on plain
-  answered_told before end lines text on (inr stated) = all_told p shaped (StatedAnswers p manner) (stated_lines_keep p manner) (stated_line_told p shaped manner) lines before end 1 text on stated
+  answered_told before end lines text on all = all_told p shaped (StatedAnswers p manner) (stated_lines_keep p manner) (stated_line_told p shaped manner) lines before end 1 text on all
 
   answered_formed : (before end : DrivenCell) (lines : List (Option (List ℕ))) (text : List ℕ) → IsOnCourse p before.cell → AreAnswered p manner before lines text end → IsFormed text
-  answered_formed before end lines text on (inl plain) = answers_formed p shaped lines before end 1 text on plain
-  answered_formed before end lines text on (inr stated) = all_formed p shaped (StatedAnswers p manner) (stated_lines_keep p manner) (stated_formed p shaped manner) lines before end 1 text on stated
+  answered_formed before end lines text on all = all_formed p shaped (StatedAnswers p manner) (stated_lines_keep p manner) (stated_formed p shaped manner) lines before end 1 text on all
 
 whole_text : (p : PlannedShop) (text : List ℕ) (entries : List Entry) → TellsFirst p text entries → LinesTell p (lines_of text) entries
 whole_text p text entries tells =
     subst (λ (t : List ℕ). LinesTell p (lines_of t) entries) (append-nil text) (subst (λ (es : List Entry). LinesTell p (lines_of (text ++ [])) es) (append-nil entries) (tells [] [] refl))
 
 pub driven_run : ADrivenRunIsTakenUp
-driven_run p manner lines answers closing shown pending left end shaped acceptable are given is =
+driven_run p manner base lines answers closing shown pending left end shaped acceptable whole none are given is =
     let on = start_on_course p shaped in
     let told = answered_told p shaped manner (undriven p) end lines answers on are in
     let text = answers ++ closing in
     let tells : TellsFirst p text (told.more ++ []) = tells_both p answers closing told.more [] told.tells (closing_part p end closing given.closes) in
     let entries : told.more ++ [] ≡ end.entries = append-nil told.more ∙ sym told.entries in
-    again p [] [] text shown pending given.lost left end.entries refl refl
+    again p base [] text shown pending given.lost left end.entries whole none
     (subst (λ (es : List Entry). LinesTell p (lines_of text) es) entries (whole_text p text (told.more ++ []) tells))
     (subst (λ (es : List Entry). IsRun p (events_of es)) (sym told.entries) told.events)
     (formed-both answers closing (answered_formed p shaped manner (undriven p) end lines answers on are) (last_formed p shaped end closing given.closes))
@@ -117,10 +114,10 @@ module _ (taken : TakenUp) (run : IsTakenRun taken) where
   p = plan_of taken
 
   abbrev orders : List MoveOrder
-  orders = taken.driven.control.orders
+  orders = taken.control.orders
 
   abbrev noted : List Entry
-  noted = taken.driven.log.entries
+  noted = taken.log.entries
 
   due_is : due_text taken ≡ (10 ∷ []) ++ order_lines orders
   due_is =
@@ -128,28 +125,28 @@ module _ (taken : TakenUp) (run : IsTakenRun taken) where
       ap (λ (es : List Entry). 10 ∷ entry_lines es) (append_cancel_left (told_in taken) (drop (length taken.late) noted) (map OrderEntry orders) parts) ∙ ap (λ (l : List ℕ). 10 ∷ l) (lines_of_orders orders)
 
   told_sound : IsRun p (events_of (told_in taken)) → IsSound p (cell_told taken)
-  told_sound is_run = run-sound p (events_of (told_in taken)) run.driven.shaped is_run
+  told_sound is_run = run-sound p (events_of (told_in taken)) run.kept.shaped is_run
 
   orders_tell : IsRun p (events_of (told_in taken)) → TellsFirst p (due_text taken) (map OrderEntry orders)
   orders_tell is_run =
       let settled = run.begun.settled in
-      let t = taken.driven.control.began in
-      let tells = tells_moves p run.driven.shaped (cell_told taken) t settled.movers (told_sound is_run) settled.settles.moves in
+      let t = taken.control.began in
+      let tells = tells_moves p run.kept.shaped (cell_told taken) t settled.movers (told_sound is_run) settled.settles.moves in
       let lines = subst (λ (os : List MoveOrder). TellsFirst p (order_lines os) (map OrderEntry os)) (sym settled.orders_are) tells in
       subst (λ (l : List ℕ). TellsFirst p l (map OrderEntry orders)) (sym due_is) (tells_both p (10 ∷ []) (order_lines orders) [] (map OrderEntry orders) (empty_line p) lines)
 
   orders_formed : IsRun p (events_of (told_in taken)) → IsFormed (due_text taken)
   orders_formed is_run =
       let settled = run.begun.settled in
-      let t = taken.driven.control.began in
-      let lines = subst (λ (os : List MoveOrder). IsFormed (order_lines os)) (sym settled.orders_are) (formed_moves p run.driven.shaped (cell_told taken) t settled.movers (told_sound is_run) settled.settles.moves) in
+      let t = taken.control.began in
+      let lines = subst (λ (os : List MoveOrder). IsFormed (order_lines os)) (sym settled.orders_are) (formed_moves p run.kept.shaped (cell_told taken) t settled.movers (told_sound is_run) settled.settles.moves) in
       subst IsFormed (sym due_is) (formed-both (10 ∷ []) (order_lines orders) (formed-line [] tt (λ is. refl)) lines)
 
   on_course : IsOnCourse p (driven_so_far p noted).cell
   on_course = record {
-    shaped = run.driven.shaped;
-    sound = run-sound p (events_of noted) run.driven.shaped run.driven.told.run;
-    rest = subst (IsAtRest p) run.driven.told.cell run.driven.control.at_rest;
+    shaped = run.kept.shaped;
+    sound = run-sound p (events_of noted) run.kept.shaped run.kept.told.run;
+    rest = subst (IsAtRest p) run.kept.told.cell run.kept.control.at_rest;
   }
 
   taken_again : (manner : Manner) (base : List ℕ) (at : Option ℕ) (lines : List (Option (List ℕ))) (answers closing shown pending left : List ℕ) (end : DrivenCell)
@@ -157,17 +154,17 @@ module _ (taken : TakenUp) (run : IsTakenRun taken) where
       → IsLeft (length (base ++ logged shown)) (base ++ logged (shown ++ pending)) left → IsTakenUpOnceMore p taken shown left end
   taken_again manner base at lines answers closing shown pending left end whole up are given is =
       let from = up.taken_from in
-      let shaped = run.driven.shaped in
+      let shaped = run.kept.shaped in
       let is_run = subst (λ (es : List Entry). IsRun p (events_of es)) (sym from.told_is) up.is_run in
       let on = answered_told p shaped manner (driven_so_far p noted) end lines answers on_course are in
       let came = map OrderEntry orders ++ on.more in
       let all : end.entries ≡ told_in taken ++ came = on.entries ∙ ap (λ (es : List Entry). es ++ on.more) run.due ∙ append_assoc (told_in taken) (map OrderEntry orders) on.more in
       let joined : events_of end.entries ≡ events_of noted ++ events_of on.more = ap events_of on.entries ∙ events-join noted on.more in
-      let run_all : IsRun p (events_of end.entries) = subst (IsRun p) (sym joined) (events_join p (start p) (events_of noted) (events_of on.more) run.driven.told.run on.events) in
+      let run_all : IsRun p (events_of end.entries) = subst (IsRun p) (sym joined) (events_join p (start p) (events_of noted) (events_of on.more) run.kept.told.run on.events) in
       let text = (due_text taken ++ answers) ++ closing in
       let tells : TellsFirst p text (came ++ []) =
       tells_both p (due_text taken ++ answers) closing came [] (tells_both p (due_text taken) answers (map OrderEntry orders) on.more (orders_tell is_run) on.tells) (closing_part p end closing given.closes) in
-      let ranks = run.driven.control.ranks in
+      let ranks = run.kept.control.ranks in
       record {
         came = came;
         whole = all;
@@ -183,7 +180,7 @@ module _ (taken : TakenUp) (run : IsTakenRun taken) where
 -- what is so of the plan of a run, is so of the plan that it is
 abbrev TakesAgain : TakenUp → Manner → List ℕ → Option ℕ → List (Option (List ℕ)) → List ℕ → List ℕ → List ℕ → List ℕ → List ℕ → DrivenCell → PlannedShop → Type 0
 TakesAgain taken manner base at lines answers closing shown pending left end p =
-    IsTakenUp p (ended_lines base) at taken → AreAnswered p manner (driven_so_far p taken.driven.log.entries) lines answers end → IsGiven p (due_text taken ++ answers) shown pending closing end
+    IsTakenUp p (ended_lines base) at taken → AreAnswered p manner (driven_so_far p taken.log.entries) lines answers end → IsGiven p (due_text taken ++ answers) shown pending closing end
     → IsTakenUpOnceMore p taken shown left end
 
 pub taken_up_run : ATakenUpRunIsTakenUp

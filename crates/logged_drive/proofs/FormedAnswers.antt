@@ -1,5 +1,5 @@
 -- What a driven cell answers, as a log gets it.
-use Rattle.std.proofs.Common.{◌≡◌, ℕ, ◌+◌, ◌<◌, ◌≤◌, List, [], ◌∷◌, ◌++◌, codes, Option, None, Some, Bool, true, false, cond, ◌⊎◌, inl, inr, refl, sym, subst, arith}
+use Rattle.std.proofs.Common.{◌≡◌, ℕ, ◌+◌, ◌<◌, ◌≤◌, List, [], ◌∷◌, ◌++◌, Option, ◌⊎◌, inl, inr, refl, sym, subst, arith}
 use Rattle.shop_base.specs.declared.limits.TheConstants.{MAX_MOMENT}
 use Rattle.shop_base.specs.declared.move_order.Spot.{Spot}
 use Rattle.shop_base.specs.declared.move_order.Spot.TheVariants.{Out, At}
@@ -18,16 +18,14 @@ use Rattle.cell_tables.specs.declared.entry.Entry.TheVariants.{Report as ReportE
 use Rattle.byte_streams.specs.Answering.{AnswerAll}
 use Rattle.event_lines.specs.Words.{short, moment}
 use Rattle.event_lines.specs.EventLines.{spot_word, told_words, entry_words, report_line, order_line, order_lines}
-use Rattle.event_lines.specs.AnswerLines.{late_words, late_line}
+use Rattle.event_lines.specs.AnswerLines.{late_words}
 use Rattle.event_lines.specs.LogLines.{IsEntryOf}
 use Rattle.run_journal.specs.TornEnds.{IsNarrow, AreNarrow}
-use Rattle.cell_drive.specs.LineAnswers.{ReportAnswer}
-use Rattle.cell_drive.specs.AnswerText.{DrivenCell, CellAnswers, CellCloses}
-use Rattle.cell_drive.proofs.OneText.{IsOnCourse, driven_lines_keep}
-use Rattle.cell_drive.proofs.ReadBack.{name_spaceless}
+use Rattle.cell_drive.specs.AnswerText.{DrivenCell, CellCloses}
+use Rattle.cell_drive.proofs.OneText.{IsOnCourse}
 use Rattle.cell_drive.proofs.ShopEntries.{report_of_shop, order_of_shop}
 use Rattle.run_journal.proofs.Formed.{IsFormed, formed-none, formed-both}
-use Rattle.run_journal.proofs.FormedLines.{formed-entry, formed-late, formed-refused, formed-done, formed-unfinished}
+use Rattle.run_journal.proofs.FormedLines.{formed-entry, formed-done, formed-unfinished}
 
 pub moment_fits : (at : ℕ) → at ≤ MAX_MOMENT → IsNarrow (moment at)
 moment_fits at in_range = ((omega arith, omega (arith, in_range), omega (arith, in_range)), inl refl)
@@ -70,27 +68,6 @@ module _ (p : PlannedShop) (shaped : IsWellShaped p) where
   pub report_formed : (c : Cell) (report : Report) (movers : List ℕ) → IsSound p c → IsStep p c report movers → IsFormed (report_line report)
   report_formed c report movers sound step = formed-entry (ReportEntry report) (entry_fits (ReportEntry report) (report_of_shop p c report shaped sound step.can))
 
-  late_formed : (at : ℕ) (late : Bool) → at ≤ MAX_MOMENT → IsFormed (cond late (late_line at) [])
-  late_formed at true in_range = formed-late at (late_fits at in_range)
-  late_formed at false in_range = formed-none
-
-  -- ---- answers
-
-  answer_formed : (c next : Cell) (number : ℕ) (report : Report) (text : List ℕ) (more : List Entry) → IsSound p c → ReportAnswer p [] c number report text more next → IsFormed text
-  answer_formed c next number report text more sound (inl is) = subst IsFormed (sym is.text_is) (formed-refused number _ (name_spaceless is.reason))
-  answer_formed c next number report text more sound (inr is) =
-      let late = cond is.late (late_line (at report)) [] in
-      let orders = order_lines (step_orders p c report is.movers) in
-      subst IsFormed (sym is.text_is)
-      (formed-both (report_line report) (late ++ orders) (report_formed c report is.movers sound is.step)
-      (formed-both late orders (late_formed (at report) is.late is.step.can.moment.in_range) (step_formed c report is.movers sound is.step)))
-
-  line_formed : (before : DrivenCell) (number : ℕ) (line : Option (List ℕ)) (text : List ℕ) (end : DrivenCell) → IsSound p before.cell → CellAnswers p before number line text end → IsFormed text
-  line_formed before number None text end sound is = subst IsFormed (sym is.text_is) (formed-refused number (codes "LongLine") refl)
-  line_formed before number (Some []) text end sound is = subst IsFormed (sym is.text_is) formed-none
-  line_formed before number (Some (b ∷ line)) text end sound (inl is) = subst IsFormed (sym is.1.text_is) (formed-refused number (codes "BadLine") refl)
-  line_formed before number (Some (b ∷ line)) text end sound (inr is) = answer_formed before.cell end.cell number is.what text is.answer.more sound is.answer.answer
-
   -- lines, whatever is answered to each
   module _ (answers : DrivenCell → ℕ → Option (List ℕ) → List ℕ → DrivenCell → Type 0)
       (keeps : (before : DrivenCell) (number : ℕ) (line : Option (List ℕ)) (text : List ℕ) (end : DrivenCell) → IsOnCourse p before.cell → answers before number line text end → IsOnCourse p end.cell)
@@ -100,9 +77,6 @@ module _ (p : PlannedShop) (shaped : IsWellShaped p) where
     all_formed (line ∷ lines) before end number text on all =
         subst IsFormed (sym all.5) (formed-both all.0 all.1 (formed before number line all.0 all.2 on.sound all.3)
         (all_formed lines all.2 end (number + 1) all.1 (keeps before number line all.0 all.2 on all.3) all.4))
-
-  pub answers_formed : (lines : List (Option (List ℕ))) (before end : DrivenCell) (number : ℕ) (text : List ℕ) → IsOnCourse p before.cell → AnswerAll (CellAnswers p) before number lines text end → IsFormed text
-  answers_formed lines before end number text on all = all_formed (CellAnswers p) (driven_lines_keep p) line_formed lines before end number text on all
 
   closing_formed : (end : DrivenCell) (text : List ℕ) → CellCloses p end text → IsFormed text
   closing_formed end text (inl ended) = subst IsFormed (sym ended.1) (formed-done end.cell.last)

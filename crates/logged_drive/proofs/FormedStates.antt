@@ -37,7 +37,7 @@ use Rattle.cell_drive.specs.LineAnswers.{closing_line}
 use Rattle.cell_drive.specs.AnswerText.{DrivenCell}
 use Rattle.cell_drive.specs.Stated.{RequestAnswer, StatedAnswers, lateness_part, end_part, told_overdue, tells_end}
 use Rattle.cell_drive.proofs.ShopEntries.{report_of_shop}
-use Rattle.cell_drive.proofs.Stating.{no_prefix}
+use Rattle.cell_drive.proofs.Replied.{no_prefix}
 use Rattle.run_journal.proofs.Formed.{IsFormed, formed-none, formed-both}
 use Rattle.run_journal.proofs.FormedLines.{formed-late, formed-late_overdue, formed-refused, formed-refused_detail, formed-done, formed-unfinished, formed-standing}
 use Rattle.logged_drive.proofs.FormedAnswers.{moment_fits, late_fits, job_fits, machine_fits, step_formed, report_formed}

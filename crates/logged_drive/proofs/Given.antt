@@ -11,14 +11,12 @@ use Rattle.byte_streams.specs.Lines.{input_lines}
 use Rattle.byte_streams.specs.Answering.{AnswerAll, AreCutOff, IsClosingCut}
 use Rattle.byte_streams.specs.Streams.{ComesTo, IsStreamed, IsCutOff}
 use Rattle.cell_drive.specs.declared.manner.Manner.{Manner}
-use Rattle.cell_drive.specs.declared.one_run.DriveEnd.{DriveEnd}
+use Rattle.cell_drive.specs.declared.begin.DriveEnd.{DriveEnd}
 use Rattle.cell_drive.specs.AnswerText.{DrivenCell, undriven, CellCloses}
-use Rattle.cell_drive.specs.OneCell.{DriveAnswer, DriveCloses, drive_start, seen}
-use Rattle.cell_drive.specs.Stated.{StatedAnswer, StatedCloses, stated_start}
+use Rattle.cell_drive.specs.Session.{SessionAnswer, SessionCloses, seen, session_start}
 use Rattle.cell_drive.specs.OneRun.{IsStreamedFrom}
-use Rattle.cell_drive.specs.InManner.{DrivesBy, IsDriveIn, is_plain}
-use Rattle.cell_drive.proofs.OneRun.{seen_answers, seen_closes}
-use Rattle.cell_drive.proofs.OneStated.{a_stated_cell_answers_so}
+use Rattle.cell_drive.specs.InManner.{IsDriveIn}
+use Rattle.cell_drive.proofs.Sessions.{a_session_answers_so, seen_closes}
 use Rattle.logged_drive.specs.CrashLaw as law
 
 -- some lines were answered, and perhaps a closing line stands behind the answers; the first bytes of that were written
@@ -151,16 +149,16 @@ pub closes_too : {P Q R : Type 0} → (Q → R) → P ⊎ Q → P ⊎ R
 closes_too f (inl p) = inl p
 closes_too f (inr q) = inr (f q)
 
-drive_first : (plain : Bool) (manner : Manner) (v : VerifiedPlan) (before after : Streams) (outcome : Result DriveEnd DriveFault) → DrivesBy plain manner v before after outcome
+pub driven_first : (manner : Manner) (v : VerifiedPlan) (before after : Streams) (outcome : Result DriveEnd DriveFault) → IsDriveIn manner v before after outcome
     → IsFirstOfCell v.planned manner (undriven v.planned) before.output.taken after.output.taken
-drive_first true manner v before after outcome is =
-    let first = from_start DriveAnswer DriveCloses outcome (drive_start v) is.end before after is.streamed in
-    let answers = seen_answers v.planned first.lines (drive_start v) first.end 1 first.text refl first.are in
+driven_first manner v before after outcome is =
+    let first = from_start SessionAnswer SessionCloses outcome (session_start manner v) is.end before after is.streamed in
+    let answers = a_session_answers_so (session_start manner v) first.end 1 first.lines first.text first.are in
     record {
       lines = first.lines;
       text = first.text;
       end = seen first.end;
-      are = inl answers.0;
+      are = answers.0;
       closing = first.closing;
       closes = closes_too (seen_closes v.planned first.end first.closing (ap (λ (w : VerifiedPlan). w.planned) answers.1)) first.is_closing;
       out = first.out;
@@ -168,22 +166,3 @@ drive_first true manner v before after outcome is =
       written = first.written;
       whole = first.whole;
     }
-drive_first false manner v before after outcome is =
-    let first = from_start StatedAnswer StatedCloses outcome (stated_start manner v) is.end before after is.streamed in
-    let answers = a_stated_cell_answers_so (stated_start manner v) first.end 1 first.lines first.text first.are in
-    record {
-      lines = first.lines;
-      text = first.text;
-      end = seen first.end.driven;
-      are = inr answers.0;
-      closing = first.closing;
-      closes = closes_too (seen_closes v.planned first.end.driven first.closing (ap (λ (w : VerifiedPlan). w.planned) answers.1)) first.is_closing;
-      out = first.out;
-      lost = first.lost;
-      written = first.written;
-      whole = first.whole;
-    }
-
-pub driven_first : (manner : Manner) (v : VerifiedPlan) (before after : Streams) (outcome : Result DriveEnd DriveFault) → IsDriveIn manner v before after outcome
-    → IsFirstOfCell v.planned manner (undriven v.planned) before.output.taken after.output.taken
-driven_first manner v before after outcome is = drive_first (is_plain manner) manner v before after outcome is

@@ -5,22 +5,20 @@ use Rattle.std.proofs.KnownBytes.{Appends-nil, Appends-trans}
 use Rattle.shop_base.specs.Plan.{PlannedShop}
 use Rattle.shop_base.specs.Cell.{Cell}
 use Rattle.text_lines.specs.Lines.{ended_lines}
+use Rattle.plan_verifier.specs.Accepted.{VerifiedPlan}
 use Rattle.cell_tables.specs.declared.entry.Entry.{Entry}
 use Rattle.byte_streams.specs.declared.drive_fault.DriveFault.{DriveFault}
 use Rattle.byte_streams.specs.declared.rooms.TheConstants.{MAX_PIECE}
 use Rattle.byte_streams.specs.Sinks.{TookPart}
 use Rattle.byte_streams.specs.Lent.{Input, Streams}
 use Rattle.cell_drive.specs.declared.manner.Manner.{Manner}
-use Rattle.cell_drive.specs.declared.rest_run.RestEnd.{RestEnd}
+use Rattle.cell_drive.specs.declared.resume.RestEnd.{RestEnd}
 use Rattle.cell_drive.specs.AnswerText.{DrivenCell, CellCloses}
-use Rattle.cell_drive.specs.RestCell.{RestAnswer, RestCloses, rest_seen}
-use Rattle.cell_drive.specs.TakenUp.{TakenUp, IsTakenRun, IsTakenUp, plan_of, told_in}
-use Rattle.cell_drive.specs.Resuming.{GoesOn, due_text, driven_so_far}
-use Rattle.cell_drive.specs.StatedRest.{StatedRestAnswer, StatedRestCloses}
-use Rattle.cell_drive.specs.StatedResume.{GoesOnStated, stated_from}
-use Rattle.cell_drive.specs.InManner.{GoesOnBy, IsGoneOnIn, is_plain}
-use Rattle.cell_drive.proofs.RestAnswers.{rest_seen_answers, rest_seen_closes}
-use Rattle.cell_drive.proofs.RestStating.{stated_rest_answers}
+use Rattle.cell_drive.specs.Session.{SessionAnswer, SessionCloses, seen}
+use Rattle.cell_drive.specs.TakenUp.{TakenUp, IsTakenRun, IsTakenUp, plan_of, seen_in, told_in}
+use Rattle.cell_drive.specs.Resuming.{due_text, driven_so_far, session_from}
+use Rattle.cell_drive.specs.InManner.{IsGoneOnIn}
+use Rattle.cell_drive.proofs.Sessions.{a_session_answers_so, seen_closes}
 use Rattle.run_journal.specs.WholeLines.{whole_lines}
 use Rattle.run_journal.specs.Logged.{Held, StayInStep}
 use Rattle.logged_drive.specs.CrashLaw as law
@@ -34,7 +32,7 @@ record IsFirstOfRest (p : PlannedShop) (manner : Manner) (taken : TakenUp) (befo
   lines : List (Option (List ℕ))
   text : List ℕ
   end : DrivenCell
-  are : law.AreAnswered p manner (driven_so_far p taken.driven.log.entries) lines text end
+  are : law.AreAnswered p manner (driven_so_far p taken.log.entries) lines text end
   closing : List ℕ
   closes : (closing ≡ []) ⊎ CellCloses p end closing
   out : List ℕ
@@ -51,15 +49,15 @@ module _ (manner : Manner) (taken : TakenUp) where
   p = plan_of taken
 
   -- the cell that was taken up is that after its events
-  seen_from : IsTakenRun taken → rest_seen taken.driven ≡ driven_so_far p taken.driven.log.entries
-  seen_from run = ap (λ (c : Cell). let d : DrivenCell = record { cell = c; entries = taken.driven.log.entries } in d) run.driven.told.cell
+  seen_from : IsTakenRun taken → seen_in taken ≡ driven_so_far p taken.log.entries
+  seen_from run = ap (λ (c : Cell). let d : DrivenCell = record { cell = c; entries = taken.log.entries } in d) run.kept.told.cell
 
   cut_first : (before after : Option (List ℕ)) → TookPart before after (due_text taken) → IsFirstOfRest p manner taken before after
   cut_first before after part = record {
     lines = [];
     text = [];
-    end = driven_so_far p taken.driven.log.entries;
-    are = inl (refl, refl);
+    end = driven_so_far p taken.log.entries;
+    are = (refl, refl);
     closing = [];
     closes = inl refl;
     out = part.1.out;
@@ -68,45 +66,23 @@ module _ (manner : Manner) (taken : TakenUp) where
     whole = append-nil (due_text taken ++ []) ∙ append-nil (due_text taken) ∙ sym part.1.whole;
   }
 
-  plain_first : (before after : Streams) (outcome : Result RestEnd DriveFault) → GoesOn (due_text taken) taken before after outcome → IsFirstOfRest p manner taken before.output.taken after.output.taken
-  plain_first before after outcome on =
-      let first = streamed_first RestAnswer RestCloses outcome MAX_PIECE taken.driven on.end (record { input = before.input; output = on.middle }) after on.streamed in
-      let answers = rest_seen_answers p first.lines taken.driven first.end 1 first.text refl first.are in
+  goes_first : (before after : Streams) (outcome : Result RestEnd DriveFault) → IsGoneOnIn manner taken before after outcome → IsFirstOfRest p manner taken before.output.taken after.output.taken
+  goes_first before after outcome (inl cut) = cut_first before.output.taken after.output.taken cut.3
+  goes_first before after outcome (inr on) =
+      let first = streamed_first SessionAnswer SessionCloses outcome MAX_PIECE (session_from manner taken) on.end (record { input = before.input; output = on.middle }) after on.streamed in
+      let answers = a_session_answers_so (session_from manner taken) first.end 1 first.lines first.text first.are in
       record {
         lines = first.lines;
         text = first.text;
-        end = rest_seen first.end;
-        are = subst (λ (d : DrivenCell). law.AreAnswered p manner d first.lines first.text (rest_seen first.end)) (seen_from on.from) (inl answers.0);
+        end = seen first.end;
+        are = subst (λ (d : DrivenCell). law.AreAnswered p manner d first.lines first.text (seen first.end)) (seen_from on.from) answers.0;
         closing = first.closing;
-        closes = closes_too (rest_seen_closes p first.end first.closing answers.1) first.is_closing;
+        closes = closes_too (seen_closes p first.end first.closing (ap (λ (v : VerifiedPlan). v.planned) answers.1)) first.is_closing;
         out = due_text taken ++ first.out;
         lost = first.lost;
         written = Appends-trans before.output.taken on.middle.taken after.output.taken (due_text taken) first.out on.again first.written;
         whole = append_assoc (due_text taken) first.text first.closing ∙ ap (λ (l : List ℕ). due_text taken ++ l) first.whole ∙ sym (append_assoc (due_text taken) first.out first.lost);
       }
-
-  stated_first : (before after : Streams) (outcome : Result RestEnd DriveFault) → GoesOnStated manner (due_text taken) taken before after outcome → IsFirstOfRest p manner taken before.output.taken after.output.taken
-  stated_first before after outcome on =
-      let first = streamed_first StatedRestAnswer StatedRestCloses outcome MAX_PIECE (stated_from manner taken) on.end (record { input = before.input; output = on.middle }) after on.streamed in
-      let answers = stated_rest_answers p manner first.lines (stated_from manner taken) first.end 1 first.text refl refl first.are in
-      record {
-        lines = first.lines;
-        text = first.text;
-        end = rest_seen first.end.driven;
-        are = subst (λ (d : DrivenCell). law.AreAnswered p manner d first.lines first.text (rest_seen first.end.driven)) (seen_from on.from) (inr answers.0);
-        closing = first.closing;
-        closes = closes_too (rest_seen_closes p first.end.driven first.closing answers.1) first.is_closing;
-        out = due_text taken ++ first.out;
-        lost = first.lost;
-        written = Appends-trans before.output.taken on.middle.taken after.output.taken (due_text taken) first.out on.again first.written;
-        whole = append_assoc (due_text taken) first.text first.closing ∙ ap (λ (l : List ℕ). due_text taken ++ l) first.whole ∙ sym (append_assoc (due_text taken) first.out first.lost);
-      }
-
-  goes_first : (plain : Bool) (before after : Streams) (outcome : Result RestEnd DriveFault) → GoesOnBy plain manner taken before after outcome → IsFirstOfRest p manner taken before.output.taken after.output.taken
-  goes_first true before after outcome (inl cut) = cut_first before.output.taken after.output.taken cut.3
-  goes_first true before after outcome (inr on) = plain_first before after outcome on
-  goes_first false before after outcome (inl cut) = cut_first before.output.taken after.output.taken cut.3
-  goes_first false before after outcome (inr on) = stated_first before after outcome on
 
   first_of_plan : (q : PlannedShop) (before after : Option (List ℕ)) → p ≡ q → IsFirstOfRest p manner taken before after → IsFirstOfRest q manner taken before after
   first_of_plan q before after same first = subst (λ (x : PlannedShop). IsFirstOfRest x manner taken before after) same first
@@ -135,7 +111,7 @@ module _ (manner : Manner) (taken : TakenUp) where
       → StayInStep before seen may_leave held
       → IfSome before (λ told. (q : PlannedShop) (at : Option ℕ) → IsTakenUp q (ended_lines told.0) at taken → law.IsTakenUpAfter q (told_in taken) told.1 may_leave after)
   taken_up_once_more before seen may_leave held writer after input input_after outcome same start whole went steps =
-      written_once_more before seen may_leave held writer after same start whole (goes_first (is_plain manner) _ _ outcome went) steps
+      written_once_more before seen may_leave held writer after same start whole (goes_first _ _ outcome went) steps
 
   -- where nothing was written
   pub unbegun_once_more : (before : Option (List ℕ × List ℕ)) (seen : Option (List ℕ)) (may_leave : List ℕ → Type 0) (writer : Option (List ℕ)) → IfSome before (λ told. writer ≡ Some told.1)

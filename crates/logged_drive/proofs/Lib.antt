@@ -5,3 +5,4 @@ mod Crashes
 mod Given
 mod Safe
 mod GivenOn
+mod Takings

@@ -6,12 +6,11 @@ use Rattle.byte_streams.specs.declared.drive_fault.DriveFault.{DriveFault}
 use Rattle.byte_streams.specs.declared.drive_fault.DriveFault.TheVariants.{Memory, Write}
 use Rattle.byte_streams.specs.Lent.{Input, Output, Streams}
 use Rattle.cell_drive.specs.declared.manner.Manner.{Manner}
-use Rattle.cell_drive.specs.declared.one_run.DriveEnd.{DriveEnd}
-use Rattle.cell_drive.specs.declared.rest_run.RestEnd.{RestEnd}
+use Rattle.cell_drive.specs.declared.begin.DriveEnd.{DriveEnd}
+use Rattle.cell_drive.specs.declared.resume.RestEnd.{RestEnd}
 use Rattle.cell_drive.specs.TakenUp.{TakenUp}
-use Rattle.cell_drive.specs.OneCell.{drive_start}
-use Rattle.cell_drive.specs.Stated.{stated_start}
-use Rattle.cell_drive.specs.InManner.{DrivesBy, GoesOnBy, IsDriveIn, IsGoneOnIn, is_plain}
+use Rattle.cell_drive.specs.Session.{session_start}
+use Rattle.cell_drive.specs.InManner.{IsDriveIn, IsGoneOnIn}
 use Rattle.run_journal.specs.LogFiles.{IsSettled}
 use Rattle.run_journal.specs.WholeLines.{whole_lines}
 use Rattle.run_journal.specs.LoggedLines.{logged}
@@ -22,12 +21,8 @@ use Rattle.logged_drive.specs.LoggedRuns.{IsAllInLog, KeepsShown, RunsLogged, no
 
 -- ---- a run that isn't begun
 
-unbegun_by : (plain : Bool) (manner : Manner) (v : VerifiedPlan) (streams : Streams) → DrivesBy plain manner v streams streams (Err Memory)
-unbegun_by true manner v streams = record { end = drive_start v; streamed = refl; came_to = tt }
-unbegun_by false manner v streams = record { end = stated_start manner v; streamed = refl; came_to = tt }
-
 pub unbegun : (manner : Manner) (v : VerifiedPlan) (streams : Streams) → IsDriveIn manner v streams streams (Err Memory)
-unbegun manner v streams = unbegun_by (is_plain manner) manner v streams
+unbegun manner v streams = record { end = session_start manner v; streamed = refl; came_to = tt }
 
 told : {X : Type 0} (o : Option X) (x : X) (P : X → Type 0) → o ≡ Some x → IfSome o P → P x
 told o x P is p = subst (λ o. IfSome o P) is p
@@ -93,12 +88,8 @@ at_start before seen taken same is are = if_some-map before (λ b both. is ∙ b
 
 -- ---- a run that went to the end of its input
 
-ended_by : (plain : Bool) (manner : Manner) (v : VerifiedPlan) (before after : Streams) (end : DriveEnd) → DrivesBy plain manner v before after (Ok end) → after.output.failed ≡ before.output.failed
-ended_by true manner v before after end drove = drove.streamed.comes_to.write_unfailed
-ended_by false manner v before after end drove = drove.streamed.comes_to.write_unfailed
-
 pub ended : (manner : Manner) (v : VerifiedPlan) (before after : Streams) (end : DriveEnd) → IsDriveIn manner v before after (Ok end) → after.output.failed ≡ before.output.failed
-ended manner v before after end drove = ended_by (is_plain manner) manner v before after end drove
+ended manner v before after end drove = drove.streamed.comes_to.write_unfailed
 
 -- what follows of its end, follows where it has one
 pub at_end : {X E : Type 0} {P : Type 0} (r : Result X E) → ((x : X) → r ≡ Ok x → P) → IfOk r (λ _. P)
@@ -111,12 +102,10 @@ pub unfailed_at_end : (manner : Manner) (v : VerifiedPlan) (before after : Strea
 unfailed_at_end manner v before after outcome end is drove = ended manner v before after end (subst (λ (r : Result DriveEnd DriveFault). IsDriveIn manner v before after r) is drove)
 
 -- a write failed, where that is its fault
-write_failed_by : (plain : Bool) (manner : Manner) (v : VerifiedPlan) (before after : Streams) → DrivesBy plain manner v before after (Err Write) → after.output.failed ≡ true
-write_failed_by true manner v before after drove = drove.streamed.comes_to.0
-write_failed_by false manner v before after drove = drove.streamed.comes_to.0
-
 pub write_failed : (manner : Manner) (v : VerifiedPlan) (before after : Streams) (outcome : Result DriveEnd DriveFault) → outcome ≡ Err Write → IsDriveIn manner v before after outcome → after.output.failed ≡ true
-write_failed manner v before after outcome is drove = write_failed_by (is_plain manner) manner v before after (subst (λ (r : Result DriveEnd DriveFault). IsDriveIn manner v before after r) is drove)
+write_failed manner v before after outcome is drove =
+    let failed : IsDriveIn manner v before after (Err Write) = subst (λ (r : Result DriveEnd DriveFault). IsDriveIn manner v before after r) is drove in
+    failed.streamed.comes_to.0
 
 -- ---- a writer that begins
 
@@ -137,36 +126,30 @@ module _ {T : Type 0} (drives : Streams → Streams → Result T DriveFault → 
 
 -- ---- a run that goes on
 
-on-unfailed : (plain : Bool) (manner : Manner) (taken : TakenUp) (before after : Streams) (end : RestEnd) → GoesOnBy plain manner taken before after (Ok end) → after.output.failed ≡ before.output.failed
-on-unfailed true manner taken before after end (inl cut) = (let bad : Ok end ≡ Err Write = cut.0 in absurd (cc bad))
-on-unfailed true manner taken before after end (inr on) = on.streamed.comes_to.write_unfailed ∙ on.unfailed
-on-unfailed false manner taken before after end (inl cut) = (let bad : Ok end ≡ Err Write = cut.0 in absurd (cc bad))
-on-unfailed false manner taken before after end (inr on) = on.streamed.comes_to.write_unfailed ∙ on.unfailed
+on-unfailed : (manner : Manner) (taken : TakenUp) (before after : Streams) (end : RestEnd) → IsGoneOnIn manner taken before after (Ok end) → after.output.failed ≡ before.output.failed
+on-unfailed manner taken before after end (inl cut) = (let bad : Ok end ≡ Err Write = cut.0 in absurd (cc bad))
+on-unfailed manner taken before after end (inr on) = on.streamed.comes_to.write_unfailed ∙ on.unfailed
 
-on-write_failed : (plain : Bool) (manner : Manner) (taken : TakenUp) (before after : Streams) → GoesOnBy plain manner taken before after (Err Write) → after.output.failed ≡ true
-on-write_failed true manner taken before after (inl cut) = cut.1
-on-write_failed true manner taken before after (inr on) = on.streamed.comes_to.0
-on-write_failed false manner taken before after (inl cut) = cut.1
-on-write_failed false manner taken before after (inr on) = on.streamed.comes_to.0
+on-write_failed : (manner : Manner) (taken : TakenUp) (before after : Streams) → IsGoneOnIn manner taken before after (Err Write) → after.output.failed ≡ true
+on-write_failed manner taken before after (inl cut) = cut.1
+on-write_failed manner taken before after (inr on) = on.streamed.comes_to.0
 
-on-memory : (plain : Bool) (manner : Manner) (taken : TakenUp) (before after : Streams) → GoesOnBy plain manner taken before after (Err Memory) → ⊥
-on-memory true manner taken before after (inl cut) = (let bad : Err Memory ≡ Err Write = cut.0 in cc bad)
-on-memory true manner taken before after (inr on) = on.streamed.comes_to
-on-memory false manner taken before after (inl cut) = (let bad : Err Memory ≡ Err Write = cut.0 in cc bad)
-on-memory false manner taken before after (inr on) = on.streamed.comes_to
+on-memory : (manner : Manner) (taken : TakenUp) (before after : Streams) → IsGoneOnIn manner taken before after (Err Memory) → ⊥
+on-memory manner taken before after (inl cut) = (let bad : Err Memory ≡ Err Write = cut.0 in cc bad)
+on-memory manner taken before after (inr on) = on.streamed.comes_to
 
 module _ (manner : Manner) (taken : TakenUp) (before after : Streams) (outcome : Result RestEnd DriveFault) where
-  went : (same : Result RestEnd DriveFault) → outcome ≡ same → IsGoneOnIn manner taken before after outcome → GoesOnBy (is_plain manner) manner taken before after same
+  went : (same : Result RestEnd DriveFault) → outcome ≡ same → IsGoneOnIn manner taken before after outcome → IsGoneOnIn manner taken before after same
   went same is on = subst (λ (r : Result RestEnd DriveFault). IsGoneOnIn manner taken before after r) is on
 
   -- no write has failed at its end
   pub unfailed_behind : (end : RestEnd) → outcome ≡ Ok end → IsGoneOnIn manner taken before after outcome → after.output.failed ≡ before.output.failed
-  unfailed_behind end is on = on-unfailed (is_plain manner) manner taken before after end (went (Ok end) is on)
+  unfailed_behind end is on = on-unfailed manner taken before after end (went (Ok end) is on)
 
   -- one has, where that is its fault
   pub write_failed_behind : outcome ≡ Err Write → IsGoneOnIn manner taken before after outcome → after.output.failed ≡ true
-  write_failed_behind is on = on-write_failed (is_plain manner) manner taken before after (went (Err Write) is on)
+  write_failed_behind is on = on-write_failed manner taken before after (went (Err Write) is on)
 
   -- memory doesn't run out in it
   pub no_memory_behind : outcome ≡ Err Memory → IsGoneOnIn manner taken before after outcome → ⊥
-  no_memory_behind is on = on-memory (is_plain manner) manner taken before after (went (Err Memory) is on)
+  no_memory_behind is on = on-memory manner taken before after (went (Err Memory) is on)

@@ -1,17 +1,18 @@
 -- A run with a log is taken up from whatever a crash leaves.
-use Rattle.std.proofs.Common.{◌≡◌, ℕ, List, [], ◌++◌, length, Option, None, Some, IfSome, false, Result, Err, refl, sym, ap, ◌∙◌, subst, append_assoc, append-nil}
+use Rattle.std.proofs.Common.{◌≡◌, ℕ, List, [], ◌++◌, Option, None, Some, IfSome, false, Result, Err, refl, sym, ap, ◌∙◌, subst, append_assoc, append-nil}
 use Rattle.std.specs.Io.KnownBytes.{Appends, append_known}
 use Rattle.std.proofs.lemmas.List.{append_cancel_left}
+use Rattle.text_lines.specs.Lines.{ended_lines}
 use Rattle.plan_verifier.specs.Accepted.{VerifiedPlan, IsVerified}
 use Rattle.plan_verifier.proofs.Reasons.{acceptable}
 use Rattle.byte_streams.specs.declared.drive_fault.DriveFault.{DriveFault}
 use Rattle.byte_streams.specs.declared.drive_fault.DriveFault.TheVariants.{Memory}
 use Rattle.byte_streams.specs.Lent.{Input, Streams}
 use Rattle.cell_drive.specs.declared.manner.Manner.{Manner}
-use Rattle.cell_drive.specs.declared.one_run.DriveEnd.{DriveEnd}
+use Rattle.cell_drive.specs.declared.begin.DriveEnd.{DriveEnd}
+use Rattle.event_lines.specs.LogLines.{LinesTell}
 use Rattle.cell_drive.specs.InManner.{IsDriveIn}
-use Rattle.run_journal.specs.LogFiles.{IsLeft}
-use Rattle.run_journal.specs.LoggedLines.{logged}
+use Rattle.run_journal.specs.WholeLines.{whole_lines}
 use Rattle.run_journal.specs.Logged.{Held, StayInStep}
 use Rattle.logged_drive.specs.CrashLaw.{IsTakenUpAfter}
 use Rattle.logged_drive.specs.LoggedRuns.{nothing_held, output_held}
@@ -29,27 +30,27 @@ is_given taken held start shown pending out taken_is held_is written =
 
 module _ (manner : Manner) (v : VerifiedPlan) (verified : IsVerified v) where
   pub taken_up_after : (before : Option (List ℕ × List ℕ)) (seen : Option (List ℕ)) (may_leave : List ℕ → Type 0) (held : Held) (taken after : Option (List ℕ)) (input input_after : Input)
-      (outcome : Result DriveEnd DriveFault) → after ≡ held.taken → IfSome before (λ told. taken ≡ Some told.1)
+      (outcome : Result DriveEnd DriveFault) → after ≡ held.taken → IfSome before (λ told. whole_lines told.0 ≡ told.0) → IfSome before (λ told. taken ≡ Some told.1)
       → IsDriveIn manner v (record { input = input; output = output_held (nothing_held taken) }) (record { input = input_after; output = output_held held }) outcome
-      → StayInStep before seen may_leave held → IfSome before (λ told. told.0 ≡ [] → IsTakenUpAfter v.planned [] told.1 may_leave after)
-  taken_up_after None seen may_leave held taken after input input_after outcome same start drove steps = start
-  taken_up_after (Some told) seen may_leave held taken after input input_after outcome same start drove step = λ none.
+      → StayInStep before seen may_leave held → IfSome before (λ told. LinesTell v.planned (ended_lines told.0) [] → IsTakenUpAfter v.planned [] told.1 may_leave after)
+  taken_up_after None seen may_leave held taken after input input_after outcome same whole start drove steps = start
+  taken_up_after (Some told) seen may_leave held taken after input input_after outcome same whole start drove step = λ none.
       let first = driven_first manner v _ _ outcome drove in
       let out = is_given taken held.taken told.1 step.shown held.pending first.out start step.output first.written in
       record {
         shown = step.shown;
         output = same ∙ step.output;
         came = first.end.entries;
-        again = λ left leaves. driven_run v.planned manner first.lines first.text first.closing step.shown held.pending left first.end verified.schedule.shaped
-            (acceptable v.planned v.times verified.ordered verified.budgets) first.are
+        again = λ left leaves. driven_run v.planned manner told.0 first.lines first.text first.closing step.shown held.pending left first.end verified.schedule.shaped
+            (acceptable v.planned v.times verified.ordered verified.budgets) whole none first.are
             (record { closes = first.closes; lost = first.lost; given = first.whole ∙ ap (λ (l : List ℕ). l ++ first.lost) out })
-            (subst (λ (b : List ℕ). IsLeft (length (b ++ logged step.shown)) (b ++ logged (step.shown ++ held.pending)) left) none (step.crash left leaves));
+            (step.crash left leaves);
       }
 
   -- where nothing was begun
-  pub unbegun_after : (before : Option (List ℕ × List ℕ)) (seen : Option (List ℕ)) (may_leave : List ℕ → Type 0) (taken : Option (List ℕ)) → IfSome before (λ told. taken ≡ Some told.1)
-      → StayInStep before seen may_leave (nothing_held taken) → IfSome before (λ told. told.0 ≡ [] → IsTakenUpAfter v.planned [] told.1 may_leave taken)
-  unbegun_after before seen may_leave taken start steps =
+  pub unbegun_after : (before : Option (List ℕ × List ℕ)) (seen : Option (List ℕ)) (may_leave : List ℕ → Type 0) (taken : Option (List ℕ)) → IfSome before (λ told. whole_lines told.0 ≡ told.0)
+      → IfSome before (λ told. taken ≡ Some told.1) → StayInStep before seen may_leave (nothing_held taken) → IfSome before (λ told. LinesTell v.planned (ended_lines told.0) [] → IsTakenUpAfter v.planned [] told.1 may_leave taken)
+  unbegun_after before seen may_leave taken whole start steps =
       let none : Input = record { left = None; failed = false } in
       let streams : Streams = record { input = none; output = output_held (nothing_held taken) } in
-      taken_up_after before seen may_leave (nothing_held taken) taken taken none none (Err Memory) refl start (unbegun manner v streams) steps
+      taken_up_after before seen may_leave (nothing_held taken) taken taken none none (Err Memory) refl whole start (unbegun manner v streams) steps

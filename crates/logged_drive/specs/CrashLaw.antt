@@ -7,7 +7,7 @@ use Rattle.cell_tables.specs.declared.entry.Entry.{Entry}
 use Rattle.byte_streams.specs.Answering.{AnswerAll}
 use Rattle.event_lines.specs.LogLines.{LinesTell}
 use Rattle.cell_drive.specs.declared.manner.Manner.{Manner}
-use Rattle.cell_drive.specs.AnswerText.{DrivenCell, undriven, CellAnswers, CellCloses}
+use Rattle.cell_drive.specs.AnswerText.{DrivenCell, undriven, CellCloses}
 use Rattle.cell_drive.specs.Stated.{StatedAnswers}
 use Rattle.cell_drive.specs.TakenUp.{TakenUp, told_in, IsTakenUp, CanBeTakenUp}
 use Rattle.cell_drive.specs.Resuming.{due_text, driven_so_far}
@@ -26,9 +26,9 @@ pub record IsTakenUpAgain (p : PlannedShop) (told came : List Entry) (shown left
   pub can : CanBeTakenUp p (ended_lines (whole_lines left)) None
   pub torn : is_torn (torn_end left) ≡ true
 
--- these lines are answered by this text, in version 1 of the lines or in a manner
+-- these lines are answered by this text in a manner
 abbrev pub AreAnswered : PlannedShop → Manner → DrivenCell → List (Option (List ℕ)) → List ℕ → DrivenCell → Type 0
-AreAnswered p manner start lines text end = AnswerAll (CellAnswers p) start 1 lines text end ⊎ AnswerAll (StatedAnswers p manner) start 1 lines text end
+AreAnswered p manner start lines text end = AnswerAll (StatedAnswers p manner) start 1 lines text end
 
 -- a text was given to a log and an output, of which some was shown: the first of these answers, and of the closing line, where that stands behind them
 pub record IsGiven (p : PlannedShop) (text shown pending closing : List ℕ) (end : DrivenCell) : Type 0 where
@@ -36,11 +36,11 @@ pub record IsGiven (p : PlannedShop) (text shown pending closing : List ℕ) (en
   pub lost : List ℕ
   pub given : text ++ closing ≡ (shown ++ pending) ++ lost
 
--- so it is with a new log that got of what `drive` writes what a log gets
+-- so it is with a log of whole lines that told no event, and then got of what `drive` writes what a log gets
 abbrev pub ADrivenRunIsTakenUp : Type 0
-ADrivenRunIsTakenUp = (p : PlannedShop) (manner : Manner) (lines : List (Option (List ℕ))) (answers closing shown pending left : List ℕ) (end : DrivenCell) → IsWellShaped p → IsAcceptable p
-    → AreAnswered p manner (undriven p) lines answers end → IsGiven p answers shown pending closing end
-    → IsLeft (length (logged shown)) (logged (shown ++ pending)) left → IsTakenUpAgain p [] end.entries shown left
+ADrivenRunIsTakenUp = (p : PlannedShop) (manner : Manner) (base : List ℕ) (lines : List (Option (List ℕ))) (answers closing shown pending left : List ℕ) (end : DrivenCell) → IsWellShaped p → IsAcceptable p
+    → whole_lines base ≡ base → LinesTell p (ended_lines base) [] → AreAnswered p manner (undriven p) lines answers end → IsGiven p answers shown pending closing end
+    → IsLeft (length (base ++ logged shown)) (base ++ logged (shown ++ pending)) left → IsTakenUpAgain p [] end.entries shown left
 
 -- the run in whole lines was taken up, and goes on with these events; of what is written then, the log got what a log gets behind them
 pub record IsTakenUpOnceMore (p : PlannedShop) (taken : TakenUp) (shown left : List ℕ) (end : DrivenCell) : Type 0 where
@@ -51,7 +51,7 @@ pub record IsTakenUpOnceMore (p : PlannedShop) (taken : TakenUp) (shown left : L
 abbrev pub ATakenUpRunIsTakenUp : Type 0
 ATakenUpRunIsTakenUp = (p : PlannedShop) (manner : Manner) (base : List ℕ) (at : Option ℕ) (taken : TakenUp) (lines : List (Option (List ℕ))) (answers closing shown pending left : List ℕ) (end : DrivenCell)
     → whole_lines base ≡ base → IsTakenUp p (ended_lines base) at taken
-    → AreAnswered p manner (driven_so_far p taken.driven.log.entries) lines answers end → IsGiven p (due_text taken ++ answers) shown pending closing end
+    → AreAnswered p manner (driven_so_far p taken.log.entries) lines answers end → IsGiven p (due_text taken ++ answers) shown pending closing end
     → IsLeft (length (base ++ logged shown)) (base ++ logged (shown ++ pending)) left → IsTakenUpOnceMore p taken shown left end
 
 -- behind a start an output has taken what was shown. From whatever a crash leaves of the log the run is taken up, with all events of that

@@ -1,5 +1,5 @@
 -- A run that is taken up from its log file.
-use Rattle.std.specs.Prelude.{◌≡◌, ℕ, List, length, Bool, true, false, Option}
+use Rattle.std.specs.Prelude.{◌≡◌, ℕ, List, length, Bool, true, false, Option, None, Some}
 use Rattle.shop_base.specs.Plan.{PlannedShop}
 use Rattle.shop_base.specs.Run.{IsRun}
 use Rattle.text_lines.specs.Lines.{ended_lines, lines_of}
@@ -9,6 +9,8 @@ use Rattle.event_lines.specs.LogLines.{LinesTell}
 use Rattle.cell_drive.specs.declared.resume_fault.ResumeFault.{ResumeFault}
 use Rattle.cell_drive.specs.declared.resume_fault.ResumeFault.TheVariants.{Log, Past, Refused, Memory}
 use Rattle.cell_drive.specs.ResumeFaults.{IsResumeFault, IsOnlyLogFault}
+use Rattle.run_journal.specs.declared.file_fault.FileFault.{FileFault}
+use Rattle.run_journal.specs.declared.file_fault.FileFault.TheVariants.{Log as LogFault}
 use Rattle.run_journal.specs.WholeLines.{torn_end, whole_lines}
 use Rattle.run_journal.specs.TornEnds.{is_torn}
 use Rattle.logged_drive.specs.declared.taken_log.TakeUpFault.{TakeUpFault}
@@ -27,11 +29,11 @@ IsAfterEnd (Past last) torn = torn ≡ true
 IsAfterEnd (Refused back why) torn = torn ≡ true
 IsAfterEnd Memory torn = Unit {0}
 
--- why no run is taken up from a log with this text: its whole lines aren't taken up; or they tell a run, so many they are, and what follows can't be what a crash left of a line; or the log couldn't be cut or synced
+-- why no run is taken up from a log with this text: its whole lines aren't taken up; or they tell a run, so many they are, and what follows can't be what a crash left of a line; or the log couldn't be cut, written or synced
 abbrev pub IsTakeUpFault : PlannedShop → List ℕ → Option ℕ → TakeUpFault → Type 0
 IsTakeUpFault p text at (Resume fault) = IsResumeFault p (ended_lines (whole_lines text)) at fault × IsAfterEnd fault (is_torn (torn_end text))
 IsTakeUpFault p text at (NoTornEnd lines) = TellARun p (ended_lines (whole_lines text)) × (is_torn (torn_end text) ≡ false) × (lines ≡ length (lines_of (whole_lines text)))
-IsTakeUpFault p text at (File fault) = Unit {0}
+IsTakeUpFault p text at (File fault) = fault ≡ LogFault
 
 -- where this is the fault of the lines, no other is the first of them
 abbrev pub IsOnlyTakeUpFault : PlannedShop → List (List ℕ) → TakeUpFault → Type 0
@@ -45,7 +47,13 @@ IsOfText (Resume fault) = Unit {0}
 IsOfText (NoTornEnd lines) = Unit {0}
 IsOfText (File fault) = ⊥
 
--- memory ran out, or the log couldn't be cut or synced
+-- what the log itself tells of it
+abbrev pub file_fault : TakeUpFault → Option FileFault
+file_fault (Resume fault) = None
+file_fault (NoTornEnd lines) = None
+file_fault (File fault) = Some fault
+
+-- memory ran out, or the log couldn't be cut, written or synced
 abbrev pub IsOfDevice : TakeUpFault → Type 0
 IsOfDevice (Resume fault) = fault ≡ Memory
 IsOfDevice (NoTornEnd lines) = ⊥

@@ -1,6 +1,6 @@
 //! A run with a log that goes on.
 
-ghost use Rattle.std.specs.Prelude.{◌≡◌, ◌⊎◌, ℕ, [], Option, Some, true, false, Err, IfOk, IfSome};
+ghost use Rattle.std.specs.Prelude.{◌≡◌, ◌⊎◌, ℕ, [], Option, None, Some, true, false, Err, IfOk, IfSome};
 ghost use Rattle.shop_base.specs.Plan.{PlannedShop};
 ghost use Rattle.text_lines.specs.Lines.{ended_lines};
 ghost use Rattle.byte_streams.specs.Lent.{input_of, output_of};
@@ -8,7 +8,7 @@ ghost use Rattle.cell_drive.specs.TakenUp.{IsTakenUp, told_in};
 ghost use Rattle.cell_drive.specs.InManner.{IsGoneOnIn};
 ghost use Rattle.run_journal.specs.LogFiles.{IsSettled};
 ghost use Rattle.run_journal.specs.WholeLines.{whole_lines};
-ghost use Rattle.run_journal.specs.Logged.{AreBefore};
+ghost use Rattle.run_journal.specs.Logged.{AreBefore, fault_if};
 ghost use Rattle.logged_drive.specs.CrashLaw.{IsTakenUpAfter};
 ghost use Rattle.logged_drive.specs.LoggedRuns.{IsAllInLog, IsUnbegun, KeepsShown, RunsLogged};
 
@@ -33,7 +33,7 @@ fn go_on_over<R: Source, W: Outlet + Drop, D: LogFile + Drop, B: Before>(
         (input_of R.Source reader.new) (D.seen result.log) (D.may_leave result.log) (output_of W.Sink W.pending result.output) }
     ensures in_log { IfOk result.end (λ _. IfSome B.before (λ told.
         IsAllInLog told.0 told.1 (D.seen result.log) (D.may_leave result.log) (W.taken result.output))) }
-    ensures log_failed { result.log_failed ≡ D.failed result.log }
+    ensures log_fault { D.fault result.log ≡ fault_if result.log_failed }
     ensures output_failed { result.end ≡ Err DriveFault.Write → result.log_failed ≡ false → W.failed result.output ≡ true }
     ensures untouched { result.end ≡ Err DriveFault.Memory → (reader.new ≡ reader.old) × AreBefore B.before (D.seen result.log) (W.taken result.output)
         × IsSettled (D.seen result.log) (D.may_leave result.log) }
@@ -67,7 +67,7 @@ pub fn go_on_logged<R: Source, W: Outlet + Drop, D: LogFile + Drop, B: Before>(
     requires before { AreBefore B.before (D.seen log) (W.taken output) }
     requires whole { IfSome B.before (λ told. whole_lines told.0 ≡ told.0) }
     requires shown { W.pending output ≡ [] }
-    requires unfailed { D.failed log ≡ false }
+    requires unfailed { D.fault log ≡ None }
     ensures went_on { RunsLogged (IsGoneOnIn manner taken) B.before (input_of R.Source reader.old) (W.taken output) result.end result.log_failed
         (input_of R.Source reader.new) (D.seen result.log) (D.may_leave result.log) (output_of W.Sink W.pending result.output)
         ⊎ IsUnbegun (input_of R.Source reader.old) (W.taken output) result.end result.log_failed (input_of R.Source reader.new) (output_of W.Sink W.pending result.output) }
@@ -84,7 +84,7 @@ pub fn go_on_logged<R: Source, W: Outlet + Drop, D: LogFile + Drop, B: Before>(
         IsAllInLog told.0 told.1 (D.seen result.log) (D.may_leave result.log) (W.taken result.output))) }
 
     // Whether it was the log that failed. Where it wasn't, and a write failed, it was the output.
-    ensures log_failed { result.log_failed ≡ D.failed result.log }
+    ensures log_fault { D.fault result.log ≡ fault_if result.log_failed }
     ensures output_failed { result.end ≡ Err DriveFault.Write → result.log_failed ≡ false → W.failed result.output ≡ true }
 
     // Where memory ran out, the log and the output hold what they held.

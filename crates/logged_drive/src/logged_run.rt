@@ -1,11 +1,13 @@
 //! A run with a log, from its start to the end of its input.
 
-ghost use Rattle.std.specs.Prelude.{◌≡◌, [], Some, true, false, Err, IfOk, IfSome};
+ghost use Rattle.std.specs.Prelude.{◌≡◌, [], None, Some, true, false, Err, IfOk, IfSome};
+ghost use Rattle.text_lines.specs.Lines.{ended_lines};
 ghost use Rattle.byte_streams.specs.Lent.{input_of, output_of};
+ghost use Rattle.event_lines.specs.LogLines.{LinesTell};
 ghost use Rattle.cell_drive.specs.InManner.{IsDriveIn};
 ghost use Rattle.run_journal.specs.LogFiles.{IsSettled};
 ghost use Rattle.run_journal.specs.WholeLines.{whole_lines};
-ghost use Rattle.run_journal.specs.Logged.{AreBefore};
+ghost use Rattle.run_journal.specs.Logged.{AreBefore, fault_if};
 ghost use Rattle.logged_drive.specs.CrashLaw.{IsTakenUpAfter};
 ghost use Rattle.logged_drive.specs.LoggedRuns.{IsAllInLog, KeepsShown, RunsLogged};
 
@@ -44,7 +46,7 @@ fn drive_over<R: Source, W: Outlet + Drop, D: LogFile + Drop, B: Before>(
         (input_of R.Source reader.new) (D.seen result.log) (D.may_leave result.log) (output_of W.Sink W.pending result.output) }
     ensures in_log { IfOk result.end (λ _. IfSome B.before (λ told.
         IsAllInLog told.0 told.1 (D.seen result.log) (D.may_leave result.log) (W.taken result.output))) }
-    ensures log_failed { result.log_failed ≡ D.failed result.log }
+    ensures log_fault { D.fault result.log ≡ fault_if result.log_failed }
     ensures output_failed { result.end ≡ Err DriveFault.Write → result.log_failed ≡ false → W.failed result.output ≡ true }
     ensures untouched { result.end ≡ Err DriveFault.Memory → (reader.new ≡ reader.old) × AreBefore B.before (D.seen result.log) (W.taken result.output)
         × IsSettled (D.seen result.log) (D.may_leave result.log) }
@@ -78,22 +80,22 @@ pub fn drive_logged<R: Source, W: Outlet + Drop, D: LogFile + Drop, B: Before>(
     requires before { AreBefore B.before (D.seen log) (W.taken output) }
     requires whole { IfSome B.before (λ told. whole_lines told.0 ≡ told.0) }
     requires shown { W.pending output ≡ [] }
-    requires unfailed { D.failed log ≡ false }
+    requires unfailed { D.fault log ≡ None }
     ensures drove { RunsLogged (IsDriveIn manner verified) B.before (input_of R.Source reader.old) (W.taken output) result.end result.log_failed
         (input_of R.Source reader.new) (D.seen result.log) (D.may_leave result.log) (output_of W.Sink W.pending result.output) }
 
     // Whatever came of it, a crash leaves all that was shown.
     ensures crash { IfSome B.before (λ told. KeepsShown told.0 told.1 (D.may_leave result.log) (W.taken result.output)) }
 
-    // From whatever it leaves of a new log the run is taken up by the same plan, with all events that were shown.
-    ensures taken_up { IfSome B.before (λ told. told.0 ≡ [] → IsTakenUpAfter verified.planned [] told.1 (D.may_leave result.log) (W.taken result.output)) }
+    // From whatever it leaves of a log that told no event the run is taken up by the same plan, with all events that were shown.
+    ensures taken_up { IfSome B.before (λ told. LinesTell verified.planned (ended_lines told.0) [] → IsTakenUpAfter verified.planned [] told.1 (D.may_leave result.log) (W.taken result.output)) }
 
     // At the end of the input all of it is in the log.
     ensures in_log { IfOk result.end (λ _. IfSome B.before (λ told.
         IsAllInLog told.0 told.1 (D.seen result.log) (D.may_leave result.log) (W.taken result.output))) }
 
     // Whether it was the log that failed. Where it wasn't, and a write failed, it was the output.
-    ensures log_failed { result.log_failed ≡ D.failed result.log }
+    ensures log_fault { D.fault result.log ≡ fault_if result.log_failed }
     ensures output_failed { result.end ≡ Err DriveFault.Write → result.log_failed ≡ false → W.failed result.output ≡ true }
 
     // Where memory ran out, the log and the output hold what they held.

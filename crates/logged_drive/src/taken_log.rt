@@ -10,6 +10,6 @@ pub enum TakeUpFault {
     Resume(ResumeFault),
     /// What comes after the whole lines, of which there are so many, can't be what a crash left of a line.
     NoTornEnd { lines: usize },
-    /// It couldn't be cut or synced.
+    /// It couldn't be cut, written or synced.
     File(FileFault),
 }

@@ -1,17 +1,20 @@
 //! The taking up of a run from its log file.
 
-ghost use Rattle.std.specs.Prelude.{◌≡◌, ◌≤◌, List, ℕ, length, true, false, Some, IfOk, IfErr, IfSome, OnOk};
+ghost use Rattle.std.specs.Prelude.{◌≡◌, ◌≤◌, List, ℕ, length, true, false, None, Some, IfOk, IfErr, IfSome, OnOk};
 ghost use Rattle.shop_base.specs.declared.limits.TheConstants.{MAX_MOMENT};
 ghost use Rattle.text_lines.specs.Lines.{ended_lines, lines_of};
 ghost use Rattle.cell_drive.specs.TakenUp.{CanBeTakenUp, IsTakenUp};
-ghost use Rattle.run_journal.specs.LogFiles.{IsSettled};
+ghost use Rattle.event_lines.specs.RunDigits.{AreDigits};
+ghost use Rattle.run_journal.specs.LogFiles.{HasFailed, IsSettled};
+ghost use Rattle.run_journal.specs.LogRuns.{IsNamedFor, IsNamedOrNot};
 ghost use Rattle.run_journal.specs.TornEnds.{is_torn};
 ghost use Rattle.run_journal.specs.WholeLines.{torn_end, whole_lines};
-ghost use Rattle.logged_drive.specs.TakenLogs.{IsOfDevice, IsOfText, IsOnlyTakeUpFault, IsTakeUpFault};
+ghost use Rattle.logged_drive.specs.TakenLogs.{IsOfDevice, IsOfText, IsOnlyTakeUpFault, IsTakeUpFault, file_fault};
 
 use crate::taken_log::TakeUpFault;
 use cell_drive::{ResumeFault, Taken, take_up};
-use run_journal::{LogFile, LogText, cut_end, is_torn_end};
+use event_lines::RunDigits;
+use run_journal::{FileFault, LogFile, LogText, cut_end, is_torn_end, name_plan};
 use shop_base::{Moment, Shaped};
 use std::alloc::Global;
 use text_lines::line_count;
@@ -68,35 +71,61 @@ fn take_up_text(
     }
 }
 
-/// Takes up the run in a log that was read, and cuts off its torn end. A log whose text is at fault stays as it is.
+/// Cuts off the torn end of a log that was read, and puts the line of the plan behind its whole lines, unless it is their last
+/// line of a plan.
+fn cut_and_name<D: LogFile>(
+    log: &mut D,
+    text: &LogText,
+    digits: &RunDigits,
+) -> Result<(), FileFault>
+    requires settled { IsSettled (D.seen log.old) (D.may_leave log.old) }
+    requires unfailed { D.fault log.old ≡ None }
+    requires read { IfSome (D.seen log.old) (λ file. text.now ≡ file) }
+    requires digits { AreDigits digits.now }
+    ensures named { OnOk result (IfSome (D.seen log.old) (λ file. (base : List ℕ) × IsNamedFor digits.now (whole_lines file) base × (D.seen log.new ≡ Some base))) }
+    ensures settled { OnOk result (IsSettled (D.seen log.new) (D.may_leave log.new)) }
+    ensures unfailed { OnOk result (D.fault log.new ≡ None) }
+    ensures failed { IfErr result (HasFailed (D.fault log.new)) }
+    ensures crash { IfSome (D.seen log.old) (λ file. (left : List ℕ) → D.may_leave log.new left → IsNamedOrNot digits.now (whole_lines file) (whole_lines left)) }
+    ensures torn_again { IfSome (D.seen log.old) (λ file. is_torn (torn_end file) ≡ true → (left : List ℕ) → D.may_leave log.new left → is_torn (torn_end left) ≡ true) }
+{
+    cut_end(log, text)?;
+    name_plan(log, text, digits)
+}
+
+/// Takes up the run in a log that was read, cuts off its torn end, and puts the line of the plan, which has these digits, behind
+/// its whole lines, unless it is their last line of a plan. A log whose text is at fault stays as it is.
 pub fn take_up_log<D: LogFile>(
     alloc: Global,
     shaped: Shaped,
     log: &mut D,
     text: &LogText,
     at: Option<Moment>,
+    digits: &RunDigits,
 ) -> Result<Taken, TakeUpFault>
     requires at_most { IfSome at (λ present. present ≤ MAX_MOMENT) }
     requires settled { IsSettled (D.seen log.old) (D.may_leave log.old) }
-    requires unfailed { D.failed log.old ≡ false }
+    requires unfailed { D.fault log.old ≡ None }
     requires read { IfSome (D.seen log.old) (λ file. text.now ≡ file) }
+    requires digits { AreDigits digits.now }
     ensures taken { IfOk result (IsTakenUp shaped (ended_lines (whole_lines text.now)) at) }
     ensures torn { OnOk result (is_torn (torn_end text.now) ≡ true) }
     ensures fault { IfErr result (IsTakeUpFault shaped text.now at) }
     ensures only_fault { IfErr result (IsOnlyTakeUpFault shaped (ended_lines (whole_lines text.now))) }
     ensures only { CanBeTakenUp shaped (ended_lines (whole_lines text.now)) at → is_torn (torn_end text.now) ≡ true → IfErr result IsOfDevice }
     ensures untouched { IfErr result (λ fault. IsOfText fault → log.new ≡ log.old) }
-    ensures cut { OnOk result (IfSome (D.seen log.old) (λ file. D.seen log.new ≡ Some (whole_lines file))) }
+    ensures named { OnOk result (IfSome (D.seen log.old) (λ file. (base : List ℕ) × IsNamedFor digits.now (whole_lines file) base × (D.seen log.new ≡ Some base))) }
     ensures settled { OnOk result (IsSettled (D.seen log.new) (D.may_leave log.new)) }
-    ensures unfailed { OnOk result (D.failed log.new ≡ D.failed log.old) }
-    ensures device { IfErr result (λ fault. (IsOfText fault → ⊥) → D.failed log.new ≡ true) }
+    ensures unfailed { OnOk result (D.fault log.new ≡ None) }
+    ensures told { IfErr result (λ fault. D.fault log.new ≡ file_fault fault) }
 
-    // A crash at any moment leaves the same whole lines, and behind them of a torn end a torn end again.
-    ensures crash { IfSome (D.seen log.old) (λ file. (left : List ℕ) → D.may_leave log.new left → whole_lines left ≡ whole_lines file) }
+    // A crash at any moment leaves the same whole lines, with that of the plan or without, and behind them of a torn end a torn
+    // end again.
+    ensures crash { IfSome (D.seen log.old) (λ file. (left : List ℕ) → D.may_leave log.new left → IsNamedOrNot digits.now (whole_lines file) (whole_lines left)) }
     ensures torn_again { IfSome (D.seen log.old) (λ file. is_torn (torn_end file) ≡ true → (left : List ℕ) → D.may_leave log.new left → is_torn (torn_end left) ≡ true) }
 {
     let taken = take_up_text(alloc, shaped, text, at)?;
-    match cut_end(log, text) {
+    match cut_and_name(log, text, digits) {
         Ok(()) => Ok(taken),
         Err(fault) => Err(TakeUpFault::File(fault)),
     }

@@ -29,7 +29,7 @@ pub fn instance_document(
     // A refusal says that they aren't, or that memory ran out.
     ensures not_read_back { result ≡ Err NotWritten.NotReadBack → IsInstance (instance_lines description.now shop.now) description.now shop.now → ⊥ }
 {
-    let text = lines_of(alloc, description, shop)?;
+    let text = instance_lines(alloc, description, shop)?;
     if is_read_back(alloc, &text, description, shop)? {
         Ok(text)
     } else {
@@ -56,8 +56,8 @@ fn is_read_back(
     }
 }
 
-/// The lines of an instance.
-fn lines_of(alloc: Global, description: &[u8], shop: &Shop) -> Result<Vec<u8>, AllocError>
+/// The lines of an instance: the text of [`instance_document`], whether it is read back as the instance or not.
+pub fn instance_lines(alloc: Global, description: &[u8], shop: &Shop) -> Result<Vec<u8>, AllocError>
     ensures { IfOk result (λ text. text.items ≡ instance_lines description.now shop.now) }
 {
     let mut text = Vec::new(alloc);

@@ -15,7 +15,7 @@ mod readers;
 mod reading;
 mod words;
 
-pub use document::instance_document;
+pub use document::{instance_document, instance_lines};
 pub use named::Named;
 pub use not_written::NotWritten;
 pub use or_fault::OrFault;

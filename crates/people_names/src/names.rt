@@ -83,6 +83,7 @@ impl Names {
     }
 
     /// Writes the job's word before what the line has.
+    #[inline(always)]
     pub fn put_job<const ROOM: usize>(&self, line: &mut LineText<ROOM>, job: JobNo)
         requires { LONGEST_NAME + length line.old ≤ ROOM }
         ensures written { line.new ≡ job_word self.now job ++ line.old }
@@ -92,6 +93,7 @@ impl Names {
     }
 
     /// Writes the machine's word before what the line has.
+    #[inline(always)]
     pub fn put_machine<const ROOM: usize>(&self, line: &mut LineText<ROOM>, machine: MachineNo)
         requires { LONGEST_NAME + length line.old ≤ ROOM }
         ensures written { line.new ≡ machine_word self.now machine ++ line.old }
@@ -101,6 +103,7 @@ impl Names {
     }
 
     /// Writes the moment's word before what the line has.
+    #[inline(always)]
     pub fn put_moment<const ROOM: usize>(&self, line: &mut LineText<ROOM>, moment: Moment)
         requires { LONGEST_MOMENT + length line.old ≤ ROOM }
         ensures written { line.new ≡ moment_word self.now moment ++ line.old }
@@ -142,6 +145,7 @@ pub(crate) fn names_for_people(
     }
 }
 
+#[inline(always)]
 fn name_at(names: &[String], number: u32) -> Option<&str>
     ensures { option_map (λ name. name.now) result ≡ slice_get (map string_bytes names.now) number }
 {
@@ -152,6 +156,7 @@ fn name_at(names: &[String], number: u32) -> Option<&str>
 }
 
 /// Writes the name of this number, else the number.
+#[inline(always)]
 fn put_word<const ROOM: usize>(line: &mut LineText<ROOM>, names: &[String], number: u32)
     requires room { LONGEST_NAME + length line.old ≤ ROOM }
     requires short { AreShort (map string_bytes names.now) }
@@ -165,6 +170,7 @@ fn put_word<const ROOM: usize>(line: &mut LineText<ROOM>, names: &[String], numb
 }
 
 /// Writes the moment by the clock, if there is one.
+#[inline(always)]
 fn put_moment_by<const ROOM: usize>(line: &mut LineText<ROOM>, clock: Option<Clock>, moment: Moment)
     requires { LONGEST_MOMENT + length line.old ≤ ROOM }
     ensures written { line.new ≡ moment_by clock moment ++ line.old }

@@ -5,6 +5,7 @@ use Rattle.shop_base.specs.declared.node.Node.{Node}
 use Rattle.shop_base.specs.Plan.{PlannedShop, jobs, release, clean, IsWellShaped}
 use Rattle.shop_base.specs.Graph.{node, leaving, Arc, HasArc, ArcsLead, Path, begins, follows, IsSimpleCycle}
 use Rattle.alt_graph.specs.Evidence.{EndsIn}
+use Rattle.people_names.specs.NameBooks.{NameBook}
 use Rattle.plan_verifier.specs.declared.verdict.Verdict.{Verdict}
 use Rattle.plan_verifier.specs.declared.verdict.Verdict.TheVariants.{Accepted, Refused}
 use Rattle.plan_verifier.proofs.Reasons.{greatest_once, makespan_le}
@@ -25,28 +26,28 @@ arcs_told p shaped = record {
   time = λ u v d arc. arc_time p shaped u v d arc;
 }
 
-module _ (p : PlannedShop) where
+module _ (names : NameBook) (p : PlannedShop) where
   -- the lines of nodes, and those of the nodes behind them
   lines_behind : (t : ℕ) (u : Node) (us : List Node) (v : Node) (vs : List Node) →
-      reached_lines p t u (us ++ v ∷ vs) ≡ reached_lines p t u us ++ reached_lines p (length_from p t u us) (last_from u us) (v ∷ vs)
+      reached_lines names p t u (us ++ v ∷ vs) ≡ reached_lines names p t u us ++ reached_lines names p (length_from p t u us) (last_from u us) (v ∷ vs)
   lines_behind t u [] v vs = refl
   lines_behind t u (w ∷ ws) v vs =
-      let line = reached_line (reached_at p t u w) w (told_arc p u w) in
+      let line = reached_line names (reached_at p t u w) w (told_arc p u w) in
       ap (λ l. line ++ l) (lines_behind (reached_at p t u w) w ws v vs) ∙ sym (append_assoc line _ _)
 
   line_told : (shaped : IsWellShaped p) (path nodes : List Node) (u v : Node) (n d : ℕ) → IsLedPath p path u n → Arc p u v d
-      → chain_lines p (path ++ v ∷ nodes) ≡ chain_lines p path ++ (reached_line (n + d) v (told_arc p u v) ++ reached_lines p (n + d) v nodes)
+      → chain_lines names p (path ++ v ∷ nodes) ≡ chain_lines names p path ++ (reached_line names (n + d) v (told_arc p u v) ++ reached_lines names p (n + d) v nodes)
   line_told shaped [] nodes u v n d led arc = absurd led
   line_told shaped (w ∷ ws) nodes u v n d led arc =
-      let first = release_line (release p w.job) w in
+      let first = release_line names (release p w.job) w in
       ap (λ l. first ++ l) (lines_behind (release p w.job) w ws v nodes)
-      ∙ sym (append_assoc first (reached_lines p (release p w.job) w ws) _)
-      ∙ ap (λ k. chain_lines p (w ∷ ws) ++ reached_lines p k (last_from w ws) (v ∷ nodes)) led.size
-      ∙ ap (λ (x : Node). chain_lines p (w ∷ ws) ++ reached_lines p n x (v ∷ nodes)) led.ends
-      ∙ ap (λ k. chain_lines p (w ∷ ws) ++ (reached_line (n + k) v (told_arc p u v) ++ reached_lines p (n + k) v nodes)) (arc_time p shaped u v d arc)
+      ∙ sym (append_assoc first (reached_lines names p (release p w.job) w ws) _)
+      ∙ ap (λ k. chain_lines names p (w ∷ ws) ++ reached_lines names p k (last_from w ws) (v ∷ nodes)) led.size
+      ∙ ap (λ (x : Node). chain_lines names p (w ∷ ws) ++ reached_lines names p n x (v ∷ nodes)) led.ends
+      ∙ ap (λ k. chain_lines names p (w ∷ ws) ++ (reached_line names (n + k) v (told_arc p u v) ++ reached_lines names p (n + k) v nodes)) (arc_time p shaped u v d arc)
 
   pub each_line : (path nodes : List Node) (u v : Node) (n d : ℕ) → IsWellShaped p → Path p path u n → Arc p u v d
-      → chain_lines p (path ++ v ∷ nodes) ≡ chain_lines p path ++ (reached_line (n + d) v (told_arc p u v) ++ reached_lines p (n + d) v nodes)
+      → chain_lines names p (path ++ v ∷ nodes) ≡ chain_lines names p path ++ (reached_line names (n + d) v (told_arc p u v) ++ reached_lines names p (n + d) v nodes)
   each_line path nodes u v n d shaped is arc = line_told shaped path nodes u v n d (path_led p shaped path u n is) arc
 
   -- a path ends in its last node
@@ -54,30 +55,30 @@ module _ (p : PlannedShop) where
   path_end _ _ _ (begins j inside) = ([], refl)
   path_end _ _ _ (follows nodes u v n d path arc) = (nodes, refl)
 
-  pub last_line : (nodes : List Node) (v : Node) (n : ℕ) → IsWellShaped p → Path p nodes v n → (lines last : List ℕ) × (chain_lines p nodes ≡ lines ++ last) × IsLastLine p nodes v n last
-  last_line _ _ _ shaped (begins j inside) = ([], release_line (release p j) (node j 0), append-nil _, inr (refl, refl))
+  pub last_line : (nodes : List Node) (v : Node) (n : ℕ) → IsWellShaped p → Path p nodes v n → (lines last : List ℕ) × (chain_lines names p nodes ≡ lines ++ last) × IsLastLine names p nodes v n last
+  last_line _ _ _ shaped (begins j inside) = ([], release_line names (release p j) (node j 0), append-nil _, inr (refl, refl))
   last_line _ _ _ shaped (follows nodes u v n d path arc) =
       let (front, ends) = path_end nodes u n path in (
-        chain_lines p nodes,
-        reached_line (n + d) v (told_arc p u v),
-        each_line nodes [] u v n d shaped path arc ∙ ap (λ l. chain_lines p nodes ++ l) (append-nil _),
+        chain_lines names p nodes,
+        reached_line names (n + d) v (told_arc p u v),
+        each_line nodes [] u v n d shaped path arc ∙ ap (λ l. chain_lines names p nodes ++ l) (append-nil _),
         inl (front, u, ap (λ (l : List Node). l ++ v ∷ []) ends ∙ append_assoc front (u ∷ []) (v ∷ []), refl),
       )
 
   lines_close : (u : Node) (us : List Node) (v : Node) → ArcsLead p u us v
-      → (lines : List ℕ) × (last : Node) × (arc_lines p u us v ≡ lines ++ arc_line p last v) × EndsIn (u ∷ us) last × HasArc p last v
+      → (lines : List ℕ) × (last : Node) × (arc_lines names p u us v ≡ lines ++ arc_line names p last v) × EndsIn (u ∷ us) last × HasArc p last v
   lines_close u [] v arc = ([], u, refl, ([], refl), arc)
   lines_close u (w ∷ ws) v arcs =
       let (lines, last, are, ends, arc) = lines_close w ws v arcs.1 in (
-        arc_line p u w ++ lines,
+        arc_line names p u w ++ lines,
         last,
-        ap (λ l. arc_line p u w ++ l) are ∙ sym (append_assoc (arc_line p u w) lines (arc_line p last v)),
+        ap (λ l. arc_line names p u w ++ l) are ∙ sym (append_assoc (arc_line names p u w) lines (arc_line names p last v)),
         (u ∷ ends.0, ap (λ (nodes : List Node). u ∷ nodes) ends.1),
         arc,
       )
 
   pub cycle_closes : (first : Node) (rest : List Node) → IsSimpleCycle p (first ∷ rest)
-      → (lines : List ℕ) × (last : Node) × (cycle_lines p (first ∷ rest) ≡ lines ++ arc_line p last first) × EndsIn (first ∷ rest) last × HasArc p last first
+      → (lines : List ℕ) × (last : Node) × (cycle_lines names p (first ∷ rest) ≡ lines ++ arc_line names p last first) × EndsIn (first ∷ rest) last × HasArc p last first
   cycle_closes first rest cycle = lines_close first rest first cycle.1
 
 -- what an accepted plan is told by is the plan's alone

@@ -5,6 +5,7 @@ use Rattle.std.proofs.lemmas.List.{append-nil, append_assoc}
 use Rattle.shop_base.specs.declared.node.Node.{Node}
 use Rattle.shop_base.specs.Plan.{PlannedShop}
 use Rattle.shop_base.specs.Graph.{HasArc, ArcsLead, IsSimpleCycle}
+use Rattle.people_names.specs.NameBooks.{NameBook}
 use Rattle.plan_explain.specs.declared.arcs.ToldArc.{ToldArc}
 use Rattle.plan_explain.specs.Arcs.{time_of, told_arc}
 use Rattle.plan_explain.specs.Cycles.{arc_line, arc_lines}
@@ -26,11 +27,11 @@ module _ (p : PlannedShop) (u : Node) (along : List Node) (i : ℕ) (d : Node) (
   arcs_next v arcs = subst (λ (l : List Node). ArcsLead p u l v) (rest_at along i d below) arcs
 
   -- one more arc's line is written
-  pub arc_told : (v : Node) (now new all : List ℕ) → now ++ arc_lines p u (drop i along) v ≡ all → new ≡ now ++ arc_line p u next
-      → new ++ arc_lines p next rest v ≡ all
-  arc_told v now new all so_far pushed =
-      ap (λ l. l ++ arc_lines p next rest v) pushed ∙ append_assoc now (arc_line p u next) (arc_lines p next rest v)
-      ∙ ap (λ (l : List Node). now ++ arc_lines p u l v) (sym (rest_at along i d below)) ∙ so_far
+  pub arc_told : (names : NameBook) (v : Node) (now new all : List ℕ) → now ++ arc_lines names p u (drop i along) v ≡ all → new ≡ now ++ arc_line names p u next
+      → new ++ arc_lines names p next rest v ≡ all
+  arc_told names v now new all so_far pushed =
+      ap (λ l. l ++ arc_lines names p next rest v) pushed ∙ append_assoc now (arc_line names p u next) (arc_lines names p next rest v)
+      ∙ ap (λ (l : List Node). now ++ arc_lines names p u l v) (sym (rest_at along i d below)) ∙ so_far
 
   pub along_next : AreAlong p u (drop i along) → HasArc p u next × AreAlong p next rest
   along_next arcs = subst (λ (l : List Node). AreAlong p u l) (rest_at along i d below) arcs
@@ -40,15 +41,15 @@ module _ (p : PlannedShop) (u : Node) (along : List Node) (i : ℕ) (d : Node) (
     same_time = time ∙ ap time_of is
 
     -- one more node's line is written
-    pub reached_told : (now new all : List ℕ) → now ++ reached_lines p t u (drop i along) ≡ all → new ≡ now ++ reached_line (t + n) next arc
-        → new ++ reached_lines p (t + n) next rest ≡ all
-    reached_told now new all so_far pushed =
-        let line = reached_line (reached_at p t u next) next (told_arc p u next) in
-        let lines = reached_lines p (reached_at p t u next) next rest in
-        ap (λ k. new ++ reached_lines p (t + k) next rest) same_time
-        ∙ ap (λ l. l ++ lines) (pushed ∙ ap (λ k. now ++ reached_line (t + k) next arc) same_time ∙ ap (λ a. now ++ reached_line (reached_at p t u next) next a) is)
+    pub reached_told : (names : NameBook) (now new all : List ℕ) → now ++ reached_lines names p t u (drop i along) ≡ all → new ≡ now ++ reached_line names (t + n) next arc
+        → new ++ reached_lines names p (t + n) next rest ≡ all
+    reached_told names now new all so_far pushed =
+        let line = reached_line names (reached_at p t u next) next (told_arc p u next) in
+        let lines = reached_lines names p (reached_at p t u next) next rest in
+        ap (λ k. new ++ reached_lines names p (t + k) next rest) same_time
+        ∙ ap (λ l. l ++ lines) (pushed ∙ ap (λ k. now ++ reached_line names (t + k) next arc) same_time ∙ ap (λ a. now ++ reached_line names (reached_at p t u next) next a) is)
         ∙ append_assoc now line lines
-        ∙ ap (λ (l : List Node). now ++ reached_lines p t u l) (sym (rest_at along i d below)) ∙ so_far
+        ∙ ap (λ (l : List Node). now ++ reached_lines names p t u l) (sym (rest_at along i d below)) ∙ so_far
 
     pub length_next : (size : ℕ) → length_from p t u (drop i along) ≡ size → length_from p (t + n) next rest ≡ size
     length_next size so_far =
@@ -60,14 +61,14 @@ module _ (p : PlannedShop) (u : Node) (along : List Node) (i : ℕ) (d : Node) (
 
 -- nothing is left
 module _ (p : PlannedShop) (u : Node) (along : List Node) (i : ℕ) (past : length along ≤ i) where
-  pub reached_end : (t : ℕ) (now all : List ℕ) → now ++ reached_lines p t u (drop i along) ≡ all → now ≡ all
-  reached_end t now all so_far = sym (append-nil now) ∙ ap (λ (l : List Node). now ++ reached_lines p t u l) (sym (drop_of_length-le along past)) ∙ so_far
+  pub reached_end : (names : NameBook) (t : ℕ) (now all : List ℕ) → now ++ reached_lines names p t u (drop i along) ≡ all → now ≡ all
+  reached_end names t now all so_far = sym (append-nil now) ∙ ap (λ (l : List Node). now ++ reached_lines names p t u l) (sym (drop_of_length-le along past)) ∙ so_far
 
   pub arcs_end : (v : Node) → ArcsLead p u (drop i along) v → HasArc p u v
   arcs_end v arcs = subst (λ (l : List Node). ArcsLead p u l v) (drop_of_length-le along past) arcs
 
-  pub lines_end : (v : Node) (now all : List ℕ) → now ++ arc_lines p u (drop i along) v ≡ all → now ++ arc_line p u v ≡ all
-  lines_end v now all so_far = ap (λ (l : List Node). now ++ arc_lines p u l v) (sym (drop_of_length-le along past)) ∙ so_far
+  pub lines_end : (names : NameBook) (v : Node) (now all : List ℕ) → now ++ arc_lines names p u (drop i along) v ≡ all → now ++ arc_line names p u v ≡ all
+  lines_end names v now all so_far = ap (λ (l : List Node). now ++ arc_lines names p u l v) (sym (drop_of_length-le along past)) ∙ so_far
 
 -- the arcs of a cycle
 pub cycle_arcs : (p : PlannedShop) (nodes : List Node) (first : Node) (rest : List Node) → nodes ≡ first ∷ rest → IsSimpleCycle p nodes → ArcsLead p first rest first

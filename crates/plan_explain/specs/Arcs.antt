@@ -2,6 +2,8 @@
 use Rattle.std.specs.Prelude.{ℕ, ◌==◌, if◌then◌else◌, List, [], ◌∷◌, ◌++◌, codes, decimal}
 use Rattle.shop_base.specs.declared.node.Node.{Node}
 use Rattle.shop_base.specs.Plan.{PlannedShop, machine_of, nominal, clean}
+use Rattle.people_names.specs.NameBooks.{NameBook}
+use Rattle.people_names.specs.Words.{job_word, machine_word}
 use Rattle.plan_explain.specs.declared.arcs.ToldArc.{ToldArc}
 use Rattle.plan_explain.specs.declared.arcs.ToldArc.TheVariants.{Job, Blocking}
 
@@ -20,9 +22,10 @@ abbrev pub clean_words : ℕ → List ℕ
 clean_words clean = if clean == 0 then [] else codes " cleaned for " ++ decimal clean
 
 -- `job J on machine M for P`, or `machine M from job I to job J`, with ` cleaned for C` where the machine has a cleaning time
-abbrev pub arc_words : ToldArc → List (List ℕ)
-arc_words (Job job machine nominal) = codes "job " ∷ decimal job ∷ codes " on machine " ∷ decimal machine ∷ codes " for " ∷ decimal nominal ∷ []
-arc_words (Blocking machine from to clean) = codes "machine " ∷ decimal machine ∷ codes " from job " ∷ decimal from ∷ codes " to job " ∷ decimal to ∷ clean_words clean ∷ []
+abbrev pub arc_words : NameBook → ToldArc → List (List ℕ)
+arc_words names (Job job machine nominal) = codes "job " ∷ job_word names job ∷ codes " on machine " ∷ machine_word names machine ∷ codes " for " ∷ decimal nominal ∷ []
+arc_words names (Blocking machine from to clean) =
+    codes "machine " ∷ machine_word names machine ∷ codes " from job " ∷ job_word names from ∷ codes " to job " ∷ job_word names to ∷ clean_words clean ∷ []
 
 -- the arc from a place of a job to its next one
 abbrev pub told_job_arc : PlannedShop → Node → ToldArc

@@ -3,18 +3,20 @@ use Rattle.std.specs.Prelude.{ℕ, List, [], ◌∷◌, ◌++◌, codes}
 use Rattle.shop_base.specs.declared.node.Node.{Node}
 use Rattle.shop_base.specs.NodeText.{node_text}
 use Rattle.shop_base.specs.Plan.{PlannedShop}
+use Rattle.people_names.specs.NameBooks.{NameBook}
 use Rattle.plan_explain.specs.Arcs.{before, arc_words, told_arc}
 
--- `A B WORDS`, of the arc from u to v
-abbrev pub arc_line : PlannedShop → Node → Node → List ℕ
-arc_line p u v = before (node_text u ∷ codes " " ∷ node_text v ∷ codes " " ∷ []) (before (arc_words (told_arc p u v)) (codes "\n"))
+module _ (names : NameBook) (p : PlannedShop) where
+  -- `A B WORDS`, of the arc from u to v
+  abbrev pub arc_line : Node → Node → List ℕ
+  arc_line u v = before (node_text u ∷ codes " " ∷ node_text v ∷ codes " " ∷ []) (before (arc_words names (told_arc p u v)) (codes "\n"))
 
--- the lines of the arcs from u along the list, and from its end to v
-abbrev pub arc_lines : PlannedShop → Node → List Node → Node → List ℕ
-arc_lines p u [] v = arc_line p u v
-arc_lines p u (w ∷ ws) v = arc_line p u w ++ arc_lines p w ws v
+  -- the lines of the arcs from u along the list, and from its end to v
+  abbrev pub arc_lines : Node → List Node → Node → List ℕ
+  arc_lines u [] v = arc_line u v
+  arc_lines u (w ∷ ws) v = arc_line u w ++ arc_lines w ws v
 
--- a line for each node of a cycle, of the arc from it to the next one; of the last to the first
-abbrev pub cycle_lines : PlannedShop → List Node → List ℕ
-cycle_lines p [] = []
-cycle_lines p (u ∷ us) = arc_lines p u us u
+  -- a line for each node of a cycle, of the arc from it to the next one; of the last to the first
+  abbrev pub cycle_lines : List Node → List ℕ
+  cycle_lines [] = []
+  cycle_lines (u ∷ us) = arc_lines u us u

@@ -3,6 +3,8 @@ use Rattle.std.specs.Prelude.{ℕ, zero, suc, ◌-◌, ◌<◌, nat_lt, if◌the
 use Rattle.shop_base.specs.declared.node.Node.{Node}
 use Rattle.shop_base.specs.Plan.{PlannedShop, jobs, budget}
 use Rattle.shop_base.specs.Graph.{leaving, Path}
+use Rattle.people_names.specs.NameBooks.{NameBook}
+use Rattle.people_names.specs.Words.{job_word, moment_word, is_budget_told}
 use Rattle.plan_verifier.specs.Accepted.{IsMakespan}
 use Rattle.plan_explain.specs.Arcs.{before}
 
@@ -13,19 +15,26 @@ pub record IsLastToLeave (p : PlannedShop) (j n : ℕ) : Type 0 where
   pub reached : (nodes : List Node) × Path p nodes (leaving p j) n
   pub first : (i : ℕ) (nodes : List Node) (k : ℕ) → i < j → Path p nodes (leaving p i) k → k < n
 
--- ` slack S`, what is left to the budget; or ` late D`, by how much the leaving is past it
-abbrev pub margin_words : ℕ → ℕ → List ℕ
-margin_words leaves budget = if nat_lt budget leaves then codes " late " ++ decimal (leaves - budget) else codes " slack " ++ decimal (budget - leaves)
+module _ (names : NameBook) where
+  -- ` budget B`, with these words behind it; ` no budget` of one that nobody gave
+  abbrev pub budget_words : ℕ → List (List ℕ) → List (List ℕ)
+  budget_words budget behind = if is_budget_told names budget then codes " budget " ∷ moment_word names budget ∷ behind else codes " no budget" ∷ []
 
--- `job J leaves L budget B slack S`, or `.. late D`
-abbrev pub leaving_line : ℕ → ℕ → ℕ → List ℕ
-leaving_line j leaves budget = before (codes "job " ∷ decimal j ∷ codes " leaves " ∷ decimal leaves ∷ codes " budget " ∷ decimal budget ∷ margin_words leaves budget ∷ []) (codes "\n")
+  -- ` budget B slack S`, what is left to the budget, or ` no budget`; or ` budget B late D`, by how much the leaving is past it
+  abbrev pub margin_words : ℕ → ℕ → List (List ℕ)
+  margin_words leaves budget =
+      if nat_lt budget leaves then codes " budget " ∷ moment_word names budget ∷ codes " late " ∷ decimal (leaves - budget) ∷ []
+      else budget_words budget (codes " slack " ∷ decimal (budget - leaves) ∷ [])
 
--- the lines of the first n jobs
-abbrev pub leaving_lines_below : PlannedShop → (ℕ → ℕ) → ℕ → List ℕ
-leaving_lines_below p leaves zero = []
-leaving_lines_below p leaves (suc n) = leaving_lines_below p leaves n ++ leaving_line n (leaves n) (budget p n)
+  -- `job J leaves L budget B slack S`, or `.. late D`
+  abbrev pub leaving_line : ℕ → ℕ → ℕ → List ℕ
+  leaving_line j leaves budget = before (codes "job " ∷ job_word names j ∷ codes " leaves " ∷ moment_word names leaves ∷ []) (before (margin_words leaves budget) (codes "\n"))
 
--- the lines of all jobs, in ascending order
-abbrev pub leaving_lines : PlannedShop → (ℕ → ℕ) → List ℕ
-leaving_lines p leaves = leaving_lines_below p leaves (jobs p)
+  -- the lines of the first n jobs
+  abbrev pub leaving_lines_below : PlannedShop → (ℕ → ℕ) → ℕ → List ℕ
+  leaving_lines_below p leaves zero = []
+  leaving_lines_below p leaves (suc n) = leaving_lines_below p leaves n ++ leaving_line n (leaves n) (budget p n)
+
+  -- the lines of all jobs, in ascending order
+  abbrev pub leaving_lines : PlannedShop → (ℕ → ℕ) → List ℕ
+  leaving_lines p leaves = leaving_lines_below p leaves (jobs p)

@@ -17,3 +17,4 @@ pub mod RestExplained
 pub mod StartTexts
 -- Of proofs and private contracts alone.
 pub mod Added
+pub mod ChainsFound

@@ -4,6 +4,7 @@ use Rattle.shop_base.specs.declared.node.Node.{Node}
 use Rattle.shop_base.specs.Plan.{PlannedShop, steps, machine_of, nominal, clean, Stands, IsWellShaped}
 use Rattle.shop_base.specs.Graph.{node, Arc, HasArc, Path, IsSimpleCycle}
 use Rattle.alt_graph.specs.Evidence.{EndsIn}
+use Rattle.people_names.specs.NameBooks.{NameBook}
 use Rattle.plan_verifier.specs.declared.verdict.Verdict.{Verdict}
 use Rattle.plan_explain.specs.declared.arcs.ToldArc.TheVariants.{Job, Blocking}
 use Rattle.plan_explain.specs.Arcs.{time_of, told_arc}
@@ -23,22 +24,23 @@ ArcsAreToldAsTheyAre = (p : PlannedShop) → IsWellShaped p → AreArcsTold p
 
 -- the line of a node behind a path tells the length of the path up to it, which is that of the path before and the arc between
 abbrev pub EachLineTellsThePathUpToIt : Type 0
-EachLineTellsThePathUpToIt = (p : PlannedShop) (path nodes : List Node) (u v : Node) (n d : ℕ) → IsWellShaped p → Path p path u n → Arc p u v d
-    → chain_lines p (path ++ v ∷ nodes) ≡ chain_lines p path ++ (reached_line (n + d) v (told_arc p u v) ++ reached_lines p (n + d) v nodes)
+EachLineTellsThePathUpToIt = (names : NameBook) (p : PlannedShop) (path nodes : List Node) (u v : Node) (n d : ℕ) → IsWellShaped p → Path p path u n → Arc p u v d
+    → chain_lines names p (path ++ v ∷ nodes) ≡ chain_lines names p path ++ (reached_line names (n + d) v (told_arc p u v) ++ reached_lines names p (n + d) v nodes)
 
 -- the last line of a path to v of length n: of the arc to v from the node before it, or, where there is none, of the release of v's job
-abbrev pub IsLastLine : PlannedShop → List Node → Node → ℕ → List ℕ → Type 0
-IsLastLine p nodes v n line = ((front : List Node) × (u : Node) × (nodes ≡ front ++ u ∷ v ∷ []) × (line ≡ reached_line n v (told_arc p u v))) ⊎ ((nodes ≡ v ∷ []) × (line ≡ release_line n v))
+abbrev pub IsLastLine : NameBook → PlannedShop → List Node → Node → ℕ → List ℕ → Type 0
+IsLastLine names p nodes v n line =
+    ((front : List Node) × (u : Node) × (nodes ≡ front ++ u ∷ v ∷ []) × (line ≡ reached_line names n v (told_arc p u v))) ⊎ ((nodes ≡ v ∷ []) × (line ≡ release_line names n v))
 
 -- the last line of a path's lines is of its last node, and tells its length
 abbrev pub TheLastLineTellsTheLength : Type 0
-TheLastLineTellsTheLength = (p : PlannedShop) (nodes : List Node) (v : Node) (n : ℕ) → IsWellShaped p → Path p nodes v n
-    → (lines last : List ℕ) × (chain_lines p nodes ≡ lines ++ last) × IsLastLine p nodes v n last
+TheLastLineTellsTheLength = (names : NameBook) (p : PlannedShop) (nodes : List Node) (v : Node) (n : ℕ) → IsWellShaped p → Path p nodes v n
+    → (lines last : List ℕ) × (chain_lines names p nodes ≡ lines ++ last) × IsLastLine names p nodes v n last
 
 -- the last line of a cycle's lines is of the arc from its last node to its first
 abbrev pub TheLinesOfACycleClose : Type 0
-TheLinesOfACycleClose = (p : PlannedShop) (first : Node) (rest : List Node) → IsSimpleCycle p (first ∷ rest)
-    → (lines : List ℕ) × (last : Node) × (cycle_lines p (first ∷ rest) ≡ lines ++ arc_line p last first) × EndsIn (first ∷ rest) last × HasArc p last first
+TheLinesOfACycleClose = (names : NameBook) (p : PlannedShop) (first : Node) (rest : List Node) → IsSimpleCycle p (first ∷ rest)
+    → (lines : List ℕ) × (last : Node) × (cycle_lines names p (first ∷ rest) ≡ lines ++ arc_line names p last first) × EndsIn (first ∷ rest) last × HasArc p last first
 
 -- a verdict has one first line: so what `check` says of a verdict and what `explain` says of it begin with the same line
 abbrev pub AVerdictHasOneFirstLine : Type 0

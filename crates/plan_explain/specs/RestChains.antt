@@ -4,6 +4,7 @@ use Rattle.shop_base.specs.declared.node.Node.{Node}
 use Rattle.shop_base.specs.Plan.{PlannedShop}
 use Rattle.shop_base.specs.Cell.{Cell}
 use Rattle.shop_base.specs.Ahead.{PathAhead}
+use Rattle.people_names.specs.NameBooks.{NameBook}
 use Rattle.plan_verifier.specs.Held.{BeginHeldUp, IsBoundOf}
 use Rattle.plan_verifier.specs.declared.node_bound.NodeBound.{NodeBound}
 use Rattle.plan_explain.specs.Chains.{reached_lines}
@@ -19,7 +20,12 @@ module _ (p : PlannedShop) (c : Cell) (t : ℕ) where
     pub greatest : (v : Node) (k : ℕ) → PathAhead p c t nodes v k → k ≤ size
     pub small : size < 2 ^ 64
 
-  -- the lines of a chain: what its first node waits for, and each further node, with the length of the path up to it
-  abbrev pub AreRestChainLines : List Node → List ℕ → Type 0
-  AreRestChainLines [] lines = lines ≡ []
-  AreRestChainLines (u ∷ us) lines = (bound : NodeBound) × IsBoundOf p c t u bound × (lines ≡ bound_line u bound ++ reached_lines p bound.moment u us)
+  -- there are no nodes, or they are such a path
+  abbrev pub IsChainOrNone : List Node → Type 0
+  IsChainOrNone [] = Unit {0}
+  IsChainOrNone (u ∷ us) = IsRestChain (u ∷ us)
+
+-- the lines of a chain: what its first node waits for, and each further node, with the length of the path up to it
+abbrev pub AreRestChainLines : NameBook → PlannedShop → Cell → ℕ → List Node → List ℕ → Type 0
+AreRestChainLines names p c t [] lines = lines ≡ []
+AreRestChainLines names p c t (u ∷ us) lines = (bound : NodeBound) × IsBoundOf p c t u bound × (lines ≡ bound_line names u bound ++ reached_lines names p bound.moment u us)

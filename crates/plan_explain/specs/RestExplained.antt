@@ -1,10 +1,11 @@
 -- The explanations of verdicts on the rest of a run.
-use Rattle.std.specs.Prelude.{◌≡◌, ℕ, ◌<◌, ◌⊎◌, List, [], ◌++◌}
+use Rattle.std.specs.Prelude.{◌≡◌, ℕ, ◌<◌, ◌⊎◌, List, [], ◌++◌, Option, None, Some}
 use Rattle.shop_base.specs.declared.node.Node.{Node}
 use Rattle.shop_base.specs.Plan.{PlannedShop, jobs}
 use Rattle.shop_base.specs.Cell.{Cell, IsGone}
 use Rattle.shop_base.specs.Graph.{leaving}
 use Rattle.shop_base.specs.Ahead.{PathAhead}
+use Rattle.people_names.specs.NameBooks.{NameBook}
 use Rattle.plan_verifier.specs.Leavings.{AreLeavingsAhead, LeavesLast}
 use Rattle.plan_verifier.specs.declared.verdict.Judged.{Judged}
 use Rattle.plan_verifier.specs.declared.verdict.Judged.TheVariants.{Accepted, Refused}
@@ -15,27 +16,36 @@ use Rattle.plan_explain.specs.RestLeavings.{rest_leaving_lines}
 use Rattle.plan_explain.specs.RestFirstLines.{IsRestFirstLine}
 
 module _ (p : PlannedShop) (c : Cell) (t : ℕ) where
-  -- the lines of a path ahead to the leaving of job j, of this length
-  abbrev pub IsPathTextTo : ℕ → ℕ → List ℕ → Type 0
-  IsPathTextTo j n text = (chain : List Node) × PathAhead p c t chain (leaving p j) n × AreRestChainLines p c t chain text
+  -- along the nodes leads a longest path ahead to the leaving of job j; there are none where it is gone
+  abbrev pub IsChainTo : ℕ → (ℕ → ℕ) → List Node → Type 0
+  IsChainTo j leaves chain = (IsGone p c j × (chain ≡ [])) ⊎ ((IsGone p c j → ⊥) × PathAhead p c t chain (leaving p j) (leaves j))
 
-  -- the lines of a longest path ahead to the leaving of the least job that leaves last of those that aren't gone; none where all are
-  abbrev pub IsLastChainText : (ℕ → ℕ) → List ℕ → Type 0
-  IsLastChainText leaves text = (((j : ℕ) → j < jobs p → IsGone p c j) × (text ≡ [])) ⊎ ((j : ℕ) × LeavesLast p c leaves j × IsPathTextTo j (leaves j) text)
+  -- so to that of the least job that leaves last of those that aren't gone; there are none where all are
+  abbrev pub IsChainToLastAhead : (ℕ → ℕ) → List Node → Type 0
+  IsChainToLastAhead leaves chain = (((j : ℕ) → j < jobs p → IsGone p c j) × (chain ≡ [])) ⊎ ((j : ℕ) × LeavesLast p c leaves j × PathAhead p c t chain (leaving p j) (leaves j))
 
-  -- a line for each job's leaving, and then such lines as these
-  pub record AreRestMomentLines (Behind : (ℕ → ℕ) → List ℕ → Type 0) (lines : List ℕ) : Type 0 where
+  -- which chain is told: where one is asked for, that to the leaving of this job, else one of which Else holds
+  abbrev pub IsToldChainAhead : Option ℕ → ((ℕ → ℕ) → List Node → Type 0) → (ℕ → ℕ) → List Node → Type 0
+  IsToldChainAhead None Else leaves chain = Else leaves chain
+  IsToldChainAhead (Some j) Else leaves chain = IsChainTo j leaves chain
+
+-- by names, with the chain to the leaving of a job, where one is asked for
+module _ (names : NameBook) (told : Option ℕ) (p : PlannedShop) (c : Cell) (t : ℕ) where
+  -- a line for each job's leaving, and then those of the chain that is asked for, else of one of which Else holds
+  pub record AreRestMomentLines (Else : (ℕ → ℕ) → List Node → Type 0) (lines : List ℕ) : Type 0 where
     pub leaves : ℕ → ℕ
     pub leavings : AreLeavingsAhead p c t leaves
+    pub chain : List Node
+    pub is : IsToldChainAhead p c t told Else leaves chain
     pub behind : List ℕ
-    pub are_behind : Behind leaves behind
-    pub are : lines ≡ rest_leaving_lines p c leaves ++ behind
+    pub are_behind : AreRestChainLines names p c t chain behind
+    pub are : lines ≡ rest_leaving_lines names p c leaves ++ behind
 
-  -- the lines behind the first one of a verdict: of an accepted rest those of jobs, and of the chain to the job that leaves last; the arcs of the cycle; or those of jobs, and of the chain that the first line tells
+  -- the lines behind the first one of a verdict: the arcs of the cycle; or those of jobs, and of a chain: of an accepted rest to the job that leaves last, of a late one that which the first line tells
   abbrev pub AreRestBehind : Judged → List ℕ → Type 0
-  AreRestBehind (Accepted times) lines = AreRestMomentLines IsLastChainText lines
-  AreRestBehind (Refused (Cycle nodes)) lines = lines ≡ cycle_lines p nodes.items
-  AreRestBehind (Refused (Late job leaves chain times)) lines = AreRestMomentLines (λ leaves. AreRestChainLines p c t chain.items) lines
+  AreRestBehind (Accepted times) lines = AreRestMomentLines (IsChainToLastAhead p c t) lines
+  AreRestBehind (Refused (Cycle nodes)) lines = lines ≡ cycle_lines names p nodes.items
+  AreRestBehind (Refused (Late job leaves chain times)) lines = AreRestMomentLines (λ moments nodes. nodes ≡ chain.items) lines
 
   -- the explanation of a verdict on the rest: its first line, and then those behind it
   pub record IsRestExplained (verdict : Judged) (text : List ℕ) : Type 0 where

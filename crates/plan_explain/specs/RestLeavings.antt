@@ -1,18 +1,20 @@
 -- The lines of the jobs in the rest of a run.
-use Rattle.std.specs.Prelude.{ℕ, zero, suc, nat_lt, if◌then◌else◌, List, [], ◌∷◌, ◌++◌, codes, decimal}
+use Rattle.std.specs.Prelude.{ℕ, zero, suc, nat_lt, if◌then◌else◌, List, [], ◌∷◌, ◌++◌, codes}
 use Rattle.shop_base.specs.Plan.{PlannedShop, jobs, steps, budget}
 use Rattle.shop_base.specs.Cell.{Cell, made}
+use Rattle.people_names.specs.NameBooks.{NameBook}
+use Rattle.people_names.specs.Words.{job_word, moment_word}
 use Rattle.plan_explain.specs.Arcs.{before}
-use Rattle.plan_explain.specs.Leavings.{leaving_line}
+use Rattle.plan_explain.specs.Leavings.{budget_words, leaving_line}
 
 -- `job J left L budget B`
-abbrev pub gone_line : ℕ → ℕ → ℕ → List ℕ
-gone_line j left budget = before (codes "job " ∷ decimal j ∷ codes " left " ∷ decimal left ∷ codes " budget " ∷ decimal budget ∷ []) (codes "\n")
+abbrev pub gone_line : NameBook → ℕ → ℕ → ℕ → List ℕ
+gone_line names j left budget = before (codes "job " ∷ job_word names j ∷ codes " left " ∷ moment_word names left ∷ []) (before (budget_words names budget []) (codes "\n"))
 
-module _ (p : PlannedShop) (c : Cell) where
+module _ (names : NameBook) (p : PlannedShop) (c : Cell) where
   -- the line of job j: when it left, or when it leaves and what is left to its budget
   abbrev pub rest_leaving_line : ℕ → ℕ → List ℕ
-  rest_leaving_line j leaves = if nat_lt (steps p j) (made c j) then gone_line j leaves (budget p j) else leaving_line j leaves (budget p j)
+  rest_leaving_line j leaves = if nat_lt (steps p j) (made c j) then gone_line names j leaves (budget p j) else leaving_line names j leaves (budget p j)
 
   -- the lines of the first n jobs
   abbrev pub rest_leaving_lines_below : (ℕ → ℕ) → ℕ → List ℕ

@@ -1,7 +1,8 @@
 -- The law of the start: of a run that hasn't begun the rest is told as the whole plan.
-use Rattle.std.specs.Prelude.{◌↔◌, ℕ, List}
-use Rattle.shop_base.specs.Plan.{PlannedShop, IsWellShaped}
+use Rattle.std.specs.Prelude.{◌↔◌, ℕ, ◌<◌, List, Option, IfSome}
+use Rattle.shop_base.specs.Plan.{PlannedShop, jobs, IsWellShaped}
 use Rattle.shop_base.specs.Cell.{start}
+use Rattle.people_names.specs.NameBooks.{NameBook}
 use Rattle.plan_verifier.specs.declared.verdict.Judged.{Judged}
 use Rattle.plan_verifier.specs.declared.verdict.Judged.TheVariants.{Accepted as AcceptedRest, Refused as RefusedRest}
 use Rattle.plan_verifier.specs.declared.verdict.Verdict.{Verdict}
@@ -17,7 +18,9 @@ abbrev pub said_of : PlannedShop → Judged → Verdict
 said_of p (AcceptedRest times) = Accepted (record { planned = p; times = times })
 said_of p (RefusedRest why) = Refused p why
 
--- of a verdict on the rest from the start and moment 0 on the same is told as of the plan: its first line is the plan's, and its explanations are the plan's
+-- of a verdict on the rest from the start and moment 0 on the same is told as of the plan: its first line is the plan's, and its explanations are the plan's, by any names and with the chain to any job
 abbrev pub TheRestOfTheStartIsToldAsThePlan : Type 0
 TheRestOfTheStartIsToldAsThePlan = (p : PlannedShop) (verdict : Judged) (text : List ℕ) → IsWellShaped p → IsRestJudged p (start p) 0 verdict
-    → (IsRestFirstLine p (start p) 0 verdict text ↔ IsFirstLine (said_of p verdict) text) × (IsRestExplained p (start p) 0 verdict text ↔ IsExplained (said_of p verdict) text)
+    → (IsRestFirstLine p (start p) 0 verdict text ↔ IsFirstLine (said_of p verdict) text)
+    × ((names : NameBook) (told : Option ℕ) → IfSome told (λ j. j < jobs p)
+    → IsRestExplained names told p (start p) 0 verdict text ↔ IsExplained names told (said_of p verdict) text)

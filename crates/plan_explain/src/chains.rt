@@ -3,14 +3,16 @@
 ghost use Rattle.std.specs.Prelude.{◌≡◌, ◌+◌, ◌^◌, ◌<◌, ◌≤◌, ◌∷◌, ◌++◌, length, OnOk};
 ghost use Rattle.shop_base.specs.declared.limits.TheConstants.{MAX_MOMENT};
 ghost use Rattle.plan_explain.specs.Added.{Adds};
+ghost use Rattle.people_names.specs.declared.names.TheConstants.{LONGEST_MOMENT};
 ghost use Rattle.plan_explain.specs.Arcs.{before};
 ghost use Rattle.plan_explain.specs.Chains.{AreAlong, length_from, reached_line, reached_lines};
 ghost use Rattle.plan_explain.specs.Holds.{bound_line, overdue_words, hold_words};
-ghost use Rattle.plan_explain.specs.RestChains.{IsRestChain, AreRestChainLines};
+ghost use Rattle.plan_explain.specs.RestChains.{IsRestChain, IsChainOrNone, AreRestChainLines};
 
 use crate::arcs::{ToldArc, told_arc};
 use crate::words::{Line, push_line, put_arc, put_node};
 use cell_tables::WorkCell;
+use people_names::Names;
 use plan_verifier::{Hold, NodeBound, bound_after};
 use shop_base::{JobNo, MachineNo, Moment, Node, Planned, Shaped};
 use std::alloc::AllocError;
@@ -19,22 +21,24 @@ use std::alloc::AllocError;
 /// the arc from the node before.
 pub(crate) fn push_chain_lines<P: Planned>(
     text: &mut Vec<u8>,
+    names: &Names,
     cell: &WorkCell<P>,
     present: Moment,
     nodes: &[Node],
 ) -> Result<(), AllocError>
     requires present { present ≤ MAX_MOMENT }
-    requires chain { IsRestChain cell.now.plan cell.now.cell present nodes.now }
-    ensures { OnOk result (Adds (AreRestChainLines cell.now.plan cell.now.cell present nodes.now) text.old.items text.new.items) }
+    requires chain { IsChainOrNone cell.now.plan cell.now.cell present nodes.now }
+    ensures { OnOk result (Adds (AreRestChainLines names.now cell.now.plan cell.now.cell present nodes.now) text.old.items text.new.items) }
 {
     match nodes.split_first() {
-        Some((first, rest)) => push_from(text, cell, present, *first, rest),
+        Some((first, rest)) => push_from(text, names, cell, present, *first, rest),
         None => Ok(()),
     }
 }
 
 fn push_from<P: Planned>(
     text: &mut Vec<u8>,
+    names: &Names,
     cell: &WorkCell<P>,
     present: Moment,
     first: Node,
@@ -42,39 +46,44 @@ fn push_from<P: Planned>(
 ) -> Result<(), AllocError>
     requires present { present ≤ MAX_MOMENT }
     requires chain { IsRestChain cell.now.plan cell.now.cell present (first ∷ rest.now) }
-    ensures { OnOk result (Adds (AreRestChainLines cell.now.plan cell.now.cell present (first ∷ rest.now)) text.old.items text.new.items) }
+    ensures { OnOk result (Adds (AreRestChainLines names.now cell.now.plan cell.now.cell present (first ∷ rest.now)) text.old.items text.new.items) }
 {
     let shaped = cell.shaped();
     let Some(bound) = bound_after(cell, present, first) else {
         unreachable!()
     };
-    push_bound_line(text, first, bound)?;
-    push_reached_lines(text, shaped, bound.moment, first, rest)
+    push_bound_line(text, names, first, bound)?;
+    push_reached_lines(text, names, shaped, bound.moment, first, rest)
 }
 
 /// Adds `T B WORDS`, of a node with this bound.
-fn push_bound_line(text: &mut Vec<u8>, node: Node, bound: NodeBound) -> Result<(), AllocError>
-    ensures { OnOk result (text.new.items ≡ text.old.items ++ bound_line node bound) }
+fn push_bound_line(
+    text: &mut Vec<u8>,
+    names: &Names,
+    node: Node,
+    bound: NodeBound,
+) -> Result<(), AllocError>
+    ensures { OnOk result (text.new.items ≡ text.old.items ++ bound_line names.now node bound) }
 {
     let mut line = Line::ended();
-    put_overdue(&mut line, bound.overdue);
-    put_hold(&mut line, bound.holds);
+    put_overdue(&mut line, names, bound.overdue);
+    put_hold(&mut line, names, bound.holds);
     line.put_text(b" ");
     put_node(&mut line, node);
     line.put_text(b" ");
-    line.put_number(bound.moment);
+    names.put_moment(&mut line, bound.moment);
     push_line(text, &line)
 }
 
 /// Writes since when that is overdue, if it is.
-fn put_overdue(line: &mut Line, overdue: Option<Moment>)
+fn put_overdue(line: &mut Line, names: &Names, overdue: Option<Moment>)
     requires { length line.old ≤ 1 }
-    ensures written { line.new ≡ overdue_words overdue ++ line.old }
-    ensures length { length line.new ≤ 35 + length line.old }
+    ensures written { line.new ≡ overdue_words names.now overdue ++ line.old }
+    ensures length { length line.new ≤ LONGEST_MOMENT + 15 + length line.old }
 {
     match overdue {
         Some(due) => {
-            line.put_number(due);
+            names.put_moment(line, due);
             line.put_text(b" overdue since ");
         }
         None => {}
@@ -82,25 +91,25 @@ fn put_overdue(line: &mut Line, overdue: Option<Moment>)
 }
 
 /// Writes what holds a node up.
-fn put_hold(line: &mut Line, holds: Hold)
-    requires { length line.old ≤ 36 }
-    ensures written { line.new ≡ before (hold_words holds) line.old }
-    ensures length { length line.new ≤ 96 + length line.old }
+fn put_hold(line: &mut Line, names: &Names, holds: Hold)
+    requires { length line.old ≤ 45 }
+    ensures written { line.new ≡ before (hold_words names.now holds) line.old }
+    ensures length { length line.new ≤ 157 + length line.old }
 {
     match holds {
         Hold::Awaited { job } => {
-            line.put_short_number(job);
+            names.put_job(line, job);
             line.put_text(b"release of job ");
         }
         Hold::Arrived { job } => {
             line.put_text(b" has arrived");
-            line.put_short_number(job);
+            names.put_job(line, job);
             line.put_text(b"job ");
         }
         Hold::Done { job, machine } => {
-            line.put_short_number(machine);
+            names.put_machine(line, machine);
             line.put_text(b" done on machine ");
-            line.put_short_number(job);
+            names.put_job(line, job);
             line.put_text(b"job ");
         }
         Hold::Worked {
@@ -108,42 +117,49 @@ fn put_hold(line: &mut Line, holds: Hold)
             machine,
             since,
             nominal,
-        } => put_operation(line, job, machine, since, nominal),
+        } => put_operation(line, names, job, machine, since, nominal),
         Hold::Cleaned {
             machine,
             since,
             clean,
-        } => put_cleaning(line, machine, since, clean),
+        } => put_cleaning(line, names, machine, since, clean),
     }
 }
 
 /// Writes `job J on machine M since S for P`.
-fn put_operation(line: &mut Line, job: JobNo, machine: MachineNo, since: Moment, nominal: Moment)
-    requires { length line.old ≤ 36 }
-    ensures written { line.new ≡ before (hold_words (Hold.Worked job machine since nominal)) line.old }
-    ensures length { length line.new ≤ 96 + length line.old }
+fn put_operation(
+    line: &mut Line,
+    names: &Names,
+    job: JobNo,
+    machine: MachineNo,
+    since: Moment,
+    nominal: Moment,
+)
+    requires { length line.old ≤ 45 }
+    ensures written { line.new ≡ before (hold_words names.now (Hold.Worked job machine since nominal)) line.old }
+    ensures length { length line.new ≤ 157 + length line.old }
 {
     line.put_number(nominal);
     line.put_text(b" for ");
-    line.put_number(since);
+    names.put_moment(line, since);
     line.put_text(b" since ");
-    line.put_short_number(machine);
+    names.put_machine(line, machine);
     line.put_text(b" on machine ");
-    line.put_short_number(job);
+    names.put_job(line, job);
     line.put_text(b"job ");
 }
 
 /// Writes `machine M cleaned since S for C`.
-fn put_cleaning(line: &mut Line, machine: MachineNo, since: Moment, clean: Moment)
-    requires { length line.old ≤ 36 }
-    ensures written { line.new ≡ before (hold_words (Hold.Cleaned machine since clean)) line.old }
-    ensures length { length line.new ≤ 96 + length line.old }
+fn put_cleaning(line: &mut Line, names: &Names, machine: MachineNo, since: Moment, clean: Moment)
+    requires { length line.old ≤ 45 }
+    ensures written { line.new ≡ before (hold_words names.now (Hold.Cleaned machine since clean)) line.old }
+    ensures length { length line.new ≤ 157 + length line.old }
 {
     line.put_number(clean);
     line.put_text(b" for ");
-    line.put_number(since);
+    names.put_moment(line, since);
     line.put_text(b" cleaned since ");
-    line.put_short_number(machine);
+    names.put_machine(line, machine);
     line.put_text(b"machine ");
 }
 
@@ -151,6 +167,7 @@ fn put_cleaning(line: &mut Line, machine: MachineNo, since: Moment, clean: Momen
 /// reached, in time units, the node, and the arc from the node before.
 fn push_reached_lines(
     text: &mut Vec<u8>,
+    names: &Names,
     shaped: &Shaped,
     start: Moment,
     from: Node,
@@ -158,14 +175,14 @@ fn push_reached_lines(
 ) -> Result<(), AllocError>
     requires arcs { AreAlong shaped.now from along.now }
     requires small { length_from shaped.now start from along.now < 2 ^ 64 }
-    ensures { OnOk result (text.new.items ≡ text.old.items ++ reached_lines shaped.now start from along.now) }
+    ensures { OnOk result (text.new.items ≡ text.old.items ++ reached_lines names.now shaped.now start from along.now) }
 {
     let mut at = start;
     let mut last = from;
     for node in along {
         let arc = told_arc(shaped, last, *node);
         at += arc.time();
-        push_reached_line(text, at, *node, arc)?;
+        push_reached_line(text, names, at, *node, arc)?;
         last = *node;
     }
     Ok(())
@@ -174,17 +191,18 @@ fn push_reached_lines(
 /// Adds `T B WORDS`.
 fn push_reached_line(
     text: &mut Vec<u8>,
+    names: &Names,
     at: Moment,
     node: Node,
     arc: ToldArc,
 ) -> Result<(), AllocError>
-    ensures { OnOk result (text.new.items ≡ text.old.items ++ reached_line at node arc) }
+    ensures { OnOk result (text.new.items ≡ text.old.items ++ reached_line names.now at node arc) }
 {
     let mut line = Line::ended();
-    put_arc(&mut line, arc);
+    put_arc(&mut line, names, arc);
     line.put_text(b" ");
     put_node(&mut line, node);
     line.put_text(b" ");
-    line.put_number(at);
+    names.put_moment(&mut line, at);
     push_line(text, &line)
 }

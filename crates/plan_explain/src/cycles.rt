@@ -6,20 +6,22 @@ ghost use Rattle.plan_explain.specs.Cycles.{arc_line, arc_lines, cycle_lines};
 
 use crate::arcs::told_arc;
 use crate::words::{Line, push_line, put_arc, put_node};
+use people_names::Names;
 use shop_base::{Node, Shaped};
 use std::alloc::AllocError;
 
 /// Adds a line for each node, of the arc from it to the next one; of the last to the first.
 pub(crate) fn push_cycle_lines(
     text: &mut Vec<u8>,
+    names: &Names,
     shaped: &Shaped,
     nodes: &[Node],
 ) -> Result<(), AllocError>
     requires { IsSimpleCycle shaped.now nodes.now }
-    ensures { OnOk result (text.new.items ≡ text.old.items ++ cycle_lines shaped.now nodes.now) }
+    ensures { OnOk result (text.new.items ≡ text.old.items ++ cycle_lines names.now shaped.now nodes.now) }
 {
     match nodes.split_first() {
-        Some((first, rest)) => push_arc_lines(text, shaped, *first, rest, *first),
+        Some((first, rest)) => push_arc_lines(text, names, shaped, *first, rest, *first),
         None => Ok(()),
     }
 }
@@ -27,34 +29,36 @@ pub(crate) fn push_cycle_lines(
 /// Adds the lines of the arcs from a node along the others to the last one.
 fn push_arc_lines(
     text: &mut Vec<u8>,
+    names: &Names,
     shaped: &Shaped,
     from: Node,
     along: &[Node],
     to: Node,
 ) -> Result<(), AllocError>
     requires { ArcsLead shaped.now from along.now to }
-    ensures { OnOk result (text.new.items ≡ text.old.items ++ arc_lines shaped.now from along.now to) }
+    ensures { OnOk result (text.new.items ≡ text.old.items ++ arc_lines names.now shaped.now from along.now to) }
 {
     let mut last = from;
     for node in along {
-        push_arc_line(text, shaped, last, *node)?;
+        push_arc_line(text, names, shaped, last, *node)?;
         last = *node;
     }
-    push_arc_line(text, shaped, last, to)
+    push_arc_line(text, names, shaped, last, to)
 }
 
 /// Adds `A B WORDS`.
 fn push_arc_line(
     text: &mut Vec<u8>,
+    names: &Names,
     shaped: &Shaped,
     from: Node,
     to: Node,
 ) -> Result<(), AllocError>
     requires { HasArc shaped.now from to }
-    ensures { OnOk result (text.new.items ≡ text.old.items ++ arc_line shaped.now from to) }
+    ensures { OnOk result (text.new.items ≡ text.old.items ++ arc_line names.now shaped.now from to) }
 {
     let mut line = Line::ended();
-    put_arc(&mut line, told_arc(shaped, from, to));
+    put_arc(&mut line, names, told_arc(shaped, from, to));
     line.put_text(b" ");
     put_node(&mut line, to);
     line.put_text(b" ");

@@ -1,15 +1,18 @@
 //! The lines of the jobs of a plan without a cycle.
 
-ghost use Rattle.std.specs.Prelude.{◌≡◌, ◌+◌, ◌<◌, ◌≤◌, ◌++◌, length, OnOk};
+ghost use Rattle.std.specs.Prelude.{◌≡◌, ◌+◌, ◌<◌, ◌≤◌, [], ◌∷◌, ◌++◌, length, codes, OnOk};
 ghost use Rattle.shop_base.specs.Plan.{jobs, budget};
 ghost use Rattle.alt_graph.specs.Times.{AreRanks};
+ghost use Rattle.people_names.specs.Words.{moment_word};
 ghost use Rattle.plan_verifier.specs.Leavings.{leaves_in};
-ghost use Rattle.plan_explain.specs.Leavings.{margin_words, leaving_line};
+ghost use Rattle.plan_explain.specs.Arcs.{before};
+ghost use Rattle.plan_explain.specs.Leavings.{budget_words, margin_words, leaving_line};
 ghost use Rattle.plan_explain.specs.RestLeavings.{gone_line, rest_leaving_line, rest_leaving_lines};
 
 use crate::words::{Line, push_line};
 use alt_graph::Times;
 use cell_tables::WorkCell;
+use people_names::Names;
 use plan_verifier::leave_time;
 use shop_base::{JobNo, Moment, Planned};
 use std::alloc::AllocError;
@@ -17,16 +20,17 @@ use std::alloc::AllocError;
 /// Adds a line for each job, in ascending order.
 pub(crate) fn push_leaving_lines<P: Planned>(
     text: &mut Vec<u8>,
+    names: &Names,
     cell: &WorkCell<P>,
     times: &Times,
 ) -> Result<(), AllocError>
     requires { AreRanks cell.now.plan times.now }
     ensures { let p = cell.now.plan in
-        OnOk result (text.new.items ≡ text.old.items ++ rest_leaving_lines p cell.now.cell (leaves_in p times.now)) }
+        OnOk result (text.new.items ≡ text.old.items ++ rest_leaving_lines names.now p cell.now.cell (leaves_in p times.now)) }
 {
     for job in 0..cell.job_count() {
         let leaves = leave_time(cell, times, job);
-        push_job_line(text, cell, job, leaves)?;
+        push_job_line(text, names, cell, job, leaves)?;
     }
     Ok(())
 }
@@ -34,70 +38,97 @@ pub(crate) fn push_leaving_lines<P: Planned>(
 /// Adds the line of a job: when it left, or when it leaves and what is left to its budget.
 fn push_job_line<P: Planned>(
     text: &mut Vec<u8>,
+    names: &Names,
     cell: &WorkCell<P>,
     job: JobNo,
     leaves: Moment,
 ) -> Result<(), AllocError>
     requires { job < jobs cell.now.plan }
-    ensures { OnOk result (text.new.items ≡ text.old.items ++ rest_leaving_line cell.now.plan cell.now.cell job leaves) }
+    ensures { OnOk result (text.new.items ≡ text.old.items ++ rest_leaving_line names.now cell.now.plan cell.now.cell job leaves) }
 {
     let budget = cell.shaped().budget_of(job);
     if cell.step_count(job) < cell.job_state(job).made {
-        return push_gone_line(text, job, leaves, budget);
+        return push_gone_line(text, names, job, leaves, budget);
     }
-    push_leaving_line(text, job, leaves, budget)
+    push_leaving_line(text, names, job, leaves, budget)
 }
 
 /// Adds `job J leaves L budget B slack S`, or `.. late D` where L is past B by D.
 fn push_leaving_line(
     text: &mut Vec<u8>,
+    names: &Names,
     job: JobNo,
     leaves: Moment,
     budget: Moment,
 ) -> Result<(), AllocError>
-    ensures { OnOk result (text.new.items ≡ text.old.items ++ leaving_line job leaves budget) }
+    ensures { OnOk result (text.new.items ≡ text.old.items ++ leaving_line names.now job leaves budget) }
 {
     let mut line = Line::ended();
-    put_margin(&mut line, leaves, budget);
-    line.put_number(budget);
-    line.put_text(b" budget ");
-    line.put_number(leaves);
+    put_margin(&mut line, names, leaves, budget);
+    names.put_moment(&mut line, leaves);
     line.put_text(b" leaves ");
-    line.put_short_number(job);
+    names.put_job(&mut line, job);
     line.put_text(b"job ");
     push_line(text, &line)
 }
 
-/// Writes what is left to the budget, or by how much the leaving is past it.
-fn put_margin(line: &mut Line, leaves: Moment, budget: Moment)
+/// Writes the budget, if it is told, and what is left to it, or by how much the leaving is past it.
+fn put_margin(line: &mut Line, names: &Names, leaves: Moment, budget: Moment)
     requires { length line.old ≤ 1 }
-    ensures written { line.new ≡ margin_words leaves budget ++ line.old }
-    ensures length { length line.new ≤ 28 + length line.old }
+    ensures written { line.new ≡ before (margin_words names.now leaves budget) line.old }
+    ensures length { length line.new ≤ 65 + length line.old }
 {
     if budget < leaves {
         line.put_number(leaves - budget);
         line.put_text(b" late ");
-    } else {
+        put_budget(line, names, budget);
+    } else if names.tells_budget(budget) {
         line.put_number(budget - leaves);
         line.put_text(b" slack ");
+        put_budget(line, names, budget);
+    } else {
+        line.put_text(b" no budget");
     }
 }
 
-/// Adds `job J left L budget B`.
+/// Writes ` budget B`.
+fn put_budget(line: &mut Line, names: &Names, budget: Moment)
+    requires { length line.old ≤ 28 }
+    ensures written { line.new ≡ before (codes " budget " ∷ moment_word names.now budget ∷ []) line.old }
+    ensures length { length line.new ≤ 37 + length line.old }
+{
+    names.put_moment(line, budget);
+    line.put_text(b" budget ");
+}
+
+/// Adds `job J left L budget B`, or `.. no budget` where it isn't told.
 fn push_gone_line(
     text: &mut Vec<u8>,
+    names: &Names,
     job: JobNo,
     left: Moment,
     budget: Moment,
 ) -> Result<(), AllocError>
-    ensures { OnOk result (text.new.items ≡ text.old.items ++ gone_line job left budget) }
+    ensures { OnOk result (text.new.items ≡ text.old.items ++ gone_line names.now job left budget) }
 {
     let mut line = Line::ended();
-    line.put_number(budget);
-    line.put_text(b" budget ");
-    line.put_number(left);
+    put_told_budget(&mut line, names, budget);
+    names.put_moment(&mut line, left);
     line.put_text(b" left ");
-    line.put_short_number(job);
+    names.put_job(&mut line, job);
     line.put_text(b"job ");
     push_line(text, &line)
+}
+
+/// Writes the budget, if it is told.
+fn put_told_budget(line: &mut Line, names: &Names, budget: Moment)
+    requires { length line.old ≤ 1 }
+    ensures written { line.new ≡ before (budget_words names.now budget []) line.old }
+    ensures length { length line.new ≤ 37 + length line.old }
+{
+    if names.tells_budget(budget) {
+        put_budget(line, names, budget);
+    } else {
+        line.put_text(b" no budget");
+    }
 }

@@ -14,7 +14,7 @@ pub mod laws;
 mod leaving_lines;
 mod words;
 
-pub use evidence::explain;
+pub use evidence::{explain, explain_for};
 pub use explaining::explain_after;
 pub use first_lines::{first_line, first_line_after, push_cycle_line};
 pub use words::{LINE_ROOM, Line, push_line};

@@ -6,16 +6,18 @@ ghost use Rattle.plan_explain.specs.Arcs.{before, clean_words, arc_words};
 ghost use Rattle.plan_explain.specs.declared.words.TheConstants.{LINE_ROOM};
 
 use crate::arcs::ToldArc;
+use people_names::Names;
 use shop_base::{Moment, Node};
 use std::alloc::AllocError;
 
 /// The room of a line, in bytes.
-pub const LINE_ROOM: usize = 200;
+pub const LINE_ROOM: usize = 256;
 
 /// A line of an explanation or a schedule. All are shorter than its room.
 pub type Line = text_lines::LineText<LINE_ROOM>;
 
 /// Writes the node as `j.k`.
+#[inline(always)]
 pub(crate) fn put_node(line: &mut Line, node: Node)
     requires { 21 + length line.old ≤ LINE_ROOM }
     ensures written { line.new ≡ node_text node ++ line.old }
@@ -39,10 +41,11 @@ fn put_clean(line: &mut Line, clean: Moment)
 }
 
 /// Writes what the arc is.
-pub(crate) fn put_arc(line: &mut Line, arc: ToldArc)
+#[inline(always)]
+pub(crate) fn put_arc(line: &mut Line, names: &Names, arc: ToldArc)
     requires { length line.old ≤ 1 }
-    ensures written { line.new ≡ before (arc_words arc) line.old }
-    ensures length { length line.new ≤ 89 + length line.old }
+    ensures written { line.new ≡ before (arc_words names.now arc) line.old }
+    ensures length { length line.new ≤ 179 + length line.old }
 {
     match arc {
         ToldArc::Job {
@@ -52,9 +55,9 @@ pub(crate) fn put_arc(line: &mut Line, arc: ToldArc)
         } => {
             line.put_number(nominal);
             line.put_text(b" for ");
-            line.put_short_number(machine);
+            names.put_machine(line, machine);
             line.put_text(b" on machine ");
-            line.put_short_number(job);
+            names.put_job(line, job);
             line.put_text(b"job ");
         }
         ToldArc::Blocking {
@@ -64,11 +67,11 @@ pub(crate) fn put_arc(line: &mut Line, arc: ToldArc)
             clean,
         } => {
             put_clean(line, clean);
-            line.put_short_number(to);
+            names.put_job(line, to);
             line.put_text(b" to job ");
-            line.put_short_number(from);
+            names.put_job(line, from);
             line.put_text(b" from job ");
-            line.put_short_number(machine);
+            names.put_machine(line, machine);
             line.put_text(b"machine ");
         }
     }

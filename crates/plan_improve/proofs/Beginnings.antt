@@ -8,14 +8,12 @@ use Rattle.cell_tables.specs.declared.entry.Entry.{Entry}
 use Rattle.plan_improve.specs.declared.begun.Begun.{Begun}
 use Rattle.event_lines.specs.LogLines.{LinesTell}
 use Rattle.event_lines.proofs.Readings.{one_reading}
-use Rattle.run_log.specs.Audits.{IsTold, IsAuditFault}
-use Rattle.run_log.specs.declared.audit_fault.AuditFault.{AuditFault}
-use Rattle.run_log.specs.declared.audit_fault.AuditFault.TheVariants.{BadLine, NotExpected, Backwards, NotReady, Occupied, NotClean, OutOfOrder, WrongPlace, Memory}
+use Rattle.run_log.specs.Audits.{IsTold}
 use Rattle.plan_seek.specs.declared.search.TheConstants.{MAX_ROUNDS}
 use Rattle.plan_improve.specs.RestCosts.{IsCellOf}
 use Rattle.plan_improve.specs.RestOf.{IsRestOf}
 use Rattle.plan_improve.specs.Improved.{present_of}
-use Rattle.plan_improve.specs.Faults.{log_fault, IsBeginFault, IsImproveRestFault}
+use Rattle.plan_improve.specs.Faults.{IsImproveRestFault}
 use Rattle.plan_improve.specs.declared.not_improved.NotImproved.{NotImproved}
 use Rattle.plan_improve.specs.declared.improve_fault.ImproveFault.TheVariants.{Memory as WantOfMemory}
 use Rattle.plan_improve.specs.RestKeeping.{IsBegun}
@@ -58,15 +56,3 @@ pub present_next : (lines : List (List ℕ)) (at : Option ℕ) (p : PlannedShop)
     → (c : Cell) → IsCellOf lines p c → IsNextMoment c (present_of at c.last)
 present_next lines at p begun is present c here =
     subst (λ (x : Cell). IsNextMoment x (present_of at x.last)) (cell_once lines p (cell_of p begun.tables) c is.cell here) (subst (IsNextMoment (cell_of p begun.tables)) present is.next)
-
--- the fault of a log is one of the beginning
-pub log_begin : (lines : List (List ℕ)) (at : Option ℕ) (p : PlannedShop) (fault : AuditFault) → IsAuditFault p lines fault → IsBeginFault lines at p (log_fault fault)
-log_begin lines at p Memory is = tt
-log_begin lines at p (BadLine n) is = is
-log_begin lines at p (NotExpected n) is = is
-log_begin lines at p (Backwards n) is = is
-log_begin lines at p (NotReady n) is = is
-log_begin lines at p (Occupied n) is = is
-log_begin lines at p (NotClean n) is = is
-log_begin lines at p (OutOfOrder n) is = is
-log_begin lines at p (WrongPlace n) is = is

@@ -1,5 +1,5 @@
 -- Cells by plans with other orders that begin with the entries so far.
-use Rattle.std.proofs.Common.{◌≡◌, ◌↔◌, ℕ, zero, suc, ◌+◌, ◌<◌, ◌≤◌, List, [], ◌∷◌, ◌++◌, length, take, get_or, length-append, Some, inl, inr, arith, refl, sym, ap, ◌∙◌, subst}
+use Rattle.std.proofs.Common.{◌≡◌, ◌↔◌, ℕ, suc, ◌+◌, ◌<◌, ◌≤◌, List, [], ◌∷◌, ◌++◌, length, take, get_or, length-append, Some, inl, inr, arith, refl, sym, ap, ◌∙◌, subst}
 use Rattle.std.proofs.Math.Seq.{take-append_seam}
 use Rattle.std.proofs.lemmas.Bool.{cases_lt}
 use Rattle.std.proofs.lemmas.List.{get_or_past}
@@ -10,10 +10,10 @@ use Rattle.shop_base.specs.Move.{IsPrefix}
 use Rattle.shop_base.specs.Sound.{IsSound}
 use Rattle.shop_base.proofs.Keeping.{run-sound}
 use Rattle.cell_tables.specs.PlannedCell.{PlannedCell}
-use Rattle.cell_tables.specs.Tables.{cell_of, no_row, state_of, states_from, entered_at, AreTables, AreSound}
+use Rattle.cell_tables.specs.Tables.{cell_of, no_row, state_of, states_from, entered_at, AreSound}
 use Rattle.cell_tables.specs.declared.tables.MachineRow.{MachineRow}
 use Rattle.cell_tables.specs.declared.tables.Tables.{Tables}
-use Rattle.cell_tables.proofs.Cells.{row-inside, entries-read, entries-count}
+use Rattle.cell_tables.proofs.Cells.{entries-read, entries-count}
 use Rattle.plan_improve.specs.Keeping.{IsReached, Begin}
 use Rattle.plan_improve.specs.Laws.{BeginsWithEntries}
 use Rattle.plan_improve.specs.Reordered.{reordered}
@@ -135,3 +135,12 @@ module _ (x : PlannedCell PlannedShop) (t : Tables) (plan : x.plan ≡ x.basis) 
 
     pub cell_by : cell_of p t ≡ x.cell
     cell_by = ap (λ (q : PlannedShop). cell_of q t) same ∙ cell_same x.plan orders t out_sound fits_there reached_there begins_there ∙ out_cell
+
+  -- by a plan with other orders that fit, and begin with the entries that the rows tell
+  pub recast : (orders : List (List ℕ)) (old p : PlannedShop) → old ≡ x.plan → p ≡ reordered old orders → IsWellShaped p → IsReached x.plan x.cell → Begin t.machines.items old.plan.order orders
+      → AreSound p t × (cell_of p t ≡ x.cell) × (p ≡ reordered x.plan orders) × BeginsWithEntries x.cell p
+  recast orders old p plan is fits reached begin =
+      let same : p ≡ reordered x.plan orders = is ∙ ap (λ (q : PlannedShop). reordered q orders) plan in
+      let begins : BeginsWithEntries x.cell (reordered x.plan orders) =
+      (begins_of orders (subst IsWellShaped same fits)).0 (subst (λ (q : PlannedShop). Begin t.machines.items q.plan.order orders) plan begin) in
+      (sound_by orders p same fits reached begins, cell_by orders p same fits reached begins, same, subst (BeginsWithEntries x.cell) (sym same) begins)

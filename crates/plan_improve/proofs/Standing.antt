@@ -31,10 +31,10 @@ stands_on (Nothing at_least) p orders c shaped is begins = is
 stands_on (Run log present rest) p orders c shaped is begins = log_there p orders shaped (ended_lines log.now) c is begins
 
 pub stands_by : (fixed : Fixed) (x y : PlannedCell PlannedShop) (orders : List (List ℕ)) → IsWellShaped x.plan → Stands (setting_of fixed) x → y.plan ≡ reordered x.plan orders → y.cell ≡ x.cell
-    → BeginsWithEntries x.cell (reordered x.plan orders) → Stands (setting_of fixed) y
+    → BeginsWithEntries x.cell y.plan → Stands (setting_of fixed) y
 stands_by fixed x y orders shaped stands plan cell begins =
     subst (λ (p : PlannedShop). (setting_of fixed).cells p y.cell) (sym plan)
-    (subst (λ (c : Cell). (setting_of fixed).cells (reordered x.plan orders) c) (sym cell) (stands_on fixed x.plan orders x.cell shaped stands begins))
+    (subst (λ (c : Cell). (setting_of fixed).cells (reordered x.plan orders) c) (sym cell) (stands_on fixed x.plan orders x.cell shaped stands (subst (BeginsWithEntries x.cell) plan begins)))
 
 -- and only by such a plan there is a cost
 pub costs_begin : (fixed : Fixed) (p : PlannedShop) (orders : List (List ℕ)) (c : Cell) (cost : Cost) → IsWellShaped p → IsWellShaped (reordered p orders) → (setting_of fixed).cells p c

@@ -1,5 +1,5 @@
 -- The rest of a run that hasn't begun costs what the whole plan does; and what a cell's plan costs where something is fixed.
-use Rattle.std.proofs.Common.{◌≡◌, ℕ, ◌-◌, ◌<◌, if◌then◌else◌, le-ltb, Option, None, Some, Result, Ok, Err, IfOk, arith, sym, ap, ◌∙◌, subst}
+use Rattle.std.proofs.Common.{◌≡◌, ℕ, ◌-◌, if◌then◌else◌, le-ltb, Option, None, Some, Result, Ok, Err, IfOk, arith, sym, ap, ◌∙◌, subst}
 use Rattle.std.specs.Prelude.{MatchOption}
 use Rattle.shop_base.specs.Plan.{PlannedShop, jobs, steps, budget, IsWellShaped}
 use Rattle.shop_base.specs.Cell.{Cell, made, start}

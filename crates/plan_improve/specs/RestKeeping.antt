@@ -6,7 +6,6 @@ use Rattle.shop_base.specs.Cell.{Cell, IsGone}
 use Rattle.shop_base.specs.Report.{IsNextMoment}
 use Rattle.cell_tables.specs.Tables.{cell_of, AreSound}
 use Rattle.event_lines.specs.LogLines.{LinesTell}
-use Rattle.plan_verifier.specs.declared.verdict.Judged.{Judged}
 use Rattle.plan_improve.specs.declared.improved.Improved.{Improved}
 use Rattle.plan_improve.specs.RestCosts.{IsCellOf}
 use Rattle.plan_improve.specs.declared.begun.Begun.{Begun}

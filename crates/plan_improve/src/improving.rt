@@ -65,15 +65,9 @@ pub fn improve<W: Watch>(
     match copy_orders(alloc, &start.plan().order) {
         Ok(order) => match improve_on(alloc, start, improvers, rounds, watch) {
             Ok(verdict) => Ok(verdict),
-            Err((error, back)) => Err(NotImproved {
-                fault: ImproveFault::from(error),
-                start: put_back(back, order),
-            }),
+            Err((error, back)) => Err(NotImproved::out_of_memory(error, put_back(back, order))),
         },
-        Err(error) => Err(NotImproved {
-            fault: ImproveFault::from(error),
-            start,
-        }),
+        Err(error) => Err(NotImproved::out_of_memory(error, start)),
     }
 }
 

@@ -1,6 +1,6 @@
 //! One answer put to the test.
 
-ghost use Rattle.std.specs.Prelude.{◌≡◌, IfOk, IfErr, Some};
+ghost use Rattle.std.specs.Prelude.{IfOk, IfErr, Some};
 ghost use Rattle.shop_base.specs.Vectors.{lists_of};
 ghost use Rattle.plan_improve.specs.Reordered.{IsReordered};
 ghost use Rattle.plan_improve.specs.Keeping.{setting_of, IsEarly, IsNext, Stands};

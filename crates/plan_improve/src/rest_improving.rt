@@ -106,15 +106,9 @@ fn improve_begun<W: Watch>(
     match copy_orders(alloc, &start.plan().order) {
         Ok(order) => match improve_from(alloc, start, log, begun, improvers, rounds, watch) {
             Ok(found) => Ok(found),
-            Err((error, back)) => Err(NotImproved {
-                fault: ImproveFault::from(error),
-                start: put_back(back, order),
-            }),
+            Err((error, back)) => Err(NotImproved::out_of_memory(error, put_back(back, order))),
         },
-        Err(error) => Err(NotImproved {
-            fault: ImproveFault::from(error),
-            start,
-        }),
+        Err(error) => Err(NotImproved::out_of_memory(error, start)),
     }
 }
 

@@ -1,5 +1,4 @@
 ghost use Rattle.std.specs.Prelude.{List, [], ◌∷◌, Option};
-ghost use Rattle.plan_improve.specs.declared.cost.Cost.{Cost};
 ghost use Rattle.plan_improve.specs.Watching.{Told, IsToldMore};
 
 use shop_base::Moment;

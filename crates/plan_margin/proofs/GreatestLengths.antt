@@ -10,8 +10,6 @@ use Rattle.shop_base.proofs.Cycles.{source_node}
 use Rattle.alt_graph.specs.Layout.{number_of}
 use Rattle.alt_graph.specs.LatestRows.{moment_in, HasRows}
 use Rattle.alt_graph.specs.Sources.{IsJobArc, IsBlockingArc}
-use Rattle.alt_graph.specs.ByRank.{IsTold, AreTold}
-use Rattle.alt_graph.specs.Times.{NodeTimes, rank_of, AreRanks}
 use Rattle.alt_graph.proofs.ArcKinds.{arc_kind, arc_short, job_arc_is, blocking_arc_is, target_node, job_source_once, blocking_source_once}
 use Rattle.alt_graph.proofs.NodeNumbers.{node_same, number_inside, number_same}
 use Rattle.plan_margin.specs.Longer.{longer, LongerPath, sets_out, goes_along, IsFirstPast}
@@ -222,21 +220,6 @@ module _ (p : PlannedShop) (s : ℕ) (nodes : List (Option Node)) (order : IsInO
       go : (n i : ℕ) (w : Node) → i < n → IsAt nodes i w → (path : List Node) × LongerPath p s path w (now w)
       go zero i w less stands = absurd (omega arith)
       go (suc n) i w less stands = reached_next i w stands (λ k u before there. go n k u (omega arith) there) (all_lengths over w (order.of_plan i w stands))
-
--- no lengths at the beginning
-pub none_below : (p : PlannedShop) (s : ℕ) (kept : Node → ℕ) (nodes : List (Option Node)) → AreLengthsBelow p s kept nodes 0
-none_below p s kept nodes = record { lengths = λ i v less stands. absurd (omega arith); short = λ i v less stands. absurd (omega arith) }
-
--- ---- the order of the ranks
-
-pub ranks_order : (p : PlannedShop) (t : NodeTimes) (nodes : List (Option Node)) → AreRanks p t → AreTold p t nodes → ((v : Node) → IsNode p v → IsTold t nodes v) → length nodes ≤ 20200 → IsInOrder p nodes
-ranks_order p t nodes are told all few = record {
-  few = few;
-  all = λ v is. (rank_of t v, all v is);
-  of_plan = λ i v at. (told i v at).0;
-  once = λ i k v at other. sym (told i v at).1 ∙ (told k v other).1;
-  forward = λ i k u v d arc at other. omega (arith, (told i u at).1, (told k v other).1, are.rise u v d arc);
-}
 
 -- ---- what the lengths of the leavings say
 

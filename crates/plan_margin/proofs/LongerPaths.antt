@@ -18,14 +18,6 @@ longer_more s t time more = mul-le-mul (le_same time) (omega arith)
     le_same : (n : ℕ) → n ≤ n
     le_same n = omega arith
 
--- a time is no shorter than it is
-pub longer_least : (s time : ℕ) → time * 1000 ≤ longer s time
-unfolding longer
-longer_least s time = mul-le-mul (le_same time) (omega arith)
-  where
-    le_same : (n : ℕ) → n ≤ n
-    le_same n = omega arith
-
 -- with none it is what it is
 pub longer_none : (time : ℕ) → longer 0 time ≡ time * 1000
 unfolding longer

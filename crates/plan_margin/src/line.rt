@@ -4,21 +4,22 @@ ghost use Rattle.std.specs.Prelude.{◌≡◌, ◌+◌, ◌≤◌, ◌++◌, len
 ghost use Rattle.plan_margin.specs.MarginLine.{then_words, margin_line};
 
 use crate::margin::Margin;
+use people_names::Names;
 use shop_base::JobNo;
 use std::alloc::AllocError;
 use text_lines::LineText;
 
-/// The bytes of the longest line: two numbers of 10 digits and the words.
-const ROOM: usize = 50;
+/// The bytes of the longest line: a number of 10 digits, a name of 40 bytes and the words.
+const ROOM: usize = 80;
 
 type Line = LineText<ROOM>;
 
-/// Adds `margin S thousandths`, and ` then job J` if some job is late with more.
-pub fn push_margin_line(text: &mut Vec<u8>, margin: Margin) -> Result<(), AllocError>
-    ensures { OnOk result (text.new.items ≡ text.old.items ++ margin_line margin) }
+/// Adds `margin S thousandths`, and ` then job J` if some job is late with more, by its name if it has one.
+pub fn push_margin_line(text: &mut Vec<u8>, names: &Names, margin: Margin) -> Result<(), AllocError>
+    ensures { OnOk result (text.new.items ≡ text.old.items ++ margin_line names.now margin) }
 {
     let mut line = Line::ended();
-    put_then(&mut line, margin.then);
+    put_then(&mut line, names, margin.then);
     line.put_text(b" thousandths");
     line.put_short_number(margin.thousandths);
     line.put_text(b"margin ");
@@ -27,13 +28,13 @@ pub fn push_margin_line(text: &mut Vec<u8>, margin: Margin) -> Result<(), AllocE
 }
 
 /// Writes which job is late with more, if one is.
-fn put_then(line: &mut Line, then: Option<JobNo>)
+fn put_then(line: &mut Line, names: &Names, then: Option<JobNo>)
     requires { length line.old ≤ 1 }
-    ensures written { line.new ≡ then_words then ++ line.old }
-    ensures length { length line.new ≤ 20 + length line.old }
+    ensures written { line.new ≡ then_words names.now then ++ line.old }
+    ensures length { length line.new ≤ 50 + length line.old }
 {
     if let Some(job) = then {
-        line.put_short_number(job);
+        names.put_job(line, job);
         line.put_text(b" then job ");
     }
 }

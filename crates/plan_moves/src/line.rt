@@ -1,71 +1,60 @@
 //! The lines of moves.
 
 ghost use Rattle.std.specs.Prelude.{◌≡◌, ◌+◌, ◌≤◌, ◌++◌, length, OnOk};
-ghost use Rattle.plan_moves.specs.MoveLines.{from_words, to_words, move_line, move_lines};
+ghost use Rattle.plan_moves.specs.MoveLines.{spot_words, move_line, move_lines};
 
-use shop_base::{MachineNo, MoveOrder, Spot};
+use people_names::Names;
+use shop_base::{MoveOrder, Spot};
 use std::alloc::AllocError;
 use text_lines::LineText;
 
-/// The bytes of the longest line: a moment of 20 digits, three numbers of 10, and the words.
-const ROOM: usize = 100;
+/// The bytes of the longest line: a moment of 29 bytes, three names of 40, and the words.
+const ROOM: usize = 200;
 
 type Line = LineText<ROOM>;
 
-/// Adds a line for each move: `T job J from FROM to TO`, where FROM is `outside` or `machine M`, and TO `machine M` or `out`.
-pub fn push_move_lines(text: &mut Vec<u8>, moves: &[MoveOrder]) -> Result<(), AllocError>
-    ensures { OnOk result (text.new.items ≡ text.old.items ++ move_lines moves.now) }
+/// Adds a line for each move: `T job J from FROM to TO`, where FROM is `outside` or `machine M`, and TO `machine M` or
+/// `out`, by names and clock.
+pub fn push_move_lines(
+    text: &mut Vec<u8>,
+    names: &Names,
+    moves: &[MoveOrder],
+) -> Result<(), AllocError>
+    ensures { OnOk result (text.new.items ≡ text.old.items ++ move_lines names.now moves.now) }
 {
     for order in moves {
-        push_move_line(text, *order)?;
+        push_move_line(text, names, *order)?;
     }
     Ok(())
 }
 
-fn push_move_line(text: &mut Vec<u8>, order: MoveOrder) -> Result<(), AllocError>
-    ensures { OnOk result (text.new.items ≡ text.old.items ++ move_line order) }
+fn push_move_line(text: &mut Vec<u8>, names: &Names, order: MoveOrder) -> Result<(), AllocError>
+    ensures { OnOk result (text.new.items ≡ text.old.items ++ move_line names.now order) }
 {
     let mut line = Line::ended();
-    put_target(&mut line, order.target);
+    put_spot(&mut line, names, b"out", order.target);
     line.put_text(b" to ");
-    put_source(&mut line, order.source);
+    put_spot(&mut line, names, b"outside", order.source);
     line.put_text(b" from ");
-    line.put_short_number(order.job);
+    names.put_job(&mut line, order.job);
     line.put_text(b" job ");
-    line.put_number(order.at);
+    names.put_moment(&mut line, order.at);
     text.extend_from_slice(line.bytes())?;
     Ok(())
 }
 
-/// Writes where a job comes from.
-fn put_source(line: &mut Line, source: Spot)
-    requires { 18 + length line.old ≤ ROOM }
-    ensures written { line.new ≡ from_words source ++ line.old }
-    ensures length { length line.new ≤ 18 + length line.old }
+/// Writes the machine, or the words for what isn't in the cell.
+fn put_spot(line: &mut Line, names: &Names, out: &[u8], spot: Spot)
+    requires room { 48 + length line.old ≤ ROOM }
+    requires out { length out.now ≤ 48 }
+    ensures written { line.new ≡ spot_words names.now out.now spot ++ line.old }
+    ensures length { length line.new ≤ 48 + length line.old }
 {
-    match source {
-        Spot::Out => line.put_text(b"outside"),
-        Spot::At(machine) => put_machine(line, machine),
+    match spot {
+        Spot::Out => line.put_text(out),
+        Spot::At(machine) => {
+            names.put_machine(line, machine);
+            line.put_text(b"machine ");
+        }
     }
-}
-
-/// Writes where a job goes.
-fn put_target(line: &mut Line, target: Spot)
-    requires { 18 + length line.old ≤ ROOM }
-    ensures written { line.new ≡ to_words target ++ line.old }
-    ensures length { length line.new ≤ 18 + length line.old }
-{
-    match target {
-        Spot::Out => line.put_text(b"out"),
-        Spot::At(machine) => put_machine(line, machine),
-    }
-}
-
-fn put_machine(line: &mut Line, machine: MachineNo)
-    requires { 18 + length line.old ≤ ROOM }
-    ensures written { line.new ≡ to_words (Spot.At machine) ++ line.old }
-    ensures length { length line.new ≤ 18 + length line.old }
-{
-    line.put_short_number(machine);
-    line.put_text(b"machine ");
 }

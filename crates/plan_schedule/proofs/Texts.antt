@@ -1,11 +1,7 @@
 -- Texts that are added one after another.
-use Rattle.std.proofs.Common.{◌≡◌, ℕ, List, [], ◌++◌, inl, Option, Result, Ok, Err, OnOk, refl, sym, ap, ◌∙◌}
-use Rattle.std.proofs.lemmas.List.{append-nil, append_assoc}
-use Rattle.shop_base.specs.declared.node.Node.{Node}
-use Rattle.shop_base.specs.Plan.{PlannedShop}
+use Rattle.std.proofs.Common.{◌≡◌, ℕ, List, ◌++◌, Result, Ok, Err, OnOk, ap, ◌∙◌}
+use Rattle.std.proofs.lemmas.List.{append_assoc}
 use Rattle.plan_explain.specs.Added.{Adds}
-use Rattle.plan_schedule.specs.Lines.{visit_line}
-use Rattle.plan_schedule.specs.Schedules.{HasNoCleaning, IsCleaningText, visit_of, IsVisitText}
 
 -- two texts are added one after the other
 pub added_twice : (old one two a b : List ℕ) → one ≡ old ++ a → two ≡ one ++ b → two ≡ old ++ (a ++ b)
@@ -20,13 +16,3 @@ on_ok_adds One Other (Err e) old mid new turn is = tt
 pub on_ok_added : {T E : Type 0} (Is : List ℕ → Type 0) (r : Result T E) (old new text : List ℕ) → Is text → OnOk r (new ≡ old ++ text) → OnOk r (Adds Is old new)
 on_ok_added Is (Ok x) old new text is added = (text, is, added)
 on_ok_added Is (Err e) old new text is added = tt
-
-module _ (p : PlannedShop) (at : Node → ℕ) (due : Node → Option ℕ) where
-  -- a visit's line and the cleaning's are its lines
-  pub visit_added : (old mid new : List ℕ) (j k : ℕ) → mid ≡ old ++ visit_line (visit_of p at due j k)
-      → (text : List ℕ) → IsCleaningText p at due j k text → new ≡ mid ++ text → Adds (IsVisitText p at due j k) old new
-  visit_added old mid new j k first text is added =
-      (visit_line (visit_of p at due j k) ++ text, (text, is, refl), added_twice old mid new (visit_line (visit_of p at due j k)) text first added)
-
-  pub no_cleaning : (old : List ℕ) (j k : ℕ) → HasNoCleaning p j k → Adds (IsCleaningText p at due j k) old old
-  no_cleaning old j k none = ([], inl (none, refl), sym (append-nil old))

@@ -48,7 +48,3 @@ IsCalendarOf p times deadlines c = c ≡ record { plan = p; times = times; deadl
 -- the moment of the node isn't later
 abbrev pub IsSoon : PlanCalendar → Node → Type 0
 IsSoon c v = earliest_of c.times v ≤ the_last_moment
-
--- so of each node
-abbrev pub AreSoon : PlanCalendar → Type 0
-AreSoon c = (v : Node) → IsNode c.plan v → IsSoon c v

@@ -6,7 +6,6 @@ pub mod DrawnVisits
 pub mod AsTold
 pub mod ScheduleLaw
 -- The same of the rest of a run.
-pub mod RestLines
 pub mod RestSchedules
 pub mod RestScheduled
 -- The law that ties the two.

@@ -1,26 +1,43 @@
 -- The lines of a schedule in words.
-use Rattle.std.specs.Prelude.{ℕ, List, [], ◌∷◌, ◌++◌, codes, decimal, Option, None, Some}
+use Rattle.std.specs.Prelude.{ℕ, if◌then◌else◌, List, [], ◌∷◌, ◌++◌, codes, Option, None, Some}
+use Rattle.people_names.specs.NameBooks.{NameBook}
+use Rattle.people_names.specs.Words.{job_word, machine_word, moment_word, is_deadline_told}
 use Rattle.plan_explain.specs.Arcs.{before}
 use Rattle.plan_schedule.specs.declared.lines.Visit.{Visit}
 use Rattle.plan_schedule.specs.declared.lines.Cleaning.{Cleaning}
 
--- ` by D`, where there is a deadline
-abbrev pub due_words : Option ℕ → List ℕ
-due_words None = []
-due_words (Some due) = codes " by " ++ decimal due
+module _ (names : NameBook) where
+  -- ` by D`, where there is a deadline and it is told
+  abbrev pub due_words : Option ℕ → List (List ℕ)
+  due_words None = []
+  due_words (Some due) = if is_deadline_told names due then codes " by " ∷ moment_word names due ∷ [] else []
 
--- `job J arrives R by D`
-abbrev pub arrival_line : ℕ → ℕ → Option ℕ → List ℕ
-arrival_line job release due = before (codes "job " ∷ decimal job ∷ codes " arrives " ∷ decimal release ∷ due_words due ∷ []) (codes "\n")
+  -- `job J arrives R by D`
+  abbrev pub arrival_line : ℕ → ℕ → Option ℕ → List ℕ
+  arrival_line job release due = before (codes "job " ∷ job_word names job ∷ codes " arrives " ∷ moment_word names release ∷ []) (before (due_words due) (codes "\n"))
 
--- `job J on machine M from E to F by D leaves L`
-abbrev pub visit_line : Visit → List ℕ
-visit_line visit =
-    before (codes "job " ∷ decimal visit.job ∷ codes " on machine " ∷ decimal visit.machine ∷ codes " from " ∷ decimal visit.from ∷ codes " to " ∷ decimal visit.to ∷ []) (
-    before (due_words visit.due ∷ codes " leaves " ∷ decimal visit.leaves ∷ []) (codes "\n")
-    )
+  -- ` to F by D`, or ` done` of an operation that is done
+  abbrev pub ending_words : Visit → List ℕ → List ℕ
+  ending_words visit behind = if visit.done then codes " done" ++ behind else before (codes " to " ∷ moment_word names visit.to ∷ []) (before (due_words visit.due) behind)
 
--- `machine M cleaned from L to C by D`, where these words say when it begins
-abbrev pub cleaning_line : List ℕ → Cleaning → List ℕ
-cleaning_line begins cleaning =
-    before (codes "machine " ∷ decimal cleaning.machine ∷ begins ∷ decimal cleaning.from ∷ codes " to " ∷ decimal cleaning.to ∷ due_words cleaning.due ∷ []) (codes "\n")
+  -- `job J on machine M from E to F by D leaves L`, where these words say when the operation begins
+  abbrev pub visit_line : List ℕ → Visit → List ℕ
+  visit_line begins visit =
+      before (codes "job " ∷ job_word names visit.job ∷ codes " on machine " ∷ machine_word names visit.machine ∷ begins ∷ moment_word names visit.from ∷ []) (
+      ending_words visit (before (codes " leaves " ∷ moment_word names visit.leaves ∷ []) (codes "\n"))
+      )
+
+  -- `machine M cleaned from L to C by D`, where these words say when it begins
+  abbrev pub cleaning_line : List ℕ → Cleaning → List ℕ
+  cleaning_line begins cleaning =
+      before (codes "machine " ∷ machine_word names cleaning.machine ∷ begins ∷ moment_word names cleaning.from ∷ codes " to " ∷ moment_word names cleaning.to ∷ []) (
+      before (due_words cleaning.due) (codes "\n")
+      )
+
+  -- `job J left L`, of a job that is gone
+  abbrev pub left_line : ℕ → ℕ → List ℕ
+  left_line job left = before (codes "job " ∷ job_word names job ∷ codes " left " ∷ moment_word names left ∷ []) (codes "\n")
+
+  -- `job J has arrived`, of a job that is ready outside the cell
+  abbrev pub arrived_line : ℕ → List ℕ
+  arrived_line job = before (codes "job " ∷ job_word names job ∷ codes " has arrived" ∷ []) (codes "\n")

@@ -6,6 +6,7 @@ use Rattle.shop_base.specs.Cell.{Cell}
 use Rattle.shop_base.specs.Graph.{IsNode}
 use Rattle.shop_base.specs.Ahead.{IsAhead}
 use Rattle.shop_base.specs.Deadlines.{AreDeadlines}
+use Rattle.people_names.specs.NameBooks.{NameBook}
 use Rattle.plan_verifier.specs.Rest.{IsGreatestAhead}
 use Rattle.plan_verifier.specs.declared.verdict.Judged.{Judged}
 use Rattle.plan_verifier.specs.declared.verdict.Judged.TheVariants.{Accepted, Refused}
@@ -18,19 +19,20 @@ module _ (p : PlannedShop) (c : Cell) (t : ℕ) where
   abbrev pub AreRestMoments : (Node → ℕ) → Type 0
   AreRestMoments moments = (v : Node) → IsNode p v → IsAhead c v → IsGreatestAhead p c t v (moments v)
 
+module _ (names : NameBook) (p : PlannedShop) (c : Cell) (t : ℕ) where
   -- the lines of an accepted rest, by its earliest moments and its deadlines
   pub record AreRestLinesInTime (lines : List ℕ) : Type 0 where
     pub moments : Node → ℕ
-    pub earliest : AreRestMoments moments
+    pub earliest : AreRestMoments p c t moments
     pub dues : Node → ℕ
     pub deadlines : AreDeadlines p c dues
-    pub are : AreRestLines p c t moments (λ v. Some (dues v)) lines
+    pub are : AreRestLines names p c t moments (λ v. Some (dues v)) lines
 
   -- those of a late one, by its earliest moments alone
   pub record AreLateRestLines (lines : List ℕ) : Type 0 where
     pub moments : Node → ℕ
-    pub earliest : AreRestMoments moments
-    pub are : AreRestLines p c t moments (λ v. None) lines
+    pub earliest : AreRestMoments p c t moments
+    pub are : AreRestLines names p c t moments (λ v. None) lines
 
   -- the lines behind the first one of a verdict: none where the plan has a cycle
   abbrev pub AreRestScheduledBehind : Judged → List ℕ → Type 0

@@ -4,11 +4,11 @@ use Rattle.shop_base.specs.declared.node.Node.{Node}
 use Rattle.shop_base.specs.Plan.{PlannedShop, jobs, machines, steps, order, machine_of, nominal, release, clean, Stands}
 use Rattle.shop_base.specs.Cell.{Cell, made, ready, since, entries, cleaning, IsGone}
 use Rattle.shop_base.specs.Graph.{node}
-use Rattle.plan_schedule.specs.Lines.{arrival_line, cleaning_line}
-use Rattle.plan_schedule.specs.Schedules.{IsCleaningText, AreVisitsFrom}
-use Rattle.plan_schedule.specs.declared.rest_lines.Entered.{Entered}
+use Rattle.people_names.specs.NameBooks.{NameBook}
+use Rattle.plan_schedule.specs.Lines.{arrival_line, cleaning_line, left_line, arrived_line}
+use Rattle.plan_schedule.specs.Schedules.{IsVisitText, AreVisitsFrom}
+use Rattle.plan_schedule.specs.declared.lines.Visit.{Visit}
 use Rattle.plan_schedule.specs.declared.lines.Cleaning.{Cleaning}
-use Rattle.plan_schedule.specs.RestLines.{left_line, arrived_line, entered_line}
 
 module _ (p : PlannedShop) (c : Cell) (due : Node → Option ℕ) where
   -- the deadline of the entry of machine m by the next job in its order; none where no job is next
@@ -17,48 +17,49 @@ module _ (p : PlannedShop) (c : Cell) (due : Node → Option ℕ) where
       ((length (order p m) ≤ length (entries c m)) × (deadline ≡ None)) ⊎ ((j : ℕ) × (k : ℕ) × Stands p m (length (entries c m)) j k × (deadline ≡ due (node j k)))
 
 module _ (p : PlannedShop) (c : Cell) (t : ℕ) (due : Node → Option ℕ) where
-  -- the line of job j, which hasn't entered: that it has arrived, or when it does, which is the present moment t where its release is past
-  abbrev pub arrival_after : ℕ → List ℕ
-  arrival_after j = if ready c j then arrived_line j else arrival_line j (max (release p j) t) (due (node j 0))
-
-  -- the cleaning of machine m that goes on since a moment: it ends when it is due, or at the present moment where it is overdue
+  -- the cleaning of machine m that goes on since a moment: it ends when it is due, or at the present moment t where it is overdue
   pub record IsCleaningSince (m s : ℕ) (cleaning : Cleaning) : Type 0 where
     pub place : cleaning.machine ≡ m
     pub begun : cleaning.from ≡ s
     pub ends : cleaning.to ≡ max (s + clean p m) t
     pub deadline : IsNextDue p c due m cleaning.due
 
+-- the visit that job j is in, by its step k: its operation ends when it is due, or at the present moment t where it is overdue
+abbrev pub entered_of : PlannedShop → Cell → ℕ → (Node → ℕ) → (Node → Option ℕ) → ℕ → ℕ → Visit
+entered_of p c t at due j k = record {
+  job = j;
+  machine = machine_of p j k;
+  from = since c j;
+  to = max (since c j + nominal p j k) t;
+  due = due (node j (k + 1));
+  done = ready c j;
+  leaves = at (node j (k + 1));
+}
+
+module _ (names : NameBook) (p : PlannedShop) (c : Cell) (t : ℕ) (due : Node → Option ℕ) where
+  -- the line of job j, which hasn't entered: that it has arrived, or when it does, which is the present moment t where its release is past
+  abbrev pub arrival_after : ℕ → List ℕ
+  arrival_after j = if ready c j then arrived_line names j else arrival_line names j (max (release p j) t) (due (node j 0))
+
   -- the line of machine m: none where it isn't being cleaned, else that of its cleaning
   abbrev pub IsCleanedText : ℕ → List ℕ → Type 0
-  IsCleanedText m text = ((cleaning c m ≡ None) × (text ≡ [])) ⊎ ((s : ℕ) × (cleaning c m ≡ Some s) × (going_on : Cleaning) × IsCleaningSince m s going_on × (text ≡ cleaning_line (codes " cleaned since ") going_on))
+  IsCleanedText m text =
+      ((cleaning c m ≡ None) × (text ≡ []))
+      ⊎ ((s : ℕ) × (cleaning c m ≡ Some s) × (going_on : Cleaning) × IsCleaningSince p c t due m s going_on × (text ≡ cleaning_line names (codes " cleaned since ") going_on))
 
   -- the lines of the first machines, ascending
   pub data AreCleanedTexts : ℕ → List ℕ → Type 0 where
     no_machine : AreCleanedTexts 0 []
     next_machine : (m : ℕ) (text more : List ℕ) → AreCleanedTexts m text → IsCleanedText m more → AreCleanedTexts (m + 1) (text ++ more)
 
-module _ (p : PlannedShop) (c : Cell) (t : ℕ) (at : Node → ℕ) (due : Node → Option ℕ) where
-  -- the visit that job j is in, by its step k: its operation ends when it is due, or at the present moment where it is overdue
-  abbrev pub entered_of : ℕ → ℕ → Entered
-  entered_of j k = record {
-    job = j;
-    machine = machine_of p j k;
-    since = since c j;
-    ends = if ready c j then None else Some (record { to = max (since c j + nominal p j k) t; due = due (node j (k + 1)) });
-    leaves = at (node j (k + 1));
-  }
-
-  -- its lines, and that of the cleaning behind it, if there is one
-  abbrev pub IsEnteredText : ℕ → ℕ → List ℕ → Type 0
-  IsEnteredText j k text = (behind : List ℕ) × IsCleaningText p at due j k behind × (text ≡ entered_line (entered_of j k) ++ behind)
-
+module _ (names : NameBook) (p : PlannedShop) (c : Cell) (t : ℕ) (at : Node → ℕ) (due : Node → Option ℕ) where
   -- of a job that is gone when it left
   abbrev pub IsLeftText : ℕ → List ℕ → Type 0
-  IsLeftText j text = IsGone p c j × (text ≡ left_line j (since c j))
+  IsLeftText j text = IsGone p c j × (text ≡ left_line names j (since c j))
 
   -- of a job that hasn't entered its arrival, and its visits
   abbrev pub IsOutsideText : ℕ → List ℕ → Type 0
-  IsOutsideText j text = (made c j ≡ 0) × (visits : List ℕ) × AreVisitsFrom p at due j 0 (steps p j) visits × (text ≡ arrival_after p c t due j ++ visits)
+  IsOutsideText j text = (made c j ≡ 0) × (visits : List ℕ) × AreVisitsFrom names p at due j 0 (steps p j) visits × (text ≡ arrival_after names p c t due j ++ visits)
 
   -- of a job on a machine the visit that it is in, and those ahead
   pub record IsInsideText (j : ℕ) (text : List ℕ) : Type 0 where
@@ -66,9 +67,9 @@ module _ (p : PlannedShop) (c : Cell) (t : ℕ) (at : Node → ℕ) (due : Node 
     pub within : place < steps p j
     pub entered : made c j ≡ place + 1
     pub here : List ℕ
-    pub is : IsEnteredText j place here
+    pub is : IsVisitText names p at due (codes " since ") (entered_of p c t at due j place) place here
     pub ahead : List ℕ
-    pub are : AreVisitsFrom p at due j (place + 1) (steps p j) ahead
+    pub are : AreVisitsFrom names p at due j (place + 1) (steps p j) ahead
     pub both : text ≡ here ++ ahead
 
   -- the lines of job j
@@ -85,5 +86,5 @@ module _ (p : PlannedShop) (c : Cell) (t : ℕ) (at : Node → ℕ) (due : Node 
     pub jobs_told : List ℕ
     pub are : AreRestJobTexts (jobs p) jobs_told
     pub cleanings_told : List ℕ
-    pub going_on : AreCleanedTexts p c t due (machines p) cleanings_told
+    pub going_on : AreCleanedTexts names p c t due (machines p) cleanings_told
     pub both : lines ≡ jobs_told ++ cleanings_told

@@ -1,8 +1,9 @@
 -- Which lines a schedule has, by the moment of each node in the exact run, and its deadline where there is one.
-use Rattle.std.specs.Prelude.{◌≡◌, ℕ, ◌+◌, ◌<◌, ◌⊎◌, List, [], ◌++◌, codes, Option, None, Some}
+use Rattle.std.specs.Prelude.{◌≡◌, ℕ, false, ◌+◌, ◌<◌, ◌⊎◌, List, [], ◌++◌, codes, Option, None, Some}
 use Rattle.shop_base.specs.declared.node.Node.{Node}
 use Rattle.shop_base.specs.Plan.{PlannedShop, jobs, steps, machine_of, nominal, release, clean}
 use Rattle.shop_base.specs.Graph.{node}
+use Rattle.people_names.specs.NameBooks.{NameBook}
 use Rattle.alt_graph.specs.Sources.{IsBlockingArc, IsTarget}
 use Rattle.plan_schedule.specs.declared.lines.Visit.{Visit}
 use Rattle.plan_schedule.specs.declared.lines.Cleaning.{Cleaning}
@@ -30,6 +31,7 @@ module _ (p : PlannedShop) (at : Node → ℕ) (due : Node → Option ℕ) where
     from = at (node j k);
     to = at (node j k) + nominal p j k;
     due = due (node j (k + 1));
+    done = false;
     leaves = at (node j (k + 1));
   }
 
@@ -41,22 +43,23 @@ module _ (p : PlannedShop) (at : Node → ℕ) (due : Node → Option ℕ) where
     pub ends : cleaning.to ≡ at (node j (k + 1)) + clean p (machine_of p j k)
     pub deadline : IsCleaningDue p due (node j (k + 1)) cleaning.due
 
-  -- the line behind a visit: none where the machine has no cleaning time, else that of its cleaning
+module _ (names : NameBook) (p : PlannedShop) (at : Node → ℕ) (due : Node → Option ℕ) where
+  -- the line behind the visit of job j by its step k: none where the machine has no cleaning time, else that of its cleaning
   abbrev pub IsCleaningText : ℕ → ℕ → List ℕ → Type 0
-  IsCleaningText j k text = (HasNoCleaning p j k × (text ≡ [])) ⊎ ((cleaning : Cleaning) × IsCleaning j k cleaning × (text ≡ cleaning_line (codes " cleaned from ") cleaning))
+  IsCleaningText j k text = (HasNoCleaning p j k × (text ≡ [])) ⊎ ((cleaning : Cleaning) × IsCleaning p at due j k cleaning × (text ≡ cleaning_line names (codes " cleaned from ") cleaning))
 
-  -- the lines of a visit
-  abbrev pub IsVisitText : ℕ → ℕ → List ℕ → Type 0
-  IsVisitText j k text = (behind : List ℕ) × IsCleaningText j k behind × (text ≡ visit_line (visit_of j k) ++ behind)
+  -- the lines of a visit by its job's step k, where these words say when it begins: its own, and that of the cleaning behind it
+  abbrev pub IsVisitText : List ℕ → Visit → ℕ → List ℕ → Type 0
+  IsVisitText begins visit k text = (behind : List ℕ) × IsCleaningText visit.job k behind × (text ≡ visit_line names begins visit ++ behind)
 
   -- the lines of job j's visits from one place of its route up to another
   pub data AreVisitsFrom (j first : ℕ) : ℕ → List ℕ → Type 0 where
     no_visit : AreVisitsFrom j first first []
-    next_visit : (k : ℕ) (text more : List ℕ) → AreVisitsFrom j first k text → IsVisitText j k more → AreVisitsFrom j first (k + 1) (text ++ more)
+    next_visit : (k : ℕ) (text more : List ℕ) → AreVisitsFrom j first k text → IsVisitText (codes " from ") (visit_of p at due j k) k more → AreVisitsFrom j first (k + 1) (text ++ more)
 
   -- the lines of job j
   abbrev pub IsJobText : ℕ → List ℕ → Type 0
-  IsJobText j text = (visits : List ℕ) × AreVisitsFrom j 0 (steps p j) visits × (text ≡ arrival_line j (release p j) (due (node j 0)) ++ visits)
+  IsJobText j text = (visits : List ℕ) × AreVisitsFrom j 0 (steps p j) visits × (text ≡ arrival_line names j (release p j) (due (node j 0)) ++ visits)
 
   -- the lines of the first jobs, ascending
   pub data AreJobTexts : ℕ → List ℕ → Type 0 where

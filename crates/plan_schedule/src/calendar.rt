@@ -87,6 +87,7 @@ impl<'a> Calendar<'a> {
             from,
             to: from + step.nominal,
             due: self.due(next),
+            done: false,
             leaves: self.at(next),
         }
     }

@@ -8,11 +8,10 @@ mod calendar;
 pub mod laws;
 mod lines;
 mod picture_visits;
-mod rest_lines;
 mod rest_schedules;
 mod schedules;
 mod scheduling;
 
 pub use picture_visits::{DrawnRun, drawn_run};
 pub use rest_schedules::schedule_after;
-pub use schedules::schedule;
+pub use schedules::{schedule, schedule_for};

@@ -1,13 +1,16 @@
 //! The lines of a schedule.
 
-ghost use Rattle.std.specs.Prelude.{◌≡◌, ◌+◌, ◌≤◌, ◌++◌, length, OnOk};
-ghost use Rattle.plan_schedule.specs.Lines.{due_words, arrival_line, visit_line, cleaning_line};
+ghost use Rattle.std.specs.Prelude.{◌≡◌, ◌+◌, ◌≤◌, ◌++◌, length, OnOk, Some};
+ghost use Rattle.plan_explain.specs.Arcs.{before};
+ghost use Rattle.plan_schedule.specs.Lines.{due_words, arrival_line, ending_words, visit_line, cleaning_line, left_line, arrived_line};
 
+use people_names::Names;
 use plan_explain::{Line, push_line};
 use shop_base::{JobNo, MachineNo, Moment};
 use std::alloc::AllocError;
 
-/// A visit of a job to a machine: when its operation begins and ends, its deadline, and when the job leaves.
+/// A visit of a job to a machine: when its operation begins and ends, its deadline, whether it is done, and when the job
+/// leaves.
 #[derive(Clone, Copy)]
 pub(crate) struct Visit {
     pub job: JobNo,
@@ -15,6 +18,7 @@ pub(crate) struct Visit {
     pub from: Moment,
     pub to: Moment,
     pub due: Option<Moment>,
+    pub done: bool,
     pub leaves: Moment,
 }
 
@@ -27,74 +31,135 @@ pub(crate) struct Cleaning {
     pub due: Option<Moment>,
 }
 
-/// Adds `job J arrives R by D`, without ` by D` if there is no deadline.
+/// Adds `job J arrives R by D`, without ` by D` if there is no deadline to tell.
 pub(crate) fn push_arrival_line(
     text: &mut Vec<u8>,
+    names: &Names,
     job: JobNo,
     release: Moment,
     due: Option<Moment>,
 ) -> Result<(), AllocError>
-    ensures { OnOk result (text.new.items ≡ text.old.items ++ arrival_line job release due) }
+    ensures { OnOk result (text.new.items ≡ text.old.items ++ arrival_line names.now job release due) }
 {
     let mut line = Line::ended();
-    put_due(&mut line, due);
-    line.put_number(release);
+    put_due(&mut line, names, due);
+    names.put_moment(&mut line, release);
     line.put_text(b" arrives ");
-    line.put_short_number(job);
+    names.put_job(&mut line, job);
     line.put_text(b"job ");
     push_line(text, &line)
 }
 
-/// Adds `job J on machine M from E to F by D leaves L`.
-pub(crate) fn push_visit_line(text: &mut Vec<u8>, visit: Visit) -> Result<(), AllocError>
-    ensures { OnOk result (text.new.items ≡ text.old.items ++ visit_line visit) }
+/// Adds `job J on machine M from E to F by D leaves L`; of a visit that the job is in `.. since E to F by D leaves L`, or
+/// `.. since E done leaves L`.
+pub(crate) fn push_visit_line(
+    text: &mut Vec<u8>,
+    names: &Names,
+    begins: &[u8],
+    visit: Visit,
+) -> Result<(), AllocError>
+    requires { length begins.now ≤ 20 }
+    ensures { OnOk result (text.new.items ≡ text.old.items ++ visit_line names.now begins.now visit) }
 {
     let mut line = Line::ended();
-    line.put_number(visit.leaves);
+    names.put_moment(&mut line, visit.leaves);
     line.put_text(b" leaves ");
-    put_due(&mut line, visit.due);
-    line.put_number(visit.to);
-    line.put_text(b" to ");
-    line.put_number(visit.from);
-    line.put_text(b" from ");
-    line.put_short_number(visit.machine);
+    put_ending(&mut line, names, visit);
+    names.put_moment(&mut line, visit.from);
+    line.put_text(begins);
+    names.put_machine(&mut line, visit.machine);
     line.put_text(b" on machine ");
-    line.put_short_number(visit.job);
+    names.put_job(&mut line, visit.job);
     line.put_text(b"job ");
     push_line(text, &line)
+}
+
+/// Writes when the operation ends, or that it is done.
+fn put_ending(line: &mut Line, names: &Names, visit: Visit)
+    requires { length line.old ≤ 60 }
+    ensures written { line.new ≡ ending_words names.now visit line.old }
+    ensures length { length line.new ≤ 66 + length line.old }
+{
+    if visit.done {
+        line.put_text(b" done");
+    } else {
+        put_due(line, names, visit.due);
+        names.put_moment(line, visit.to);
+        line.put_text(b" to ");
+    }
 }
 
 /// Adds `machine M cleaned from L to C by D`, or `.. since L to C by D` if the cleaning goes on.
 pub(crate) fn push_cleaning_line(
     text: &mut Vec<u8>,
+    names: &Names,
     begins: &[u8],
     cleaning: Cleaning,
 ) -> Result<(), AllocError>
     requires { length begins.now ≤ 20 }
-    ensures { OnOk result (text.new.items ≡ text.old.items ++ cleaning_line begins.now cleaning) }
+    ensures { OnOk result (text.new.items ≡ text.old.items ++ cleaning_line names.now begins.now cleaning) }
 {
     let mut line = Line::ended();
-    put_due(&mut line, cleaning.due);
-    line.put_number(cleaning.to);
+    put_due(&mut line, names, cleaning.due);
+    names.put_moment(&mut line, cleaning.to);
     line.put_text(b" to ");
-    line.put_number(cleaning.from);
+    names.put_moment(&mut line, cleaning.from);
     line.put_text(begins);
-    line.put_short_number(cleaning.machine);
+    names.put_machine(&mut line, cleaning.machine);
     line.put_text(b"machine ");
     push_line(text, &line)
 }
 
-/// Writes the deadline, if there is one.
-pub(crate) fn put_due(line: &mut Line, due: Option<Moment>)
+/// Writes the deadline, if there is one to tell.
+fn put_due(line: &mut Line, names: &Names, due: Option<Moment>)
     requires { length line.old ≤ 60 }
-    ensures written { line.new ≡ due_words due ++ line.old }
-    ensures length { length line.new ≤ 24 + length line.old }
+    ensures written { line.new ≡ before (due_words names.now due) line.old }
+    ensures length { length line.new ≤ 33 + length line.old }
 {
-    match due {
-        Some(deadline) => {
-            line.put_number(deadline);
-            line.put_text(b" by ");
-        }
-        None => {}
+    if let Some(deadline) = due {
+        put_deadline(line, names, deadline);
     }
+}
+
+fn put_deadline(line: &mut Line, names: &Names, deadline: Moment)
+    requires { length line.old ≤ 60 }
+    ensures written { line.new ≡ before (due_words names.now (Some deadline)) line.old }
+    ensures length { length line.new ≤ 33 + length line.old }
+{
+    if names.tells_deadline(deadline) {
+        names.put_moment(line, deadline);
+        line.put_text(b" by ");
+    }
+}
+
+/// Adds `job J left L`.
+pub(crate) fn push_left_line(
+    text: &mut Vec<u8>,
+    names: &Names,
+    job: JobNo,
+    left: Moment,
+) -> Result<(), AllocError>
+    ensures { OnOk result (text.new.items ≡ text.old.items ++ left_line names.now job left) }
+{
+    let mut line = Line::ended();
+    names.put_moment(&mut line, left);
+    line.put_text(b" left ");
+    names.put_job(&mut line, job);
+    line.put_text(b"job ");
+    push_line(text, &line)
+}
+
+/// Adds `job J has arrived`.
+pub(crate) fn push_arrived_line(
+    text: &mut Vec<u8>,
+    names: &Names,
+    job: JobNo,
+) -> Result<(), AllocError>
+    ensures { OnOk result (text.new.items ≡ text.old.items ++ arrived_line names.now job) }
+{
+    let mut line = Line::ended();
+    line.put_text(b" has arrived");
+    names.put_job(&mut line, job);
+    line.put_text(b"job ");
+    push_line(text, &line)
 }

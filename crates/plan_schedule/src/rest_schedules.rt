@@ -18,6 +18,7 @@ use crate::calendar::Calendar;
 use crate::scheduling::{push_cleanings, push_jobs};
 use alt_graph::{Deadlines, Times};
 use cell_tables::WorkCell;
+use people_names::Names;
 use plan_explain::first_line_after;
 use plan_verifier::{Seen, Why, cleanings_in_range, deadlines_after};
 use shop_base::{Moment, Planned};
@@ -26,19 +27,21 @@ use std::alloc::{AllocError, Global};
 /// When what is left of a run begins and ends, and how late it may end, from a cell and the present moment on: after
 /// the verdict's first line the lines of each job in ascending order, and then the lines of the cleanings that go on.
 /// What is overdue is taken to end at the present moment. Moments are whole time units, the earliest for each move
-/// ahead. If the rest is accepted, the deadlines follow them. A plan with a cycle has only its first line.
+/// ahead. If the rest is accepted, the deadlines follow them. A plan with a cycle has only its first line. Behind the first
+/// line jobs, machines and moments are told by names and clock.
 pub fn schedule_after<P: Planned>(
     alloc: Global,
+    names: &Names,
     cell: &WorkCell<P>,
     present: Moment,
     verdict: Seen<'_>,
 ) -> Result<Vec<u8>, AllocError>
     requires present { IsNextMoment cell.now.cell present }
     requires judged { IsRestJudged cell.now.plan cell.now.cell present (lent verdict) }
-    ensures { IfOk result (λ text. IsRestScheduled cell.now.plan cell.now.cell present (lent verdict.entry) text.items) }
+    ensures { IfOk result (λ text. IsRestScheduled names.now cell.now.plan cell.now.cell present (lent verdict.entry) text.items) }
 {
     let mut text = first_line_after(alloc, cell, verdict)?;
-    push_lines_behind(alloc, &mut text, cell, present, verdict)?;
+    push_lines_behind(alloc, &mut text, names, cell, present, verdict)?;
     Ok(text)
 }
 
@@ -46,6 +49,7 @@ pub fn schedule_after<P: Planned>(
 fn push_lines_behind<P: Planned>(
     alloc: Global,
     text: &mut Vec<u8>,
+    names: &Names,
     cell: &WorkCell<P>,
     present: Moment,
     verdict: Seen<'_>,
@@ -53,24 +57,25 @@ fn push_lines_behind<P: Planned>(
     requires present { IsNextMoment cell.now.cell present }
     requires judged { IsRestJudged cell.now.plan cell.now.cell present (lent verdict) }
     ensures { let p = cell.now.plan in
-        OnOk result (Adds (AreRestScheduledBehind p cell.now.cell present (lent verdict.entry)) text.old.items text.new.items) }
+        OnOk result (Adds (AreRestScheduledBehind names.now p cell.now.cell present (lent verdict.entry)) text.old.items text.new.items) }
 {
     match verdict {
-        Seen::Accepted(times) => push_lines_in_time(alloc, text, cell, present, times),
-        Seen::Refused(why) => push_refused_lines(alloc, text, cell, present, why),
+        Seen::Accepted(times) => push_lines_in_time(alloc, text, names, cell, present, times),
+        Seen::Refused(why) => push_refused_lines(alloc, text, names, cell, present, why),
     }
 }
 
 fn push_refused_lines<P: Planned>(
     alloc: Global,
     text: &mut Vec<u8>,
+    names: &Names,
     cell: &WorkCell<P>,
     present: Moment,
     why: &Why,
 ) -> Result<(), AllocError>
     requires present { IsNextMoment cell.now.cell present }
     requires reason { IsReasonAhead cell.now.plan cell.now.cell present (Refused why.now) }
-    ensures { OnOk result (Adds (AreRestScheduledBehind cell.now.plan cell.now.cell present (Refused why.now)) text.old.items text.new.items) }
+    ensures { OnOk result (Adds (AreRestScheduledBehind names.now cell.now.plan cell.now.cell present (Refused why.now)) text.old.items text.new.items) }
 {
     match why {
         Why::Cycle(_) => Ok(()),
@@ -79,13 +84,14 @@ fn push_refused_lines<P: Planned>(
             leaves: _,
             chain: _,
             times,
-        } => push_lines(alloc, text, cell, present, times, None),
+        } => push_lines(alloc, text, names, cell, present, times, None),
     }
 }
 
 fn push_lines_in_time<P: Planned>(
     alloc: Global,
     text: &mut Vec<u8>,
+    names: &Names,
     cell: &WorkCell<P>,
     present: Moment,
     times: &Times,
@@ -93,16 +99,17 @@ fn push_lines_in_time<P: Planned>(
     requires present { IsNextMoment cell.now.cell present }
     requires ordered { AreOrderedAhead cell.now.plan cell.now.cell present times.now }
     requires budgets { MeetBudgetsAhead cell.now.plan cell.now.cell (earliest_of times.now) }
-    ensures { OnOk result (Adds (AreRestLinesInTime cell.now.plan cell.now.cell present) text.old.items text.new.items) }
+    ensures { OnOk result (Adds (AreRestLinesInTime names.now cell.now.plan cell.now.cell present) text.old.items text.new.items) }
 {
     let deadlines = deadlines_after(alloc, cell, times)?;
-    push_lines(alloc, text, cell, present, times, Some(&deadlines))
+    push_lines(alloc, text, names, cell, present, times, Some(&deadlines))
 }
 
 /// Adds the lines of all jobs and of the cleanings that go on, by these moments and deadlines.
 fn push_lines<'a, P: Planned>(
     alloc: Global,
     text: &mut Vec<u8>,
+    names: &Names,
     cell: &'a WorkCell<P>,
     present: Moment,
     times: &'a Times,
@@ -111,12 +118,12 @@ fn push_lines<'a, P: Planned>(
     requires present { IsNextMoment cell.now.cell present }
     requires ordered { AreOrderedAhead cell.now.plan cell.now.cell present times.now }
     requires deadlines { HasDeadlines cell.now.plan (seen deadlines (λ d. d.now)) }
-    ensures { OnOk result (Adds (AreRestLines cell.now.plan cell.now.cell present (earliest_of times.now) (due_in (seen deadlines.entry (λ d. d.now))))
+    ensures { OnOk result (Adds (AreRestLines names.now cell.now.plan cell.now.cell present (earliest_of times.now) (due_in (seen deadlines.entry (λ d. d.now))))
         text.old.items text.new.items) }
 {
     // Called for its clause alone: sums with these moments fit.
     cleanings_in_range(cell);
     let calendar = Calendar::new(alloc, cell.shaped(), times, deadlines)?;
-    push_jobs(text, cell, present, &calendar)?;
-    push_cleanings(text, cell, present, &calendar)
+    push_jobs(text, names, cell, present, &calendar)?;
+    push_cleanings(text, names, cell, present, &calendar)
 }

@@ -1,6 +1,6 @@
 //! The lines of all jobs, and of the cleanings that go on.
 
-ghost use Rattle.std.specs.Prelude.{◌≡◌, ℕ, ◌+◌, ◌<◌, ◌≤◌, OnOk, None, Some, if◌then◌else◌, ◌++◌};
+ghost use Rattle.std.specs.Prelude.{◌≡◌, ℕ, ◌+◌, ◌<◌, ◌≤◌, OnOk, length, ◌++◌};
 ghost use Rattle.shop_base.specs.declared.limits.TheConstants.{MAX_MOMENT};
 ghost use Rattle.shop_base.specs.Plan.{jobs, machines, steps, Visits};
 ghost use Rattle.shop_base.specs.Cell.{made};
@@ -10,18 +10,22 @@ ghost use Rattle.plan_explain.specs.Added.{Adds};
 ghost use Rattle.plan_schedule.specs.Calendars.{IsSoon, due_at};
 ghost use Rattle.plan_schedule.specs.SoonAhead.{AreSoonAhead, AreSoonFrom};
 ghost use Rattle.plan_schedule.specs.Schedules.{IsCleaningText, IsVisitText, AreVisitsFrom};
-ghost use Rattle.plan_schedule.specs.RestSchedules.{arrival_after, entered_of, IsEnteredText, IsRestJobText, AreRestJobTexts, IsNextDue, IsCleanedText, AreCleanedTexts};
+ghost use Rattle.plan_schedule.specs.RestSchedules.{arrival_after, entered_of, IsRestJobText, AreRestJobTexts, IsNextDue, IsCleanedText, AreCleanedTexts};
 
 use crate::calendar::Calendar;
-use crate::lines::{Cleaning, push_arrival_line, push_cleaning_line, push_visit_line};
-use crate::rest_lines::{Ending, Entered, push_arrived_line, push_entered_line, push_left_line};
+use crate::lines::{
+    Cleaning, Visit, push_arrival_line, push_arrived_line, push_cleaning_line, push_left_line,
+    push_visit_line,
+};
 use cell_tables::WorkCell;
+use people_names::Names;
 use shop_base::{JobNo, MachineNo, Moment, Node, Planned};
 use std::alloc::AllocError;
 
 /// Adds the lines of all jobs, in ascending order.
 pub(crate) fn push_jobs<P: Planned>(
     text: &mut Vec<u8>,
+    names: &Names,
     cell: &WorkCell<P>,
     present: Moment,
     calendar: &Calendar<'_>,
@@ -30,10 +34,10 @@ pub(crate) fn push_jobs<P: Planned>(
     requires present { present ≤ MAX_MOMENT }
     requires soon { AreSoonAhead calendar.now cell.now.cell }
     ensures { let k = calendar.now in OnOk result (Adds
-        (AreRestJobTexts k.plan cell.now.cell present (earliest_of k.times) (due_at k) (jobs k.plan)) text.old.items text.new.items) }
+        (AreRestJobTexts names.now k.plan cell.now.cell present (earliest_of k.times) (due_at k) (jobs k.plan)) text.old.items text.new.items) }
 {
     for job in 0..cell.job_count() {
-        push_job(text, cell, present, calendar, job)?;
+        push_job(text, names, cell, present, calendar, job)?;
     }
     Ok(())
 }
@@ -41,6 +45,7 @@ pub(crate) fn push_jobs<P: Planned>(
 /// Adds the lines of a job.
 fn push_job<P: Planned>(
     text: &mut Vec<u8>,
+    names: &Names,
     cell: &WorkCell<P>,
     present: Moment,
     calendar: &Calendar<'_>,
@@ -51,23 +56,26 @@ fn push_job<P: Planned>(
     requires job { job < jobs calendar.now.plan }
     requires soon { AreSoonAhead calendar.now cell.now.cell }
     ensures { let k = calendar.now in OnOk result (Adds
-        (IsRestJobText k.plan cell.now.cell present (earliest_of k.times) (due_at k) job) text.old.items text.new.items) }
+        (IsRestJobText names.now k.plan cell.now.cell present (earliest_of k.times) (due_at k) job) text.old.items text.new.items) }
 {
     let state = cell.job_state(job);
     if calendar.steps(job) < state.made {
-        return push_left_line(text, job, state.since);
+        return push_left_line(text, names, job, state.since);
     }
     if state.made == 0 {
-        push_arrival(text, cell, present, calendar, job)?;
-        return push_visits(text, calendar, job, 0);
+        push_arrival(text, names, cell, present, calendar, job)?;
+        return push_visits(text, names, calendar, job, 0);
     }
-    push_entered(text, cell, present, calendar, job, state.made - 1)?;
-    push_visits(text, calendar, job, state.made)
+    let place = state.made - 1;
+    let here = entered_of(cell, present, calendar, job, place);
+    push_visit(text, names, calendar, b" since ", here, place)?;
+    push_visits(text, names, calendar, job, state.made)
 }
 
 /// Adds the line of a job outside the cell: that it has arrived, or when it does.
 fn push_arrival<P: Planned>(
     text: &mut Vec<u8>,
+    names: &Names,
     cell: &WorkCell<P>,
     present: Moment,
     calendar: &Calendar<'_>,
@@ -76,18 +84,20 @@ fn push_arrival<P: Planned>(
     requires plan { calendar.now.plan ≡ cell.now.plan }
     requires job { job < jobs calendar.now.plan }
     ensures { let k = calendar.now in
-        OnOk result (text.new.items ≡ text.old.items ++ arrival_after k.plan cell.now.cell present (due_at k) job) }
+        OnOk result (text.new.items ≡ text.old.items ++ arrival_after names.now k.plan cell.now.cell present (due_at k) job) }
 {
     if cell.job_state(job).ready {
-        return push_arrived_line(text, job);
+        return push_arrived_line(text, names, job);
     }
     let arrives = cell.shaped().release_of(job).max(present);
-    push_arrival_line(text, job, arrives, calendar.due(Node { job, place: 0 }))
+    let due = calendar.due(Node { job, place: 0 });
+    push_arrival_line(text, names, job, arrives, due)
 }
 
 /// Adds the lines of the job's visits from a place of its route on.
 fn push_visits(
     text: &mut Vec<u8>,
+    names: &Names,
     calendar: &Calendar<'_>,
     job: JobNo,
     first: u32,
@@ -96,35 +106,46 @@ fn push_visits(
     requires first { first ≤ steps calendar.now.plan job }
     requires soon { AreSoonFrom calendar.now job first }
     ensures { let k = calendar.now in OnOk result (Adds
-        (AreVisitsFrom k.plan (earliest_of k.times) (due_at k) job first (steps k.plan job)) text.old.items text.new.items) }
+        (AreVisitsFrom names.now k.plan (earliest_of k.times) (due_at k) job first (steps k.plan job)) text.old.items text.new.items) }
 {
     for place in first..calendar.steps(job) {
-        push_visit(text, calendar, job, place)?;
+        push_visit(
+            text,
+            names,
+            calendar,
+            b" from ",
+            calendar.visit(job, place),
+            place,
+        )?;
     }
     Ok(())
 }
 
-/// Adds the lines of a visit: its own and, if there is a cleaning, the cleaning's after it.
+/// Adds the lines of a visit by the step at a place of its job's route: its own and, if there is a cleaning, the cleaning's
+/// after it.
 fn push_visit(
     text: &mut Vec<u8>,
+    names: &Names,
     calendar: &Calendar<'_>,
-    job: JobNo,
+    begins: &[u8],
+    visit: Visit,
     place: u32,
 ) -> Result<(), AllocError>
-    requires job { job < jobs calendar.now.plan }
-    requires place { place < steps calendar.now.plan job }
-    requires begun { IsSoon calendar.now (node job place) }
-    requires left { IsSoon calendar.now (node job (place + 1)) }
-    ensures { let c = calendar.now in
-        OnOk result (Adds (IsVisitText c.plan (earliest_of c.times) (due_at c) job place) text.old.items text.new.items) }
+    requires begins { length begins.now ≤ 20 }
+    requires job { visit.job < jobs calendar.now.plan }
+    requires place { place < steps calendar.now.plan visit.job }
+    requires left { IsSoon calendar.now (node visit.job (place + 1)) }
+    ensures { let c = calendar.now in OnOk result (Adds
+        (IsVisitText names.now c.plan (earliest_of c.times) (due_at c) begins.now visit place) text.old.items text.new.items) }
 {
-    push_visit_line(text, calendar.visit(job, place))?;
-    push_cleaning_behind(text, calendar, job, place)
+    push_visit_line(text, names, begins, visit)?;
+    push_cleaning_behind(text, names, calendar, visit.job, place)
 }
 
 /// Adds the line of the cleaning after a visit, if the machine has a cleaning time.
 fn push_cleaning_behind(
     text: &mut Vec<u8>,
+    names: &Names,
     calendar: &Calendar<'_>,
     job: JobNo,
     place: u32,
@@ -133,33 +154,12 @@ fn push_cleaning_behind(
     requires place { place < steps calendar.now.plan job }
     requires left { IsSoon calendar.now (node job (place + 1)) }
     ensures { let c = calendar.now in
-        OnOk result (Adds (IsCleaningText c.plan (earliest_of c.times) (due_at c) job place) text.old.items text.new.items) }
+        OnOk result (Adds (IsCleaningText names.now c.plan (earliest_of c.times) (due_at c) job place) text.old.items text.new.items) }
 {
     match calendar.cleaning(job, place) {
-        Some(cleaning) => push_cleaning_line(text, b" cleaned from ", cleaning),
+        Some(cleaning) => push_cleaning_line(text, names, b" cleaned from ", cleaning),
         None => Ok(()),
     }
-}
-
-/// Adds the lines of the visit that the job is in: its own and, if there is a cleaning, the cleaning's after it.
-fn push_entered<P: Planned>(
-    text: &mut Vec<u8>,
-    cell: &WorkCell<P>,
-    present: Moment,
-    calendar: &Calendar<'_>,
-    job: JobNo,
-    place: u32,
-) -> Result<(), AllocError>
-    requires plan { calendar.now.plan ≡ cell.now.plan }
-    requires present { present ≤ MAX_MOMENT }
-    requires job { job < jobs calendar.now.plan }
-    requires place { place < steps calendar.now.plan job }
-    requires left { IsSoon calendar.now (node job (place + 1)) }
-    ensures { let k = calendar.now in OnOk result (Adds
-        (IsEnteredText k.plan cell.now.cell present (earliest_of k.times) (due_at k) job place) text.old.items text.new.items) }
-{
-    push_entered_line(text, entered_of(cell, present, calendar, job, place))?;
-    push_cleaning_behind(text, calendar, job, place)
 }
 
 /// The visit that the job is in, by the step at this place.
@@ -169,7 +169,7 @@ fn entered_of<P: Planned>(
     calendar: &Calendar<'_>,
     job: JobNo,
     place: u32,
-) -> Entered
+) -> Visit
     requires plan { calendar.now.plan ≡ cell.now.plan }
     requires present { present ≤ MAX_MOMENT }
     requires job { job < jobs calendar.now.plan }
@@ -184,27 +184,21 @@ fn entered_of<P: Planned>(
         job,
         place: place + 1,
     };
-    let to = (state.since + step.nominal).max(present);
-    let due = calendar.due(next);
-    Entered {
+    Visit {
         job,
         machine: step.machine,
-        since: state.since,
-        ends: unless(state.ready, Ending { to, due }),
+        from: state.since,
+        to: (state.since + step.nominal).max(present),
+        due: calendar.due(next),
+        done: state.ready,
         leaves: calendar.at(next),
     }
-}
-
-/// The ending of an operation that isn't done.
-fn unless(done: bool, ending: Ending) -> Option<Ending>
-    ensures { result ≡ (if done then None else Some ending) }
-{
-    if done { None } else { Some(ending) }
 }
 
 /// Adds the lines of the cleanings that go on, by ascending machine.
 pub(crate) fn push_cleanings<P: Planned>(
     text: &mut Vec<u8>,
+    names: &Names,
     cell: &WorkCell<P>,
     present: Moment,
     calendar: &Calendar<'_>,
@@ -212,10 +206,10 @@ pub(crate) fn push_cleanings<P: Planned>(
     requires plan { calendar.now.plan ≡ cell.now.plan }
     requires present { present ≤ MAX_MOMENT }
     ensures { let k = calendar.now in OnOk result (Adds
-        (AreCleanedTexts k.plan cell.now.cell present (due_at k) (machines k.plan)) text.old.items text.new.items) }
+        (AreCleanedTexts names.now k.plan cell.now.cell present (due_at k) (machines k.plan)) text.old.items text.new.items) }
 {
     for machine in 0..cell.machine_count() {
-        push_cleaning(text, cell, present, calendar, machine)?;
+        push_cleaning(text, names, cell, present, calendar, machine)?;
     }
     Ok(())
 }
@@ -223,6 +217,7 @@ pub(crate) fn push_cleanings<P: Planned>(
 /// Adds the line of the machine's cleaning, if that goes on.
 fn push_cleaning<P: Planned>(
     text: &mut Vec<u8>,
+    names: &Names,
     cell: &WorkCell<P>,
     present: Moment,
     calendar: &Calendar<'_>,
@@ -232,7 +227,7 @@ fn push_cleaning<P: Planned>(
     requires present { present ≤ MAX_MOMENT }
     requires machine { machine < machines calendar.now.plan }
     ensures { let k = calendar.now in OnOk result (Adds
-        (IsCleanedText k.plan cell.now.cell present (due_at k) machine) text.old.items text.new.items) }
+        (IsCleanedText names.now k.plan cell.now.cell present (due_at k) machine) text.old.items text.new.items) }
 {
     let Some(since) = cell.cleaned_since(machine) else {
         return Ok(());
@@ -241,6 +236,7 @@ fn push_cleaning<P: Planned>(
     let due = next_due(cell, calendar, machine);
     push_cleaning_line(
         text,
+        names,
         b" cleaned since ",
         Cleaning {
             machine,

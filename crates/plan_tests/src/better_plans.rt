@@ -1,5 +1,5 @@
 //! What the search for a better plan makes of the answers of its improvers. What the annealing finds stands in
-//! `tests/command-lines`.
+//! `tests/commands/command-lines`.
 
 use crate::plans::{CROSSED, IN_SERIES, TWO, is_text, planned};
 use crate::scripted::{ASKED, Answer, Scripted};

@@ -1,5 +1,5 @@
 //! What is read of instance texts and no command shows: their descriptions. The other texts stand
-//! in `tests/command-lines`.
+//! in `tests/commands/command-lines`.
 
 use crate::plans::TWO;
 use orlib_read::{Named, OrFault, read_from_collection, read_instance};

@@ -1,4 +1,4 @@
-//! What the search for a plan answers, and what its planners propose. What they find stands in `tests/runs`.
+//! What the search for a plan answers, and what its planners propose. What they find stands in `tests/commands/runs`.
 
 use crate::plans::{FT06, TWO, is_text, two_jobs};
 use crate::scripted::{ASKED, Answer, Scripted};

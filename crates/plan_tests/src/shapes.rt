@@ -1,5 +1,5 @@
 //! Shops and shaped plans, as far as no command shows them. What is no shop, and what doesn't fit
-//! one, stands in `tests/command-lines`.
+//! one, stands in `tests/commands/command-lines`.
 
 use crate::plans::{CLEANED, TWO, is_text, planned, two_jobs};
 use plan_text::read_plan;

@@ -99,8 +99,8 @@ fn push_version(text: &mut String) -> Result<(), AllocError>
     text.push_str(" = 2\n")
 }
 
-/// The lines of a plan.
-fn plan_lines(alloc: Global, plan: &Plan) -> Result<String, AllocError>
+/// The lines of a plan: the text of [`plan_document`], whether it is read back as the plan or not.
+pub fn plan_lines(alloc: Global, plan: &Plan) -> Result<String, AllocError>
     ensures { IfOk result (λ text. string_bytes text ≡ plan_lines plan.now) }
 {
     let mut text = String::new(alloc);

@@ -13,7 +13,7 @@ mod plan_key;
 mod read;
 mod values;
 
-pub use document::plan_document;
+pub use document::{plan_document, plan_lines};
 pub use plan_fault::PlanFault;
 pub use plan_key::PlanKey;
 pub use read::read_plan;

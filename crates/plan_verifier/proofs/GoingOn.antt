@@ -1,5 +1,5 @@
 -- What holds of every run that goes on from a cell whose rest has ranks and earliest moments.
-use Rattle.std.proofs.Common.{◌≡◌, ◌↔◌, ℕ, ◌<◌, ◌≤◌, List, ◌++◌, arith, sym, subst, inl, inr}
+use Rattle.std.proofs.Common.{◌≡◌, ℕ, ◌<◌, ◌≤◌, List, ◌++◌, arith, sym, subst, inl, inr}
 use Rattle.std.proofs.lemmas.Bool.{cases_lt}
 use Rattle.shop_base.specs.declared.node.Node.{Node}
 use Rattle.shop_base.specs.declared.report.Report.{Report}
@@ -7,13 +7,9 @@ use Rattle.shop_base.specs.Plan.{PlannedShop, jobs, steps, budget, IsWellShaped}
 use Rattle.shop_base.specs.Cell.{Cell, made, since, IsGone}
 use Rattle.shop_base.specs.Report.{IsNextMoment}
 use Rattle.shop_base.specs.Run.{Event, IsRun, ends_in}
-use Rattle.shop_base.specs.Punctual.{ArePunctualFrom, AreNotEarly}
-use Rattle.shop_base.specs.Ends.{HasEnded, reports_in}
-use Rattle.shop_base.specs.ReportsLeft.{reports_left}
 use Rattle.shop_base.specs.Graph.{leaving, IsSimpleCycle}
 use Rattle.shop_base.specs.KeptMoments.{KeepsMoments, KeepsLeaving}
-use Rattle.shop_base.specs.Ahead.{IsAhead, RespectArcs, MeetBudgetsAhead, MomentsFitAhead, PathAhead, IsScheduleAhead, GoesOnTo}
-use Rattle.shop_base.specs.Within.{AreWithin, AreByTheirOwn, AreMadeBy}
+use Rattle.shop_base.specs.Ahead.{IsAhead, MeetBudgetsAhead, MomentsFitAhead, PathAhead, IsScheduleAhead, GoesOnTo}
 use Rattle.shop_base.specs.Deadlines.{AreDeadlines}
 use Rattle.shop_base.specs.Sound.{IsSound}
 use Rattle.shop_base.proofs.InTime.{path_kept}
@@ -54,49 +50,31 @@ module _ (p : PlannedShop) (c : Cell) (t : ℕ) (times : NodeTimes) (ordered : A
     ahead = λ j inside here. (record { reached = leaving_path j inside here; longest = λ nodes k path. ordered.greatest nodes (leaving p j) k path });
   }
 
-  module _ (es : List Event) (end : ends_in p es ≡ c) where
-    -- a statement on the cell is one on the end of the run
-    goes : (rs : List Report) (fs : List Event) (last : Cell) → GoesOnTo p c t rs fs last → GoesOnTo p (ends_in p es) t rs fs last
-    goes rs fs last on = subst (λ (d : Cell). GoesOnTo p d t rs fs last) (sym end) on
+  schedule : (moments : Node → ℕ) → MomentsFitAhead p c t moments → IsScheduleAhead p c t rank moments
+  schedule moments fit = record { shaped = ordered.schedule.shaped; ranks = ordered.schedule.ranks; moments = fit }
 
-    schedule : (moments : Node → ℕ) → MomentsFitAhead p c t moments → IsScheduleAhead p (ends_in p es) t rank moments
-    schedule moments fit = subst (λ (d : Cell). IsScheduleAhead p d t rank moments) (sym end) (record { shaped = ordered.schedule.shaped; ranks = ordered.schedule.ranks; moments = fit })
-
-    in_order : IsNextMoment c t → IsNextMoment (ends_in p es) t
-    in_order next = subst (λ (d : Cell). IsNextMoment d t) (sym end) next
-
-    still_here : (j : ℕ) → (IsGone p c j → ⊥) → IsGone p (ends_in p es) j → ⊥
-    still_here j here gone = here (subst (λ (d : Cell). IsGone p d j) end gone)
-
+  -- a statement on the cell is one on the end of the run
   pub never_stuck_from : IsNeverStuckFrom p c t
   never_stuck_from es rs fs end run same on =
-      let (whole, is, rest, stuck, ended, each) = never_stuck_from_there-holds p rank es t rs fs end ordered.schedule.shaped ordered.schedule.ranks run (goes es same rs fs end on) in
-      let (most, exact) = ends_on_the_reports_left-holds p es t rs fs end ordered.schedule.shaped run (goes es same rs fs end on) in (
-        whole,
-        is,
-        rest,
-        stuck,
-        ended,
-        each,
-        subst (λ (d : Cell). reports_in fs ≤ reports_left p d) same most,
-        subst (λ (d : Cell). HasEnded p end ↔ (reports_in fs ≡ reports_left p d)) same exact,
-      )
+      let (whole, is, rest, stuck, ended, each) = never_stuck_from_there-holds p rank es t rs fs end ordered.schedule.shaped ordered.schedule.ranks run (rw same on) in
+      let (most, exact) = ends_on_the_reports_left-holds p es t rs fs end ordered.schedule.shaped run (rw same on) in
+      (whole, is, rest, stuck, ended, each, rw same at most, rw same at exact)
 
   module _ (next : IsNextMoment c t) where
     pub in_time_from : IsInTimeFrom p c t
-    in_time_from moments es rs fs end fit run same on within =
-        let there : AreWithin p moments (ends_in p es) fs = subst (λ (d : Cell). AreWithin p moments d fs) (sym same) within in
-        let can = subst (λ (d : Cell). MomentsFitAhead p d t moments) (sym same) fit in (
-          subst (λ (d : Cell). AreMadeBy p moments d fs) same
-              (each_move_is_in_time-holds p rank moments es t rs fs end run (in_order es same next) (schedule es same moments fit) (goes es same rs fs end on) there),
-          λ j inside here. (in_time_within-holds p rank moments es t rs fs end ordered.schedule.shaped ordered.schedule.ranks run (in_order es same next)
-              (fit-can_be_kept p (ends_in p es) t moments can) (goes es same rs fs end on) there j inside (still_here es same j here)).0,
-        )
+    in_time_from moments es rs fs end fit run same on within = (
+      rw same at (each_move_is_in_time-holds p rank moments es t rs fs end run (rw same next) (rw same (schedule moments fit)) (rw same on) (rw same within)),
+      λ j inside here. (in_time_within-holds p rank moments es t rs fs end ordered.schedule.shaped ordered.schedule.ranks run (rw same next)
+          (fit-can_be_kept p (ends_in p es) t moments (rw same fit)) (rw same on) (rw same within) j inside (rw same here)).0,
+    )
+
+    -- the earliest moments fit
+    kept_fit : IsScheduleAhead p c t rank kept
+    kept_fit = schedule kept ordered.schedule.moments
 
     pub never_gone_after : (j : ℕ) → j < jobs p → IsNeverGoneAfterFrom p c t j (kept (leaving p j))
     never_gone_after j inside es rs fs end run same on punctual gone =
-        go (in_time_from_there-holds p rank kept es t rs fs end run (in_order es same next) (schedule es same kept ordered.schedule.moments) (goes es same rs fs end on)
-        (subst (λ (d : Cell). ArePunctualFrom p t d fs) (sym same) punctual) j inside).0
+        go (in_time_from_there-holds p rank kept es t rs fs end run (rw same next) (rw same kept_fit) (rw same on) (rw same punctual) j inside).0
       where
         go : KeepsLeaving p kept end j → since end j ≤ kept (leaving p j)
         go (inl out) = out.by
@@ -104,59 +82,47 @@ module _ (p : PlannedShop) (c : Cell) (t : ℕ) (times : NodeTimes) (ordered : A
 
     pub just_in_time_from : IsJustInTimeFrom p c t kept
     just_in_time_from es run same =
-        let sched = schedule es same kept ordered.schedule.moments in
-        let (rs, fs, end, on, punctual, late, from, out) = some_continuation_is_exact-holds p rank kept es t run (in_order es same next) sched in (
+        let (rs, fs, end, on, punctual, late, from, out) = some_continuation_is_exact-holds p rank kept es t run (rw same next) (rw same kept_fit) in (
           rs,
           fs,
           end,
-          subst (λ (d : Cell). GoesOnTo p d t rs fs end) same on,
-          subst (λ (d : Cell). ArePunctualFrom p t d fs) same punctual,
-          subst (λ (d : Cell). AreNotEarly p d fs) same late,
+          rw same at on,
+          rw same at punctual,
+          rw same at late,
           from,
           λ j inside here small. (
               let (nodes, path) = leaving_path j inside here in
-              let gone = out j inside small in (
-                gone,
-                just_in_time_from_there-holds p rank kept es t rs fs end run (in_order es same next) sched on punctual late from j nodes
-                    (subst (λ (d : Cell). PathAhead p d t nodes (leaving p j) (kept (leaving p j))) (sym same) path) gone,
-              )),
+              let gone = out j inside small in
+              (gone, just_in_time_from_there-holds p rank kept es t rs fs end run (rw same next) (rw same kept_fit) on punctual late from j nodes (rw same path) gone)),
         )
 
     -- the deadlines of a rest whose earliest moments meet the budgets
     pub deadlines_from : (due : Node → ℕ) → MeetBudgetsAhead p c kept → AreDeadlines p c due → AreDeadlinesFrom p c t kept due
     deadlines_from due meets deadlines = record {
       deadlines = deadlines;
-      latest = λ other es run same respects within v is ahead. deadlines_are_the_latest-holds p rank due other es ordered.schedule.shaped ordered.schedule.ranks run (dues es same)
-          (subst (λ (d : Cell). RespectArcs p d other) (sym same) respects) (subst (λ (d : Cell). MeetBudgetsAhead p d other) (sym same) within) v is (subst (λ (d : Cell). IsAhead d v) (sym same) ahead);
-      not_before = λ es v run same is ahead. no_deadline_is_too_early-holds p rank kept due es t run (schedule es same kept ordered.schedule.moments) (early es same) (dues es same) v is
-          (subst (λ (d : Cell). IsAhead d v) (sym same) ahead);
-      in_time = λ es rs fs end run same on within j inside here. in_time_by_deadlines-holds p rank kept due es t rs fs end run (in_order es same next) (schedule es same kept ordered.schedule.moments) (early es same) (dues es same)
-          (goes es same rs fs end on) (subst (λ (d : Cell). AreWithin p due d fs) (sym same) within) j inside (still_here es same j here);
+      latest = λ other es run same respects within v is ahead. deadlines_are_the_latest-holds p rank due other es ordered.schedule.shaped ordered.schedule.ranks run (rw same deadlines) (rw same respects)
+          (rw same within) v is (rw same ahead);
+      not_before = λ es v run same is ahead. no_deadline_is_too_early-holds p rank kept due es t run (rw same kept_fit) (rw same meets) (rw same deadlines) v is (rw same ahead);
+      in_time = λ es rs fs end run same on within j inside here. in_time_by_deadlines-holds p rank kept due es t rs fs end run (rw same next) (rw same kept_fit) (rw same meets) (rw same deadlines)
+          (rw same on) (rw same within) j inside (rw same here);
       stays = λ es rs fs end run same on within.
-          let still = the_rest_stays_accepted-holds p rank kept due es t rs fs end run (in_order es same next) (schedule es same kept ordered.schedule.moments) (early es same) (dues es same)
-          (goes es same rs fs end on) (subst (λ (d : Cell). AreWithin p due d fs) (sym same) within) in
+          let still = the_rest_stays_accepted-holds p rank kept due es t rs fs end run (rw same next) (rw same kept_fit) (rw same meets) (rw same deadlines) (rw same on) (rw same within) in
           (stay es rs fs end run same on, still_acceptable es rs fs end run same on still.0 still.1 still.2, still);
-      out = λ es rs fs end run same on own ended j inside here. all_out_by_deadlines-holds p rank kept due es t rs fs end run (in_order es same next) (schedule es same kept ordered.schedule.moments) (early es same) (dues es same)
-          (goes es same rs fs end on) (subst (λ (d : Cell). AreByTheirOwn p due d fs) (sym same) own) ended j inside (still_here es same j here);
+      out = λ es rs fs end run same on own ended j inside here. all_out_by_deadlines-holds p rank kept due es t rs fs end run (rw same next) (rw same kept_fit) (rw same meets) (rw same deadlines)
+          (rw same on) (rw same own) ended j inside (rw same here);
     }
       where
-        dues : (es : List Event) → ends_in p es ≡ c → AreDeadlines p (ends_in p es) due
-        dues es same = subst (λ (d : Cell). AreDeadlines p d due) (sym same) deadlines
-
-        early : (es : List Event) → ends_in p es ≡ c → MeetBudgetsAhead p (ends_in p es) kept
-        early es same = subst (λ (d : Cell). MeetBudgetsAhead p d kept) (sym same) meets
-
         stay : (es : List Event) (rs : List Report) (fs : List Event) (end : Cell) → IsRun p es → ends_in p es ≡ c → GoesOnTo p c t rs fs end → AreDeadlines p end due
         stay es rs fs end run same on =
             let all = never_stuck_from es rs fs end run same on in
-            subst (λ (d : Cell). AreDeadlines p d due) (sym all.1) (deadlines_stay-holds p due es fs ordered.schedule.shaped run all.0 (dues es same))
+            rw all.1 (deadlines_stay-holds p due es fs ordered.schedule.shaped run all.0 (rw same deadlines))
 
         -- by moments that still fit, which no path ahead exceeds
         still_acceptable : (es : List Event) (rs : List Report) (fs : List Event) (end : Cell) → IsRun p es → ends_in p es ≡ c → GoesOnTo p c t rs fs end
             → (moments : Node → ℕ) → KeepsMoments p moments end → MeetBudgetsAhead p end moments → IsAcceptableAhead p end end.last
         still_acceptable es rs fs end run same on moments keeps meets =
             let all = never_stuck_from es rs fs end run same on in
-            let sound : IsSound p end = subst (IsSound p) (sym all.1) (run-sound p (es ++ fs) ordered.schedule.shaped all.0) in
+            let sound : IsSound p end = rw all.1 (run-sound p (es ++ fs) ordered.schedule.shaped all.0) in
             acceptable_ahead p end end.last rank moments ordered.schedule.ranks (λ nodes v n path. path_kept p end end.last moments nodes v n sound keeps path) meets
 
   pub never_gone_before : (j : ℕ) → j < jobs p → (IsGone p c j → ⊥) → IsNeverGoneBeforeFrom p c t j (kept (leaving p j))

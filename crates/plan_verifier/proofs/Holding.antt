@@ -1,8 +1,11 @@
 -- What holds up a node is told by the tables, and of what is told one bound goes before all others.
-use Rattle.std.proofs.Common.{◌≡◌, ◌≢◌, ℕ, ◌+◌, ◌<◌, ◌≤◌, ◌⊎◌, length, Bool, true, false, if◌then◌else◌, nat_lt, nat_eq, Option, None, Some, inl, inr, arith, refl, sym, ap, subst, ◌∙◌, lt-ltb, le-ltb, ltb-true, eqb-true}
+use Rattle.std.proofs.Common.{◌≡◌, ◌≢◌, ℕ, ◌+◌, ◌-◌, ◌<◌, ◌≤◌, ◌⊎◌, length, Bool, true, false, if◌then◌else◌, nat_lt, nat_eq, Option, None, Some, inl, inr, arith, refl, sym, ap, subst, ◌∙◌, ltb-true, eqb-true}
 use Rattle.std.proofs.lemmas.Bool.{and_parts}
 use Rattle.shop_base.specs.declared.node.Node.{Node}
-use Rattle.shop_base.specs.Plan.{PlannedShop, steps, order, job_at, nominal, clean, release, Visits}
+use Rattle.shop_base.specs.declared.shop.Step.{Step}
+use Rattle.shop_base.specs.declared.job_state.JobState.{JobState}
+use Rattle.shop_base.specs.Shop.{step_at}
+use Rattle.shop_base.specs.Plan.{PlannedShop, steps, route, order, job_at, nominal, clean, release, Visits}
 use Rattle.shop_base.specs.Cell.{Cell, job_in, made, ready, since, entries, cleaning, IsOutside, IsOn}
 use Rattle.shop_base.specs.Activity.{Cleaning}
 use Rattle.shop_base.specs.Movers.{due_of_job}
@@ -18,11 +21,6 @@ use Rattle.plan_verifier.specs.Held.{IsHeldBy, awaited, arrived, worked, done, c
 use Rattle.std.specs.Prelude.{MatchOption}
 use Rattle.alt_graph.proofs.NodeNumbers.{node_same}
 use Rattle.plan_verifier.proofs.Tables.{holds_cleaned}
-
--- a choice between equals
-either_same : (b : Bool) (o : Option ℕ) → (if b then o else o) ≡ o
-either_same true o = refl
-either_same false o = refl
 
 -- the turn of what holds up the next node of job j: last where it waits
 abbrev pub job_turn : Cell → ℕ → ℕ
@@ -81,16 +79,6 @@ module _ (p : PlannedShop) (c : Cell) where
               }))) same,
           rw same refl,
         )
-
-    -- no cleaning holds up a node behind which the job enters no machine, or which isn't the next entry there, or where it isn't being cleaned
-    pub none_leaving : steps p v.job ≤ v.place → cleaned_at p c v ≡ None
-    none_leaving past = rw (le-ltb v.place (steps p v.job) past) refl
-
-    pub none_next : (m : ℕ) → Visits p v.job v.place m → is_next_in p c m v.job ≡ false → cleaned_at p c v ≡ None
-    none_next m visits other = rw (lt-ltb v.place (steps p v.job) visits.within, visits.here, other) refl
-
-    pub none_cleaned : (m : ℕ) → Visits p v.job v.place m → cleaning c m ≡ None → cleaned_at p c v ≡ None
-    none_cleaned m visits clean_now = rw (lt-ltb v.place (steps p v.job) visits.within, visits.here, clean_now) (either_same (is_next_in p c m v.job) None)
 
     -- a node that is not its job's next and not held up by a cleaning isn't held up
     pub free_later : made c v.job ≢ v.place → cleaned_at p c v ≡ None → IsHeldUp p c v → ⊥
@@ -177,16 +165,26 @@ module _ (p : PlannedShop) (c : Cell) (t j : ℕ) (b : NodeBound) where
   told_awaited due outside is at same =
       (told_by p c t (next_node c j) (Awaited j) (Some due) b (awaited j due (record { outside = outside; not_ready = is; is_due = at })) same, rw (same, is) refl)
 
-  pub told_done : (k m : ℕ) → IsOn p c j k m → ready c j ≡ true → b ≡ record { moment = later_than t None; holds = Done j m; overdue = overdue_at t None } → IsToldNext
-  told_done k m on is same = (told_by p c t (next_node c j) (Done j m) None b (done j k m on is) same, rw (same, is) refl)
+  -- on a machine, by the job's state and the step that it is on
+  module _ (state : JobState) (step : Step) (is : state ≡ job_in c j) (inside : 0 < made c j) (within : state.made - 1 < steps p j) (at : step ≡ step_at (route p j) (state.made - 1)) where
+    on : IsOn p c j (state.made - 1) step.machine
+    on = record { entered = omega (arith, ap (λ (s : JobState). s.made) is, inside); visits = record { within = within; here = sym (ap (λ (s : Step). s.machine) at) } }
 
-  pub told_worked : (k m from n : ℕ) → IsOn p c j k m → ready c j ≡ false → from ≡ since c j → n ≡ nominal p j k
-      → b ≡ record { moment = later_than t (Some (from + n)); holds = Worked j m from n; overdue = overdue_at t (Some (from + n)) } → IsToldNext
-  told_worked k m from n on is begun long same = (
-    told_by p c t (next_node c j) (Worked j m from n) (Some (from + n)) b
-        (rw (begun, long) (worked j k m (since c j + nominal p j k) (record { on = on; not_ready = is; is_due = refl }))) same,
-    rw (same, is) refl,
-  )
+    pub told_done : state.ready ≡ true → b ≡ record { moment = later_than t None; holds = Done j step.machine; overdue = overdue_at t None } → IsToldNext
+    told_done waits same =
+        let idle : ready c j ≡ true = sym (ap (λ (s : JobState). s.ready) is) ∙ waits in
+        (told_by p c t (next_node c j) (Done j step.machine) None b (done j (state.made - 1) step.machine on idle) same, rw (same, idle) refl)
+
+    pub told_worked : state.ready ≡ false
+        → b ≡ record { moment = later_than t (Some (state.since + step.nominal)); holds = Worked j step.machine state.since step.nominal; overdue = overdue_at t (Some (state.since + step.nominal)) } → IsToldNext
+    told_worked works same =
+        let busy : ready c j ≡ false = sym (ap (λ (s : JobState). s.ready) is) ∙ works in
+        let holds : IsHeldBy p c (Worked j step.machine (since c j) (nominal p j (state.made - 1))) (Some (since c j + nominal p j (state.made - 1))) (next_node c j) =
+        worked j (state.made - 1) step.machine (since c j + nominal p j (state.made - 1)) (record { on = on; not_ready = busy; is_due = refl }) in (
+          told_by p c t (next_node c j) (Worked j step.machine state.since step.nominal) (Some (state.since + step.nominal)) b
+              (rw (ap (λ (s : JobState). s.since) is, ap (λ (s : Step). s.nominal) at) holds) same,
+          rw (same, busy) refl,
+        )
 
 module _ (p : PlannedShop) (c : Cell) (t : ℕ) (v : Node) where
   -- of a node that isn't its job's next only a cleaning is told

@@ -57,10 +57,10 @@ path_no_faster p c t j nodes n shaped path es fs run end more from late gone =
 
 module _ (p : PlannedShop) (c : Cell) (t : ℕ) (v : Node) where
   -- the present moment or, of its job's next node, when what goes on with the job is due, if that is later
-  abbrev begun_at : ℕ
+  abbrev pub begun_at : ℕ
   begun_at = if nat_lt (made c v.job) v.place then t else later_than t (due_of_job p v.job (job_in c v.job))
 
-  begun_next : made c v.job ≡ v.place → begun_at ≡ later_than t (due_of_job p v.job (job_in c v.job))
+  pub begun_next : made c v.job ≡ v.place → begun_at ≡ later_than t (due_of_job p v.job (job_in c v.job))
   begun_next next = rw (le-ltb (made c v.job) v.place (omega arith)) refl
 
   begun_later : made c v.job < v.place → begun_at ≡ t
@@ -83,7 +83,7 @@ module _ (p : PlannedShop) (c : Cell) (t : ℕ) (v : Node) where
   beginning_here ahead = let here : made c v.job ≤ v.place = ahead in rw (le-ltb v.place (made c v.job) here) refl
 
   -- it is also when the cleaning that holds the node up is due, if that is later
-  beginning_ahead : IsAhead c v → beginning_in p c t v ≡ Some (later_than begun_at (cleaned_at p c v))
+  pub beginning_ahead : IsAhead c v → beginning_in p c t v ≡ Some (later_than begun_at (cleaned_at p c v))
   beginning_ahead ahead = beginning_here ahead ∙ ap (λ n. Some n) (elim (cases_lt (made c v.job) v.place) [
     | inl later ↦ ap (λ o. unwrap_or o t) (bound_later p c t v later) ∙ held_or (cleaned_at p c v) ∙ ap (λ n. later_than n (cleaned_at p c v)) (sym (begun_later later))
     | inr other ↦ (let next : made c v.job ≡ v.place = (let here : made c v.job ≤ v.place = ahead in omega arith) in
@@ -98,7 +98,7 @@ module _ (p : PlannedShop) (c : Cell) (t : ℕ) (sound : IsSound p c) where
   beginning_told v is = told_by p (beginning_in p c t) v is
 
   -- where a path can begin one begins
-  beginning_path : (v : Node) (n : ℕ) → IsNode p v → bound_of b v ≡ Some n → PathAhead p c t (v ∷ []) v n
+  pub beginning_path : (v : Node) (n : ℕ) → IsNode p v → bound_of b v ≡ Some n → PathAhead p c t (v ∷ []) v n
   beginning_path v n is told = elim (cases_lt v.place (made c v.job)) [
     | inl passed ↦ absurd (differ n (sym (beginning_told v is ∙ beginning_passed p c t v passed) ∙ told))
     | inr here ↦ subst (λ k. PathAhead p c t (v ∷ []) v k) (some_same p c t sound _ _ (sym (beginning_told v is ∙ beginning_here p c t v here) ∙ told)) (from here (bound_in p c t v) refl)

@@ -40,7 +40,7 @@ module _ (p : PlannedShop) (c : Cell) (t : ℕ) (sound : IsSound p c) where
       let (machine, going, holds) = cleaned_holds p c v due told in
       subst (λ k. PathAhead p c t (v ∷ []) v k) (sym same) (held (Cleaning machine) due v going holds)
 
-  next_path : (v : Node) (n : ℕ) → IsNode p v → made c v.job ≡ v.place → (n ≡ t) ⊎ ((due : ℕ) × (due_of_job p v.job (job_in c v.job) ≡ Some due) × (n ≡ due)) → PathAhead p c t (v ∷ []) v n
+  pub next_path : (v : Node) (n : ℕ) → IsNode p v → made c v.job ≡ v.place → (n ≡ t) ⊎ ((due : ℕ) × (due_of_job p v.job (job_in c v.job) ≡ Some due) × (n ≡ due)) → PathAhead p c t (v ∷ []) v n
   next_path v n is next (inl same) = subst (λ k. PathAhead p c t (v ∷ []) v k) (sym same) (now v is (omega arith))
   next_path v n is next (inr (due, told, same)) =
       let here : v ≡ next_node c v.job = node_same v (next_node c v.job) refl (sym next) in

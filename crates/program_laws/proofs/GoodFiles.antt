@@ -1,6 +1,6 @@
 -- What good files are answered by, where they don't change.
 use Rattle.std.specs.Prelude.{unwrap_or}
-use Rattle.std.proofs.Common.{◌≡◌, ℕ, ◌<◌, ◌≤◌, arith, ◌++◌, List, [], ◌∷◌, ◌⊎◌, Option, Result, Ok, Err, inl, inr, ap, sym, ◌∙◌, subst, refl}
+use Rattle.std.proofs.Common.{◌≡◌, ℕ, ◌<◌, ◌≤◌, arith, ◌++◌, List, [], ◌∷◌, ◌⊎◌, Option, None, Some, Result, Ok, Err, inl, inr, ap, sym, ◌∙◌, subst, refl}
 use Rattle.shop_base.specs.Shop.{JobShop}
 use Rattle.shop_base.specs.declared.shape_fault.ShapeFault.{ShapeFault}
 use Rattle.shop_base.specs.Plan.{ShopPlan, PlannedShop, IsWellShaped}
@@ -28,6 +28,8 @@ use Rattle.cell_drive.specs.declared.resume_fault.ResumeFault.TheVariants.{Log, 
 use Rattle.cell_drive.specs.OneRun.{cell_after}
 use Rattle.cell_drive.specs.TakenUp.{TakenUp, IsTakenUp}
 use Rattle.cell_drive.specs.ResumeFaults.{IsResumeFault, IsRefusedFor}
+use Rattle.people_names.specs.NameBooks.{NameBook, no_names}
+use Rattle.plan_bounds.specs.Bounds.{times_of}
 use Rattle.command_answers.specs.declared.answer.Answer.{Answer}
 use Rattle.command_answers.specs.declared.loading.Loaded.{Loaded}
 use Rattle.command_answers.specs.declared.loading.Loaded.TheVariants.{NotShaped, Judged}
@@ -45,9 +47,14 @@ use Rattle.command_answers.specs.Checks.{IsLoaded, IsCheckLine}
 use Rattle.command_answers.specs.Search.{IsSearchAnswer}
 use Rattle.command_answers.specs.Improving.{IsImproveAnswer, ordered}
 use Rattle.command_answers.specs.ImprovingRests.{IsRestAnswer}
-use Rattle.command_answers.specs.Commands.{PairOfFiles, ReadsPlan, ReadsBoth, WithBoth, WithLog, WithRest, RunsFacts}
-use Rattle.command_answers.specs.Pictures.{IsLogDrawn, IsPlanDrawn, IsRestDrawing, IsUnshapedDrawn, WithDrawnLog, DrawsLog, DrawsRest, DrawsSchedule}
+use Rattle.command_answers.specs.declared.rests.PlanTelling.{PlanTelling}
+use Rattle.command_answers.specs.Rests.{IsRestLine, job_asked}
+use Rattle.command_answers.specs.Commands.{PairOfFiles, IfShaped, IfThere, RunsRest, ReadsPlan, ReadsBoth, WithBoth, WithNames, WithNamesAndLog, WithRest, WithSoundNames, RunsBounds, RunsFacts}
+use Rattle.command_answers.specs.Pictures.{IsLogDrawn, IsAnyPlanDrawn, IsPlanDrawn, IsRestDrawing, IsUnshapedDrawn, IfDrawable, DrawsLog, DrawsRest, DrawsSchedule}
+use Rattle.command_answers.specs.BoundLines.{AreBoundLines, AreBounds}
+use Rattle.command_answers.specs.Serial.{serially}
 use Rattle.command_answers.proofs.CheckLines.{line_of_loaded}
+use Rattle.command_answers.proofs.Unnamed.{unnamed}
 use Rattle.command_run.specs.Streams.{Streams}
 use Rattle.command_run.specs.Planners.{search_by_two, SeeksPlan}
 use Rattle.command_run.specs.Improvers.{AsksOne, ImprovesPlan, AsksOneForRest, ImprovesRest}
@@ -137,50 +144,118 @@ module _ (content : List ℕ → Result (List ℕ) CommandFault) (pair : PairOfF
       → IsAnswered (Is p) (pair.path ∷ pair.plan ∷ []) outcome asked
   good_plan Is outcome asked run = told_answered (Is p) outcome asked (with_both (λ q. Told (IsOrMemory (Is q))) outcome asked run)
 
+  -- `bounds` without names
+  unnamed_bounds : (outcome : Result Answer CommandFault) (before asked : List (List ℕ)) → WithSoundNames (Shelf content) (λ book. IsOrMemory (AreBoundLines book (times_of p) p.plan.budget)) None p before outcome asked
+      → Told (IsOrMemory (AreBounds p)) before outcome asked
+  unnamed_bounds (Ok answer) before asked (inl (sound, run)) =
+      let told = unnamed (λ book. Told (IsOrMemory (AreBoundLines book (times_of p) p.plan.budget))) before asked (Ok answer) (Shelf content) (serially p) run in (inl (sound, told.0), told.1)
+  unnamed_bounds (Err fault) before asked (inl (sound, run)) = unnamed (λ book. Told (IsOrMemory (AreBoundLines book (times_of p) p.plan.budget))) before asked (Err fault) (Shelf content) (serially p) run
+  unnamed_bounds (Ok answer) before asked (inr told) = (inr told.0, told.1)
+  unnamed_bounds (Err fault) before asked (inr told) = told
+
+  bounds_told : (outcome : Result Answer CommandFault) (asked : List (List ℕ)) → WithSoundNames (Shelf content) (λ book. IsOrMemory (AreBoundLines book (times_of p) p.plan.budget)) None p (pair.path ∷ pair.plan ∷ []) outcome asked ⊎ (outcome ≡ Err Memory)
+      → IsAnswered (AreBounds p) (pair.path ∷ pair.plan ∷ []) outcome asked
+  bounds_told outcome asked (inl run) = told_answered (AreBounds p) outcome asked (inl (unnamed_bounds outcome (pair.path ∷ pair.plan ∷ []) asked run))
+  bounds_told outcome asked (inr none) = told_answered (AreBounds p) outcome asked (inr none)
+
+  pub good_bounds : (outcome : Result Answer CommandFault) (asked : List (List ℕ)) → RunsBounds (Shelf content) pair None [] outcome asked → IsAnswered (AreBounds p) (pair.path ∷ pair.plan ∷ []) outcome asked
+  good_bounds outcome asked run =
+      bounds_told outcome asked (with_both (λ q. WithSoundNames (Shelf content) (λ book. IsOrMemory (AreBoundLines book (times_of q) q.plan.budget)) None q) outcome asked run)
+
   shaped_after_all : (q : PlannedShop) (outcome : Result Answer CommandFault) → IsWellShaped q → IsOrMemory (IsNotShapedLine q) outcome → outcome ≡ Err Memory
   shaped_after_all q (Ok answer) shaped is = absurd (shape_fault_refutes q is.fault is.first shaped)
   shaped_after_all q (Err fault) shaped is = ap Err is
 
-  log_came : (IsLine : PlannedShop → List ℕ → Answer → Type 0) (log text : List ℕ) (outcome : Result Answer CommandFault) (asked : List (List ℕ)) → content log ≡ Ok text → IsWellShaped p
-      → WithLog (Shelf content) IsLine log p (pair.path ∷ pair.plan ∷ []) outcome asked ⊎ (outcome ≡ Err Memory) → IsAnswered (IsLine p text) (pair.path ∷ pair.plan ∷ log ∷ []) outcome asked
-  log_came IsLine log text outcome asked is shaped (inl (inl (also, run))) =
-      let read = asked_and_read content (λ t. IsOrMemory (IsLine p t)) log text is (pair.path ∷ pair.plan ∷ []) run.came run.mid outcome asked run.is run.goes_on in
+  -- without names
+  named_told : (Is : NameBook → PlannedShop → Answer → Type 0) (outcome : Result Answer CommandFault) (before asked : List (List ℕ))
+      → IfShaped (Shelf content) p (WithNames (Shelf content) None p (λ book. IsOrMemory (Is book p))) before outcome asked
+      → Told (IsOrMemory (λ answer. IsNotShapedLine p answer ⊎ Is no_names p answer)) before outcome asked
+  named_told Is (Ok answer) before asked (inl (shaped, run)) = let told = unnamed (λ book. Told (IsOrMemory (Is book p))) before asked (Ok answer) (Shelf content) p run in (inr told.0, told.1)
+  named_told Is (Err fault) before asked (inl (shaped, run)) = unnamed (λ book. Told (IsOrMemory (Is book p))) before asked (Err fault) (Shelf content) p run
+  named_told Is (Ok answer) before asked (inr told) = (inl told.0, told.1)
+  named_told Is (Err fault) before asked (inr told) = told
+
+  named_came : (Is : NameBook → PlannedShop → Answer → Type 0) (outcome : Result Answer CommandFault) (asked : List (List ℕ))
+      → IfShaped (Shelf content) p (WithNames (Shelf content) None p (λ book. IsOrMemory (Is book p))) (pair.path ∷ pair.plan ∷ []) outcome asked ⊎ (outcome ≡ Err Memory)
+      → IsAnswered (λ answer. IsNotShapedLine p answer ⊎ Is no_names p answer) (pair.path ∷ pair.plan ∷ []) outcome asked
+  named_came Is outcome asked (inl run) = told_answered (λ answer. IsNotShapedLine p answer ⊎ Is no_names p answer) outcome asked (inl (named_told Is outcome (pair.path ∷ pair.plan ∷ []) asked run))
+  named_came Is outcome asked (inr none) = told_answered (λ answer. IsNotShapedLine p answer ⊎ Is no_names p answer) outcome asked (inr none)
+
+  pub good_named : (Is : NameBook → PlannedShop → Answer → Type 0) (outcome : Result Answer CommandFault) (asked : List (List ℕ))
+      → WithBoth (Shelf content) pair (λ q. IfShaped (Shelf content) q (WithNames (Shelf content) None q (λ book. IsOrMemory (Is book q)))) [] outcome asked
+      → IsAnswered (λ answer. IsNotShapedLine p answer ⊎ Is no_names p answer) (pair.path ∷ pair.plan ∷ []) outcome asked
+  good_named Is outcome asked run = named_came Is outcome asked (with_both (λ q. IfShaped (Shelf content) q (WithNames (Shelf content) None q (λ book. IsOrMemory (Is book q)))) outcome asked run)
+
+  named_log_came : (IsLine : NameBook → PlannedShop → List ℕ → Answer → Type 0) (log text : List ℕ) (outcome : Result Answer CommandFault) (asked : List (List ℕ)) → content log ≡ Ok text → IsWellShaped p
+      → IfShaped (Shelf content) p (WithNamesAndLog (Shelf content) None log p (λ book. IsLine book p)) (pair.path ∷ pair.plan ∷ []) outcome asked ⊎ (outcome ≡ Err Memory)
+      → IsAnswered (IsLine no_names p text) (pair.path ∷ pair.plan ∷ log ∷ []) outcome asked
+  named_log_came IsLine log text outcome asked is shaped (inl (inl (also, run))) =
+      let later = unnamed (λ book. Then (Asks (Shelf content) log) (λ t. Told (IsOrMemory (IsLine book p t)))) (pair.path ∷ pair.plan ∷ []) asked outcome (Shelf content) p run in
+      let read = asked_and_read content (λ t. IsOrMemory (IsLine no_names p t)) log text is (pair.path ∷ pair.plan ∷ []) later.came later.mid outcome asked later.is later.goes_on in
       answered _ _ outcome asked read.0 read.1
-  log_came IsLine log text outcome asked is shaped (inl (inr told)) = wanting _ _ outcome asked (shaped_after_all p outcome shaped told.0)
-  log_came IsLine log text outcome asked is shaped (inr none) = wanting _ _ outcome asked none
+  named_log_came IsLine log text outcome asked is shaped (inl (inr told)) = wanting _ _ outcome asked (shaped_after_all p outcome shaped told.0)
+  named_log_came IsLine log text outcome asked is shaped (inr none) = wanting _ _ outcome asked none
 
-  pub good_log : (IsLine : PlannedShop → List ℕ → Answer → Type 0) (log text : List ℕ) (outcome : Result Answer CommandFault) (asked : List (List ℕ)) → content log ≡ Ok text → IsWellShaped p
-      → WithBoth (Shelf content) pair (WithLog (Shelf content) IsLine log) [] outcome asked → IsAnswered (IsLine p text) (pair.path ∷ pair.plan ∷ log ∷ []) outcome asked
-  good_log IsLine log text outcome asked is shaped run = log_came IsLine log text outcome asked is shaped (with_both (WithLog (Shelf content) IsLine log) outcome asked run)
+  pub good_named_log : (IsLine : NameBook → PlannedShop → List ℕ → Answer → Type 0) (log text : List ℕ) (outcome : Result Answer CommandFault) (asked : List (List ℕ)) → content log ≡ Ok text → IsWellShaped p
+      → WithBoth (Shelf content) pair (λ q. IfShaped (Shelf content) q (WithNamesAndLog (Shelf content) None log q (λ book. IsLine book q))) [] outcome asked
+      → IsAnswered (IsLine no_names p text) (pair.path ∷ pair.plan ∷ log ∷ []) outcome asked
+  good_named_log IsLine log text outcome asked is shaped run =
+      named_log_came IsLine log text outcome asked is shaped (with_both (λ q. IfShaped (Shelf content) q (WithNamesAndLog (Shelf content) None log q (λ book. IsLine book q))) outcome asked run)
 
-  pub good_schedule_picture : (before after : Streams) (outcome : Result Answer CommandFault) (asked : List (List ℕ)) → RunsPicture (DrawsSchedule (Shelf content) pair) [] before outcome asked after
-      → IsDrawn (IsPlanDrawn p) (pair.path ∷ pair.plan ∷ []) before outcome asked after
+  -- of the rest of a run, with no job asked for
+  rest_came : (telling : PlanTelling) (at : Option ℕ) (told : Option ℕ) (log text : List ℕ) (outcome : Result Answer CommandFault) (asked : List (List ℕ)) → content log ≡ Ok text → IsWellShaped p → told ≡ None
+      → WithBoth (Shelf content) pair (λ q. IfShaped (Shelf content) q (IfThere (Shelf content) told q (WithNamesAndLog (Shelf content) None log q (λ book. IsRestLine book telling at q)))) [] outcome asked
+      → IsAnswered (IsRestLine no_names telling at p text) (pair.path ∷ pair.plan ∷ log ∷ []) outcome asked
+  rest_came telling at None log text outcome asked is shaped none run = good_named_log (λ book. IsRestLine book telling at) log text outcome asked is shaped run
+  rest_came telling at (Some j) log text outcome asked is shaped none run = absurd (cc none)
+
+  pub good_rest : (telling : PlanTelling) (at : Option ℕ) (log text : List ℕ) (outcome : Result Answer CommandFault) (asked : List (List ℕ)) → content log ≡ Ok text → IsWellShaped p → job_asked telling ≡ None
+      → RunsRest (Shelf content) telling at pair None log [] outcome asked → IsAnswered (IsRestLine no_names telling at p text) (pair.path ∷ pair.plan ∷ log ∷ []) outcome asked
+  good_rest telling at log text outcome asked is shaped none run = rest_came telling at (job_asked telling) log text outcome asked is shaped none run
+
+  any_drawn : (drawn : Result Drawn CommandFault) (before asked : List (List ℕ)) → IfDrawable p (WithNames (Shelf content) None p (λ book. IsOrMemory (IsPlanDrawn book p))) before drawn asked
+      → Told (IsOrMemory (IsAnyPlanDrawn p)) before drawn asked
+  any_drawn (Ok drawn) before asked (inl (shaped, run)) = let told = unnamed (λ book. Told (IsOrMemory (IsPlanDrawn book p))) before asked (Ok drawn) (Shelf content) p run in (inl told.0, told.1)
+  any_drawn (Err fault) before asked (inl (shaped, run)) = unnamed (λ book. Told (IsOrMemory (IsPlanDrawn book p))) before asked (Err fault) (Shelf content) p run
+  any_drawn (Ok drawn) before asked (inr told) = (inr told.0, told.1)
+  any_drawn (Err fault) before asked (inr told) = told
+
+  plan_came_drawn : (drawn : Result Drawn CommandFault) (asked : List (List ℕ))
+      → IfDrawable p (WithNames (Shelf content) None p (λ book. IsOrMemory (IsPlanDrawn book p))) (pair.path ∷ pair.plan ∷ []) drawn asked ⊎ (drawn ≡ Err Memory)
+      → IsAnswered (IsAnyPlanDrawn p) (pair.path ∷ pair.plan ∷ []) drawn asked
+  plan_came_drawn drawn asked (inl run) = told_answered (IsAnyPlanDrawn p) drawn asked (inl (any_drawn drawn (pair.path ∷ pair.plan ∷ []) asked run))
+  plan_came_drawn drawn asked (inr none) = told_answered (IsAnyPlanDrawn p) drawn asked (inr none)
+
+  pub good_schedule_picture : (before after : Streams) (outcome : Result Answer CommandFault) (asked : List (List ℕ)) → RunsPicture (DrawsSchedule (Shelf content) pair None) [] before outcome asked after
+      → IsDrawn (IsAnyPlanDrawn p) (pair.path ∷ pair.plan ∷ []) before outcome asked after
   good_schedule_picture before after outcome asked run =
-      came_drawn (IsPlanDrawn p) _ run.drawn before after outcome asked (good_plan IsPlanDrawn run.drawn asked run.came) run.draws
+      came_drawn (IsAnyPlanDrawn p) _ run.drawn before after outcome asked
+      (plan_came_drawn run.drawn asked (with_both (λ q. IfDrawable q (WithNames (Shelf content) None q (λ book. IsOrMemory (IsPlanDrawn book q)))) run.drawn asked run.came)) run.draws
 
   drawn_after_all : (drawn : Result Drawn CommandFault) → IsWellShaped p → IsOrMemory (IsUnshapedDrawn p) drawn → drawn ≡ Err Memory
   drawn_after_all (Ok (Picture picture status)) shaped is = absurd is
   drawn_after_all (Ok (Line answer)) shaped is = absurd (shape_fault_refutes p is.fault is.first shaped)
   drawn_after_all (Err fault) shaped is = ap Err is
 
-  drawn_log_came : (IsDrawing : PlannedShop → List ℕ → Drawn → Type 0) (log text : List ℕ) (drawn : Result Drawn CommandFault) (asked : List (List ℕ)) → content log ≡ Ok text → IsWellShaped p
-      → WithDrawnLog (Shelf content) IsDrawing log p (pair.path ∷ pair.plan ∷ []) drawn asked ⊎ (drawn ≡ Err Memory) → IsAnswered (IsDrawing p text) (pair.path ∷ pair.plan ∷ log ∷ []) drawn asked
+  drawn_log_came : (IsDrawing : NameBook → PlannedShop → List ℕ → Drawn → Type 0) (log text : List ℕ) (drawn : Result Drawn CommandFault) (asked : List (List ℕ)) → content log ≡ Ok text → IsWellShaped p
+      → IfDrawable p (WithNamesAndLog (Shelf content) None log p (λ book. IsDrawing book p)) (pair.path ∷ pair.plan ∷ []) drawn asked ⊎ (drawn ≡ Err Memory) → IsAnswered (IsDrawing no_names p text) (pair.path ∷ pair.plan ∷ log ∷ []) drawn asked
   drawn_log_came IsDrawing log text drawn asked is shaped (inl (inl (also, run))) =
-      let read = asked_and_read content (λ t. IsOrMemory (IsDrawing p t)) log text is (pair.path ∷ pair.plan ∷ []) run.came run.mid drawn asked run.is run.goes_on in
+      let later = unnamed (λ book. Then (Asks (Shelf content) log) (λ t. Told (IsOrMemory (IsDrawing book p t)))) (pair.path ∷ pair.plan ∷ []) asked drawn (Shelf content) p run in
+      let read = asked_and_read content (λ t. IsOrMemory (IsDrawing no_names p t)) log text is (pair.path ∷ pair.plan ∷ []) later.came later.mid drawn asked later.is later.goes_on in
       answered _ _ drawn asked read.0 read.1
   drawn_log_came IsDrawing log text drawn asked is shaped (inl (inr told)) = wanting _ _ drawn asked (drawn_after_all drawn shaped told.0)
   drawn_log_came IsDrawing log text drawn asked is shaped (inr none) = wanting _ _ drawn asked none
 
   pub good_rest_picture : (at : Option ℕ) (before after : Streams) (log text : List ℕ) (outcome : Result Answer CommandFault) (asked : List (List ℕ)) → content log ≡ Ok text → IsWellShaped p
-      → RunsPicture (DrawsRest (Shelf content) at pair log) [] before outcome asked after → IsDrawn (IsRestDrawing at p text) (pair.path ∷ pair.plan ∷ log ∷ []) before outcome asked after
+      → RunsPicture (DrawsRest (Shelf content) at pair None log) [] before outcome asked after → IsDrawn (IsRestDrawing at no_names p text) (pair.path ∷ pair.plan ∷ log ∷ []) before outcome asked after
   good_rest_picture at before after log text outcome asked is shaped run =
-      came_drawn (IsRestDrawing at p text) _ run.drawn before after outcome asked
-      (drawn_log_came (IsRestDrawing at) log text run.drawn asked is shaped (with_both (WithDrawnLog (Shelf content) (IsRestDrawing at) log) run.drawn asked run.came)) run.draws
+      came_drawn (IsRestDrawing at no_names p text) _ run.drawn before after outcome asked
+      (drawn_log_came (IsRestDrawing at) log text run.drawn asked is shaped (with_both (λ q. IfDrawable q (WithNamesAndLog (Shelf content) None log q (λ book. IsRestDrawing at book q))) run.drawn asked run.came)) run.draws
 
   pub good_log_picture : (before after : Streams) (log text : List ℕ) (outcome : Result Answer CommandFault) (asked : List (List ℕ)) → content log ≡ Ok text → IsWellShaped p
-      → RunsPicture (DrawsLog (Shelf content) pair log) [] before outcome asked after → IsDrawn (IsLogDrawn p text) (pair.path ∷ pair.plan ∷ log ∷ []) before outcome asked after
+      → RunsPicture (DrawsLog (Shelf content) pair None log) [] before outcome asked after → IsDrawn (IsLogDrawn no_names p text) (pair.path ∷ pair.plan ∷ log ∷ []) before outcome asked after
   good_log_picture before after log text outcome asked is shaped run =
-      came_drawn (IsLogDrawn p text) _ run.drawn before after outcome asked (drawn_log_came IsLogDrawn log text run.drawn asked is shaped (with_both (WithDrawnLog (Shelf content) IsLogDrawn log) run.drawn asked run.came)) run.draws
+      came_drawn (IsLogDrawn no_names p text) _ run.drawn before after outcome asked (drawn_log_came IsLogDrawn log text run.drawn asked is shaped (with_both (λ q. IfDrawable q (WithNamesAndLog (Shelf content) None log q (λ book. IsLogDrawn book q))) run.drawn asked run.came)) run.draws
 
   pub good_search : (rounds : ℕ) (outcome : Result Answer CommandFault) (asked : List (List ℕ)) → SeeksPlan (Shelf content) rounds pair [] outcome asked
       → (IsSearchAnswer (search_by_two (task_in p)) rounds outcome × (asked ≡ pair.path ∷ pair.plan ∷ [])) ⊎ (outcome ≡ Err Memory)
@@ -291,7 +366,7 @@ module _ (content : List ℕ → Result (List ℕ) CommandFault) (pair : PairOfF
 
         acyclic : HasNoCycle p
         acyclic nodes cycle =
-            ranks_exclude_cycle p (rank_of t.driven.control.times) nodes (subst (λ (q : PlannedShop). AreRanks q t.driven.control.times) up.taken_from.planned up.taken_from.run.driven.control.ranks).rise cycle
+            ranks_exclude_cycle p (rank_of t.control.times) nodes (subst (λ (q : PlannedShop). AreRanks q t.control.times) up.taken_from.planned up.taken_from.run.kept.control.ranks).rise cycle
 
         go : IsNoPlanFor p told → ⊥
         go (inl cyclic) = cyclic acyclic

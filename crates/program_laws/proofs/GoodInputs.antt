@@ -5,7 +5,7 @@ use Rattle.shop_base.specs.Shop.{JobShop}
 use Rattle.text_lines.specs.declared.limits.TheConstants.{MAX_INPUT}
 use Rattle.command_answers.specs.declared.answer.Answer.{Answer}
 use Rattle.command_answers.specs.declared.command_fault.CommandFault.{CommandFault}
-use Rattle.command_answers.specs.declared.command_fault.CommandFault.TheVariants.{Instance, Plan, Read, Write, InputTooLong, Log, LogInUse, Memory}
+use Rattle.command_answers.specs.declared.command_fault.CommandFault.TheVariants.{Instance, Plan, Names, Read, Write, InputTooLong, Log, LogInUse, Memory}
 use Rattle.command_answers.specs.Instances.{Tells}
 use Rattle.command_answers.specs.Readings.{AreFactsAnswered}
 use Rattle.command_answers.specs.Steps.{GoesOn, Told}
@@ -34,6 +34,7 @@ module _ (text description : List ℕ) (shop : JobShop) (tells : Tells text None
   input_read before mid after (Ok t) outcome given few is on =
       let all = all_given mid.left text t (subst (λ o. Consumes o mid.left t) given is.0) is.1 in
       facts_told outcome after (subst (λ x. AreFactsAnswered x None outcome) all.0 on.0) (ap (λ (i : Input). i.left) on.1 ∙ all.1)
+  input_read before mid after (Err (Names names)) outcome given few is on = absurd is
   input_read before mid after (Err Read) outcome given few is on = subst (λ r. IsInputAnswered shop r after) (sym on.0) (ap (λ (i : Input). i.failed) on.1 ∙ is)
   input_read before mid after (Err InputTooLong) outcome given few is on =
       let fits = no_more mid.left text is.0 (subst (λ o. Consumes o mid.left is.0) given is.1) in absurd (omega (arith, fits, few, is.2))

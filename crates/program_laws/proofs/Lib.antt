@@ -6,3 +6,4 @@ pub mod SameWriting
 pub mod SameResuming
 pub mod ToldLogs
 pub mod OneLogs
+mod NamedPlans

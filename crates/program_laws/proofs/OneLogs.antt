@@ -13,7 +13,7 @@ use Rattle.cell_drive.specs.TakenUp.{told_in}
 use Rattle.run_journal.specs.WholeLines.{whole_lines}
 use Rattle.logged_drive.specs.CrashLaw.{IsTakenUpAgain, ADrivenRunIsTakenUp, ATakenUpRunIsTakenUp}
 use Rattle.drive_laws.proofs.GoneOnAsOne.{it_is_one_so_far, it_is_taken_up_as_one, the_first_events_have_their_orders}
-use Rattle.drive_laws.proofs.ResumedTexts.{taken_to_rest}
+use Rattle.drive_laws.proofs.Resumes.{taken_to_rest}
 use Rattle.program_laws.specs.OneLogLaw.{ANewLogIsOfOneRun, ATakenUpLogIsOfOneRun}
 
 -- what was left tells the first events of a run
@@ -27,15 +27,15 @@ from_left p told came entries shown left again whole = record {
 }
 
 pub a_new_log : ADrivenRunIsTakenUp → ANewLogIsOfOneRun
-a_new_log driven_run p manner lines answers closing shown pending left end shaped acceptable are given is_left =
+a_new_log driven_run p manner base lines answers closing shown pending left end shaped acceptable whole none are given is_left =
     the_first_events_have_their_orders p (whole_lines left) end.entries shaped
     (it_is_one_so_far p manner [] 1 lines answers end shaped ([], done (start p)) are)
-    (from_left p [] end.entries end.entries shown left (driven_run p manner lines answers closing shown pending left end shaped acceptable are given is_left) refl)
+    (from_left p [] end.entries end.entries shown left (driven_run p manner base lines answers closing shown pending left end shaped acceptable whole none are given is_left) refl)
 
 pub a_taken_up_log : ATakenUpRunIsTakenUp → ATakenUpLogIsOfOneRun
 a_taken_up_log taken_up_run p manner base taken lines answers closing shown pending left end whole own up are given is_left =
     let shaped = (taken_to_rest p own.lines None taken own.up).0 in
     let more = taken_up_run p manner base None taken lines answers closing shown pending left end whole up are given is_left in
     the_first_events_have_their_orders p (whole_lines left) end.entries shaped
-    (it_is_one_so_far p manner taken.driven.log.entries 1 lines answers end shaped (it_is_taken_up_as_one p taken own) are)
+    (it_is_one_so_far p manner taken.log.entries 1 lines answers end shaped (it_is_taken_up_as_one p taken own) are)
     (from_left p (told_in taken) more.came end.entries shown left more.again more.whole)

@@ -10,7 +10,7 @@ use Rattle.command_answers.specs.declared.cells.Cells.{Cells}
 use Rattle.command_answers.specs.declared.loading.Loaded.{Loaded}
 use Rattle.command_answers.specs.declared.pictures.Drawn.{Drawn}
 use Rattle.command_answers.specs.declared.command_fault.CommandFault.{CommandFault}
-use Rattle.command_answers.specs.declared.command_fault.CommandFault.TheVariants.{Instance, Plan, Read, Write, InputTooLong, Log, LogInUse, Memory}
+use Rattle.command_answers.specs.declared.command_fault.CommandFault.TheVariants.{Instance, Plan, Names, Read, Write, InputTooLong, Log, LogInUse, Memory}
 use Rattle.command_answers.specs.Instances.{IsFirstInstanceFault, IsInstanceRefusal}
 use Rattle.command_answers.specs.Steps.{GoesOn, Told}
 use Rattle.command_answers.specs.Texts.{Asks}
@@ -35,6 +35,7 @@ told_of : {A : Type 0} (fault : OrFault) (outcome : Result A CommandFault) → I
 told_of fault (Ok a) refusal = absurd refusal
 told_of fault (Err (Instance told)) refusal = inl (ap (λ f. Err (Instance f)) refusal)
 told_of fault (Err (Plan told)) refusal = absurd refusal
+told_of fault (Err (Names names)) refusal = absurd refusal
 told_of fault (Err Read) refusal = absurd refusal
 told_of fault (Err Write) refusal = absurd refusal
 told_of fault (Err InputTooLong) refusal = absurd refusal

@@ -14,23 +14,20 @@ use Rattle.byte_streams.specs.declared.rooms.TheConstants.{MAX_PIECE}
 use Rattle.byte_streams.specs.Streams.{IsStreamed}
 use Rattle.run_log.specs.Log.{Noted}
 use Rattle.cell_drive.specs.declared.manner.Manner.{Manner}
-use Rattle.cell_drive.specs.declared.rest_run.RestEnd.{RestEnd}
+use Rattle.cell_drive.specs.declared.resume.RestEnd.{RestEnd}
 use Rattle.cell_drive.specs.declared.resume_fault.ResumeFault.{ResumeFault}
 use Rattle.cell_drive.specs.AnswerText.{DrivenCell}
 use Rattle.cell_drive.specs.OneRun.{IsSoFar}
-use Rattle.cell_drive.specs.RestCell.{RestState, RestAnswer, RestCloses, IsRestEndOf, rest_seen}
+use Rattle.cell_drive.specs.Session.{SessionState, SessionAnswer, SessionCloses, IsRestEndOf, seen}
 use Rattle.cell_drive.specs.TakenUp.{TakenUp, IsTakenUp, CanBeTakenUp, plan_of}
-use Rattle.cell_drive.specs.Resuming.{IsResumedText, again_of}
-use Rattle.cell_drive.specs.StatedRest.{StatedRestAnswer, StatedRestCloses}
-use Rattle.cell_drive.specs.StatedResume.{stated_from}
-use Rattle.drive_laws.specs.StatedRestLaw.{IsStatedResumedText, restated_of}
-use Rattle.cell_drive.specs.InManner.{ResumesBy}
-use Rattle.drive_laws.proofs.ResumedTexts.{resumed_text}
-use Rattle.drive_laws.proofs.StatedResumes.{stated_on_text}
-use Rattle.drive_laws.proofs.OneTaking.{one_text_from_a_log, one_stated_text_from_a_log, a_log_without_events_is_driven, a_log_without_events_is_driven_so}
+use Rattle.cell_drive.specs.Resuming.{IsResumedText, again_of, session_from}
+use Rattle.cell_drive.specs.InManner.{IsResumeIn}
+use Rattle.cell_drive.proofs.OneText.{one_answer_text}
+use Rattle.drive_laws.proofs.Resumes.{resumed_text}
+use Rattle.drive_laws.proofs.OneTaking.{one_text_from_a_log, a_log_without_events_is_driven}
 use Rattle.command_words.specs.declared.words.Chosen.{Chosen}
 use Rattle.command_words.specs.declared.words.CommandName.{CommandName}
-use Rattle.command_words.specs.declared.words.CommandName.TheVariants.{Input, Facts, Shape, Check, Explain, Schedule, Bounds, Plan, Improve, Decide, Revise, Drive, Resume, Hub, Audit, Gantt}
+use Rattle.command_words.specs.declared.words.CommandName.TheVariants.{Input, Facts, Shape, Check, Explain, Schedule, Bounds, Margin, Plan, Improve, Decide, Revise, Drive, Resume, Hub, Digest, Audit, Gantt}
 use Rattle.command_words.specs.declared.words.Lines.{Lines}
 use Rattle.command_words.specs.declared.words.WordsFault.{WordsFault}
 use Rattle.command_words.specs.declared.words.WordsFault.TheVariants.{Usage, Memory as NoWordsMemory}
@@ -39,7 +36,7 @@ use Rattle.command_answers.specs.declared.answer.Answer.{Answer}
 use Rattle.command_answers.specs.declared.command_fault.CommandFault.{CommandFault}
 use Rattle.command_answers.specs.Commands.{PairOfFiles}
 use Rattle.command_run.specs.Streams.{Streams, Output}
-use Rattle.command_run.specs.Drives.{IsEndAnswer, is_plain, status_at}
+use Rattle.command_run.specs.Drives.{IsEndAnswer, status_at}
 use Rattle.command_run.specs.Resumes.{IsTaking, IsUntakenTold, ResumesTaken, end_of_rest}
 use Rattle.command_run.specs.Ending.{Ends, EndsBy}
 use Rattle.command_run.specs.Program.{AreWordsRead, RunsResume, RunsCommand, RunsChosen, Follows, draws, file_at, is_second, keeps_log, kept_log_in, log_kept_by, manner_in, pair_in}
@@ -47,7 +44,7 @@ use Rattle.command_run.specs.Laws.{Shelf, TellPlan, RunsWell}
 use Rattle.program_laws.specs.ResumeLaw.{AskForResume, AskForOneManner, moment_given, ResumeWritesTheSame, ResumeWritesAsDrive}
 use Rattle.program_laws.specs.ToldLaw.{manner_of}
 use Rattle.program_laws.proofs.GoodFiles.{good_resume}
-use Rattle.program_laws.proofs.SameWriting.{Wrote, IsTextBy, same_manner, first, all_read, fewer, written_is, memory_status, memory_ends, write_ends, ended_as, same_done, one_text_by, follows_wrote}
+use Rattle.program_laws.proofs.SameWriting.{Wrote, same_manner, first, all_read, fewer, written_is, memory_status, memory_ends, own_ends, write_ends, ended_as, same_done, follows_wrote}
 
 -- ---- the words
 
@@ -64,12 +61,14 @@ is_resume Check word = (let differ : 99 ≡ 114 = ap first word in absurd (omega
 is_resume Explain word = (let differ : 101 ≡ 114 = ap first word in absurd (omega (arith, differ)))
 is_resume Schedule word = (let differ : 115 ≡ 114 = ap first word in absurd (omega (arith, differ)))
 is_resume Bounds word = (let differ : 98 ≡ 114 = ap first word in absurd (omega (arith, differ)))
+is_resume Margin word = (let differ : 109 ≡ 114 = ap first word in absurd (omega (arith, differ)))
 is_resume Plan word = (let differ : 112 ≡ 114 = ap first word in absurd (omega (arith, differ)))
 is_resume Improve word = (let differ : 105 ≡ 114 = ap first word in absurd (omega (arith, differ)))
 is_resume Revise word = (let differ : 118 ≡ 115 = ap third word in absurd (omega (arith, differ)))
 is_resume Decide word = (let differ : 100 ≡ 114 = ap first word in absurd (omega (arith, differ)))
 is_resume Drive word = (let differ : 100 ≡ 114 = ap first word in absurd (omega (arith, differ)))
 is_resume Hub word = (let differ : 104 ≡ 114 = ap first word in absurd (omega (arith, differ)))
+is_resume Digest word = (let differ : 100 ≡ 114 = ap first word in absurd (omega (arith, differ)))
 is_resume Audit word = (let differ : 97 ≡ 114 = ap first word in absurd (omega (arith, differ)))
 is_resume Gantt word = (let differ : 103 ≡ 114 = ap first word in absurd (omega (arith, differ)))
 
@@ -85,11 +84,7 @@ asked_log words pair log chosen ask is = ap (λ (fs : List (List ℕ)). get_or f
 
 -- ---- what a good run wrote
 
--- the text for its input from what was taken up, as ever or in this manner
-abbrev IsResumedBy : Bool → Manner → PlannedShop → TakenUp → List ℕ → List ℕ → DrivenCell → Type 0
-IsResumedBy true manner p taken input text end = IsResumedText p taken.driven.log.entries taken.late input text end
-IsResumedBy false manner p taken input text end = IsStatedResumedText p manner taken.driven.log.entries taken.late input text end
-
+-- the text for its input from what was taken up, in this manner
 record Resumed (p : PlannedShop) (manner : Manner) (lines : List (List ℕ)) (at : Option ℕ) (input : List ℕ) (status : ℕ) (written : List ℕ) : Type 0 where
   pub taken : TakenUp
   pub up : IsTakenUp p lines at taken
@@ -97,11 +92,11 @@ record Resumed (p : PlannedShop) (manner : Manner) (lines : List (List ℕ)) (at
   pub done : Bool
   pub last : ℕ
   pub left : ℕ
-  pub is_text : IsResumedBy (is_plain manner) manner p taken input written state
+  pub is_text : IsResumedText p manner taken.log.entries taken.late input written state
   pub so_far : IsSoFar p state.entries done last left
   pub own : status ≡ status_at done
 
-rest_so_far : (p q : PlannedShop) (s : RestState) (end : RestEnd) → q ≡ p → IsRestEndOf q s end → IsSoFar p s.log.entries end.done end.last end.left
+rest_so_far : (p q : PlannedShop) (s : SessionState) (end : RestEnd) → q ≡ p → IsRestEndOf q s end → IsSoFar p s.log.entries end.done end.last end.left
 rest_so_far p q s end same is =
     subst (λ x. IsSoFar x s.log.entries end.done end.last end.left) same (subst (λ (l : Noted). IsSoFar q l.entries end.done end.last end.left) is.log is.so_far)
 
@@ -142,67 +137,41 @@ module _ (content : List ℕ → Result (List ℕ) CommandFault) (words : List (
           omega (arith, less, few, is.comes_to.0)
       never_broke WantOfMemory is answer = is.comes_to
 
-    resumed_so : (manner : Manner) (plain : Bool) → is_plain manner ≡ plain → (lines : List (List ℕ)) (at : Option ℕ) (taken : TakenUp) → IsTakenUp p lines at taken → (end : Result RestEnd DriveFault)
-        → ResumesBy plain manner taken well.before.streams mid end → IsEndAnswer (end_of_rest end) outcome → Resumed p manner lines at input status written
-    resumed_so manner true plain lines at taken up (Ok end) (inl cut) answer = absurd (let bad : Ok end ≡ Err NotWritten = cut.0 in cc bad)
-    resumed_so manner true plain lines at taken up (Ok end) (inr on) answer =
-        let ended = ended_behind RestAnswer RestCloses taken.driven on.end (again_of taken) on.middle end on.streamed on.again answer in
-        let text : List ℕ = again_of taken ++ (on.streamed.comes_to.text ++ on.streamed.comes_to.closing) in
-        let seen : DrivenCell = rest_seen on.end in
-        let answered : IsResumedText p taken.driven.log.entries taken.late on.streamed.input text seen =
-        subst (λ (q : PlannedShop). IsResumedText q taken.driven.log.entries taken.late on.streamed.input text seen) up.taken_from.planned (resumed_text taken end well.before.streams mid on) in
+    resumed_so : (manner : Manner) (lines : List (List ℕ)) (at : Option ℕ) (taken : TakenUp) → IsTakenUp p lines at taken → (end : Result RestEnd DriveFault)
+        → IsResumeIn manner taken well.before.streams mid end → IsEndAnswer (end_of_rest end) outcome → Resumed p manner lines at input status written
+    resumed_so manner lines at taken up (Ok end) (inl wanting) answer = absurd (let bad : Ok end ≡ Err WantOfMemory = wanting.1 in cc bad)
+    resumed_so manner lines at taken up (Ok end) (inr (inl cut)) answer = absurd (let bad : Ok end ≡ Err NotWritten = cut.0 in cc bad)
+    resumed_so manner lines at taken up (Ok end) (inr (inr on)) answer =
+        let ended = ended_behind SessionAnswer SessionCloses (session_from manner taken) on.end (again_of manner taken) on.middle end on.streamed on.again answer in
+        let text : List ℕ = again_of manner taken ++ (on.streamed.comes_to.text ++ on.streamed.comes_to.closing) in
+        let state : DrivenCell = seen on.end in
+        let answered : IsResumedText p manner taken.log.entries taken.late on.streamed.input text state =
+        subst (λ (q : PlannedShop). IsResumedText q manner taken.log.entries taken.late on.streamed.input text state) up.taken_from.planned (resumed_text manner taken end well.before.streams mid on) in
         record {
           taken = taken;
           up = up;
-          state = seen;
+          state = state;
           done = end.done;
           last = end.last;
           left = end.left;
-          is_text = subst (λ (b : Bool). IsResumedBy b manner p taken input written seen) (sym plain)
-              (subst (λ xs. IsResumedText p taken.driven.log.entries taken.late input xs seen) (sym ended.1)
-              (subst (λ xs. IsResumedText p taken.driven.log.entries taken.late xs text seen) ended.0 answered));
+          is_text = subst (λ xs. IsResumedText p manner taken.log.entries taken.late input xs state) (sym ended.1)
+              (subst (λ xs. IsResumedText p manner taken.log.entries taken.late xs text state) ended.0 answered);
           so_far = rest_so_far p (plan_of taken) on.end end up.taken_from.planned on.came_to;
           own = ended.2;
         }
-    resumed_so manner true plain lines at taken up (Err fault) (inl cut) answer =
-        let same : fault ≡ NotWritten = (let both : Err fault ≡ Err NotWritten = cut.0 in cc both) in
-        absurd (not_cut (subst (λ (f : DriveFault). IsEndAnswer (Err f) outcome) same answer) cut.1)
-    resumed_so manner true plain lines at taken up (Err fault) (inr on) answer =
-        absurd (never_broke RestAnswer RestCloses taken.driven on.end (again_of taken) on.middle fault on.streamed answer)
-    resumed_so manner false plain lines at taken up (Ok end) (inl wanting) answer = absurd (let bad : Ok end ≡ Err WantOfMemory = wanting.0 in cc bad)
-    resumed_so manner false plain lines at taken up (Ok end) (inr (inl cut)) answer = absurd (let bad : Ok end ≡ Err NotWritten = cut.0 in cc bad)
-    resumed_so manner false plain lines at taken up (Ok end) (inr (inr on)) answer =
-        let ended = ended_behind StatedRestAnswer StatedRestCloses (stated_from manner taken) on.end (restated_of manner taken) on.middle end on.streamed on.again answer in
-        let text : List ℕ = restated_of manner taken ++ (on.streamed.comes_to.text ++ on.streamed.comes_to.closing) in
-        let seen : DrivenCell = rest_seen on.end.driven in
-        let answered : IsStatedResumedText p manner taken.driven.log.entries taken.late on.streamed.input text seen =
-        subst (λ (q : PlannedShop). IsStatedResumedText q manner taken.driven.log.entries taken.late on.streamed.input text seen) up.taken_from.planned (stated_on_text manner taken end well.before.streams mid on) in
-        record {
-          taken = taken;
-          up = up;
-          state = seen;
-          done = end.done;
-          last = end.last;
-          left = end.left;
-          is_text = subst (λ (b : Bool). IsResumedBy b manner p taken input written seen) (sym plain)
-              (subst (λ xs. IsStatedResumedText p manner taken.driven.log.entries taken.late input xs seen) (sym ended.1)
-              (subst (λ xs. IsStatedResumedText p manner taken.driven.log.entries taken.late xs text seen) ended.0 answered));
-          so_far = rest_so_far p (plan_of taken) on.end.driven end up.taken_from.planned on.came_to;
-          own = ended.2;
-        }
-    resumed_so manner false plain lines at taken up (Err fault) (inl wanting) answer =
-        let same : fault ≡ WantOfMemory = (let both : Err fault ≡ Err WantOfMemory = wanting.0 in cc both) in
+    resumed_so manner lines at taken up (Err fault) (inl wanting) answer =
+        let same : fault ≡ WantOfMemory = (let both : Err fault ≡ Err WantOfMemory = wanting.1 in cc both) in
         absurd (not_wanting (subst (λ (f : DriveFault). IsEndAnswer (Err f) outcome) same answer))
-    resumed_so manner false plain lines at taken up (Err fault) (inr (inl cut)) answer =
+    resumed_so manner lines at taken up (Err fault) (inr (inl cut)) answer =
         let same : fault ≡ NotWritten = (let both : Err fault ≡ Err NotWritten = cut.0 in cc both) in
         absurd (not_cut (subst (λ (f : DriveFault). IsEndAnswer (Err f) outcome) same answer) cut.1)
-    resumed_so manner false plain lines at taken up (Err fault) (inr (inr on)) answer =
-        absurd (never_broke StatedRestAnswer StatedRestCloses (stated_from manner taken) on.end (restated_of manner taken) on.middle fault on.streamed answer)
+    resumed_so manner lines at taken up (Err fault) (inr (inr on)) answer =
+        absurd (never_broke SessionAnswer SessionCloses (session_from manner taken) on.end (again_of manner taken) on.middle fault on.streamed answer)
 
     -- a log that can be taken up
     log_resumed : (manner : Manner) (at : Option ℕ) (text : List ℕ) → CanBeTakenUp p (ended_lines text) at → (taken : Result TakenUp ResumeFault) → IsTaking p at text taken
         → ResumesTaken manner taken well.before.streams mid outcome → Resumed p manner (ended_lines text) at input status written
-    log_resumed manner at text can (Ok taken) is on = resumed_so manner (is_plain manner) refl (ended_lines text) at taken is.is on.end on.is on.answer
+    log_resumed manner at text can (Ok taken) is on = resumed_so manner (ended_lines text) at taken is.is on.end on.is on.answer
     log_resumed manner at text can (Err fault) is on =
         absurd (not_wanting (subst (λ (f : ResumeFault). IsUntakenTold f outcome) (is.can can) on.0))
 
@@ -223,7 +192,8 @@ module _ (content : List ℕ → Result (List ℕ) CommandFault) (words : List (
       (subst (λ (m : Manner). RunsResume (Shelf content) m chosen.at (pair_in chosen) (file_at chosen 2) [] well.before.streams follows.outcome well.after.texts follows.mid) (same_manner words chosen are.chosen)
       (subst (λ (asked : List (List ℕ)). RunsResume (Shelf content) (manner_in chosen) chosen.at (pair_in chosen) (file_at chosen 2) asked well.before.streams follows.outcome well.after.texts follows.mid) well.unasked runs)))) in
       let ends : Ends follows.outcome follows.mid.output well.after.streams.output well.before.errors well.after.errors status =
-      subst (λ (n : CommandName). EndsBy (draws n chosen.svg) follows.outcome follows.mid.output well.after.streams.output well.before.errors well.after.errors status) name follows.ends in
+      subst (λ (n : CommandName). EndsBy (draws n chosen.svg) follows.outcome follows.mid.output well.after.streams.output well.before.errors well.after.errors status) name
+      (own_ends chosen follows.outcome _ _ _ _ follows.own status well.log no_log follows.status_is follows.ends) in
       elim (good_resume content pair p good (manner_of words) (moment_given words) well.before.streams follows.mid log text follows.outcome well.after.texts shaped came resume) [
         | inl resumes ↦ log_resumed follows.mid follows.outcome follows.input ends (manner_of words) (moment_given words) text can resumes.1.0 resumes.1.1 resumes.1.2
         | inr none ↦ absurd (not_wanting follows.mid follows.outcome follows.input ends none.0)
@@ -234,25 +204,14 @@ module _ (content : List ℕ → Result (List ℕ) CommandFault) (words : List (
 
 -- ---- two runs
 
-one_resumed_by : (plain : Bool) (manner : Manner) (p : PlannedShop) (lines : List (List ℕ)) (at : Option ℕ) (taken other : TakenUp) (input text other_text : List ℕ) (end last : DrivenCell)
-    → IsTakenUp p lines at taken → IsTakenUp p lines at other → IsResumedBy plain manner p taken input text end → IsResumedBy plain manner p other input other_text last → (other_text ≡ text) × (last ≡ end)
-one_resumed_by true manner p lines at taken other input text other_text end last up also is is_too = one_text_from_a_log p lines at taken other input text other_text end last up also is is_too
-one_resumed_by false manner p lines at taken other input text other_text end last up also is is_too = one_stated_text_from_a_log p manner lines at taken other input text other_text end last up also is is_too
-
 pub resume_writes_the_same : ResumeWritesTheSame
 resume_writes_the_same content words pair log text p input status other_status written other ask good shaped came can few well also =
     let manner = manner_of words in
     let one = follows_resumed content words p input few status written well pair log text well.run.read ask good shaped came can well.run.is well.run.follows in
     let two = follows_resumed content words p input few other_status other also pair log text also.run.read ask good shaped came can also.run.is also.run.follows in
-    let same = one_resumed_by (is_plain manner) manner p (ended_lines text) (moment_given words) one.taken two.taken input written other one.state two.state one.up two.up one.is_text two.is_text in
+    let same = one_text_from_a_log p manner (ended_lines text) (moment_given words) one.taken two.taken input written other one.state two.state one.up two.up one.is_text two.is_text in
     let done : two.done ≡ one.done = same_done p one.state two.state one.done two.done one.last two.last one.left two.left one.so_far two.so_far same.1 in
     (two.own ∙ ap status_at done ∙ sym one.own, same.0)
-
--- behind a log without events
-begun_by : (plain : Bool) (manner : Manner) (p : PlannedShop) (lines : List (List ℕ)) (taken : TakenUp) (input text : List ℕ) (end : DrivenCell) → LinesTell p lines [] → IsTakenUp p lines None taken
-    → IsResumedBy plain manner p taken input text end → (answer : List ℕ) × IsTextBy plain manner p input answer end × (text ≡ 10 ∷ answer)
-begun_by true manner p lines taken input text end none up is = a_log_without_events_is_driven p lines taken input text end none up is
-begun_by false manner p lines taken input text end none up is = a_log_without_events_is_driven_so p manner lines taken input text end none up is
 
 one_manner : (words others : List (List ℕ)) → AskForOneManner words others → manner_of words ≡ manner_of others
 one_manner words others one =
@@ -274,10 +233,10 @@ resume_writes_as_drive content words others pair log text p input status other_s
     } in
     let one = follows_resumed content words p input few status written well pair log text well.run.read ask good shaped came can well.run.is well.run.follows in
     let up : IsTakenUp p (ended_lines text) None one.taken = subst (λ (a : Option ℕ). IsTakenUp p (ended_lines text) a one.taken) one_of.none_given one.up in
-    let (answer, is_text, whole) = begun_by (is_plain manner) manner p (ended_lines text) one.taken input written one.state none up one.is_text in
+    let (answer, is_text, whole) = a_log_without_events_is_driven p manner (ended_lines text) one.taken input written one.state none up one.is_text in
     let two : Wrote p manner input other_status other =
     subst (λ (m : Manner). Wrote p m input other_status other) (sym (one_manner words others one_of))
     (follows_wrote content others p input few other_status other also pair also.run.read ask_drive good shaped acceptable also.run.is also.run.follows) in
-    let same = one_text_by (is_plain manner) manner p input other answer two.state one.state shaped two.is_text is_text in
+    let same = one_answer_text p manner input other answer two.state one.state shaped two.is_text is_text in
     let done : one.done ≡ two.done = same_done p two.state one.state two.done one.done two.last one.last two.left one.left two.so_far one.so_far same.1 in
     (one.own ∙ ap status_at done ∙ sym two.own, whole ∙ ap (λ xs. 10 ∷ xs) same.0)

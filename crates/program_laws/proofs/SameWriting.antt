@@ -11,23 +11,22 @@ use Rattle.text_lines.specs.declared.limits.TheConstants.{MAX_INPUT}
 use Rattle.cell_tables.specs.Events.{events_of}
 use Rattle.plan_verifier.specs.Accepted.{VerifiedPlan, IsAcceptable}
 use Rattle.cell_drive.specs.declared.manner.Manner.{Manner}
-use Rattle.cell_drive.specs.declared.one_run.DriveEnd.{DriveEnd}
+use Rattle.cell_drive.specs.declared.begin.DriveEnd.{DriveEnd}
 use Rattle.byte_streams.specs.declared.drive_fault.DriveFault.{DriveFault}
 use Rattle.byte_streams.specs.declared.drive_fault.DriveFault.TheVariants.{Read as NotRead, Write as NotWritten, InputTooLong as TooLong, Memory as WantOfMemory}
 use Rattle.byte_streams.specs.declared.rooms.TheConstants.{MAX_PIECE}
 use Rattle.byte_streams.specs.Lines.{input_lines}
 use Rattle.byte_streams.specs.Streams.{IsStreamed}
 use Rattle.run_log.specs.Log.{Noted}
-use Rattle.cell_drive.specs.AnswerText.{DrivenCell, IsAnswerText}
-use Rattle.cell_drive.specs.OneCell.{DriveState, DriveAnswer, DriveCloses, drive_start, seen}
-use Rattle.cell_drive.specs.OneRun.{IsEndOf, IsSoFar, IsStreamedFrom}
-use Rattle.cell_drive.specs.Stated.{StatedAnswer, StatedCloses, IsStatedDrive, IsStatedText, stated_start}
-use Rattle.cell_drive.proofs.OneRun.{driven_text, seen_closes}
+use Rattle.cell_drive.specs.AnswerText.{DrivenCell}
+use Rattle.cell_drive.specs.Session.{SessionState, SessionAnswer, SessionCloses, IsEndOf, seen, session_start}
+use Rattle.cell_drive.specs.OneRun.{IsSoFar, IsStreamedFrom}
+use Rattle.cell_drive.specs.Stated.{IsStatedText}
+use Rattle.cell_drive.proofs.Sessions.{driven_text}
 use Rattle.cell_drive.proofs.OneText.{one_answer_text}
-use Rattle.cell_drive.proofs.OneStated.{one_stated_text, a_stated_cell_answers_so}
 use Rattle.command_words.specs.declared.words.Chosen.{Chosen}
 use Rattle.command_words.specs.declared.words.CommandName.{CommandName}
-use Rattle.command_words.specs.declared.words.CommandName.TheVariants.{Input, Facts, Shape, Check, Explain, Schedule, Bounds, Plan, Improve, Decide, Revise, Drive, Resume, Hub, Audit, Gantt}
+use Rattle.command_words.specs.declared.words.CommandName.TheVariants.{Input, Facts, Shape, Check, Explain, Schedule, Bounds, Margin, Plan, Improve, Decide, Revise, Drive, Resume, Hub, Digest, Audit, Gantt}
 use Rattle.command_words.specs.declared.words.Lines.{Lines}
 use Rattle.command_words.specs.declared.words.WordsFault.{WordsFault}
 use Rattle.command_words.specs.declared.words.WordsFault.TheVariants.{Usage, Memory as NoWordsMemory}
@@ -37,9 +36,10 @@ use Rattle.command_answers.specs.declared.command_fault.CommandFault.{CommandFau
 use Rattle.command_answers.specs.declared.command_fault.CommandFault.TheVariants.{Write, Memory}
 use Rattle.command_answers.specs.Commands.{PairOfFiles}
 use Rattle.command_run.specs.Streams.{Streams, Output, Errors}
-use Rattle.command_run.specs.Drives.{IsEnded, IsEndAnswer, DrivesBy, DrivesCell, is_plain, status_at, end_of_drive}
+use Rattle.command_run.specs.Drives.{IsEnded, IsEndAnswer, IsDriveIn, DrivesCell, status_at, end_of_drive}
 use Rattle.command_run.specs.Ending.{IsTold, IsPrinted, IsToldAfter, Ends, EndsBy}
-use Rattle.command_run.specs.Program.{AreWordsRead, RunsDrive, RunsCommand, RunsChosen, Follows, draws, is_second, keeps_log, kept_log_in, log_kept_by, manner_in, pair_in}
+use Rattle.command_run.specs.Logs.{LogEnd}
+use Rattle.command_run.specs.Program.{AreWordsRead, RunsDrive, RunsCommand, RunsChosen, Follows, draws, draws_in, is_second, keeps_log, kept_log_in, log_kept_by, manner_in, pair_in, status_by}
 use Rattle.command_run.specs.Laws.{Shelf, TellPlan, AskForDrive, RunsWell}
 use Rattle.program_laws.specs.ToldLaw.{manner_of}
 use Rattle.program_laws.proofs.GoodFiles.{good_drive}
@@ -67,12 +67,14 @@ is_drive Check word = (let differ : 99 ≡ 100 = ap first word in absurd (omega 
 is_drive Explain word = (let differ : 101 ≡ 100 = ap first word in absurd (omega (arith, differ)))
 is_drive Schedule word = (let differ : 115 ≡ 100 = ap first word in absurd (omega (arith, differ)))
 is_drive Bounds word = (let differ : 98 ≡ 100 = ap first word in absurd (omega (arith, differ)))
+is_drive Margin word = (let differ : 109 ≡ 100 = ap first word in absurd (omega (arith, differ)))
 is_drive Plan word = (let differ : 112 ≡ 100 = ap first word in absurd (omega (arith, differ)))
 is_drive Improve word = (let differ : 105 ≡ 100 = ap first word in absurd (omega (arith, differ)))
 is_drive Revise word = (let differ : 114 ≡ 100 = ap first word in absurd (omega (arith, differ)))
 is_drive Decide word = (let differ : 101 ≡ 114 = ap second word in absurd (omega (arith, differ)))
 is_drive Resume word = (let differ : 114 ≡ 100 = ap first word in absurd (omega (arith, differ)))
 is_drive Hub word = (let differ : 104 ≡ 100 = ap first word in absurd (omega (arith, differ)))
+is_drive Digest word = (let differ : 105 ≡ 114 = ap second word in absurd (omega (arith, differ)))
 is_drive Audit word = (let differ : 97 ≡ 100 = ap first word in absurd (omega (arith, differ)))
 is_drive Gantt word = (let differ : 103 ≡ 100 = ap first word in absurd (omega (arith, differ)))
 
@@ -121,6 +123,13 @@ written_is before mid after start written text more from to first second none =
 
 -- ---- how it ends
 
+-- a command that keeps no log ends with its own status
+pub own_ends : (chosen : Chosen) (outcome : Result Answer CommandFault) (before after : Output) (told_before told_after : Errors) (own status : ℕ) (log : Option LogEnd) → kept_log_in chosen ≡ None
+    → status ≡ status_by (kept_log_in chosen) log outcome own → EndsBy (draws_in chosen) outcome before after told_before told_after own → EndsBy (draws_in chosen) outcome before after told_before told_after status
+own_ends chosen outcome before after told_before told_after own status log none is ends =
+    let same : status ≡ own = subst (λ (kept : Option (List ℕ)). status ≡ status_by kept log outcome own) none is in
+    subst (λ (n : ℕ). EndsBy (draws_in chosen) outcome before after told_before told_after n) (sym same) ends
+
 pub memory_status : (before after : Errors) (status : ℕ) → IsTold Memory before after status → status ≡ 4
 memory_status before after status (inl out) = out.own
 memory_status before after status (inr (text, out)) = absurd text
@@ -145,33 +154,15 @@ ended_as done (Ok answer) before after told_before told_after status unfailed is
     (printed.0 ∙ is.1, (answer.text.items, is.0, printed.1))
 ended_as done (Err fault) before after told_before told_after status unfailed is ends = absurd is
 
--- what a good run of `drive` wrote: the answer text of its input, as ever or in this manner
-abbrev pub IsTextBy : Bool → Manner → PlannedShop → List ℕ → List ℕ → DrivenCell → Type 0
-IsTextBy true manner p input text end = IsAnswerText p input text end
-IsTextBy false manner p input text end = IsStatedText p manner input text end
-
+-- what a good run of `drive` wrote: the answer text of its input in this manner
 pub record Wrote (p : PlannedShop) (manner : Manner) (input : List ℕ) (status : ℕ) (written : List ℕ) : Type 0 where
   pub state : DrivenCell
   pub done : Bool
   pub last : ℕ
   pub left : ℕ
-  pub is_text : IsTextBy (is_plain manner) manner p input written state
+  pub is_text : IsStatedText p manner input written state
   pub so_far : IsSoFar p state.entries done last left
   pub own : status ≡ status_at done
-
--- what was written in a manner is the answer text of what was read
-stated_text : (v : VerifiedPlan) (manner : Manner) (end : DriveEnd) (before after : Streams) (is : IsStatedDrive v manner before after (Ok end))
-    → IsStatedText v.planned manner is.streamed.input (is.streamed.comes_to.text ++ is.streamed.comes_to.closing) (seen is.end.driven)
-stated_text v manner end before after is =
-    let all = is.streamed.comes_to in
-    let answers = a_stated_cell_answers_so (stated_start manner v) is.end 1 (input_lines is.streamed.input) all.text all.are_answers in
-    record {
-      answers = all.text;
-      are_answers = answers.0;
-      closing = all.closing;
-      is_closing = seen_closes v.planned is.end.driven all.closing (ap (λ (w : VerifiedPlan). w.planned) answers.1) all.is_closing;
-      whole = refl;
-    }
 
 module _ (content : List ℕ → Result (List ℕ) CommandFault) (words : List (List ℕ)) (p : PlannedShop) (input : List ℕ) (few : length input ≤ MAX_INPUT)
     (status : ℕ) (written : List ℕ) (well : RunsWell content words input status written) where
@@ -199,53 +190,33 @@ module _ (content : List ℕ → Result (List ℕ) CommandFault) (words : List (
         absurd (omega (arith, less, few, is.comes_to.0))
     never_broke WantOfMemory is answer = absurd (well.no_want (memory_ends outcome mid.output well.after.streams.output well.before.errors well.after.errors status answer ends))
 
-  so_far_of : (v : VerifiedPlan) (state : DriveState) (end : DriveEnd) → v.planned ≡ p → IsEndOf v state end → IsSoFar p state.log.entries end.done end.last end.left
+  so_far_of : (v : VerifiedPlan) (state : SessionState) (end : DriveEnd) → v.planned ≡ p → IsEndOf v state end → IsSoFar p state.log.entries end.done end.last end.left
   so_far_of v state end same is =
       subst (λ q. IsSoFar q state.log.entries end.done end.last end.left) same (subst (λ (l : Noted). IsSoFar v.planned l.entries end.done end.last end.left) is.log is.so_far)
 
-  -- as ever, or in a manner
-  drive_wrote : (manner : Manner) (plain : Bool) → is_plain manner ≡ plain → (v : VerifiedPlan) (mid : Streams) (outcome : Result Answer CommandFault) (end : Result DriveEnd DriveFault) → v.planned ≡ p
-      → DrivesBy plain manner v well.before.streams mid end → IsEndAnswer (end_of_drive end) outcome → well.after.streams.input ≡ mid.input
+  drive_wrote : (manner : Manner) (v : VerifiedPlan) (mid : Streams) (outcome : Result Answer CommandFault) (end : Result DriveEnd DriveFault) → v.planned ≡ p
+      → IsDriveIn manner v well.before.streams mid end → IsEndAnswer (end_of_drive end) outcome → well.after.streams.input ≡ mid.input
       → Ends outcome mid.output well.after.streams.output well.before.errors well.after.errors status → Wrote p manner input status written
-  drive_wrote manner true plain v mid outcome (Ok end) same is answer same_input ends =
+  drive_wrote manner v mid outcome (Ok end) same is answer same_input ends =
       let all = is.streamed.comes_to in
       let whole : List ℕ = all.text ++ all.closing in
-      let ended = ended_well DriveAnswer DriveCloses (drive_start v) is.end mid outcome same_input ends end is.streamed answer in
-      let answered : IsAnswerText p is.streamed.input whole (seen is.end) = subst (λ q. IsAnswerText q is.streamed.input whole (seen is.end)) same (driven_text v end well.before.streams mid is) in
+      let ended = ended_well SessionAnswer SessionCloses (session_start manner v) is.end mid outcome same_input ends end is.streamed answer in
+      let answered : IsStatedText p manner is.streamed.input whole (seen is.end) = subst (λ q. IsStatedText q manner is.streamed.input whole (seen is.end)) same (driven_text v manner end well.before.streams mid is) in
       record {
         state = seen is.end;
         done = end.done;
         last = end.last;
         left = end.left;
-        is_text = subst (λ (b : Bool). IsTextBy b manner p input written (seen is.end)) (sym plain)
-            (subst (λ xs. IsAnswerText p input xs (seen is.end)) (sym ended.1) (subst (λ xs. IsAnswerText p xs whole (seen is.end)) ended.0 answered));
+        is_text = subst (λ xs. IsStatedText p manner input xs (seen is.end)) (sym ended.1) (subst (λ xs. IsStatedText p manner xs whole (seen is.end)) ended.0 answered);
         so_far = so_far_of v is.end end same is.came_to;
         own = ended.2;
       }
-  drive_wrote manner false plain v mid outcome (Ok end) same is answer same_input ends =
-      let all = is.streamed.comes_to in
-      let whole : List ℕ = all.text ++ all.closing in
-      let ended = ended_well StatedAnswer StatedCloses (stated_start manner v) is.end mid outcome same_input ends end is.streamed answer in
-      let answered : IsStatedText p manner is.streamed.input whole (seen is.end.driven) =
-      subst (λ q. IsStatedText q manner is.streamed.input whole (seen is.end.driven)) same (stated_text v manner end well.before.streams mid is) in
-      record {
-        state = seen is.end.driven;
-        done = end.done;
-        last = end.last;
-        left = end.left;
-        is_text = subst (λ (b : Bool). IsTextBy b manner p input written (seen is.end.driven)) (sym plain)
-            (subst (λ xs. IsStatedText p manner input xs (seen is.end.driven)) (sym ended.1) (subst (λ xs. IsStatedText p manner xs whole (seen is.end.driven)) ended.0 answered));
-        so_far = so_far_of v is.end.driven end same is.came_to;
-        own = ended.2;
-      }
-  drive_wrote manner true plain v mid outcome (Err fault) same is answer same_input ends =
-      absurd (never_broke DriveAnswer DriveCloses (drive_start v) is.end mid outcome same_input ends fault is.streamed answer)
-  drive_wrote manner false plain v mid outcome (Err fault) same is answer same_input ends =
-      absurd (never_broke StatedAnswer StatedCloses (stated_start manner v) is.end mid outcome same_input ends fault is.streamed answer)
+  drive_wrote manner v mid outcome (Err fault) same is answer same_input ends =
+      absurd (never_broke SessionAnswer SessionCloses (session_start manner v) is.end mid outcome same_input ends fault is.streamed answer)
 
   cell_wrote : (manner : Manner) (mid : Streams) (outcome : Result Answer CommandFault) → ((v : VerifiedPlan) × (v.planned ≡ p) × DrivesCell manner v well.before.streams mid outcome) ⊎ (outcome ≡ Err Memory)
       → well.after.streams.input ≡ mid.input → Ends outcome mid.output well.after.streams.output well.before.errors well.after.errors status → Wrote p manner input status written
-  cell_wrote manner mid outcome (inl (v, same, cell)) same_input ends = drive_wrote manner (is_plain manner) refl v mid outcome cell.end same cell.is cell.answer same_input ends
+  cell_wrote manner mid outcome (inl (v, same, cell)) same_input ends = drive_wrote manner v mid outcome cell.end same cell.is cell.answer same_input ends
   cell_wrote manner mid outcome (inr none) same_input ends =
       absurd (well.no_want (memory_ends outcome mid.output well.after.streams.output well.before.errors well.after.errors status none ends))
 
@@ -263,7 +234,8 @@ module _ (content : List ℕ → Result (List ℕ) CommandFault) (words : List (
       (subst (λ (m : Manner). RunsDrive (Shelf content) m (pair_in chosen) [] well.before.streams follows.outcome well.after.texts follows.mid) (same_manner words chosen are.chosen)
       (subst (λ (asked : List (List ℕ)). RunsDrive (Shelf content) (manner_in chosen) (pair_in chosen) asked well.before.streams follows.outcome well.after.texts follows.mid) well.unasked runs)) in
       cell_wrote manner follows.mid follows.outcome (driven_or_not (good_drive content pair p good manner well.before.streams follows.mid follows.outcome well.after.texts shaped acceptable drive)) follows.input
-      (subst (λ (n : CommandName). EndsBy (draws n chosen.svg) follows.outcome follows.mid.output well.after.streams.output well.before.errors well.after.errors status) name follows.ends)
+      (subst (λ (n : CommandName). EndsBy (draws n chosen.svg) follows.outcome follows.mid.output well.after.streams.output well.before.errors well.after.errors status) name
+      (own_ends chosen follows.outcome _ _ _ _ follows.own status well.log (no_log words pair chosen ask are.chosen) follows.status_is follows.ends))
   follows_wrote pair (Err (Usage help text)) ask good shaped acceptable are follows =
       absurd (let told = subst (λ kinds. TellsOneOf kinds (Usage help text)) ask.taken are.refused in told.1)
   follows_wrote pair (Err NoWordsMemory) ask good shaped acceptable are follows = absurd (well.no_want (memory_status well.before.errors well.after.errors status follows.0.1))
@@ -276,11 +248,6 @@ same_truth true false there back = absurd (let bad : false ≡ true = there refl
 same_truth false true there back = absurd (let bad : false ≡ true = back refl in cc bad)
 same_truth false false there back = refl
 
-pub one_text_by : (plain : Bool) (manner : Manner) (p : PlannedShop) (input text other : List ℕ) (end last : DrivenCell) → IsWellShaped p → IsTextBy plain manner p input text end → IsTextBy plain manner p input other last
-    → (other ≡ text) × (last ≡ end)
-one_text_by true manner p input text other end last shaped is also = one_answer_text p input text other end last shaped is also
-one_text_by false manner p input text other end last shaped is also = one_stated_text p manner input text other end last shaped is also
-
 -- the same events have come as far
 pub same_done : (p : PlannedShop) (one two : DrivenCell) (done also : Bool) (last last_too left left_too : ℕ) → IsSoFar p one.entries done last left → IsSoFar p two.entries also last_too left_too → two ≡ one → also ≡ done
 same_done p one two done also last last_too left left_too so_far so_far_too same =
@@ -291,7 +258,7 @@ same_done p one two done also last last_too left left_too so_far so_far_too same
 wrote_the_same : (p : PlannedShop) (manner : Manner) (input : List ℕ) (status other_status : ℕ) (written other : List ℕ) → IsWellShaped p → Wrote p manner input status written → Wrote p manner input other_status other
     → (other_status ≡ status) × (other ≡ written)
 wrote_the_same p manner input status other_status written other shaped one two =
-    let same = one_text_by (is_plain manner) manner p input written other _ _ shaped one.is_text two.is_text in
+    let same = one_answer_text p manner input written other _ _ shaped one.is_text two.is_text in
     let done : two.done ≡ one.done = same_done p one.state two.state one.done two.done one.last two.last one.left two.left one.so_far two.so_far same.1 in
     (two.own ∙ ap status_at done ∙ sym one.own, same.0)
 

@@ -7,19 +7,18 @@ use Rattle.text_lines.specs.Lines.{ended_lines}
 use Rattle.cell_tables.specs.declared.entry.Entry.{Entry}
 use Rattle.cell_drive.specs.declared.manner.Manner.{Manner}
 use Rattle.cell_drive.specs.AnswerText.{DrivenCell}
-use Rattle.cell_drive.specs.InManner.{is_plain}
-use Rattle.cell_drive.specs.Retold.{retold_lines}
+use Rattle.cell_drive.specs.Retold.{retold_lines, retold_text}
 use Rattle.cell_drive.specs.TakenUp.{TakenUp, IsTakenUp, plan_of}
-use Rattle.cell_drive.specs.ToldLines.{told_lines}
 use Rattle.drive_laws.proofs.OneTaking.{one_taking_up}
-use Rattle.run_journal.specs.Folders.{NamedLog, held}
+use Rattle.event_lines.specs.RunDigits.{plan_line}
+use Rattle.run_journal.specs.Folders.{Folder, NamedLog, held}
 use Rattle.run_journal.specs.WholeLines.{whole_lines}
 use Rattle.command_words.specs.Choice.{IsChoiceOf, found_in, rows_found, kept_in}
 use Rattle.command_words.specs.declared.words.Chosen.{Chosen}
 use Rattle.command_answers.specs.declared.command_fault.CommandFault.{CommandFault}
 use Rattle.command_answers.specs.Commands.{PairOfFiles, Shapes}
 use Rattle.command_answers.specs.Shapes.{IsShapedOrNot}
-use Rattle.command_run.specs.Logs.{IsToldOf, IsToldOfOld, told_by, told_in_manner}
+use Rattle.command_run.specs.Logs.{IsToldOf, IsToldOfOld, digits_in}
 use Rattle.command_run.specs.Program.{keeps_log, kept_log_in, log_kept_by, manner_in, pair_in}
 use Rattle.command_run.specs.Laws.{Shelf}
 use Rattle.program_laws.specs.ResumeLaw.{moment_given}
@@ -33,7 +32,7 @@ kept_some : (keeps : Bool) (log : Option (List ℕ)) (path : List ℕ) → log_k
 kept_some true log path is = is
 kept_some false log path is = absurd (cc is)
 
-asked_path : (words : List (List ℕ)) (chosen : Chosen) (path : List ℕ) → IsChoiceOf words (found_in words) chosen → kept_log_in chosen ≡ Some path → kept_in (rows_found (found_in words)) ≡ Some path
+pub asked_path : (words : List (List ℕ)) (chosen : Chosen) (path : List ℕ) → IsChoiceOf words (found_in words) chosen → kept_log_in chosen ≡ Some path → kept_in (rows_found (found_in words)) ≡ Some path
 asked_path words chosen path choice kept = sym choice.log ∙ kept_some (keeps_log chosen.name) (option_map string_bytes chosen.log) path kept
 
 asked_pair : (words : List (List ℕ)) (pair : PairOfFiles) (log : List ℕ) (chosen : Chosen) → AskForLog words pair log → IsChoiceOf words (found_in words) chosen → pair_in chosen ≡ pair
@@ -45,47 +44,44 @@ asked_pair words pair log chosen ask is =
 
 -- ---- a new log
 
-new_told : (folder : Option (List NamedLog)) (logs : List NamedLog) (taken : Option (List ℕ)) (start : List ℕ) (p : PlannedShop) (manner : Manner) (at : Option ℕ) (bytes : Option (List ℕ))
-    → folder ≡ Some logs → taken ≡ Some start → IfSome bytes (λ l. l ≡ []) → IsToldOf folder p manner at bytes taken ([], start)
-new_told folder logs taken start p manner at None there output none = record { logs = logs; there = there; log = refl; output = output }
-new_told folder logs taken start p manner at (Some []) there output none = record { logs = logs; there = there; log = refl; output = output }
-new_told folder logs taken start p manner at (Some (byte ∷ bytes)) there output none = absurd (cc none)
+new_told : (folder : Folder) (logs : List NamedLog) (taken : Option (List ℕ)) (start line : List ℕ) (p : PlannedShop) (manner : Manner) (at : Option ℕ) (bytes : Option (List ℕ))
+    → folder.logs ≡ Some logs → taken ≡ Some start → line ≡ plan_line (digits_in p) → IfSome bytes (λ l. l ≡ []) → IsToldOf folder p manner at bytes taken (line, start)
+new_told folder logs taken start line p manner at None there output is none = record { logs = logs; there = there; log = is; output = output }
+new_told folder logs taken start line p manner at (Some []) there output is none = record { logs = logs; there = there; log = is; output = output }
+new_told folder logs taken start line p manner at (Some (byte ∷ bytes)) there output is none = absurd (cc none)
 
 pub new_log_can_be_told : {W : Type 0} (gives : W → List ℕ → Result (List ℕ) CommandFault → W → Type 0) → NewLogCanBeTold gives
-new_log_can_be_told gives words before logs start there output none chosen choice path kept p mid shapes = record {
+new_log_can_be_told gives words before logs start digits there output none are chosen choice path kept p mid shapes = record {
   logs = logs;
   there = there;
-  is = new_told before.folder logs before.streams.output.taken start p (manner_in chosen) chosen.at (held logs path) there output (none path (asked_path words chosen path choice kept));
+  is = new_told before.folder logs before.streams.output.taken start (plan_line digits) p (manner_in chosen) chosen.at (held logs path) there output (ap plan_line (sym (are chosen p mid choice shapes)))
+      (none path (asked_path words chosen path choice kept));
 }
 
 -- ---- a log with bytes
 
 -- what is told again of a log that was taken up is one text
-same_told : (plain : Bool) (manner : Manner) (p : PlannedShop) (lines : List (List ℕ)) (at : Option ℕ) (taken other : TakenUp) → IsTakenUp p lines at taken → IsTakenUp p lines at other
-    → told_by plain manner other ≡ told_by plain manner taken
-same_told true manner p lines at taken other up also =
-    let one = one_taking_up p lines at taken other up also in
-    ap₂ (λ (es : List Entry) (fs : List Bool). told_lines (take (length fs) es) fs) (ap (λ (d : DrivenCell). d.entries) one.0) one.1
-same_told false manner p lines at taken other up also =
+same_told : (manner : Manner) (p : PlannedShop) (lines : List (List ℕ)) (at : Option ℕ) (taken other : TakenUp) → IsTakenUp p lines at taken → IsTakenUp p lines at other → retold_text manner other ≡ retold_text manner taken
+same_told manner p lines at taken other up also =
     let one = one_taking_up p lines at taken other up also in
     let of : PlannedShop → List Entry → List Bool → List ℕ = λ q es fs. retold_lines q manner (start q) (take (length fs) es) fs in
     ap₂ (λ (es : List Entry) (fs : List Bool). of (plan_of other) es fs) (ap (λ (d : DrivenCell). d.entries) one.0) one.1
-    ∙ ap (λ (q : PlannedShop). of q taken.driven.log.entries taken.late) (also.taken_from.planned ∙ sym up.taken_from.planned)
+    ∙ ap (λ (q : PlannedShop). of q taken.log.entries taken.late) (also.taken_from.planned ∙ sym up.taken_from.planned)
 
 pub old_log_can_be_told : OldLogCanBeTold
-old_log_can_be_told content words pair log byte bytes p taken before logs start ask tell unasked there output has up chosen choice path kept q mid shapes =
+old_log_can_be_told content words pair log byte bytes named p taken before logs start ask tell unasked there output has up is_named chosen choice path kept q mid shapes =
     let base : List ℕ = byte ∷ bytes in
     let manner : Manner = manner_of words in
     let at : Option ℕ = moment_given words in
-    let told : List ℕ × List ℕ = (whole_lines base, start ++ told_in_manner manner taken) in
+    let told : List ℕ × List ℕ = (named, start ++ retold_text manner taken) in
     let here : path ≡ log = (let both : Some path ≡ Some log = sym (asked_path words chosen path choice kept) ∙ ask.kept in cc both) in
     let shapes_pair : Shapes (Shelf content) pair [] (Ok (Ok q)) mid =
     subst (λ (r : PairOfFiles). Shapes (Shelf content) r [] (Ok (Ok q)) mid) (asked_pair words pair log chosen ask choice)
     (subst (λ (asked : List (List ℕ)). Shapes (Shelf content) (pair_in chosen) asked (Ok (Ok q)) mid) unasked shapes) in
     let same : q ≡ p = (good_plan content pair p tell IsShapedOrNot (Ok (Ok q)) mid shapes_pair).0.0 in
     let old : IsToldOfOld p manner at base before.streams.output.taken told = record {
-      log = refl;
-      output = λ other also. record { start = start; was = output; is = ap (λ (text : List ℕ). start ++ text) (sym (same_told (is_plain manner) manner p (ended_lines (whole_lines base)) at taken other up also)) };
+      log = is_named;
+      output = λ other also. record { start = start; was = output; is = ap (λ (text : List ℕ). start ++ text) (sym (same_told manner p (ended_lines (whole_lines base)) at taken other up also)) };
     } in
     let chosen_so : IsToldOfOld q (manner_in chosen) chosen.at base before.streams.output.taken told =
     subst (λ (r : PlannedShop). IsToldOfOld r (manner_in chosen) chosen.at base before.streams.output.taken told) (sym same)

@@ -2,3 +2,4 @@
 pub mod ResumeLaw
 pub mod ToldLaw
 pub mod OneLogLaw
+pub mod PlanLaw

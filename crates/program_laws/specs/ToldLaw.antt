@@ -1,17 +1,22 @@
 -- The law that what `run` asks of the telling of a log can be met.
-use Rattle.std.specs.Prelude.{◌≡◌, ℕ, List, [], ◌∷◌, ◌++◌, get_or, unwrap_or, Some, IfSome, Result}
+use Rattle.std.specs.Prelude.{◌≡◌, ℕ, List, [], ◌∷◌, ◌++◌, get_or, unwrap_or, Some, IfSome, Result, Ok}
 use Rattle.shop_base.specs.Plan.{PlannedShop}
 use Rattle.text_lines.specs.Lines.{ended_lines}
 use Rattle.cell_drive.specs.declared.manner.Manner.{Manner}
 use Rattle.cell_drive.specs.TakenUp.{TakenUp, IsTakenUp}
+use Rattle.event_lines.specs.RunDigits.{plan_line}
+use Rattle.event_lines.specs.declared.run_digits.RunDigits.{RunDigits}
 use Rattle.run_journal.specs.Folders.{NamedLog, held}
+use Rattle.run_journal.specs.LogRuns.{IsNamedFor}
 use Rattle.run_journal.specs.WholeLines.{whole_lines}
-use Rattle.command_words.specs.Choice.{rows_found, files_in, instance_in, kept_in, lines_in, leap_in, found_in}
+use Rattle.command_words.specs.declared.words.Chosen.{Chosen}
+use Rattle.command_words.specs.Choice.{IsChoiceOf, rows_found, files_in, instance_in, kept_in, lines_in, leap_in, found_in}
 use Rattle.command_answers.specs.declared.command_fault.CommandFault.{CommandFault}
-use Rattle.command_answers.specs.Commands.{PairOfFiles}
+use Rattle.command_answers.specs.Commands.{PairOfFiles, Shapes}
 use Rattle.command_run.specs.Streams.{Devices}
-use Rattle.command_run.specs.Logs.{told_in_manner}
-use Rattle.command_run.specs.Program.{IsToldOfWords, is_second}
+use Rattle.cell_drive.specs.Retold.{retold_text}
+use Rattle.command_run.specs.Logs.{digits_in}
+use Rattle.command_run.specs.Program.{IsToldOfWords, is_second, pair_in}
 use Rattle.command_run.specs.Laws.{Shelf, TellPlan}
 use Rattle.program_laws.specs.ResumeLaw.{moment_given}
 
@@ -19,10 +24,15 @@ use Rattle.program_laws.specs.ResumeLaw.{moment_given}
 abbrev pub manner_of : List (List ℕ) → Manner
 manner_of words = record { tells = is_second (lines_in (rows_found (found_in words))); longest = leap_in (rows_found (found_in words)); from = unwrap_or (moment_given words) 0 }
 
--- of a log that isn't there, or has no bytes, it is told that it has none, and of the output what it has taken
+-- each plan that the files which the words name may tell has these digits, with its shop
+abbrev pub AreDigitsOfPlan : {W : Type 0} → (W → List ℕ → Result (List ℕ) CommandFault → W → Type 0) → List (List ℕ) → W → RunDigits → Type 0
+AreDigitsOfPlan {W} gives words texts digits = (chosen : Chosen) (p : PlannedShop) (mid : W) → IsChoiceOf words (found_in words) chosen → Shapes gives (pair_in chosen) texts (Ok (Ok p)) mid → digits_in p ≡ digits
+
+-- of a log that isn't there, or has no bytes, it is told that it has the line of the plan, and of the output what it has taken
 abbrev pub NewLogCanBeTold : {W : Type 0} → (W → List ℕ → Result (List ℕ) CommandFault → W → Type 0) → Type 0
-NewLogCanBeTold {W} gives = (words : List (List ℕ)) (before : Devices W) (logs : List NamedLog) (start : List ℕ) → before.folder ≡ Some logs → before.streams.output.taken ≡ Some start
-    → ((path : List ℕ) → kept_in (rows_found (found_in words)) ≡ Some path → IfSome (held logs path) (λ bytes. bytes ≡ [])) → IsToldOfWords gives words before ([], start)
+NewLogCanBeTold {W} gives = (words : List (List ℕ)) (before : Devices W) (logs : List NamedLog) (start : List ℕ) (digits : RunDigits) → before.folder.logs ≡ Some logs → before.streams.output.taken ≡ Some start
+    → ((path : List ℕ) → kept_in (rows_found (found_in words)) ≡ Some path → IfSome (held logs path) (λ bytes. bytes ≡ [])) → AreDigitsOfPlan gives words before.texts digits
+    → IsToldOfWords gives words before (plan_line digits, start)
 
 -- the words ask for these files, and for this log of its own
 pub record AskForLog (words : List (List ℕ)) (pair : PairOfFiles) (log : List ℕ) : Type 0 where
@@ -31,10 +41,10 @@ pub record AskForLog (words : List (List ℕ)) (pair : PairOfFiles) (log : List 
   pub name : pair.name ≡ instance_in (rows_found (found_in words))
   pub plan : pair.plan ≡ get_or (files_in (rows_found (found_in words))) 1 []
 
--- of a log with bytes, from which the run is taken up by the plan that the files tell, its whole lines are told, and behind what the output has taken the events that are told again
+-- of a log with bytes, from which the run is taken up by the plan that the files tell, its whole lines are told, with the line of the plan behind them unless it is their last one; and behind what the output has taken the events that are told again
 abbrev pub OldLogCanBeTold : Type 0
-OldLogCanBeTold = (content : List ℕ → Result (List ℕ) CommandFault) (words : List (List ℕ)) (pair : PairOfFiles) (log : List ℕ) (byte : ℕ) (bytes : List ℕ) (p : PlannedShop) (taken : TakenUp)
+OldLogCanBeTold = (content : List ℕ → Result (List ℕ) CommandFault) (words : List (List ℕ)) (pair : PairOfFiles) (log : List ℕ) (byte : ℕ) (bytes base : List ℕ) (p : PlannedShop) (taken : TakenUp)
     (before : Devices (List (List ℕ))) (logs : List NamedLog) (start : List ℕ)
-    → AskForLog words pair log → TellPlan content pair p → before.texts ≡ [] → before.folder ≡ Some logs → before.streams.output.taken ≡ Some start → held logs log ≡ Some (byte ∷ bytes)
-    → IsTakenUp p (ended_lines (whole_lines (byte ∷ bytes))) (moment_given words) taken
-    → IsToldOfWords (Shelf content) words before (whole_lines (byte ∷ bytes), start ++ told_in_manner (manner_of words) taken)
+    → AskForLog words pair log → TellPlan content pair p → before.texts ≡ [] → before.folder.logs ≡ Some logs → before.streams.output.taken ≡ Some start → held logs log ≡ Some (byte ∷ bytes)
+    → IsTakenUp p (ended_lines (whole_lines (byte ∷ bytes))) (moment_given words) taken → IsNamedFor (digits_in p) (whole_lines (byte ∷ bytes)) base
+    → IsToldOfWords (Shelf content) words before (base, start ++ retold_text (manner_of words) taken)

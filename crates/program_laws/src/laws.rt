@@ -7,17 +7,18 @@
 // Nothing is done here, but that a law of another crate is called: a function's contract is the law, so a check of this crate
 // proves it.
 
-ghost use Rattle.command_run.specs.Laws.{FactsTellInstanceFirst, ShapeTellsInstanceFirst, CheckTellsInstanceFirst, ExplainTellsInstanceFirst, ScheduleTellsInstanceFirst, BoundsTellInstanceFirst};
-ghost use Rattle.command_run.specs.Laws.{LogTellsInstanceFirst, RestTellsInstanceFirst, PlanTellsInstanceFirst, ImproveTellsInstanceFirst, ImproveRestTellsInstanceFirst};
+ghost use Rattle.command_run.specs.Laws.{FactsTellInstanceFirst, ShapeTellsInstanceFirst, DigestTellsInstanceFirst, CheckTellsInstanceFirst, ExplainTellsInstanceFirst, ScheduleTellsInstanceFirst, BoundsTellInstanceFirst, MarginTellsInstanceFirst};
+ghost use Rattle.command_run.specs.Laws.{MovesTellInstanceFirst, RestMovesTellInstanceFirst, LogTellsInstanceFirst, RestTellsInstanceFirst, PlanTellsInstanceFirst, ImproveTellsInstanceFirst, ImproveRestTellsInstanceFirst};
 ghost use Rattle.command_run.specs.Laws.{DriveTellsInstanceFirst, ResumeTellsInstanceFirst, HubTellsInstanceFirst};
 ghost use Rattle.command_run.specs.Laws.{ScheduleDrawsInstanceFirst, RestDrawsInstanceFirst, LogDrawsInstanceFirst, ScheduleIsDrawn, RestIsDrawn, LogIsDrawn};
-ghost use Rattle.command_run.specs.Laws.{FactsAnswerShop, ShapeAnswersPlan, CheckAnswersPlan, ExplainAnswersPlan, ScheduleAnswersPlan, BoundsAnswerPlan, LogIsAnswered, RestIsAnswered};
+ghost use Rattle.command_run.specs.Laws.{FactsAnswerShop, ShapeAnswersPlan, DigestAnswersPlan, CheckAnswersPlan, ExplainAnswersPlan, ScheduleAnswersPlan, BoundsAnswerPlan, MarginAnswersPlan, MovesAnswerPlan, RestMovesAreAnswered, LogIsAnswered, RestIsAnswered};
 ghost use Rattle.command_run.specs.Laws.{PlanAnswersPlan, ImproveAnswersPlan, ImproveAnswersRest, DriveDrivesPlan, ResumeGoesOn};
 ghost use Rattle.command_run.specs.Laws.{HubDrivesPlans, InputAnswersShop};
 ghost use Rattle.command_run.specs.Laws.{DriveAnswersByCheck, ResumeAnswersUnshaped, ResumeAnswersByCheck, HubAnswersByCheck, DriveWritesTheSame};
 ghost use Rattle.command_run.specs.Laws.{WhatFailsIsTold, NothingIsHeldBack, WhatFailsIsNoAnswer};
 ghost use Rattle.program_laws.specs.ResumeLaw.{ResumeWritesTheSame, ResumeWritesAsDrive};
 ghost use Rattle.program_laws.specs.OneLogLaw.{ANewLogIsOfOneRun, ATakenUpLogIsOfOneRun};
+ghost use Rattle.program_laws.specs.PlanLaw.{NoOtherPlanDrives};
 ghost use Rattle.program_laws.specs.ToldLaw.{NewLogCanBeTold, OldLogCanBeTold};
 
 use command_answers::Texts;
@@ -29,10 +30,14 @@ use logged_drive::laws::{a_driven_run_is_taken_up, a_taken_up_run_is_taken_up};
 pub fn instance_first()
     ensures facts { FactsTellInstanceFirst }
     ensures shape { ShapeTellsInstanceFirst }
+    ensures digest { DigestTellsInstanceFirst }
     ensures check { CheckTellsInstanceFirst }
     ensures explain { ExplainTellsInstanceFirst }
     ensures schedule { ScheduleTellsInstanceFirst }
+    ensures moves { MovesTellInstanceFirst }
+    ensures rest_moves { RestMovesTellInstanceFirst }
     ensures bounds { BoundsTellInstanceFirst }
+    ensures margin { MarginTellsInstanceFirst }
     ensures log { LogTellsInstanceFirst }
     ensures rest { RestTellsInstanceFirst }
     ensures schedule_picture { ScheduleDrawsInstanceFirst }
@@ -56,10 +61,14 @@ pub fn instance_first()
 pub fn good_files_are_answered()
     ensures facts { FactsAnswerShop }
     ensures shape { ShapeAnswersPlan }
+    ensures digest { DigestAnswersPlan }
     ensures check { CheckAnswersPlan }
     ensures explain { ExplainAnswersPlan }
     ensures schedule { ScheduleAnswersPlan }
+    ensures moves { MovesAnswerPlan }
+    ensures rest_moves { RestMovesAreAnswered }
     ensures bounds { BoundsAnswerPlan }
+    ensures margin { MarginAnswersPlan }
     ensures log { LogIsAnswered }
     ensures rest { RestIsAnswered }
     ensures schedule_picture { ScheduleIsDrawn }
@@ -129,6 +138,13 @@ pub fn what_fails_is_no_answer<T: Texts>()
 pub fn what_run_asks_can_be_told<T: Texts>()
     ensures new_log { NewLogCanBeTold T.gives }
     ensures old_log { OldLogCanBeTold }
+{}
+
+/// Let the whole lines of a log name a plan last. By a plan with other digits no cell is driven with this log, unless the words
+/// ask for a hand-over. (By [`run_journal::laws::a_crash_keeps_the_plan`] what a crash leaves of a log that is driven names the
+/// same plan.)
+pub fn no_other_plan_drives<T: Texts>()
+    ensures { NoOtherPlanDrives T.gives }
 {}
 
 /// However often a crash cuts its log and the run is taken up from there, by its own plan and with no moment given, all its

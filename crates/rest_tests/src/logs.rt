@@ -2,6 +2,7 @@
 
 use super::rests::planned;
 use cell_tables::WorkCell;
+use people_names::Names;
 use plan_explain::explain_after;
 use plan_schedule::{drawn_run, schedule_after};
 use plan_verifier::{Judged, verify_after};
@@ -42,8 +43,9 @@ fn is_told(alloc: Global, cell: &WorkCell<Shaped>, present: Moment) -> Result<bo
         return Ok(false);
     }
     let verdict = verify_after(alloc, cell, present)?;
-    let explained = explain_after(alloc, cell, present, verdict.seen())?;
-    let scheduled = schedule_after(alloc, cell, present, verdict.seen())?;
+    let names = Names::none(alloc);
+    let explained = explain_after(alloc, &names, None, cell, present, verdict.seen())?;
+    let scheduled = schedule_after(alloc, &names, cell, present, verdict.seen())?;
     Ok(explained.as_slice() == EXPLAINED && scheduled.as_slice() == SCHEDULED)
 }
 

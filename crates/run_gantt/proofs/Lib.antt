@@ -6,3 +6,4 @@ pub mod Lines
 pub mod Showing
 pub mod FirstEntries
 pub mod Leavings
+pub mod MomentWords

@@ -5,6 +5,7 @@ use Rattle.std.specs.List.{range_with_len}
 use Rattle.std.proofs.lemmas.List.{map-id, flat_map_more}
 use Rattle.std.proofs.lemmas.List.FromFn.{map-range_with_len_more}
 use Rattle.cell_tables.specs.declared.entry.Entry.{Entry}
+use Rattle.people_names.specs.NameBooks.{NameBook}
 use Rattle.run_gantt.specs.declared.visit.Visit.{Visit}
 use Rattle.run_gantt.specs.Visits.{last_of, machine_visits}
 use Rattle.run_gantt.specs.GanttText.{scale_for, columns_for, visit_lines, machine_lines, row_lines, gantt_text}
@@ -34,17 +35,17 @@ same_lines f g (suc n) same =
     (sym one ∙ ap (λ (l : List ℕ). l ++ f n) before ∙ ap (λ (l : List ℕ). flat_map g (range_with_len 0 n) ++ l) (same n (omega arith)) ∙ other)
 
 -- the lines of the rows are those of the entries
-pub rows-drawn : (n scale columns : ℕ) (entries : List Entry) (rows : List (List Visit)) → rows ≡ machine_visits n entries
-    → flat_map (row_lines scale columns rows) (range_with_len 0 n) ≡ flat_map (machine_lines scale columns entries) (range_with_len 0 n)
-rows-drawn n scale columns entries rows is = same_lines (row_lines scale columns rows) (machine_lines scale columns entries) n λ m inside.
-    ap (visit_lines scale columns m) (ap (λ (l : List (List Visit)). get_or l m []) is ∙ machine_visits-at n m entries inside)
+pub rows-drawn : (names : NameBook) (n scale columns : ℕ) (entries : List Entry) (rows : List (List Visit)) → rows ≡ machine_visits n entries
+    → flat_map (row_lines names scale columns rows) (range_with_len 0 n) ≡ flat_map (machine_lines names scale columns entries) (range_with_len 0 n)
+rows-drawn names n scale columns entries rows is = same_lines (row_lines names scale columns rows) (machine_lines names scale columns entries) n λ m inside.
+    ap (visit_lines names scale columns m) (ap (λ (l : List (List Visit)). get_or l m []) is ∙ machine_visits-at n m entries inside)
 
 -- the scale and the lines of the rows are written one after another
-pub text-drawn : (n count last scale columns : ℕ) (entries : List Entry) (rows : List (List Visit)) (none one two three four : List ℕ)
+pub text-drawn : (names : NameBook) (n count last scale columns : ℕ) (entries : List Entry) (rows : List (List Visit)) (none one two three four : List ℕ)
     → count ≡ n → last ≡ last_of entries → scale ≡ scale_for last → columns ≡ columns_for last scale → rows ≡ machine_visits n entries
     → none ≡ [] → one ≡ none ++ codes "scale " → two ≡ one ++ decimal scale → three ≡ two ++ codes "\n"
-    → four ≡ three ++ flat_map (row_lines scale columns rows) (range_with_len 0 count) → four ≡ gantt_text n entries
-text-drawn n count last scale columns entries rows none one two three four is_count is_last is_scale is_columns is_rows is_none is_one is_two is_three is_four =
+    → four ≡ three ++ flat_map (row_lines names scale columns rows) (range_with_len 0 count) → four ≡ gantt_text names n entries
+text-drawn names n count last scale columns entries rows none one two three four is_count is_last is_scale is_columns is_rows is_none is_one is_two is_three is_four =
     let long : ℕ = scale_for (last_of entries) in
     rw (is_four, is_three, is_two, is_one, is_none, is_columns, is_scale, is_last, is_count)
-    (ap (λ (l : List ℕ). codes "scale " ++ decimal long ++ codes "\n" ++ l) (rows-drawn n long (columns_for (last_of entries) long) entries rows is_rows))
+    (ap (λ (l : List ℕ). codes "scale " ++ decimal long ++ codes "\n" ++ l) (rows-drawn names n long (columns_for (last_of entries) long) entries rows is_rows))

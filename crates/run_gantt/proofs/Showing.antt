@@ -2,6 +2,7 @@
 use Rattle.std.proofs.Common.{◌≡◌, ℕ, ◌+◌, ◌*◌, ◌<◌, List, [], ◌∷◌, ◌++◌, length, get_or, Option, None, Some, refl, sym, ap, subst, ◌∙◌, arith, append_assoc, append-nil}
 use Rattle.std.proofs.lemmas.List.Concat.{flat_map-cons}
 use Rattle.std.specs.Prelude.{flat_map}
+use Rattle.people_names.specs.NameBooks.{NameBook}
 use Rattle.run_gantt.specs.declared.visit.Visit.{Visit}
 use Rattle.run_gantt.specs.declared.visits.LinkedVisit.{LinkedVisit}
 use Rattle.std.specs.Option.{option_or}
@@ -16,10 +17,10 @@ above None = 0
 above (Some place) = place + 1
 
 -- of a machine's visits, those from the next on are still to be shown
-pub record AreLeft (table : List LinkedVisit) (next : Option ℕ) (visits : List Visit) (start now : List ℕ) (before after : List (Option ℕ)) (scale : ℕ) : Type 0 where
+pub record AreLeft (names : NameBook) (table : List LinkedVisit) (next : Option ℕ) (visits : List Visit) (start now : List ℕ) (before after : List (Option ℕ)) (scale : ℕ) : Type 0 where
   pub rest : List Visit
   pub chain : AreLinked table next rest
-  pub text : now ++ flat_map visit_word rest ≡ start ++ flat_map visit_word visits
+  pub text : now ++ flat_map (visit_word names) rest ≡ start ++ flat_map (visit_word names) visits
   pub bar : (c : ℕ) → c < 60 → option_or (get_or after c None) (first_of (sign_of (c * scale)) rest) ≡ option_or (get_or before c None) (first_of (sign_of (c * scale)) visits)
 
 -- a chain that goes on with this visit
@@ -44,7 +45,7 @@ goes_on table next place linked (visit ∷ visits) at is (other, first, within, 
       chain = subst (λ (l : LinkedVisit). AreLinked table l.next visits) found chain;
     }
 
-module _ (table : List LinkedVisit) (next : Option ℕ) (visits : List Visit) (start now : List ℕ) (before after : List (Option ℕ)) (scale : ℕ) (left : AreLeft table next visits start now before after scale) where
+module _ (names : NameBook) (table : List LinkedVisit) (next : Option ℕ) (visits : List Visit) (start now : List ℕ) (before after : List (Option ℕ)) (scale : ℕ) (left : AreLeft names table next visits start now before after scale) where
   -- the next place is one of the table
   pub left-within : (place : ℕ) → next ≡ Some place → place < length table
   left-within place at = (goes_on table next place (get_or table place no_visit) left.rest at refl left.chain).within
@@ -59,9 +60,9 @@ module _ (table : List LinkedVisit) (next : Option ℕ) (visits : List Visit) (s
 
   -- the next visit is shown
   pub left-fewer : (new : List ℕ) (shown : List (Option ℕ)) (place : ℕ) (linked : LinkedVisit) → next ≡ Some place → linked ≡ get_or table place no_visit
-      → new ≡ now ++ visit_word linked.visit
+      → new ≡ now ++ visit_word names linked.visit
       → ((c : ℕ) → c < 60 → get_or shown c None ≡ option_or (get_or after c None) (sign_of (c * scale) linked.visit))
-      → AreLeft table linked.next visits start new before shown scale
+      → AreLeft names table linked.next visits start new before shown scale
   left-fewer new shown place linked at is pushed is_shown =
       let on = goes_on table next place linked left.rest at is left.chain in
       let visit = linked.visit in
@@ -69,10 +70,10 @@ module _ (table : List LinkedVisit) (next : Option ℕ) (visits : List Visit) (s
         rest = on.rest;
         chain = on.chain;
         text =
-            ap (λ (l : List ℕ). l ++ flat_map visit_word on.rest) pushed
-            ∙ append_assoc now (visit_word visit) (flat_map visit_word on.rest)
-            ∙ ap (λ (l : List ℕ). now ++ l) (sym (flat_map-cons visit_word visit on.rest))
-            ∙ ap (λ (l : List Visit). now ++ flat_map visit_word l) (sym on.whole)
+            ap (λ (l : List ℕ). l ++ flat_map (visit_word names) on.rest) pushed
+            ∙ append_assoc now (visit_word names visit) (flat_map (visit_word names) on.rest)
+            ∙ ap (λ (l : List ℕ). now ++ l) (sym (flat_map-cons (visit_word names) visit on.rest))
+            ∙ ap (λ (l : List Visit). now ++ flat_map (visit_word names) l) (sym on.whole)
             ∙ left.text;
         bar = λ c inside.
             ap (λ (x : Option ℕ). option_or x (first_of (sign_of (c * scale)) on.rest)) (is_shown c inside)
@@ -85,10 +86,10 @@ none_left : (table : List LinkedVisit) (next : Option ℕ) (visits : List Visit)
 none_left table next [] at chain = refl
 none_left table next (visit ∷ visits) at (place, first, within, here, below, chain) = absurd (cc)
 
-module _ (table : List LinkedVisit) (next : Option ℕ) (visits : List Visit) (start now : List ℕ) (before after : List (Option ℕ)) (scale : ℕ) (left : AreLeft table next visits start now before after scale) (at : next ≡ None) where
+module _ (names : NameBook) (table : List LinkedVisit) (next : Option ℕ) (visits : List Visit) (start now : List ℕ) (before after : List (Option ℕ)) (scale : ℕ) (left : AreLeft names table next visits start now before after scale) (at : next ≡ None) where
   -- at the end all words are there
-  pub all_words : now ≡ start ++ flat_map visit_word visits
-  all_words = sym (append-nil now) ∙ ap (λ (l : List Visit). now ++ flat_map visit_word l) (sym (none_left table next left.rest at left.chain)) ∙ left.text
+  pub all_words : now ≡ start ++ flat_map (visit_word names) visits
+  all_words = sym (append-nil now) ∙ ap (λ (l : List Visit). now ++ flat_map (visit_word names) l) (sym (none_left table next left.rest at left.chain)) ∙ left.text
 
   -- and all visits are in the bar
   pub all_signs : (c : ℕ) → c < 60 → get_or after c None ≡ option_or (get_or before c None) (first_of (sign_of (c * scale)) visits)

@@ -2,6 +2,8 @@
 use Rattle.std.specs.Prelude.{ℕ, ◌+◌, ◌*◌, ◌/◌, ◌%◌, nat_lt, nat_le, Bool, true, ◌&&◌, if◌then◌else◌, List, [], ◌++◌, map, flat_map, codes, decimal, slice_index_or, Option, None, Some}
 use Rattle.std.specs.List.{range_with_len}
 use Rattle.cell_tables.specs.declared.entry.Entry.{Entry}
+use Rattle.people_names.specs.NameBooks.{NameBook}
+use Rattle.people_names.specs.Words.{job_word, machine_word, moment_word}
 use Rattle.run_gantt.specs.declared.bar.TheConstants.{MAX_COLUMNS}
 use Rattle.run_gantt.specs.declared.visit.Visit.{Visit}
 use Rattle.run_gantt.specs.Visits.{first_of, last_of, visits_to}
@@ -39,31 +41,32 @@ column_sign (Some sign) = sign
 abbrev pub bar_of : ℕ → ℕ → List Visit → List ℕ
 bar_of scale columns visits = map (λ c. column_sign (first_of (sign_of (c * scale)) visits)) (range_with_len 0 columns)
 
--- a moment, or `?` for one that isn't told
-abbrev pub moment_word : Option ℕ → List ℕ
-moment_word None = codes "?"
-moment_word (Some moment) = decimal moment
+module _ (names : NameBook) where
+  -- a moment, or `?` for one that isn't told
+  abbrev pub told_word : Option ℕ → List ℕ
+  told_word None = codes "?"
+  told_word (Some moment) = moment_word names moment
 
--- ` JOB:ENTER-FINISH-LEAVE`
-abbrev pub visit_word : Visit → List ℕ
-visit_word visit = codes " " ++ decimal visit.job ++ codes ":" ++ decimal visit.enter ++ codes "-" ++ moment_word visit.finish ++ codes "-" ++ moment_word visit.leave
+  -- ` JOB:ENTER-FINISH-LEAVE`
+  abbrev pub visit_word : Visit → List ℕ
+  visit_word visit = codes " " ++ job_word names visit.job ++ codes ":" ++ moment_word names visit.enter ++ codes "-" ++ told_word visit.finish ++ codes "-" ++ told_word visit.leave
 
--- the two lines of machine m: its visits, and its bar
-abbrev pub visit_lines : ℕ → ℕ → ℕ → List Visit → List ℕ
-visit_lines scale columns m visits =
-    codes "machine " ++ decimal m ++ flat_map visit_word visits ++ codes "\nbar " ++ bar_of scale columns visits ++ codes "\n"
+  -- the two lines of machine m: its visits, and its bar
+  abbrev pub visit_lines : ℕ → ℕ → ℕ → List Visit → List ℕ
+  visit_lines scale columns m visits =
+      codes "machine " ++ machine_word names m ++ flat_map visit_word visits ++ codes "\nbar " ++ bar_of scale columns visits ++ codes "\n"
 
--- those of the visits that the entries tell
-abbrev pub machine_lines : ℕ → ℕ → List Entry → ℕ → List ℕ
-machine_lines scale columns entries m = visit_lines scale columns m (visits_to m entries)
+  -- those of the visits that the entries tell
+  abbrev pub machine_lines : ℕ → ℕ → List Entry → ℕ → List ℕ
+  machine_lines scale columns entries m = visit_lines scale columns m (visits_to m entries)
 
--- those of the visits in a row for each machine
-abbrev pub row_lines : ℕ → ℕ → List (List Visit) → ℕ → List ℕ
-row_lines scale columns rows m = visit_lines scale columns m (slice_index_or rows m [])
+  -- those of the visits in a row for each machine
+  abbrev pub row_lines : ℕ → ℕ → List (List Visit) → ℕ → List ℕ
+  row_lines scale columns rows m = visit_lines scale columns m (slice_index_or rows m [])
 
--- the Gantt text of entries, for so many machines
-abbrev pub gantt_text : ℕ → List Entry → List ℕ
-gantt_text machines entries =
-    let last = last_of entries in
-    let scale = scale_for last in
-    codes "scale " ++ decimal scale ++ codes "\n" ++ flat_map (machine_lines scale (columns_for last scale) entries) (range_with_len 0 machines)
+  -- the Gantt text of entries, for so many machines
+  abbrev pub gantt_text : ℕ → List Entry → List ℕ
+  gantt_text machines entries =
+      let last = last_of entries in
+      let scale = scale_for last in
+      codes "scale " ++ decimal scale ++ codes "\n" ++ flat_map (machine_lines scale (columns_for last scale) entries) (range_with_len 0 machines)

@@ -2,6 +2,7 @@
 use Rattle.std.specs.Prelude.{◌≡◌, ℕ, ◌*◌, ◌<◌, ◌++◌, List, [], flat_map, slice_index_or, Option, None, String, string_bytes}
 use Rattle.std.specs.Option.{option_or}
 use Rattle.std.specs.List.{range_with_len}
+use Rattle.people_names.specs.NameBooks.{NameBook}
 use Rattle.run_gantt.specs.declared.bar.TheConstants.{MAX_COLUMNS}
 use Rattle.run_gantt.specs.declared.visit.Visit.{Visit}
 use Rattle.run_gantt.specs.GanttText.{row_lines}
@@ -11,8 +12,8 @@ abbrev pub IsPushed : {A : Type 0} → String A → String A → List ℕ → Ty
 IsPushed before after bytes = string_bytes after ≡ string_bytes before ++ bytes
 
 -- the lines of so many machines, one after another, of whose visits these are the rows
-abbrev pub all_lines : ℕ → ℕ → List (List Visit) → ℕ → List ℕ
-all_lines scale columns rows machines = flat_map (row_lines scale columns rows) (range_with_len 0 machines)
+abbrev pub all_lines : NameBook → ℕ → ℕ → List (List Visit) → ℕ → List ℕ
+all_lines names scale columns rows machines = flat_map (row_lines names scale columns rows) (range_with_len 0 machines)
 
 -- the visits to machine m, among the rows of visits
 abbrev pub visits_to : List (List Visit) → ℕ → List Visit

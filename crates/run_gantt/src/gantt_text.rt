@@ -3,7 +3,9 @@
 ghost use Rattle.std.specs.Prelude.{◌≡◌, ℕ, ◌<◌, ◌≤◌, length, map, flat_map, slice_index_or, None, Some, decimal, string_bytes, IfOk, OnOk};
 ghost use Rattle.shop_base.specs.Plan.{machines};
 ghost use Rattle.run_gantt.specs.Visits.{first_of, last_of, entry_moment};
-ghost use Rattle.run_gantt.specs.GanttText.{gantt_text, scale_for, columns_for, row_lines, visit_word, moment_word, sign_of, column_sign};
+ghost use Rattle.run_gantt.specs.GanttText.{gantt_text, scale_for, columns_for, row_lines, visit_word, told_word, sign_of, column_sign};
+ghost use Rattle.people_names.specs.NameBooks.{no_names};
+ghost use Rattle.people_names.specs.Words.{job_word, machine_word, moment_word};
 ghost use Rattle.run_gantt.specs.Pushing.{IsPushed, all_lines, visits_to, ShowsToo};
 ghost use Rattle.run_gantt.specs.declared.bar.TheConstants.{MAX_COLUMNS, MAX_SCALE};
 
@@ -12,16 +14,31 @@ use crate::visit::Visit;
 use crate::visits::{Visits, visits_of};
 use cell_tables::Entry;
 use itoa::Buffer;
-use shop_base::{MachineNo, Moment, Shaped};
+use people_names::{LONGEST_MOMENT, Names};
+use shop_base::{JobNo, MachineNo, Moment, Shaped};
 use std::alloc::{AllocError, Global};
+use text_lines::LineText;
+
+/// The Gantt text of the entries, in numbers: [`gantt_for`] without names.
+pub fn gantt(alloc: Global, shaped: &Shaped, entries: &[Entry]) -> Result<String, AllocError>
+    ensures { IfOk result (λ text. string_bytes text ≡ gantt_text no_names (machines shaped.now) entries.now) }
+{
+    gantt_for(alloc, &Names::none(alloc), shaped, entries)
+}
 
 /// The Gantt text of the entries: the scale, which is the length of a bar's column, and for each machine of the
 /// shop its visits as ` JOB:ENTER-FINISH-LEAVE` and its bar of at most 60 columns.
 ///
 /// A column shows the job that is on the machine at the column's first moment, by the last digit of its number, or
-/// `=` once its operation has ended. Any entries are taken, whether they are a run's or not.
-pub fn gantt(alloc: Global, shaped: &Shaped, entries: &[Entry]) -> Result<String, AllocError>
-    ensures { IfOk result (λ text. string_bytes text ≡ gantt_text (machines shaped.now) entries.now) }
+/// `=` once its operation has ended. Any entries are taken, whether they are a run's or not. But for the bar and the scale,
+/// jobs, machines and moments are told by names and clock.
+pub fn gantt_for(
+    alloc: Global,
+    names: &Names,
+    shaped: &Shaped,
+    entries: &[Entry],
+) -> Result<String, AllocError>
+    ensures { IfOk result (λ text. string_bytes text ≡ gantt_text names.now (machines shaped.now) entries.now) }
 {
     let visits = visits_of(alloc, shaped, entries)?;
     let last = last_moment(entries);
@@ -31,7 +48,7 @@ pub fn gantt(alloc: Global, shaped: &Shaped, entries: &[Entry]) -> Result<String
     text.push_str("scale ")?;
     push_number(&mut text, scale)?;
     text.push_str("\n")?;
-    visits.push_machines(&mut text, shaped.machine_count(), scale, columns)?;
+    visits.push_machines(&mut text, names, shaped.machine_count(), scale, columns)?;
     Ok(text)
 }
 
@@ -79,6 +96,7 @@ impl Visits {
     fn push_machines(
         &self,
         text: &mut String,
+        names: &Names,
         machines: u32,
         scale: Moment,
         columns: usize,
@@ -87,10 +105,10 @@ impl Visits {
         requires above { 0 < scale }
         requires below { scale ≤ MAX_SCALE }
         requires columns { columns ≤ MAX_COLUMNS }
-        ensures { OnOk result (IsPushed text.old text.new (all_lines scale columns self.now machines)) }
+        ensures { OnOk result (IsPushed text.old text.new (all_lines names.now scale columns self.now machines)) }
     {
         for machine in 0..machines {
-            self.push_machine(text, machine, scale, columns)?;
+            self.push_machine(text, names, machine, scale, columns)?;
         }
         Ok(())
     }
@@ -99,6 +117,7 @@ impl Visits {
     fn push_machine(
         &self,
         text: &mut String,
+        names: &Names,
         machine: MachineNo,
         scale: Moment,
         columns: usize,
@@ -107,12 +126,12 @@ impl Visits {
         requires above { 0 < scale }
         requires below { scale ≤ MAX_SCALE }
         requires columns { columns ≤ MAX_COLUMNS }
-        ensures { OnOk result (IsPushed text.old text.new (row_lines scale columns self.now machine)) }
+        ensures { OnOk result (IsPushed text.old text.new (row_lines names.now scale columns self.now machine)) }
     {
         text.push_str("machine ")?;
-        push_number(text, u64::from(machine))?;
+        push_machine_word(text, names, machine)?;
         let mut bar = [None; MAX_COLUMNS];
-        self.push_visits(text, &mut bar, machine, scale)?;
+        self.push_visits(text, names, &mut bar, machine, scale)?;
         text.push_str("\nbar ")?;
         push_columns(text, &bar[..columns])?;
         text.push_str("\n")?;
@@ -123,6 +142,7 @@ impl Visits {
     fn push_visits(
         &self,
         text: &mut String,
+        names: &Names,
         bar: &mut Bar,
         machine: MachineNo,
         scale: Moment,
@@ -130,13 +150,13 @@ impl Visits {
         requires machine { machine < length self.now }
         requires above { 0 < scale }
         requires below { scale ≤ MAX_SCALE }
-        ensures text { OnOk result (IsPushed text.old text.new (flat_map visit_word (visits_to self.now machine))) }
+        ensures text { OnOk result (IsPushed text.old text.new (flat_map (visit_word names.now) (visits_to self.now machine))) }
         ensures bar { OnOk result (ShowsToo scale (λ t. first_of (sign_of t) (visits_to self.now machine)) bar.old bar.new) }
     {
         let mut next = self.first[machine as usize];
         while let Some(place) = next {
             let linked = self.table[place];
-            push_visit(text, linked.visit)?;
+            push_visit(text, names, linked.visit)?;
             show_visit(bar, scale, linked.visit);
             next = linked.next;
         }
@@ -144,25 +164,54 @@ impl Visits {
     }
 }
 
-fn push_visit(text: &mut String, visit: Visit) -> Result<(), AllocError>
-    ensures { OnOk result (IsPushed text.old text.new (visit_word visit)) }
+fn push_visit(text: &mut String, names: &Names, visit: Visit) -> Result<(), AllocError>
+    ensures { OnOk result (IsPushed text.old text.new (visit_word names.now visit)) }
 {
     text.push_str(" ")?;
-    push_number(text, u64::from(visit.job))?;
+    push_job_word(text, names, visit.job)?;
     text.push_str(":")?;
-    push_number(text, visit.enter)?;
+    push_moment(text, names, visit.enter)?;
     text.push_str("-")?;
-    push_moment(text, visit.finish)?;
+    push_told(text, names, visit.finish)?;
     text.push_str("-")?;
-    push_moment(text, visit.leave)
+    push_told(text, names, visit.leave)
 }
 
-fn push_moment(text: &mut String, moment: Option<Moment>) -> Result<(), AllocError>
-    ensures { OnOk result (IsPushed text.old text.new (moment_word moment)) }
+fn push_told(text: &mut String, names: &Names, moment: Option<Moment>) -> Result<(), AllocError>
+    ensures { OnOk result (IsPushed text.old text.new (told_word names.now moment)) }
 {
     match moment {
-        Some(moment) => push_number(text, moment),
+        Some(moment) => push_moment(text, names, moment),
         None => text.push_str("?"),
+    }
+}
+
+fn push_moment(text: &mut String, names: &Names, moment: Moment) -> Result<(), AllocError>
+    ensures { OnOk result (IsPushed text.old text.new (moment_word names.now moment)) }
+{
+    let mut word = LineText::<LONGEST_MOMENT>::empty();
+    names.put_moment(&mut word, moment);
+    match str::from_utf8(word.bytes()) {
+        Ok(word) => text.push_str(word),
+        Err(_) => unreachable!(),
+    }
+}
+
+fn push_job_word(text: &mut String, names: &Names, job: JobNo) -> Result<(), AllocError>
+    ensures { OnOk result (IsPushed text.old text.new (job_word names.now job)) }
+{
+    match names.job_name(job) {
+        Some(name) => text.push_str(name),
+        None => push_number(text, u64::from(job)),
+    }
+}
+
+fn push_machine_word(text: &mut String, names: &Names, machine: MachineNo) -> Result<(), AllocError>
+    ensures { OnOk result (IsPushed text.old text.new (machine_word names.now machine)) }
+{
+    match names.machine_name(machine) {
+        Some(name) => text.push_str(name),
+        None => push_number(text, u64::from(machine)),
     }
 }
 

@@ -11,6 +11,6 @@ mod visit;
 mod visit_ends;
 mod visits;
 
-pub use gantt_text::{gantt, the_columns_in_numbers};
+pub use gantt_text::{gantt, gantt_for, the_columns_in_numbers};
 pub use job_leavings::leavings_told;
 pub use picture_visits::drawn_visits;

@@ -92,21 +92,25 @@ formed-line body none begins = elim (cases_Bool (is_logged (body ++ 10 ∷ [])))
 -- ---- what a crash leaves behind whole lines
 
 -- no line feed, no whole line
-none_whole : (bytes : List ℕ) → HasNone 10 bytes → whole_lines bytes ≡ []
+pub none_whole : (bytes : List ℕ) → HasNone 10 bytes → whole_lines bytes ≡ []
 none_whole [] none = refl
 none_whole (b ∷ bytes) none = rw none.0 (ap (before_any b) (none_whole bytes none.1))
 
-none_taken : (n : ℕ) (bytes : List ℕ) → HasNone 10 bytes → HasNone 10 (take n bytes)
+pub none_taken : (n : ℕ) (bytes : List ℕ) → HasNone 10 bytes → HasNone 10 (take n bytes)
 none_taken zero bytes none = tt
 none_taken (suc n) [] none = tt
 none_taken (suc n) (b ∷ bytes) none = (none.0, none_taken n bytes none.1)
+
+pub no_feed_both : (front back : List ℕ) → HasNone 10 front → HasNone 10 back → HasNone 10 (front ++ back)
+no_feed_both [] back first second = second
+no_feed_both (b ∷ front) back first second = (first.0, no_feed_both front back first.1 second)
 
 pub drop-front : (front rest : List ℕ) → drop (length front) (front ++ rest) ≡ rest
 drop-front [] rest = refl
 drop-front (b ∷ front) rest = drop-front front rest
 
 -- the end of whole lines and more is that of the more
-torn-behind : (base more : List ℕ) → whole_lines base ≡ base → torn_end (base ++ more) ≡ torn_end more
+pub torn-behind : (base more : List ℕ) → whole_lines base ≡ base → torn_end (base ++ more) ≡ torn_end more
 torn-behind base more whole =
     ap (λ l. drop (length l) (base ++ more)) (whole-behind base more whole) ∙ ap (λ (n : ℕ). drop n (base ++ more)) (length-append base (whole_lines more)) ∙ deeper base (length (whole_lines more))
   where
@@ -125,7 +129,7 @@ pub none_of : (n : ℕ) → take n no_bytes ≡ no_bytes
 none_of zero = refl
 none_of (suc n) = refl
 
-torn_lines : (bodies : List (List ℕ)) (n unwritten : ℕ) → AreBodies bodies → is_torn (torn_end (take n (with_feeds bodies) ++ zeros unwritten)) ≡ true
+pub torn_lines : (bodies : List (List ℕ)) (n unwritten : ℕ) → AreBodies bodies → is_torn (torn_end (take n (with_feeds bodies) ++ zeros unwritten)) ≡ true
 torn_lines [] n unwritten are = ap is_torn (ap (λ l. torn_end (l ++ zeros unwritten)) (none_of n) ∙ torn-piece [] 0 unwritten tt) ∙ torn_of [] 0 unwritten refl
 torn_lines (body ∷ bodies) n unwritten are = elim (cases_lt (length body) n) [
   | inl past ↦

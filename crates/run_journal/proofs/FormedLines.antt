@@ -19,7 +19,7 @@ use Rattle.event_lines.proofs.WrittenWords.{AreSpaceless, all_spaceless, before-
 use Rattle.event_lines.proofs.Telling.{standing_spaceless}
 use Rattle.run_journal.specs.LoggedLines.{is_logged}
 use Rattle.run_journal.specs.TornEnds.{begins_line, AreNarrow, IsNarrow}
-use Rattle.run_journal.proofs.Formed.{IsFormed, formed-line}
+use Rattle.run_journal.proofs.Formed.{IsFormed, formed-line, no_feed_both}
 use Rattle.run_journal.proofs.TornEnds.{event_begins, late_begins, late_overdue_begins}
 
 -- ---- words have no line feed
@@ -29,10 +29,6 @@ no_feed_word [] is = tt
 no_feed_word (b ∷ word) is =
     let parts = and_parts (nat_lt 32 b) (list_all (λ c. nat_lt 32 c) word) is in
     (ne_eqb b 10 (λ same. omega (arith, same, ltb-true 32 b parts.0)), no_feed_word word parts.1)
-
-no_feed_both : (front back : List ℕ) → HasNone 10 front → HasNone 10 back → HasNone 10 (front ++ back)
-no_feed_both [] back first second = second
-no_feed_both (b ∷ front) back first second = (first.0, no_feed_both front back first.1 second)
 
 no_feed : (words : List Word) → AreSpaceless words → HasNone 10 (words_before words [])
 no_feed [] are = tt

@@ -24,6 +24,10 @@ pub on_ok-any : {X E P : Type 0} (r : Result X E) → P → OnOk r P
 on_ok-any (Ok x) p = p
 on_ok-any (Err e) p = tt
 
+pub on_ok-map : {X E P Q : Type 0} (r : Result X E) → (P → Q) → OnOk r P → OnOk r Q
+on_ok-map (Ok x) f p = f p
+on_ok-map (Err e) f p = tt
+
 -- from what is told of a value to something else
 pub if_some-map : {X : Type 0} {P Q : X → Type 0} (o : Option X) → ((x : X) → P x → Q x) → IfSome o P → IfSome o Q
 if_some-map None f none = none

@@ -31,14 +31,14 @@ abbrev ended_behind : List ℕ → List ℕ → List (List ℕ)
 ended_behind front [] = []
 ended_behind front (b ∷ bytes) = if b == 10 then without_return front ∷ ended_behind [] bytes else ended_behind (front ++ b ∷ []) bytes
 
-none-more : (front : List ℕ) (b : ℕ) → HasNone 10 front → (b == 10) ≡ false → HasNone 10 (front ++ b ∷ [])
+pub none-more : (front : List ℕ) (b : ℕ) → HasNone 10 front → (b == 10) ≡ false → HasNone 10 (front ++ b ∷ [])
 none-more [] b none other = (other, tt)
 none-more (x ∷ front) b none other = (none.0, none-more front b none.1 other)
 
 ended_with : (front rest : List ℕ) → HasNone 10 front → ended_lines (front ++ 10 ∷ rest) ≡ without_return front ∷ ended_lines rest
 ended_with front rest none = ended-first (front ++ 10 ∷ rest) front rest (record { before = none; split = refl })
 
-ended_is : (front text : List ℕ) → HasNone 10 front → ended_lines (front ++ text) ≡ ended_behind front text
+pub ended_is : (front text : List ℕ) → HasNone 10 front → ended_lines (front ++ text) ≡ ended_behind front text
 ended_is front [] none = ap ended_lines (append-nil front) ∙ ended-none front none
 ended_is front (b ∷ text) none = elim (cases_Bool (b == 10)) [
   | inl feed ↦ rw feed (ap (λ (c : ℕ). ended_lines (front ++ c ∷ text)) (eqb-true b 10 feed) ∙ ended_with front text none ∙ ap (λ l. without_return front ∷ l) (ended_is [] text tt))
@@ -68,14 +68,14 @@ none_open [] whole = refl
 none_open (x ∷ xs) whole = whole-ends [] x xs whole
 
 -- behind whole lines
-ended-base : (base text : List ℕ) → whole_lines base ≡ base → ended_behind [] (base ++ text) ≡ ended_lines base ++ ended_lines text
+pub ended-base : (base text : List ℕ) → whole_lines base ≡ base → ended_behind [] (base ++ text) ≡ ended_lines base ++ ended_lines text
 ended-base base text whole =
     ended-append [] base text ∙ ap (λ l. ended_behind [] base ++ ended_behind l text) (none_open base whole)
     ∙ ap (λ l. l ++ ended_behind [] text) (sym (ended_is [] base tt)) ∙ ap (λ l. ended_lines base ++ l) (sym (ended_is [] text tt))
 
 -- ---- what a log doesn't get tells nothing
 
-without_return-front : (front : List ℕ) → (end : List ℕ) × (front ≡ without_return front ++ end)
+pub without_return-front : (front : List ℕ) → (end : List ℕ) × (front ≡ without_return front ++ end)
 without_return-front front = elim (cases_Bool (ends_with nat_eq front (13 ∷ []))) [
   | inl ends ↦ (drop (length front - 1) front, rw ends (sym (take-append-drop (length front - 1) front)))
   | inr not ↦ ([], rw not (sym (append-nil front)))
@@ -139,7 +139,7 @@ module _ (p : PlannedShop) where
   logged_tells : (text : List ℕ) (told : List Entry) → LinesTell p (ended_lines text) told → LinesTell p (ended_lines (logged text)) told
   logged_tells text told tells = subst (λ l. LinesTell p (ended_lines l) told) (sym (added_all text)) (tells_logged [] text told tt (subst (λ lines. LinesTell p lines told) (ended_is [] text tt) tells))
 
-  tell-both : (before after : List (List ℕ)) (a b : List Entry) → LinesTell p before a → LinesTell p after b → LinesTell p (before ++ after) (a ++ b)
+  pub tell-both : (before after : List (List ℕ)) (a b : List Entry) → LinesTell p before a → LinesTell p after b → LinesTell p (before ++ after) (a ++ b)
   tell-both [] after a b first second = subst (λ t. LinesTell p after (t ++ b)) (sym first) second
   tell-both (line ∷ before) after a b first second = (first.0, first.1 ++ b, first.2, tell-both before after first.1 b first.3 second, ap (λ es. es ++ b) first.4 ∙ append_assoc first.0 first.1 b)
 
@@ -184,7 +184,7 @@ left_log p base shown pending left told came whole is tells_base tells_came =
 -- ---- the whole lines of a text are those that end
 
 -- a text is its whole lines, and bytes with no line feed
-whole_split : (text : List ℕ) → (torn : List ℕ) × (text ≡ whole_lines text ++ torn) × HasNone 10 torn
+pub whole_split : (text : List ℕ) → (torn : List ℕ) × (text ≡ whole_lines text ++ torn) × HasNone 10 torn
 whole_split [] = ([], refl, tt)
 whole_split (b ∷ text) =
     let rest = whole_split text in

@@ -1,11 +1,15 @@
 mod Starts
 mod Selected
 mod Whole
-mod Fronts
+pub mod Fronts
 mod Steps
 mod CrashLines
+mod Gathering
 pub mod LeftEvents
+mod PlansKept
 mod TornEnds
 mod TornAgain
 pub mod Formed
+pub mod LogRuns
+pub mod NamedLogs
 pub mod FormedLines

@@ -1,5 +1,5 @@
 -- What is left of a line that wasn't whole on the disk.
-use Rattle.std.proofs.Common.{◌≡◌, ◌≢◌, ℕ, zero, suc, ◌+◌, ◌-◌, ◌^◌, ◌<◌, ◌≤◌, nat_lt, ◌==◌, ◌&&◌, ◌||◌, if◌then◌else◌, Bool, true, false, List, [], ◌∷◌, ◌++◌, length, take, drop, get_or, codes, decimal, inl, inr, refl, sym, ap, ◌∙◌, subst, arith, append_assoc, length-append, take-append-drop}
+use Rattle.std.proofs.Common.{◌≡◌, ◌≢◌, ℕ, zero, suc, ◌+◌, ◌-◌, ◌^◌, ◌<◌, ◌≤◌, nat_lt, ◌==◌, ◌&&◌, ◌||◌, if◌then◌else◌, Bool, true, false, List, [], ◌∷◌, ◌++◌, length, take, drop, get_or, codes, decimal, inl, inr, refl, sym, ap, ◌∙◌, subst, arith, append_assoc, append-nil, length-append, take-append-drop}
 use Rattle.std.specs.List.{list_all}
 use Rattle.std.proofs.lemmas.Bool.{cases_Bool, ne_eqb, lt-ltb}
 use Rattle.std.proofs.lemmas.Fmt.{decimal_nonempty, length-decimal-le}
@@ -19,11 +19,13 @@ use Rattle.cell_tables.specs.declared.standing.Standing.TheVariants.{Awaited, Ou
 use Rattle.cell_tables.specs.Standings.{is_overdue}
 use Rattle.event_lines.specs.declared.details.Overdue.{Overdue}
 use Rattle.event_lines.specs.AnswerLines.{late_words}
+use Rattle.event_lines.specs.RunDigits.{AreDigits, is_small_hex, plan_words}
+use Rattle.event_lines.specs.declared.run_digits.RunDigits.{RunDigits}
 use Rattle.event_lines.specs.StandingLines.{others_words, late_overdue_words}
 use Rattle.event_lines.proofs.WrittenWords.{before-append}
 use Rattle.run_journal.specs.LogFiles.{zeros}
 use Rattle.run_journal.proofs.Starts.{any-kept}
-use Rattle.run_journal.specs.TornEnds.{digits_of, stands_for, goes_on, IsNarrow, AreNarrow, begins_report, begins_order, begins_late, without_zeros, begins_line, is_torn, UnwrittenLinesAreTorn}
+use Rattle.run_journal.specs.TornEnds.{digits_of, stands_for, goes_on, IsNarrow, AreNarrow, begins_report, begins_order, begins_late, begins_plan, without_zeros, begins_line, is_torn, UnwrittenLinesAreTorn}
 
 -- ---- the first bytes of bytes
 
@@ -272,7 +274,7 @@ module _ (front rest : List ℕ) where
       (shorter 0 (codes "late # machine % cleaned after job % since # due # and % more") front rest) is
 
 less : (front rest : List ℕ) → begins_line (front ++ rest) ≡ true → begins_line front ≡ true
-less front rest is = any-kept _ _ _ _ (any-kept _ _ _ _ (less_report front rest) (less_order front rest)) (less_late front rest) is
+less front rest is = any-kept _ _ _ _ (any-kept _ _ _ _ (any-kept _ _ _ _ (less_report front rest) (less_order front rest)) (less_late front rest)) (shorter 0 (codes "unfinished plan @@@@@@@@@@@@@@@@ shop @@@@@@@@@@@@@@@@") front rest) is
 
 -- the first bytes of such a line, with zeros behind them
 pub torn_of : (body : List ℕ) (count unwritten : ℕ) → begins_line body ≡ true → is_torn (take count body ++ zeros unwritten) ≡ true
@@ -283,21 +285,42 @@ torn_of body count unwritten is =
     less front (inner.0 ++ drop count body) (ap begins_line whole ∙ is)
 
 -- what is left of a line without its line feed
+left_line : (body : List ℕ) (count unwritten : ℕ) → begins_line body ≡ true → count < length (body ++ 10 ∷ []) → is_torn (take count (body ++ 10 ∷ []) ++ zeros unwritten) ≡ true
+left_line body count unwritten is within =
+    ap (λ l. is_torn (l ++ zeros unwritten)) (take-append-le count body (10 ∷ []) (omega (arith, within, length-append body (10 ∷ [])))) ∙ torn_of body count unwritten is
+
 left_of : (words : List Word) (count unwritten : ℕ) → begins_line (words_before words []) ≡ true → count < length (line_of words) → is_torn (take count (line_of words) ++ zeros unwritten) ≡ true
 left_of words count unwritten is within =
-    let body = words_before words [] in
-    let line : line_of words ≡ body ++ 10 ∷ [] = before-append words [] (10 ∷ []) in
-    let cut : take count (line_of words) ≡ take count body = ap (λ l. take count l) line ∙ take-append-le count body (10 ∷ []) (omega (arith, within, ap length line, length-append body (10 ∷ []))) in
-    ap (λ l. is_torn (l ++ zeros unwritten)) cut ∙ torn_of body count unwritten is
+    let line : line_of words ≡ words_before words [] ++ 10 ∷ [] = before-append words [] (10 ∷ []) in
+    ap (λ l. is_torn (take count l ++ zeros unwritten)) line ∙ left_line (words_before words []) count unwritten is (omega (arith, within, ap length line))
 
 any_report : (bytes : List ℕ) → begins_report bytes ≡ true → begins_line bytes ≡ true
-any_report bytes is = or-left (begins_report bytes || begins_order bytes) (begins_late bytes) (or-left (begins_report bytes) (begins_order bytes) is)
+any_report bytes is = or-left _ (begins_plan bytes) (or-left (begins_report bytes || begins_order bytes) (begins_late bytes) (or-left (begins_report bytes) (begins_order bytes) is))
 
 any_order : (bytes : List ℕ) → begins_order bytes ≡ true → begins_line bytes ≡ true
-any_order bytes is = or-left (begins_report bytes || begins_order bytes) (begins_late bytes) (or-right (begins_report bytes) (begins_order bytes) is)
+any_order bytes is = or-left _ (begins_plan bytes) (or-left (begins_report bytes || begins_order bytes) (begins_late bytes) (or-right (begins_report bytes) (begins_order bytes) is))
 
 any_late : (bytes : List ℕ) → begins_late bytes ≡ true → begins_line bytes ≡ true
-any_late bytes is = or-right (begins_report bytes || begins_order bytes) (begins_late bytes) is
+any_late bytes is = or-left _ (begins_plan bytes) (or-right (begins_report bytes || begins_order bytes) (begins_late bytes) is)
+
+-- ---- the line of a plan
+
+-- as many hexadecimal digits
+abbrev hexes : ℕ → List ℕ
+hexes zero = []
+hexes (suc n) = 64 ∷ hexes n
+
+hexes_on : (n : ℕ) (form digits rest : List ℕ) → length digits ≡ n → list_all is_small_hex digits ≡ true → goes_on 0 (hexes n ++ form) (digits ++ rest) ≡ goes_on 0 form rest
+hexes_on zero form [] rest are all = refl
+hexes_on zero form (d ∷ digits) rest are all = absurd (omega (arith, are))
+hexes_on (suc n) form [] rest are all = absurd (omega (arith, are))
+hexes_on (suc n) form (d ∷ digits) rest are all = let (first, others) = both (is_small_hex d) (list_all is_small_hex digits) all in rw first (hexes_on n form digits rest (omega (arith, are)) others)
+
+pub plan_begins : (digits : RunDigits) → AreDigits digits → begins_line (plan_words digits) ≡ true
+plan_begins digits are = or-right (begins_report (plan_words digits) || begins_order (plan_words digits) || begins_late (plan_words digits)) (begins_plan (plan_words digits)) (
+    hexes_on 16 (codes " shop @@@@@@@@@@@@@@@@") digits.plan (codes " shop " ++ digits.shop) are.0.0 are.0.1
+    ∙ ap (λ l. goes_on 0 (hexes 16) l) (sym (append-nil digits.shop)) ∙ hexes_on 16 [] digits.shop [] are.1.0 are.1.1
+    )
 
 pub event_begins : (entry : Entry) → AreNarrow (entry_words entry) → begins_line (words_before (entry_words entry) []) ≡ true
 event_begins (ReportEntry report) fits = any_report (words_before (told_words report) []) (begun_report report fits)
@@ -314,4 +337,5 @@ left_lines = record {
   events = λ entry count unwritten fits within. left_of (entry_words entry) count unwritten (event_begins entry fits) within;
   late = λ at count unwritten fits within. left_of (late_words at) count unwritten (late_begins at fits) within;
   late_overdue = λ at count unwritten overdue is fits within. left_of (late_overdue_words at overdue) count unwritten (late_overdue_begins at overdue is fits) within;
+  plan = λ digits count unwritten are within. left_line (plan_words digits) count unwritten (plan_begins digits are) within;
 }

@@ -1,11 +1,19 @@
--- The logs that are in a folder.
-use Rattle.std.specs.Prelude.{ℕ, if◌then◌else◌, Bool, true, false, List, [], ◌∷◌, Option, None, Some, bytes_eq}
+-- The logs that are in a folder, and what was done there.
+use Rattle.std.specs.Prelude.{◌≡◌, ◌⊎◌, ℕ, if◌then◌else◌, Bool, true, false, List, [], ◌∷◌, Option, None, Some, option_map, bytes_eq}
+use Rattle.run_journal.specs.declared.file_fault.FileFault.{FileFault}
+use Rattle.run_journal.specs.declared.file_fault.FileFault.TheVariants.{Log, InUse, Memory}
 
 -- a log: its path, its bytes as it was opened or made, and whether its name is on the disk, so that every crash leaves it
 pub record NamedLog : Type 0 where
   pub path : List ℕ
   pub bytes : List ℕ
   pub named : Bool
+
+-- the logs that are there, where they are told; the fault of the last call that has failed, if one has; and whether a log was opened or made
+pub record Folder : Type 0 where
+  pub logs : Option (List NamedLog)
+  pub fault : Option FileFault
+  pub given : Bool
 
 -- the bytes of the log of a path, if there is one
 abbrev pub held : List NamedLog → List ℕ → Option (List ℕ)
@@ -22,11 +30,40 @@ abbrev pub made : List ℕ → NamedLog
 made path = record { path = path; bytes = []; named = false }
 
 -- these logs, once the name of the log of a path is on the disk
-abbrev pub with_name : List ℕ → List NamedLog → List NamedLog
-with_name path [] = []
-with_name path (log ∷ logs) = if bytes_eq log.path path then record log { named = true } ∷ logs else log ∷ with_name path logs
+abbrev pub named_in : List ℕ → List NamedLog → List NamedLog
+named_in path [] = []
+named_in path (log ∷ logs) = if bytes_eq log.path path then record log { named = true } ∷ logs else log ∷ named_in path logs
 
--- these logs and one that was just made, unless there was one that was opened
-abbrev pub with_log : Bool → List ℕ → List NamedLog → List NamedLog
-with_log true path logs = logs
-with_log false path logs = made path ∷ logs
+-- the folder once a log was opened or made
+abbrev pub handed : Folder → Folder
+handed folder = record folder { given = true }
+
+-- if one was
+abbrev pub handed_if : Bool → Folder → Folder
+handed_if true folder = handed folder
+handed_if false folder = folder
+
+-- once a call has failed
+abbrev pub with_fault : FileFault → Folder → Folder
+with_fault told folder = record folder { fault = Some told }
+
+-- with a log of this path that was just made
+abbrev pub with_made : List ℕ → Folder → Folder
+with_made path folder = record folder { logs = option_map (λ logs. made path ∷ logs) folder.logs }
+
+-- with such a log, unless there was one that was opened
+abbrev pub with_log : Bool → List ℕ → Folder → Folder
+with_log true path folder = folder
+with_log false path folder = handed (with_made path folder)
+
+-- once the name of the log of this path is on the disk
+abbrev pub with_name : List ℕ → Folder → Folder
+with_name path folder = record folder { logs = option_map (named_in path) folder.logs }
+
+-- why a log isn't opened or made: it can't be, another process has it, or memory ran out
+abbrev pub IsOpenFault : FileFault → Type 0
+IsOpenFault told = (told ≡ Log) ⊎ (told ≡ InUse) ⊎ (told ≡ Memory)
+
+-- why a name isn't put onto the disk
+abbrev pub IsDiskFault : FileFault → Type 0
+IsDiskFault told = (told ≡ Log) ⊎ (told ≡ Memory)

@@ -1,6 +1,9 @@
 -- What a crash leaves of a log that was written to before an output was.
 use Rattle.std.specs.Prelude.{◌≡◌, ℕ, List, ◌++◌, length}
+use Rattle.text_lines.specs.Lines.{lines_of}
+use Rattle.event_lines.specs.declared.run_digits.RunDigits.{RunDigits}
 use Rattle.run_journal.specs.LogFiles.{IsLeft}
+use Rattle.run_journal.specs.LogRuns.{NameLast}
 use Rattle.run_journal.specs.WholeLines.{whole_lines}
 use Rattle.run_journal.specs.LoggedLines.{logged}
 
@@ -15,3 +18,8 @@ pub record AreLinesOf (text shown lines : List ℕ) : Type 0 where
 abbrev pub ACrashKeepsWhatWasShown : Type 0
 ACrashKeepsWhatWasShown = (base shown pending left : List ℕ) → whole_lines base ≡ base → IsLeft (length (base ++ logged shown)) (base ++ logged (shown ++ pending)) left
     → (lines : List ℕ) × (whole_lines left ≡ base ++ lines) × AreLinesOf (shown ++ pending) shown lines
+
+-- whole lines name a plan last; of what a log gets behind them no line is that of a plan. Whatever a crash leaves names the same plan last
+abbrev pub ACrashKeepsThePlan : Type 0
+ACrashKeepsThePlan = (digits : RunDigits) (base shown pending left : List ℕ) → whole_lines base ≡ base → NameLast (lines_of base) digits
+    → IsLeft (length (base ++ logged shown)) (base ++ logged (shown ++ pending)) left → NameLast (lines_of (whole_lines left)) digits

@@ -1,5 +1,7 @@
 -- What a crash may leave of a file that is appended to.
-use Rattle.std.specs.Prelude.{◌≡◌, ℕ, zero, suc, ◌≤◌, List, [], ◌∷◌, ◌++◌, take, Option, IfSome}
+use Rattle.std.specs.Prelude.{◌≡◌, ◌⊎◌, ℕ, zero, suc, ◌≤◌, List, [], ◌∷◌, ◌++◌, take, Option, Some, IfSome}
+use Rattle.run_journal.specs.declared.file_fault.FileFault.{FileFault}
+use Rattle.run_journal.specs.declared.file_fault.FileFault.TheVariants.{Log, Read, TooLong, Memory}
 
 -- so many zero bytes, as a disk leaves them where it hadn't written yet
 abbrev pub zeros : ℕ → List ℕ
@@ -24,3 +26,11 @@ IsSettled seen may_leave = IfSome seen (λ file. (left : List ℕ) → may_leave
 -- a crash leaves nothing that it couldn't have left before
 abbrev pub LeavesNoMore : (List ℕ → Type 0) → (List ℕ → Type 0) → Type 0
 LeavesNoMore before after = (left : List ℕ) → after left → before left
+
+-- why a file isn't read
+abbrev pub IsReadFault : FileFault → Type 0
+IsReadFault told = (told ≡ Read) ⊎ (told ≡ TooLong) ⊎ (told ≡ Memory)
+
+-- it wasn't written, cut or synced, and says so
+abbrev pub HasFailed : Option FileFault → FileFault → Type 0
+HasFailed fault told = (told ≡ Log) × (fault ≡ Some Log)

@@ -1,5 +1,7 @@
 -- A log and an output that bytes go to, the log first.
-use Rattle.std.specs.Prelude.{◌≡◌, ◌⊎◌, ℕ, ◌+◌, ◌<◌, ◌≤◌, List, [], ◌++◌, length, drop, Option, Some, Bool, true, false, IfSome, Result, Ok, Err}
+use Rattle.std.specs.Prelude.{◌≡◌, ◌⊎◌, ℕ, ◌+◌, ◌<◌, ◌≤◌, List, [], ◌++◌, length, drop, Option, None, Some, Bool, true, false, IfSome, Result, Ok, Err}
+use Rattle.run_journal.specs.declared.file_fault.FileFault.{FileFault}
+use Rattle.run_journal.specs.declared.file_fault.FileFault.TheVariants.{Log as LogFault}
 use Rattle.run_journal.specs.declared.logged.TheConstants.{MAX_PENDING}
 use Rattle.run_journal.specs.declared.logged.Unshown.{Unshown}
 use Rattle.run_journal.specs.declared.logged.Unshown.TheVariants.{Log, Output}
@@ -25,11 +27,16 @@ pub record AreInStep (base start : List ℕ) (seen : Option (List ℕ)) (may_lea
   pub log : failed ≡ false → seen ≡ Some (base ++ logged shown)
   pub crash : Leaves may_leave (length (base ++ logged shown)) (base ++ logged (shown ++ pending))
 
+-- the fault of a log that was written or synced, if that has failed
+abbrev pub fault_if : Bool → Option FileFault
+fault_if true = Some LogFault
+fault_if false = None
+
 -- it is known whether the log has failed: it hasn't where no call has, and where a call has and the log hasn't, the output has
-pub record AreFaultsKnown (failed log_failed log_has output_has : Bool) : Type 0 where
-  pub known : log_failed ≡ log_has
-  pub none : failed ≡ false → log_has ≡ false
-  pub output : failed ≡ true → log_has ≡ false → output_has ≡ true
+pub record AreFaultsKnown (failed log_failed : Bool) (log_has : Option FileFault) (output_has : Bool) : Type 0 where
+  pub known : log_has ≡ fault_if log_failed
+  pub none : failed ≡ false → log_failed ≡ false
+  pub output : failed ≡ true → log_failed ≡ false → output_has ≡ true
 
 -- an output holds nothing back, unless a call of it has failed
 abbrev pub HoldsNothing : List ℕ → Bool → Type 0

@@ -7,6 +7,8 @@ use Rattle.cell_tables.specs.Standings.{is_overdue}
 use Rattle.event_lines.specs.declared.details.Overdue.{Overdue}
 use Rattle.event_lines.specs.AnswerLines.{late_words, late_line}
 use Rattle.event_lines.specs.StandingLines.{late_overdue_words, late_overdue_line}
+use Rattle.event_lines.specs.RunDigits.{AreDigits, is_small_hex, plan_line}
+use Rattle.event_lines.specs.declared.run_digits.RunDigits.{RunDigits}
 use Rattle.event_lines.specs.Words.{Word, Text, Number}
 use Rattle.event_lines.specs.ReadBack.{IsFitting}
 use Rattle.run_journal.specs.declared.torn_end.TheConstants.{MOMENT_DIGITS, OTHER_DIGITS}
@@ -16,9 +18,12 @@ use Rattle.run_journal.specs.LogFiles.{zeros}
 abbrev pub digits_of : ℕ → ℕ
 digits_of form = if form == 35 then MOMENT_DIGITS else (if form == 37 then OTHER_DIGITS else 0)
 
--- any other byte of the form stands for itself
+-- `@` is one hexadecimal digit, and any other byte of the form stands for itself
+abbrev pub stands_for_one : ℕ → ℕ → Bool
+stands_for_one form byte = if form == 64 then is_small_hex byte else form == byte
+
 abbrev pub stands_for : ℕ → ℕ → Bool
-stands_for form byte = if digits_of form == 0 then form == byte else is_digit byte
+stands_for form byte = if digits_of form == 0 then stands_for_one form byte else is_digit byte
 
 -- the rest of a line of this form begins with these bytes, behind a number that may have so many digits more
 abbrev pub goes_on : ℕ → List ℕ → List ℕ → Bool
@@ -31,7 +36,7 @@ goes_on more (c ∷ form) (byte ∷ bytes) = if nat_lt 0 more && is_digit byte t
 abbrev pub begins : List ℕ → List ℕ → Bool
 begins form bytes = goes_on 0 form bytes
 
--- the line of a report, of an order, or that a report was late
+-- the line of a report, of an order, that a report was late, or of a plan
 abbrev pub begins_report : List ℕ → Bool
 begins_report bytes = begins (codes "report # arrive %") bytes || begins (codes "report # finish % %") bytes || begins (codes "report # clean %") bytes
 
@@ -43,6 +48,9 @@ begins_late bytes = begins (codes "late # job % arrives # and % more") bytes
     || begins (codes "late # job % on machine % since # due # and % more") bytes
     || begins (codes "late # machine % cleaned after job % since # due # and % more") bytes
 
+abbrev pub begins_plan : List ℕ → Bool
+begins_plan bytes = begins (codes "unfinished plan @@@@@@@@@@@@@@@@ shop @@@@@@@@@@@@@@@@") bytes
+
 -- these bytes without the zeros at their end
 abbrev pub without_zeros : List ℕ → List ℕ
 without_zeros [] = []
@@ -50,7 +58,7 @@ without_zeros (byte ∷ bytes) = let rest = without_zeros bytes in if byte == 0 
 
 -- a line that a log gets begins with these bytes
 abbrev pub begins_line : List ℕ → Bool
-begins_line bytes = begins_report bytes || begins_order bytes || begins_late bytes
+begins_line bytes = begins_report bytes || begins_order bytes || begins_late bytes || begins_plan bytes
 
 -- so it does with these, but for the zeros at their end
 abbrev pub is_torn : List ℕ → Bool
@@ -71,3 +79,4 @@ pub record UnwrittenLinesAreTorn : Type 0 where
   pub late : (at count unwritten : ℕ) → AreNarrow (late_words at) → count < length (late_line at) → is_torn (take count (late_line at) ++ zeros unwritten) ≡ true
   pub late_overdue : (at count unwritten : ℕ) (overdue : Overdue) → is_overdue overdue.first at ≡ true → AreNarrow (late_overdue_words at overdue) → count < length (late_overdue_line at overdue)
       → is_torn (take count (late_overdue_line at overdue) ++ zeros unwritten) ≡ true
+  pub plan : (digits : RunDigits) (count unwritten : ℕ) → AreDigits digits → count < length (plan_line digits) → is_torn (take count (plan_line digits) ++ zeros unwritten) ≡ true

@@ -2,7 +2,8 @@
 
 // Nothing is done here: a function's contract is the law, so a check of this crate proves it.
 
-ghost use Rattle.run_journal.specs.Laws.{ACrashKeepsWhatWasShown};
+ghost use Rattle.run_journal.specs.Gathering.{AnAnswerIsGatheredWhole};
+ghost use Rattle.run_journal.specs.Laws.{ACrashKeepsThePlan, ACrashKeepsWhatWasShown};
 ghost use Rattle.run_journal.specs.LeftLogs.{ACrashLeavesALog};
 ghost use Rattle.run_journal.specs.TornEnds.{UnwrittenLinesAreTorn};
 
@@ -10,6 +11,12 @@ ghost use Rattle.run_journal.specs.TornEnds.{UnwrittenLinesAreTorn};
 /// first lines of reports, of orders and of late reports of what was given to it since: at least all that were shown.
 pub fn a_crash_keeps_what_was_shown()
     ensures { ACrashKeepsWhatWasShown }
+{}
+
+/// Let the whole lines of a log name a plan last. What a crash leaves of the log, behind whatever was given to it since, names
+/// the same plan last.
+pub fn a_crash_keeps_the_plan()
+    ensures { ACrashKeepsThePlan }
 {}
 
 /// Let a log record events, and an output be given a text that records others. What a crash leaves of the log records
@@ -22,4 +29,10 @@ pub fn a_crash_leaves_a_log()
 /// after it or without, is a torn end: so it is never taken for what isn't of a log.
 pub fn unwritten_lines_are_torn()
     ensures { UnwrittenLinesAreTorn }
+{}
+
+/// Of the answer to a report, if it has at most 16,384 bytes, no byte is shown before all of it is gathered. So by the clauses
+/// of [`Logged`](crate::Logged) what a log gets of it is written and synced first.
+pub fn an_answer_is_gathered_whole()
+    ensures { AnAnswerIsGatheredWhole }
 {}

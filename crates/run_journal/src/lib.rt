@@ -7,6 +7,7 @@
 mod file_fault;
 pub mod laws;
 mod log_file;
+mod log_run;
 mod logged;
 mod logs;
 mod opening;
@@ -15,7 +16,8 @@ mod torn_end;
 
 pub use file_fault::FileFault;
 pub use log_file::LogFile;
+pub use log_run::LogRun;
 pub use logged::{Before, FULL, Logged, MAX_PENDING, Untold};
 pub use logs::Logs;
-pub use opening::{LogText, cut_end, new_log, open_log, read_log};
+pub use opening::{LogText, Unopened, cut_end, name_plan, new_log, open_log, read_log};
 pub use torn_end::is_torn_end;

@@ -1,5 +1,6 @@
-ghost use Rattle.std.specs.Prelude.{◌≡◌, ℕ, ◌≤◌, ◌<◌, ◌++◌, List, length, take, Option, Some, Bool, true, false, IfOk, IfErr, IfSome, OnErr, OnOk};
-ghost use Rattle.run_journal.specs.LogFiles.{Leaves, IsSettled, LeavesNoMore};
+ghost use Rattle.std.specs.Prelude.{◌≡◌, ℕ, ◌≤◌, ◌<◌, ◌++◌, List, length, take, Option, None, Some, Bool, true, false, IfOk, IfErr, IfSome, OnOk};
+ghost use Rattle.run_journal.specs.declared.file_fault.FileFault.{FileFault};
+ghost use Rattle.run_journal.specs.LogFiles.{Leaves, IsSettled, LeavesNoMore, IsReadFault, HasFailed};
 
 use crate::file_fault::FileFault;
 use std::alloc::Global;
@@ -17,44 +18,52 @@ pub trait LogFile {
     // What a crash may leave now.
     ghost may_leave: { Self → List ℕ → Type 0 };
 
-    // Whether an append, a cut or a sync has failed.
-    ghost failed: { Self → Bool };
+    // The fault of the last call that has failed, if one has.
+    ghost fault: { Self → Option FileFault };
+
+    // Whether an append or a cut was called: else no byte of it was changed.
+    ghost written: { Self → Bool };
 
     /// All the bytes, if there are at most `most`.
     fn read(&mut self, alloc: Global, most: usize) -> Result<Vec<u8>, FileFault>
         ensures bytes { IfOk result (λ bytes. IfSome (seen self.old) (λ file. bytes.items ≡ file)) }
         ensures within { IfOk result (λ bytes. length bytes.items ≤ most) }
-        ensures too_long { IfErr result (λ fault. fault ≡ FileFault.TooLong → IfSome (seen self.old) (λ file. most < length file)) }
+        ensures too_long { IfErr result (λ told. told ≡ FileFault.TooLong → IfSome (seen self.old) (λ file. most < length file)) }
         ensures seen { seen self.new ≡ seen self.old }
         ensures crash { LeavesNoMore (may_leave self.old) (may_leave self.new) }
-        ensures unfailed { failed self.new ≡ failed self.old };
+        ensures written { written self.new ≡ written self.old }
+        ensures unfailed { OnOk result (fault self.new ≡ fault self.old) }
+        ensures failed { IfErr result (λ told. IsReadFault told × (fault self.new ≡ Some told)) };
 
     /// Appends to a file that is synced. Until the next sync a crash may leave only the first of these bytes, and zeros
     /// in place of the others.
     fn append(&mut self, bytes: &[u8]) -> Result<(), FileFault>
         requires settled { IsSettled (seen self.old) (may_leave self.old) }
-        requires unfailed { failed self.old ≡ false }
+        requires unfailed { fault self.old ≡ None }
         ensures appended { OnOk result (IfSome (seen self.old) (λ file. seen self.new ≡ Some (file ++ bytes.now))) }
         ensures crash { IfSome (seen self.old) (λ file. Leaves (may_leave self.new) (length file) (file ++ bytes.now)) }
-        ensures unfailed { OnOk result (failed self.new ≡ failed self.old) }
-        ensures failed { OnErr result (failed self.new ≡ true) };
+        ensures written { written self.new ≡ true }
+        ensures unfailed { OnOk result (fault self.new ≡ None) }
+        ensures failed { IfErr result (HasFailed (fault self.new)) };
 
     /// Cuts a file that is synced to its first bytes. Until the next sync a crash may leave more of them.
     fn cut(&mut self, len: usize) -> Result<(), FileFault>
         requires settled { IsSettled (seen self.old) (may_leave self.old) }
-        requires unfailed { failed self.old ≡ false }
+        requires unfailed { fault self.old ≡ None }
         requires within { IfSome (seen self.old) (λ file. len ≤ length file) }
         ensures cut { OnOk result (IfSome (seen self.old) (λ file. seen self.new ≡ Some (take len file))) }
         ensures crash { IfSome (seen self.old) (Leaves (may_leave self.new) len) }
-        ensures unfailed { OnOk result (failed self.new ≡ failed self.old) }
-        ensures failed { OnErr result (failed self.new ≡ true) };
+        ensures written { written self.new ≡ true }
+        ensures unfailed { OnOk result (fault self.new ≡ None) }
+        ensures failed { IfErr result (HasFailed (fault self.new)) };
 
     /// After it a crash leaves what a read gives.
     fn sync(&mut self) -> Result<(), FileFault>
-        requires unfailed { failed self.old ≡ false }
+        requires unfailed { fault self.old ≡ None }
         ensures settled { OnOk result (IsSettled (seen self.new) (may_leave self.new)) }
         ensures seen { seen self.new ≡ seen self.old }
         ensures crash { LeavesNoMore (may_leave self.old) (may_leave self.new) }
-        ensures unfailed { OnOk result (failed self.new ≡ failed self.old) }
-        ensures failed { OnErr result (failed self.new ≡ true) };
+        ensures written { written self.new ≡ written self.old }
+        ensures unfailed { OnOk result (fault self.new ≡ None) }
+        ensures failed { IfErr result (HasFailed (fault self.new)) };
 }

@@ -1,10 +1,11 @@
 //! An output whose events a log gets, on the disk, before they are shown.
 
-ghost use Rattle.std.specs.Prelude.{◌≡◌, ◌⊎◌, ◌+◌, ◌<◌, ◌≤◌, ◌++◌, [], length, take, vec_capacity, nat_eq, codes, Some, Err, true, false, IfOk, IfErr, IfSome, OnErr, OnOk, IsTrue};
-ghost use Rattle.std.specs.List.{starts_with};
-ghost use Rattle.std.specs.Io.KnownBytes.{Appends, Keeps, append_known};
-ghost use Rattle.run_journal.specs.LogFiles.{IsSettled, Leaves};
-ghost use Rattle.run_journal.specs.Logged.{HoldsNothing, StayInStep, AreBefore, OnKept, OnLogFault};
+ghost use Rattle.std.specs.Prelude.{◌≡◌, ◌+◌, ◌<◌, ◌≤◌, ◌++◌, [], length, take, vec_capacity, None, Some, Err, true, false, IfOk, IfErr, IfSome, OnErr, OnOk};
+ghost use Rattle.std.specs.Io.KnownBytes.{Appends, Keeps, WriteAppends, append_known};
+ghost use Rattle.run_journal.specs.declared.file_fault.FileFault.{FileFault};
+ghost use Rattle.run_journal.specs.LogFiles.{HasFailed, IsSettled, Leaves};
+ghost use Rattle.run_journal.specs.Gathering.{IsGathered, is_shown_first};
+ghost use Rattle.run_journal.specs.Logged.{HoldsNothing, StayInStep, AreBefore, OnKept, OnLogFault, fault_if};
 ghost use Rattle.run_journal.specs.Selecting.{at_first};
 
 use crate::file_fault::FileFault;
@@ -86,11 +87,11 @@ impl<W: Outlet, D: LogFile, B: Before> Model for Logged<W, D, B> {
 
     ghost Value = { Held };
 
-    ghost view = { λ l. record { taken = W.taken l.outlet; pending = drop l.sent l.gathered.items; failed = l.failed; log_failed = D.failed l.log } };
+    ghost view = { λ l. record { taken = W.taken l.outlet; pending = drop l.sent l.gathered.items; failed = l.failed; log_failed = l.log_failed } };
 
     ghost invariant = { λ l. IsSound B.before (D.seen l.log) (D.may_leave l.log) (W.taken l.outlet) l.gathered.items (vec_capacity l.gathered) (vec_capacity l.events) l.sent l.failed l.selection
         × HoldsNothing (W.pending l.outlet) (W.failed l.outlet)
-        × AreFaultsKnown l.failed l.log_failed (D.failed l.log) (W.failed l.outlet) };
+        × AreFaultsKnown l.failed l.log_failed (D.fault l.log) (W.failed l.outlet) };
 }
 
 impl<W: Outlet + Drop, D: LogFile + Drop, B: Before> Logged<W, D, B> {
@@ -105,7 +106,7 @@ impl<W: Outlet + Drop, D: LogFile + Drop, B: Before> Logged<W, D, B> {
         requires settled { IsSettled (D.seen log) (D.may_leave log) }
         requires before { AreBefore B.before (D.seen log) (W.taken outlet) }
         requires shown { W.pending outlet ≡ [] }
-        requires unfailed { D.failed log ≡ false }
+        requires unfailed { D.fault log ≡ None }
         ensures taken { IfOk result (λ logged. logged.taken ≡ W.taken outlet) }
         ensures pending { IfOk result (λ logged. logged.pending ≡ []) }
         ensures unfailed { IfOk result (λ logged. (logged.failed ≡ false) × (logged.log_failed ≡ false)) }
@@ -146,7 +147,7 @@ impl<W: Outlet + Drop, D: LogFile + Drop, B: Before> Logged<W, D, B> {
         ensures settled { self.failed ≡ false → IsSettled (D.seen result.0) (D.may_leave result.0) }
         ensures taken { W.taken result.1 ≡ self.taken }
         ensures shown { HoldsNothing (W.pending result.1) (W.failed result.1) }
-        ensures log_failed { D.failed result.0 ≡ self.log_failed }
+        ensures log_fault { D.fault result.0 ≡ fault_if self.log_failed }
 
         // Where a call has failed, and the log hasn't, the output has.
         ensures unfailed { self.failed ≡ false → self.log_failed ≡ false }
@@ -174,7 +175,14 @@ impl<W: Outlet, D: LogFile, B: Before> Sink for Logged<W, D, B> {
 
     ghost failed = { λ l. l.failed };
 
-    fn put(&mut self, bytes: &[u8]) -> Result<usize, WriteFault> {
+    fn put(&mut self, bytes: &[u8]) -> Result<usize, WriteFault>
+        requires { 0 < length bytes.now }
+        ensures count { IfOk result (λ count. (0 < count) × (count ≤ length bytes.now)) }
+        ensures taken { WriteAppends (append_known self.old.taken self.old.pending) (append_known self.new.taken self.new.pending) result bytes.now }
+        ensures unfailed { OnOk result (self.new.failed ≡ self.old.failed) }
+        ensures failed { OnErr result (self.new.failed ≡ true) }
+        ensures gathered { IfOk result (λ count. IsGathered self.old bytes.now count self.new) }
+    {
         if self.failed {
             return Err(WriteFault);
         }
@@ -237,10 +245,8 @@ impl<W: Outlet, D: LogFile, B: Before> Logged<W, D, B> {
 fn is_shown_first(gathered: usize, bytes: &[u8]) -> bool
     requires within { gathered ≤ MAX_PENDING }
     requires some { 0 < length bytes.now }
+    ensures is { result ≡ is_shown_first gathered bytes.now }
     ensures room { result ≡ false → gathered < MAX_PENDING }
-    ensures whole { result ≡ false → (gathered + length bytes.now ≤ MAX_PENDING) ⊎ (gathered ≡ 0) }
-    ensures begun { FULL ≤ gathered → starts_with nat_eq bytes.now (codes "report ") ≡ true → IsTrue result }
-    ensures fits { IsTrue result → (MAX_PENDING < gathered + length bytes.now) ⊎ (FULL ≤ gathered) }
 {
     if bytes.len() > MAX_PENDING - gathered {
         return gathered > 0;
@@ -264,15 +270,15 @@ fn keep_and_pass_on<W: Outlet, D: LogFile>(
     sent: &mut usize,
 ) -> Result<(), Unshown>
     requires settled { IsSettled (D.seen log.old) (D.may_leave log.old) }
-    requires unfailed { D.failed log.old ≡ false }
+    requires unfailed { D.fault log.old ≡ None }
     requires none_out { sent.old ≡ 0 }
 
     // Where they aren't on the disk, the output is given nothing.
     ensures first { OnLogFault result ((outlet.new ≡ outlet.old) × (sent.new ≡ sent.old)) }
-    ensures log_failed { OnLogFault result (D.failed log.new ≡ true) }
+    ensures log_fault { OnLogFault result (D.fault log.new ≡ Some FileFault.Log) }
     ensures kept { OnKept result (IfSome (D.seen log.old) (λ file. D.seen log.new ≡ Some (file ++ events.now))) }
     ensures settled { OnKept result (IsSettled (D.seen log.new) (D.may_leave log.new)) }
-    ensures unfailed { OnKept result (D.failed log.new ≡ D.failed log.old) }
+    ensures unfailed { OnKept result (D.fault log.new ≡ None) }
     ensures crash { IfSome (D.seen log.old) (λ file. Leaves (D.may_leave log.new) (length file) (file ++ events.now)) }
     ensures within { OnKept result (sent.new ≤ length bytes.now) }
     ensures taken { OnKept result (Appends (W.taken outlet.old) (W.taken outlet.new) (take sent.new bytes.now)) }
@@ -290,15 +296,15 @@ fn keep_and_pass_on<W: Outlet, D: LogFile>(
 }
 
 /// Puts these bytes into the log, and onto the disk. Where there are none, nothing is done.
-fn keep<D: LogFile>(log: &mut D, bytes: &[u8]) -> Result<(), FileFault>
+pub(crate) fn keep<D: LogFile>(log: &mut D, bytes: &[u8]) -> Result<(), FileFault>
     requires settled { IsSettled (D.seen log.old) (D.may_leave log.old) }
-    requires unfailed { D.failed log.old ≡ false }
+    requires unfailed { D.fault log.old ≡ None }
     ensures settled { OnOk result (IsSettled (D.seen log.new) (D.may_leave log.new)) }
     ensures kept { OnOk result (IfSome (D.seen log.old) (λ file. D.seen log.new ≡ Some (file ++ bytes.now))) }
     ensures crash { IfSome (D.seen log.old) (λ file. Leaves (D.may_leave log.new) (length file) (file ++ bytes.now)) }
     ensures none { bytes.now ≡ [] → log.new ≡ log.old }
-    ensures unfailed { OnOk result (D.failed log.new ≡ D.failed log.old) }
-    ensures failed { OnErr result (D.failed log.new ≡ true) }
+    ensures unfailed { OnOk result (D.fault log.new ≡ None) }
+    ensures failed { IfErr result (HasFailed (D.fault log.new)) }
 {
     if bytes.is_empty() {
         return Ok(());

@@ -1,10 +1,10 @@
 //! What a crash can leave after the whole lines of a log: the beginning of a line that the log gets, and zeros.
 
 ghost use Rattle.std.specs.Prelude.{◌≡◌, ◌≤◌, length, take};
-ghost use Rattle.run_journal.specs.TornEnds.{digits_of, stands_for, begins, begins_report, begins_order, begins_late, without_zeros, is_torn};
+ghost use Rattle.run_journal.specs.TornEnds.{digits_of, stands_for, stands_for_one, begins, begins_report, begins_order, begins_late, begins_plan, without_zeros, is_torn};
 
-/// Whether a crash can have left these bytes after the whole lines: the beginning of some line of a report, of an order
-/// or of a late report, or nothing, and then zeros, or none.
+/// Whether a crash can have left these bytes after the whole lines: the beginning of some line of a report, of an order, of a
+/// late report or of a plan, or nothing, and then zeros, or none.
 ///
 /// Zeros before other bytes aren't taken for that, though a file system may leave them; of what stands there nothing was
 /// shown, so it may be cut off by hand.
@@ -12,7 +12,7 @@ pub fn is_torn_end(end: &[u8]) -> bool
     ensures { result ≡ is_torn end.now }
 {
     let bytes = without_zeros(end);
-    begins_report(bytes) || begins_order(bytes) || begins_late(bytes)
+    begins_report(bytes) || begins_order(bytes) || begins_late(bytes) || begins_plan(bytes)
 }
 
 fn begins_report(bytes: &[u8]) -> bool
@@ -44,7 +44,17 @@ fn begins_late(bytes: &[u8]) -> bool
         )
 }
 
-/// Whether a line of this form, in which `#` stands for a moment and `%` for another number, begins with these bytes.
+fn begins_plan(bytes: &[u8]) -> bool
+    ensures { result ≡ begins_plan bytes.now }
+{
+    begins(
+        b"unfinished plan @@@@@@@@@@@@@@@@ shop @@@@@@@@@@@@@@@@",
+        bytes,
+    )
+}
+
+/// Whether a line of this form, in which `#` stands for a moment, `%` for another number and `@` for a hexadecimal digit,
+/// begins with these bytes.
 fn begins(form: &[u8], bytes: &[u8]) -> bool
     ensures { result ≡ begins form.now bytes.now }
 {
@@ -92,9 +102,20 @@ fn stands_for(form: u8, byte: u8) -> bool
     ensures { result ≡ stands_for form byte }
 {
     if digits_of(form) == 0 {
-        form == byte
+        stands_for_one(form, byte)
     } else {
         byte.is_ascii_digit()
+    }
+}
+
+/// The same of a byte of the form that is no number.
+fn stands_for_one(form: u8, byte: u8) -> bool
+    ensures { result ≡ stands_for_one form byte }
+{
+    if form == b'@' {
+        matches!(byte, b'0'..=b'9' | b'a'..=b'f')
+    } else {
+        form == byte
     }
 }
 

@@ -1,4 +1,5 @@
 pub mod Steps
+pub mod Ticks
 pub mod Parts
 pub mod Visits
 pub mod LateLeavings

@@ -1,7 +1,8 @@
 -- The text of a visit's boxes.
-use Rattle.std.proofs.Common.{◌≡◌, ℕ, Bool, Option, List, [], ◌∷◌, ◌++◌, sym, ap, subst, ◌∙◌, append-nil}
+use Rattle.std.proofs.Common.{◌≡◌, ℕ, Bool, Option, List, [], ◌∷◌, ◌++◌, sym, ap, ◌∙◌, append-nil}
 use Rattle.std.specs.List.{flat_map}
 use Rattle.std.proofs.lemmas.List.Concat.{flat_map-cons, flat_map-append}
+use Rattle.people_names.specs.NameBooks.{NameBook}
 use Rattle.run_picture.specs.declared.visit.DrawnVisit.{DrawnVisit}
 use Rattle.run_picture.specs.declared.drawn_box.DrawnBox.{DrawnBox}
 use Rattle.run_picture.specs.declared.late_leaving.LateLeaving.{LateLeaving}
@@ -11,11 +12,11 @@ use Rattle.run_picture.specs.BoxText.{box_text}
 use Rattle.run_picture.specs.PictureText.{visit_text}
 
 -- the texts of its boxes, one after another
-pub visit_parts : (last : ℕ) (late : List (Option LateLeaving)) (visit : DrawnVisit) (of_late : Bool) → of_late ≡ is_late late visit.job
-    → box_text last (work_box last of_late visit) ++ (flat_map (box_text last) (if_any (wait_box last of_late visit)) ++ flat_map (box_text last) (if_any (clean_box last visit))) ≡ visit_text last late visit
+pub visit_parts : (names : NameBook) (last : ℕ) (late : List (Option LateLeaving)) (visit : DrawnVisit) (of_late : Bool) → of_late ≡ is_late late visit.job
+    → box_text names last (work_box last of_late visit) ++ (flat_map (box_text names last) (if_any (wait_box last of_late visit)) ++ flat_map (box_text names last) (if_any (clean_box last visit))) ≡ visit_text names last late visit
 unfolding visit_text
-visit_parts last late visit of_late is =
-    let one = box_text last in
+visit_parts names last late visit of_late is =
+    let one = box_text names last in
     let waits = if_any (wait_box last of_late visit) in
     let cleans = if_any (clean_box last visit) in
     sym (flat_map-cons one (work_box last of_late visit) (waits ++ cleans) ∙ ap (λ (l : List ℕ). one (work_box last of_late visit) ++ l) (flat_map-append one waits cleans))

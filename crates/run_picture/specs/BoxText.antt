@@ -1,6 +1,8 @@
 -- The text of a box. Each part stands before what follows it.
-use Rattle.std.specs.Prelude.{ℕ, ◌+◌, ◌*◌, ◌/◌, ◌%◌, nat_le, Bool, true, false, if◌then◌else◌, List, [], ◌∷◌, ◌++◌, length, codes, decimal}
+use Rattle.std.specs.Prelude.{ℕ, ◌+◌, ◌*◌, ◌/◌, ◌%◌, nat_lt, nat_le, Bool, true, false, if◌then◌else◌, List, [], ◌∷◌, ◌++◌, length, codes, decimal}
 use Rattle.run_picture.specs.Parts.{before}
+use Rattle.people_names.specs.NameBooks.{NameBook}
+use Rattle.people_names.specs.Words.{job_word as job_name}
 use Rattle.run_picture.specs.Words.{job_word, machine_word, moment_word}
 use Rattle.run_picture.specs.declared.drawn_box.BoxKind.{BoxKind}
 use Rattle.run_picture.specs.declared.drawn_box.BoxKind.TheVariants.{Work, Wait, Clean}
@@ -23,6 +25,10 @@ edges_of last drawn = record {
 abbrev pub late_onto : Bool → List ℕ → List ℕ
 late_onto true rest = before (codes " late" ∷ []) rest
 late_onto false rest = rest
+
+-- whether a box is so narrow, less than 20, that an outline would hide its colour
+abbrev pub thin_onto : Edges → List ℕ → List ℕ
+thin_onto edges rest = if nat_lt edges.right (edges.left + 20) then before (codes " thin" ∷ []) rest else rest
 
 -- the class of a box: its kind, and the number of its job's colour, of which there are 24; a cleaning has none
 abbrev pub class_onto : BoxKind → ℕ → List ℕ → List ℕ
@@ -50,41 +56,43 @@ abbrev pub numbers_onto : DrawnBox → List ℕ → List ℕ
 numbers_onto drawn rest =
     before (codes " data-job=\"" ∷ decimal drawn.job ∷ codes "\" data-machine=\"" ∷ decimal drawn.machine ∷ codes "\" data-from=\"" ∷ decimal drawn.from ∷ codes "\" data-to=\"" ∷ decimal drawn.to ∷ codes "\" data-kind=\"" ∷ []) (kind_onto drawn.kind (codes "\"" ++ rest))
 
--- what a box shows, in words
-abbrev pub name_onto : BoxKind → ℕ → ℕ → List ℕ → List ℕ
-name_onto Work job machine rest = before (codes "job " ∷ job_word job ∷ codes " on machine " ∷ machine_word machine ∷ []) rest
-name_onto Wait job machine rest = before (codes "job " ∷ job_word job ∷ codes " waits on machine " ∷ machine_word machine ∷ []) rest
-name_onto Clean job machine rest = before (codes "machine " ∷ machine_word machine ∷ codes " cleaned after job " ∷ job_word job ∷ []) rest
-
+-- whether what a box shows is over, in words
 abbrev pub over_onto : Bool → List ℕ → List ℕ
 over_onto true rest = rest
 over_onto false rest = before (codes ", not over" ∷ []) rest
 
-abbrev pub title_onto : DrawnBox → List ℕ → List ℕ
-title_onto drawn rest =
-    name_onto drawn.kind drawn.job drawn.machine (before (codes " from " ∷ moment_word drawn.from ∷ codes " to " ∷ moment_word drawn.to ∷ []) (over_onto drawn.over rest))
+module _ (names : NameBook) where
+  -- what a box shows, in words
+  abbrev pub name_onto : BoxKind → ℕ → ℕ → List ℕ → List ℕ
+  name_onto Work job machine rest = before (codes "job " ∷ job_word names job ∷ codes " on machine " ∷ machine_word names machine ∷ []) rest
+  name_onto Wait job machine rest = before (codes "job " ∷ job_word names job ∷ codes " waits on machine " ∷ machine_word names machine ∷ []) rest
+  name_onto Clean job machine rest = before (codes "machine " ∷ machine_word names machine ∷ codes " cleaned after job " ∷ job_word names job ∷ []) rest
 
--- the job in the middle of a box, in the ink of its colour
-abbrev pub label_onto : ℕ → Edges → List ℕ → List ℕ
-label_onto job edges rest =
-    before (codes "<text class=\"t" ∷ decimal (job % 24) ∷ codes "\" x=\"" ∷ decimal ((edges.left + edges.right) / 2) ∷ codes "\" y=\"" ∷ decimal edges.foot ∷ codes "\">" ∷ job_word job ∷ codes "</text>" ∷ []) rest
+  abbrev pub title_onto : DrawnBox → List ℕ → List ℕ
+  title_onto drawn rest =
+      name_onto drawn.kind drawn.job drawn.machine (before (codes " from " ∷ moment_word names drawn.from ∷ codes " to " ∷ moment_word names drawn.to ∷ []) (over_onto drawn.over rest))
 
--- whether there is room for the job between the edges: 70 for each byte, and 40
-abbrev pub has_room : ℕ → Edges → Bool
-has_room job edges = nat_le (edges.left + (40 + 70 * length (job_word job))) edges.right
+  -- the job in the middle of a box, in the ink of its colour
+  abbrev pub label_onto : ℕ → Edges → List ℕ → List ℕ
+  label_onto job edges rest =
+      before (codes "<text class=\"t" ∷ decimal (job % 24) ∷ codes "\" x=\"" ∷ decimal ((edges.left + edges.right) / 2) ∷ codes "\" y=\"" ∷ decimal edges.foot ∷ codes "\">" ∷ job_word names job ∷ codes "</text>" ∷ []) rest
 
--- the job in the box of an operation, where there is room
-abbrev pub number_onto : BoxKind → ℕ → Edges → List ℕ → List ℕ
-number_onto Work job edges rest = if has_room job edges then label_onto job edges rest else rest
-number_onto Wait job edges rest = rest
-number_onto Clean job edges rest = rest
+  -- whether there is room for the job between the edges: 70 for each byte of its name, and 40
+  abbrev pub has_room : ℕ → Edges → Bool
+  has_room job edges = nat_le (edges.left + (40 + 70 * length (job_name names job))) edges.right
 
--- the text of a box between these edges
-unfoldable pub box_text_at : Edges → DrawnBox → List ℕ
-box_text_at edges drawn =
-    codes "<path class=\"" ++ class_onto drawn.kind drawn.job (late_onto drawn.late (codes "\" d=\"" ++ path_onto edges drawn.over (codes "\"" ++ numbers_onto drawn (
-    codes "><title>" ++ title_onto drawn (codes "</title></path>" ++ number_onto drawn.kind drawn.job edges (codes "\n"))))))
+  -- the job in the box of an operation, where there is room
+  abbrev pub label_if_room : BoxKind → ℕ → Edges → List ℕ → List ℕ
+  label_if_room Work job edges rest = if has_room job edges then label_onto job edges rest else rest
+  label_if_room Wait job edges rest = rest
+  label_if_room Clean job edges rest = rest
 
--- the text of a box
-abbrev pub box_text : ℕ → DrawnBox → List ℕ
-box_text last drawn = box_text_at (edges_of last drawn) drawn
+  -- the text of a box between these edges
+  unfoldable pub box_text_at : Edges → DrawnBox → List ℕ
+  box_text_at edges drawn =
+      codes "<path class=\"" ++ class_onto drawn.kind drawn.job (late_onto drawn.late (thin_onto edges (codes "\" d=\"" ++ path_onto edges drawn.over (codes "\"" ++ numbers_onto drawn (
+      codes "><title>" ++ title_onto drawn (codes "</title></path>" ++ label_if_room drawn.kind drawn.job edges (codes "\n")))))))
+
+  -- the text of a box
+  abbrev pub box_text : ℕ → DrawnBox → List ℕ
+  box_text last drawn = box_text_at (edges_of last drawn) drawn

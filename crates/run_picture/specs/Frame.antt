@@ -1,5 +1,7 @@
--- Where the rows of a picture lie, in tenths of a pixel. A picture is 12000 wide: its axis of time begins at 700 and ends at 11500.
-use Rattle.std.specs.Prelude.{ℕ, ◌+◌, ◌*◌}
+-- Where the rows of a picture lie, in tenths of a pixel. Its axis of time begins at 700 and ends at 11500, and the picture goes to 12000.
+use Rattle.std.specs.Prelude.{ℕ, zero, suc, ◌+◌, ◌-◌, ◌*◌, max, length}
+use Rattle.people_names.specs.NameBooks.{NameBook}
+use Rattle.people_names.specs.Words.{machine_word as machine_name}
 
 -- the upper edge of the boxes of machine m
 abbrev pub top_of : ℕ → ℕ
@@ -20,3 +22,12 @@ rows_end machines = 400 + 240 * machines
 -- how high the picture is
 abbrev pub height_for : ℕ → ℕ
 height_for machines = rows_end machines + 100
+
+-- how many bytes the longest word for one of the first machines has
+abbrev pub longest_word : NameBook → ℕ → ℕ
+longest_word names zero = 0
+longest_word names (suc m) = max (longest_word names m) (length (machine_name names m))
+
+-- how far the picture goes to the left of 0, so that there is room for each of these words before its row: 80 for each byte, and 40
+abbrev pub left_margin : NameBook → ℕ → ℕ
+left_margin names machines = (40 + 80 * longest_word names machines) - 600

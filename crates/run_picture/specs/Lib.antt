@@ -8,3 +8,5 @@ pub mod Words
 pub mod BoxText
 pub mod PictureText
 pub mod LastMoments
+-- Of proofs and private contracts alone.
+pub mod Steps

@@ -1,11 +1,21 @@
--- What a picture writes for a job, a machine and a moment: their numbers.
-use Rattle.std.specs.Prelude.{ℕ, List, decimal}
+-- What a picture writes for a job, a machine and a moment: the words that a line has for them, as XML has texts.
+use Rattle.std.specs.Prelude.{ℕ, ◌==◌, if◌then◌else◌, List, [], ◌∷◌, flat_map, codes}
+use Rattle.people_names.specs.NameBooks.{NameBook}
+use Rattle.people_names.specs.Words.{job_word as job_name, machine_word as machine_name, moment_word as moment_name}
 
-abbrev pub job_word : ℕ → List ℕ
-job_word j = decimal j
+-- a byte of a text, as XML has it (XML 1.0, 2.4)
+abbrev pub escaped_byte : ℕ → List ℕ
+escaped_byte byte = if byte == 38 then codes "&amp;" else (if byte == 60 then codes "&lt;" else (if byte == 62 then codes "&gt;" else byte ∷ []))
 
-abbrev pub machine_word : ℕ → List ℕ
-machine_word m = decimal m
+-- a text, as XML has it
+abbrev pub escaped : List ℕ → List ℕ
+escaped text = flat_map escaped_byte text
 
-abbrev pub moment_word : ℕ → List ℕ
-moment_word t = decimal t
+abbrev pub job_word : NameBook → ℕ → List ℕ
+job_word names j = escaped (job_name names j)
+
+abbrev pub machine_word : NameBook → ℕ → List ℕ
+machine_word names m = escaped (machine_name names m)
+
+abbrev pub moment_word : NameBook → ℕ → List ℕ
+moment_word names t = moment_name names t

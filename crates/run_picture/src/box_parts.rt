@@ -1,16 +1,17 @@
 //! The parts of a box's text, each written before what there is.
 
 ghost use Rattle.std.specs.Prelude.{◌≡◌, ◌+◌, ◌≤◌, length};
-ghost use Rattle.run_picture.specs.BoxText.{class_onto, late_onto, path_onto, edge_onto, numbers_onto, kind_onto, title_onto, name_onto, over_onto, label_onto};
+ghost use Rattle.run_picture.specs.BoxText.{class_onto, late_onto, thin_onto, path_onto, edge_onto, numbers_onto, kind_onto, title_onto, name_onto, over_onto, label_onto};
 ghost use Rattle.run_picture.specs.declared.box_parts.TheConstants.{BOX_ROOM};
 
 use crate::drawn_box::{BoxKind, DrawnBox};
-use crate::words::{put_job, put_machine, put_moment};
+use crate::words::{put_job, put_machine};
+use people_names::Names;
 use shop_base::{JobNo, MachineNo};
 use text_lines::LineText;
 
 /// The room of a box's text, in bytes.
-pub(crate) const BOX_ROOM: usize = 800;
+pub(crate) const BOX_ROOM: usize = 1_200;
 
 /// The text of a box. All are shorter than its room.
 pub(crate) type BoxLine = LineText<BOX_ROOM>;
@@ -28,7 +29,7 @@ pub(crate) struct Edges {
 
 /// Writes the class of a box: its kind, and the number of its job's colour.
 pub(crate) fn put_class(line: &mut BoxLine, kind: BoxKind, job: JobNo)
-    requires { length line.old ≤ 700 }
+    requires { length line.old ≤ 1_150 }
     ensures written { line.new ≡ class_onto kind job line.old }
     ensures length { length line.new ≤ 20 + length line.old }
 {
@@ -47,7 +48,7 @@ pub(crate) fn put_class(line: &mut BoxLine, kind: BoxKind, job: JobNo)
 
 /// Writes whether the job of a box is late.
 pub(crate) fn put_late(line: &mut BoxLine, late: bool)
-    requires { length line.old ≤ 690 }
+    requires { length line.old ≤ 1_145 }
     ensures written { line.new ≡ late_onto late line.old }
     ensures length { length line.new ≤ 5 + length line.old }
 {
@@ -56,9 +57,21 @@ pub(crate) fn put_late(line: &mut BoxLine, late: bool)
     }
 }
 
+/// Writes whether a box is so narrow that its outline has its colour.
+pub(crate) fn put_thin(line: &mut BoxLine, edges: Edges)
+    requires left { edges.left ≤ 11_500 }
+    requires line { length line.old ≤ 1_140 }
+    ensures written { line.new ≡ thin_onto edges line.old }
+    ensures length { length line.new ≤ 5 + length line.old }
+{
+    if edges.right < edges.left + 20 {
+        line.put_text(b" thin");
+    }
+}
+
 /// Writes the path along the edges of a box. That on the right is left out where what it shows isn't over.
 pub(crate) fn put_path(line: &mut BoxLine, edges: Edges, over: bool)
-    requires { length line.old ≤ 600 }
+    requires { length line.old ≤ 1_020 }
     ensures written { line.new ≡ path_onto edges over line.old }
     ensures length { length line.new ≤ 110 + length line.old }
 {
@@ -76,7 +89,7 @@ pub(crate) fn put_path(line: &mut BoxLine, edges: Edges, over: bool)
 }
 
 fn put_edge(line: &mut BoxLine, over: bool)
-    requires { length line.old ≤ 700 }
+    requires { length line.old ≤ 1_100 }
     ensures written { line.new ≡ edge_onto over line.old }
     ensures length { length line.new ≤ 1 + length line.old }
 {
@@ -87,7 +100,7 @@ fn put_edge(line: &mut BoxLine, over: bool)
 
 /// Writes the numbers of a box, and its kind.
 pub(crate) fn put_numbers(line: &mut BoxLine, drawn: DrawnBox)
-    requires { length line.old ≤ 450 }
+    requires { length line.old ≤ 880 }
     ensures written { line.new ≡ numbers_onto drawn line.old }
     ensures length { length line.new ≤ 140 + length line.old }
 {
@@ -105,7 +118,7 @@ pub(crate) fn put_numbers(line: &mut BoxLine, drawn: DrawnBox)
 }
 
 fn put_kind(line: &mut BoxLine, kind: BoxKind)
-    requires { length line.old ≤ 700 }
+    requires { length line.old ≤ 1_100 }
     ensures written { line.new ≡ kind_onto kind line.old }
     ensures length { length line.new ≤ 5 + length line.old }
 {
@@ -117,21 +130,21 @@ fn put_kind(line: &mut BoxLine, kind: BoxKind)
 }
 
 /// Writes what a box shows, in words.
-pub(crate) fn put_title(line: &mut BoxLine, drawn: DrawnBox)
-    requires { length line.old ≤ 300 }
-    ensures written { line.new ≡ title_onto drawn line.old }
-    ensures length { length line.new ≤ 110 + length line.old }
+pub(crate) fn put_title(line: &mut BoxLine, names: &Names, drawn: DrawnBox)
+    requires { length line.old ≤ 340 }
+    ensures written { line.new ≡ title_onto names.now drawn line.old }
+    ensures length { length line.new ≤ 510 + length line.old }
 {
     put_over(line, drawn.over);
-    put_moment(line, drawn.to);
+    names.put_moment(line, drawn.to);
     line.put_text(b" to ");
-    put_moment(line, drawn.from);
+    names.put_moment(line, drawn.from);
     line.put_text(b" from ");
-    put_name(line, drawn.kind, drawn.job, drawn.machine);
+    put_name(line, names, drawn.kind, drawn.job, drawn.machine);
 }
 
 fn put_over(line: &mut BoxLine, over: bool)
-    requires { length line.old ≤ 700 }
+    requires { length line.old ≤ 1_100 }
     ensures written { line.new ≡ over_onto over line.old }
     ensures length { length line.new ≤ 10 + length line.old }
 {
@@ -140,43 +153,43 @@ fn put_over(line: &mut BoxLine, over: bool)
     }
 }
 
-fn put_name(line: &mut BoxLine, kind: BoxKind, job: JobNo, machine: MachineNo)
-    requires { length line.old ≤ 700 }
-    ensures written { line.new ≡ name_onto kind job machine line.old }
-    ensures length { length line.new ≤ 50 + length line.old }
+fn put_name(line: &mut BoxLine, names: &Names, kind: BoxKind, job: JobNo, machine: MachineNo)
+    requires { length line.old ≤ 420 }
+    ensures written { line.new ≡ name_onto names.now kind job machine line.old }
+    ensures length { length line.new ≤ 430 + length line.old }
 {
     match kind {
         BoxKind::Work => {
-            put_machine(line, machine);
+            put_machine(line, names, machine);
             line.put_text(b" on machine ");
-            put_job(line, job);
+            put_job(line, names, job);
             line.put_text(b"job ");
         }
         BoxKind::Wait => {
-            put_machine(line, machine);
+            put_machine(line, names, machine);
             line.put_text(b" waits on machine ");
-            put_job(line, job);
+            put_job(line, names, job);
             line.put_text(b"job ");
         }
         BoxKind::Clean => {
-            put_job(line, job);
+            put_job(line, names, job);
             line.put_text(b" cleaned after job ");
-            put_machine(line, machine);
+            put_machine(line, names, machine);
             line.put_text(b"machine ");
         }
     }
 }
 
 /// Writes the job in the middle of a box.
-pub(crate) fn put_label(line: &mut BoxLine, job: JobNo, edges: Edges)
+pub(crate) fn put_label(line: &mut BoxLine, names: &Names, job: JobNo, edges: Edges)
     requires left { edges.left ≤ 11_500 }
     requires right { edges.right ≤ 11_500 }
-    requires line { length line.old ≤ 100 }
-    ensures written { line.new ≡ label_onto job edges line.old }
-    ensures length { length line.new ≤ 110 + length line.old }
+    requires line { length line.old ≤ 20 }
+    ensures written { line.new ≡ label_onto names.now job edges line.old }
+    ensures length { length line.new ≤ 300 + length line.old }
 {
     line.put_text(b"</text>");
-    put_job(line, job);
+    put_job(line, names, job);
     line.put_text(b"\">");
     line.put_number(edges.foot);
     line.put_text(b"\" y=\"");

@@ -1,8 +1,10 @@
 //! The places of the rows and of the frame, in tenths of a pixel.
 
-ghost use Rattle.std.specs.Prelude.{◌≡◌};
-ghost use Rattle.run_picture.specs.Frame.{top_of, bottom_of, foot_of, rows_end, height_for};
+ghost use Rattle.std.specs.Prelude.{◌≡◌, ◌≤◌};
+ghost use Rattle.run_picture.specs.Frame.{top_of, bottom_of, foot_of, rows_end, height_for, longest_word, left_margin};
 
+use crate::words::machine_name;
+use people_names::Names;
 use shop_base::MachineNo;
 
 /// Where the axis of time begins.
@@ -50,4 +52,24 @@ pub(crate) fn height_for(machines: u32) -> u64
     ensures { result ≡ height_for machines }
 {
     rows_end(machines) + 100
+}
+
+/// How far the picture goes to the left of 0, so that the machines' words fit before their rows.
+pub(crate) fn left_margin(names: &Names, machines: u32) -> u64
+    ensures margin { result ≡ left_margin names.now machines }
+    ensures narrow { result ≤ 2_640 }
+{
+    (40 + 80 * longest_word(names, machines)).saturating_sub(600)
+}
+
+/// How many bytes the longest word for a machine has.
+fn longest_word(names: &Names, machines: u32) -> u64
+    ensures longest { result ≡ longest_word names.now machines }
+    ensures short { result ≤ 40 }
+{
+    let mut most = 0;
+    for machine in 0..machines {
+        most = most.max(machine_name(names, machine).bytes().len() as u64);
+    }
+    most
 }

@@ -1,57 +1,64 @@
 //! A whole picture.
 
-ghost use Rattle.std.specs.Prelude.{◌≡◌, flat_map, OnOk};
+ghost use Rattle.std.specs.Prelude.{◌≡◌, ◌≤◌, flat_map, OnOk};
 ghost use Rattle.run_picture.specs.Late.{is_late};
 ghost use Rattle.run_picture.specs.BoxText.{box_text};
 ghost use Rattle.run_picture.specs.Boxes.{if_any};
-ghost use Rattle.run_picture.specs.PictureText.{frame_text, axis_text, rows_text, visit_text, visits_text, marks_text, present_text, picture_text, IsPicture, IsStepAbove};
+ghost use Rattle.run_picture.specs.PictureText.{frame_text, axis_text, rows_text, visit_text, visits_text, marks_text, present_text, picture_text, IsPicture};
 ghost use Rattle.byte_streams.specs.Lent.{WroteTo};
 
-use crate::axis::step_for;
+use crate::axis::Ticks;
 use crate::box_text::put_box;
 use crate::drawn_box::{DrawnBox, clean_box, wait_box, work_box};
+use crate::frame::left_margin;
 use crate::frame_text::{
-    colour_text, ground_line, head_line, mark_line, moment_line, present_line, row_line,
+    colour_text, ground_line, mark_line, moment_line, present_line, row_line, size_line,
     style_text, words_line,
 };
 use crate::head::{Head, Sheet};
 use crate::late_leaving::LateLeaving;
 use crate::visit::DrawnVisit;
 use byte_streams::{Sink, WriteFault, put_all};
+use people_names::Names;
 use shop_base::{JobNo, Moment};
 use std::marker::Model;
 
 /// A picture of visits to machines, seen as the text of its SVG document. The text itself isn't held.
-#[derive(Debug, Drop)]
+#[derive(Drop)]
 pub struct Picture {
+    names: Names,
     sheet: Sheet,
-    step: Moment,
+    ticks: Ticks,
     visits: Vec<DrawnVisit>,
     late: Vec<Option<LateLeaving>>,
 }
 
 impl Model for Picture {
     ghost use Rattle.std.specs.Prelude.{ℕ, List};
-    ghost use Rattle.run_picture.specs.PictureText.{picture_text, IsStepAbove};
+    ghost use Rattle.run_picture.specs.PictureText.{picture_text};
 
     ghost Value = { List ℕ };
 
-    ghost view = { λ p. picture_text p.sheet p.visits.items p.late.items p.step };
-
-    ghost invariant = { λ p. IsStepAbove p.sheet.last p.step };
+    ghost view = { λ p. picture_text p.names p.sheet p.visits.items p.late.items p.ticks };
 }
 
 impl Picture {
-    /// The picture of these visits to machines numbered from 0. Each machine has a row with its number, and the axis of
-    /// time goes from 0 to the last moment. The boxes come in the order of the visits. The late leavings are told by
-    /// job: those of such a job have red outlines, and its leaving a red mark.
-    pub fn new(sheet: Sheet, visits: Vec<DrawnVisit>, late: Vec<Option<LateLeaving>>) -> Picture
-        ensures { IsPicture sheet visits.items late.items result }
+    /// The picture of these visits to machines numbered from 0. Each machine has a row with its name, else its number,
+    /// and the axis of time goes from 0 to the last moment. The boxes come in the order of the visits. The late leavings
+    /// are told by job: those of such a job have red outlines, and its leaving a red mark.
+    pub fn new(
+        names: Names,
+        sheet: Sheet,
+        visits: Vec<DrawnVisit>,
+        late: Vec<Option<LateLeaving>>,
+    ) -> Picture
+        ensures { IsPicture names sheet visits.items late.items result }
     {
-        let step = step_for(sheet.last);
+        let ticks = Ticks::new(names.clock(), sheet.last);
         Picture {
+            names,
             sheet,
-            step,
+            ticks,
             visits,
             late,
         }
@@ -62,66 +69,83 @@ impl Picture {
         ensures wrote { WroteTo W.Sink result output.old output.new self.now }
         ensures unfailed { OnOk result (W.failed output.new ≡ W.failed output.old) }
     {
-        put_picture(output, self.sheet, self.step, &self.visits, &self.late)
+        put_picture(
+            output,
+            &self.names,
+            self.sheet,
+            &self.visits,
+            &self.late,
+            &self.ticks,
+        )
     }
 }
 
 fn put_picture<W: Sink>(
     output: &mut W,
+    names: &Names,
     sheet: Sheet,
-    step: Moment,
     visits: &[DrawnVisit],
     late: &[Option<LateLeaving>],
+    ticks: &Ticks,
 ) -> Result<(), WriteFault>
-    requires { IsStepAbove sheet.last step }
-    ensures wrote { WroteTo W.Sink result output.old output.new (picture_text sheet visits.now late.now step) }
+    ensures wrote { WroteTo W.Sink result output.old output.new (picture_text names.now sheet visits.now late.now ticks.now) }
     ensures unfailed { OnOk result (W.failed output.new ≡ W.failed output.old) }
 {
-    put_head(output, sheet.machines, sheet.head)?;
-    put_axis(output, sheet.machines, sheet.last, step)?;
-    put_rows(output, sheet.machines)?;
-    put_visits(output, sheet.last, late, visits)?;
+    let margin = left_margin(names, sheet.machines);
+    put_head(output, margin, sheet.machines, sheet.head)?;
+    put_axis(output, names, sheet.machines, sheet.last, ticks)?;
+    put_rows(output, names, sheet.machines)?;
+    put_visits(output, names, sheet.last, late, visits)?;
     put_marks(output, sheet.last, late)?;
     put_present(output, sheet)?;
     put_all(output, b"</svg>\n")
 }
 
 /// Writes what comes before the axis.
-fn put_head<W: Sink>(output: &mut W, machines: u32, head: Head) -> Result<(), WriteFault>
-    ensures wrote { WroteTo W.Sink result output.old output.new (frame_text machines head) }
+fn put_head<W: Sink>(
+    output: &mut W,
+    margin: u64,
+    machines: u32,
+    head: Head,
+) -> Result<(), WriteFault>
+    requires { margin ≤ 2_640 }
+    ensures wrote { WroteTo W.Sink result output.old output.new (frame_text margin machines head) }
     ensures unfailed { OnOk result (W.failed output.new ≡ W.failed output.old) }
 {
-    put_all(output, head_line(machines).bytes())?;
+    put_all(output, size_line(margin, machines).bytes())?;
     put_all(output, style_text())?;
     put_all(output, colour_text())?;
-    put_all(output, ground_line(machines).bytes())?;
+    put_all(output, ground_line(margin, machines).bytes())?;
     put_all(output, words_line(head).bytes())
 }
 
-/// Writes the moments on the axis.
+/// Writes the moments that the axis names.
 fn put_axis<W: Sink>(
     output: &mut W,
+    names: &Names,
     machines: u32,
     last: Moment,
-    step: Moment,
+    ticks: &Ticks,
 ) -> Result<(), WriteFault>
-    requires { IsStepAbove last step }
-    ensures wrote { WroteTo W.Sink result output.old output.new (axis_text machines last step) }
+    ensures wrote { WroteTo W.Sink result output.old output.new (axis_text names.now machines last ticks.now) }
     ensures unfailed { OnOk result (W.failed output.new ≡ W.failed output.old) }
 {
-    for number in 0..last / step + 1 {
-        put_all(output, moment_line(machines, last, number * step).bytes())?;
+    for number in 0..ticks.count() {
+        put_all(
+            output,
+            moment_line(names, machines, last, ticks.at(number)).bytes(),
+        )?;
     }
     Ok(())
 }
 
-/// Writes the numbers of the rows.
-fn put_rows<W: Sink>(output: &mut W, machines: u32) -> Result<(), WriteFault>
-    ensures wrote { WroteTo W.Sink result output.old output.new (rows_text machines) }
+/// Writes the machines before their rows.
+fn put_rows<W: Sink>(output: &mut W, names: &Names, machines: u32) -> Result<(), WriteFault>
+    ensures wrote { WroteTo W.Sink result output.old output.new (rows_text names.now machines) }
     ensures unfailed { OnOk result (W.failed output.new ≡ W.failed output.old) }
 {
     for machine in 0..machines {
-        put_all(output, row_line(machine).bytes())?;
+        put_all(output, row_line(names, machine).bytes())?;
     }
     Ok(())
 }
@@ -129,15 +153,16 @@ fn put_rows<W: Sink>(output: &mut W, machines: u32) -> Result<(), WriteFault>
 /// Writes the boxes of the visits.
 fn put_visits<W: Sink>(
     output: &mut W,
+    names: &Names,
     last: Moment,
     late: &[Option<LateLeaving>],
     visits: &[DrawnVisit],
 ) -> Result<(), WriteFault>
-    ensures wrote { WroteTo W.Sink result output.old output.new (visits_text last late.now visits.now) }
+    ensures wrote { WroteTo W.Sink result output.old output.new (visits_text names.now last late.now visits.now) }
     ensures unfailed { OnOk result (W.failed output.new ≡ W.failed output.old) }
 {
     for visit in visits {
-        put_visit(output, last, late, *visit)?;
+        put_visit(output, names, last, late, *visit)?;
     }
     Ok(())
 }
@@ -145,17 +170,18 @@ fn put_visits<W: Sink>(
 /// Writes the boxes of a visit.
 fn put_visit<W: Sink>(
     output: &mut W,
+    names: &Names,
     last: Moment,
     late: &[Option<LateLeaving>],
     visit: DrawnVisit,
 ) -> Result<(), WriteFault>
-    ensures wrote { WroteTo W.Sink result output.old output.new (visit_text last late.now visit) }
+    ensures wrote { WroteTo W.Sink result output.old output.new (visit_text names.now last late.now visit) }
     ensures unfailed { OnOk result (W.failed output.new ≡ W.failed output.old) }
 {
     let is_late = is_late(late, visit.job);
-    put_box(output, last, work_box(last, is_late, visit))?;
-    put_any(output, last, wait_box(last, is_late, visit))?;
-    put_any(output, last, clean_box(last, visit))
+    put_box(output, names, last, work_box(last, is_late, visit))?;
+    put_any(output, names, last, wait_box(last, is_late, visit))?;
+    put_any(output, names, last, clean_box(last, visit))
 }
 
 /// Whether the job leaves past its budget.
@@ -169,12 +195,17 @@ fn is_late(late: &[Option<LateLeaving>], job: JobNo) -> bool
 }
 
 /// Writes a box, if there is one.
-fn put_any<W: Sink>(output: &mut W, last: Moment, drawn: Option<DrawnBox>) -> Result<(), WriteFault>
-    ensures wrote { WroteTo W.Sink result output.old output.new (flat_map (box_text last) (if_any drawn)) }
+fn put_any<W: Sink>(
+    output: &mut W,
+    names: &Names,
+    last: Moment,
+    drawn: Option<DrawnBox>,
+) -> Result<(), WriteFault>
+    ensures wrote { WroteTo W.Sink result output.old output.new (flat_map (box_text names.now last) (if_any drawn)) }
     ensures unfailed { OnOk result (W.failed output.new ≡ W.failed output.old) }
 {
     match drawn {
-        Some(drawn) => put_box(output, last, drawn),
+        Some(drawn) => put_box(output, names, last, drawn),
         None => Ok(()),
     }
 }

@@ -1,34 +1,89 @@
-//! What a picture writes for a job, a machine and a moment.
+//! What a picture writes for a job and a machine: what people call them, as XML has texts. A moment is written as in a
+//! line.
 
-ghost use Rattle.std.specs.Prelude.{◌≡◌, ◌+◌, ◌≤◌, ◌++◌, length};
-ghost use Rattle.run_picture.specs.Words.{job_word, machine_word, moment_word};
+ghost use Rattle.std.specs.Prelude.{◌≡◌, ◌+◌, ◌*◌, ◌≤◌, ◌++◌, length};
+ghost use Rattle.people_names.specs.Words.{job_word as job_name, machine_word as machine_name};
+ghost use Rattle.run_picture.specs.Words.{escaped_byte, escaped, job_word, machine_word};
+ghost use Rattle.run_picture.specs.declared.words.TheConstants.{WORD_ROOM};
 
-use shop_base::{JobNo, MachineNo, Moment};
+use people_names::{LONGEST_NAME, Names};
+use shop_base::{JobNo, MachineNo};
 use text_lines::LineText;
 
-/// Writes a job before what there is: its number.
-pub(crate) fn put_job<const ROOM: usize>(line: &mut LineText<ROOM>, job: JobNo)
-    requires { 10 + length line.old ≤ ROOM }
-    ensures written { line.new ≡ job_word job ++ line.old }
-    ensures length { length line.new ≤ 10 + length line.old }
+/// No word for a job or a machine has more bytes in XML.
+pub(crate) const WORD_ROOM: usize = 200;
+
+/// What people call a job or a machine.
+pub(crate) type NameText = LineText<LONGEST_NAME>;
+
+/// Writes a job before what there is.
+pub(crate) fn put_job<const ROOM: usize>(line: &mut LineText<ROOM>, names: &Names, job: JobNo)
+    requires { WORD_ROOM + length line.old ≤ ROOM }
+    ensures written { line.new ≡ job_word names.now job ++ line.old }
+    ensures length { length line.new ≤ WORD_ROOM + length line.old }
 {
-    line.put_short_number(job);
+    put_escaped(line, job_name(names, job).bytes());
 }
 
-/// Writes a machine before what there is: its number.
-pub(crate) fn put_machine<const ROOM: usize>(line: &mut LineText<ROOM>, machine: MachineNo)
-    requires { 10 + length line.old ≤ ROOM }
-    ensures written { line.new ≡ machine_word machine ++ line.old }
-    ensures length { length line.new ≤ 10 + length line.old }
+/// Writes a machine before what there is.
+pub(crate) fn put_machine<const ROOM: usize>(
+    line: &mut LineText<ROOM>,
+    names: &Names,
+    machine: MachineNo,
+)
+    requires { WORD_ROOM + length line.old ≤ ROOM }
+    ensures written { line.new ≡ machine_word names.now machine ++ line.old }
+    ensures length { length line.new ≤ WORD_ROOM + length line.old }
 {
-    line.put_short_number(machine);
+    put_escaped(line, machine_name(names, machine).bytes());
 }
 
-/// Writes a moment before what there is: its number.
-pub(crate) fn put_moment<const ROOM: usize>(line: &mut LineText<ROOM>, moment: Moment)
-    requires { 20 + length line.old ≤ ROOM }
-    ensures written { line.new ≡ moment_word moment ++ line.old }
-    ensures length { length line.new ≤ 20 + length line.old }
+/// What people call the job, else its number.
+pub(crate) fn job_name(names: &Names, job: JobNo) -> NameText
+    ensures name { result ≡ job_name names.now job }
+    ensures short { length result ≤ 40 }
 {
-    line.put_number(moment);
+    let mut name = NameText::empty();
+    names.put_job(&mut name, job);
+    name
+}
+
+/// What people call the machine, else its number.
+pub(crate) fn machine_name(names: &Names, machine: MachineNo) -> NameText
+    ensures name { result ≡ machine_name names.now machine }
+    ensures short { length result ≤ 40 }
+{
+    let mut name = NameText::empty();
+    names.put_machine(&mut name, machine);
+    name
+}
+
+/// Writes a text before what there is, as XML has it.
+fn put_escaped<const ROOM: usize>(line: &mut LineText<ROOM>, text: &[u8])
+    requires { 5 * length text.now + length line.old ≤ ROOM }
+    ensures written { line.new ≡ escaped text.now ++ line.old }
+    ensures length { length line.new ≤ 5 * length text.now + length line.old }
+{
+    let mut place = text.len();
+    while place > 0 {
+        place -= 1;
+        put_byte(line, text[place]);
+    }
+}
+
+/// Writes a byte of a text before what there is, as XML has it.
+fn put_byte<const ROOM: usize>(line: &mut LineText<ROOM>, byte: u8)
+    requires { 5 + length line.old ≤ ROOM }
+    ensures written { line.new ≡ escaped_byte byte ++ line.old }
+    ensures length { length line.new ≤ 5 + length line.old }
+{
+    if byte == b'&' {
+        line.put_text(b"&amp;");
+    } else if byte == b'<' {
+        line.put_text(b"&lt;");
+    } else if byte == b'>' {
+        line.put_text(b"&gt;");
+    } else {
+        line.put_text(&[byte]);
+    }
 }

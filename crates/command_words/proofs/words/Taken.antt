@@ -16,11 +16,11 @@ use Rattle.clap.specs.declared.builder.action.ArgAction.TheVariants.{Append, Set
 use Rattle.clap.specs.declared.builder.value_parser.ValueParser.{ValueParser}
 use Rattle.clap.specs.declared.builder.value_parser.ValueParser.TheVariants.{Signed}
 use Rattle.clap.proofs.ValueTestLemmas.{accepts-Accepts}
-use Rattle.command_words.specs.CommandLine.{option_rule, command, command_line, driven_rules, hub_rules, kept_rules, log_command, plan_command, rest_command, decision_rules, described, revising_rules, most_rounds, greatest_seed, most_choices, rounds_rule, switch_rule}
+use Rattle.command_words.specs.CommandLine.{option_rule, command, command_line, driven_rules, hub_rules, kept_rules, log_command, names_rule, plan_command, rest_command, decision_rules, described, revising_rules, most_rounds, greatest_seed, most_choices, rounds_rule, switch_rule}
 use Rattle.command_words.specs.Given.{values_of}
 use Rattle.command_words.specs.Choice.{FitsBetween, Found, IsFit, TakesFiles, TellsOneOf, TellsReason, files_in, found_in, parse_reasons_in, word_of}
 use Rattle.command_words.specs.declared.words.CommandName.{CommandName}
-use Rattle.command_words.specs.declared.words.CommandName.TheVariants.{Facts, Shape as ShapeName, Check, Explain, Schedule, Bounds, Plan, Improve, Decide, Revise, Drive, Resume, Hub, Audit, Gantt}
+use Rattle.command_words.specs.declared.words.CommandName.TheVariants.{Facts, Shape as ShapeName, Check, Explain, Schedule, Bounds, Margin, Plan, Improve, Decide, Revise, Drive, Resume, Hub, Digest, Audit, Gantt}
 use Rattle.command_words.specs.declared.words.WordsFault.{WordsFault}
 use Rattle.command_words.specs.declared.words.WordsFault.TheVariants.{Usage, Memory}
 use Rattle.command_words.proofs.words.Fits.{FitFound, PlainRule, PlainRules, both_none, found_fits, least_of}
@@ -175,8 +175,25 @@ rest_fits name named is counts = fits_leaf (as_built (rest_command name [])) nam
 )
     (_, refl, refl, refl, refl, refl) (_, refl, refl, refl, refl, refl) refl tt tt tt counts
 
-drive_fits : FitsLeaf (as_built (plan_command (codes "drive") kept_rules))
-drive_fits = fits_leaf (as_built (plan_command (codes "drive") kept_rules)) Drive one one none refl refl refl (
+named_fits : (name : Text) (named : CommandName) → word_of named ≡ Some name → ((x y z : ℕ) → x ≡ 1 → y ≡ 1 → z ≡ 0 → TakesFiles named ((x + y) + z))
+    → FitsLeaf (as_built (plan_command name (names_rule ∷ [])))
+named_fits name named is counts = fits_leaf (as_built (plan_command name (names_rule ∷ []))) named one one none is refl refl (
+  set_plain _ _ refl refl refl refl,
+  (
+    set_plain _ _ refl refl refl refl,
+    (
+      set_plain _ _ refl refl refl refl,
+      (
+        set_plain _ _ refl refl refl refl,
+        (help_plain _ _ refl refl refl refl, tt),
+      ),
+    ),
+  ),
+)
+    (_, refl, refl, refl, refl, refl) (_, refl, refl, refl, refl, refl) refl tt tt tt counts
+
+reasons_fits : FitsLeaf (as_built (described Explain))
+reasons_fits = fits_leaf (as_built (described Explain)) Explain one one none refl refl refl (
   set_plain _ _ refl refl refl refl,
   (
     set_plain _ _ refl refl refl refl,
@@ -191,6 +208,40 @@ drive_fits = fits_leaf (as_built (plan_command (codes "drive") kept_rules)) Driv
             (
               set_plain _ _ refl refl refl refl,
               (help_plain _ _ refl refl refl refl, tt),
+            ),
+          ),
+        ),
+      ),
+    ),
+  ),
+)
+    (_, refl, refl, refl, refl, refl) (_, refl, refl, refl, refl, refl) refl tt tt tt (λ x y z p q r. omega arith)
+
+drive_fits : FitsLeaf (as_built (described Drive))
+drive_fits = fits_leaf (as_built (described Drive)) Drive one one none refl refl refl (
+  set_plain _ _ refl refl refl refl,
+  (
+    set_plain _ _ refl refl refl refl,
+    (
+      set_plain _ _ refl refl refl refl,
+      (
+        set_plain _ _ refl refl refl refl,
+        (
+          switch_plain _ _ refl refl refl,
+          (
+            switch_plain _ _ refl refl refl,
+            (
+              switch_plain _ _ refl refl refl,
+              (
+                set_plain _ _ refl refl refl refl,
+                (
+                  set_plain _ _ refl refl refl refl,
+                  (
+                    set_plain _ _ refl refl refl refl,
+                    (help_plain _ _ refl refl refl refl, tt),
+                  ),
+                ),
+              ),
             ),
           ),
         ),
@@ -217,8 +268,8 @@ log_fits name named is counts = fits_leaf (as_built (log_command name [])) named
 )
     (_, refl, refl, refl, refl, refl) (_, refl, refl, refl, refl, refl) (_, refl, refl, refl, refl, refl) tt tt tt counts
 
-timetable_fits : FitsLeaf (as_built (rest_command (codes "schedule") (switch_rule (codes "svg") ∷ [])))
-timetable_fits = fits_leaf (as_built (rest_command (codes "schedule") (switch_rule (codes "svg") ∷ []))) Schedule one one none refl refl refl (
+timetable_fits : FitsLeaf (as_built (described Schedule))
+timetable_fits = fits_leaf (as_built (described Schedule)) Schedule one one none refl refl refl (
   set_plain _ _ refl refl refl refl,
   (
     set_plain _ _ refl refl refl refl,
@@ -228,7 +279,16 @@ timetable_fits = fits_leaf (as_built (rest_command (codes "schedule") (switch_ru
         set_plain _ _ refl refl refl refl,
         (
           set_plain _ _ refl refl refl refl,
-          (switch_plain _ _ refl refl refl, (help_plain _ _ refl refl refl refl, tt)),
+          (
+            switch_plain _ _ refl refl refl,
+            (
+              switch_plain _ _ refl refl refl,
+              (
+                set_plain _ _ refl refl refl refl,
+                (help_plain _ _ refl refl refl refl, tt),
+              ),
+            ),
+          ),
         ),
       ),
     ),
@@ -236,8 +296,8 @@ timetable_fits = fits_leaf (as_built (rest_command (codes "schedule") (switch_ru
 )
     (_, refl, refl, refl, refl, refl) (_, refl, refl, refl, refl, refl) refl tt tt tt (λ x y z p q r. omega arith)
 
-drawing_fits : FitsLeaf (as_built (log_command (codes "gantt") (switch_rule (codes "svg") ∷ [])))
-drawing_fits = fits_leaf (as_built (log_command (codes "gantt") (switch_rule (codes "svg") ∷ []))) Gantt one one one refl refl refl (
+drawing_fits : FitsLeaf (as_built (described Gantt))
+drawing_fits = fits_leaf (as_built (described Gantt)) Gantt one one one refl refl refl (
   set_plain _ _ refl refl refl refl,
   (
     set_plain _ _ refl refl refl refl,
@@ -245,7 +305,13 @@ drawing_fits = fits_leaf (as_built (log_command (codes "gantt") (switch_rule (co
       set_plain _ _ refl refl refl refl,
       (
         set_plain _ _ refl refl refl refl,
-        (switch_plain _ _ refl refl refl, (help_plain _ _ refl refl refl refl, tt)),
+        (
+          switch_plain _ _ refl refl refl,
+          (
+            set_plain _ _ refl refl refl refl,
+            (help_plain _ _ refl refl refl refl, tt),
+          ),
+        ),
       ),
     ),
   ),
@@ -315,8 +381,8 @@ improvement_fits = fits_leaf (as_built (described Improve)) Improve one one none
 )
     (_, refl, refl, refl, refl, refl) (_, refl, refl, refl, refl, refl) refl refl refl tt (λ x y z p q r. omega arith)
 
-decision_fits : FitsLeaf (as_built (rest_command (codes "decide") decision_rules))
-decision_fits = fits_leaf (as_built (rest_command (codes "decide") decision_rules)) Decide one one none refl refl refl (
+decision_fits : FitsLeaf (as_built (described Decide))
+decision_fits = fits_leaf (as_built (described Decide)) Decide one one none refl refl refl (
   set_plain _ _ refl refl refl refl,
   (
     set_plain _ _ refl refl refl refl,
@@ -330,7 +396,13 @@ decision_fits = fits_leaf (as_built (rest_command (codes "decide") decision_rule
             switch_plain _ _ refl refl refl,
             (
               set_plain _ _ refl refl refl refl,
-              (number_plain _ _ refl refl refl (omega arith) (omega arith), (help_plain _ _ refl refl refl refl, tt)),
+              (
+                number_plain _ _ refl refl refl (omega arith) (omega arith),
+                (
+                  set_plain _ _ refl refl refl refl,
+                  (help_plain _ _ refl refl refl refl, tt),
+                ),
+              ),
             ),
           ),
         ),
@@ -433,28 +505,34 @@ leaves = (
     (
       rest_fits (codes "check") Check refl (λ x y z p q r. omega arith),
       (
-        rest_fits (codes "explain") Explain refl (λ x y z p q r. omega arith),
+        reasons_fits,
         (
           timetable_fits,
           (
-            plan_fits (codes "bounds") Bounds refl (λ x y z p q r. omega arith),
+            named_fits (codes "bounds") Bounds refl (λ x y z p q r. omega arith),
             (
-              search_fits,
+              named_fits (codes "margin") Margin refl (λ x y z p q r. omega arith),
               (
-                improvement_fits,
+                search_fits,
                 (
-                  decision_fits,
+                  improvement_fits,
                   (
-                    revised_fits,
+                    decision_fits,
                     (
-                      drive_fits,
+                      revised_fits,
                       (
-                        resumed_fits,
+                        drive_fits,
                         (
-                          hub_fits,
+                          resumed_fits,
                           (
-                            log_fits (codes "audit") Audit refl (λ x y z p q r. omega arith),
-                            (drawing_fits, tt),
+                            hub_fits,
+                            (
+                              plan_fits (codes "digest") Digest refl (λ x y z p q r. omega arith),
+                              (
+                                log_fits (codes "audit") Audit refl (λ x y z p q r. omega arith),
+                                (drawing_fits, tt),
+                              ),
+                            ),
                           ),
                         ),
                       ),

@@ -2,7 +2,7 @@
 
 ghost use Rattle.std.specs.Prelude.{◌≡◌, IfOk, [], ◌∷◌, false, codes};
 ghost use Rattle.clap.specs.Words.{rule_of};
-ghost use Rattle.command_words.specs.CommandLine.{Describes, adding_rules, bare_program, choices_rule, command, command_line, described, file_rule, leaf, lengthening_rules, log_command, option_rule, plan_command, plans_rule, program_with, repeated_rule, rest_command, rounds_rule, seed_rule, switch_rule};
+ghost use Rattle.command_words.specs.CommandLine.{Describes, adding_rules, bare_program, choices_rule, command, command_line, described, file_rule, leaf, lengthening_rules, log_command, log_rules, names_rule, option_rule, plan_command, plans_rule, program_with, repeated_rule, rest_command, rounds_rule, seed_rule, switch_rule};
 
 use crate::words::CommandName;
 use clap::builder::ValueParser;
@@ -109,13 +109,21 @@ fn least<'a>(alloc: Global) -> Arg<'a>
     switch(alloc, "least", help)
 }
 
-/// The job of whose leaving is asked.
-fn job<'a>(alloc: Global) -> Arg<'a>
+/// The job of whose leaving is asked or told.
+fn job<'a>(alloc: Global, help: &'a str) -> Arg<'a>
     ensures rule { rule_of result ≡ option_rule (codes "job") }
     ensures local { result.global ≡ false }
 {
-    let help = "Find how soon job J can be out, if all others keep theirs";
     option(alloc, "job", "J", help)
+}
+
+/// The names of jobs and machines, and the clock.
+fn names<'a>(alloc: Global) -> Arg<'a>
+    ensures rule { rule_of result ≡ names_rule }
+    ensures local { result.global ≡ false }
+{
+    let help = "Write names and clock times by this file, in TOML";
+    option(alloc, "names", "NAMES", help)
 }
 
 /// The name of an instance in a collection.
@@ -208,12 +216,36 @@ fn on_log<'a>(alloc: Global, name: &'a str, about: &'a str) -> Result<Command<'a
     on_plan(alloc, name, about)?.arg(file(alloc, "LOG", "The log of a run, as drive writes it"))
 }
 
+/// A command on an instance and a plan, whose lines may have names.
+fn on_named_plan<'a>(
+    alloc: Global,
+    name: &'a str,
+    about: &'a str,
+) -> Result<Command<'a>, AllocError>
+    ensures { IfOk result (Describes (leaf (plan_command name.entry.now (names_rule ∷ [])))) }
+{
+    on_plan(alloc, name, about)?.arg(names(alloc))
+}
+
+/// Why a plan is accepted or refused.
+fn reasons<'a>(alloc: Global) -> Result<Command<'a>, AllocError>
+    ensures { IfOk result (Describes (leaf (described CommandName.Explain))) }
+{
+    let about = "Says why a plan is accepted or refused";
+    let help = "Tell the chain to job J's leaving";
+    let told = on_rest(alloc, "explain", about)?.arg(job(alloc, help))?;
+    told.arg(names(alloc))
+}
+
 /// The schedule of a plan.
 fn timetable<'a>(alloc: Global) -> Result<Command<'a>, AllocError>
     ensures { IfOk result (Describes (leaf (described CommandName.Schedule))) }
 {
     let about = "Prints when each activity begins and ends, and how late it may end";
-    on_rest(alloc, "schedule", about)?.arg(svg(alloc))
+    let help = "Print the moves in their order in place of the moments";
+    let drawn = on_rest(alloc, "schedule", about)?.arg(svg(alloc))?;
+    let moved = drawn.arg(switch(alloc, "moves", help))?;
+    moved.arg(names(alloc))
 }
 
 /// The drawing of a log.
@@ -221,7 +253,8 @@ fn drawing<'a>(alloc: Global) -> Result<Command<'a>, AllocError>
     ensures { IfOk result (Describes (leaf (described CommandName.Gantt))) }
 {
     let about = "Draws a log as a Gantt chart, in text or as a picture";
-    on_log(alloc, "gantt", about)?.arg(svg(alloc))
+    let drawn = on_log(alloc, "gantt", about)?.arg(svg(alloc))?;
+    drawn.arg(names(alloc))
 }
 
 /// A run that is taken up.
@@ -256,9 +289,11 @@ fn decision<'a>(alloc: Global) -> Result<Command<'a>, AllocError>
     ensures { IfOk result (Describes (leaf (described CommandName.Decide))) }
 {
     let about = "Says whether any plan can keep the budgets of PLAN";
+    let help = "Find how soon job J can be out, if all others keep theirs";
     let asked = on_rest(alloc, "decide", about)?.arg(least(alloc))?;
-    let aimed = asked.arg(job(alloc))?;
-    aimed.arg(choices(alloc))
+    let aimed = asked.arg(job(alloc, help))?;
+    let bounded = aimed.arg(choices(alloc))?;
+    bounded.arg(names(alloc))
 }
 
 /// Until when what goes on lasts, and the jobs that are added.
@@ -311,20 +346,26 @@ fn hub<'a>(alloc: Global) -> Result<Command<'a>, AllocError>
     several.arg(leap(alloc))
 }
 
-/// One driven cell, and the log that it keeps.
+/// One driven cell, the log that it keeps, and how that has to begin.
 fn logged<'a>(alloc: Global) -> Result<Command<'a>, AllocError>
-    ensures { IfOk result (Describes (leaf (plan_command (codes "drive") (option_rule (codes "log") ∷ option_rule (codes "at") ∷ [])))) }
+    ensures { IfOk result (Describes (leaf (plan_command (codes "drive") log_rules))) }
 {
     let about = "Drives a cell by a plan: reports come in, move orders go out";
+    let new = "Begin a run: the log must not have begun";
+    let goes_on = "Take up a run: the log must have begun, by this plan";
+    let hand_over = "Take up a run by this plan, whichever it had";
     let plan = on_plan(alloc, "drive", about)?.arg(log(alloc))?;
-    plan.arg(at(alloc))
+    let begun = plan.arg(switch(alloc, "new", new))?;
+    let taken = begun.arg(switch(alloc, "continue", goes_on))?;
+    taken.arg(switch(alloc, "hand-over", hand_over))
 }
 
 /// One driven cell.
 fn driven<'a>(alloc: Global) -> Result<Command<'a>, AllocError>
     ensures { IfOk result (Describes (leaf (described CommandName.Drive))) }
 {
-    let told = logged(alloc)?.arg(lines(alloc))?;
+    let rest = logged(alloc)?.arg(at(alloc))?;
+    let told = rest.arg(lines(alloc))?;
     told.arg(leap(alloc))
 }
 
@@ -354,12 +395,17 @@ fn command_of<'a>(alloc: Global, name: CommandName) -> Result<Command<'a>, Alloc
             "check",
             "Says whether a plan can lock, and when each job is out",
         ),
-        CommandName::Explain => on_rest(alloc, "explain", "Says why a plan is accepted or refused"),
+        CommandName::Explain => reasons(alloc),
         CommandName::Schedule => timetable(alloc),
-        CommandName::Bounds => on_plan(
+        CommandName::Bounds => on_named_plan(
             alloc,
             "bounds",
             "Prints moments before which no plan has the jobs out",
+        ),
+        CommandName::Margin => on_named_plan(
+            alloc,
+            "margin",
+            "Says how much longer everything may take with each job in time",
         ),
         CommandName::Plan => search(alloc),
         CommandName::Improve => improvement(alloc),
@@ -368,6 +414,11 @@ fn command_of<'a>(alloc: Global, name: CommandName) -> Result<Command<'a>, Alloc
         CommandName::Drive => driven(alloc),
         CommandName::Resume => resumed(alloc),
         CommandName::Hub => hub(alloc),
+        CommandName::Digest => on_plan(
+            alloc,
+            "digest",
+            "Prints the digits by which a log names a plan and its shop",
+        ),
         CommandName::Audit => on_log(alloc, "audit", "Says whether a log is a run of the plan"),
         CommandName::Gantt => drawing(alloc),
     }
@@ -395,6 +446,7 @@ pub fn whole<'a>(alloc: Global) -> Result<Command<'a>, AllocError>
         CommandName::Explain,
         CommandName::Schedule,
         CommandName::Bounds,
+        CommandName::Margin,
         CommandName::Plan,
         CommandName::Improve,
         CommandName::Decide,
@@ -402,6 +454,7 @@ pub fn whole<'a>(alloc: Global) -> Result<Command<'a>, AllocError>
         CommandName::Drive,
         CommandName::Resume,
         CommandName::Hub,
+        CommandName::Digest,
         CommandName::Audit,
         CommandName::Gantt,
     ];

@@ -1,6 +1,4 @@
-use Rattle.std.proofs.Common.{subst}
 use Rattle.cell_tables.specs.declared.tables.Tables.{Tables}
-use Rattle.cell_control.specs.CarriedRows.{AreCarriedJobs}
 use Rattle.cell_control.proofs.CarriedTables.{carried, carried_are_sound}
 use Rattle.cell_control.proofs.carrying.carry.Goals as goal
 
@@ -9,11 +7,11 @@ returns-clause-sound g c =
     let v = c.args.cell.now in
     let t : Tables = record { jobs = c.in_ok-jobs.jobs; machines = c.in_ok-machines.machines; last = c.last.result } in
     carried_are_sound v.plan c.args.shaped.now v.cell t c.shaped-plan.ensures.well_shaped c.job_count.ensures.well_shaped c.shaped-plan.ensures.sound c.requires
-    (subst (λ n. AreCarriedJobs v.plan v.cell n c.in_ok-jobs.jobs.items) c.job_count.ensures.count c.in_ok-jobs.ensures) c.in_ok-machines.ensures c.last.ensures
+    (rw c.job_count.ensures.count at c.in_ok-jobs.ensures) c.in_ok-machines.ensures c.last.ensures
 
 pub returns-clause-carried : goal.returns-clause-carried
 returns-clause-carried g c =
     let v = c.args.cell.now in
     let t : Tables = record { jobs = c.in_ok-jobs.jobs; machines = c.in_ok-machines.machines; last = c.last.result } in
     carried v.plan c.args.shaped.now v.cell t c.shaped-plan.ensures.well_shaped c.job_count.ensures.well_shaped c.shaped-plan.ensures.sound c.requires
-    (subst (λ n. AreCarriedJobs v.plan v.cell n c.in_ok-jobs.jobs.items) c.job_count.ensures.count c.in_ok-jobs.ensures) c.in_ok-machines.ensures c.last.ensures
+    (rw c.job_count.ensures.count at c.in_ok-jobs.ensures) c.in_ok-machines.ensures c.last.ensures

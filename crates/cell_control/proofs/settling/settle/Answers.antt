@@ -4,7 +4,6 @@ use Rattle.shop_base.specs.Move.{after_move}
 use Rattle.shop_base.proofs.CellFacts.{ready_count-le}
 use Rattle.shop_base.proofs.ReadyCount.{after_move-ready_count}
 use Rattle.cell_tables.specs.PlannedCell.{PlannedCell}
-use Rattle.cell_control.specs.Settled.{HasSettled}
 use Rattle.cell_control.specs.Settling.{IsSettling}
 use Rattle.cell_control.proofs.SettledCells.{first_at, settling_begins, settling_more, settled_at_rest}
 use Rattle.cell_control.proofs.settling.settle.Goals as goal
@@ -57,5 +56,5 @@ loop-job-preserved g c =
 
 pub returns-clause-settled : goal.returns-clause-settled
 returns-clause-settled g c =
-    subst (λ p. HasSettled p c.args.at c.args.cell.now.cell c.loop-job.orders.items c.loop-job.cell.cell) (ap (λ x. x.plan) c.loop-job.invariant.1)
+    rw (ap (λ x. x.plan) c.loop-job.invariant.1) at
     (settled_at_rest c.loop-job.cell.plan c.args.cell.now.cell c.args.at c.args.orders.now.capacity c.loop-job.cell.cell c.loop-job.orders c.loop-job.invariant.0 c.in_default.ensures)

@@ -1,4 +1,4 @@
-use Rattle.std.proofs.Common.{Ok, refl}
+use Rattle.std.proofs.Common.{Ok}
 use Rattle.command_answers.proofs.bound_answers.bounds_answer.Goals as goal
 
 pub returns : goal.returns
@@ -6,5 +6,5 @@ returns g c = record {
   came = Ok c.in_ok-both.both;
   mid = c.read_both.new.texts;
   is = rw (← c.in_ok-both.was) c.read_both.ensures;
-  goes_on = (c.both_bounded.ensures, refl);
+  goes_on = c.named_bounded.ensures;
 }

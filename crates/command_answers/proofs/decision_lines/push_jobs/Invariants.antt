@@ -4,4 +4,4 @@ use Rattle.command_answers.proofs.decision_lines.push_jobs.Given as goal
 
 -- what was written, and what is still to come
 abbrev pub invariant-loop-job : goal.invariant-loop-job
-invariant-loop-job l = l.text.items ++ job_words (drop l.job-index l.jobs) ≡ l.initial.text.items ++ job_words l.jobs
+invariant-loop-job l = l.text.items ++ job_words l.names (drop l.job-index l.jobs) ≡ l.initial.text.items ++ job_words l.names l.jobs

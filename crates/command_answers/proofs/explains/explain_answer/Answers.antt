@@ -1,14 +1,10 @@
-use Rattle.std.proofs.Common.{Ok, refl}
-use Rattle.command_answers.proofs.CheckLines.{loaded_evidence, explanation_of_loaded}
+use Rattle.std.proofs.Common.{Ok, inl}
 use Rattle.command_answers.proofs.explains.explain_answer.Goals as goal
 
-pub loaded_explained-requires : goal.loaded_explained-requires
-loaded_explained-requires g c = loaded_evidence _ _ c.in_ok-loaded.ensures.loaded
-
-pub returns : goal.returns
-returns g c = record {
-  came = Ok c.in_ok-both.both;
+pub returns-in-Ok : goal.returns-in-Ok
+returns-in-Ok g c = record {
+  came = Ok c.in_ok-read_both.field-0;
   mid = c.read_both.new.texts;
-  is = rw (← c.in_ok-both.was) c.read_both.ensures;
-  goes_on = (explanation_of_loaded _ _ _ c.in_ok-loaded.ensures.loaded c.in_ok-loaded_explained.ensures, refl);
+  is = rw (← c.in_ok-read_both.was) c.read_both.ensures;
+  goes_on = inl (c.in-Ok.ensures.shaped.1, rw (← c.in-Ok.ensures.shaped.0) c.shaped_explained.ensures);
 }

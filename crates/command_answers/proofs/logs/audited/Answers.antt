@@ -9,5 +9,5 @@ returns-in_ok-run_told-in-Ok c = inl (record { run = c.in-Ok.found; is = c.in-Ok
 
 pub returns-in-Err : goal.returns-in-Err
 returns-in-Err c =
-    refused_log c.args.shaped.now (lines_of c.args.log.now) (IsLogLine c.args.telling c.args.shaped.now c.args.log.now) (λ answer refused. inr refused)
+    refused_log c.args.shaped.now (lines_of c.args.log.now) (IsLogLine c.args.names.now c.args.telling c.args.shaped.now c.args.log.now) (λ answer refused. inr refused)
     c.in-Err.fault c.fault_told.result c.in-Err.ensures.fault c.fault_told.ensures

@@ -20,5 +20,5 @@ pub returns-in_err-fault_told-in-Err : goal.returns-in_err-fault_told-in-Err
 returns-in_err-fault_told-in-Err c =
     let p = c.args.shaped.now in
     let lines = lines_of c.args.log.now in
-    at_fault (IsOrMemory (IsLogDrawn p c.args.log.now)) c.from_residual-in_err-fault_told-in-Err.result c.in_err-fault_told-in-Err.field-0.0 c.from_residual-in_err-fault_told-in-Err.ensures.1
+    at_fault (IsOrMemory (IsLogDrawn c.args.names p c.args.log.now)) c.from_residual-in_err-fault_told-in-Err.result c.in_err-fault_told-in-Err.field-0.0 c.from_residual-in_err-fault_told-in-Err.ensures.1
     (refused_log p lines (IsLogRefused p lines) (λ answer line. line) c.in-Err.fault _ c.in-Err.ensures.fault c.in_err-fault_told-in-Err.ensures)

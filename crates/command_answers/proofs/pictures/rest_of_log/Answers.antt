@@ -12,7 +12,7 @@ pub returns-in_ok-cell_drawn-in-Ok : goal.returns-in_ok-cell_drawn-in-Ok
 returns-in_ok-cell_drawn-in-Ok c =
     let run = c.in-Ok.run' in
     let is = c.in-Ok.ensures in
-    run_shown c.args.at c.args.shaped c.args.log.now (run.entries.items, is.tells, is.told.run) run.cell.plan run.cell.cell _ c.in_ok-cell_drawn-in-Ok.field-0
+    run_shown c.args.at c.args.names c.args.shaped c.args.log.now (run.entries.items, is.tells, is.told.run) run.cell.plan run.cell.cell _ c.in_ok-cell_drawn-in-Ok.field-0
     is.plan is.told.cell c.deref.ensures.value c.in_ok-cell_drawn-in-Ok.ensures
 
 pub returns-in_ok-fault_told-in-Err : goal.returns-in_ok-fault_told-in-Err
@@ -25,5 +25,5 @@ pub returns-in_err-fault_told-in-Err : goal.returns-in_err-fault_told-in-Err
 returns-in_err-fault_told-in-Err c =
     let p = c.args.shaped in
     let lines = ended_lines c.args.log.now in
-    at_fault (IsOrMemory (IsRestDrawing c.args.at p c.args.log.now)) c.from_residual-in_err-fault_told-in-Err.result c.in_err-fault_told-in-Err.field-0.0 c.from_residual-in_err-fault_told-in-Err.ensures.1
+    at_fault (IsOrMemory (IsRestDrawing c.args.at c.args.names p c.args.log.now)) c.from_residual-in_err-fault_told-in-Err.result c.in_err-fault_told-in-Err.field-0.0 c.from_residual-in_err-fault_told-in-Err.ensures.1
     (refused_log p lines (IsLogRefused p lines) (λ answer line. line) c.in-Err.fault _ c.in-Err.ensures.fault c.in_err-fault_told-in-Err.ensures)

@@ -4,13 +4,13 @@ use Rattle.command_answers.specs.Rests.{IsPastLine, IsRestTold}
 use Rattle.command_answers.proofs.RestAnswers.{present_within, past_told, rest_told}
 use Rattle.command_answers.proofs.rests.cell_told.Goals as goal
 
-pub rest_told-requires : goal.rest_told-requires
-rest_told-requires c =
+pub rest_told-requires-clause-present : goal.rest_told-requires-clause-present
+rest_told-requires-clause-present c =
     let last = c.last-last.ensures in
     let low = subst (λ (n : ℕ). n ≤ MAX_MOMENT) (sym last) c.shaped-plan.ensures.sound.last_in_range in
     record {
       in_order = subst (λ (n : ℕ). n ≤ c.present_at-present.result) last c.if-present-last.false;
-      in_range = subst (λ (n : ℕ). n ≤ MAX_MOMENT) (sym c.present_at-present.ensures) (present_within MAX_MOMENT c.args.at c.last-last.result c.requires low);
+      in_range = subst (λ (n : ℕ). n ≤ MAX_MOMENT) (sym c.present_at-present.ensures) (present_within MAX_MOMENT c.args.at c.last-last.result c.requires.present low);
     }
 
 pub returns-then-present-last : goal.returns-then-present-last
@@ -19,7 +19,7 @@ returns-then-present-last c =
     let last = c.last-last.ensures in
     let present = c.present_at-present.ensures ∙ ap (λ n. unwrap_or c.args.at n) last in
     let before = subst (λ (n : ℕ). n < c.last-last.result) present c.if-present-last.true in
-    past_told c.args.telling c.args.at c.args.cell.now.plan cell c.past_answer.result (subst (λ (n : ℕ). unwrap_or c.args.at cell.last < n) last before)
+    past_told (IsRestTold c.args.names.now c.args.telling) c.args.at c.args.cell.now.plan cell c.past_answer.result (subst (λ (n : ℕ). unwrap_or c.args.at cell.last < n) last before)
     (subst (λ (n : ℕ). IfOk c.past_answer.result (IsPastLine n)) last c.past_answer.ensures)
 
 pub returns : goal.returns
@@ -29,5 +29,5 @@ returns c =
     let last = c.last-last.ensures in
     let present = c.present_at-present.ensures ∙ ap (λ n. unwrap_or c.args.at n) last in
     let later = subst (λ (n : ℕ). n ≤ c.present_at-present.result) last c.if-present-last.false in
-    rest_told c.args.telling c.args.at p cell c.rest_told.result (subst (λ (n : ℕ). cell.last ≤ n) present later)
-    (subst (λ (n : ℕ). IfOk c.rest_told.result (IsRestTold c.args.telling p cell n)) present c.rest_told.ensures)
+    rest_told (IsRestTold c.args.names.now c.args.telling) c.args.at p cell c.rest_told.result (subst (λ (n : ℕ). cell.last ≤ n) present later)
+    (subst (λ (n : ℕ). IfOk c.rest_told.result (IsRestTold c.args.names.now c.args.telling p cell n)) present c.rest_told.ensures)

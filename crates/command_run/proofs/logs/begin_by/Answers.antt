@@ -1,14 +1,15 @@
 use Rattle.std.specs.Prelude.{is_some}
 use Rattle.std.proofs.Common.{refl}
+use Rattle.plan_verifier.specs.Seen.{judged}
 use Rattle.command_run.specs.Logs.{left_if}
-use Rattle.command_run.proofs.HeldLogs.{left_held}
+use Rattle.command_run.proofs.HeldLogs.{left_held, undriven}
 use Rattle.command_run.proofs.logs.begin_by.Goals as goal
 
 pub returns-in-Refused : goal.returns-in-Refused
 returns-in-Refused g c = record {
   began = record {
     end = left_if (is_some c.args.opened);
-    is = rw c.in-Refused.is (c.line_answer.ensures, record { same = refl; log = refl }, refl);
-    held = left_held _ _ _ _ g.B.Before.before _ _ _ c.args.opened c.requires.empty c.requires.told;
+    is = (undriven (is_some c.args.opened), rw c.in-Refused.is (c.line_answer.ensures, record { same = refl; is = refl }, refl));
+    held = left_held _ _ _ _ _ (judged c.args.verdict) g.B.Before.before _ _ _ c.args.opened c.requires.empty c.requires.told;
   };
 }

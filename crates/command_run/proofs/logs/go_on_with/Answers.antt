@@ -1,7 +1,7 @@
-use Rattle.std.proofs.Common.{Bool, List, ℕ, Option, Some, Result, inl, inr, sym, ◌∙◌, subst, refl}
+use Rattle.std.proofs.Common.{Bool, List, ℕ, Option, Some, Result, inl, inr, ap, ◌∙◌, subst, refl}
 use Rattle.byte_streams.specs.declared.drive_fault.DriveFault.{DriveFault}
 use Rattle.cell_drive.specs.TakenUp.{plan_of, told_in}
-use Rattle.run_journal.specs.Logged.{StayInStep}
+use Rattle.run_journal.specs.Logged.{StayInStep, fault_if}
 use Rattle.logged_drive.specs.LoggedRuns.{nothing_held}
 use Rattle.logged_drive.proofs.LoggedSteps.{stays}
 use Rattle.command_run.specs.Logs.{Driven, IsLoggedAnswer}
@@ -25,8 +25,8 @@ returns g c =
       went_on = elim had.went_on [
         | inl run ↦ record {
           end = Some (Driven p events run.held);
-          is = inl (record { end = end; log_failed = log_failed; held = run.held; shows = run.shows; output_failed = had.output_failed; answer = answer; log = refl });
-          held = (sym had.log_failed ∙ run.shows.log, keeps_in_log _ _ _ _ p events run.held g.B.Before.before run.in_step had.crash up all);
+          is = (refl, inl (record { end = end; log_failed = log_failed; held = run.held; shows = run.shows; output_failed = had.output_failed; answer = answer; log = refl }));
+          held = (had.log_fault ∙ ap fault_if run.shows.log, tt, keeps_in_log _ _ _ _ p events run.held g.B.Before.before run.in_step had.crash up all);
         }
         | inr lacks ↦
             let same = had.untouched lacks.is in
@@ -34,8 +34,8 @@ returns g c =
             (stays g.B.Before.before _ _ _ same.1 same.2) in
             record {
               end = Some (Driven p events (nothing_held _));
-              is = inr (record { end = end; log_failed = log_failed; unbegun = lacks; answer = answer; log = refl });
-              held = (sym had.log_failed ∙ lacks.log, keeps_in_log _ _ _ _ p events (nothing_held _) g.B.Before.before steps had.crash up all);
+              is = (refl, inr (record { end = end; log_failed = log_failed; unbegun = lacks; answer = answer; log = refl }));
+              held = (had.log_fault ∙ ap fault_if lacks.log, tt, keeps_in_log _ _ _ _ p events (nothing_held _) g.B.Before.before steps had.crash up all);
             }
       ];
     })

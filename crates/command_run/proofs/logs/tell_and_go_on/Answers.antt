@@ -10,7 +10,7 @@ returns-in-Ok g c =
     rw (← c.streams.view_is) (record {
       went_on = record {
         end = run.end;
-        is = record { told = Ok c.in-Ok.field-0; mid = output_of g.W.Sink g.W.Outlet.pending c.show_again.new.output; tells = c.in-Ok.ensures; goes_on = run.is };
+        is = (run.is.0, record { told = Ok c.in-Ok.field-0; mid = output_of g.W.Sink g.W.Outlet.pending c.show_again.new.output; tells = c.in-Ok.ensures; goes_on = run.is.1 });
         held = run.held;
       };
     })
@@ -21,7 +21,7 @@ returns-in-Err g c =
     rw (← c.streams.view_is) (record {
       went_on = record {
         end = Some Left;
-        is = record { told = Err c.in-Err.fault; mid = output_of g.W.Sink g.W.Outlet.pending c.show_again.new.output; tells = c.in-Err.ensures; goes_on = (ap Err c.from.ensures, refl, refl) };
-        held = (ready.unfailed, told_as g.B.Before.before (λ t seen. (seen, ready.settled)) c.requires.seen);
+        is = (refl, record { told = Err c.in-Err.fault; mid = output_of g.W.Sink g.W.Outlet.pending c.show_again.new.output; tells = c.in-Err.ensures; goes_on = (ap Err c.from.ensures, refl, refl) });
+        held = (ready.unfailed, tt, told_as g.B.Before.before (λ t seen. (seen, ready.settled)) c.requires.seen);
       };
     })

@@ -1,8 +1,9 @@
-use Rattle.std.proofs.Common.{IfSome, sym, subst}
+use Rattle.std.proofs.Common.{◌≡◌, ◌==◌, ◌&&◌, if◌then◌else◌, ℕ, List, Bool, Option, IfSome, ap, sym, ◌∙◌, subst}
 use Rattle.command_run.specs.Streams.{Devices}
-use Rattle.command_run.specs.Logs.{IsToldOfLog}
-use Rattle.command_run.specs.Program.{manner_in, pair_in}
+use Rattle.command_run.specs.Logs.{IsToldOfLog, is_driven}
+use Rattle.command_run.specs.Program.{kept_log_in, manner_in, pair_in, starts_again, status_by}
 use Rattle.command_run.proofs.Choosing.{told_of_path, logged}
+use Rattle.command_run.proofs.Endings.{own_or}
 use Rattle.command_run.proofs.Keepers.{kept_ends}
 use Rattle.command_run.proofs.LoggedEndings.{silent_logged}
 use Rattle.command_run.proofs.LogsAtEnd.{held_at_end}
@@ -18,6 +19,11 @@ logged_answer-outcome-requires-clause-told g c =
 pub returns : goal.returns
 returns g c =
     let run = c.logged_answer-outcome.ensures.runs in
+    let outcome = c.logged_answer-outcome.result.outcome in
+    let again : c.starts_again-again.result ≡ starts_again (is_driven run.end) outcome = c.starts_again-again.ensures ∙ ap (λ (b : Bool). starts_again b outcome) run.is.0 in
+    let status_is : c.status_with_log-status.result ≡ status_by (kept_log_in c.args.chosen.now) run.end outcome c.end-own.result =
+    c.status_with_log-status.ensures ∙ ap (λ (b : Bool). if c.end-own.result == 5 && b then 6 else c.end-own.result) again
+    ∙ ap (λ (k : Option (List ℕ)). status_by k run.end outcome c.end-own.result) (sym c.requires.kept) in
     rw (← c.devices.view_is) (record {
       runs = record {
         end = run.end;
@@ -25,11 +31,14 @@ returns g c =
           outcome = c.logged_answer-outcome.result.outcome;
           mid = c.logged_answer-outcome.result.streams;
           runs = logged g.T.Texts.gives c.args.chosen.now _ _ c.logged_answer-outcome.result.outcome c.logged_answer-outcome.result.streams run.end c.args.path.now c.pair-pair.result c.manner-manner.result c.requires.kept
-              c.pair-pair.ensures c.manner-manner.ensures run.is;
-          input = c.end-status.ensures.input;
-          ends = kept_ends c.args.chosen.now c.args.path.now c.logged_answer-outcome.result.outcome _ _ _ _ c.end-status.result c.requires.kept c.end-status.ensures.ends;
+              c.pair-pair.ensures c.manner-manner.ensures run.is.1;
+          input = c.end-own.ensures.input;
+          own = c.end-own.result;
+          ends = kept_ends c.args.chosen.now c.args.path.now c.logged_answer-outcome.result.outcome _ _ _ _ c.end-own.result c.requires.kept c.end-own.ensures.ends;
+          status_is = status_is;
         };
-        held = held_at_end g.L.Log.LogFile.seen g.L.Log.LogFile.may_leave g.L.Log.LogFile.failed g.B.Before.before c.logged_answer-outcome.result.outcome _ _ _ _ c.end-status.result c.logged_answer-outcome.result.log run.end
-            (λ driven. silent_logged _ _ _ _ _ run.is.shaped _ run.is.drives driven) c.end-status.ensures.ends run.held;
+        held = held_at_end g.L.Log.LogFile.seen g.L.Log.LogFile.may_leave g.L.Log.LogFile.fault g.L.Log.LogFile.written g.B.Before.before c.logged_answer-outcome.result.outcome _ _ _ _ c.end-own.result _
+            c.logged_answer-outcome.result.log run.end (λ driven. silent_logged _ _ _ _ _ _ run.is.1.shaped _ run.is.1.drives driven) c.end-own.ensures.ends
+            (own_or (kept_log_in c.args.chosen.now) run.end c.logged_answer-outcome.result.outcome c.end-own.result _ status_is) run.held;
       };
     })

@@ -21,8 +21,23 @@ returns-in_err-job_of-clause-refused c =
     (tells_later _ _ _ c.in_ok-rest_at.ensures.fits (tells_later _ _ _ c.in_ok-lines_of.ensures.fits
     (tells_later _ _ _ c.in_ok-leap_of.ensures.fits (tells_first _ _ _ c.in_err-job_of.ensures.refused))))
 
+pub returns-in_err-moves_of-clause-refused : goal.returns-in_err-moves_of-clause-refused
+returns-in_err-moves_of-clause-refused c =
+    passed_on _ c.from_residual-in_err-moves_of.result c.in_err-moves_of.field-0.0 c.from_residual-in_err-moves_of.ensures.1
+    (tells_later _ _ _ c.in_ok-rest_at.ensures.fits (tells_later _ _ _ c.in_ok-lines_of.ensures.fits
+    (tells_later _ _ _ c.in_ok-leap_of.ensures.fits (tells_later _ _ _ c.in_ok-job_of.ensures.fits
+    (tells_first _ _ _ c.in_err-moves_of.ensures.refused)))))
+
+pub returns-in_err-start_of-clause-refused : goal.returns-in_err-start_of-clause-refused
+returns-in_err-start_of-clause-refused c =
+    passed_on _ c.from_residual-in_err-start_of.result c.in_err-start_of.field-0.0 c.from_residual-in_err-start_of.ensures.1
+    (tells_later _ _ _ c.in_ok-rest_at.ensures.fits (tells_later _ _ _ c.in_ok-lines_of.ensures.fits
+    (tells_later _ _ _ c.in_ok-leap_of.ensures.fits (tells_later _ _ _ c.in_ok-job_of.ensures.fits
+    (tells_later _ _ _ c.in_ok-moves_of.ensures.fits (tells_first _ _ _ c.in_err-start_of.ensures.refused))))))
+
 pub returns-in_err-changes_of-clause-refused : goal.returns-in_err-changes_of-clause-refused
 returns-in_err-changes_of-clause-refused c =
     passed_on _ c.from_residual-in_err-changes_of.result c.in_err-changes_of.field-0.0 c.from_residual-in_err-changes_of.ensures.1
     (tells_later _ _ _ c.in_ok-rest_at.ensures.fits (tells_later _ _ _ c.in_ok-lines_of.ensures.fits
-    (tells_later _ _ _ c.in_ok-leap_of.ensures.fits (tells_later _ _ _ c.in_ok-job_of.ensures.fits c.in_err-changes_of.ensures.refused))))
+    (tells_later _ _ _ c.in_ok-leap_of.ensures.fits (tells_later _ _ _ c.in_ok-job_of.ensures.fits
+    (tells_later _ _ _ c.in_ok-moves_of.ensures.fits (tells_later _ _ _ c.in_ok-start_of.ensures.fits c.in_err-changes_of.ensures.refused))))))

@@ -16,8 +16,5 @@ returns-clause-so_far c = one.it_is_one_so_far
 pub returns-clause-resumed : goal.returns-clause-resumed
 returns-clause-resumed c = one.what_was_resumed_has_its_orders
 
-pub returns-clause-stated : goal.returns-clause-stated
-returns-clause-stated c = one.what_was_stated_on_has_its_orders
-
 pub returns-clause-first : goal.returns-clause-first
 returns-clause-first c = one.the_first_events_have_their_orders

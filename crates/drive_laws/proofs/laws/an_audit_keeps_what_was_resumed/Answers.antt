@@ -1,5 +1,4 @@
-use Rattle.drive_laws.proofs.ResumedTexts.{a_resumed_text_is_a_log, an_audit_keeps_what_was_resumed}
-use Rattle.drive_laws.proofs.StatedResumes.{an_audit_keeps_what_was_stated_on}
+use Rattle.drive_laws.proofs.Resumes.{a_resumed_text_is_a_log, an_audit_keeps_what_was_resumed}
 use Rattle.drive_laws.proofs.laws.an_audit_keeps_what_was_resumed.Goals as goal
 
 pub returns-clause-log : goal.returns-clause-log
@@ -7,6 +6,3 @@ returns-clause-log c = a_resumed_text_is_a_log
 
 pub returns-clause-audit : goal.returns-clause-audit
 returns-clause-audit c = an_audit_keeps_what_was_resumed
-
-pub returns-clause-stated : goal.returns-clause-stated
-returns-clause-stated c = an_audit_keeps_what_was_stated_on

@@ -1,4 +1,4 @@
-use Rattle.drive_laws.proofs.ResumedTexts.{one_resumed_text, resumed_text}
+use Rattle.drive_laws.proofs.Resumes.{one_resumed_text, resumed_text}
 use Rattle.drive_laws.proofs.laws.one_resumed_text.Goals as goal
 
 pub returns-clause-one : goal.returns-clause-one

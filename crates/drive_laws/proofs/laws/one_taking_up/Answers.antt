@@ -6,6 +6,3 @@ returns-clause-one c = taking.one_taking_up
 
 pub returns-clause-text : goal.returns-clause-text
 returns-clause-text c = taking.one_text_from_a_log
-
-pub returns-clause-stated : goal.returns-clause-stated
-returns-clause-stated c = taking.one_stated_text_from_a_log

@@ -1,6 +1,6 @@
 use Rattle.drive_laws.proofs.Plainly as plain
 use Rattle.drive_laws.proofs.PlainCells.{plainly_as_ever_for_cells}
-use Rattle.drive_laws.proofs.OnlyAdds.{retold_as_ever}
+use Rattle.cell_drive.proofs.RetoldLines.{retold_as_ever}
 use Rattle.drive_laws.proofs.laws.plainly_as_ever.Goals as goal
 
 pub returns-clause-answered : goal.returns-clause-answered

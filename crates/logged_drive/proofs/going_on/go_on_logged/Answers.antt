@@ -1,4 +1,4 @@
-use Rattle.std.proofs.Common.{inl, inr, refl, sym}
+use Rattle.std.proofs.Common.{inl, inr, refl}
 use Rattle.cell_drive.specs.InManner.{IsGoneOnIn}
 use Rattle.logged_drive.specs.LoggedRuns.{nothing_held}
 use Rattle.logged_drive.proofs.LoggedSteps.{at_start, keeps_shown, retaken, stays}
@@ -21,8 +21,8 @@ returns-in-Err-clause-crash g c = rw (c.in-Err.ensures.given_back.0, c.in-Err.en
 pub go_on_over-requires-clause-start : goal.go_on_over-requires-clause-start
 go_on_over-requires-clause-start g c = at_start g.B.Before.before _ _ _ c.in-Ok.ensures.taken c.requires.before
 
-pub returns-in-Err-clause-log_failed : goal.returns-in-Err-clause-log_failed
-returns-in-Err-clause-log_failed g c = rw c.in-Err.ensures.given_back.0 (sym c.requires.unfailed)
+pub returns-in-Err-clause-log_fault : goal.returns-in-Err-clause-log_fault
+returns-in-Err-clause-log_fault g c = rw c.in-Err.ensures.given_back.0 c.requires.unfailed
 
 pub returns-in-Err-clause-output_failed : goal.returns-in-Err-clause-output_failed
 returns-in-Err-clause-output_failed g c = rw c.from.ensures (λ is. absurd (cc is))

@@ -1,5 +1,6 @@
-use Rattle.std.proofs.Common.{sym, ◌∙◌}
+use Rattle.std.proofs.Common.{sym, ap, ◌∙◌}
 use Rattle.cell_drive.specs.InManner.{IsGoneOnIn}
+use Rattle.run_journal.specs.Logged.{fault_if}
 use Rattle.logged_drive.proofs.LoggedSteps.{all_in_log, at_end, began, no_memory_behind, unfailed_behind, write_failed_behind}
 use Rattle.logged_drive.proofs.going_on.go_on_over.Goals as goal
 
@@ -20,8 +21,8 @@ returns-clause-in_log g c = at_end c.go_on_in-end.result (λ end is.
     let unfailed = unfailed_behind _ _ _ _ _ end is c.go_on_in-end.ensures ∙ c.requires.unfailed.0 in
     all_in_log g.B.Before.before _ _ c.go_on_in-end.new.writer _ c.into_parts-log.ensures.taken unfailed (c.into_parts-log.ensures.settled unfailed) c.into_parts-log.ensures.in_step)
 
-pub returns-clause-log_failed : goal.returns-clause-log_failed
-returns-clause-log_failed g c = c.has_log_failed-log_failed.ensures ∙ sym c.into_parts-log.ensures.log_failed
+pub returns-clause-log_fault : goal.returns-clause-log_fault
+returns-clause-log_fault g c = c.into_parts-log.ensures.log_fault ∙ sym (ap fault_if c.has_log_failed-log_failed.ensures)
 
 pub returns-clause-output_failed : goal.returns-clause-output_failed
 returns-clause-output_failed g c is unblamed =

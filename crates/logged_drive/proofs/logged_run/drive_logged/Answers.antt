@@ -1,4 +1,4 @@
-use Rattle.std.proofs.Common.{inl, refl, sym}
+use Rattle.std.proofs.Common.{inl, refl}
 use Rattle.cell_drive.specs.InManner.{IsDriveIn}
 use Rattle.logged_drive.specs.LoggedRuns.{nothing_held}
 use Rattle.logged_drive.proofs.LoggedSteps.{at_start, keeps_shown, retaken, stays, unbegun}
@@ -25,8 +25,8 @@ returns-in-Err-clause-crash g c = rw (c.in-Err.ensures.given_back.0, c.in-Err.en
 pub drive_over-requires-clause-start : goal.drive_over-requires-clause-start
 drive_over-requires-clause-start g c = at_start g.B.Before.before _ _ _ c.in-Ok.ensures.taken c.requires.before
 
-pub returns-in-Err-clause-log_failed : goal.returns-in-Err-clause-log_failed
-returns-in-Err-clause-log_failed g c = rw c.in-Err.ensures.given_back.0 (sym c.requires.unfailed)
+pub returns-in-Err-clause-log_fault : goal.returns-in-Err-clause-log_fault
+returns-in-Err-clause-log_fault g c = rw c.in-Err.ensures.given_back.0 c.requires.unfailed
 
 pub returns-in-Err-clause-output_failed : goal.returns-in-Err-clause-output_failed
 returns-in-Err-clause-output_failed g c = rw c.from.ensures (λ is. absurd (cc is))
@@ -37,9 +37,9 @@ returns-in-Err-clause-untouched g c = rw (c.in-Err.ensures.given_back.0, c.in-Er
 pub returns-in-Ok-clause-taken_up : goal.returns-in-Ok-clause-taken_up
 returns-in-Ok-clause-taken_up g c =
     let run = c.drive_over.ensures.drove in
-    taken_up_after c.args.manner c.args.verified c.shaped-plan.ensures.verified g.B.Before.before _ _ run.held _ _ _ _ _ run.shows.output
+    taken_up_after c.args.manner c.args.verified c.shaped-plan.ensures.verified g.B.Before.before _ _ run.held _ _ _ _ _ run.shows.output c.requires.whole
     (at_start g.B.Before.before _ _ _ c.in-Ok.ensures.taken c.requires.before) run.shows.drove run.in_step
 
 pub returns-in-Err-clause-taken_up : goal.returns-in-Err-clause-taken_up
 returns-in-Err-clause-taken_up g c = rw (c.in-Err.ensures.given_back.0, c.in-Err.ensures.given_back.1)
-    (unbegun_after c.args.manner c.args.verified c.shaped-plan.ensures.verified g.B.Before.before _ _ _ (at_start g.B.Before.before _ _ _ refl c.requires.before) (stays g.B.Before.before _ _ _ c.requires.before c.requires.settled))
+    (unbegun_after c.args.manner c.args.verified c.shaped-plan.ensures.verified g.B.Before.before _ _ _ c.requires.whole (at_start g.B.Before.before _ _ _ refl c.requires.before) (stays g.B.Before.before _ _ _ c.requires.before c.requires.settled))

@@ -17,10 +17,10 @@ loop-node-preserved c =
     let along = c.args.along.now in
     let i = c.loop-node.node-index in
     record {
-      told = reached_told p c.loop-node.last along i _ (omega arith) c.loop-node.at _ _ c.told_arc-arc.ensures c.time-at.ensures _ _ _ c.loop-node.invariant.told c.in_ok-push_reached_line.ensures;
+      told = reached_told p c.loop-node.last along i _ (omega arith) c.loop-node.at _ _ c.told_arc-arc.ensures c.time-at.ensures c.args.names.now _ _ _ c.loop-node.invariant.told c.in_ok-push_reached_line.ensures;
       arcs = (along_next p c.loop-node.last along i _ (omega arith) c.loop-node.invariant.arcs).1;
       size = length_next p c.loop-node.last along i _ (omega arith) c.loop-node.at _ _ c.told_arc-arc.ensures c.time-at.ensures _ c.loop-node.invariant.size;
     }
 
 pub returns : goal.returns
-returns c = reached_end c.args.shaped.now c.loop-node.last c.args.along.now c.loop-node.node-index (omega arith) c.loop-node.at _ _ c.loop-node.invariant.told
+returns c = reached_end c.args.shaped.now c.loop-node.last c.args.along.now c.loop-node.node-index (omega arith) c.args.names.now c.loop-node.at _ _ c.loop-node.invariant.told

@@ -2,5 +2,5 @@ use Rattle.std.proofs.Common.{refl}
 use Rattle.plan_explain.proofs.chains.put_hold.Goals as goal
 
 pub returns-in-Done-clause-written : goal.returns-in-Done-clause-written
-returns-in-Done-clause-written c = rw (c.in-Done.is, c.put_text-in-Done-2.ensures.written, c.put_short_number-in-Done-2.ensures.written, c.put_text-in-Done.ensures.written) (
-    rw (c.put_short_number-in-Done.ensures.written) refl)
+returns-in-Done-clause-written c = rw (c.in-Done.is, c.put_text-in-Done-2.ensures.written, c.put_job-in-Done.ensures.written, c.put_text-in-Done.ensures.written) (
+    rw (c.put_machine.ensures.written) refl)

@@ -5,4 +5,4 @@ use Rattle.plan_explain.proofs.leaving_lines.push_leaving_lines.Given as goal
 
 -- the lines of the jobs looked at are written
 abbrev pub invariant-loop-job : goal.invariant-loop-job
-invariant-loop-job g l = l.text.items ≡ l.initial.text.items ++ rest_leaving_lines_below l.cell.plan l.cell.cell (leaves_in l.cell.plan l.times) l.job
+invariant-loop-job g l = l.text.items ≡ l.initial.text.items ++ rest_leaving_lines_below l.names l.cell.plan l.cell.cell (leaves_in l.cell.plan l.times) l.job

@@ -22,7 +22,7 @@ reorder_by-serial-requires-clause-begins c =
 pub cost-requires-clause-stands : goal.cost-requires-clause-stands
 cost-requires-clause-stands c =
     stands_by c.args.fixed.now c.args.start c.reorder_by-serial.result (lists_of c.in-Ok.order.items) c.shaped.ensures.well_shaped c.requires.stands c.reorder_by-serial.ensures.plan c.reorder_by-serial.ensures.cell
-    (fresh_begins c.args.fixed.now c.args.start.plan (reordered c.args.start.plan (lists_of c.in-Ok.order.items)) c.args.start.cell c.requires.stands (c.requires.event.0 c.if-has_event.false))
+    (fresh_begins c.args.fixed.now c.args.start.plan c.reorder_by-serial.result.plan c.args.start.cell c.requires.stands (c.requires.event.0 c.if-has_event.false))
 
 pub unreachable-requires : goal.unreachable-requires
 unreachable-requires c =
@@ -37,6 +37,6 @@ returns-in-Ok-Some-clause-first c =
       inr (c.requires.cycle, c.requires.event.0 c.if-has_event.false, serial),
       stands_by c.args.fixed.now c.args.start c.reorder_by-serial.result (lists_of c.in-Ok.order.items) c.shaped.ensures.well_shaped c.requires.stands c.reorder_by-serial.ensures.plan
           c.reorder_by-serial.ensures.cell
-          (fresh_begins c.args.fixed.now c.args.start.plan (reordered c.args.start.plan (lists_of c.in-Ok.order.items)) c.args.start.cell c.requires.stands (c.requires.event.0 c.if-has_event.false)),
+          (fresh_begins c.args.fixed.now c.args.start.plan c.reorder_by-serial.result.plan c.args.start.cell c.requires.stands (c.requires.event.0 c.if-has_event.false)),
       rw c.in-Ok-Some.field-0-is at c.in-Ok-Some.ensures,
     )

@@ -22,22 +22,19 @@ returns-in-Stays-clause-judged c =
 
 pub cost_below-requires-clause-stands : goal.cost_below-requires-clause-stands
 cost_below-requires-clause-stands c =
-    stands_by c.args.fixed.now c.args.best.cell c.in-Fits.cell (lists_of c.args.order.items) c.shaped-plan.ensures.well_shaped c.requires.stands c.in-Fits.ensures.0 c.in-Fits.ensures.1
-    (rw c.in-Fits.ensures.0 at c.in-Fits.ensures.4)
+    stands_by c.args.fixed.now c.args.best.cell c.in-Fits.cell (lists_of c.args.order.items) c.shaped-plan.ensures.well_shaped c.requires.stands c.in-Fits.ensures.0 c.in-Fits.ensures.1 c.in-Fits.ensures.4
 
 pub returns-in-Ok-Some-clause-judged : goal.returns-in-Ok-Some-clause-judged
 returns-in-Ok-Some-clause-judged c =
     let below = rw c.in-Ok-Some.field-0-is at c.in-Ok-Some.ensures in
     next_better (setting_of c.args.fixed.now) c.args.best.cell c.in-Fits.cell c.args.best.cost c.in-Ok-Some.cost (lists_of c.args.order.items) c.requires.cost
     c.in-Fits.ensures.0 c.in-Fits.ensures.3
-    (stands_by c.args.fixed.now c.args.best.cell c.in-Fits.cell (lists_of c.args.order.items) c.shaped-plan.ensures.well_shaped c.requires.stands c.in-Fits.ensures.0 c.in-Fits.ensures.1
-    (rw c.in-Fits.ensures.0 at c.in-Fits.ensures.4))
+    (stands_by c.args.fixed.now c.args.best.cell c.in-Fits.cell (lists_of c.args.order.items) c.shaped-plan.ensures.well_shaped c.requires.stands c.in-Fits.ensures.0 c.in-Fits.ensures.1 c.in-Fits.ensures.4)
     below.0 below.1
 
 pub reorder_by-requires-clause-reached : goal.reorder_by-requires-clause-reached
 reorder_by-requires-clause-reached c = stands_reached c.args.fixed.now c.in-Fits.cell.plan c.in-Fits.cell.cell
-    (stands_by c.args.fixed.now c.args.best.cell c.in-Fits.cell (lists_of c.args.order.items) c.shaped-plan.ensures.well_shaped c.requires.stands c.in-Fits.ensures.0 c.in-Fits.ensures.1
-    (rw c.in-Fits.ensures.0 at c.in-Fits.ensures.4))
+    (stands_by c.args.fixed.now c.args.best.cell c.in-Fits.cell (lists_of c.args.order.items) c.shaped-plan.ensures.well_shaped c.requires.stands c.in-Fits.ensures.0 c.in-Fits.ensures.1 c.in-Fits.ensures.4)
 
 pub reorder_by-requires-clause-shaped : goal.reorder_by-requires-clause-shaped
 reorder_by-requires-clause-shaped c = rw (← c.in-Fits.ensures.2) c.shaped-plan.ensures.well_shaped

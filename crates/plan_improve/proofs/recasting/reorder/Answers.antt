@@ -1,11 +1,9 @@
-use Rattle.std.proofs.Common.{◌≡◌, sym, ap, subst, ◌∙◌}
+use Rattle.std.proofs.Common.{◌≡◌, sym, subst, ◌∙◌}
 use Rattle.std.proofs.lemmas.Bool.{false≢true}
-use Rattle.shop_base.specs.Plan.{PlannedShop, IsWellShaped}
+use Rattle.shop_base.specs.Plan.{PlannedShop}
 use Rattle.shop_base.specs.Vectors.{lists_of}
 use Rattle.plan_improve.specs.Keeping.{Begin}
-use Rattle.plan_improve.specs.Laws.{BeginsWithEntries}
-use Rattle.plan_improve.specs.Reordered.{reordered}
-use Rattle.plan_improve.proofs.SameFronts.{again_sound, again_cell, begins_of, sound_by, cell_by}
+use Rattle.plan_improve.proofs.SameFronts.{again_sound, again_cell, begins_of, recast}
 use Rattle.plan_improve.proofs.recasting.reorder.Goals as goal
 
 pub of_parts-requires : goal.of_parts-requires
@@ -30,16 +28,8 @@ returns-then-not-begin_with c =
 pub of_parts-requires-in-Fits : goal.of_parts-requires-in-Fits
 of_parts-requires-in-Fits c =
     let out = c.into_parts-shaped.ensures in
-    let x = c.args.cell in
-    let t = c.into_parts-shaped.result.1 in
-    let order = lists_of c.args.order.items in
-    let plan : c.into_parts-shaped.result.0 ≡ x.plan = out.basis ∙ sym out.plan in
-    let same : c.in-Fits.shaped ≡ reordered x.plan order = c.in-Fits.ensures.0 ∙ ap (λ (p : PlannedShop). reordered p order) plan in
-    let fits : IsWellShaped c.in-Fits.shaped = c.in-Fits.ensures.3 in
-    let begins : BeginsWithEntries x.cell (reordered x.plan order) = (begins_of x t out.plan out.cell out.sound order (subst IsWellShaped same fits)).0
-    (subst (λ (p : PlannedShop). Begin t.machines.items p.plan.order order) plan
-    (subst (λ vs. Begin t.machines.items c.into_parts-shaped.result.0.plan.order (lists_of vs)) c.deref.ensures.value (c.begin_with.ensures.0 c.if-not-begin_with.false))) in
-    sound_by x t out.plan out.cell out.sound order c.in-Fits.shaped same fits c.requires begins
+    (recast c.args.cell c.into_parts-shaped.result.1 out.plan out.cell out.sound (lists_of c.args.order.items) c.into_parts-shaped.result.0 c.in-Fits.shaped (out.basis ∙ sym out.plan)
+    c.in-Fits.ensures.0 c.in-Fits.ensures.3 c.requires (rw c.deref.ensures.value at (c.begin_with.ensures.0 c.if-not-begin_with.false))).0
 
 pub of_parts-requires-in-Stays : goal.of_parts-requires-in-Stays
 of_parts-requires-in-Stays c =
@@ -49,22 +39,9 @@ of_parts-requires-in-Stays c =
 pub returns-in-Fits : goal.returns-in-Fits
 returns-in-Fits c =
     let out = c.into_parts-shaped.ensures in
-    let x = c.args.cell in
-    let t = c.into_parts-shaped.result.1 in
-    let order = lists_of c.args.order.items in
-    let plan : c.into_parts-shaped.result.0 ≡ x.plan = out.basis ∙ sym out.plan in
-    let same : c.in-Fits.shaped ≡ reordered x.plan order = c.in-Fits.ensures.0 ∙ ap (λ (p : PlannedShop). reordered p order) plan in
-    let fits : IsWellShaped c.in-Fits.shaped = c.in-Fits.ensures.3 in
-    let begins : BeginsWithEntries x.cell (reordered x.plan order) = (begins_of x t out.plan out.cell out.sound order (subst IsWellShaped same fits)).0
-    (subst (λ (p : PlannedShop). Begin t.machines.items p.plan.order order) plan
-    (subst (λ vs. Begin t.machines.items c.into_parts-shaped.result.0.plan.order (lists_of vs)) c.deref.ensures.value (c.begin_with.ensures.0 c.if-not-begin_with.false))) in
-    rw c.of_parts-in-Fits.ensures (
-      same,
-      cell_by x t out.plan out.cell out.sound order c.in-Fits.shaped same fits c.requires begins,
-      sym plan ∙ c.in-Fits.ensures.1,
-      fits,
-      subst (BeginsWithEntries x.cell) (sym same) begins,
-    )
+    let fits = recast c.args.cell c.into_parts-shaped.result.1 out.plan out.cell out.sound (lists_of c.args.order.items) c.into_parts-shaped.result.0 c.in-Fits.shaped (out.basis ∙ sym out.plan)
+    c.in-Fits.ensures.0 c.in-Fits.ensures.3 c.requires (rw c.deref.ensures.value at (c.begin_with.ensures.0 c.if-not-begin_with.false)) in
+    rw c.of_parts-in-Fits.ensures (fits.2, fits.1, out.plan ∙ sym out.basis ∙ c.in-Fits.ensures.1, c.in-Fits.ensures.3, fits.3)
 
 pub returns-in-Stays : goal.returns-in-Stays
 returns-in-Stays c =

@@ -1,8 +1,6 @@
-use Rattle.std.proofs.Common.{◌++◌, ap, ◌∙◌, subst}
-use Rattle.shop_base.specs.Plan.{jobs}
+use Rattle.std.proofs.Common.{ap, ◌∙◌}
 use Rattle.alt_graph.specs.Times.{earliest_of}
 use Rattle.plan_schedule.specs.Calendars.{PlanCalendar}
-use Rattle.plan_schedule.specs.DrawnVisits.{ended_visit, visits_ahead}
 use Rattle.plan_schedule.proofs.Moments.{soon_ahead}
 use Rattle.plan_schedule.proofs.Behind.{are_moments}
 use Rattle.plan_schedule.proofs.Drawing.{run_visits}

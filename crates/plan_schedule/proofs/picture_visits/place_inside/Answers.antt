@@ -1,7 +1,7 @@
-use Rattle.std.proofs.Common.{◌≡◌, ◌+◌, ◌-◌, ℕ, sym, ap, ◌∙◌, arith}
+use Rattle.std.proofs.Common.{◌≡◌, ◌-◌, sym, ap, arith}
 use Rattle.shop_base.specs.declared.job_state.JobState.{JobState}
 use Rattle.shop_base.specs.Cell.{made}
-use Rattle.plan_schedule.proofs.Drawing.{past_nowhere, outside_nowhere, gone_nowhere, inside_behind}
+use Rattle.plan_schedule.proofs.Drawing.{inside_behind}
 use Rattle.plan_schedule.proofs.picture_visits.place_inside.Goals as goal
 
 pub returns-clause-place : goal.returns-clause-place

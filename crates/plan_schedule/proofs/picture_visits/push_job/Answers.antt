@@ -4,7 +4,6 @@ use Rattle.shop_base.specs.Plan.{steps}
 use Rattle.shop_base.specs.Graph.{node}
 use Rattle.alt_graph.specs.Times.{earliest_of}
 use Rattle.plan_schedule.specs.DrawnVisits.{job_visits}
-use Rattle.plan_schedule.proofs.Drawing.{none_ahead}
 use Rattle.plan_schedule.proofs.picture_visits.push_job.Goals as goal
 
 pub push_visits-requires-clause-soon : goal.push_visits-requires-clause-soon

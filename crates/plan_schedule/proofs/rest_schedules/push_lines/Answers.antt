@@ -25,4 +25,4 @@ push_cleanings-requires-clause-plan g c = ap (λ (k : PlanCalendar). k.plan) c.i
 pub returns : goal.returns
 returns g c =
     let is = rw c.shaped.ensures.plan at c.in_ok-calendar.ensures in
-    lines_added c.args.cell.now.plan c.args.cell.now.cell c.args.present c.args.times.now _ c.in_ok-calendar.calendar c.push_cleanings.result _ _ _ is c.in_ok-push_jobs.ensures c.push_cleanings.ensures
+    lines_added c.args.names.now c.args.cell.now.plan c.args.cell.now.cell c.args.present c.args.times.now _ c.in_ok-calendar.calendar c.push_cleanings.result _ _ _ is c.in_ok-push_jobs.ensures c.push_cleanings.ensures

@@ -13,7 +13,7 @@ returns g c =
     let k = c.args.calendar.now in
     let m = c.args.machine in
     let cleaning : Cleaning = record { machine = m; from = c.in-Some.since; to = c.max-to.result; due = c.next_due-due.result } in
-    on_ok_added (IsCleanedText k.plan c.args.cell.now.cell c.args.present (due_at k) m) c.push_cleaning_line.result _ _ (cleaning_line (codes " cleaned since ") cleaning)
+    on_ok_added (IsCleanedText c.args.names.now k.plan c.args.cell.now.cell c.args.present (due_at k) m) c.push_cleaning_line.result _ _ (cleaning_line c.args.names.now (codes " cleaned since ") cleaning)
     (inr (
       c.in-Some.since,
       sym c.in-Some.ensures.since,

@@ -15,11 +15,12 @@ push_visits-requires-clause-soon g c n from within =
     c.requires.soon (node c.args.job n) (record { job = c.requires.job; place = within })
     (omega (arith, ap (λ (s : JobState). s.made) c.job_state-state.ensures, c.if-state-eq0.true))
 
-pub push_entered-requires-clause-left : goal.push_entered-requires-clause-left
-push_entered-requires-clause-left g c =
-    c.requires.soon (node c.args.job (c.job_state-state.result.made - 1 + 1))
+pub push_visit-requires-clause-left : goal.push_visit-requires-clause-left
+push_visit-requires-clause-left g c =
+    rw c.entered_of-here.ensures
+    (c.requires.soon (node c.args.job (c.job_state-state.result.made - 1 + 1))
     (record { job = c.requires.job; place = omega (arith, c.steps.ensures, c.if-steps-state.false, c.if-state-eq0.false) })
-    (omega (arith, ap (λ (s : JobState). s.made) c.job_state-state.ensures))
+    (omega (arith, ap (λ (s : JobState). s.made) c.job_state-state.ensures)))
 
 pub push_visits-requires-2-clause-soon : goal.push_visits-requires-2-clause-soon
 push_visits-requires-2-clause-soon g c n from within =
@@ -29,16 +30,17 @@ push_visits-requires-2-clause-soon g c n from within =
 pub returns : goal.returns
 returns g c =
     let k = c.args.calendar.now in
+    let names = c.args.names.now in
     let cell = c.args.cell.now.cell in
     let at = earliest_of k.times in
     let j = c.args.job in
     let before : ℕ = c.job_state-state.result.made - 1 in
     let more : c.job_state-state.result.made ≡ before + 1 = omega (arith, c.if-state-eq0.false) in
-    on_ok_adds (AreVisitsFrom k.plan at (due_at k) j c.job_state-state.result.made (steps k.plan j)) (IsRestJobText k.plan cell c.args.present at (due_at k) j)
+    on_ok_adds (AreVisitsFrom names k.plan at (due_at k) j c.job_state-state.result.made (steps k.plan j)) (IsRestJobText names k.plan cell c.args.present at (due_at k) j)
     c.push_visits-2.result _ _ _
     (λ text are added.
-    inside_added k.plan cell c.args.present at (due_at k) _ _ _ j before
+    inside_added names k.plan cell c.args.present at (due_at k) _ _ _ j before
     (omega (arith, c.steps.ensures, c.if-steps-state.false, more))
     (sym (ap (λ (s : JobState). s.made) c.job_state-state.ensures) ∙ more)
-    c.in_ok-push_entered.ensures text (subst (λ (n : ℕ). AreVisitsFrom k.plan at (due_at k) j n (steps k.plan j) text) more are) added)
+    (rw c.entered_of-here.ensures at c.in_ok-push_visit.ensures) text (subst (λ (n : ℕ). AreVisitsFrom names k.plan at (due_at k) j n (steps k.plan j) text) more are) added)
     c.push_visits-2.ensures

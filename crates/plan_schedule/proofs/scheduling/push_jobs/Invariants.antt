@@ -6,4 +6,4 @@ use Rattle.plan_schedule.proofs.scheduling.push_jobs.Given as goal
 
 -- the lines of the jobs looked at are written
 abbrev pub invariant-loop-job : goal.invariant-loop-job
-invariant-loop-job g l = Adds (AreRestJobTexts l.calendar.plan l.cell.cell l.present (earliest_of l.calendar.times) (due_at l.calendar) l.job) l.initial.text.items l.text.items
+invariant-loop-job g l = Adds (AreRestJobTexts l.names l.calendar.plan l.cell.cell l.present (earliest_of l.calendar.times) (due_at l.calendar) l.job) l.initial.text.items l.text.items

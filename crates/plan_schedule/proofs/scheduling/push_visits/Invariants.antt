@@ -6,4 +6,4 @@ use Rattle.plan_schedule.proofs.scheduling.push_visits.Given as goal
 
 -- the lines of the visits looked at are written
 abbrev pub invariant-loop-place : goal.invariant-loop-place
-invariant-loop-place l = Adds (AreVisitsFrom l.calendar.plan (earliest_of l.calendar.times) (due_at l.calendar) l.job l.first l.place) l.initial.text.items l.text.items
+invariant-loop-place l = Adds (AreVisitsFrom l.names l.calendar.plan (earliest_of l.calendar.times) (due_at l.calendar) l.job l.first l.place) l.initial.text.items l.text.items

@@ -1,11 +1,13 @@
+use Rattle.std.proofs.Common.{None}
 use Rattle.command_answers.specs.Shapes.{IsShapeLine}
 use Rattle.command_answers.specs.Checks.{IsCheckLine}
-use Rattle.command_answers.specs.Explains.{IsExplanation}
-use Rattle.command_answers.specs.Timetables.{IsTimetable}
-use Rattle.command_answers.specs.BoundLines.{AreBounds}
+use Rattle.command_answers.specs.Explains.{IsPlanExplained}
+use Rattle.command_answers.specs.Timetables.{IsPlanScheduled}
+use Rattle.command_answers.specs.Digests.{IsDigestAnswer}
 use Rattle.command_answers.specs.LogLines.{IsLogLine}
-use Rattle.command_answers.specs.Rests.{IsRestLine}
-use Rattle.program_laws.proofs.GoodFiles.{good_facts, good_plan, good_log, good_schedule_picture, good_rest_picture, good_log_picture, good_search, good_improvement, good_rest_improvement, good_drive, good_resume}
+use Rattle.command_answers.specs.Margins.{IsMarginAnswer}
+use Rattle.command_answers.specs.Moves.{AreMovesOfLog, AreMovesOfPlan}
+use Rattle.program_laws.proofs.GoodFiles.{good_facts, good_plan, good_bounds, good_named, good_named_log, good_rest, good_schedule_picture, good_rest_picture, good_log_picture, good_search, good_improvement, good_rest_improvement, good_drive, good_resume}
 use Rattle.program_laws.proofs.GoodHubs.{good_hub}
 use Rattle.program_laws.proofs.GoodInputs.{good_input}
 use Rattle.program_laws.proofs.laws.good_files_are_answered.Goals as goal
@@ -16,23 +18,35 @@ returns-clause-facts c = λ content path text description name shop outcome aske
 pub returns-clause-shape : goal.returns-clause-shape
 returns-clause-shape c = λ content pair p outcome asked good run. good_plan content pair p good IsShapeLine outcome asked run
 
+pub returns-clause-digest : goal.returns-clause-digest
+returns-clause-digest c = λ content pair p outcome asked good run. good_plan content pair p good IsDigestAnswer outcome asked run
+
 pub returns-clause-check : goal.returns-clause-check
 returns-clause-check c = λ content pair p outcome asked good run. good_plan content pair p good IsCheckLine outcome asked run
 
 pub returns-clause-explain : goal.returns-clause-explain
-returns-clause-explain c = λ content pair p outcome asked good run. good_plan content pair p good IsExplanation outcome asked run
+returns-clause-explain c = λ content pair p outcome asked good run. good_named content pair p good (λ book. IsPlanExplained book None) outcome asked run
 
 pub returns-clause-schedule : goal.returns-clause-schedule
-returns-clause-schedule c = λ content pair p outcome asked good run. good_plan content pair p good IsTimetable outcome asked run
+returns-clause-schedule c = λ content pair p outcome asked good run. good_named content pair p good IsPlanScheduled outcome asked run
 
 pub returns-clause-bounds : goal.returns-clause-bounds
-returns-clause-bounds c = λ content pair p outcome asked good run. good_plan content pair p good AreBounds outcome asked run
+returns-clause-bounds c = λ content pair p outcome asked good run. good_bounds content pair p good outcome asked run
+
+pub returns-clause-margin : goal.returns-clause-margin
+returns-clause-margin c = λ content pair p outcome asked good run. good_named content pair p good IsMarginAnswer outcome asked run
+
+pub returns-clause-moves : goal.returns-clause-moves
+returns-clause-moves c = λ content pair p outcome asked good run. good_named content pair p good AreMovesOfPlan outcome asked run
+
+pub returns-clause-rest_moves : goal.returns-clause-rest_moves
+returns-clause-rest_moves c = λ at content pair log text p outcome asked good is shaped run. good_named_log content pair p good (λ book. AreMovesOfLog book at) log text outcome asked is shaped run
 
 pub returns-clause-log : goal.returns-clause-log
-returns-clause-log c = λ telling content pair log text p outcome asked good is shaped run. good_log content pair p good (IsLogLine telling) log text outcome asked is shaped run
+returns-clause-log c = λ telling content pair log text p outcome asked good is shaped run. good_named_log content pair p good (λ book. IsLogLine book telling) log text outcome asked is shaped run
 
 pub returns-clause-rest : goal.returns-clause-rest
-returns-clause-rest c = λ telling at content pair log text p outcome asked good is shaped run. good_log content pair p good (IsRestLine telling at) log text outcome asked is shaped run
+returns-clause-rest c = λ telling at content pair log text p outcome asked good is shaped none run. good_rest content pair p good telling at log text outcome asked is shaped none run
 
 pub returns-clause-schedule_picture : goal.returns-clause-schedule_picture
 returns-clause-schedule_picture c = λ before after content pair p outcome asked good run. good_schedule_picture content pair p good before after outcome asked run

@@ -7,32 +7,44 @@ returns-clause-facts c = λ content pair text fault outcome asked is first run. 
 pub returns-clause-shape : goal.returns-clause-shape
 returns-clause-shape c = λ content pair text fault outcome asked is first run. told_first content pair text fault is first _ outcome asked run
 
+pub returns-clause-digest : goal.returns-clause-digest
+returns-clause-digest c = λ content pair text fault outcome asked is first run. told_first content pair text fault is first _ outcome asked run
+
 pub returns-clause-check : goal.returns-clause-check
 returns-clause-check c = λ content pair text fault outcome asked is first run. told_first content pair text fault is first _ outcome asked run
 
 pub returns-clause-explain : goal.returns-clause-explain
-returns-clause-explain c = λ content pair text fault outcome asked is first run. told_first content pair text fault is first _ outcome asked run
+returns-clause-explain c = λ names told content pair text fault outcome asked is first run. told_first content pair text fault is first _ outcome asked run
 
 pub returns-clause-schedule : goal.returns-clause-schedule
-returns-clause-schedule c = λ content pair text fault outcome asked is first run. told_first content pair text fault is first _ outcome asked run
+returns-clause-schedule c = λ names content pair text fault outcome asked is first run. told_first content pair text fault is first _ outcome asked run
 
 pub returns-clause-bounds : goal.returns-clause-bounds
-returns-clause-bounds c = λ content pair text fault outcome asked is first run. told_first content pair text fault is first _ outcome asked run
+returns-clause-bounds c = λ names content pair text fault outcome asked is first run. told_first content pair text fault is first _ outcome asked run
+
+pub returns-clause-margin : goal.returns-clause-margin
+returns-clause-margin c = λ names content pair text fault outcome asked is first run. told_first content pair text fault is first _ outcome asked run
+
+pub returns-clause-moves : goal.returns-clause-moves
+returns-clause-moves c = λ names content pair text fault outcome asked is first run. told_first content pair text fault is first _ outcome asked run
+
+pub returns-clause-rest_moves : goal.returns-clause-rest_moves
+returns-clause-rest_moves c = λ at names log content pair text fault outcome asked is first run. told_first content pair text fault is first _ outcome asked run
 
 pub returns-clause-log : goal.returns-clause-log
-returns-clause-log c = λ telling log content pair text fault outcome asked is first run. told_first content pair text fault is first _ outcome asked run
+returns-clause-log c = λ telling names log content pair text fault outcome asked is first run. told_first content pair text fault is first _ outcome asked run
 
 pub returns-clause-rest : goal.returns-clause-rest
-returns-clause-rest c = λ telling at log content pair text fault outcome asked is first run. told_first content pair text fault is first _ outcome asked run
+returns-clause-rest c = λ telling at names log content pair text fault outcome asked is first run. told_first content pair text fault is first _ outcome asked run
 
 pub returns-clause-schedule_picture : goal.returns-clause-schedule_picture
-returns-clause-schedule_picture c = λ before after content pair text fault outcome asked is first run. picture_first content pair text fault is first _ before after outcome asked run
+returns-clause-schedule_picture c = λ names before after content pair text fault outcome asked is first run. picture_first content pair text fault is first _ before after outcome asked run
 
 pub returns-clause-rest_picture : goal.returns-clause-rest_picture
-returns-clause-rest_picture c = λ at log before after content pair text fault outcome asked is first run. picture_first content pair text fault is first _ before after outcome asked run
+returns-clause-rest_picture c = λ at names log before after content pair text fault outcome asked is first run. picture_first content pair text fault is first _ before after outcome asked run
 
 pub returns-clause-log_picture : goal.returns-clause-log_picture
-returns-clause-log_picture c = λ log before after content pair text fault outcome asked is first run. picture_first content pair text fault is first _ before after outcome asked run
+returns-clause-log_picture c = λ names log before after content pair text fault outcome asked is first run. picture_first content pair text fault is first _ before after outcome asked run
 
 pub returns-clause-plan : goal.returns-clause-plan
 returns-clause-plan c = λ rounds content pair text fault outcome asked is first run. plan_first content pair text fault is first rounds outcome asked run

@@ -1,24 +1,9 @@
-use Rattle.std.proofs.Common.{arith}
-use Rattle.run_picture.proofs.Steps.{ten_steps, first_steps, next_steps}
+use Rattle.run_picture.proofs.Steps.{short_is, long_is}
 use Rattle.run_picture.proofs.axis.step_for.Goals as goal
 
-pub loop-step-init : goal.loop-step-init
-loop-step-init c = first_steps c.args.last
+pub returns-in-Some : goal.returns-in-Some
+returns-in-Some c = short_is c.args.clock c.args.begin c.args.last c.in-Some.step _ c.short_steps.ensures.are c.in-Some.ensures
 
-pub overflow_mul-after : goal.overflow_mul-after
-overflow_mul-after c =
-    let inv = c.loop-step.invariant in
-    omega (arith, ten_steps c.args.last c.loop-step.step inv.above c.loop-step-test.true)
-
-pub loop-step-smaller : goal.loop-step-smaller
-loop-step-smaller c =
-    let inv = c.loop-step.invariant in
-    omega (arith, inv.above, inv.rises, ten_steps c.args.last c.loop-step.step inv.above c.loop-step-test.true)
-
-pub loop-step-preserved : goal.loop-step-preserved
-loop-step-preserved c = next_steps _ _ _ _ c.loop-step.invariant c.loop-step-test.true
-
-pub returns : goal.returns
-returns c =
-    let inv = c.loop-step.invariant in
-    record { is = record { place = inv.place; is = inv.step_is; few = c.loop-step-test.false; least = inv.least }; above = inv.above }
+pub returns-in-None : goal.returns-in-None
+returns-in-None c =
+    long_is c.args.clock c.args.begin c.args.last c.long_step.result _ c.long_unit.result c.short_steps.ensures.are c.long_unit.ensures.is c.in-None.ensures c.long_step.ensures

@@ -8,6 +8,7 @@ returns c = rw (
   c.put_text-5.ensures.written,
   c.put_class.ensures.written,
   c.put_late.ensures.written,
+  c.put_thin.ensures.written,
   c.put_text-4.ensures.written,
   c.put_path.ensures.written,
   c.put_text-3.ensures.written,
@@ -15,6 +16,6 @@ returns c = rw (
   c.put_text-2.ensures.written,
   c.put_title.ensures.written,
   c.put_text.ensures.written,
-  c.put_number.ensures.written,
+  c.put_label_if_room.ensures.written,
   c.ended-line.ensures,
 ) refl

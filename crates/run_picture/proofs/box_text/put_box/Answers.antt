@@ -7,5 +7,5 @@ use Rattle.run_picture.proofs.box_text.put_box.Goals as goal
 pub returns-clause-wrote : goal.returns-clause-wrote
 returns-clause-wrote g c =
     subst (λ (text : List ℕ). WroteTo g.W.Sink c.put_all.result c.args.output.now c.put_all.new.writer text)
-    (c.bytes.ensures ∙ c.box_line-line.ensures ∙ ap (λ (edges : Edges). box_text_at edges c.args.drawn) c.edges_of.ensures.are)
+    (c.bytes.ensures ∙ c.box_line-line.ensures ∙ ap (λ (edges : Edges). box_text_at c.args.names.now edges c.args.drawn) c.edges_of.ensures.are)
     c.put_all.ensures.wrote

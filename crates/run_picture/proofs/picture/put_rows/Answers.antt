@@ -10,7 +10,7 @@ pub returns-in_err-put_all-clause-wrote : goal.returns-in_err-put_all-clause-wro
 returns-in_err-put_all-clause-wrote g c =
     let i = c.loop-machine.machine in
     let n = c.args.machines in
-    let text : ℕ → List ℕ = row_text in
+    let text : ℕ → List ℕ = row_text c.args.names.now in
     let p = err_from_is_err_and c.from_residual.result c.from_residual.ensures.1 in
     rw p.1 (
       c.in_err-put_all.ensures.wrote.0,
@@ -19,13 +19,13 @@ returns-in_err-put_all-clause-wrote g c =
     )
 
 pub loop-machine-init : goal.loop-machine-init
-loop-machine-init g c = record { so_far = all_numbers _ row_text c.args.machines; unfailed = refl }
+loop-machine-init g c = record { so_far = all_numbers _ (row_text c.args.names.now) c.args.machines; unfailed = refl }
 
 pub loop-machine-preserved : goal.loop-machine-preserved
 loop-machine-preserved g c =
     let i = c.loop-machine.machine in
     let n = c.args.machines in
-    let text : ℕ → List ℕ = row_text in
+    let text : ℕ → List ℕ = row_text c.args.names.now in
     record {
       so_far = AllBut-more _ _ _ _ _ (text i) (flat_map text (range_with_len (i + 1) (n - (i + 1)))) c.loop-machine.invariant.so_far
           (appends_as _ _ _ _ (c.bytes.ensures ∙ c.row_line.ensures) c.in_ok-put_all.ensures.wrote) (next_number text i n (omega arith));
@@ -35,5 +35,5 @@ loop-machine-preserved g c =
 pub returns-clause-wrote : goal.returns-clause-wrote
 returns-clause-wrote g c =
     let n = c.args.machines in
-    let text : ℕ → List ℕ = row_text in
+    let text : ℕ → List ℕ = row_text c.args.names.now in
     AllBut-all _ _ _ _ c.loop-machine.invariant.so_far (no_number text c.loop-machine.machine n (omega arith))

@@ -12,8 +12,8 @@ returns-in_err-put_visit-clause-wrote g c =
     let p = err_from_is_err_and c.from_residual.result c.from_residual.ensures.1 in
     rw p.1 (
       c.in_err-put_visit.ensures.wrote.0,
-      TookPart-rest _ _ _ _ _ _ (flat_map (visit_text c.args.last c.args.late.now) (drop (i + 1) c.args.visits.now)) c.loop-visit.invariant.so_far c.in_err-put_visit.ensures.wrote.1
-          (next_item (visit_text c.args.last c.args.late.now) c.args.visits.now i _ (omega arith)),
+      TookPart-rest _ _ _ _ _ _ (flat_map (visit_text c.args.names.now c.args.last c.args.late.now) (drop (i + 1) c.args.visits.now)) c.loop-visit.invariant.so_far c.in_err-put_visit.ensures.wrote.1
+          (next_item (visit_text c.args.names.now c.args.last c.args.late.now) c.args.visits.now i _ (omega arith)),
     )
 
 pub loop-visit-init : goal.loop-visit-init
@@ -22,10 +22,10 @@ loop-visit-init g c = record { so_far = AllBut-none _ _; unfailed = refl }
 pub loop-visit-preserved : goal.loop-visit-preserved
 loop-visit-preserved g c = record {
   so_far = AllBut-more _ _ _ _ _ _ _ c.loop-visit.invariant.so_far c.in_ok-put_visit.ensures.wrote
-      (next_item (visit_text c.args.last c.args.late.now) c.args.visits.now c.loop-visit.visit-index _ (omega arith));
+      (next_item (visit_text c.args.names.now c.args.last c.args.late.now) c.args.visits.now c.loop-visit.visit-index _ (omega arith));
   unfailed = c.in_ok-put_visit.ensures.unfailed ∙ c.loop-visit.invariant.unfailed;
 }
 
 pub returns-clause-wrote : goal.returns-clause-wrote
 returns-clause-wrote g c =
-    AllBut-all _ _ _ _ c.loop-visit.invariant.so_far (no_item (visit_text c.args.last c.args.late.now) c.args.visits.now c.loop-visit.visit-index (omega arith))
+    AllBut-all _ _ _ _ c.loop-visit.invariant.so_far (no_item (visit_text c.args.names.now c.args.last c.args.late.now) c.args.visits.now c.loop-visit.visit-index (omega arith))

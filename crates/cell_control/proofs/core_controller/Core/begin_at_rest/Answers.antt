@@ -1,6 +1,6 @@
 use Rattle.std.proofs.Common.{true, ap, sym, subst}
 use Rattle.cell_control.specs.Control.{Control}
-use Rattle.cell_control.specs.Fields.{control_of, begun_with, AreFieldsOf}
+use Rattle.cell_control.specs.Fields.{control_of, AreFieldsOf}
 use Rattle.cell_control.proofs.core_controller.Core.begin_at_rest.Goals as goal
 
 pub returns : goal.returns

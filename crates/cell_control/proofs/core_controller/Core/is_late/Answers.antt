@@ -1,7 +1,4 @@
-use Rattle.std.proofs.Common.{◌≡◌, ◌↔◌, false, subst}
 use Rattle.shop_base.specs.declared.report.Report.TheVariants.{Arrive}
-use Rattle.cell_control.specs.Control.{Control}
-use Rattle.cell_control.specs.Readings.{IsOnTime}
 use Rattle.cell_control.proofs.Steps.{due_from-punctual}
 use Rattle.cell_control.proofs.core_controller.Core.is_late.Goals as goal
 
@@ -10,8 +7,4 @@ returns g c =
     let cell = c.self.inside.cell in
     let dues = g.D.Dues.dues c.self.inside.dues in
     let punctual = due_from-punctual cell.plan cell.cell dues (Arrive 0 c.args.at) c.self.invariant.control.sound c.self.invariant.due_moments in
-    let on_time : (c.is_past_due.result ≡ false) ↔ IsOnTime cell.plan cell.cell c.args.at = (
-      (λ not_late. punctual.0 (c.is_past_due.ensures.0 not_late)),
-      λ holds. c.is_past_due.ensures.1 (punctual.1 holds),
-    ) in
-    subst (λ (v : Control). (c.is_past_due.result ≡ false) ↔ IsOnTime v.planned v.cell c.args.at) c.self.view_is on_time
+    rw (← c.self.view_is) ((λ not_late. punctual.0 (c.is_past_due.ensures.0 not_late)), λ holds. c.is_past_due.ensures.1 (punctual.1 holds))

@@ -15,12 +15,12 @@ returns-in-Err-clause-possible g c =
 pub returns-clause-possible : goal.returns-clause-possible
 returns-clause-possible g c =
     cleaned (cell_at c.args.self.now c.args.ticket) c.in-Some.cell.now (sym c.in-Some.ensures.cell) c.args.machine c.args.job c.args.at c.report.result
-    c.in_default-check_clean_after.ensures.possible c.report.ensures.possible
+    c.in_default-judge_clean_after.ensures.possible c.report.ensures.possible
 
 pub returns-clause-refused : goal.returns-clause-refused
 returns-clause-refused g c =
     never_refused (cell_at c.args.self.now c.args.ticket) c.in-Some.cell.now (sym c.in-Some.ensures.cell) c.args.machine c.args.job c.args.at c.report.result
-    c.in_default-check_clean_after.ensures.possible c.report.ensures.possible (IsNotCleaned c.args.self.now c.args.ticket c.args.machine c.args.job c.args.at)
+    c.in_default-judge_clean_after.ensures.possible c.report.ensures.possible (IsNotCleaned c.args.self.now c.args.ticket c.args.machine c.args.job c.args.at)
 
 pub returns-in-Err-clause-only_reason : goal.returns-in-Err-clause-only_reason
 returns-in-Err-clause-only_reason g c =
@@ -29,10 +29,10 @@ returns-in-Err-clause-only_reason g c =
 pub returns-clause-only_reason : goal.returns-clause-only_reason
 returns-clause-only_reason g c =
     never_refused (cell_at c.args.self.now c.args.ticket) c.in-Some.cell.now (sym c.in-Some.ensures.cell) c.args.machine c.args.job c.args.at c.report.result
-    c.in_default-check_clean_after.ensures.possible c.report.ensures.possible (IsOnlyCleanRefusal c.args.self.now c.args.ticket c.args.machine c.args.job c.args.at)
+    c.in_default-judge_clean_after.ensures.possible c.report.ensures.possible (IsOnlyCleanRefusal c.args.self.now c.args.ticket c.args.machine c.args.job c.args.at)
 
 pub returns-clause-called : goal.returns-clause-called
 returns-clause-called g c =
     cleaning_called c.args.self.now c.report.new.self c.args.ticket c.args.machine c.args.at c.report.result
     (accepted (cell_at c.args.self.now c.args.ticket) c.in-Some.cell.now (sym c.in-Some.ensures.cell) c.args.machine c.args.job c.args.at c.report.result
-    c.in_default-check_clean_after.ensures.possible c.report.ensures.possible) c.report.ensures.called
+    c.in_default-judge_clean_after.ensures.possible c.report.ensures.possible) c.report.ensures.called

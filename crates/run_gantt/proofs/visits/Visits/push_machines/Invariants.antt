@@ -5,4 +5,4 @@ use Rattle.run_gantt.specs.GanttText.{row_lines}
 use Rattle.run_gantt.proofs.visits.Visits.push_machines.Given as goal
 
 abbrev pub invariant-loop-machine : goal.invariant-loop-machine
-invariant-loop-machine l = string_bytes l.text ≡ string_bytes l.initial.text ++ flat_map (row_lines l.scale l.columns l.self) (range_with_len 0 l.machine)
+invariant-loop-machine l = string_bytes l.text ≡ string_bytes l.initial.text ++ flat_map (row_lines l.names l.scale l.columns l.self) (range_with_len 0 l.machine)

@@ -5,7 +5,7 @@ use Rattle.std.proofs.KnownBytes.{append_known-moved}
 use Rattle.std.proofs.lemmas.List.{take_all}
 use Rattle.run_journal.specs.LogFiles.{Leaves}
 use Rattle.run_journal.specs.Selecting.{behind_bytes, got}
-use Rattle.run_journal.specs.Logged.{Held}
+use Rattle.run_journal.specs.Logged.{Held, fault_if}
 use Rattle.run_journal.proofs.Steps.{not_kept, not_shown, shown, all_pending, on_log_fault, on_output_fault}
 use Rattle.run_journal.proofs.logged.Logged.show_all.Goals as goal
 
@@ -18,14 +18,14 @@ invariant_of-self-in-Err-Log g c =
     let selected = c.self.inside.selection in
     let unfailed : c.self.inside.failed ≡ false = ap (λ (v : Held). v.failed) c.self.view_is ∙ c.requires.unfailed in
     let selects = c.take.ensures.got ∙ ap (λ l. l ++ got selected c.deref.result.now) c.clear.ensures.items ∙ ap (λ l. got selected l) c.deref.ensures.value in
-    let failed = on_log_fault _ _ c.in-Err-Log.field-0-is c.in-Err-Log.ensures.log_failed in
+    let failed = on_log_fault _ _ c.in-Err-Log.field-0-is c.in-Err-Log.ensures.log_fault in
     let first = on_log_fault _ _ c.in-Err-Log.field-0-is c.in-Err-Log.ensures.first in
     rw (first.0, first.1) (
       not_kept _ _ _ _ _ _ _ _ _ _ c.self.invariant.0 unfailed c.take.new.events.items (g.D.LogFile.seen log_now) (g.D.LogFile.may_leave log_now) c.take.new.self (vec_capacity c.take.new.events)
           (omega (arith, c.clear.ensures.capacity, c.take.ensures.capacity)) selects (c.take.ensures.behind ∙ ap (λ l. behind_bytes selected l) c.deref.ensures.value) c.take.ensures.few
           (subst (λ b. IfSome (g.D.LogFile.seen c.self.inside.log) (λ file. Leaves (g.D.LogFile.may_leave log_now) (length file) (file ++ b))) c.deref-2.ensures.value c.keep_and_pass_on.ensures.crash),
       c.self.invariant.1,
-      record { known = sym failed; none = λ no. absurd (cc no); output = λ yes no. absurd (cc (sym failed ∙ no)) },
+      record { known = failed; none = λ no. absurd (cc no); output = λ yes no. absurd (cc no) },
     )
 
 pub invariant_of-self-in-Err-Output : goal.invariant_of-self-in-Err-Output
@@ -45,7 +45,7 @@ invariant_of-self-in-Err-Output g c =
           (subst (λ b. IfSome seen (λ file. seen_now ≡ Some (file ++ b))) c.deref-2.ensures.value (on_output_fault _ _ is had.kept)) (on_output_fault _ _ is had.settled)
           taken_now out (subst (λ b. out ≤ length b) c.deref-3.ensures.value (on_output_fault _ _ is had.within)) (subst (λ b. Appends taken taken_now (take out b)) c.deref-3.ensures.value (on_output_fault _ _ is had.taken)),
       (on_output_fault _ _ is had.shown),
-      record { known = c.self.invariant.2.known ∙ sym (on_output_fault _ _ is had.unfailed); none = λ no. absurd (cc no); output = λ yes no. had.output_failed (ap Err is) },
+      record { known = on_output_fault _ _ is had.unfailed ∙ sym (ap fault_if (c.self.invariant.2.none unfailed)); none = λ no. absurd (cc no); output = λ yes no. had.output_failed (ap Err is) },
     )
 
 pub returns-in-Err-Output-clause-taken : goal.returns-in-Err-Output-clause-taken
@@ -79,8 +79,8 @@ invariant_of-self g c =
           (subst (λ b. Appends taken taken_now (take out b)) c.deref-3.ensures.value kept.taken) c.clear-in-Ok.ensures.items (omega (arith, c.clear-in-Ok.ensures.capacity)),
       kept.shown,
       record {
-        known = c.self.invariant.2.known ∙ sym kept.unfailed;
-        none = λ yes. kept.unfailed ∙ c.self.invariant.2.none unfailed;
+        known = kept.unfailed ∙ sym (ap fault_if (c.self.invariant.2.none unfailed));
+        none = λ yes. c.self.invariant.2.none unfailed;
         output = λ no. absurd (cc no);
       },
     )

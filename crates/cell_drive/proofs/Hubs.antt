@@ -1,0 +1,103 @@
+-- What several cells answer to a line.
+use Rattle.std.proofs.Common.{◌≡◌, ℕ, zero, suc, ◌<◌, List, [], ◌∷◌, ◌++◌, codes, set, length, get_or, false, Option, Some, None, refl, sym, ap, ◌∙◌, subst, arith}
+use Rattle.std.specs.Prelude.{slice_get}
+use Rattle.plan_verifier.specs.Accepted.{VerifiedPlan}
+use Rattle.cell_control.specs.Control.{Control}
+use Rattle.event_lines.specs.AnswerLines.{refused_line}
+use Rattle.event_lines.specs.SentLines.{IsNoCellReport, cell_prefix}
+use Rattle.event_lines.specs.declared.requests.Claim.TheVariants.{Report, CleanAfter}
+use Rattle.event_lines.specs.declared.requests.Request.{Request}
+use Rattle.event_lines.specs.declared.requests.Request.TheVariants.{Claim as ClaimRequest, Status}
+use Rattle.cell_drive.specs.declared.manner.Manner.{Manner}
+use Rattle.cell_drive.specs.declared.replies.Reply.{Reply}
+use Rattle.cell_drive.specs.ManyCells.{PlannedCell, cell_start, hub_start}
+use Rattle.cell_drive.specs.StatedCells.{AsksCell, AsksOf, IsToldIn, CellsTell, CellsStated, StatedHubAnswer, hub_stated}
+use Rattle.cell_drive.specs.Replies.{IsReply, reply_events, reply_text}
+use Rattle.cell_drive.specs.Numbers.{AnsweredByCells, AreInRun, planned_cell, planned_cells}
+use Rattle.cell_drive.proofs.LineAnswers.{asked_line}
+use Rattle.cell_drive.proofs.OneText.{told_keep}
+use Rattle.cell_drive.proofs.Replied.{plan_after, replied_so}
+
+-- in version 1 a line that is no report on a cell asks nothing of one
+pub no_cell_report : (line : List ℕ) → IsNoCellReport line → (cell : ℕ) (request : Request) → AsksCell false line cell request → ⊥
+no_cell_report line none cell (ClaimRequest (Report report)) asked = none cell report asked
+no_cell_report line none cell (ClaimRequest (CleanAfter machine job at)) asked = asked
+no_cell_report line none cell Status asked = asked
+
+-- ---- the cell of a number
+
+pub none_there : (controls : List Control) (k : ℕ) → (k < length controls → ⊥) → slice_get (planned_cells controls) k ≡ None
+none_there [] k past = refl
+none_there (v ∷ controls) zero past = absurd (past (omega arith))
+none_there (v ∷ controls) (suc k) past = none_there controls k (λ below. past (omega (arith, below)))
+
+pub there_at : (controls : List Control) (k : ℕ) (d : Control) → k < length controls → slice_get (planned_cells controls) k ≡ Some (planned_cell (get_or controls k d))
+there_at [] k d below = absurd (omega (arith, below))
+there_at (v ∷ controls) zero d below = refl
+there_at (v ∷ controls) (suc k) d below = there_at controls k d (omega (arith, below))
+
+pub one_there : (controls : List Control) (k : ℕ) (v : Control) → k < length controls → v ≡ get_or controls k v → slice_get (planned_cells controls) k ≡ Some (planned_cell v)
+one_there controls k v below is = there_at controls k v below ∙ ap (λ (x : Control). Some (planned_cell x)) (sym is)
+
+set_there : (controls : List Control) (k : ℕ) (v : Control) → planned_cells (set controls k v) ≡ set (planned_cells controls) k (planned_cell v)
+set_there [] k v = refl
+set_there (w ∷ controls) zero v = refl
+set_there (w ∷ controls) (suc k) v = ap (λ (cells : List PlannedCell). planned_cell w ∷ cells) (set_there controls k v)
+
+-- one more cell begins
+pub one_more_begun : (controls : List Control) (plans : List VerifiedPlan) (v : Control) (w : VerifiedPlan) → planned_cells controls ≡ hub_start plans → planned_cell v ≡ cell_start w
+    → planned_cells (controls ++ v ∷ []) ≡ hub_start (plans ++ w ∷ [])
+one_more_begun controls plans v w begun is =
+    added controls ∙ ap (λ (cells : List PlannedCell). cells ++ planned_cell v ∷ []) begun ∙ ap (λ (c : PlannedCell). hub_start plans ++ c ∷ []) is ∙ sym (started plans)
+  where
+    added : (some : List Control) → planned_cells (some ++ v ∷ []) ≡ planned_cells some ++ planned_cell v ∷ []
+    added [] = refl
+    added (u ∷ some) = ap (λ (cells : List PlannedCell). planned_cell u ∷ cells) (added some)
+
+    started : (some : List VerifiedPlan) → hub_start (some ++ w ∷ []) ≡ hub_start some ++ cell_start w ∷ []
+    started [] = refl
+    started (u ∷ some) = ap (λ (cells : List PlannedCell). cell_start u ∷ cells) (started some)
+
+-- ---- what is asked of it
+
+module _ (manner : Manner) (controls : List Control) (number k : ℕ) where
+  -- there is none
+  pub told_none : (request : Request) → slice_get (planned_cells controls) k ≡ None
+      → CellsTell manner (planned_cells controls) number (record { cell = k; request = request }) (refused_line number (codes "NoSuchCell")) (planned_cells controls)
+  told_none request none =
+      subst (λ (o : Option PlannedCell). IsToldIn manner o (planned_cells controls) number (record { cell = k; request = request }) (refused_line number (codes "NoSuchCell")) (planned_cells controls)) (sym none)
+      (record { text_is = refl; end_is = refl })
+
+  -- its controller replies
+  pub told_reply : (v new : Control) (request : Request) (reply : Reply) → slice_get (planned_cells controls) k ≡ Some (planned_cell v) → IsReply manner v request reply new
+      → CellsTell manner (planned_cells controls) number (record { cell = k; request = request }) (reply_text manner (cell_prefix k) number new reply) (planned_cells (set controls k new))
+  told_reply v new request reply found is =
+      let text = reply_text manner (cell_prefix k) number new reply in
+      let end = planned_cells (set controls k new) in
+      subst (λ (o : Option PlannedCell). IsToldIn manner o (planned_cells controls) number (record { cell = k; request = request }) text end) (sym found) (record {
+        events = reply_events new reply;
+        next = new.cell;
+        answer = replied_so manner v (cell_prefix k) number request reply new is;
+        end_is = set_there controls k new
+            ∙ ap (λ (plan : VerifiedPlan). set (planned_cells controls) k (record { plan = plan; cell = new.cell })) (plan_after manner v request reply new is);
+      })
+
+-- ---- lines
+
+-- what is asked of a cell by a line
+pub asked_of : (manner : Manner) (controls ends : List Control) (number : ℕ) (line text : List ℕ) (cell : ℕ) (request : Request) → (line ≡ [] → ⊥) → AsksCell manner.tells line cell request
+    → CellsTell manner (planned_cells controls) number (record { cell = cell; request = request }) text (planned_cells ends) → AnsweredByCells manner controls number line ends text
+asked_of manner controls ends number line text cell request some asked told = record {
+  answer = asked_line (AsksOf manner.tells) (CellsTell manner) (planned_cells controls) number line text (record { cell = cell; request = request }) (planned_cells ends) some asked told;
+  manner = refl;
+}
+
+-- a line by which nothing changes
+pub unchanged : (manner : Manner) (cells : List PlannedCell) (number : ℕ) (line : Option (List ℕ)) (text : List ℕ) → CellsStated manner cells number line text cells
+    → StatedHubAnswer (hub_stated manner cells) number line text (hub_stated manner cells)
+unchanged manner cells number line text answer = record { answer = answer; manner = refl }
+
+-- each is as it can be in a run
+pub still_in_run : (manner : Manner) (controls ends : List Control) (number cell : ℕ) (request : Request) (text : List ℕ) → AreInRun (planned_cells controls)
+    → CellsTell manner (planned_cells controls) number (record { cell = cell; request = request }) text (planned_cells ends) → AreInRun (planned_cells ends)
+still_in_run manner controls ends number cell request text in_run told = told_keep manner (planned_cells controls) number (record { cell = cell; request = request }) text (planned_cells ends) in_run told

@@ -1,0 +1,35 @@
+use Rattle.std.proofs.Common.{◌++◌, List, map, take, length, ap, subst, ◌∙◌, arith}
+use Rattle.std.specs.Prelude.{OnOk}
+use Rattle.shop_base.specs.declared.move_order.MoveOrder.{MoveOrder}
+use Rattle.cell_tables.specs.declared.entry.Entry.{Entry}
+use Rattle.cell_tables.specs.declared.entry.Entry.TheVariants.{Order as OrderEntry}
+use Rattle.run_log.specs.Log.{Notes}
+use Rattle.cell_drive.proofs.TakingUp.{done_unless, room_for_due, taken_run, told_first}
+use Rattle.cell_drive.proofs.recover.with_due.Goals as goal
+
+pub unwrap-requires : goal.unwrap-requires
+unwrap-requires c =
+    let room = room_for_due c.args.controller c.args.log.entries c.args.late.items c.requires.run c.requires.begun c.requires.shaped in
+    let orders = ap (λ (os : List MoveOrder). length os) c.orders.ensures in
+    let reserved = c.requires.reserved in
+    done_unless _ (λ full. (let past = c.note_orders.ensures.full.0 full in omega (arith, past, room, orders, reserved)))
+
+pub invariant_of-result : goal.invariant_of-result
+invariant_of-result c =
+    let notes : Notes c.args.log c.note_orders.new.self (map OrderEntry c.orders.result.now) = subst (λ r. OnOk r (Notes c.args.log c.note_orders.new.self (map OrderEntry c.orders.result.now))) c.unwrap.ensures c.note_orders.ensures.noted in (
+      taken_run c.args.controller c.args.log.entries c.args.late.items c.requires.run c.requires.begun c.note_orders.new.self c.requires.shaped c.shaped-plan.ensures.control
+          (notes.entries ∙ ap (λ (os : List MoveOrder). c.args.log.entries ++ map OrderEntry os) c.orders.ensures) (notes.reserved ∙ c.requires.reserved) c.requires.late,
+      c.requires.room,
+    )
+
+pub returns-clause-told : goal.returns-clause-told
+returns-clause-told c =
+    let notes : Notes c.args.log c.note_orders.new.self (map OrderEntry c.orders.result.now) = subst (λ r. OnOk r (Notes c.args.log c.note_orders.new.self (map OrderEntry c.orders.result.now))) c.unwrap.ensures c.note_orders.ensures.noted in
+    ap (λ (es : List Entry). take (length c.args.late.items) es) (notes.entries ∙ ap (λ (os : List MoveOrder). c.args.log.entries ++ map OrderEntry os) c.orders.ensures)
+    ∙ told_first c.args.controller c.args.log.entries c.args.late.items c.requires.run c.requires.begun c.requires.late
+
+pub returns-clause-run : goal.returns-clause-run
+returns-clause-run c =
+    let notes : Notes c.args.log c.note_orders.new.self (map OrderEntry c.orders.result.now) = subst (λ r. OnOk r (Notes c.args.log c.note_orders.new.self (map OrderEntry c.orders.result.now))) c.unwrap.ensures c.note_orders.ensures.noted in
+    taken_run c.args.controller c.args.log.entries c.args.late.items c.requires.run c.requires.begun c.note_orders.new.self c.requires.shaped c.shaped-plan.ensures.control
+    (notes.entries ∙ ap (λ (os : List MoveOrder). c.args.log.entries ++ map OrderEntry os) c.orders.ensures) (notes.reserved ∙ c.requires.reserved) c.requires.late

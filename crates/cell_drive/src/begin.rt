@@ -1,0 +1,129 @@
+//! A run that is driven from its start to the end of its input.
+
+ghost use Rattle.std.specs.Prelude.{◌≡◌, ◌↔◌, Err, IfOk, IsTrue};
+ghost use Rattle.shop_base.specs.Ends.{HasEnded};
+ghost use Rattle.byte_streams.specs.Lent.{streams_of};
+ghost use Rattle.plan_verifier.specs.Accepted.{IsVerified};
+ghost use Rattle.cell_control.specs.Control.{verified_in};
+ghost use Rattle.cell_drive.specs.Manners.{plain_from};
+ghost use Rattle.cell_drive.specs.Session.{IsKept, session_start};
+ghost use Rattle.cell_drive.specs.InManner.{IsDriveIn};
+
+use crate::manner::Manner;
+use crate::session::Session;
+use byte_streams::{DriveFault, Outlet, Source, reading_room, stream};
+use cell_control::{Controller, TourneyDues};
+use plan_verifier::Verified;
+use run_log::RunLog;
+use shop_base::Moment;
+use std::alloc::{AllocError, Global};
+
+/// What a driven run has come to at the end of its input.
+#[derive(Debug, Drop)]
+pub struct DriveEnd {
+    /// Whether the run has ended: all jobs are gone, and no machine is being cleaned.
+    pub done: bool,
+    /// The moment of the last accepted report, 0 before the first.
+    pub last: Moment,
+    /// How many reports are still to come.
+    pub left: u64,
+    /// What was accepted and ordered.
+    pub log: RunLog,
+    /// The plan.
+    pub verified: Verified,
+}
+
+/// The session of an accepted plan before the first report, with an empty log.
+fn begin(
+    alloc: Global,
+    verified: Verified,
+    manner: Manner,
+) -> Result<Session<Verified, TourneyDues>, AllocError>
+    ensures { IfOk result (λ session. session ≡ session_start manner verified) }
+{
+    let log = RunLog::for_run(alloc, &verified)?;
+    match Controller::new(alloc, verified) {
+        Ok(controller) => {
+            // Called for its clauses alone: what holds of every such controller.
+            let _plan = controller.verified();
+            Ok(Session {
+                manner,
+                controller,
+                log,
+            })
+        }
+        Err((error, _)) => Err(error),
+    }
+}
+
+/// What the run has come to.
+fn end(session: Session<Verified, TourneyDues>) -> DriveEnd
+    ensures kept { IsKept session.control session.log }
+    ensures log { result.log ≡ session.log }
+    ensures plan { result.verified ≡ verified_in session.control }
+    ensures verified { IsVerified (verified_in session.control) }
+    ensures done { IsTrue result.done ↔ HasEnded session.control.planned session.control.cell }
+    ensures last { result.last ≡ session.control.cell.last }
+    ensures left { result.left ≡ session.control.left }
+{
+    let Session {
+        manner: _,
+        controller,
+        log,
+    } = session;
+    // Called for its clauses alone: the plan is an accepted one.
+    let _plan = controller.verified();
+    DriveEnd {
+        done: controller.is_done(),
+        last: controller.now(),
+        left: controller.reports_left(),
+        log,
+        verified: controller.into_verified(),
+    }
+}
+
+/// Drives the cell of an accepted plan: takes a report from each line of input, and answers it by the moves that it
+/// releases before it waits for the next line. The closing line says whether the run is done.
+///
+/// The lines are `arrive JOB MOMENT`, `finish JOB MACHINE MOMENT` and `clean MACHINE MOMENT`. What isn't possible is
+/// refused by a line of its own, and changes nothing. A run that is done goes on to the end of its input.
+///
+/// `Memory` is answered before the first byte is read. A closing line is written only where nothing has failed before it;
+/// of one whose own write fails the first bytes may be out. After a fault the plan is gone.
+pub fn drive<R: Source, W: Outlet>(
+    alloc: Global,
+    verified: Verified,
+    reader: &mut R,
+    writer: &mut W,
+) -> Result<DriveEnd, DriveFault>
+    ensures driven { IsDriveIn (plain_from 0) verified (streams_of R.Source W.Sink W.pending reader.old writer.old)
+        (streams_of R.Source W.Sink W.pending reader.new writer.new) result }
+    ensures untouched { result ≡ Err DriveFault.Memory → (reader.new ≡ reader.old) × (writer.new ≡ writer.old) }
+{
+    drive_in(alloc, verified, Manner::plain(), reader, writer)
+}
+
+/// Drives the cell of an accepted plan, as [`drive`] does, in this manner.
+///
+/// In version 2 of the lines there are `clean MACHINE JOB MOMENT`, the cleaning after that job, and `status`, which asks
+/// for the state; each refusal and each late report is written with what the controller has, and `done MOMENT` at once.
+/// A report whose moment is further than `longest` from the last accepted one, or from `from` where that is later, is
+/// refused as `Leap`, after `Backwards` in the order of reasons.
+pub fn drive_in<R: Source, W: Outlet>(
+    alloc: Global,
+    verified: Verified,
+    manner: Manner,
+    reader: &mut R,
+    writer: &mut W,
+) -> Result<DriveEnd, DriveFault>
+    ensures driven { IsDriveIn manner verified (streams_of R.Source W.Sink W.pending reader.old writer.old)
+        (streams_of R.Source W.Sink W.pending reader.new writer.new) result }
+    ensures untouched { result ≡ Err DriveFault.Memory → (reader.new ≡ reader.old) × (writer.new ≡ writer.old) }
+{
+    let mut room = reading_room(alloc)?;
+    let mut session = begin(alloc, verified, manner)?;
+    match stream(&mut session, reader, &mut room, writer) {
+        Ok(()) => Ok(end(session)),
+        Err(fault) => Err(fault),
+    }
+}

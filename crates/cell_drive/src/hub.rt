@@ -1,0 +1,228 @@
+//! Several cells, in the order of their numbers, that are driven by the lines of one input.
+
+ghost use Rattle.std.specs.Prelude.{◌≡◌, ◌≢◌, ◌↔◌, [], Err, IfOk, IsTrue, MatchOption, OnOk};
+ghost use Rattle.shop_base.specs.Ends.{HasEnded};
+ghost use Rattle.byte_streams.specs.Lent.{WroteTo, WroteOneTo, streams_of};
+ghost use Rattle.plan_verifier.specs.Accepted.{IsVerified};
+ghost use Rattle.cell_drive.specs.Manners.{plain_from};
+ghost use Rattle.cell_drive.specs.ManyCells.{AreAllDone, AreVerified, cell_start, hub_start};
+ghost use Rattle.cell_drive.specs.StatedCells.{AreDrivesIn, AsksCell, AsksNoCell, hub_stated};
+ghost use Rattle.cell_drive.specs.Numbers.{AnsweredByCells, AreInRun, closing_text, planned_cell, planned_cells};
+
+use crate::judging::reply_to;
+use crate::manner::Manner;
+use crate::replies::{put_closing, put_refused, put_reply};
+use byte_streams::{
+    DriveFault, LineHandler, Outlet, Sink, Source, WriteFault, reading_room, stream,
+};
+use cell_control::{Controller, Dues, TourneyDues};
+use event_lines::{Claim, Request, cell_prefix, cell_report_of, cell_request_of};
+use plan_verifier::Verified;
+use std::alloc::{AllocError, Global};
+use std::marker::Model;
+
+/// What several driven runs have come to at the end of their input.
+#[derive(Clone, Copy, Debug, PartialEq, Eq)]
+pub struct HubEnd {
+    /// Whether the run of each cell has ended; true with no cells.
+    pub all_done: bool,
+}
+
+/// The cells, and the manner in which their lines are read and answered.
+#[derive(Drop)]
+struct Cells<D: Dues> {
+    manner: Manner,
+    controllers: Vec<Controller<D>>,
+}
+
+impl<D: Dues> Model for Cells<D> {
+    ghost use Rattle.cell_drive.specs.StatedCells.{StatedHub, hub_stated};
+    ghost use Rattle.cell_drive.specs.Numbers.{AreInRun, planned_cells};
+
+    ghost Value = { StatedHub };
+
+    ghost view = { λ s. hub_stated s.manner (planned_cells s.controllers.items) };
+
+    ghost invariant = { λ s. AreInRun (planned_cells s.controllers.items) };
+}
+
+/// The cells of the plans before the first line, in their order.
+fn begin<D: Dues>(alloc: Global, plans: Vec<Verified>) -> Result<Vec<Controller<D>>, AllocError>
+    ensures started { IfOk result (λ cells. planned_cells cells.items ≡ hub_start plans.items) }
+    ensures verified { OnOk result (AreVerified plans.items) }
+    ensures in_run { IfOk result (λ cells. AreInRun (planned_cells cells.items)) }
+{
+    let mut cells = Vec::new(alloc);
+    for verified in plans {
+        cells.reserve(1)?;
+        cells.push_reserved(begin_cell(alloc, verified)?);
+    }
+    Ok(cells)
+}
+
+/// The cell of a plan before the first line.
+fn begin_cell<D: Dues>(alloc: Global, verified: Verified) -> Result<Controller<D>, AllocError>
+    ensures started { IfOk result (λ cell. planned_cell cell ≡ cell_start verified) }
+    ensures verified { OnOk result (IsVerified verified) }
+{
+    match Controller::new(alloc, verified) {
+        Ok(controller) => {
+            // Called for its clauses alone: the plan is an accepted one.
+            let _plan = controller.verified();
+            Ok(controller)
+        }
+        Err((error, _)) => Err(error),
+    }
+}
+
+/// What the line asks of a cell, and the number of that cell before it, if it asks for anything.
+fn asked_of(tells: bool, line: &[u8]) -> Option<(u32, Request)>
+    ensures { MatchOption result (AsksNoCell tells line.now) (λ found. AsksCell tells line.now found.0 found.1) }
+{
+    if tells {
+        return cell_request_of(line);
+    }
+    let (cell, report) = cell_report_of(line)?;
+    Some((cell, Request::Claim(Claim::Report(report))))
+}
+
+/// Answers a line that isn't empty.
+fn answer_told<D: Dues, W: Sink>(
+    manner: Manner,
+    cells: &mut [Controller<D>],
+    number: u64,
+    line: &[u8],
+    writer: &mut W,
+) -> Result<(), WriteFault>
+    requires in_run { AreInRun (planned_cells cells.old) }
+    requires told { line.now ≢ [] }
+    ensures in_run { AreInRun (planned_cells cells.new) }
+    ensures answered { WroteOneTo W.Sink result writer.old writer.new (AnsweredByCells manner cells.old number line.now cells.new) }
+{
+    let Some((cell, request)) = asked_of(manner.tells, line) else {
+        return put_refused(number, b"BadLine", writer);
+    };
+    let place = cell as usize;
+    if place >= cells.len() {
+        return put_refused(number, b"NoSuchCell", writer);
+    }
+    let controller = &mut cells[place];
+    let reply = reply_to(manner, controller, request);
+    let prefix = cell_prefix(u64::from(cell));
+    put_reply(manner, prefix.bytes(), number, controller, reply, writer)
+}
+
+/// Answers a line. An empty one has no answer.
+fn answer_line<D: Dues, W: Sink>(
+    manner: Manner,
+    cells: &mut [Controller<D>],
+    number: u64,
+    line: &[u8],
+    writer: &mut W,
+) -> Result<(), WriteFault>
+    requires { AreInRun (planned_cells cells.old) }
+    ensures in_run { AreInRun (planned_cells cells.new) }
+    ensures answered { WroteOneTo W.Sink result writer.old writer.new (AnsweredByCells manner cells.old number line.now cells.new) }
+{
+    if line.is_empty() {
+        return Ok(());
+    }
+    answer_told(manner, cells, number, line, writer)
+}
+
+/// Writes the closing line of each cell.
+fn put_closings<D: Dues, W: Sink>(cells: &[Controller<D>], writer: &mut W) -> Result<(), WriteFault>
+    ensures wrote { WroteTo W.Sink result writer.old writer.new (closing_text 0 (planned_cells cells.now)) }
+    ensures unfailed { OnOk result (W.failed writer.new ≡ W.failed writer.old) }
+{
+    for cell in 0..cells.len() {
+        let prefix = cell_prefix(cell as u64);
+        put_closing(prefix.bytes(), &cells[cell], writer)?;
+    }
+    Ok(())
+}
+
+/// Whether the run of each cell has ended.
+fn all_done<D: Dues>(cells: &[Controller<D>]) -> bool
+    ensures { IsTrue result ↔ AreAllDone (planned_cells cells.now) }
+{
+    for cell in cells {
+        if !cell.is_done() {
+            return false;
+        }
+    }
+    true
+}
+
+impl<D: Dues> LineHandler for Cells<D> {
+    ghost use Rattle.cell_drive.specs.StatedCells.{StatedHubAnswer, StatedHubCloses};
+
+    ghost answers = { StatedHubAnswer };
+
+    ghost closes = { StatedHubCloses };
+
+    fn answer<W: Sink>(
+        &mut self,
+        number: u64,
+        line: &[u8],
+        writer: &mut W,
+    ) -> Result<(), WriteFault> {
+        answer_line(self.manner, &mut self.controllers, number, line, writer)
+    }
+
+    fn answer_long<W: Sink>(&mut self, number: u64, writer: &mut W) -> Result<(), WriteFault> {
+        put_refused(number, b"LongLine", writer)
+    }
+
+    fn put_closing<W: Sink>(&self, writer: &mut W) -> Result<(), WriteFault> {
+        put_closings(&self.controllers, writer)
+    }
+}
+
+/// Drives a cell for each accepted plan, numbered from 0 in their order: takes a report on a cell from each line
+/// of input, and writes the moves that it releases before the next line is answered.
+///
+/// Each cell is answered as by a controller alone that is given the reports on it, and so never goes wrong.
+/// `Memory` is answered before the first byte is read. After a fault the plans are gone.
+pub fn drive_hub<R: Source, W: Outlet>(
+    alloc: Global,
+    cells: Vec<Verified>,
+    reader: &mut R,
+    writer: &mut W,
+) -> Result<HubEnd, DriveFault>
+    ensures driven { AreDrivesIn (plain_from 0) cells.items (streams_of R.Source W.Sink W.pending reader.old writer.old)
+        (streams_of R.Source W.Sink W.pending reader.new writer.new) result }
+    ensures untouched { result ≡ Err DriveFault.Memory → (reader.new ≡ reader.old) × (writer.new ≡ writer.old) }
+{
+    drive_hub_in(alloc, cells, Manner::plain(), reader, writer)
+}
+
+/// Drives a cell for each accepted plan, as [`drive_hub`] does, in this manner.
+///
+/// Each cell reads and answers what a driven cell does in the manner, after the cell's number; in version 2 of the lines
+/// that stands before each refusal too by which a cell has answered. A leap counts from the last accepted report of the
+/// same cell, or from `from` where that is later.
+pub fn drive_hub_in<R: Source, W: Outlet>(
+    alloc: Global,
+    cells: Vec<Verified>,
+    manner: Manner,
+    reader: &mut R,
+    writer: &mut W,
+) -> Result<HubEnd, DriveFault>
+    ensures driven { AreDrivesIn manner cells.items (streams_of R.Source W.Sink W.pending reader.old writer.old)
+        (streams_of R.Source W.Sink W.pending reader.new writer.new) result }
+    ensures untouched { result ≡ Err DriveFault.Memory → (reader.new ≡ reader.old) × (writer.new ≡ writer.old) }
+{
+    let mut room = reading_room(alloc)?;
+    let controllers: Vec<Controller<TourneyDues>> = begin(alloc, cells)?;
+    let mut driven = Cells {
+        manner,
+        controllers,
+    };
+    match stream(&mut driven, reader, &mut room, writer) {
+        Ok(()) => Ok(HubEnd {
+            all_done: all_done(&driven.controllers),
+        }),
+        Err(fault) => Err(fault),
+    }
+}

@@ -1,0 +1,219 @@
+//! A log that is taken up.
+
+ghost use Rattle.std.specs.Prelude.{◌≡◌, ◌*◌, ◌≤◌, vec_len, vec_capacity, unwrap_or, Bool, true, IfOk, IfErr, OnOk, IfSome};
+ghost use Rattle.shop_base.specs.declared.limits.TheConstants.{MAX_MOMENT};
+ghost use Rattle.shop_base.specs.Plan.{IsWellShaped};
+ghost use Rattle.shop_base.specs.Cell.{start};
+ghost use Rattle.shop_base.specs.Report.{IsNextMoment};
+ghost use Rattle.shop_base.specs.Run.{IsRun};
+ghost use Rattle.shop_base.specs.Ends.{stated_number};
+ghost use Rattle.text_lines.specs.Lines.{ended_lines};
+ghost use Rattle.plan_verifier.specs.Accepted.{IsAcceptable};
+ghost use Rattle.cell_tables.specs.Events.{events_of};
+ghost use Rattle.run_log.specs.Audits.{IsTold};
+ghost use Rattle.cell_control.specs.Begun.{IsBegun, IsRestFault};
+ghost use Rattle.byte_streams.specs.declared.rooms.TheConstants.{MAX_PIECE};
+ghost use Rattle.cell_drive.specs.OneRun.{cell_after};
+ghost use Rattle.cell_drive.specs.LateEvents.{AreLate};
+ghost use Rattle.cell_drive.specs.TakenUp.{IsTakenUp, IsTakenFrom, IsTakenRun, CanBeTakenUp, told_in};
+ghost use Rattle.cell_drive.specs.ResumeFaults.{IsResumeFault, IsOnlyLogFault, IsRunFault, IsRefusal};
+
+use crate::lateness::late_events;
+use crate::resume_fault::{ResumeFault, WantForRest};
+use byte_streams::reading_room;
+use cell_control::{RestController, RestFault, TourneyDues};
+use cell_tables::WorkCell;
+use plan_verifier::{Verdict, Why, verify};
+use run_log::{LoggedRun, RunLog, run_of_log};
+use shop_base::{Moment, Shaped};
+use std::alloc::Global;
+use std::marker::Model;
+
+/// A run that was taken up from its log.
+#[derive(Drop)]
+pub struct Taken {
+    /// The controller of the rest of the run.
+    pub(crate) controller: RestController<TourneyDues>,
+    /// What was accepted and ordered in the whole run: the orders that are due stand there already.
+    pub(crate) log: RunLog,
+    /// Of each entry of it that the log told, whether it is a report that was late. The others are the orders that are due.
+    pub(crate) late: Vec<bool>,
+    /// Where what is read lies at a time, once the run goes on.
+    pub(crate) room: Vec<u8>,
+}
+
+impl Model for Taken {
+    ghost use Rattle.std.specs.Prelude.{◌≡◌, vec_len};
+    ghost use Rattle.byte_streams.specs.declared.rooms.TheConstants.{MAX_PIECE};
+    ghost use Rattle.cell_drive.specs.TakenUp.{TakenUp, taken_by, IsTakenRun};
+
+    ghost Value = { TakenUp };
+
+    ghost view = { λ t. taken_by t.controller t.log t.late.items };
+
+    ghost invariant = { λ t. IsTakenRun (taken_by t.controller t.log t.late.items) × (vec_len t.room ≡ MAX_PIECE) };
+}
+
+/// Takes up a run where its log ends, at a present moment or else at the last one of the log. The log may have been cut at any
+/// byte: what stands after its last line feed isn't looked at. Its whole lines have to tell a run of the plan, by whatever
+/// controller; neither the plan nor its instance need be those by which the log was written. The plan has to have no cycle. Where
+/// the log tells no event the plan has to be an accepted one; else its budgets aren't asked for, since a cell that has begun
+/// has to go on, however late.
+///
+/// All memory is taken here, but for what [`crate::tell_again_in`] takes in version 2 of the lines.
+pub fn take_up(
+    alloc: Global,
+    shaped: Shaped,
+    text: &[u8],
+    at: Option<Moment>,
+) -> Result<Taken, ResumeFault>
+    requires { IfSome at (λ present. present ≤ MAX_MOMENT) }
+    ensures taken { IfOk result (IsTakenUp shaped (ended_lines text.now) at) }
+    ensures fault { IfErr result (IsResumeFault shaped (ended_lines text.now) at) }
+    ensures only_fault { IfErr result (IsOnlyLogFault shaped (ended_lines text.now)) }
+    ensures only { CanBeTakenUp shaped (ended_lines text.now) at → IfErr result (λ fault. fault ≡ ResumeFault.Memory) }
+{
+    // Called for its clause alone: the plan is well shaped.
+    let _plan = shaped.shop();
+    let room = reading_room(alloc)?;
+    match run_of_log(alloc, shaped, text) {
+        Ok(run) => take_run(alloc, run, at, room),
+        Err(fault) => Err(ResumeFault::from(fault)),
+    }
+}
+
+/// Takes up a run that a log told.
+fn take_run(
+    alloc: Global,
+    run: LoggedRun<Shaped>,
+    at: Option<Moment>,
+    room: Vec<u8>,
+) -> Result<Taken, ResumeFault>
+    requires at_most { IfSome at (λ present. present ≤ MAX_MOMENT) }
+    requires told { IsTold run.cell.plan run.cell.cell run.entries.items }
+    requires reserved { vec_capacity run.entries ≡ 2 * stated_number run.cell.plan }
+    requires room { vec_len room ≡ MAX_PIECE }
+    ensures taken { IfOk result (IsTakenFrom run.cell.plan run.entries.items at) }
+    ensures fault { IfErr result (IsRunFault run.cell.plan run.entries.items at) }
+{
+    let LoggedRun { cell, entries } = run;
+    let last = cell.last();
+    let present = present_at(at, last);
+    if present < last {
+        return Err(ResumeFault::Past { last });
+    }
+    let starts = entries.is_empty();
+    let late = late_events(alloc, cell.shaped(), &entries)?;
+    match begin(alloc, cell, starts, present) {
+        Ok(controller) => Ok(with_due(controller, RunLog::of_entries(entries), late, room)),
+        Err(fault) => Err(fault),
+    }
+}
+
+/// The present moment: the one that is given, or the last one.
+fn present_at(at: Option<Moment>, last: Moment) -> Moment
+    ensures { result ≡ unwrap_or at last }
+{
+    match at {
+        Some(present) => present,
+        None => last,
+    }
+}
+
+/// Begins with the cell. At the start of a run its plan has to be accepted; else it has to have no cycle.
+fn begin(
+    alloc: Global,
+    cell: WorkCell<Shaped>,
+    starts: bool,
+    present: Moment,
+) -> Result<RestController<TourneyDues>, ResumeFault>
+    requires { IsNextMoment cell.cell present }
+    ensures begun { IfOk result (IsBegun cell.plan cell.cell present) }
+    ensures accepted { starts ≡ true → OnOk result (IsAcceptable cell.plan) }
+    ensures fault { IfErr result (IsRefusal cell.plan starts) }
+{
+    match check_start(alloc, cell, starts) {
+        Ok(cell) => match RestController::begin(alloc, cell, present) {
+            Ok(controller) => Ok(controller),
+            Err((fault, cell)) => Err(rest_fault(fault, cell, present)),
+        },
+        Err(fault) => Err(fault),
+    }
+}
+
+/// Gives the cell back, if its run doesn't only start or its plan is accepted.
+fn check_start(
+    alloc: Global,
+    cell: WorkCell<Shaped>,
+    starts: bool,
+) -> Result<WorkCell<Shaped>, ResumeFault>
+    ensures plan { IfOk result (λ checked. checked.plan ≡ cell.plan) }
+    ensures cell { IfOk result (λ checked. checked.cell ≡ cell.cell) }
+    ensures accepted { starts ≡ true → OnOk result (IsAcceptable cell.plan) }
+    ensures fault { IfErr result (IsRefusal cell.plan starts) }
+{
+    if starts {
+        check_plan(alloc, cell)
+    } else {
+        Ok(cell)
+    }
+}
+
+/// Gives the cell back, if its plan is accepted.
+fn check_plan(alloc: Global, cell: WorkCell<Shaped>) -> Result<WorkCell<Shaped>, ResumeFault>
+    ensures plan { IfOk result (λ checked. checked.plan ≡ cell.plan) }
+    ensures cell { IfOk result (λ checked. checked.cell ≡ cell.cell) }
+    ensures accepted { OnOk result (IsAcceptable cell.plan) }
+    ensures fault { IfErr result (IsRefusal cell.plan true) }
+{
+    let (shaped, tables) = cell.into_parts();
+    match verify(alloc, shaped) {
+        Ok(Verdict::Accepted(verified)) => Ok(WorkCell::of_parts(verified.into_shaped(), tables)),
+        Ok(Verdict::Refused(shaped, why)) => Err(ResumeFault::Refused(shaped, why)),
+        Err((error, _)) => Err(ResumeFault::from(error)),
+    }
+}
+
+/// Why the rest of a run isn't driven from the cell, at a moment that isn't before its last one.
+fn rest_fault(fault: RestFault, cell: WorkCell<Shaped>, present: Moment) -> ResumeFault
+    requires moment { IsNextMoment cell.cell present }
+    requires fault { IsRestFault cell.plan cell.cell present fault }
+    ensures { (starts : Bool) → IsRefusal cell.plan starts result }
+{
+    match fault {
+        RestFault::Cycle(nodes) => ResumeFault::Refused(cell.into_basis(), Why::Cycle(nodes)),
+        fault @ RestFault::Memory => ResumeFault::from(WantForRest { fault }),
+        RestFault::MomentTooLarge | RestFault::KeepsNot | RestFault::Backwards { last: _ } => {
+            unreachable!()
+        }
+    }
+}
+
+/// What was taken up: the orders that are due are noted.
+fn with_due(
+    controller: RestController<TourneyDues>,
+    log: RunLog,
+    late: Vec<bool>,
+    room: Vec<u8>,
+) -> Taken
+    requires shaped { IsWellShaped controller.planned }
+    requires run { IsRun controller.planned (events_of log.entries) }
+    requires begun { IsBegun controller.planned (cell_after controller.planned log.entries) controller.began controller }
+    requires reserved { log.reserved ≡ 2 * stated_number controller.planned }
+    requires late { AreLate controller.planned (start controller.planned) log.entries late.items }
+    requires room { vec_len room ≡ MAX_PIECE }
+    ensures control { result.control ≡ controller }
+    ensures told { told_in result ≡ log.entries }
+    ensures run { IsTakenRun result }
+{
+    // Called for its clause alone: what holds of every such controller.
+    let _plan = controller.shaped();
+    let mut log = log;
+    log.note_orders(controller.orders()).unwrap();
+    Taken {
+        controller,
+        log,
+        late,
+        room,
+    }
+}

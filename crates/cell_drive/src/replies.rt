@@ -1,0 +1,246 @@
+//! The replies of a cell to what it is asked, and their lines, with the same bytes before each.
+
+ghost use Rattle.std.specs.Prelude.{◌≡◌, ◌++◌, ◌≤◌, length, OnOk};
+ghost use Rattle.std.specs.List.{flat_map};
+ghost use Rattle.shop_base.specs.Report.{at};
+ghost use Rattle.event_lines.specs.EventLines.{report_line, order_line};
+ghost use Rattle.event_lines.specs.AnswerLines.{refused_line};
+ghost use Rattle.event_lines.specs.StandingLines.{refused_detail_line};
+ghost use Rattle.byte_streams.specs.Lent.{WroteTo};
+ghost use Rattle.cell_drive.specs.LineAnswers.{closing_line};
+ghost use Rattle.cell_drive.specs.Refusals.{refusal_word};
+ghost use Rattle.cell_drive.specs.Stated.{end_part, lateness_part, refusal_prefix, taken_lines};
+ghost use Rattle.cell_drive.specs.Replies.{reply_text};
+
+use crate::manner::Manner;
+use crate::refusals::Refusal;
+use crate::states::put_state;
+use byte_streams::{Sink, WriteFault, put_all};
+use cell_control::{Core, Dues, Report, Timed};
+use event_lines::{
+    Detail, LineText, Overdue, done_line, late_line, late_overdue_line, put_order, put_report,
+    refused_detail_line, refused_line, unfinished_line,
+};
+use shop_base::MoveOrder;
+
+/// What a cell replies to what it is asked.
+#[derive(Clone, Copy)]
+pub(crate) enum Reply {
+    /// What was claimed is refused, with what the line says after the name.
+    Refused {
+        refusal: Refusal,
+        detail: Detail,
+    },
+    /// The report is taken, late or not, with what is told to be overdue, and whether the end of the run is told. The moves
+    /// that it released are the controller's last orders.
+    Taken {
+        report: Report,
+        late: bool,
+        overdue: Option<Overdue>,
+        ended: bool,
+    },
+    /// The state of the cell.
+    State,
+}
+
+/// Writes the line after the prefix. An empty prefix costs nothing.
+#[inline(always)]
+pub(crate) fn put_behind<W: Sink>(
+    prefix: &[u8],
+    line: &[u8],
+    writer: &mut W,
+) -> Result<(), WriteFault>
+    ensures wrote { WroteTo W.Sink result writer.old writer.new (prefix.now ++ line.now) }
+    ensures unfailed { OnOk result (W.failed writer.new ≡ W.failed writer.old) }
+{
+    if prefix.is_empty() {
+        return put_all(writer, line);
+    }
+    put_all(writer, prefix)?;
+    put_all(writer, line)
+}
+
+#[inline(always)]
+pub(crate) fn put_report_line<W: Sink>(
+    prefix: &[u8],
+    report: Report,
+    writer: &mut W,
+) -> Result<(), WriteFault>
+    ensures wrote { WroteTo W.Sink result writer.old writer.new (prefix.now ++ report_line report) }
+    ensures unfailed { OnOk result (W.failed writer.new ≡ W.failed writer.old) }
+{
+    let mut line = LineText::ended();
+    put_report(&mut line, report);
+    put_behind(prefix, line.bytes(), writer)
+}
+
+/// Writes the line that the report was late, if it was, and in it what was overdue, if that is given.
+#[inline(always)]
+pub(crate) fn put_lateness<W: Sink>(
+    prefix: &[u8],
+    report: Report,
+    late: bool,
+    overdue: Option<Overdue>,
+    writer: &mut W,
+) -> Result<(), WriteFault>
+    ensures wrote { WroteTo W.Sink result writer.old writer.new (lateness_part prefix.now (at report) late overdue) }
+    ensures unfailed { OnOk result (W.failed writer.new ≡ W.failed writer.old) }
+{
+    if !late {
+        return Ok(());
+    }
+    match overdue {
+        Some(overdue) => {
+            let line = late_overdue_line(report.at(), overdue);
+            put_behind(prefix, line.bytes(), writer)
+        }
+        None => put_behind(prefix, late_line(report.at()).bytes(), writer),
+    }
+}
+
+#[inline(always)]
+fn put_orders<W: Sink>(
+    prefix: &[u8],
+    orders: &[MoveOrder],
+    writer: &mut W,
+) -> Result<(), WriteFault>
+    ensures wrote { WroteTo W.Sink result writer.old writer.new (flat_map (λ o. prefix.now ++ order_line o) orders.now) }
+    ensures unfailed { OnOk result (W.failed writer.new ≡ W.failed writer.old) }
+{
+    for order in orders {
+        let mut line = LineText::ended();
+        put_order(&mut line, *order);
+        put_behind(prefix, line.bytes(), writer)?;
+    }
+    Ok(())
+}
+
+/// Writes the line of the end of the run, if there is to be one.
+#[inline(always)]
+fn put_end<W: Sink>(
+    prefix: &[u8],
+    report: Report,
+    ended: bool,
+    writer: &mut W,
+) -> Result<(), WriteFault>
+    ensures wrote { WroteTo W.Sink result writer.old writer.new (end_part prefix.now (at report) ended) }
+    ensures unfailed { OnOk result (W.failed writer.new ≡ W.failed writer.old) }
+{
+    if !ended {
+        return Ok(());
+    }
+    put_behind(prefix, done_line(report.at()).bytes(), writer)
+}
+
+/// Writes the line of the report, the line that it was late, the lines of the orders, and the line of the end.
+#[inline(always)]
+pub(crate) fn put_taken<W: Sink>(
+    prefix: &[u8],
+    report: Report,
+    late: bool,
+    overdue: Option<Overdue>,
+    orders: &[MoveOrder],
+    ended: bool,
+    writer: &mut W,
+) -> Result<(), WriteFault>
+    ensures wrote { WroteTo W.Sink result writer.old writer.new (taken_lines prefix.now report late overdue orders.now ended) }
+    ensures unfailed { OnOk result (W.failed writer.new ≡ W.failed writer.old) }
+{
+    put_report_line(prefix, report, writer)?;
+    put_lateness(prefix, report, late, overdue, writer)?;
+    put_orders(prefix, orders, writer)?;
+    put_end(prefix, report, ended, writer)
+}
+
+/// Refuses a line that asks no cell for anything, by its number and this name.
+#[cold]
+#[inline(never)]
+pub(crate) fn put_refused<W: Sink>(
+    number: u64,
+    name: &[u8],
+    writer: &mut W,
+) -> Result<(), WriteFault>
+    requires { length name.now ≤ 20 }
+    ensures wrote { WroteTo W.Sink result writer.old writer.new (refused_line number name.now) }
+    ensures unfailed { OnOk result (W.failed writer.new ≡ W.failed writer.old) }
+{
+    put_all(writer, refused_line(number, name).bytes())
+}
+
+/// Refuses what a cell was asked by the line of this number.
+#[inline(never)]
+fn put_refusal<W: Sink>(
+    prefix: &[u8],
+    number: u64,
+    refusal: Refusal,
+    detail: Detail,
+    writer: &mut W,
+) -> Result<(), WriteFault>
+    ensures wrote { WroteTo W.Sink result writer.old writer.new
+        (prefix.now ++ refused_detail_line number (refusal_word refusal) detail) }
+    ensures unfailed { OnOk result (W.failed writer.new ≡ W.failed writer.old) }
+{
+    let line = refused_detail_line(number, refusal.name().as_bytes(), detail);
+    put_behind(prefix, line.bytes(), writer)
+}
+
+/// What stands before a refusal.
+fn before_refusal(manner: Manner, prefix: &[u8]) -> &[u8]
+    ensures { result.now ≡ refusal_prefix manner prefix.now }
+{
+    if manner.tells { prefix } else { b"" }
+}
+
+/// Writes the reply of the cell to the line of this number.
+#[inline(always)]
+pub(crate) fn put_reply<P: Timed, D: Dues, W: Sink>(
+    manner: Manner,
+    prefix: &[u8],
+    number: u64,
+    controller: &Core<P, D>,
+    reply: Reply,
+    writer: &mut W,
+) -> Result<(), WriteFault>
+    ensures wrote { WroteTo W.Sink result writer.old writer.new (reply_text manner prefix.now number controller.now reply) }
+    ensures unfailed { OnOk result (W.failed writer.new ≡ W.failed writer.old) }
+{
+    match reply {
+        Reply::Refused { refusal, detail } => {
+            put_refusal(
+                before_refusal(manner, prefix),
+                number,
+                refusal,
+                detail,
+                writer,
+            )
+        }
+        Reply::Taken {
+            report,
+            late,
+            overdue,
+            ended,
+        } => {
+            let orders = controller.orders();
+            put_taken(prefix, report, late, overdue, orders, ended, writer)
+        }
+        Reply::State => put_state(prefix, controller, writer),
+    }
+}
+
+/// Writes the closing line: whether the run is done, and when, or how many reports are left.
+pub(crate) fn put_closing<P: Timed, D: Dues, W: Sink>(
+    prefix: &[u8],
+    controller: &Core<P, D>,
+    writer: &mut W,
+) -> Result<(), WriteFault>
+    ensures wrote { WroteTo W.Sink result writer.old writer.new
+        (prefix.now ++ closing_line controller.now.planned controller.now.cell) }
+    ensures unfailed { OnOk result (W.failed writer.new ≡ W.failed writer.old) }
+{
+    let left = controller.reports_left();
+    if left == 0 {
+        put_behind(prefix, done_line(controller.now()).bytes(), writer)
+    } else {
+        put_behind(prefix, unfinished_line(left).bytes(), writer)
+    }
+}

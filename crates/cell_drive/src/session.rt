@@ -1,0 +1,173 @@
+//! A session: a controller, begun from any cell, whose lines are read and answered in a manner.
+
+ghost use Rattle.std.specs.Prelude.{◌≡◌, ◌≢◌, ◌+◌, ◌≤◌, [], ◌∷◌, length, map};
+ghost use Rattle.text_lines.specs.Searches.{SomeIfAny};
+ghost use Rattle.run_log.specs.Log.{Notes};
+ghost use Rattle.byte_streams.specs.Lent.{WroteOneTo};
+ghost use Rattle.cell_drive.specs.Stated.{AsksFor};
+ghost use Rattle.cell_drive.specs.Replies.{IsReply, reply_events};
+ghost use Rattle.cell_drive.specs.Session.{AnsweredBy, IsKept};
+
+use crate::judging::reply_to;
+use crate::manner::Manner;
+use crate::replies::{Reply, put_closing, put_refused, put_reply};
+use byte_streams::{LineHandler, Sink, WriteFault};
+use cell_control::{Core, Dues, Report, Timed};
+use cell_tables::Entry;
+use event_lines::{Claim, Request, report_of, request_of};
+use run_log::RunLog;
+use shop_base::MoveOrder;
+use std::marker::Model;
+
+/// A controller, the manner in which the lines of its cell are read and answered, and the log of the whole run.
+#[derive(Drop)]
+pub(crate) struct Session<P: Timed, D: Dues> {
+    pub manner: Manner,
+    pub controller: Core<P, D>,
+    pub log: RunLog,
+}
+
+impl<P: Timed, D: Dues> Model for Session<P, D> {
+    ghost use Rattle.cell_drive.specs.Session.{SessionState, IsKept, session_by};
+
+    ghost Value = { SessionState };
+
+    ghost view = { λ s. session_by s.manner s.controller s.log };
+
+    ghost invariant = { λ s. IsKept s.controller s.log };
+}
+
+/// What the line asks for, if it asks for anything.
+#[inline(always)]
+fn asked_of(tells: bool, line: &[u8]) -> Option<Request>
+    ensures { SomeIfAny result (AsksFor tells line.now) }
+{
+    if tells {
+        return request_of(line);
+    }
+    let report = report_of(line)?;
+    Some(Request::Claim(Claim::Report(report)))
+}
+
+/// Notes an accepted report and the moves that it released.
+fn note(log: &mut RunLog, report: Report, orders: &[MoveOrder])
+    requires { length log.old.entries + (1 + length orders.now) ≤ log.old.reserved }
+    ensures { Notes log.old log.new (Entry.Report report ∷ map Entry.Order orders.now) }
+{
+    log.note_report(report).unwrap();
+    log.note_orders(orders).unwrap();
+}
+
+/// Notes the events that the reply adds.
+#[inline(always)]
+fn note_reply<P: Timed, D: Dues>(log: &mut RunLog, controller: &Core<P, D>, reply: Reply)
+    requires { length log.old.entries + length (reply_events controller.now reply) ≤ log.old.reserved }
+    ensures { Notes log.old log.new (reply_events controller.now reply) }
+{
+    match reply {
+        Reply::Taken {
+            report,
+            late: _,
+            overdue: _,
+            ended: _,
+        } => note(log, report, controller.orders()),
+        Reply::Refused {
+            refusal: _,
+            detail: _,
+        }
+        | Reply::State => {}
+    }
+}
+
+/// Replies to a request, and notes the events that this adds.
+#[inline(always)]
+fn reply_and_note<P: Timed, D: Dues>(
+    manner: Manner,
+    controller: &mut Core<P, D>,
+    log: &mut RunLog,
+    request: Request,
+) -> Reply
+    requires { IsKept controller.old log.old }
+    ensures kept { IsKept controller.new log.new }
+    ensures reply { IsReply manner controller.old request result controller.new }
+    ensures noted { Notes log.old log.new (reply_events controller.new result) }
+{
+    let reply = reply_to(manner, controller, request);
+    note_reply(log, controller, reply);
+    reply
+}
+
+/// Answers a line that isn't empty. This is a function of its own so that empty lines cost little.
+#[inline(never)]
+fn answer_told<P: Timed, D: Dues, W: Sink>(
+    manner: Manner,
+    controller: &mut Core<P, D>,
+    log: &mut RunLog,
+    number: u64,
+    line: &[u8],
+    writer: &mut W,
+) -> Result<(), WriteFault>
+    requires kept { IsKept controller.old log.old }
+    requires told { line.now ≢ [] }
+    ensures kept { IsKept controller.new log.new }
+    ensures answered { WroteOneTo W.Sink result writer.old writer.new
+        (AnsweredBy manner controller.old log.old number line.now controller.new log.new) }
+{
+    let Some(request) = asked_of(manner.tells, line) else {
+        return put_refused(number, b"BadLine", writer);
+    };
+    let reply = reply_and_note(manner, controller, log, request);
+    put_reply(manner, b"", number, controller, reply, writer)
+}
+
+/// Answers a line. An empty one has no answer.
+fn answer_line<P: Timed, D: Dues, W: Sink>(
+    manner: Manner,
+    controller: &mut Core<P, D>,
+    log: &mut RunLog,
+    number: u64,
+    line: &[u8],
+    writer: &mut W,
+) -> Result<(), WriteFault>
+    requires { IsKept controller.old log.old }
+    ensures kept { IsKept controller.new log.new }
+    ensures answered { WroteOneTo W.Sink result writer.old writer.new
+        (AnsweredBy manner controller.old log.old number line.now controller.new log.new) }
+{
+    if line.is_empty() {
+        return Ok(());
+    }
+    answer_told(manner, controller, log, number, line, writer)
+}
+
+impl<P: Timed, D: Dues> LineHandler for Session<P, D> {
+    ghost use Rattle.cell_drive.specs.Session.{SessionAnswer, SessionCloses};
+
+    ghost answers = { SessionAnswer };
+
+    ghost closes = { SessionCloses };
+
+    fn answer<W: Sink>(
+        &mut self,
+        number: u64,
+        line: &[u8],
+        writer: &mut W,
+    ) -> Result<(), WriteFault> {
+        answer_line(
+            self.manner,
+            &mut self.controller,
+            &mut self.log,
+            number,
+            line,
+            writer,
+        )
+    }
+
+    fn answer_long<W: Sink>(&mut self, number: u64, writer: &mut W) -> Result<(), WriteFault> {
+        put_refused(number, b"LongLine", writer)
+    }
+
+    fn put_closing<W: Sink>(&self, writer: &mut W) -> Result<(), WriteFault> {
+        put_closing(b"", &self.controller, writer)
+    }
+}

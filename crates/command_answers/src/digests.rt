@@ -1,0 +1,40 @@
+//! The command `digest`.
+
+ghost use Rattle.std.specs.Prelude.{◌≡◌, IfOk};
+ghost use Rattle.command_answers.specs.Digests.{digest_line};
+ghost use Rattle.command_answers.specs.Commands.{RunsDigest};
+
+use crate::answer::{Answer, Answered, GOOD};
+use crate::both::{Pair, read_both};
+use crate::lines::line_answer;
+use crate::shapes::not_shaped_answer;
+use crate::texts::Texts;
+use event_lines::put_digits;
+use plan_digest::run_digits;
+use shop_base::Shaped;
+use std::alloc::{AllocError, Global};
+use text_lines::LineText;
+
+/// The bytes of the line.
+const ROOM: usize = 44;
+
+/// The digits by which a log knows the plan of a file and the shop of another. A plan that isn't well shaped has its first
+/// fault told in their place.
+pub fn digest_answer<T: Texts>(alloc: Global, texts: &mut T, pair: &Pair<'_>) -> Answered
+    ensures { RunsDigest T.gives pair.now texts.old result texts.new }
+{
+    match read_both(alloc, texts, pair)?.shaped() {
+        Ok(shaped) => Ok(digits_answer(alloc, &shaped)?),
+        Err(fault) => Ok(not_shaped_answer(alloc, fault)?),
+    }
+}
+
+/// The line of the digits.
+fn digits_answer(alloc: Global, shaped: &Shaped) -> Result<Answer, AllocError>
+    ensures { IfOk result (λ answer. (answer.text.items ≡ digest_line shaped.now) × (answer.status ≡ 0)) }
+{
+    let digits = run_digits(alloc, shaped.shop(), shaped.plan())?;
+    let mut line = LineText::<ROOM>::ended();
+    put_digits(&mut line, &digits);
+    line_answer(alloc, line.bytes(), GOOD)
+}

@@ -1,0 +1,69 @@
+//! The command `margin`.
+
+ghost use Rattle.std.specs.Prelude.{IfOk};
+ghost use Rattle.std.specs.Option.{option_copied};
+ghost use Rattle.command_answers.specs.Margins.{IsMarginAnswer, IsMarginAnswerOf, IsMarginLine};
+ghost use Rattle.command_answers.specs.Commands.{RunsMargin};
+
+use crate::answer::{Answer, Answered, GOOD};
+use crate::both::{Pair, read_both};
+use crate::checks::verdict_answer;
+use crate::naming::names_of;
+use crate::shapes::not_shaped_answer;
+use crate::texts::Texts;
+use people_names::Names;
+use plan_margin::{find_margin, push_margin_line};
+use plan_verifier::{Verdict, Verified, verify};
+use shop_base::Shaped;
+use std::alloc::{AllocError, Global};
+
+/// How much longer everything may take by the plan of a file for the instance of another, with the names of a third, which
+/// is read once the plan is shaped. A plan that isn't accepted has the line of `check`.
+pub fn margin_answer<T: Texts>(
+    alloc: Global,
+    texts: &mut T,
+    pair: &Pair<'_>,
+    names: Option<&str>,
+) -> Answered
+    ensures { RunsMargin T.gives pair.now (option_copied names.entry) texts.old result texts.new }
+{
+    match read_both(alloc, texts, pair)?.shaped() {
+        Ok(shaped) => {
+            let names = names_of(alloc, texts, names, &shaped)?;
+            Ok(plan_margin(alloc, &names, shaped)?)
+        }
+        Err(fault) => Ok(not_shaped_answer(alloc, fault)?),
+    }
+}
+
+/// The margin of a plan, or the line of its check.
+fn plan_margin(alloc: Global, names: &Names, shaped: Shaped) -> Result<Answer, AllocError>
+    ensures { IfOk result (IsMarginAnswer names.now shaped) }
+{
+    // Called for its clause alone: the plan is well shaped.
+    let _shop = shaped.shop();
+    match verify(alloc, shaped) {
+        Ok(verdict) => verdict_margin(alloc, names, &verdict),
+        Err((error, _)) => Err(error),
+    }
+}
+
+/// The margin of a plan that is accepted, or the line of the verdict.
+fn verdict_margin(alloc: Global, names: &Names, verdict: &Verdict) -> Result<Answer, AllocError>
+    ensures { IfOk result (IsMarginAnswerOf names.now verdict.now) }
+{
+    match verdict {
+        Verdict::Accepted(verified) => verified_margin(alloc, names, verified),
+        Verdict::Refused(_, _) => verdict_answer(alloc, verdict),
+    }
+}
+
+/// The margin of an accepted plan.
+fn verified_margin(alloc: Global, names: &Names, verified: &Verified) -> Result<Answer, AllocError>
+    ensures { IfOk result (IsMarginLine names.now verified.now.planned) }
+{
+    let margin = find_margin(alloc, verified)?;
+    let (mut text, status) = (Vec::new(alloc), GOOD);
+    push_margin_line(&mut text, names, margin)?;
+    Ok(Answer { text, status })
+}

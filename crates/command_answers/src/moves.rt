@@ -1,0 +1,146 @@
+//! The moves of `schedule --moves`.
+
+ghost use Rattle.std.specs.Prelude.{◌≡◌, ◌≤◌, ◌++◌, List, ℕ, IfErr, IfSome, OnOk};
+ghost use Rattle.std.specs.Option.{option_copied};
+ghost use Rattle.shop_base.specs.declared.limits.TheConstants.{MAX_MOMENT};
+ghost use Rattle.shop_base.specs.Cell.{start};
+ghost use Rattle.shop_base.specs.Report.{IsNextMoment};
+ghost use Rattle.command_answers.specs.declared.command_fault.CommandFault.TheVariants.{Memory};
+ghost use Rattle.command_answers.specs.Moves.{AreLinesBelow, AreMovesOfLog, AreMovesTold};
+ghost use Rattle.command_answers.specs.Rests.{IsCellTold};
+ghost use Rattle.command_answers.specs.Steps.{IsOrMemory};
+ghost use Rattle.command_answers.specs.Commands.{RunsMoves, RunsRestMoves};
+
+use crate::answer::{Answer, Answered, Outcome};
+use crate::both::{Pair, read_both};
+use crate::command_fault::{CommandFault, Unanswered};
+use crate::logs::fault_told;
+use crate::naming::names_of;
+use crate::rests::{past_answer, present_at, rest_status};
+use crate::shapes::not_shaped_answer;
+use crate::texts::Texts;
+use cell_tables::WorkCell;
+use people_names::Names;
+use plan_explain::first_line_after;
+use plan_moves::{moves_from, push_move_lines};
+use plan_verifier::verify_after;
+use run_log::run_of_log;
+use shop_base::{Moment, Shaped};
+use std::alloc::Global;
+
+/// The moves of the run in which everything is reported when it is due, by the plan of a file for the instance of another:
+/// below the line of `check` a line for each, with the names and the clock of a third file, which is read once the plan is
+/// shaped. A plan with a cycle has none.
+pub fn moves_answer<T: Texts>(
+    alloc: Global,
+    texts: &mut T,
+    pair: &Pair<'_>,
+    names: Option<&str>,
+) -> Answered
+    ensures { RunsMoves T.gives pair.now (option_copied names.entry) texts.old result texts.new }
+{
+    match read_both(alloc, texts, pair)?.shaped() {
+        Ok(shaped) => {
+            let names = names_of(alloc, texts, names, &shaped)?;
+            plan_moves(alloc, &names, shaped)
+        }
+        Err(fault) => Ok(not_shaped_answer(alloc, fault)?),
+    }
+}
+
+/// The moves ahead in the run in the log of a file, from a present moment on, or from the last one of that run.
+pub fn rest_moves_answer<T: Texts>(
+    alloc: Global,
+    texts: &mut T,
+    pair: &Pair<'_>,
+    names: Option<&str>,
+    log: &str,
+    at: Option<Moment>,
+) -> Answered
+    requires { IfSome at (λ present. present ≤ MAX_MOMENT) }
+    ensures { RunsRestMoves T.gives at pair.now (option_copied names.entry) log.now texts.old result texts.new }
+{
+    match read_both(alloc, texts, pair)?.shaped() {
+        Ok(shaped) => {
+            let names = names_of(alloc, texts, names, &shaped)?;
+            let text = texts.text(alloc, log)?;
+            log_moves(alloc, &names, shaped, &text, at)
+        }
+        Err(fault) => Ok(not_shaped_answer(alloc, fault)?),
+    }
+}
+
+/// The moves from the start on.
+fn plan_moves(alloc: Global, names: &Names, shaped: Shaped) -> Answered
+    ensures { IsOrMemory (AreMovesTold names.now shaped (start shaped) 0) result }
+{
+    match WorkCell::start(alloc, shaped) {
+        Ok(cell) => cell_moves(alloc, names, cell, 0),
+        Err((error, _)) => Err(CommandFault::from(error)),
+    }
+}
+
+/// The moves ahead in the run in a log.
+fn log_moves(
+    alloc: Global,
+    names: &Names,
+    shaped: Shaped,
+    log: &[u8],
+    at: Option<Moment>,
+) -> Answered
+    requires { IfSome at (λ present. present ≤ MAX_MOMENT) }
+    ensures { IsOrMemory (AreMovesOfLog names.now at shaped log.now) result }
+{
+    match run_of_log(alloc, shaped, log) {
+        Ok(run) => moves_at(alloc, names, run.cell, at),
+        Err(fault) => fault_told(alloc, fault),
+    }
+}
+
+/// The moves from a cell on, if the present moment isn't before its last one.
+fn moves_at(alloc: Global, names: &Names, cell: WorkCell<Shaped>, at: Option<Moment>) -> Answered
+    requires { IfSome at (λ present. present ≤ MAX_MOMENT) }
+    ensures { IsOrMemory (IsCellTold (AreMovesTold names.now) at cell.plan cell.cell) result }
+{
+    // Called for its clause alone: the cell is sound.
+    let _plan = cell.shaped();
+    let last = cell.last();
+    let present = present_at(at, last);
+    if present < last {
+        return Ok(past_answer(alloc, last)?);
+    }
+    cell_moves(alloc, names, cell, present)
+}
+
+/// The moves from a cell and a present moment on.
+fn cell_moves(alloc: Global, names: &Names, cell: WorkCell<Shaped>, present: Moment) -> Answered
+    requires { IsNextMoment cell.cell present }
+    ensures { IsOrMemory (AreMovesTold names.now cell.plan cell.cell present) result }
+{
+    let verdict = verify_after(alloc, &cell, present)?;
+    let mut text = first_line_after(alloc, &cell, verdict.seen())?;
+    let status = rest_status(&verdict);
+    push_moves(alloc, &mut text, names, cell, present)?;
+    Ok(Answer { text, status })
+}
+
+/// Adds a line for each move. A plan with a cycle has none.
+fn push_moves(
+    alloc: Global,
+    text: &mut Vec<u8>,
+    names: &Names,
+    cell: WorkCell<Shaped>,
+    present: Moment,
+) -> Outcome<()>
+    requires { IsNextMoment cell.cell present }
+    ensures lines { OnOk result ((lines : List ℕ) × AreLinesBelow names.now cell.plan cell.cell present lines × (text.new.items ≡ text.old.items ++ lines)) }
+    ensures fault { IfErr result (λ fault. fault ≡ Memory) }
+{
+    match moves_from(alloc, cell, present) {
+        Ok(moves) => Ok(push_move_lines(text, names, &moves)?),
+        Err(fault) => match Unanswered::from(fault).0 {
+            Some(fault) => Err(fault),
+            None => Ok(()),
+        },
+    }
+}

@@ -1,0 +1,35 @@
+use Rattle.std.proofs.Common.{Ok, Err, ap, option_map, refl}
+use Rattle.command_run.proofs.HeldLogs.{held_as, told_as, unopened_held}
+use Rattle.command_run.proofs.KnownLogs.{found_in_folder, opened_found, path_told}
+use Rattle.command_run.proofs.logs.open_and_drive.Goals as goal
+
+pub drive_found-requires-clause-found : goal.drive_found-requires-clause-found
+drive_found-requires-clause-found g c =
+    let had = c.in-Ok.ensures in
+    opened_found g.L.Log.LogFile.seen g.L.Log.LogFile.may_leave g.L.Log.LogFile.fault _ _ c.in-Ok.found had.opened had.text had.within had.settled had.unfailed had.told
+
+pub drive_found-requires-clause-told : goal.drive_found-requires-clause-told
+drive_found-requires-clause-told g c = told_as g.B.Before.before (path_told _ _ _ _ _ _ _ c.in-Ok.found c.in-Ok.ensures.opened c.in-Ok.ensures.found) c.requires.told
+
+pub returns-in-Ok : goal.returns-in-Ok
+returns-in-Ok g c = record {
+  drove = held_as _ _ _ _ _ _ _ _ _ _ (λ end is. (
+    is.0,
+    record {
+      opened = Ok (option_map (λ there. there.1) c.in-Ok.found);
+      found = c.in-Ok.ensures.found;
+      drives = found_in_folder _ _ _ _ _ _ _ _ _ c.in-Ok.found c.in-Ok.ensures.opened is.1;
+    },
+  )) c.drive_found.ensures.drove;
+}
+
+pub returns-in-Err : goal.returns-in-Err
+returns-in-Err g c =
+    let back = unopened_held g.L.Log.LogFile.seen g.L.Log.LogFile.may_leave g.L.Log.LogFile.fault g.L.Log.LogFile.written (g.L.Logs.folder c.args.logs.now) _ g.B.Before.before _ _ c.in-Err.back.fault c.args.path.now c.in-Err.back.log c.in-Err.ensures.unopened c.in-Err.ensures.unread in
+    record {
+      drove = record {
+        end = back.end;
+        is = (back.driven, record { opened = Err c.in-Err.back.fault; found = tt; drives = (ap Err c.from.ensures, refl, back.why_is) });
+        held = back.held;
+      };
+    }

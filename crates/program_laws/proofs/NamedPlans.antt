@@ -1,0 +1,123 @@
+-- A log is driven by no other plan than its last line of a plan names.
+use Rattle.std.proofs.Common.{◌≡◌, ℕ, List, [], ◌∷◌, Option, None, Some, IfSome, Result, Ok, Err, IfOk, is_some, option_map, MatchOption, true, false, inl, inr, sym, ap, ◌∙◌, subst, refl}
+use Rattle.shop_base.specs.declared.shape_fault.ShapeFault.{ShapeFault}
+use Rattle.shop_base.specs.Plan.{PlannedShop}
+use Rattle.text_lines.specs.Lines.{lines_of}
+use Rattle.cell_tables.specs.declared.entry.Entry.{Entry}
+use Rattle.cell_drive.specs.declared.manner.Manner.{Manner}
+use Rattle.cell_drive.specs.TakenUp.{TakenUp, plan_of}
+use Rattle.byte_streams.specs.declared.drive_fault.DriveFault.{DriveFault}
+use Rattle.event_lines.specs.declared.run_digits.RunDigits.{RunDigits}
+use Rattle.run_journal.specs.declared.file_fault.FileFault.{FileFault}
+use Rattle.run_journal.specs.declared.log_run.LogRun.{LogRun}
+use Rattle.run_journal.specs.declared.log_run.LogRun.TheVariants.{Unbegun, Unnamed, Named}
+use Rattle.run_journal.specs.Folders.{Folder, NamedLog, held, handed_if}
+use Rattle.run_journal.specs.Logged.{Held}
+use Rattle.run_journal.specs.LogRuns.{IsRunOf, NameLast}
+use Rattle.run_journal.specs.WholeLines.{whole_lines}
+use Rattle.run_journal.proofs.LogRuns.{last_run}
+use Rattle.logged_drive.specs.declared.taken_log.TakeUpFault.{TakeUpFault}
+use Rattle.command_words.specs.declared.words.Chosen.{Chosen}
+use Rattle.command_words.specs.declared.words.log_start.LogStart.{LogStart}
+use Rattle.command_words.specs.declared.words.log_start.LogStart.TheVariants.{Any, New, Continue, HandOver}
+use Rattle.command_words.specs.declared.words.WordsFault.{WordsFault}
+use Rattle.command_words.specs.declared.words.WordsFault.TheVariants.{Usage, Memory as NoWordsMemory}
+use Rattle.command_words.specs.Choice.{IsChoiceOf, kept_in, start_in, rows_found, found_in}
+use Rattle.command_answers.specs.declared.answer.Answer.{Answer}
+use Rattle.command_answers.specs.declared.command_fault.CommandFault.{CommandFault}
+use Rattle.command_run.specs.Streams.{Devices, Streams, Output}
+use Rattle.command_run.specs.Misfits.{IsMisfit}
+use Rattle.command_run.specs.declared.misfits.Misfit.{Misfit}
+use Rattle.command_run.specs.declared.misfits.Misfit.TheVariants.{NotNew, OtherPlan}
+use Rattle.command_run.specs.Logs.{Driven, Found, DrivesAs, DrivesFitting, DrivesFound, DrivesOpened, DrivesShaped, GoesOnAfter, GoesOnTaken, LogEnd, Step, TakesLog, bytes_in, digits_in}
+use Rattle.command_run.specs.Program.{Follows, RunsChosen, kept_log_in}
+use Rattle.program_laws.specs.PlanLaw.{NoOtherPlanDrives}
+use Rattle.program_laws.proofs.ToldLogs.{asked_path}
+
+-- a cell was driven with a log by this plan
+abbrev DrivenBy : PlannedShop → Option LogEnd → Type 0
+DrivenBy p log = (events : List Entry) × (run : Held) × (log ≡ Some (Driven p events run))
+
+module _ (p : PlannedShop) where
+  -- not where the log came to something else
+  never : (log other : Option LogEnd) → log ≡ other → (DrivenBy p other → ⊥) → DrivenBy p log → ⊥
+  never log other is not driven = not (subst (DrivenBy p) is driven)
+
+  undriven : (there : Option (List ℕ)) → DrivenBy p (option_map Found there) → ⊥
+  undriven None driven = absurd (cc driven.2)
+  undriven (Some bytes) driven = absurd (cc driven.2)
+
+  -- the plan by which it goes on is the one by which it was taken up
+  taken_plan : (manner : Manner) (q : PlannedShop) (t : TakenUp) (mid : Output) (told : Result (Unit {0}) DriveFault) (step : Step) → plan_of t ≡ q → GoesOnAfter manner t mid told step → DrivenBy p step.log → p ≡ q
+  taken_plan manner q t mid (Ok done) step planned (inl run) driven = (let same : p ≡ plan_of t = cc (sym driven.2 ∙ run.log) in same ∙ planned)
+  taken_plan manner q t mid (Ok done) step planned (inr lacks) driven = (let same : p ≡ plan_of t = cc (sym driven.2 ∙ lacks.log) in same ∙ planned)
+  taken_plan manner q t mid (Err fault) step planned is driven = absurd (cc (sym driven.2 ∙ is.2))
+
+  log_plan : (manner : Manner) (at : Option ℕ) (q : PlannedShop) (text : List ℕ) (taken : Result TakenUp TakeUpFault) (step : Step) → TakesLog q at text taken → GoesOnTaken q manner text taken step → DrivenBy p step.log → p ≡ q
+  log_plan manner at q text (Ok t) step takes on driven = taken_plan manner q t on.mid on.told step takes.is.taken_from.planned on.goes_on driven
+  log_plan manner at q text (Err fault) step takes is driven = absurd (cc (sym driven.2 ∙ is.1.is))
+
+-- ---- a log that names a plan
+
+-- where the lines name it, no other is asked for, and it isn't handed over, nothing is amiss only by that plan
+fits : (start : LogStart) (run : LogRun) (digits own : RunDigits) → run ≡ Named digits → (start ≡ HandOver → ⊥) → ((misfit : Misfit) → IsMisfit start run own misfit → ⊥) → (own ≡ digits → ⊥) → ⊥
+fits New run digits own is start none other = none NotNew (refl, λ same. absurd (cc (sym is ∙ same)))
+fits Any run digits own is start none other = none (OtherPlan digits) (inl refl, is, λ same. other (sym same))
+fits Continue run digits own is start none other = none (OtherPlan digits) (inr refl, is, λ same. other (sym same))
+fits HandOver run digits own is start none other = start refl
+
+module _ (p : PlannedShop) (digits : RunDigits) (bytes : List ℕ) (named : NameLast (lines_of (whole_lines bytes)) digits) (other : digits_in p ≡ digits → ⊥) where
+  fitting : (folder after : Folder) (path : List ℕ) (manner : Manner) (at : Option ℕ) (q : PlannedShop) (step : Step) → DrivesFitting folder after path manner at q (Some bytes) step → DrivenBy p step.log → p ≡ q
+  fitting folder after path manner at q step is driven = some bytes named is
+    where
+      some : (xs : List ℕ) → NameLast (lines_of (whole_lines xs)) digits → DrivesFitting folder after path manner at q (Some xs) step → p ≡ q
+      some [] none is = absurd none
+      some (x ∷ xs) names is = log_plan p manner at q (x ∷ xs) is.0.taken step is.0.takes is.0.goes_on driven
+
+  as_asked : (folder after : Folder) (path : List ℕ) (start : LogStart) (manner : Manner) (at : Option ℕ) (q : PlannedShop) (run : LogRun) (misfit : Option Misfit) (step : Step) → IsRunOf (lines_of (whole_lines bytes)) run
+      → (start ≡ HandOver → ⊥) → MatchOption misfit ((m : Misfit) → IsMisfit start run (digits_in q) m → ⊥) (IsMisfit start run (digits_in q)) → DrivesAs folder after path misfit manner at q (Some bytes) step → DrivenBy p step.log → ⊥
+  as_asked folder after path start manner at q run (Some m) step tells asked is drives driven = never p step.log (Some (Found bytes)) drives.1.is (undriven p (Some bytes)) driven
+  as_asked folder after path start manner at q run None step tells asked none drives driven =
+      let same = fitting folder after path manner at q step drives driven in
+      fits start run digits (digits_in q) (last_run (lines_of (whole_lines bytes)) run digits tells named) asked none (λ is. other (ap digits_in same ∙ is))
+
+  found : (folder after : Folder) (path : List ℕ) (start : LogStart) (manner : Manner) (at : Option ℕ) (q : PlannedShop) (there : Option (List ℕ)) (step : Step) → there ≡ Some bytes → (start ≡ HandOver → ⊥)
+      → DrivesFound folder after path start manner at q there step → DrivenBy p step.log → ⊥
+  found folder after path start manner at q there step is asked drives =
+      let here = subst (λ (o : Option (List ℕ)). DrivesFound folder after path start manner at q o step) is drives in
+      as_asked folder after path start manner at q here.run here.misfit step here.tells asked here.is_misfit here.drives
+
+  opened : (folder after : Folder) (path : List ℕ) (start : LogStart) (manner : Manner) (at : Option ℕ) (q : PlannedShop) (opened : Result (Option (List ℕ)) FileFault) (step : Step) → (start ≡ HandOver → ⊥)
+      → ((there : Option (List ℕ)) → opened ≡ Ok there → there ≡ Some bytes) → DrivesOpened folder after path start manner at q opened step → DrivenBy p step.log → ⊥
+  opened folder after path start manner at q (Ok there) step asked here drives = found (handed_if (is_some there) folder) after path start manner at q there step (here there refl) asked drives
+  opened folder after path start manner at q (Err fault) step asked here (_, _, inl is) = never p step.log None is.2 (undriven p None)
+  opened folder after path start manner at q (Err fault) step asked here (_, _, inr is) = never p step.log _ is.2 (λ driven. absurd (cc driven.2))
+
+  shaped : (folder after : Folder) (logs : List NamedLog) (path : List ℕ) (start : LogStart) (manner : Manner) (at : Option ℕ) (shape : Result (Result PlannedShop ShapeFault) CommandFault) (step : Step) → folder.logs ≡ Some logs
+      → held logs path ≡ Some bytes → (start ≡ HandOver → ⊥) → DrivesShaped folder after path start manner at shape step → DrivenBy p step.log → ⊥
+  shaped folder after logs path start manner at (Err fault) step there has asked is = never p step.log None is.1.is (undriven p None)
+  shaped folder after logs path start manner at (Ok (Err fault)) step there has asked is = never p step.log None is.1.is (undriven p None)
+  shaped folder after logs path start manner at (Ok (Ok q)) step there has asked (inr wanting) = never p step.log None wanting.1.is (undriven p None)
+  shaped folder after logs path start manner at (Ok (Ok q)) step there has asked (inl is) = opened folder after path start manner at q is.opened step asked here is.drives
+    where
+      here : (found : Option (List ℕ)) → is.opened ≡ Ok found → found ≡ Some bytes
+      here found opened_is =
+          let known = subst (λ (o : Result (Option (List ℕ)) FileFault). IfOk o (λ f. IfSome folder.logs (λ ls. f ≡ held ls path))) opened_is is.found in
+          let same : found ≡ held logs path = subst (λ (o : Option (List NamedLog)). IfSome o (λ ls. found ≡ held ls path)) there known in
+          same ∙ has
+
+pub no_other_plan : {W : Type 0} (gives : W → List ℕ → Result (List ℕ) CommandFault → W → Type 0) → NoOtherPlanDrives gives
+no_other_plan {W} gives words before after status logs path bytes digits p events run there kept has named asked other runs = follows runs.read runs.is.chosen runs.follows
+  where
+    by_log : (chosen : Chosen) (log : Option (List ℕ)) (outcome : Result Answer CommandFault) (mid : Streams) → IsChoiceOf words (found_in words) chosen → kept_log_in chosen ≡ log
+        → RunsChosen gives log chosen before outcome mid after (Some (Driven p events run)) → ⊥
+    by_log chosen None outcome mid choice keeps runs = absurd (cc runs.1.1)
+    by_log chosen (Some at_path) outcome mid choice keeps runs =
+        let here : at_path ≡ path = (let both : Some at_path ≡ Some path = sym (asked_path words chosen at_path choice keeps) ∙ kept in cc both) in
+        shaped p digits bytes named other before.folder after.folder logs at_path chosen.start _ chosen.at runs.shaped _ there (ap (held logs) here ∙ has) (λ is. asked (sym choice.start ∙ is)) runs.drives (events, run, refl)
+
+    follows : (read : Result Chosen WordsFault) → IfOk read (IsChoiceOf words (found_in words)) → Follows gives read before status after (Some (Driven p events run)) → ⊥
+    follows (Ok chosen) choice is = by_log chosen (kept_log_in chosen) is.outcome is.mid choice refl is.runs
+    follows (Err (Usage true text)) choice is = absurd (cc is.logs.1)
+    follows (Err (Usage false text)) choice is = absurd (cc is.4.1)
+    follows (Err NoWordsMemory) choice is = absurd (cc is.3.1)

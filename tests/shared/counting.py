@@ -1,0 +1,38 @@
+"""What the scripts of tests in Python count: what has passed, and what hasn't, which is told at once. The last line is 'N passed, M failed'."""
+import os, sys
+
+
+def numbers(*defaults):
+    """The numbers of the command line, and of those that are left out the defaults."""
+    given = [int(word) for word in sys.argv[1:]]
+    return given + list(defaults)[len(given):]
+
+
+class Count:
+    def __init__(self):
+        self.script, self.passed, self.failed = os.path.basename(sys.argv[0]), 0, 0
+
+    def miss(self, text):
+        self.failed += 1
+        print("%s: %s" % (self.script, text), flush=True)
+
+    def judge(self, wrong):
+        """Passed, where nothing is said to be wrong."""
+        if wrong is None:
+            self.passed += 1
+        else:
+            self.miss(wrong)
+
+    def enough(self, kinds, least):
+        """Tells how many there were of each kind; each but those that `least` doesn't want has to be met so often."""
+        print(", ".join("%d %s" % (count, kind) for kind, count in kinds.items()))
+        for kind, count in kinds.items():
+            if count < (least(kind) if callable(least) else least):
+                self.miss("only %d are of the kind %s" % (count, kind))
+
+    def skip(self, what, command):
+        print("skipped %s: there is no command %s" % (what, command))
+
+    def finish(self):
+        print("%d passed, %d failed" % (self.passed, self.failed))
+        sys.exit(self.failed > 0)
