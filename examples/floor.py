@@ -19,6 +19,12 @@ on; with `--add ROUTE@T` one more job comes, whose machines and times are ROUTE;
 UNTIL, from the first part on that it gets before. The gateway is told, and hands the run over to a plan for what has changed, in mid-run, and
 it may be killed within that too. A time unit lasts longer then, as the search for a plan takes some time.
 
+The gateway asks for the state behind each batch of reports, so it has no model of the cell; a floor with many reports a second follows the
+lines itself. It sends the next order once the floor has confirmed that the one before is carried out, so a copy that comes late finds its part
+elsewhere; that costs a way there and back for each order. Where a log wants another plan than it did a moment ago, a cellplan whose gateway has
+died has handed the run over meanwhile: the gateway then ends with 6, looks anew for the texts at its next start, and doesn't need a lock of its
+own.
+
 Each order is checked as it is carried out: the part stands where it is to be fetched and is finished, and where it goes no part is, and
 nothing is cleaned. At the end LOG has each move that was made, once, and no other; it has no report of what hasn't ended; and `cellplan audit`
 keeps it. What is wrong ends the program with status 1.
