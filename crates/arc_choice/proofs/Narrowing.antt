@@ -40,10 +40,6 @@ pub told_on : {A : Type 0} (P : (ℕ → ℕ) → Type 0) (q : Question) (s t u 
 told_on P q s t u (Ok x) one other = record { branch = other.branch; keeps = λ w answers holds within. other.keeps w answers holds (one.keeps w answers holds within) }
 told_on P q s t u (Err e) one none = λ w answers holds within. none w answers holds (one.keeps w answers holds within)
 
-pub told_then : {A : Type 0} (P : (ℕ → ℕ) → Type 0) (q : Question) (s t u : Branch) (r : Result A Clash) → Narrows P q s t → Told Always q t u r → Told P q s u r
-told_then P q s t u (Ok x) one other = narrows_on P q s t u one other
-told_then P q s t u (Err e) one none = none_after P q s t one none
-
 pub told_by : {A : Type 0} (P : (ℕ → ℕ) → Type 0) (q : Question) (s t : Branch) (r : Result A Clash) → ((w : ℕ → ℕ) → Answers q w → IsWithin q s w → P w) → Told P q s t r → Told Always q s t r
 told_by P q s t (Ok x) holds one = narrows_by P q s t holds one
 told_by P q s t (Err e) holds none = none_by P q s holds none
@@ -155,17 +151,6 @@ other_forced q s p inside none = record { pair = inside; keeps = λ w answers wi
     go : (w : ℕ → ℕ) → Answers q w → IsWithin q s w → KeepsOne w (pair_at q p) → Keeps w (side_of q p false)
     go w answers within (inl one) = absurd (none w answers one within)
     go w answers within (inr other) = other
-
-pub one_forced : (q : Question) (s : Branch) (p : ℕ) → p < length q.pairs.items → HasNone (λ w. Keeps w (side_of q p false)) q s → IsForced q s (record { pair = p; one = true })
-one_forced q s p inside none = record { pair = inside; keeps = λ w answers within. go w answers within (answers.pairs p inside) }
-  where
-    go : (w : ℕ → ℕ) → Answers q w → IsWithin q s w → KeepsOne w (pair_at q p) → Keeps w (side_of q p true)
-    go w answers within (inl one) = one
-    go w answers within (inr other) = absurd (none w answers other within)
-
--- and of one of which neither can be, nothing is
-pub none_forced : (q : Question) (s : Branch) (p : ℕ) → p < length q.pairs.items → HasNone (λ w. Keeps w (side_of q p true)) q s → HasNone (λ w. Keeps w (side_of q p false)) q s → HasNone Always q s
-none_forced q s p inside one other = λ w answers always within. other w answers ((other_forced q s p inside one).keeps w answers within) within
 
 -- what is decided is kept
 pub one_decided : (q : Question) (s : Branch) (p : ℕ) (x : Decision) → p < length q.pairs.items → x ≡ decision_at s p → x ≡ One → (w : ℕ → ℕ) → IsWithin q s w → Keeps w (side_of q p true)

@@ -1,8 +1,8 @@
 -- What is known of a machine's visits when one job more was looked at.
-use Rattle.std.proofs.Common.{◌≡◌, ℕ, suc, ◌+◌, ◌<◌, ◌⊎◌, inl, inr, None, Some, arith, refl, sym, ap, ◌∙◌, subst, add-one}
+use Rattle.std.proofs.Common.{◌≡◌, ℕ, suc, ◌+◌, ◌<◌, ◌⊎◌, inl, inr, Some, arith, refl, sym, ap, ◌∙◌, subst, add-one}
 use Rattle.std.proofs.lemmas.Bool.{cases_eq}
 use Rattle.shop_base.specs.declared.shop.Step.{Step}
-use Rattle.plan_bounds.specs.Bounds.{ShopTimes, IsVisit, AreEnds, IsLeast, head, tail, route_in, value_on}
+use Rattle.plan_bounds.specs.Bounds.{ShopTimes, IsVisit, AreEnds, head, tail, route_in, value_on}
 use Rattle.plan_bounds.specs.Seen.{IsHead, IsTail, IsNoVisitor, IsVisitOf, AreVisits, lesser_of, plus}
 use Rattle.plan_bounds.specs.declared.visits.Visit.{Visit}
 use Rattle.plan_bounds.specs.declared.visits.Visits.{Visits}
@@ -182,14 +182,3 @@ module _ (t : ShopTimes) (m j : ℕ) where
 
     pub one_more : (v : Visits) → AreVisits t m j v → AreVisits t m (j + 1) (seen_more v)
     one_more v are = subst (λ (n : ℕ). AreVisits t m n (seen_more v)) (sym (add-one j)) (with_one v are)
-
--- before any job was looked at
-pub none_known : (t : ShopTimes) (m : ℕ) (v : Visits) → v.jobs ≡ 0 → v.work ≡ 0 → v.head ≡ None → v.tail ≡ None → v.ends ≡ None → AreVisits t m 0 v
-none_known t m v jobs work head tail ends = record {
-  jobs = omega (arith, jobs);
-  work = omega (arith, work);
-  head = subst (IsLeast (IsHead t m 0)) (sym head) (λ x h. omega (arith, h.in_range));
-  tail = subst (IsLeast (IsTail t m 0)) (sym tail) (λ x h. omega (arith, h.in_range));
-  ends = subst (IsLeast (AreEnds t m 0)) (sym ends) (λ x e. omega (arith, e.in_range.0));
-  small = (omega (arith, jobs), omega (arith, work));
-}

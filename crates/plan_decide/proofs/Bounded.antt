@@ -23,7 +23,7 @@ use Rattle.plan_bounds.specs.Makespan.{IsLeastMakespan}
 use Rattle.plan_bounds.specs.declared.makespan.LeastMakespan.{LeastMakespan}
 use Rattle.plan_bounds.proofs.Bounded.{no_plan_is_sooner-holds}
 use Rattle.plan_limits.specs.Stages.{GoesOnFrom, stage_of}
-use Rattle.plan_limits.proofs.FirstPaths.{next_path}
+use Rattle.plan_verifier.proofs.Rests.{next_path}
 use Rattle.plan_seek.specs.Tasks.{with_order}
 use Rattle.plan_improve.specs.RestCosts.{IsCellOf}
 use Rattle.plan_improve.specs.Reordered.{IsReordered}

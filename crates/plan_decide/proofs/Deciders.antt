@@ -20,9 +20,6 @@ use Rattle.plan_decide.specs.Settings.{plan_of, free_in, freed}
 use Rattle.plan_decide.specs.Halves.{IsHalved}
 use Rattle.plan_decide.specs.Found.{IsReady, IsBestFound}
 
-pub found_kept : (t : Case) (aim : Aim) (p : PlannedShop) → aim ≡ Promises → IsAcceptedWith (asked_for t aim) p → IsKept t aim p
-found_kept t aim p asked plan = record { asked = asked; plan = subst (λ a. IsAcceptedWith (asked_for t a) p) asked plan }
-
 halved_best : (t : Case) (objective : Objective) (kept : Kept) (within : Within) → IsHalved (asked_for t (Least objective)) objective (kept, within) → IsBest t (Least objective) (plan_of kept) within
 halved_best t Makespan kept within is = record { objective = Makespan; asked = refl; plan = is.plan; value = is.value; least = is.least; apart = is.apart; exact = is.exact }
 halved_best t (Leaving j) kept within is = record {

@@ -58,20 +58,6 @@ pub reached : (happened : Happened) (p : PlannedShop) (c : Cell) → HasLed happ
 reached Nothing p c led = (led, refl)
 reached (Run log present) p c led = (led.0, refl, refl)
 
--- a plan that is kept has ranks
-pub fits_ranks : (past : Past) (p : PlannedShop) (times : NodeTimes) → FitsPast past (Rest p times) → AreRanks p times
-fits_ranks nothing p times fits = absurd fits
-fits_ranks (run_to lines c present) p times fits = fits.ranks
-
--- and its values
-pub whole_makespan : (past : Past) (v : VerifiedPlan) (n : ℕ) → FitsPast past (Whole v) → IsMakespan v.planned n → HasValue past Makespan v.planned n
-whole_makespan nothing v n fits is = is
-whole_makespan (run_to lines c present) v n fits is = absurd fits
-
-pub whole_leaving : (past : Past) (v : VerifiedPlan) (j n : ℕ) → FitsPast past (Whole v) → IsGreatest v.planned (leaving v.planned j) n → HasValue past (Leaving j) v.planned n
-whole_leaving nothing v j n fits is = is
-whole_leaving (run_to lines c present) v j n fits is = absurd fits
-
 pub rest_makespan : (past : Past) (p : PlannedShop) (times : NodeTimes) (n : ℕ) → FitsPast past (Rest p times) → IsLastLeaving p (leaves_in p times) n → HasValue past Makespan p n
 rest_makespan nothing p times n fits is = absurd fits
 rest_makespan (run_to lines c present) p times n fits is = record {
@@ -122,13 +108,6 @@ kept_after lines p q c present kept same is shaped found =
       };
       fits = subst (λ (x : Cell). FitsPast (run_to lines x present) kept) cell found.fits;
     }
-
--- the budgets that are asked for
-pub freed_there : (budget : List ℕ) (j : ℕ) → j < length budget → slice_index (freed (Some j) budget) j ≡ MAX_MOMENT
-freed_there budget j inside = get_or-set_same budget j MAX_MOMENT 0 inside
-
-pub freed_other : (budget : List ℕ) (i j : ℕ) → j ≢ i → slice_index (freed (Some i) budget) j ≡ slice_index budget j
-freed_other budget i j apart = get_or-set_other budget i j MAX_MOMENT 0 apart
 
 -- ---- of a setting
 

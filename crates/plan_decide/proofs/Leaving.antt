@@ -42,16 +42,6 @@ limit_was limits k i n inside is =
     (apart, sym (limit_stays limits k i apart) ∙ is)
 
 module _ (t : Case) where
-  -- all promises are limits of promised jobs
-  pub all_promised : (n : ℕ) (limits : List (Option ℕ)) → n ≡ job_count t → AreLimits t AllAsked n limits → ArePromised t limits
-  all_promised n limits all are = record {
-    count = are.count ∙ all;
-    each = λ j k is. (
-        let inside : j < n = omega (arith, are.count, limit_inside limits j k is) in
-        let promise = promise_is t j k (sym (are.each j inside) ∙ is) in
-        (record { inside = omega (arith, inside, all); waits = promise.0; below = promise.1 }, promise.2));
-  }
-
   fewer_promised : (limits : List (Option ℕ)) (k : ℕ) → k < job_count t → ArePromised t limits → ArePromised t (set limits k None)
   fewer_promised limits k inside are = record {
     count = length-set limits k None ∙ are.count;
@@ -102,13 +92,6 @@ module _ (t : Case) where
         let budget : slice_index p.plan.budget j ≡ cap (limit_of limits j) = ap (λ q. slice_index q.plan.budget j) is.same ∙ get_or-map cap limits j None 0 (omega (arith, inside, same, count)) in
         let there : is_waiting (times_of p) t.past j ≡ true = ap (λ q. is_waiting (times_of q) t.past j) is.same ∙ waits in
         out_later t.past p j (slice_index p.plan.budget j) (cap (limit_of limits j)) (omega (arith, budget)) (good_out t.past p j is.accepted.acceptable inside there));
-  }
-
-  pub left_all : (left : Left) (n : ℕ) → n ≡ job_count t → ArePromised t left.limits.items → NoPlanKeeps t left.limits.items → IsLeft t left n
-  left_all left n all are none = record {
-    promised = are;
-    none = none;
-    needed = λ _ j k past is. absurd (omega (arith, past, all, are.count, limit_inside left.limits.items j k is));
   }
 
   pub left_out : (left more : Left) (k : ℕ) → k < job_count t → more.or_fewer ≡ left.or_fewer → more.limits.items ≡ set left.limits.items k None → NoPlanKeeps t more.limits.items
@@ -215,34 +198,3 @@ module _ (t : Case) where
         said : (fewer : Bool) → (fewer ≡ false → (j k : ℕ) → 0 ≤ j → limit_of limits j ≡ Some k → CanKeep t (set limits j None)) → IsSaidOf t (Several jobs fewer)
         said true needed = tt
         said false needed = subst (AreNeeded t) (sym is) (λ j has. plan_without j has (needed refl j _ (omega arith) (named_limit j has)))
-
--- the jobs that have limits, one after another
-pub limited_none : (limits : List (Option ℕ)) → AreLimited limits 0 []
-limited_none limits = record {
-  below = All-nil (λ j. j < 0);
-  ascending = λ i j d one two. absurd (omega (arith, two));
-  limited = All-nil (λ j. IsSome (limit_of limits j));
-  complete = λ j k lt. absurd (omega (arith, lt));
-}
-
-pub limited_passed : (limits : List (Option ℕ)) (n : ℕ) (js : List ℕ) → limit_of limits n ≡ None → AreLimited limits n js → AreLimited limits (n + 1) js
-limited_passed limits n js is known = record {
-  below = All-weaker (λ j. j < n) (λ j. j < n + 1) (λ j lt. omega (arith, lt)) js known.below;
-  ascending = known.ascending;
-  limited = known.limited;
-  complete = λ j k lt named. elim (cases_eq j n) [
-    | inl same ↦ absurd (true≢false (sym (ap is_some (sym (ap (limit_of limits) same ∙ is) ∙ named))))
-    | inr other ↦ known.complete j k (omega (arith, lt, other)) named
-  ];
-}
-
-pub limited_more : (limits : List (Option ℕ)) (n : ℕ) (js more : List ℕ) → more ≡ js ++ n ∷ [] → IsSome (limit_of limits n) → AreLimited limits n js → AreLimited limits (n + 1) more
-limited_more limits n js more is some known = subst (AreLimited limits (n + 1)) (sym is) (record {
-  below = All-push (λ j. j < n + 1) js n (All-weaker (λ j. j < n) (λ j. j < n + 1) (λ j lt. omega (arith, lt)) js known.below) (omega arith);
-  ascending = pairs_push (λ i j. i < j) js n known.ascending known.below;
-  limited = All-push (λ j. IsSome (limit_of limits j)) js n known.limited some;
-  complete = λ j k lt named. elim (cases_eq j n) [
-    | inl same ↦ subst (Contains (js ++ n ∷ [])) (sym same) (Contains-push js n)
-    | inr other ↦ Contains-append_left js (n ∷ []) j (known.complete j k (omega (arith, lt, other)) named)
-  ];
-})

@@ -61,18 +61,6 @@ none_keeps p (run_to lines d t) budget limits c present (cell, same, moment) non
     waits q same j here = sym (ap (λ s. is_waiting s (run_to lines d t) j) same) ∙ here_waits q lines d t j here
 
 module _ (t : Case) (asked : Asked) where
-  pub limits_none : AreLimits t asked 0 []
-  limits_none = record { count = refl; each = λ j lt. absurd (omega (arith, lt)) }
-
-  pub limits_more : (n : ℕ) (xs ys : List (Option ℕ)) (x : Option ℕ) → ys ≡ xs ++ x ∷ [] → x ≡ limit_asked t asked n → AreLimits t asked n xs → AreLimits t asked (n + 1) ys
-  limits_more n xs ys x is at known = record {
-    count = ap length is ∙ omega (arith, length_push xs x, known.count);
-    each = λ j lt. elim (cases_eq j n) [
-      | inl same ↦ ap (λ l. limit_of l j) is ∙ get_or_push xs x None j (known.count ∙ sym same) ∙ at ∙ ap (limit_asked t asked) (sym same)
-      | inr other ↦ ap (λ l. limit_of l j) is ∙ get_or_append_left xs (x ∷ []) None j (omega (arith, lt, other, known.count)) ∙ known.each j (omega (arith, lt, other))
-    ];
-  }
-
   -- where no plan keeps the limits, none keeps what is asked for
   pub impossible : (n : ℕ) (limits : List (Option ℕ)) → n ≡ job_count t → AreLimits t asked n limits → NoPlanKeeps t limits → IsImpossible t asked
   impossible n limits all are none p plan keeps = none p plan (record {
@@ -82,12 +70,6 @@ module _ (t : Case) (asked : Asked) where
     where
       same_jobs : jobs p ≡ job_count t
       same_jobs = ap (λ s. length s.shop.routes) plan.same
-
--- what is said at `Never`
-pub on_never : (P Q : Type 0) (answer : Answer) → (P → Q) → OnNever P answer → OnNever Q answer
-on_never P Q Never follows says = follows says
-on_never P Q (Orders orders) follows says = tt
-on_never P Q Open follows says = tt
 
 -- two jobs whose promises no plan keeps exclude each other
 pub both_excluded : (t : Case) (i j : ℕ) → IsImpossible t (Both i j) → AreExcluded t (i ∷ j ∷ [])
@@ -104,39 +86,3 @@ both_excluded t i j none p plan keeps = none p plan (record {
       | inl one ↦ (0, omega arith, sym (eqb-true k i one))
       | inr other ↦ (1, omega arith, sym (eqb-true k j other))
     ]
-
--- a plan whose value is at most n keeps what is asked for with that
-keeps_at_most : (t : Case) (objective : Objective) (n value : ℕ) (order : List (List ℕ)) → value ≤ n → IsAccepted t.past (with_order t.task order) → HasValue t.past objective (with_order t.task order) value
-    → KeepsAsked t (AtMost objective n) (with_order t.task order)
-keeps_at_most t Makespan n value order few accepted is = record {
-  acyclic = good_acyclic t.past (with_order t.task order) accepted.acceptable;
-  out = λ j m inside waits asked. (
-      let limit : min (budget_in t j) n ≡ m = ap cap asked in
-      elim (cases_lt n (budget_in t j)) [
-        | inl less ↦ out_later t.past (with_order t.task order) j value m (omega (arith, limit, few, less)) (makespan_out t.past (with_order t.task order) j value inside is)
-        | inr more ↦ out_later t.past (with_order t.task order) j (budget_in t j) m (omega (arith, limit, more)) (good_out t.past (with_order t.task order) j accepted.acceptable inside waits)
-      ]);
-}
-keeps_at_most t (Leaving i) n value order few accepted is = record {
-  acyclic = good_acyclic t.past (with_order t.task order) accepted.acceptable;
-  out = λ j m inside waits asked. by_test j m inside waits (j == i) refl asked;
-}
-  where
-    p : PlannedShop
-    p = with_order t.task order
-
-    by_test : (j m : ℕ) → j < jobs p → is_waiting (times_in t) t.past j ≡ true → (b : Bool) → (j == i) ≡ b → (if b then Some n else promise_in t j) ≡ Some m → IsOutWithin t.past p j m
-    by_test j m inside waits true same asked =
-        let limit : n ≡ m = ap cap asked in
-        let there : j ≡ i = eqb-true j i same in
-        out_later t.past p j value m (omega (arith, limit, few)) (leaving_out t.past p j value waits (subst (λ k. HasValue t.past (Leaving k) p value) (sym there) is))
-    by_test j m inside waits false other asked =
-        let promise = promise_is t j m asked in
-        out_later t.past p j (budget_in t j) m (omega (arith, promise.2)) (good_out t.past p j accepted.acceptable inside waits)
-
--- where no plan keeps what is asked for with an objective of at most n, none has a value of at most n
-pub least_past : (t : Case) (objective : Objective) (n : ℕ) → IsImpossible t (AtMost objective n) → IsLeast t objective (n + 1)
-least_past t objective n none = λ order value accepted is. elim (cases_lt n value) [
-  | inl more ↦ omega (arith, more)
-  | inr few ↦ absurd (none (with_order t.task order) (accepted_plan t order accepted) (keeps_at_most t objective n value order few accepted is))
-]

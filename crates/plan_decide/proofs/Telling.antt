@@ -44,12 +44,6 @@ before_alone (Alone i) n before = omega (arith, before)
 before_alone (Pair i j) n before = before
 before_alone (Several js or_fewer) n before = before
 
--- and before all pairs
-before_pairs : (e : Excluded) (n : ℕ) → ComesBefore e (Alone n) → ComesBefore e (Pair 0 0)
-before_pairs (Alone i) n before = tt
-before_pairs (Pair i j) n before = absurd before
-before_pairs (Several js or_fewer) n before = before
-
 -- what comes before a pair comes before a later one
 before_pair : (e : Excluded) (i j k l : ℕ) → (i < k) ⊎ ((i ≡ k) × (j ≤ l)) → ComesBefore e (Pair i j) → ComesBefore e (Pair k l)
 before_pair (Alone a) i j k l later before = tt
@@ -78,9 +72,6 @@ module _ (t : Case) where
   told_later : (e next : Excluded) (es : List Excluded) → ((other : Excluded) → ComesBefore other e → ComesBefore other next) → AreToldBefore t e es → AreToldBefore t next es
   told_later e next es later known = record { told = known.told; before = All-weaker (λ other. ComesBefore other e) (λ other. ComesBefore other next) later es known.before }
 
-  pub alone_none : AreAllAlone t 0 []
-  alone_none = record { told = told_none (Alone 0); alone = λ j lt. absurd (omega (arith, lt)) }
-
   pub alone_more : (n : ℕ) (es more : List Excluded) → more ≡ es ++ Alone n ∷ [] → IsRooted t → IsNeverInTime t n → AreAllAlone t n es → AreAllAlone t (n + 1) more
   alone_more n es more is rooted never known = subst (AreAllAlone t (n + 1)) (sym is) (record {
     told = told_more (Alone n) (Alone (n + 1)) es (alone_exclusion t n rooted never) (λ e before. before_alone e n before) (omega arith) known.told;
@@ -99,10 +90,6 @@ module _ (t : Case) where
     ];
   }
 
-  -- then come the pairs
-  pub pairs_next : (n : ℕ) (es : List Excluded) → AreAllAlone t n es → AreToldBefore t (Pair 0 0) es
-  pairs_next n es known = told_later (Alone n) (Pair 0 0) es (λ e before. before_pairs e n before) known.told
-
   pub pair_more : (i j : ℕ) (es more : List Excluded) → more ≡ es ++ Pair i j ∷ [] → IsExclusion t (Pair i j) → AreToldBefore t (Pair i j) es → AreToldBefore t (Pair i (j + 1)) more
   pair_more i j es more is exclusion known = subst (AreToldBefore t (Pair i (j + 1))) (sym is)
       (told_more (Pair i j) (Pair i (j + 1)) es exclusion (λ e before. before_pair e i j i (j + 1) (inr (refl, omega arith)) before) (inr (refl, omega arith)) known)
@@ -113,39 +100,12 @@ module _ (t : Case) where
   pub row_passed : (i j k : ℕ) (es : List Excluded) → AreToldBefore t (Pair i j) es → AreToldBefore t (Pair (i + 1) k) es
   row_passed i j k es known = told_later (Pair i j) (Pair (i + 1) k) es (λ e before. before_pair e i j (i + 1) k (inl (omega arith)) before) known
 
-  -- what is told where some jobs are alone
-  pub told_alone : (n : ℕ) (es more : List Excluded) → n ≡ job_count t → 0 < length es → AreAllAlone t n es → AreTold t more → AddsExclusions es more → AreExclusions t more
-  told_alone n es more all some known told adds = record {
-    some = omega (arith, some, adds.more);
-    each = told.each;
-    order = told.order;
-    alone = λ j never. adds.kept (Alone j) (known.alone j (omega (arith, all, never.promised.inside)) never);
-  }
-
   -- no job is alone where none is told
   pub none_alone : (n : ℕ) (es : List Excluded) → n ≡ job_count t → length es ≡ 0 → AreAllAlone t n es → NoneIsAlone t
   none_alone n es all none known j never = (let has = known.alone j (omega (arith, all, never.promised.inside)) never in omega (arith, none, has.1))
 
-  -- what is told where none is
-  pub told_others : (es : List Excluded) → 0 < length es → NoneIsAlone t → AreTold t es → AreExclusions t es
-  told_others es some none told = record { some = some; each = told.each; order = told.order; alone = λ j never. absurd (none j never) }
-
-  -- several alone
-  pub told_several : (es more : List Excluded) (e : Excluded) → length es ≡ 0 → more ≡ es ++ e ∷ [] → IsExclusion t e → NoneIsAlone t → AreExclusions t more
-  told_several es more e empty is exclusion none =
-      let alone : es ++ e ∷ [] ≡ e ∷ [] = ap (λ l. l ++ e ∷ []) (nil_from_length es empty) in
-      subst (AreExclusions t) (sym (is ∙ alone)) (record {
-        some = omega arith;
-        each = All-cons (IsExclusion t) e [] exclusion (All-nil (IsExclusion t));
-        order = λ i j d one two. absurd (omega (arith, one, two));
-        alone = λ j never. absurd (none j never);
-      })
-
 pub adds_none : (es : List Excluded) → AddsExclusions es es
 adds_none es = record { kept = λ e has. has; more = le_refl _ }
-
-pub adds_one : (es more : List Excluded) (e : Excluded) → more ≡ es ++ e ∷ [] → AddsExclusions es more
-adds_one es more e is = subst (AddsExclusions es) (sym is) (record { kept = λ other has. Contains-append_left es (e ∷ []) other has; more = omega (arith, length_push es e) })
 
 pub adds_on : (es more most : List Excluded) → AddsExclusions es more → AddsExclusions more most → AddsExclusions es most
 adds_on es more most one next = record { kept = λ e has. next.kept e (one.kept e has); more = omega (arith, one.more, next.more) }

@@ -8,53 +8,35 @@ use Rattle.shop_base.specs.Cell.{Cell, job_in, made, entries, cleaning}
 use Rattle.shop_base.specs.Movers.{due_of_job, due_of_cleaning}
 use Rattle.shop_base.specs.Sound.{IsSound}
 use Rattle.shop_base.specs.Graph.{node, leaving, Arc, job_arc, blocking_arc, IsNode}
-use Rattle.shop_base.specs.Ahead.{IsAhead, next_node, PathAhead, now, onward}
+use Rattle.shop_base.specs.Ahead.{IsAhead, next_node, PathAhead, onward}
 use Rattle.shop_base.proofs.Visits.{visits-stands, visits-order, visits-sound, visits_machine, visits_once, stands_once}
 use Rattle.shop_base.proofs.CellFacts.{job_due, due_cleaning}
 use Rattle.shop_base.proofs.Cycles.{source_node}
-use Rattle.shop_base.proofs.Ahead.{IsLeftIn, arc_left}
+use Rattle.shop_base.proofs.Ahead.{arc_left}
 use Rattle.shop_base.proofs.Keeping.{run-sound}
 use Rattle.plan_verifier.specs.Accepted.{HasNoCycle}
 use Rattle.plan_verifier.specs.CellBounds.{cleaned_at}
 use Rattle.plan_verifier.specs.Held.{later_than}
+use Rattle.plan_verifier.proofs.PathsAhead.{begun_at, begun_next, beginning_told, beginning_ahead, beginning_path}
 use Rattle.plan_verifier.proofs.Tables.{later_is, later_above, later_other, cleaned_holds, holds_cleaned}
 use Rattle.plan_limits.specs.declared.fine.TheConstants.{FINE}
 use Rattle.plan_limits.specs.Stages.{Stage, stage_of, IsTimed}
 use Rattle.plan_limits.specs.Limits.{KeepsLimitsFrom}
 use Rattle.plan_limits.specs.LimitsLaw.{AreFineMoments, LeaveWithin, EveryPlanGivesMoments}
 use Rattle.plan_limits.proofs.Between.{fine_moments}
-use Rattle.plan_limits.proofs.FirstPaths.{later_path, next_path}
 use Rattle.plan_limits.proofs.Counts.{number_count, numbers_few}
 use Rattle.plan_limits.proofs.Closed.{Back, back_few}
-
--- the present moment or, of its job's next node, when what goes on with the job is due, if that is later
-abbrev begun_at : PlannedShop → Cell → ℕ → Node → ℕ
-begun_at p c t v = if nat_lt (made c v.job) v.place then t else later_than t (due_of_job p v.job (job_in c v.job))
 
 module _ (p : PlannedShop) (c : Cell) (t : ℕ) (shaped : IsWellShaped p) (sound : IsSound p c) where
   -- a moment that a node has by what goes on: it is the length of a path ahead to it, where it is ahead
   abbrev moment : Node → ℕ
   moment v = later_than (begun_at p c t v) (cleaned_at p c v)
 
-  begun_next : (v : Node) → made c v.job ≡ v.place → begun_at p c t v ≡ later_than t (due_of_job p v.job (job_in c v.job))
-  begun_next v next = rw (le-ltb (made c v.job) v.place (omega arith)) refl
-
   begun_later : (v : Node) → made c v.job < v.place → begun_at p c t v ≡ t
   begun_later v later = rw (lt-ltb (made c v.job) v.place later) refl
 
   moment_path : (v : Node) → IsNode p v → IsAhead c v → PathAhead p c t (v ∷ []) v (moment v)
-  moment_path v is ahead = elim (cases_lt (made c v.job) v.place) [
-    | inl later ↦ later_path p c t sound v (begun_at p c t v) (moment v) left (subst (λ n. PathAhead p c t (v ∷ []) v n) (sym (begun_later v later)) (now v is ahead)) (later_is (begun_at p c t v) (cleaned_at p c v))
-    | inr other ↦ (
-        let next : made c v.job ≡ v.place = let here : made c v.job ≤ v.place = ahead in omega arith in
-        let first = later_than t (due_of_job p v.job (job_in c v.job)) in
-        later_path p c t sound v (begun_at p c t v) (moment v) left
-        (subst (λ n. PathAhead p c t (v ∷ []) v n) (sym (begun_next v next)) (next_path p c t sound v first is next (later_is t (due_of_job p v.job (job_in c v.job)))))
-        (later_is (begun_at p c t v) (cleaned_at p c v)))
-  ]
-    where
-      left : IsLeftIn p c v
-      left = record { ahead = ahead; job = is.job; place = is.place }
+  moment_path v is ahead = beginning_path p c t sound v (moment v) is (beginning_told p c t sound v is ∙ beginning_ahead p c t v ahead)
 
   -- the first moment of a node
   abbrev start : Node → ℕ
@@ -260,8 +242,8 @@ module _ (p : PlannedShop) (c : Cell) (t : ℕ) (shaped : IsWellShaped p) (sound
       | inr other ↦ (
           let next : made c v.job ≡ v.place = let here : made c v.job ≤ v.place = ahead in omega arith in
           elim (later_is t (due_of_job p v.job (job_in c v.job))) [
-            | inl same ↦ omega (arith, begun_next v next, same, timed.present)
-            | inr (due, told, same) ↦ omega (arith, begun_next v next, same, due_small v.job due is.job told)
+            | inl same ↦ omega (arith, begun_next p c t v next, same, timed.present)
+            | inr (due, told, same) ↦ omega (arith, begun_next p c t v next, same, due_small v.job due is.job told)
           ])
     ]
 
@@ -292,7 +274,7 @@ module _ (p : PlannedShop) (c : Cell) (t : ℕ) (shaped : IsWellShaped p) (sound
     all = far (number_count p)
 
     next_kept : (j : ℕ) → j < jobs p → made c j ≤ steps p j → later_than t (due_of_job p j (job_in c j)) * FINE ≤ all (next_node c j)
-    next_kept j inside here = omega (arith, start_far (number_count p) (next_node c j), begun_next (next_node c j) refl, later_above (begun_at p c t (next_node c j)) (cleaned_at p c (next_node c j)))
+    next_kept j inside here = omega (arith, start_far (number_count p) (next_node c j), begun_next p c t (next_node c j) refl, later_above (begun_at p c t (next_node c j)) (cleaned_at p c (next_node c j)))
 
     cleaned_kept : (m i k due : ℕ) → Stands p m (length (entries c m)) i k → due_of_cleaning p m (cleaning c m) ≡ Some due → due * FINE ≤ all (node i k)
     cleaned_kept m i k due stands told =

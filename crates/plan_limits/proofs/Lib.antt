@@ -1,7 +1,6 @@
 mod Between
 mod Counts
 mod Closed
-pub mod FirstPaths
 mod Farthest
 pub mod Acceptance
 mod Numbered

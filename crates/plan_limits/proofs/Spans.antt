@@ -9,7 +9,7 @@ use Rattle.plan_bounds.specs.Bounds.{route_in}
 use Rattle.plan_limits.specs.declared.fine.TheConstants.{FINE}
 use Rattle.plan_limits.specs.Stages.{Stage}
 use Rattle.plan_limits.specs.LimitsLaw.{AreFineMoments, LeaveWithin}
-use Rattle.plan_limits.specs.Asked.{by_number, IsPlace, IsWithinLimit, AreFirst, AreLast}
+use Rattle.plan_limits.specs.Asked.{by_number, IsPlace, IsWithinLimit, AreLast}
 use Rattle.plan_limits.proofs.Numbered.{pushed}
 
 module _ (s : Stage) where
@@ -31,12 +31,6 @@ module _ (s : Stage) where
   })
 
   module _ (nodes : List Node) where
-    -- one more first moment
-    pub first_push : (first : List ℕ) (n x : ℕ) → length first ≡ n → AreFirst s nodes first → ((w : Node → ℕ) → AreFineMoments s w → x ≤ w (node_at nodes n)) → AreFirst s nodes (first ++ x ∷ [])
-    first_push first n x size before here =
-        pushed (λ k y. (w : Node → ℕ) → AreFineMoments s w → y ≤ by_number nodes w k) first x 0 before
-        (λ w fine. subst (λ (k : ℕ). x ≤ w (node_at nodes k)) (sym size) (here w fine))
-
     -- one more last moment
     pub last_push : (limits : List (Option ℕ)) (last : List ℕ) (n x : ℕ) → length last ≡ n → AreLast s nodes limits last
         → ((w : Node → ℕ) → AreFineMoments s w → LeaveWithin s limits w → w (node_at nodes n) ≤ x) → AreLast s nodes limits (last ++ x ∷ [])

@@ -1,9 +1,8 @@
 //! The question, and its answer.
 
-ghost use Rattle.std.specs.Prelude.{◌≡◌, ℕ, ◌≤◌, IfOk, length, Some};
+ghost use Rattle.std.specs.Prelude.{◌≡◌, ◌≤◌, IfOk, length};
 ghost use Rattle.shop_base.specs.declared.limits.TheConstants.{MAX_MOMENT};
 ghost use Rattle.shop_base.specs.Plan.{jobs};
-ghost use Rattle.shop_base.specs.Cell.{cleaning};
 ghost use Rattle.plan_limits.specs.Stages.{stage_of};
 ghost use Rattle.plan_limits.specs.Limits.{NoPlanKeepsFrom};
 ghost use Rattle.plan_limits.specs.Answered.{OnNever};
@@ -15,6 +14,7 @@ use crate::questions::question_of;
 use crate::sizes::{MAX_NODES, MAX_PAIRS};
 use arc_choice::{Choose, Outcome, explore};
 use cell_tables::WorkCell;
+use plan_verifier::cleanings_in_range;
 use shop_base::{Moment, Planned};
 use std::alloc::{AllocError, Global};
 
@@ -39,6 +39,7 @@ pub fn ask<P: Planned, C: Choose>(
     requires in_range { present ≤ MAX_MOMENT }
     ensures { IfOk result (OnNever (NoPlanKeepsFrom (stage_of cell.now.plan cell.now.cell present) limits.now)) }
 {
+    // Called for its clause alone: the cleanings that go on began within the limit.
     cleanings_in_range(cell);
     let nodes = asked_nodes(alloc, cell, limits)?;
     if nodes.len() > MAX_NODES {
@@ -55,16 +56,5 @@ pub fn ask<P: Planned, C: Choose>(
             Ok(Answer::Orders(orders))
         }
         Outcome::Open => Ok(Answer::Open),
-    }
-}
-
-/// Each cleaning that goes on began at a moment within the limit. It does nothing.
-fn cleanings_in_range<P: Planned>(cell: &WorkCell<P>)
-    ensures { (m s : ℕ) → cleaning cell.now.cell m ≡ Some s → s ≤ MAX_MOMENT }
-{
-    // Called for its clause alone: the cell is sound.
-    let _plan = cell.shaped();
-    for machine in 0..cell.machine_count() {
-        let _from = cell.cleaned_since(machine);
     }
 }

@@ -13,7 +13,7 @@ use Rattle.plan_revise.specs.Fits.{IsFit}
 use Rattle.plan_revise.specs.Parts.{Ends}
 use Rattle.plan_revise.specs.Paths.{HasLonger}
 use Rattle.plan_revise.proofs.EndedParts.{IsTakenAt, IsLeft, order_cases, step_before, steps_few, visits_before, stands_before, stands_front, stands_back}
-use Rattle.plan_revise.proofs.ClosedWalks.{no_cycle_by_ways}
+use Rattle.alt_graph.proofs.ClosedWalks.{no_cycle_by_ways}
 
 -- arcs lead from u over two nodes of job j, behind its first n steps, to v, and the first and the last are each as long as the arc that joins them
 pub record IsJoined (p : PlannedShop) (j n : ℕ) (u v : Node) (d : ℕ) : Type 0 where

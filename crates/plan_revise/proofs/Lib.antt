@@ -4,7 +4,6 @@ pub mod EndedParts
 pub mod PlacedParts
 pub mod Keeping
 pub mod Revisions
-pub mod ClosedWalks
 pub mod EndedArcs
 pub mod PlacedArcs
 pub mod RevisedLaws

@@ -1,13 +1,13 @@
 -- Deadlines where jobs are scrapped or machines are down: moments that fit before fit afterwards, with those of jobs that are put aside at the greatest.
-use Rattle.std.proofs.Common.{◌≡◌, ◌≢◌, ℕ, zero, suc, ◌+◌, ◌-◌, ◌<◌, ◌≤◌, ◌⊎◌, inl, inr, List, [], ◌∷◌, length, get_or, min, max, Option, None, Some, Bool, true, false, cond, nat_lt, eqb, if◌then◌else◌, refl, sym, ap, ◌∙◌, subst, arith}
+use Rattle.std.proofs.Common.{◌≡◌, ◌≢◌, ℕ, zero, suc, ◌+◌, ◌-◌, ◌<◌, ◌≤◌, inl, inr, List, [], ◌∷◌, length, get_or, min, max, Option, None, Some, nat_lt, eqb, if◌then◌else◌, refl, sym, ap, ◌∙◌, subst, arith}
 use Rattle.std.proofs.lemmas.Bool.{cases_eq, cases_lt, cases_Bool, eq-eqb, ne_eqb}
-use Rattle.std.proofs.lemmas.List.{length-take, get_or_past}
-use Rattle.shop_base.specs.declared.limits.TheConstants.{MAX_RELEASE, MAX_MOMENT}
+use Rattle.std.proofs.lemmas.List.{get_or_past}
+use Rattle.shop_base.specs.declared.limits.TheConstants.{MAX_RELEASE}
 use Rattle.shop_base.specs.declared.node.Node.{Node}
 use Rattle.shop_base.specs.declared.shop.Step.{Step}
 use Rattle.shop_base.specs.Shop.{step_at}
-use Rattle.shop_base.specs.Plan.{PlannedShop, jobs, machines, route, steps, nominal, clean, clean_in, HasCleanCount, release, budget, Visits, Stands}
-use Rattle.shop_base.specs.Cell.{Cell, made, IsGone}
+use Rattle.shop_base.specs.Plan.{PlannedShop, jobs, machines, route, steps, nominal, clean, clean_in, HasCleanCount, release, budget, Visits}
+use Rattle.shop_base.specs.Cell.{Cell, made}
 use Rattle.shop_base.specs.Graph.{node, leaving, Arc, job_arc, blocking_arc}
 use Rattle.shop_base.specs.Ahead.{IsAhead, RespectArcs, MeetBudgetsAhead}
 use Rattle.plan_revise.specs.declared.change.Change.{Change}
@@ -15,7 +15,7 @@ use Rattle.plan_revise.specs.declared.change.Change.TheVariants.{Until, Add, Scr
 use Rattle.plan_revise.specs.Promises.{no_promise}
 use Rattle.plan_revise.specs.Ended.{ended}
 use Rattle.plan_revise.specs.Settings.{Setting, moves_made}
-use Rattle.plan_revise.specs.Aside.{IsAside, IsPlant, aside_route, with_aside, HasRoom, put_aside}
+use Rattle.plan_revise.specs.Aside.{IsAside, aside_route, with_aside, HasRoom, put_aside}
 use Rattle.plan_revise.specs.Stopped.{place_on, stopped, stopped_at, without_machine}
 use Rattle.plan_revise.specs.Changes.{Becomes}
 use Rattle.plan_revise.specs.Revised.{AreMade}
@@ -23,15 +23,14 @@ use Rattle.plan_revise.specs.Fits.{IsFit, IsRevision, IsSetting}
 use Rattle.plan_revise.specs.Parts.{Ends, Places}
 use Rattle.plan_revise.specs.Stages.{IsStage}
 use Rattle.plan_revise.specs.RevisedLaw.{AreOthers, AreStops}
-use Rattle.plan_revise.proofs.Fitting.{fit-machine}
 use Rattle.plan_revise.proofs.EndedParts.{ended-ends, visits_before, steps_few, step_before}
-use Rattle.plan_revise.proofs.EndedArcs.{IsJoined, ended-arc}
+use Rattle.plan_revise.proofs.EndedArcs.{ended-arc}
 use Rattle.plan_revise.proofs.PlacedArcs.{placed-arc, visits_others}
 use Rattle.plan_revise.proofs.PlacedParts.{SameVisits, same-visits_back}
 use Rattle.plan_revise.proofs.RevisedLaws.{same_arc, stopped_at-stays, aside_visits, becomes-more_jobs}
 use Rattle.plan_revise.proofs.Outcomes.{made-stays, made-more_jobs}
 use Rattle.shop_base.proofs.Visits.{visits_job, visits_machine}
-use Rattle.plan_revise.proofs.Revisions.{HasAside, has_aside, aside_first, aside_ends, aside_fit, aside_places, aside_others, aside_jobs, stopped_outside, stopped_inside, stopped-one, stopped_at-one, stage_upto, stage_room, stopped_at_past, stopped_at_ahead, place_within, becomes-revision}
+use Rattle.plan_revise.proofs.Revisions.{HasAside, has_aside, aside_ends, aside_fit, aside_places, aside_others, stopped_outside, stopped_inside, stage_upto, stage_room, stopped_at_past, stopped_at_ahead, place_within, becomes-revision}
 
 -- moments that respect the arcs ahead and meet the budgets there
 pub record AreFitting (c : Cell) (p : PlannedShop) (kept : Node → ℕ) : Type 0 where

@@ -18,7 +18,7 @@ use Rattle.plan_revise.specs.Parts.{IsOnRoute, Places}
 use Rattle.plan_revise.specs.Paths.{HasLonger}
 use Rattle.plan_revise.proofs.Fitting.{fit-machine}
 use Rattle.plan_revise.proofs.PlacedParts.{on_or_off}
-use Rattle.plan_revise.proofs.ClosedWalks.{no_way_back}
+use Rattle.alt_graph.proofs.ClosedWalks.{no_way_back}
 
 module _ (p : PlannedShop) (j : ℕ) (r : List Step) (first last : ℕ) (q : PlannedShop) (fit : IsFit p) (places : Places p j r first last q) where
   pub visits_others : (i k m : ℕ) → i ≢ j → Visits q i k m → Visits p i k m

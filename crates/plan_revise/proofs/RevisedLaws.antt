@@ -30,7 +30,7 @@ use Rattle.plan_revise.specs.Stages.{IsStage}
 use Rattle.plan_revise.proofs.EndedParts.{ended-ends, visits_mine, visits_others}
 use Rattle.plan_revise.proofs.PlacedParts.{SameVisits, same-stands_back, same-visits_back, default_more, with_job-same}
 use Rattle.plan_revise.proofs.Keeping.{moves_given, unentered}
-use Rattle.plan_revise.proofs.ClosedWalks.{no_cycle_by_ways}
+use Rattle.alt_graph.proofs.ClosedWalks.{no_cycle_by_ways}
 use Rattle.plan_revise.proofs.EndedArcs.{ended-no_cycle, ended-path}
 use Rattle.plan_revise.proofs.PlacedArcs.{placed-no_cycle, placed-path}
 use Rattle.plan_revise.proofs.Revisions.{HasAside, has_aside, aside_ends, aside_fit, aside_places, aside_others, stopped_outside, stopped_inside, stage_upto, stage_room, stopped_at_past, stopped_at_ahead, place_within, added_fit, added_places, prolonged_same, prolonged_jobs, stopped-one}

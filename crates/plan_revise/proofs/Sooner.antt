@@ -1,18 +1,17 @@
 -- No deadline comes sooner where jobs are scrapped and machines are down.
-use Rattle.std.proofs.Common.{◌≡◌, ℕ, ◌+◌, ◌<◌, ◌≤◌, ◌⊎◌, inl, inr, List, Bool, true, false, nat_lt, refl, sym, ap, ◌∙◌, subst, arith}
+use Rattle.std.proofs.Common.{◌≡◌, ℕ, ◌<◌, ◌≤◌, ◌⊎◌, inl, inr, List, refl, ap, ◌∙◌, subst, arith}
 use Rattle.std.proofs.lemmas.Bool.{cases_lt, lt-ltb, le-ltb}
-use Rattle.shop_base.specs.declared.node.Node.{Node}
 use Rattle.shop_base.specs.declared.job_state.JobState.{JobState}
 use Rattle.shop_base.specs.Plan.{PlannedShop, jobs, Visits}
-use Rattle.shop_base.specs.Cell.{Cell, made, job_in}
+use Rattle.shop_base.specs.Cell.{made}
 use Rattle.shop_base.specs.Run.{Event, ends_in}
 use Rattle.shop_base.proofs.Cycles.{source_node}
 use Rattle.shop_base.proofs.Deadlines.{deadlines_are_the_latest-holds}
-use Rattle.cell_control.specs.Carried.{IsCarried, carried_job}
+use Rattle.cell_control.specs.Carried.{carried_job}
 use Rattle.control_laws.specs.KeptLaw.{AKeptRunIsOneOfTheOtherPlan}
 use Rattle.plan_revise.specs.declared.change.Change.{Change}
-use Rattle.plan_revise.specs.Settings.{Setting, setting, moves_made}
-use Rattle.plan_revise.specs.RevisedLaw.{IsRevisedRun, AreStops, NoDeadlineComesSooner}
+use Rattle.plan_revise.specs.Settings.{setting, moves_made}
+use Rattle.plan_revise.specs.RevisedLaw.{IsRevisedRun, NoDeadlineComesSooner}
 use Rattle.plan_revise.proofs.Revisions.{given_revision}
 use Rattle.plan_revise.proofs.Outcomes.{run_stays, run_setting, jobs_there, plant_once}
 use Rattle.plan_revise.proofs.Lifted.{AreFitting, all_others, given_sound, made_lifted}

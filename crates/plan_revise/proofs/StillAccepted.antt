@@ -1,34 +1,30 @@
 -- An accepted rest stays accepted where jobs are scrapped and machines are down.
-use Rattle.std.proofs.Common.{◌≡◌, ◌≢◌, ℕ, zero, suc, ◌+◌, ◌<◌, ◌≤◌, ◌⊎◌, inl, inr, List, [], ◌∷◌, length, get_or, max, min, Option, None, Some, Bool, true, false, nat_lt, refl, sym, ap, ◌∙◌, subst, arith}
-use Rattle.std.proofs.lemmas.Bool.{cases_eq, cases_lt, cases_Bool}
-use Rattle.shop_base.specs.declared.limits.TheConstants.{MAX_RELEASE, MAX_MOMENT}
+use Rattle.std.proofs.Common.{◌≡◌, ℕ, zero, suc, ◌+◌, ◌<◌, ◌≤◌, ◌⊎◌, inl, inr, List, [], ◌∷◌, get_or, max, Option, None, Some, nat_lt, refl, sym, ap, ◌∙◌, subst, arith}
+use Rattle.std.proofs.lemmas.Bool.{cases_eq, cases_Bool}
+use Rattle.shop_base.specs.declared.limits.TheConstants.{MAX_MOMENT}
 use Rattle.shop_base.specs.declared.node.Node.{Node}
 use Rattle.shop_base.specs.declared.job_state.JobState.{JobState}
-use Rattle.shop_base.specs.declared.shop.Step.{Step}
-use Rattle.shop_base.specs.Shop.{step_at}
-use Rattle.shop_base.specs.Plan.{PlannedShop, jobs, machines, route, steps, machine_of, nominal, clean, release, budget, Visits, Stands, IsWellShaped}
-use Rattle.shop_base.specs.Cell.{Cell, made, since, IsGone}
-use Rattle.shop_base.specs.Activity.{Activity, Arrival, Operation, Cleaning, GoesOn}
-use Rattle.shop_base.specs.Run.{Event, ends_in}
-use Rattle.shop_base.specs.Graph.{node, leaving, Arc, job_arc, blocking_arc}
-use Rattle.shop_base.specs.Ahead.{PathAhead, now, held, onward, HoldsUp}
+use Rattle.shop_base.specs.Plan.{PlannedShop, jobs, route, machine_of, nominal, clean, release, budget, Visits, IsWellShaped}
+use Rattle.shop_base.specs.Cell.{Cell, made, IsGone}
+use Rattle.shop_base.specs.Activity.{Arrival, Operation, Cleaning}
+use Rattle.shop_base.specs.Run.{ends_in}
+use Rattle.shop_base.specs.Graph.{leaving, Arc, job_arc, blocking_arc}
+use Rattle.shop_base.specs.Ahead.{PathAhead, now, held, onward}
 use Rattle.shop_base.specs.Sound.{IsSound}
 use Rattle.shop_base.proofs.Keeping.{run-sound}
 use Rattle.shop_base.proofs.Visits.{visits_job, visits_or_not}
-use Rattle.plan_verifier.specs.RestVerdicts.{IsAcceptableAhead}
 use Rattle.control_laws.specs.KeptLaw.{AKeptRunIsOneOfTheOtherPlan}
 use Rattle.plan_revise.specs.declared.change.Change.{Change}
 use Rattle.plan_revise.specs.declared.change.Change.TheVariants.{Until, Add, Scrap, Down}
-use Rattle.plan_revise.specs.Promises.{no_promise}
 use Rattle.plan_revise.specs.Ended.{ended}
 use Rattle.plan_revise.specs.Settings.{Setting, setting, moves_made}
-use Rattle.plan_revise.specs.Aside.{aside_route, with_aside, HasRoom, put_aside}
+use Rattle.plan_revise.specs.Aside.{HasRoom, put_aside}
 use Rattle.plan_revise.specs.Stopped.{place_on, stopped, stopped_at, without_machine}
 use Rattle.plan_revise.specs.Changes.{Becomes}
 use Rattle.plan_revise.specs.Revised.{AreMade}
 use Rattle.plan_revise.specs.Fits.{IsRevision, IsSetting}
 use Rattle.plan_revise.specs.Stages.{IsStage}
-use Rattle.plan_revise.specs.RevisedLaw.{IsRevisedRun, AreStops, AcceptedRestsStayAccepted}
+use Rattle.plan_revise.specs.RevisedLaw.{AreStops, AcceptedRestsStayAccepted}
 use Rattle.plan_revise.proofs.EndedParts.{ended-ends}
 use Rattle.plan_revise.proofs.RevisedLaws.{becomes-more_jobs}
 use Rattle.plan_revise.proofs.Revisions.{given_revision, has_aside, aside_ends, aside_places, aside_jobs, stopped_outside, stopped_inside, stage_upto, stage_room, stopped_at_past, stopped_at_ahead, place_within, becomes-revision}

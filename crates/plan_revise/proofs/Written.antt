@@ -146,12 +146,6 @@ aside_by_places p m b shaped last visited uncleaned says = (
   λ aside. says.1 (λ a within. (let found = (shaped.orders m (omega arith)).on_route a within in aside.visitors (job_at p m a) found.0 found.1)),
 )
 
-pub plant_without : (p : PlannedShop) (last : ℕ) → last + 1 ≡ machines p → (IsAside p last → ⊥) → IsPlant p (last + 1)
-plant_without p last is none = inr (is, λ m aside. none (subst (IsAside p) (same m aside.last) aside))
-  where
-    same : (m : ℕ) → m + 1 ≡ machines p → m ≡ last
-    same m there = omega arith
-
 -- ---- changes one after another
 
 made_more : (s : Setting) (p : PlannedShop) (changes : List Change) (n : ℕ) (q r : PlannedShop) (change : Change) → slice_get changes n ≡ Some change → AreMade s p (take n changes) q → Becomes s q change r → AreMade s p (take (suc n) changes) r
