@@ -1,7 +1,6 @@
 -- The closing lines.
-use Rattle.std.proofs.Common.{◌≡◌, ◌==◌, ℕ, zero, suc, ◌+◌, ◌<◌, ◌≤◌, List, [], ◌∷◌, ◌++◌, length, drop, Some, cond, refl, sym, ap, subst, inl, inr, add-one, arith}
+use Rattle.std.proofs.Common.{◌≡◌, ◌==◌, ℕ, zero, suc, ◌+◌, List, [], ◌∷◌, ◌++◌, drop, Some, cond, refl, sym, ap, subst, inl, inr, add-one}
 use Rattle.std.proofs.lemmas.Bool.{eqb-true, eqb-false, ne_eqb, cases_Bool}
-use Rattle.std.proofs.lemmas.List.{drop_all}
 use Rattle.std.specs.Prelude.{slice_get}
 use Rattle.shop_base.specs.Plan.{PlannedShop, IsWellShaped}
 use Rattle.shop_base.specs.Cell.{Cell}
@@ -38,12 +37,6 @@ closing_is (c ∷ cells) number (first, others) = (
   refl,
 )
 
--- a number below their count is that of a cell
-pub content_below : (cells : List PlannedCell) (k : ℕ) → k < length cells → (content : PlannedCell) × (slice_get cells k ≡ Some content)
-content_below [] k below = absurd (omega (arith, below))
-content_below (c ∷ cells) zero below = (c, refl)
-content_below (c ∷ cells) (suc k) below = content_below cells k (omega (arith, below))
-
 next_there : (cells : List PlannedCell) (k : ℕ) (c : PlannedCell) → slice_get cells k ≡ Some c → drop k cells ≡ c ∷ drop (suc k) cells
 next_there [] k c found = absurd (cc)
 next_there (d ∷ cells) zero c found = cc
@@ -53,14 +46,8 @@ next_there (d ∷ cells) (suc k) c found = next_there cells k c found
 pub next_closing : (cells : List PlannedCell) (k : ℕ) (c : PlannedCell) → slice_get cells k ≡ Some c → (cell_prefix k ++ closing_line c.plan.planned c.cell) ++ closing_text (k + 1) (drop (k + 1) cells) ≡ closing_text k (drop k cells)
 next_closing cells k c found = rw (next_there cells k c found, add-one) refl
 
-pub no_more_closing : (cells : List PlannedCell) (k : ℕ) → length cells ≤ k → closing_text k (drop k cells) ≡ []
-no_more_closing cells k past = rw (drop_all k cells past) refl
-
 pub next_done : (cells : List PlannedCell) (k : ℕ) (c : PlannedCell) → slice_get cells k ≡ Some c → AreAllDone (drop k cells) → HasEnded c.plan.planned c.cell × AreAllDone (drop (k + 1) cells)
 next_done cells k c found all = rw add-one (subst AreAllDone (next_there cells k c found) all)
 
 pub one_more_done : (cells : List PlannedCell) (k : ℕ) (c : PlannedCell) → slice_get cells k ≡ Some c → HasEnded c.plan.planned c.cell → AreAllDone (drop (k + 1) cells) → AreAllDone (drop k cells)
 one_more_done cells k c found ended rest = subst AreAllDone (sym (next_there cells k c found)) (ended, rw add-one at rest)
-
-pub none_left : (cells : List PlannedCell) (k : ℕ) → length cells ≤ k → AreAllDone (drop k cells)
-none_left cells k past = subst AreAllDone (sym (drop_all k cells past)) tt

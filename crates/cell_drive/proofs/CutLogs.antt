@@ -21,12 +21,11 @@ use Rattle.cell_drive.specs.declared.manner.Manner.{Manner}
 use Rattle.cell_drive.specs.AnswerText.{DrivenCell, undriven, CellCloses}
 use Rattle.cell_drive.specs.Stated.{RequestAnswer, StatedAnswers}
 use Rattle.cell_drive.specs.OneRun.{cell_after, IsRunOf}
-use Rattle.cell_drive.proofs.LogRoom.{events-orders}
 use Rattle.event_lines.specs.ReadBack.{TellsFirst}
 use Rattle.event_lines.proofs.Telling.{tells_none}
 use Rattle.cell_drive.proofs.ReadBack.{closing_told}
 use Rattle.cell_drive.specs.CutLaw.{IsCutFrom, ACutLogIsTakenUp, ACutLogHasItsOrders}
-use Rattle.cell_drive.proofs.Parts.{entries_moved}
+use Rattle.cell_drive.proofs.Parts.{events-orders, entries_moved}
 use Rattle.cell_drive.proofs.CutRuns.{cut_of_run}
 use Rattle.text_lines.proofs.EndedLines.{ended-more}
 use Rattle.cell_drive.proofs.OwnRuns.{own_run, due_events, front_events}

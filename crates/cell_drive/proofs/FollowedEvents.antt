@@ -1,18 +1,17 @@
 -- A cell whose events are followed, whatever controller ordered the moves, and its due moments.
 use Rattle.std.proofs.Common.{◌≡◌, ◌↔◌, ℕ, ◌+◌, ◌<◌, Bool, false, List, [], ◌∷◌, ◌++◌, length, set, take, drop, drop-cons, get_or, add-one, Option, None, sym, ap, ◌∙◌, subst, arith, cond}
 use Rattle.std.proofs.lemmas.List.{take_more}
-use Rattle.shop_base.specs.declared.job_state.JobState.{JobState}
 use Rattle.shop_base.specs.declared.report.Report.{Report}
 use Rattle.shop_base.specs.Plan.{PlannedShop, jobs, machines}
 use Rattle.shop_base.specs.Cell.{Cell, MachineState, job_in, cleaning}
-use Rattle.shop_base.specs.Report.{at, CanReport, with_ready, with_clean}
+use Rattle.shop_base.specs.Report.{at, CanReport, with_ready}
 use Rattle.shop_base.specs.Punctual.{IsPunctual}
 use Rattle.shop_base.specs.Run.{AreEvents, after, after_all}
-use Rattle.shop_base.specs.Movers.{due_of_job, due_of_cleaning, due_after}
+use Rattle.shop_base.specs.Movers.{due_of_job, due_after}
 use Rattle.shop_base.specs.Sound.{IsSound}
-use Rattle.shop_base.specs.declared.report.Report.TheVariants.{Arrive, Finish, Clean}
-use Rattle.shop_base.proofs.Changes.{IsReadied, IsTidied, with_ready-readied, with_clean-tidied}
-use Rattle.shop_base.proofs.InShop.{outside_in_shop, cleaned_in_shop}
+use Rattle.shop_base.specs.declared.report.Report.TheVariants.{Arrive, Finish}
+use Rattle.shop_base.proofs.Changes.{IsReadied, with_ready-readied}
+use Rattle.shop_base.proofs.InShop.{outside_in_shop}
 use Rattle.shop_base.proofs.Visits.{visits_job}
 use Rattle.shop_base.proofs.ControlledRuns.{after_all_join}
 use Rattle.cell_tables.specs.declared.entry.Entry.{Entry}
@@ -23,7 +22,7 @@ use Rattle.cell_control.specs.Steps.{AreDueFrom}
 use Rattle.cell_control.proofs.Steps.{due_from-punctual}
 use Rattle.cell_drive.specs.LateEvents.{AreLate, IsLateEvent}
 use Rattle.cell_drive.proofs.LateOnes.{late_more}
-use Rattle.cell_control.proofs.DueMoments.{due_moments_but-renewed, due_moments-renewed, due_moments_but-none}
+use Rattle.cell_control.proofs.DueMoments.{due_moments-renewed, due_moments_but-none}
 
 module _ (p : PlannedShop) (c : Cell) (dues : List (Option ℕ)) (sound : IsSound p c) (due_moments : AreDueMoments p c dues) where
   -- a report is late exactly where its moment is past a due moment
@@ -55,19 +54,6 @@ module _ (p : PlannedShop) (c : Cell) (dues : List (Option ℕ)) (sound : IsSoun
       let worked = can.going.1.1 in
       let inside = visits_job p j can.going.1.0 m worked.on.visits in
       subst (λ (x : Cell). AreDueMoments p x (set dues j None)) (sym is) (readied (with_ready c j t) j t inside (with_ready-readied c j t worked.not_ready (inside_there j inside)))
-
-  pub cleaned_there : (m t : ℕ) → CanReport p c (Clean m t) → m < machines p
-  cleaned_there m t can = cleaned_in_shop p c m can.going.1.0 sound can.going.1.1.is_cleaned
-
-  pub cleaned_dues : (new : Cell) (m t : ℕ) → CanReport p c (Clean m t) → new ≡ with_clean c m t
-      → AreDueMoments p new (set dues (jobs p + m) (due_of_cleaning p m (cleaning new m)))
-  cleaned_dues new m t can is =
-      let tidied : IsTidied c m t new = subst (IsTidied c m t) (sym is) (with_clean-tidied c m can.going.1.0 t can.going.1.1.is_cleaned) in
-      due_moments_but-renewed p new dues m (cleaned_there m t can) (record {
-        count = due_moments.count;
-        of_jobs = λ j below. due_moments.of_jobs j below ∙ ap (λ (js : List JobState). due_of_job p j (job_in (record new { jobs = js }) j)) (sym tidied.jobs_same);
-        of_others = λ n below other. due_moments.of_machines n below ∙ ap (due_of_cleaning p n) (sym (tidied.cleaning_elsewhere n other));
-      })
 
 -- events that are followed one after another: those of the first entries have happened, and the others can
 module _ (p : PlannedShop) (c now : Cell) (entries : List Entry) (i : ℕ) (d : Entry) (below : i < length entries)

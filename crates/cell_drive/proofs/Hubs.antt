@@ -1,13 +1,11 @@
 -- What several cells answer to a line.
-use Rattle.std.proofs.Common.{◌≡◌, ℕ, zero, suc, ◌<◌, List, [], ◌∷◌, ◌++◌, codes, set, length, get_or, false, Option, Some, None, refl, sym, ap, ◌∙◌, subst, arith}
+use Rattle.std.proofs.Common.{◌≡◌, ℕ, zero, suc, ◌<◌, List, [], ◌∷◌, ◌++◌, codes, set, length, get_or, Option, Some, None, refl, sym, ap, ◌∙◌, subst, arith}
 use Rattle.std.specs.Prelude.{slice_get}
 use Rattle.plan_verifier.specs.Accepted.{VerifiedPlan}
 use Rattle.cell_control.specs.Control.{Control}
 use Rattle.event_lines.specs.AnswerLines.{refused_line}
-use Rattle.event_lines.specs.SentLines.{IsNoCellReport, cell_prefix}
-use Rattle.event_lines.specs.declared.requests.Claim.TheVariants.{Report, CleanAfter}
+use Rattle.event_lines.specs.SentLines.{cell_prefix}
 use Rattle.event_lines.specs.declared.requests.Request.{Request}
-use Rattle.event_lines.specs.declared.requests.Request.TheVariants.{Claim as ClaimRequest, Status}
 use Rattle.cell_drive.specs.declared.manner.Manner.{Manner}
 use Rattle.cell_drive.specs.declared.replies.Reply.{Reply}
 use Rattle.cell_drive.specs.ManyCells.{PlannedCell, cell_start, hub_start}
@@ -17,12 +15,6 @@ use Rattle.cell_drive.specs.Numbers.{AnsweredByCells, AreInRun, planned_cell, pl
 use Rattle.cell_drive.proofs.LineAnswers.{asked_line}
 use Rattle.cell_drive.proofs.OneText.{told_keep}
 use Rattle.cell_drive.proofs.Replied.{plan_after, replied_so}
-
--- in version 1 a line that is no report on a cell asks nothing of one
-pub no_cell_report : (line : List ℕ) → IsNoCellReport line → (cell : ℕ) (request : Request) → AsksCell false line cell request → ⊥
-no_cell_report line none cell (ClaimRequest (Report report)) asked = none cell report asked
-no_cell_report line none cell (ClaimRequest (CleanAfter machine job at)) asked = asked
-no_cell_report line none cell Status asked = asked
 
 -- ---- the cell of a number
 

@@ -1,5 +1,4 @@
 pub mod StreamedFrom
-pub mod LogRoom
 pub mod LineAnswers
 pub mod PromisesKept
 pub mod Rooms

@@ -1,16 +1,19 @@
 -- What answers a line, whatever it asks for.
-use Rattle.std.proofs.Common.{◌≡◌, ℕ, zero, suc, List, [], ◌∷◌, codes, length, set, ◌==◌, Bool, true, false, Some, Result, OnOk, refl, sym, ap, ◌∙◌, subst, arith, inl, inr}
-use Rattle.std.specs.Prelude.{slice_get}
+use Rattle.std.proofs.Common.{◌≡◌, ℕ, List, [], ◌∷◌, codes, length, ◌==◌, Bool, true, false, Some, Result, OnOk, refl, sym, ap, ◌∙◌, subst, arith, inl, inr}
 use Rattle.std.proofs.lemmas.Bool.{eqb-true, false≢true}
 use Rattle.byte_streams.specs.Sinks.{Wrote}
 use Rattle.byte_streams.specs.Lent.{Taker, WroteOne}
 use Rattle.event_lines.specs.AnswerLines.{refused_line}
 use Rattle.cell_drive.specs.LineAnswers.{LineAnswer, AsksNothing}
-use Rattle.cell_drive.specs.ManyCells.{PlannedCell}
 
 pub was_answered : {T E : Type 0} (texts : List ℕ → Type 0) (text : List ℕ) (outcome : Result T E) (before after : Taker)
     → texts text → Wrote outcome after.failed before.taken after.taken text → OnOk outcome (after.failed ≡ before.failed) → WroteOne texts outcome before after
 was_answered texts text outcome before after is wrote unfailed = record { text = text; is_text = is; wrote = wrote; unfailed = unfailed }
+
+-- so by other texts, if each of these is one
+pub of_texts : {T E : Type 0} (texts others : List ℕ → Type 0) (outcome : Result T E) (before after : Taker) → ((text : List ℕ) → texts text → others text)
+    → WroteOne texts outcome before after → WroteOne others outcome before after
+of_texts texts others outcome before after so wrote = record { text = wrote.text; is_text = so wrote.text wrote.is_text; wrote = wrote.wrote; unfailed = wrote.unfailed }
 
 pub no_bytes : (line : List ℕ) (is_empty : Bool) → is_empty ≡ (length line == 0) → is_empty ≡ true → line ≡ []
 no_bytes [] is_empty is yes_empty = refl
@@ -32,8 +35,3 @@ module _ {S Q : Type 0} (asks : List ℕ → Q → Type 0) (answers : S → ℕ 
   pub asked_line : (line text : List ℕ) (what : Q) (end : S) → (line ≡ [] → ⊥) → asks line what → answers start number what text end → LineAnswer asks answers start number (Some line) text end
   asked_line [] text what end some asked answer = absurd (some refl)
   asked_line (b ∷ line) text what end some asked answer = inr (record { what = what; asked = asked; answer = answer })
-
-pub set_same : (cells : List PlannedCell) (k : ℕ) (c : PlannedCell) → slice_get cells k ≡ Some c → set cells k c ≡ cells
-set_same [] k c found = absurd (cc)
-set_same (d ∷ cells) zero c found = let same : d ≡ c = cc in ap (λ (x : PlannedCell). x ∷ cells) (sym same)
-set_same (d ∷ cells) (suc k) c found = ap (λ (xs : List PlannedCell). d ∷ xs) (set_same cells k c found)

@@ -14,10 +14,6 @@ pub start_in_run : (plans : List VerifiedPlan) → AreVerified plans → AreInRu
 start_in_run [] verified = tt
 start_in_run (v ∷ plans) (first, others) = (starts_in_run v first, start_in_run plans others)
 
-pub one_more_in_run : (cells : List PlannedCell) (c : PlannedCell) → AreInRun cells → IsInRun c → AreInRun (cells ++ c ∷ [])
-one_more_in_run [] c all is = (is, tt)
-one_more_in_run (d ∷ cells) c all is = (all.0, one_more_in_run cells c all.1 is)
-
 -- those that are accepted join them one by one
 pub one_more_verified : (plans : List VerifiedPlan) (v : VerifiedPlan) → AreVerified plans → IsVerified v → AreVerified (plans ++ v ∷ [])
 one_more_verified [] v all is = (is, tt)

@@ -1,14 +1,13 @@
 -- The lines of a log have one first fault.
-use Rattle.std.proofs.Common.{◌≡◌, ℕ, zero, suc, ◌<◌, true, false, List, [], ◌∷◌, ◌++◌, length, ◌⊎◌, inl, inr, refl, sym, ap, ◌∙◌, subst, arith, append-nil}
+use Rattle.std.proofs.Common.{◌≡◌, ℕ, zero, suc, ◌<◌, ◌≤◌, true, false, List, [], ◌∷◌, ◌++◌, length, ◌⊎◌, inl, inr, refl, sym, ap, ◌∙◌, subst, arith, append-nil}
 use Rattle.std.proofs.lemmas.Bool.{false≢true, cases_lt}
 use Rattle.shop_base.specs.declared.move_order.MoveOrder.{MoveOrder}
 use Rattle.shop_base.specs.declared.move_order.Spot.{Spot}
 use Rattle.shop_base.specs.declared.move_order.Spot.TheVariants.{Out, At}
-use Rattle.shop_base.specs.declared.report.Report.{Report}
 use Rattle.shop_base.specs.Plan.{PlannedShop}
 use Rattle.shop_base.specs.Cell.{Cell, ready}
 use Rattle.shop_base.specs.Run.{ends_in}
-use Rattle.shop_base.specs.Report.{ended}
+use Rattle.shop_base.specs.Report.{at, ended}
 use Rattle.cell_tables.specs.declared.entry.Entry.{Entry}
 use Rattle.cell_tables.specs.declared.entry.Entry.TheVariants.{Report as ReportEntry, Order as OrderEntry}
 use Rattle.cell_tables.specs.Events.{events_of}
@@ -16,7 +15,7 @@ use Rattle.event_lines.specs.LogLines.{LineTells, LinesTell}
 use Rattle.event_lines.proofs.Readings.{one_telling, one_reading}
 use Rattle.run_log.specs.declared.audit_fault.AuditFault.{AuditFault}
 use Rattle.run_log.specs.declared.audit_fault.AuditFault.TheVariants.{BadLine, NotExpected, Backwards, NotReady, Occupied, OutOfOrder, WrongPlace, NotClean, Memory}
-use Rattle.run_log.specs.Audits.{IsFaultOf, IsGoingOn, IsLineFault, IsBadLine, IsFirstBad, IsAuditFault, IsOccupied, IsUnclean, IsOutOfTurn, IsOpen, fault_line}
+use Rattle.run_log.specs.Audits.{IsFaultOf, IsGoingOn, IsLineFault, IsBadLine, IsFirstBad, IsAuditFault, IsItsWay, IsOccupied, IsTimely, IsUnclean, IsOutOfTurn, IsOpen, fault_line}
 use Rattle.run_log.proofs.Audits.{first_bad-no_run}
 use Rattle.cell_drive.specs.ResumeFaults.{IsOnlyLogFault, log_fault}
 use Rattle.cell_drive.proofs.Parts.{append_parts}
@@ -75,92 +74,71 @@ module _ (p : PlannedShop) (c : Cell) where
   open_for Out j open_there = ((λ taken. taken), (λ unclean. unclean), λ out. out)
   open_for (At m) j open_there = ((λ taken. taken open_there.0), (λ unclean. let (s, is) = unclean.1 in let none = open_there.1 in cc), λ out. out.2 open_there.2)
 
-  -- ---- so has an order
+  -- ---- so has an entry
 
-  -- a fault comes only where those before it don't hold
-  record IsPast (o : MoveOrder) (f : AuditFault) : Type 0 where
-    timely : 2 < kind f → o.at < c.last → ⊥
-    is_ready : 3 < kind f → ready c o.job ≡ false → ⊥
-    free : 4 < kind f → IsOccupied p c o.target → ⊥
-    is_clean : 5 < kind f → IsUnclean p c o.target → ⊥
-    turn : 6 < kind f → IsOutOfTurn p c o.target o.job → ⊥
+  -- what a fault of a kind has against an entry
+  abbrev HasAgainst : ℕ → Entry → Type 0
+  HasAgainst (suc zero) (ReportEntry r) = IsGoingOn p c (ended r) → ⊥
+  HasAgainst (suc (suc zero)) (ReportEntry r) = at r < c.last
+  HasAgainst (suc (suc zero)) (OrderEntry o) = o.at < c.last
+  HasAgainst (suc (suc (suc zero))) (OrderEntry o) = ready c o.job ≡ false
+  HasAgainst (suc (suc (suc (suc zero)))) (OrderEntry o) = IsOccupied p c o.target
+  HasAgainst (suc (suc (suc (suc (suc zero))))) (OrderEntry o) = IsUnclean p c o.target
+  HasAgainst (suc (suc (suc (suc (suc (suc zero)))))) (OrderEntry o) = IsOutOfTurn p c o.target o.job
+  HasAgainst (suc (suc (suc (suc (suc (suc (suc zero))))))) (OrderEntry o) = IsItsWay p c o → ⊥
+  HasAgainst k entry = ⊥
 
-  ready_still : (o : MoveOrder) → ready c o.job ≡ true → ready c o.job ≡ false → ⊥
-  ready_still o is isnt = false≢true (sym isnt ∙ is)
+  -- no fault of an earlier kind has anything against it
+  abbrev IsPast : Entry → ℕ → Type 0
+  IsPast entry n = (k : ℕ) → k < n → HasAgainst k entry → ⊥
 
-  is_past : (o : MoveOrder) (f : AuditFault) → IsFaultOf p c (OrderEntry o) f → IsPast o f
-  is_past o (BadLine line) fault = absurd fault
-  is_past o (NotExpected line) fault = absurd fault
-  is_past o (Backwards line) fault =
-      record { timely = λ more. absurd (omega (arith, more)); is_ready = λ more. absurd (omega (arith, more)); free = λ more. absurd (omega (arith, more)); is_clean = λ more. absurd (omega (arith, more)); turn = λ more. absurd (omega (arith, more)) }
-  is_past o (NotReady line) fault =
-      record { timely = λ more late. omega (arith, late, fault.0); is_ready = λ more. absurd (omega (arith, more)); free = λ more. absurd (omega (arith, more)); is_clean = λ more. absurd (omega (arith, more)); turn = λ more. absurd (omega (arith, more)) }
-  is_past o (Occupied line) fault =
-      record { timely = λ more late. omega (arith, late, fault.0.in_order); is_ready = λ more. ready_still o fault.0.is_ready; free = λ more. absurd (omega (arith, more)); is_clean = λ more. absurd (omega (arith, more)); turn = λ more. absurd (omega (arith, more)) }
-  is_past o (NotClean line) fault =
-      record { timely = λ more late. omega (arith, late, fault.0.in_order); is_ready = λ more. ready_still o fault.0.is_ready; free = λ more taken. clear_of_job o.target taken fault.1; is_clean = λ more. absurd (omega (arith, more)); turn = λ more. absurd (omega (arith, more)) }
-  is_past o (OutOfOrder line) fault =
-      record { timely = λ more late. omega (arith, late, fault.0.in_order); is_ready = λ more. ready_still o fault.0.is_ready; free = λ more. (clear_of_turn o.target o.job fault.1).0; is_clean = λ more. (clear_of_turn o.target o.job fault.1).1; turn = λ more. absurd (omega (arith, more)) }
-  is_past o (WrongPlace line) fault =
-      record { timely = λ more late. omega (arith, late, fault.0.in_order); is_ready = λ more. ready_still o fault.0.is_ready; free = λ more. (open_for o.target o.job fault.1).0; is_clean = λ more. (open_for o.target o.job fault.1).1; turn = λ more. (open_for o.target o.job fault.1).2 }
-  is_past o Memory fault = absurd fault
+  past_none : (entry : Entry) → IsPast entry 1
+  past_none entry zero below has = has
+  past_none entry (suc k) below has = omega (arith, below)
 
-  no_later : (o : MoveOrder) (f g : AuditFault) → IsFaultOf p c (OrderEntry o) f → IsPast o g → kind f < 7 → kind f < kind g → ⊥
-  no_later o (BadLine line) g fault past few more = fault
-  no_later o (NotExpected line) g fault past few more = fault
-  no_later o (Backwards line) g fault past few more = past.timely more fault
-  no_later o (NotReady line) g fault past few more = past.is_ready more fault.1
-  no_later o (Occupied line) g fault past few more = past.free more fault.1
-  no_later o (NotClean line) g fault past few more = past.is_clean more fault.1
-  no_later o (OutOfOrder line) g fault past few more = past.turn more fault.1
-  no_later o (WrongPlace line) g fault past few more = omega (arith, few)
-  no_later o Memory g fault past few more = fault
+  past_more : (entry : Entry) (n : ℕ) → IsPast entry n → (HasAgainst n entry → ⊥) → IsPast entry (suc n)
+  past_more entry n past clear k below has = elim (cases_lt k n) [
+    | inl less ↦ past k less has
+    | inr not_less ↦ (let same : k ≡ n = omega (arith, below, not_less) in clear (subst (λ i. HasAgainst i entry) same has))
+  ]
 
-  few_kinds : (o : MoveOrder) (f : AuditFault) → IsFaultOf p c (OrderEntry o) f → kind f < 8
-  few_kinds o (BadLine line) fault = omega arith
-  few_kinds o (NotExpected line) fault = omega arith
-  few_kinds o (Backwards line) fault = omega arith
-  few_kinds o (NotReady line) fault = omega arith
-  few_kinds o (Occupied line) fault = omega arith
-  few_kinds o (NotClean line) fault = omega arith
-  few_kinds o (OutOfOrder line) fault = omega arith
-  few_kinds o (WrongPlace line) fault = omega arith
-  few_kinds o Memory fault = absurd fault
+  past_backwards : (o : MoveOrder) → c.last ≤ o.at → IsPast (OrderEntry o) 3
+  past_backwards o in_order = past_more (OrderEntry o) 2 (past_more (OrderEntry o) 1 (past_none (OrderEntry o)) (λ has. has)) (λ late. omega (arith, late, in_order))
 
-  order_kinds : (o : MoveOrder) (f g : AuditFault) → IsFaultOf p c (OrderEntry o) f → IsFaultOf p c (OrderEntry o) g → kind f ≡ kind g
-  order_kinds o f g fault other = elim (cases_lt (kind f) (kind g)) [
-    | inl less ↦ absurd (no_later o f g fault (is_past o g other) (omega (arith, less, few_kinds o g other)) less)
+  past_ready : (o : MoveOrder) → IsTimely c o → IsPast (OrderEntry o) 4
+  past_ready o timely = past_more (OrderEntry o) 3 (past_backwards o timely.in_order) (λ not_ready. false≢true (sym not_ready ∙ timely.is_ready))
+
+  first_against : (entry : Entry) (f : AuditFault) → IsFaultOf p c entry f → HasAgainst (kind f) entry × IsPast entry (kind f)
+  first_against (ReportEntry r) (NotExpected line) fault = (fault, past_none (ReportEntry r))
+  first_against (ReportEntry r) (Backwards line) fault = (fault.1, past_more (ReportEntry r) 1 (past_none (ReportEntry r)) (λ not_so. not_so fault.0))
+  first_against (ReportEntry r) (BadLine line) fault = absurd fault
+  first_against (ReportEntry r) (NotReady line) fault = absurd fault
+  first_against (ReportEntry r) (Occupied line) fault = absurd fault
+  first_against (ReportEntry r) (NotClean line) fault = absurd fault
+  first_against (ReportEntry r) (OutOfOrder line) fault = absurd fault
+  first_against (ReportEntry r) (WrongPlace line) fault = absurd fault
+  first_against (ReportEntry r) Memory fault = absurd fault
+  first_against (OrderEntry o) (BadLine line) fault = absurd fault
+  first_against (OrderEntry o) (NotExpected line) fault = absurd fault
+  first_against (OrderEntry o) (Backwards line) fault = (fault, past_more (OrderEntry o) 1 (past_none (OrderEntry o)) (λ has. has))
+  first_against (OrderEntry o) (NotReady line) fault = (fault.1, past_backwards o fault.0)
+  first_against (OrderEntry o) (Occupied line) fault = (fault.1, past_ready o fault.0)
+  first_against (OrderEntry o) (NotClean line) fault = (fault.1, past_more (OrderEntry o) 4 (past_ready o fault.0) (λ taken. clear_of_job o.target taken fault.1))
+  first_against (OrderEntry o) (OutOfOrder line) fault =
+      let clear = clear_of_turn o.target o.job fault.1 in (fault.1, past_more (OrderEntry o) 5 (past_more (OrderEntry o) 4 (past_ready o fault.0) clear.0) clear.1)
+  first_against (OrderEntry o) (WrongPlace line) fault =
+      let clear = open_for o.target o.job fault.1 in
+      (fault.2, past_more (OrderEntry o) 6 (past_more (OrderEntry o) 5 (past_more (OrderEntry o) 4 (past_ready o fault.0) clear.0) clear.1) clear.2)
+  first_against (OrderEntry o) Memory fault = absurd fault
+
+  entry_kinds : (entry : Entry) (f g : AuditFault) → IsFaultOf p c entry f → IsFaultOf p c entry g → kind f ≡ kind g
+  entry_kinds entry f g fault other = elim (cases_lt (kind f) (kind g)) [
+    | inl less ↦ absurd ((first_against entry g other).1 (kind f) less (first_against entry f fault).0)
     | inr not_less ↦ elim (cases_lt (kind g) (kind f)) [
-      | inl less ↦ absurd (no_later o g f other (is_past o f fault) (omega (arith, less, few_kinds o f fault)) less)
+      | inl less ↦ absurd ((first_against entry f fault).1 (kind g) less (first_against entry g other).0)
       | inr not_more ↦ omega (arith, not_less, not_more)
     ]
   ]
-
-  -- and a report
-  report_fault : (r : Report) (f : AuditFault) → IsFaultOf p c (ReportEntry r) f → ((kind f ≡ 1) × (IsGoingOn p c (ended r) → ⊥)) ⊎ ((kind f ≡ 2) × IsGoingOn p c (ended r))
-  report_fault r (BadLine line) fault = absurd fault
-  report_fault r (NotExpected line) fault = inl (refl, fault)
-  report_fault r (Backwards line) fault = inr (refl, fault.0)
-  report_fault r (NotReady line) fault = absurd fault
-  report_fault r (Occupied line) fault = absurd fault
-  report_fault r (NotClean line) fault = absurd fault
-  report_fault r (OutOfOrder line) fault = absurd fault
-  report_fault r (WrongPlace line) fault = absurd fault
-  report_fault r Memory fault = absurd fault
-
-  report_kinds : (r : Report) (f g : AuditFault) → IsFaultOf p c (ReportEntry r) f → IsFaultOf p c (ReportEntry r) g → kind f ≡ kind g
-  report_kinds r f g fault other = go (report_fault r f fault) (report_fault r g other)
-    where
-      go : ((kind f ≡ 1) × (IsGoingOn p c (ended r) → ⊥)) ⊎ ((kind f ≡ 2) × IsGoingOn p c (ended r))
-          → ((kind g ≡ 1) × (IsGoingOn p c (ended r) → ⊥)) ⊎ ((kind g ≡ 2) × IsGoingOn p c (ended r)) → kind f ≡ kind g
-      go (inl one) (inl two) = one.0 ∙ sym two.0
-      go (inl one) (inr two) = absurd (one.1 two.1)
-      go (inr one) (inl two) = absurd (two.1 one.1)
-      go (inr one) (inr two) = one.0 ∙ sym two.0
-
-  entry_kinds : (entry : Entry) (f g : AuditFault) → IsFaultOf p c entry f → IsFaultOf p c entry g → kind f ≡ kind g
-  entry_kinds (ReportEntry r) f g fault other = report_kinds r f g fault other
-  entry_kinds (OrderEntry o) f g fault other = order_kinds o f g fault other
 
   -- ---- and a line
 
@@ -190,6 +168,16 @@ module _ (p : PlannedShop) (c : Cell) where
 
 -- lines have one first fault
 module _ (p : PlannedShop) (lines : List (List ℕ)) where
+  -- none is among the lines before another, which tell a run
+  no_earlier : (f g : AuditFault) (one : IsFirstBad p lines f) (other : IsFirstBad p lines g) (x : List ℕ) (rest : List (List ℕ)) → one.before ≡ other.before ++ x ∷ rest
+      → other.line ∷ other.after ≡ x ∷ (rest ++ one.line ∷ one.after) → ⊥
+  no_earlier f g one other x rest longer lines_are =
+      let line_is : x ≡ other.line = cc in
+      let front : one.before ≡ other.before ++ other.line ∷ rest = longer ∙ ap (λ l. other.before ++ l ∷ rest) line_is in
+      first_bad-no_run p one.before g
+      (record { before = other.before; line = other.line; after = rest; split = front; number = other.number; told = other.told; tells = other.tells; run = other.run; is_fault = other.is_fault })
+      (one.told, one.tells, one.run)
+
   one_bad : (f g : AuditFault) → IsFirstBad p lines f → IsFirstBad p lines g → g ≡ f
   one_bad f g one other = elim (append_parts one.before (one.line ∷ one.after) other.before (other.line ∷ other.after) (sym one.split ∙ other.split)) [
     | inl (rest, longer, lines_are) ↦ go rest longer lines_are
@@ -206,21 +194,11 @@ module _ (p : PlannedShop) (lines : List (List ℕ)) where
 
       go : (rest : List (List ℕ)) → one.before ≡ other.before ++ rest → other.line ∷ other.after ≡ rest ++ one.line ∷ one.after → g ≡ f
       go [] longer lines_are = let line_is : one.line ≡ other.line = cc in same (longer ∙ append-nil other.before) line_is
-      go (x ∷ rest) longer lines_are =
-          let line_is : x ≡ other.line = cc in
-          let front : one.before ≡ other.before ++ other.line ∷ rest = longer ∙ ap (λ l. other.before ++ l ∷ rest) line_is in
-          absurd (first_bad-no_run p one.before g
-          (record { before = other.before; line = other.line; after = rest; split = front; number = other.number; told = other.told; tells = other.tells; run = other.run; is_fault = other.is_fault })
-          (one.told, one.tells, one.run))
+      go (x ∷ rest) longer lines_are = absurd (no_earlier f g one other x rest longer lines_are)
 
       back : (rest : List (List ℕ)) → other.before ≡ one.before ++ rest → one.line ∷ one.after ≡ rest ++ other.line ∷ other.after → g ≡ f
       back [] longer lines_are = let line_is : one.line ≡ other.line = cc in same (sym (longer ∙ append-nil one.before)) line_is
-      back (x ∷ rest) longer lines_are =
-          let line_is : x ≡ one.line = cc in
-          let front : other.before ≡ one.before ++ one.line ∷ rest = longer ∙ ap (λ l. one.before ++ l ∷ rest) line_is in
-          absurd (first_bad-no_run p other.before f
-          (record { before = one.before; line = one.line; after = rest; split = front; number = one.number; told = one.told; tells = one.tells; run = one.run; is_fault = one.is_fault })
-          (other.told, other.tells, other.run))
+      back (x ∷ rest) longer lines_are = absurd (no_earlier g f other one x rest longer lines_are)
 
   pub only_log_fault : (fault : AuditFault) → IsAuditFault p lines fault → IsOnlyLogFault p lines (log_fault fault)
   only_log_fault Memory is = tt

@@ -35,7 +35,7 @@ use Rattle.cell_drive.specs.AnswerText.{DrivenCell, undriven, CellCloses}
 use Rattle.cell_drive.specs.Stated.{AsksFor, IsClaimRefused, IsClaimTaken, RequestAnswer, CellRequests, refusal_prefix, StatedAnswers, taken_lines, tells_end, told_overdue}
 use Rattle.cell_drive.specs.StatedLaw.{OneAnswerText, OneTextForLines}
 use Rattle.cell_drive.specs.ManyCells.{PlannedCell, CellsClose, hub_start}
-use Rattle.cell_drive.specs.StatedCells.{AsksCell, AsksOf, OfCell, IsToldIn, CellsTell, CellsStated, AreDrivesIn, stated_hub_start}
+use Rattle.cell_drive.specs.StatedCells.{AsksCell, AsksOf, OfCell, IsToldIn, CellsTell, AreDrivesIn, stated_hub_start}
 use Rattle.cell_drive.specs.StatedCellsLaw.{OneStatedCellsTextForLines, OneStatedCellsText}
 use Rattle.cell_drive.specs.Numbers.{IsInRun, AreInRun}
 use Rattle.cell_drive.proofs.ManyCells.{start_in_run, one_in_run, set_in_run}
@@ -244,10 +244,6 @@ module _ (manner : Manner) where
 
   pub told_keep : (cells : List PlannedCell) (number : ℕ) (asked : OfCell) (text : List ℕ) (end : List PlannedCell) → AreInRun cells → CellsTell manner cells number asked text end → AreInRun end
   told_keep cells number asked text end all is = keeps_in (slice_get cells asked.cell) cells number asked text end all (λ c found. one_in_run cells asked.cell c all found) is
-
-  pub cells_lines_keep : (cells : List PlannedCell) (number : ℕ) (line : Option (List ℕ)) (text : List ℕ) (end : List PlannedCell) → AreInRun cells → CellsStated manner cells number line text end → AreInRun end
-  cells_lines_keep cells number line text end all is =
-      line_keeps (AsksOf manner.tells) (CellsTell manner) AreInRun (one_asked_cell manner.tells) one_of_cells told_keep cells number line text end all is
 
 pub one_stated_cells_text_for_lines : OneStatedCellsTextForLines
 one_stated_cells_text_for_lines plans manner lines text other end last verified all also =

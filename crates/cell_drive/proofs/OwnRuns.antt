@@ -12,7 +12,7 @@ use Rattle.cell_tables.specs.Events.{events_of}
 use Rattle.run_log.proofs.Audits.{events-join}
 use Rattle.cell_drive.specs.OneRun.{cell_after, IsRunOf}
 use Rattle.cell_drive.specs.CutLogs.{reported, IsOwnRun}
-use Rattle.cell_drive.proofs.LogRoom.{events-orders}
+use Rattle.cell_drive.proofs.Parts.{events-orders}
 
 reported-moved : (os : List MoveOrder) (es : List Event) → reported (moved os ++ es) ≡ reported es
 reported-moved [] es = refl

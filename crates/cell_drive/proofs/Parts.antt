@@ -1,5 +1,5 @@
 -- Lists in parts, and moves among events.
-use Rattle.std.proofs.Common.{◌≡◌, List, [], ◌∷◌, ◌++◌, map, ◌⊎◌, inl, inr, refl, sym}
+use Rattle.std.proofs.Common.{◌≡◌, List, [], ◌∷◌, ◌++◌, map, ◌⊎◌, inl, inr, refl, sym, ap}
 use Rattle.shop_base.specs.declared.move_order.MoveOrder.{MoveOrder}
 use Rattle.shop_base.specs.declared.report.Report.{Report}
 use Rattle.shop_base.specs.Run.{Event, Reported, Moved}
@@ -21,6 +21,11 @@ append_parts (i ∷ a) x (j ∷ b) y same =
       | inl (c, first, second) ↦ inl (c, cc, second)
       | inr (c, first, second) ↦ inr (c, cc, second)
     ]
+
+-- the events of orders are moves
+pub events-orders : (os : List MoveOrder) → events_of (map OrderEntry os) ≡ moved os
+events-orders [] = refl
+events-orders (o ∷ os) = ap (λ es. Moved o ∷ es) (events-orders os)
 
 -- what stands behind some of the moves are moves
 pub moved_rest : (os : List MoveOrder) (a d : List Event) → moved os ≡ a ++ d → (ds : List MoveOrder) × (d ≡ moved ds)

@@ -1,5 +1,5 @@
 -- What a driven cell wrote, as a log is read.
-use Rattle.std.proofs.Common.{◌≡◌, ℕ, ◌+◌, Bool, true, false, cond, List, [], ◌∷◌, ◌++◌, Option, map, refl, sym, ap, ◌∙◌, subst, inl, inr, append_assoc, append-nil}
+use Rattle.std.proofs.Common.{◌≡◌, ℕ, ◌+◌, List, [], ◌∷◌, ◌++◌, Option, map, refl, sym, ap, ◌∙◌, subst, inl, inr, append_assoc, append-nil}
 use Rattle.shop_base.specs.declared.report.Report.{Report}
 use Rattle.shop_base.specs.Plan.{PlannedShop, IsWellShaped}
 use Rattle.shop_base.specs.Cell.{Cell}
@@ -18,7 +18,6 @@ use Rattle.cell_tables.specs.declared.entry.Entry.{Entry}
 use Rattle.cell_tables.specs.declared.entry.Entry.TheVariants.{Report as ReportEntry, Order as OrderEntry}
 use Rattle.cell_tables.specs.Events.{events_of}
 use Rattle.event_lines.specs.EventLines.{report_line, order_line, order_lines}
-use Rattle.event_lines.specs.AnswerLines.{late_line}
 use Rattle.event_lines.specs.LogLines.{LinesTell}
 use Rattle.event_lines.specs.ReadBack.{IsSpaceless, TellsFirst}
 use Rattle.event_lines.proofs.Telling.{tells_none, tells_both, tells_entry, others_tell_none}
@@ -26,7 +25,7 @@ use Rattle.run_log.proofs.Audits.{events-join}
 use Rattle.byte_streams.specs.Answering.{AnswerAll}
 use Rattle.cell_drive.specs.AnswerText.{DrivenCell, undriven, CellCloses}
 use Rattle.cell_drive.specs.AuditLaw.{IsLogOf}
-use Rattle.cell_drive.proofs.LogRoom.{events-orders}
+use Rattle.cell_drive.proofs.Parts.{events-orders}
 use Rattle.cell_drive.proofs.OneText.{IsOnCourse}
 use Rattle.cell_drive.proofs.ShopEntries.{report_of_shop, order_of_shop}
 
@@ -40,10 +39,6 @@ name_spaceless WrongKind = refl
 name_spaceless (WrongMachine actual) = refl
 
 module _ (p : PlannedShop) where
-  pub late_told : (at : ℕ) (late : Bool) → TellsFirst p (cond late (late_line at) []) []
-  late_told at true = (others_tell_none p).late at
-  late_told at false = tells_none p
-
   pub closing_told : (end : DrivenCell) (text : List ℕ) → CellCloses p end text → TellsFirst p text []
   closing_told end text (inl (ended, line)) = subst (λ (t : List ℕ). TellsFirst p t []) (sym line) ((others_tell_none p).done end.cell.last)
   closing_told end text (inr (unfinished, line)) = subst (λ (t : List ℕ). TellsFirst p t []) (sym line) ((others_tell_none p).unfinished _)

@@ -1,5 +1,5 @@
 -- What is claimed, and why it is refused.
-use Rattle.std.proofs.Common.{◌≡◌, ◌≤◌, length, Bool, true, false, cond, sym, ap, ◌∙◌, subst, inl, inr, arith}
+use Rattle.std.proofs.Common.{◌≡◌, Bool, true, false, cond, sym, ap, ◌∙◌, subst, inl, inr}
 use Rattle.shop_base.specs.Plan.{PlannedShop, IsWellShaped}
 use Rattle.shop_base.specs.Cell.{Cell}
 use Rattle.shop_base.specs.Report.{ended, CanReport}
@@ -18,7 +18,7 @@ use Rattle.event_lines.specs.Requests.{claimed}
 use Rattle.cell_drive.specs.declared.manner.Manner.{Manner}
 use Rattle.cell_drive.specs.declared.refusals.Refusal.{Refusal}
 use Rattle.cell_drive.specs.declared.refusals.Refusal.TheVariants.{Reason, Leap}
-use Rattle.cell_drive.specs.Refusals.{CanClaim, IsClaimReason, IsRefusal, IsTaken, claim_leaps, first_refusal, is_before_leap, refusal_word}
+use Rattle.cell_drive.specs.Refusals.{CanClaim, IsClaimReason, IsRefusal, IsTaken, claim_leaps, first_refusal, is_before_leap}
 use Rattle.cell_drive.proofs.ShopEntries.{report_of_shop}
 
 -- what can be claimed can be reported
@@ -83,13 +83,3 @@ module _ (p : PlannedShop) (c : Cell) where
       pub refused_or_taken : (refusal : Refusal) → IsRefusal manner p c claim refusal → IsTaken manner p c claim → ⊥
       refused_or_taken refusal (inl (reason, is, same)) (can, stays) = claim_reason-cannot claim reason is can
       refused_or_taken refusal (inr (can, does_leap, same)) (can', stays) = absurd (cc)
-
-pub word_short : (refusal : Refusal) → length (refusal_word refusal) ≤ 20
-word_short (Reason JobOutOfRange) = omega arith
-word_short (Reason MachineOutOfRange) = omega arith
-word_short (Reason MomentTooLarge) = omega arith
-word_short (Reason (Backwards last)) = omega arith
-word_short (Reason NotExpected) = omega arith
-word_short (Reason WrongKind) = omega arith
-word_short (Reason (WrongMachine actual)) = omega arith
-word_short Leap = omega arith

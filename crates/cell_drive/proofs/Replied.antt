@@ -87,9 +87,6 @@ module _ (manner : Manner) (v : Control) where
         ∙ ap (λ (n : ℕ). let l : Noted = record { entries = log.entries; reserved = n } in l) notes.reserved in
         subst (λ (w : Control). IsKept w longer) (sym stays) (subst (IsKept v) (sym same) kept)
 
-    none_fit : length log.entries + 0 ≤ log.reserved → length log.entries ≤ log.reserved
-    none_fit fits = omega (arith, fits)
-
     claim_room : (claim : Claim) (reply : Reply) (new : Control) → length log.entries ≤ log.reserved → IsClaimReply manner v claim reply new → length log.entries + length (reply_events new reply) ≤ log.reserved
     claim_room claim (Refused refusal detail) new fits is = omega (arith, fits)
     claim_room claim (Taken report late overdue ended) new fits (taken, same, answered, overdue_is, ended_is) =

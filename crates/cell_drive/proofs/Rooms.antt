@@ -23,7 +23,7 @@ use Rattle.run_log.proofs.Audits.{events-join, run-few}
 use Rattle.cell_control.specs.Control.{Control, IsControl, IsAnswered}
 use Rattle.cell_drive.specs.OneRun.{cell_after, IsSoFar, IsNeverFull}
 use Rattle.cell_drive.specs.Session.{IsKept}
-use Rattle.cell_drive.proofs.LogRoom.{events-orders}
+use Rattle.cell_drive.proofs.Parts.{events-orders}
 
 -- events behind a run that was told
 pub told_on : (p : PlannedShop) (c : Cell) (entries more : List Entry) → IsTold p c entries → AreEvents p c (events_of more)

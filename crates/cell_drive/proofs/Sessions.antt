@@ -1,5 +1,5 @@
 -- What a session answers, and what it comes to.
-use Rattle.std.proofs.Common.{◌≡◌, ℕ, ◌+◌, List, [], ◌∷◌, ◌++◌, Option, Ok, Err, Result, false, refl, sym, ap, ◌∙◌, subst}
+use Rattle.std.proofs.Common.{◌≡◌, ℕ, ◌+◌, List, [], ◌∷◌, ◌++◌, Option, Ok, Err, Result, refl, sym, ap, ◌∙◌, subst}
 use Rattle.std.specs.Prelude.{◌↔◌, IsTrue}
 use Rattle.shop_base.specs.Plan.{PlannedShop}
 use Rattle.shop_base.specs.Run.{IsRun}
@@ -15,10 +15,7 @@ use Rattle.byte_streams.specs.declared.drive_fault.DriveFault.TheVariants.{Memor
 use Rattle.byte_streams.specs.Lent.{Streams}
 use Rattle.byte_streams.specs.Lines.{input_lines}
 use Rattle.byte_streams.specs.Answering.{AnswerAll}
-use Rattle.event_lines.specs.SentLines.{IsNoReport}
-use Rattle.event_lines.specs.declared.requests.Claim.TheVariants.{Report, CleanAfter}
 use Rattle.event_lines.specs.declared.requests.Request.{Request}
-use Rattle.event_lines.specs.declared.requests.Request.TheVariants.{Claim as ClaimRequest, Status}
 use Rattle.cell_drive.specs.declared.manner.Manner.{Manner}
 use Rattle.cell_drive.specs.declared.begin.DriveEnd.{DriveEnd}
 use Rattle.cell_drive.specs.declared.resume.RestEnd.{RestEnd}
@@ -37,12 +34,6 @@ use Rattle.cell_drive.proofs.LineAnswers.{asked_line}
 use Rattle.cell_drive.proofs.PromisesKept.{stays_as_promised}
 use Rattle.cell_drive.proofs.Replied.{plan_after, replied_so}
 use Rattle.cell_drive.proofs.Rooms.{never_full, so_far}
-
--- in version 1 a line that is no report asks for nothing
-pub no_report : (line : List ℕ) → IsNoReport line → (request : Request) → AsksFor false line request → ⊥
-no_report line none (ClaimRequest (Report report)) asked = none report asked
-no_report line none (ClaimRequest (CleanAfter machine job at)) asked = asked
-no_report line none Status asked = asked
 
 -- ---- lines
 

@@ -4,7 +4,6 @@ use Rattle.shop_base.specs.declared.report.Report.{Report}
 use Rattle.shop_base.specs.Plan.{PlannedShop}
 use Rattle.shop_base.specs.Cell.{Cell, start}
 use Rattle.cell_tables.specs.declared.entry.Entry.{Entry}
-use Rattle.byte_streams.specs.Lines.{input_lines}
 use Rattle.byte_streams.specs.Answering.{AnswerAll}
 use Rattle.event_lines.specs.SentLines.{IsReportLine}
 use Rattle.cell_drive.specs.LineAnswers.{LineAnswer, ReportAnswer, IsClosingLine}
@@ -35,11 +34,3 @@ CellCloses p end = IsClosingLine p end.cell
 -- the first lines of an input are answered by this text
 abbrev pub AreAnswersTo : PlannedShop → List (Option (List ℕ)) → List ℕ → DrivenCell → Type 0
 AreAnswersTo p lines text end = AnswerAll (CellAnswers p) (undriven p) 1 lines text end
-
--- the answer text of an input: the answers to its lines, in order, and the closing line
-pub record IsAnswerText (p : PlannedShop) (input text : List ℕ) (end : DrivenCell) : Type 0 where
-  pub answers : List ℕ
-  pub are_answers : AreAnswersTo p (input_lines input) answers end
-  pub closing : List ℕ
-  pub is_closing : CellCloses p end closing
-  pub whole : text ≡ answers ++ closing

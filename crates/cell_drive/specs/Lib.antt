@@ -23,4 +23,5 @@ pub mod StatedCells
 pub mod StatedCellsLaw
 -- Of proofs and private contracts alone.
 pub mod Replies
+pub mod StateRows
 pub mod Numbers

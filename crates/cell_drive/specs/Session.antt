@@ -6,6 +6,7 @@ use Rattle.shop_base.specs.Ends.{stated_number}
 use Rattle.plan_verifier.specs.Accepted.{VerifiedPlan}
 use Rattle.cell_tables.specs.Events.{events_of}
 use Rattle.cell_control.specs.Control.{Control, IsControl, at_start, verified_in}
+use Rattle.event_lines.specs.declared.requests.Request.{Request}
 use Rattle.run_log.specs.Log.{Noted}
 use Rattle.run_log.specs.Audits.{IsTold}
 use Rattle.cell_drive.specs.declared.manner.Manner.{Manner}
@@ -14,7 +15,7 @@ use Rattle.cell_drive.specs.declared.resume.RestEnd.{RestEnd}
 use Rattle.cell_drive.specs.LineAnswers.{IsClosingLine}
 use Rattle.cell_drive.specs.AnswerText.{DrivenCell}
 use Rattle.cell_drive.specs.OneRun.{IsNeverFull, IsRunOf, IsSoFar, NeverWentWrong, cell_after}
-use Rattle.cell_drive.specs.Stated.{StatedAnswers}
+use Rattle.cell_drive.specs.Stated.{AsksFor, StatedAnswers}
 
 -- its manner, its controller and its log
 pub record SessionState : Type 0 where
@@ -51,6 +52,11 @@ pub record SessionAnswer (start : SessionState) (number : ℕ) (line : Option (L
 -- the texts that answer a line of this number that isn't too long, by a controller and its log before and after it
 abbrev pub AnsweredBy : Manner → Control → Noted → ℕ → List ℕ → Control → Noted → List ℕ → Type 0
 AnsweredBy manner control log number line control_then log_then text = SessionAnswer (session_by manner control log) number (Some line) text (session_by manner control_then log_then)
+
+-- the texts that answer any line of this number that asks for this
+abbrev pub AnswersRequest : Manner → Control → Noted → ℕ → Request → Control → Noted → List ℕ → Type 0
+AnswersRequest manner control log number request control_then log_then text =
+    (line : List ℕ) → (line ≡ [] → ⊥) → AsksFor manner.tells line request → AnsweredBy manner control log number line control_then log_then text
 
 -- the closing line
 abbrev pub SessionCloses : SessionState → List ℕ → Type 0

@@ -1,6 +1,6 @@
 //! Several cells, in the order of their numbers, that are driven by the lines of one input.
 
-ghost use Rattle.std.specs.Prelude.{◌≡◌, ◌≢◌, ◌↔◌, [], Err, IfOk, IsTrue, MatchOption, OnOk};
+ghost use Rattle.std.specs.Prelude.{◌≡◌, ◌↔◌, Err, IfOk, IsTrue, MatchOption, OnOk};
 ghost use Rattle.shop_base.specs.Ends.{HasEnded};
 ghost use Rattle.byte_streams.specs.Lent.{WroteTo, WroteOneTo, streams_of};
 ghost use Rattle.plan_verifier.specs.Accepted.{IsVerified};
@@ -86,32 +86,6 @@ fn asked_of(tells: bool, line: &[u8]) -> Option<(u32, Request)>
     Some((cell, Request::Claim(Claim::Report(report))))
 }
 
-/// Answers a line that isn't empty.
-fn answer_told<D: Dues, W: Sink>(
-    manner: Manner,
-    cells: &mut [Controller<D>],
-    number: u64,
-    line: &[u8],
-    writer: &mut W,
-) -> Result<(), WriteFault>
-    requires in_run { AreInRun (planned_cells cells.old) }
-    requires told { line.now ≢ [] }
-    ensures in_run { AreInRun (planned_cells cells.new) }
-    ensures answered { WroteOneTo W.Sink result writer.old writer.new (AnsweredByCells manner cells.old number line.now cells.new) }
-{
-    let Some((cell, request)) = asked_of(manner.tells, line) else {
-        return put_refused(number, b"BadLine", writer);
-    };
-    let place = cell as usize;
-    if place >= cells.len() {
-        return put_refused(number, b"NoSuchCell", writer);
-    }
-    let controller = &mut cells[place];
-    let reply = reply_to(manner, controller, request);
-    let prefix = cell_prefix(u64::from(cell));
-    put_reply(manner, prefix.bytes(), number, controller, reply, writer)
-}
-
 /// Answers a line. An empty one has no answer.
 fn answer_line<D: Dues, W: Sink>(
     manner: Manner,
@@ -127,7 +101,17 @@ fn answer_line<D: Dues, W: Sink>(
     if line.is_empty() {
         return Ok(());
     }
-    answer_told(manner, cells, number, line, writer)
+    let Some((cell, request)) = asked_of(manner.tells, line) else {
+        return put_refused(number, b"BadLine", writer);
+    };
+    let place = cell as usize;
+    if place >= cells.len() {
+        return put_refused(number, b"NoSuchCell", writer);
+    }
+    let controller = &mut cells[place];
+    let reply = reply_to(manner, controller, request);
+    let prefix = cell_prefix(u64::from(cell));
+    put_reply(manner, prefix.bytes(), number, controller, reply, writer)
 }
 
 /// Writes the closing line of each cell.

@@ -2,13 +2,10 @@
 
 ghost use Rattle.std.specs.Prelude.{◌≡◌, IfOk, IfErr, false};
 ghost use Rattle.shop_base.specs.Report.{at, CanReport};
-ghost use Rattle.cell_control.specs.Control.{IsControl};
-ghost use Rattle.cell_control.specs.Judged.{IsJudged};
-ghost use Rattle.cell_control.specs.Readings.{IsOnTime};
+ghost use Rattle.cell_control.specs.{Control.IsControl, Judged.IsJudged, Readings.IsOnTime};
 ghost use Rattle.event_lines.specs.Requests.{claimed};
 ghost use Rattle.cell_drive.specs.Refusals.{IsClaimReason, IsRefusal, IsTaken, CanClaim};
-ghost use Rattle.cell_drive.specs.Stated.{tells_end, told_overdue};
-ghost use Rattle.cell_drive.specs.Replies.{IsClaimReply, IsReply};
+ghost use Rattle.cell_drive.specs.{Stated.tells_end, Stated.told_overdue, Replies.IsClaimReply, Replies.IsReply};
 
 use crate::manner::Manner;
 use crate::refusals::{Refusal, claim_leaps, first_refusal, refusal_detail, standing_of};

@@ -1,11 +1,9 @@
 //! Which of the events of a run are reports that are late, whatever controller ordered its moves.
 
 ghost use Rattle.std.specs.Prelude.{◌≡◌, ◌↔◌, false, IfOk};
-ghost use Rattle.shop_base.specs.Cell.{start};
-ghost use Rattle.shop_base.specs.Report.{CanReport, after_report};
+ghost use Rattle.shop_base.specs.{Cell.start, Report.CanReport, Report.after_report};
 ghost use Rattle.shop_base.specs.Move.{CanObey, KeepsPlan, after_move};
-ghost use Rattle.shop_base.specs.Run.{CanHappen, after, AreEvents, IsRun};
-ghost use Rattle.shop_base.specs.Punctual.{IsPunctual};
+ghost use Rattle.shop_base.specs.{Run.CanHappen, Run.after, Run.AreEvents, Run.IsRun, Punctual.IsPunctual};
 ghost use Rattle.cell_tables.specs.Events.{event_of, events_of};
 ghost use Rattle.cell_control.specs.DueMoments.{AreDueMoments};
 ghost use Rattle.cell_drive.specs.LateEvents.{IsLateEvent, AreLate};
@@ -73,7 +71,7 @@ fn follow_events<P: Planned, D: Dues>(
     Ok(late)
 }
 
-/// Makes the event happen, and tells whether it is a late report.
+/// Makes the event happen, and says whether it is a late report.
 fn follow_event<P: Planned, D: Dues>(cell: &mut WorkCell<P>, dues: &mut D, entry: Entry) -> bool
     requires due_moments { AreDueMoments cell.old.plan cell.old.cell (D.dues dues.old) }
     requires possible { CanHappen cell.old.plan cell.old.cell (event_of entry) }
@@ -82,7 +80,11 @@ fn follow_event<P: Planned, D: Dues>(cell: &mut WorkCell<P>, dues: &mut D, entry
     ensures due_moments { AreDueMoments cell.old.plan cell.new.cell (D.dues dues.new) }
 {
     match entry {
-        Entry::Report(report) => follow_report(cell, dues, report),
+        Entry::Report(report) => {
+            let late = is_late(cell, dues, report);
+            follow_report(cell, dues, report);
+            late
+        }
         Entry::Order(order) => {
             follow_order(cell, dues, order);
             false
@@ -90,17 +92,25 @@ fn follow_event<P: Planned, D: Dues>(cell: &mut WorkCell<P>, dues: &mut D, entry
     }
 }
 
-/// Ends the activity of a possible report, and tells whether the report is late.
-fn follow_report<P: Planned, D: Dues>(cell: &mut WorkCell<P>, dues: &mut D, report: Report) -> bool
+/// Whether something that is going on should have ended before the report.
+fn is_late<P: Planned, D: Dues>(cell: &WorkCell<P>, dues: &D, report: Report) -> bool
+    requires { AreDueMoments cell.now.plan cell.now.cell (D.dues dues.now) }
+    ensures { (result ≡ false) ↔ IsPunctual cell.now.plan cell.now.cell report }
+{
+    // Called for its clauses alone: the plan is well shaped, and the cell sound.
+    let _plan = cell.shaped();
+    is_past_due(dues, report.at())
+}
+
+/// Ends the activity of a possible report.
+fn follow_report<P: Planned, D: Dues>(cell: &mut WorkCell<P>, dues: &mut D, report: Report)
     requires due_moments { AreDueMoments cell.old.plan cell.old.cell (D.dues dues.old) }
     requires possible { CanReport cell.old.plan cell.old.cell report }
-    ensures late { (result ≡ false) ↔ IsPunctual cell.old.plan cell.old.cell report }
     ensures ended { cell.new ≡ record cell.old { cell = after_report cell.old.cell report } }
     ensures due_moments { AreDueMoments cell.old.plan cell.new.cell (D.dues dues.new) }
 {
     // Called for its clauses alone: the plan is well shaped, and the cell sound.
     let _plan = cell.shaped();
-    let late = is_past_due(dues, report.at());
     cell.end(report);
     match report {
         Report::Arrive { job, at: _ } => dues.clear(job),
@@ -111,7 +121,6 @@ fn follow_report<P: Planned, D: Dues>(cell: &mut WorkCell<P>, dues: &mut D, repo
         } => dues.clear(job),
         Report::Clean { machine, at: _ } => renew_machine(cell, dues, machine),
     }
-    late
 }
 
 /// Makes the move of a possible order.

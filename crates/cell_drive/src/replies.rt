@@ -3,12 +3,10 @@
 ghost use Rattle.std.specs.Prelude.{◌≡◌, ◌++◌, ◌≤◌, length, OnOk};
 ghost use Rattle.std.specs.List.{flat_map};
 ghost use Rattle.shop_base.specs.Report.{at};
-ghost use Rattle.event_lines.specs.EventLines.{report_line, order_line};
-ghost use Rattle.event_lines.specs.AnswerLines.{refused_line};
+ghost use Rattle.event_lines.specs.{EventLines.report_line, EventLines.order_line, AnswerLines.refused_line};
 ghost use Rattle.event_lines.specs.StandingLines.{refused_detail_line};
 ghost use Rattle.byte_streams.specs.Lent.{WroteTo};
-ghost use Rattle.cell_drive.specs.LineAnswers.{closing_line};
-ghost use Rattle.cell_drive.specs.Refusals.{refusal_word};
+ghost use Rattle.cell_drive.specs.{LineAnswers.closing_line, Refusals.refusal_word};
 ghost use Rattle.cell_drive.specs.Stated.{end_part, lateness_part, refusal_prefix, taken_lines};
 ghost use Rattle.cell_drive.specs.Replies.{reply_text};
 

@@ -1,13 +1,11 @@
 //! The lines of the events that a log told, written once more in a manner.
 
 ghost use Rattle.std.specs.Prelude.{◌≡◌, [], length, OnOk};
-ghost use Rattle.shop_base.specs.Report.{at, CanReport};
-ghost use Rattle.shop_base.specs.Run.{CanHappen, after, AreEvents};
+ghost use Rattle.shop_base.specs.{Report.at, Report.CanReport, Run.CanHappen, Run.after, Run.AreEvents};
 ghost use Rattle.cell_tables.specs.Events.{event_of, events_of};
 ghost use Rattle.byte_streams.specs.Lent.{WroteTo};
 ghost use Rattle.event_lines.specs.EventLines.{order_line};
-ghost use Rattle.cell_drive.specs.Stated.{lateness_part, told_overdue};
-ghost use Rattle.cell_drive.specs.Retold.{retold_line, retold_lines};
+ghost use Rattle.cell_drive.specs.{Stated.lateness_part, Stated.told_overdue, Retold.retold_line, Retold.retold_lines};
 
 use crate::judging::told_overdue;
 use crate::manner::Manner;

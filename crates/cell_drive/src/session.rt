@@ -1,12 +1,10 @@
 //! A session: a controller, begun from any cell, whose lines are read and answered in a manner.
 
-ghost use Rattle.std.specs.Prelude.{◌≡◌, ◌≢◌, ◌+◌, ◌≤◌, [], ◌∷◌, length, map};
-ghost use Rattle.text_lines.specs.Searches.{SomeIfAny};
+ghost use Rattle.std.specs.Prelude.{◌≡◌, ◌+◌, ◌≤◌, ◌∷◌, length, map};
 ghost use Rattle.run_log.specs.Log.{Notes};
 ghost use Rattle.byte_streams.specs.Lent.{WroteOneTo};
-ghost use Rattle.cell_drive.specs.Stated.{AsksFor};
-ghost use Rattle.cell_drive.specs.Replies.{IsReply, reply_events};
-ghost use Rattle.cell_drive.specs.Session.{AnsweredBy, IsKept};
+ghost use Rattle.cell_drive.specs.Replies.{reply_events};
+ghost use Rattle.cell_drive.specs.Session.{AnsweredBy, AnswersRequest, IsKept};
 
 use crate::judging::reply_to;
 use crate::manner::Manner;
@@ -35,18 +33,6 @@ impl<P: Timed, D: Dues> Model for Session<P, D> {
     ghost view = { λ s. session_by s.manner s.controller s.log };
 
     ghost invariant = { λ s. IsKept s.controller s.log };
-}
-
-/// What the line asks for, if it asks for anything.
-#[inline(always)]
-fn asked_of(tells: bool, line: &[u8]) -> Option<Request>
-    ensures { SomeIfAny result (AsksFor tells line.now) }
-{
-    if tells {
-        return request_of(line);
-    }
-    let report = report_of(line)?;
-    Some(Request::Claim(Claim::Report(report)))
 }
 
 /// Notes an accepted report and the moves that it released.
@@ -79,48 +65,28 @@ fn note_reply<P: Timed, D: Dues>(log: &mut RunLog, controller: &Core<P, D>, repl
     }
 }
 
-/// Replies to a request, and notes the events that this adds.
+/// Answers what the line of this number asks for, and notes the events that this adds.
 #[inline(always)]
-fn reply_and_note<P: Timed, D: Dues>(
-    manner: Manner,
-    controller: &mut Core<P, D>,
-    log: &mut RunLog,
-    request: Request,
-) -> Reply
-    requires { IsKept controller.old log.old }
-    ensures kept { IsKept controller.new log.new }
-    ensures reply { IsReply manner controller.old request result controller.new }
-    ensures noted { Notes log.old log.new (reply_events controller.new result) }
-{
-    let reply = reply_to(manner, controller, request);
-    note_reply(log, controller, reply);
-    reply
-}
-
-/// Answers a line that isn't empty. This is a function of its own so that empty lines cost little.
-#[inline(never)]
-fn answer_told<P: Timed, D: Dues, W: Sink>(
+fn answer_request<P: Timed, D: Dues, W: Sink>(
     manner: Manner,
     controller: &mut Core<P, D>,
     log: &mut RunLog,
     number: u64,
-    line: &[u8],
+    request: Request,
     writer: &mut W,
 ) -> Result<(), WriteFault>
-    requires kept { IsKept controller.old log.old }
-    requires told { line.now ≢ [] }
+    requires { IsKept controller.old log.old }
     ensures kept { IsKept controller.new log.new }
     ensures answered { WroteOneTo W.Sink result writer.old writer.new
-        (AnsweredBy manner controller.old log.old number line.now controller.new log.new) }
+        (AnswersRequest manner controller.old log.old number request controller.new log.new) }
 {
-    let Some(request) = asked_of(manner.tells, line) else {
-        return put_refused(number, b"BadLine", writer);
-    };
-    let reply = reply_and_note(manner, controller, log, request);
+    let reply = reply_to(manner, controller, request);
+    note_reply(log, controller, reply);
     put_reply(manner, b"", number, controller, reply, writer)
 }
 
 /// Answers a line. An empty one has no answer.
+#[inline(never)]
 fn answer_line<P: Timed, D: Dues, W: Sink>(
     manner: Manner,
     controller: &mut Core<P, D>,
@@ -137,7 +103,17 @@ fn answer_line<P: Timed, D: Dues, W: Sink>(
     if line.is_empty() {
         return Ok(());
     }
-    answer_told(manner, controller, log, number, line, writer)
+    if manner.tells {
+        let Some(request) = request_of(line) else {
+            return put_refused(number, b"BadLine", writer);
+        };
+        return answer_request(manner, controller, log, number, request, writer);
+    }
+    let Some(report) = report_of(line) else {
+        return put_refused(number, b"BadLine", writer);
+    };
+    let request = Request::Claim(Claim::Report(report));
+    answer_request(manner, controller, log, number, request, writer)
 }
 
 impl<P: Timed, D: Dues> LineHandler for Session<P, D> {

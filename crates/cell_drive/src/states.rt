@@ -4,7 +4,8 @@ ghost use Rattle.std.specs.Prelude.{◌≡◌, ◌+◌, ◌<◌, ◌≤◌, ◌+
 ghost use Rattle.shop_base.specs.declared.limits.TheConstants.{MAX_JOBS};
 ghost use Rattle.byte_streams.specs.Lent.{WroteTo};
 ghost use Rattle.event_lines.specs.StandingLines.{unfinished_standing_line};
-ghost use Rattle.cell_drive.specs.States.{is_over, standing_part, jobs_text, machines_text, state_text, count_of, one_more, with_one, with_jobs, with_machines, own_first, overdue_in};
+ghost use Rattle.cell_drive.specs.States.{is_over, standing_part, jobs_text, machines_text, state_text, count_of, one_more, with_one, own_first, overdue_in};
+ghost use Rattle.cell_drive.specs.StateRows.{row, row_count, rows_text, with_rows};
 
 use crate::replies::{put_behind, put_closing};
 use byte_streams::{Sink, WriteFault};
@@ -70,32 +71,47 @@ fn put_standing<W: Sink>(
     put_line(prefix, standing, writer)
 }
 
-/// Writes the line of each job that isn't gone.
-fn put_jobs<P: Planned, W: Sink>(
-    prefix: &[u8],
-    cell: &WorkCell<P>,
-    writer: &mut W,
-) -> Result<(), WriteFault>
-    ensures wrote { WroteTo W.Sink result writer.old writer.new (jobs_text prefix.now cell.now.plan cell.now.cell) }
-    ensures unfailed { OnOk result (W.failed writer.new ≡ W.failed writer.old) }
-{
-    for job in 0..cell.job_count() {
-        put_standing(prefix, cell.job_standing(job), writer)?;
-    }
-    Ok(())
+/// The rows of a state.
+#[derive(Clone, Copy)]
+enum Rows {
+    Jobs,
+    Machines,
 }
 
-/// Writes the line of each machine that is being cleaned.
-fn put_machines<P: Planned, W: Sink>(
+/// How many rows there are.
+fn row_count<P: Planned>(cell: &WorkCell<P>, rows: Rows) -> u32
+    ensures count { result ≡ row_count cell.now.plan rows }
+    ensures few { result ≤ MAX_JOBS }
+{
+    match rows {
+        Rows::Jobs => cell.job_count(),
+        Rows::Machines => cell.machine_count(),
+    }
+}
+
+/// The state of the job or the machine of this number.
+fn row<P: Planned>(cell: &WorkCell<P>, rows: Rows, number: u32) -> Standing
+    requires { number < row_count cell.now.plan rows }
+    ensures { result ≡ row cell.now.plan cell.now.cell rows number }
+{
+    match rows {
+        Rows::Jobs => cell.job_standing(number),
+        Rows::Machines => cell.machine_standing(number),
+    }
+}
+
+/// Writes the line of each job that isn't gone, or of each machine that is being cleaned.
+fn put_rows<P: Planned, W: Sink>(
     prefix: &[u8],
     cell: &WorkCell<P>,
+    rows: Rows,
     writer: &mut W,
 ) -> Result<(), WriteFault>
-    ensures wrote { WroteTo W.Sink result writer.old writer.new (machines_text prefix.now cell.now.plan cell.now.cell) }
+    ensures wrote { WroteTo W.Sink result writer.old writer.new (rows_text prefix.now cell.now.plan cell.now.cell rows) }
     ensures unfailed { OnOk result (W.failed writer.new ≡ W.failed writer.old) }
 {
-    for machine in 0..cell.machine_count() {
-        put_standing(prefix, cell.machine_standing(machine), writer)?;
+    for number in 0..row_count(cell, rows) {
+        put_standing(prefix, row(cell, rows, number), writer)?;
     }
     Ok(())
 }
@@ -110,8 +126,8 @@ fn put_under_way<P: Planned, W: Sink>(
         (jobs_text prefix.now cell.now.plan cell.now.cell ++ machines_text prefix.now cell.now.plan cell.now.cell) }
     ensures unfailed { OnOk result (W.failed writer.new ≡ W.failed writer.old) }
 {
-    put_jobs(prefix, cell, writer)?;
-    put_machines(prefix, cell, writer)
+    put_rows(prefix, cell, Rows::Jobs, writer)?;
+    put_rows(prefix, cell, Rows::Machines, writer)
 }
 
 /// Writes the state of the cell.
@@ -157,30 +173,20 @@ fn with_one(found: Option<Overdue>, standing: Standing, at: Moment) -> Option<Ov
     }
 }
 
-/// What is overdue of the jobs.
-fn jobs_overdue<P: Planned>(cell: &WorkCell<P>, at: Moment) -> Option<Overdue>
-    ensures found { result ≡ with_jobs cell.now.plan cell.now.cell at }
-    ensures few { count_of result ≤ MAX_JOBS }
-{
-    let mut found = None;
-    for job in 0..cell.job_count() {
-        found = with_one(found, cell.job_standing(job), at);
-    }
-    found
-}
-
-/// What is overdue, including what is overdue of the machines.
-fn machines_overdue<P: Planned>(
+/// What is overdue, with what is overdue of the jobs or of the machines.
+fn with_rows<P: Planned>(
     cell: &WorkCell<P>,
-    of_jobs: Option<Overdue>,
+    rows: Rows,
+    before: Option<Overdue>,
     at: Moment,
 ) -> Option<Overdue>
-    requires { count_of of_jobs ≤ MAX_JOBS }
-    ensures { result ≡ with_machines cell.now.plan cell.now.cell at of_jobs }
+    requires { count_of before ≤ MAX_JOBS }
+    ensures found { result ≡ with_rows cell.now.plan cell.now.cell at rows before }
+    ensures few { count_of result ≤ count_of before + MAX_JOBS }
 {
-    let mut found = of_jobs;
-    for machine in 0..cell.machine_count() {
-        found = with_one(found, cell.machine_standing(machine), at);
+    let mut found = before;
+    for number in 0..row_count(cell, rows) {
+        found = with_one(found, row(cell, rows, number), at);
     }
     found
 }
@@ -205,6 +211,6 @@ pub(crate) fn overdue_in<P: Planned>(
 ) -> Option<Overdue>
     ensures { result ≡ overdue_in cell.now.plan cell.now.cell own at }
 {
-    let found = machines_overdue(cell, jobs_overdue(cell, at), at);
-    own_first(found, own, at)
+    let of_jobs = with_rows(cell, Rows::Jobs, None, at);
+    own_first(with_rows(cell, Rows::Machines, of_jobs, at), own, at)
 }

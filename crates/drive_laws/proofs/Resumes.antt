@@ -38,7 +38,7 @@ use Rattle.cell_drive.specs.TakenUp.{TakenUp, CanBeTakenUp, IsTakenRun, IsTakenU
 use Rattle.cell_drive.specs.Retold.{retold_line, retold_lines}
 use Rattle.cell_drive.specs.Resuming.{again_text, again_of, driven_so_far, session_from, GoesOnFrom, IsRunToRest, AResumedTextIsALog, OneResumedText, WhatWasResumedIsSuchAText, AnAuditKeepsWhatWasResumed, WhatWasResumedGoesOn}
 use Rattle.cell_drive.specs.CutLaw.{IsTakenUpFrom, WhatWasDrivenIsTakenUp, WhatWasDrivenHasItsOrders, WhatWasResumedIsTakenUp, WhatWasResumedCanBeTakenUp}
-use Rattle.cell_drive.proofs.LogRoom.{events-orders}
+use Rattle.cell_drive.proofs.Parts.{events-orders}
 use Rattle.cell_drive.proofs.ShopEntries.{report_of_shop, order_of_shop}
 use Rattle.cell_drive.proofs.OneText.{IsOnCourse, one_closed, one_lines_text}
 use Rattle.cell_drive.proofs.ReadBack.{AreTold}

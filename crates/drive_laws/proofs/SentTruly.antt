@@ -23,7 +23,7 @@ use Rattle.cell_drive.specs.Resuming.{driven_so_far}
 use Rattle.cell_drive.specs.Stated.{AsksFor, RequestAnswer, StatedAnswers, IsClaimTaken}
 use Rattle.cell_drive.specs.StatedCells.{AsksCell}
 use Rattle.cell_drive.specs.StatedCellsLaw.{SeesLines, none_left, asked, passed_over}
-use Rattle.cell_drive.proofs.LogRoom.{events-orders}
+use Rattle.cell_drive.proofs.Parts.{events-orders}
 use Rattle.drive_laws.specs.FloorLaw.{Floor, TellTruth, AreRight, IsTruthful, SayTruth, SaysTruth, ADrivenCellOrdersRightly, ARunThatGoesOnOrdersRightly, EachCellOrdersRightly}
 use Rattle.drive_laws.proofs.TakenOnce.{tells_named}
 use Rattle.drive_laws.proofs.OrderedRightly.{nothing_is_ordered_wrongly}

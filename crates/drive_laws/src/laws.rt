@@ -26,6 +26,7 @@ pub use byte_streams::laws::the_limits_of_an_input_in_numbers;
 /// For a well-shaped plan, and in each manner in which a cell can be driven, an input has one answer text at most, which
 /// leads to one cell with one list of events; and so have its first lines. So what is written depends on the plan, the
 /// manner and the bytes of the input, and not on the pieces in which these come. What a session has answered is such a text.
+#[tactic(auto, using(crate::proofs::Laws::of_one_answer_text))]
 pub fn one_answer_text()
     ensures whole { OneAnswerText }
     ensures lines { OneTextForLines }
@@ -34,6 +35,7 @@ pub fn one_answer_text()
 
 /// The same of an input of several cells, each of an accepted plan, in each manner: one text at most, which leads to one
 /// list of what the cells hold.
+#[tactic(auto, using(crate::proofs::Laws::of_one_answer_text_of_cells))]
 pub fn one_answer_text_of_cells()
     ensures whole { OneStatedCellsText }
     ensures lines { OneStatedCellsTextForLines }
@@ -42,12 +44,14 @@ pub fn one_answer_text_of_cells()
 /// Let cells by accepted plans answer any lines. Each of them is then as with a controller alone that was made of its
 /// plan and given the reports on it that the lines have. These events are their controlled run, through which all
 /// stays as the plan promises, and which has ended exactly where as many reports were accepted as the stated number.
+#[tactic(auto, using(crate::proofs::CellsAlone::as_alone))]
 pub fn each_cell_is_as_alone()
     ensures { EachCellIsAsAlone }
 {}
 
 /// For a well-shaped plan the lines of an answer text, in any manner, record, in order, exactly the reports that were accepted and the
 /// moves that were ordered. These are a run of the plan, which leads to the cell at the end.
+#[tactic(auto, using(cell_drive::proofs::StatedTold::an_answer_text_is_a_log))]
 pub fn an_answer_text_is_a_log()
     ensures { AnAnswerTextIsALog }
 {}
@@ -55,6 +59,7 @@ pub fn an_answer_text_is_a_log()
 /// Let `drive` succeed, in any manner, into a writer whose bytes are known, and audit what it wrote against the same plan.
 /// The only fault of the audit is `Memory`. The audit finds the events of the log, how many reports were accepted and
 /// moves ordered, the last moment, and `complete` exactly if driving was `done`.
+#[tactic(auto, using(crate::proofs::AuditKeeps::an_audit_keeps_what_was_driven))]
 pub fn an_audit_keeps_what_was_driven()
     ensures { AnAuditKeepsWhatWasDriven }
 {}
@@ -62,6 +67,7 @@ pub fn an_audit_keeps_what_was_driven()
 /// Cut the log of a run after any number of bytes. The ended lines of what is left tell the first events of that run. So
 /// it is with what a cell has written in any manner, from the start of its run or from where that was taken up; and what was
 /// taken up can be taken up again by the same plan, wherever the line of its first event is out, or the plan is an accepted one.
+#[tactic(auto, using(crate::proofs::Laws::of_a_cut_log_is_taken_up))]
 pub fn a_cut_log_is_taken_up()
     ensures log { ACutLogIsTakenUp }
     ensures driven { WhatWasDrivenIsTakenUp }
@@ -72,6 +78,7 @@ pub fn a_cut_log_is_taken_up()
 /// Cut the log of a controlled run after any number of bytes, as one that `drive` writes in any manner. The events of its
 /// ended lines, with the orders that are due, are the first events of that run. By an accepted plan what is left can be
 /// taken up; and if no present moment is given, it is taken up with just these orders.
+#[tactic(auto, using(crate::proofs::Laws::of_a_cut_log_has_its_orders))]
 pub fn a_cut_log_has_its_orders()
     ensures log { ACutLogHasItsOrders }
     ensures driven { WhatWasDrivenHasItsOrders }
@@ -83,6 +90,7 @@ pub fn a_cut_log_has_its_orders()
 /// are written again, and then the orders that are due, are what `drive` answers to those lines. The mark between
 /// them isn't. So it is in each manner in which those lines are taken, where a cleaning may be reported by its job; but `done T`, which
 /// the manner may ask for at once behind the last order of a run, isn't written again.
+#[tactic(auto, using(crate::proofs::Laws::of_told_as_answered))]
 pub fn told_as_answered()
     ensures plain { ToldAsAnswered }
     ensures stated { ToldAsStated }
@@ -90,6 +98,7 @@ pub fn told_as_answered()
 
 /// For a well-shaped plan, and in each manner, an input has one text that answers it after what was taken up, which leads to
 /// one cell with one list of events. What `resume` writes, if it succeeds, is that text for what it read.
+#[tactic(auto, using(crate::proofs::Laws::of_one_resumed_text))]
 pub fn one_resumed_text()
     ensures one { OneResumedText }
     ensures resumed { WhatWasResumedIsSuchAText }
@@ -97,6 +106,7 @@ pub fn one_resumed_text()
 
 /// A log is taken up in one way: by a plan, and at a present moment, as one cell with one list of events, of which the same are
 /// told as late. So an input has one text that answers it from there, in each manner.
+#[tactic(auto, using(crate::proofs::Laws::of_one_taking_up))]
 pub fn one_taking_up()
     ensures one { OneTakingUp }
     ensures text { OneTextFromALog }
@@ -104,6 +114,7 @@ pub fn one_taking_up()
 
 /// Let a log tell no event, and be taken up without a present moment. What is written to answer an input is then an empty line
 /// and, behind that, what `drive` answers, in each manner.
+#[tactic(auto, using(crate::proofs::OneTaking::a_log_without_events_is_driven))]
 pub fn a_log_without_events_is_driven()
     ensures { ALogWithoutEventsIsDriven }
 {}
@@ -111,6 +122,7 @@ pub fn a_log_without_events_is_driven()
 /// What a run that was taken up writes is by itself a log of the whole run. Let `resume` succeed, into a writer whose bytes
 /// are known, and audit what it wrote against the same plan. The only fault of the audit is `Memory`. The audit finds the
 /// events of the log, and is complete exactly if driving was done.
+#[tactic(auto, using(crate::proofs::Laws::of_an_audit_keeps_what_was_resumed))]
 pub fn an_audit_keeps_what_was_resumed()
     ensures log { AResumedTextIsALog }
     ensures audit { AnAuditKeepsWhatWasResumed }
@@ -119,6 +131,7 @@ pub fn an_audit_keeps_what_was_resumed()
 /// After the events of its log, a run that was taken up is the controlled run that goes on from their cell, at the present
 /// moment. So each law of the rest of a run holds of it: it is never stuck, ends after exactly the reports that were left, and
 /// keeps to the moments kept for it.
+#[tactic(auto, using(crate::proofs::Resumes::what_was_resumed_goes_on))]
 pub fn what_was_resumed_goes_on()
     ensures { WhatWasResumedGoesOn }
 {}
@@ -128,6 +141,7 @@ pub fn what_was_resumed_goes_on()
 /// them, after each line and at the end. So by an accepted plan all stays as that promises, with its own budgets, as if the run
 /// had never been cut. Cut what is written after any number of bytes, and it has the orders that are due again, as the log had. So
 /// have any lines that tell the first events of the run, as those of a log file do.
+#[tactic(auto, using(crate::proofs::Laws::of_a_driven_run_goes_on_as_one))]
 pub fn a_driven_run_goes_on_as_one()
     ensures run { ADrivenRunGoesOnAsOne }
     ensures promised { ItStaysAsPromised }
@@ -140,12 +154,14 @@ pub fn a_driven_run_goes_on_as_one()
 /// Let cells by accepted plans answer any lines in a manner. Each of them answers what the lines ask of it as it would
 /// alone, whatever they ask of the others: these events are the controlled run of some reports, through which all stays
 /// as the plan promises, and which has ended exactly where as many reports were accepted as the stated number.
+#[tactic(auto, using(crate::proofs::StatedAlone::stated_alone))]
 pub fn each_stated_cell_is_alone()
     ensures { EachStatedCellIsAlone }
 {}
 
 /// In version 1 of the lines, and with no moment that leaps, each line is answered as `drive` answers it, and by several cells
 /// as `hub` answers it. In version 1 the events of a log are told again as ever.
+#[tactic(auto, using(crate::proofs::Laws::of_plainly_as_ever))]
 pub fn plainly_as_ever()
     ensures answered { PlainlyAsEver }
     ensures cells { PlainlyAsEverForCells }
@@ -159,6 +175,7 @@ pub fn plainly_as_ever()
 /// Whatever the lines are, in any manner, from the start or after a log: what version 1 answers to just the reports that were
 /// accepted leads to the same cell, with the same events. It is what was answered to the lines, without refusals and states, what
 /// stands after a late report's moment, and the `done` that comes at once. Each of several cells has the same events, too.
+#[tactic(auto, using(crate::proofs::Laws::of_version_2_only_adds))]
 pub fn version_2_only_adds()
     ensures answered { Version2OnlyAdds }
     ensures resumed { ResumingOnlyAdds }
@@ -171,6 +188,7 @@ pub fn version_2_only_adds()
 /// However often the lines of an arrival, of a finish or of a cleaning after a job are sent to a driven cell, and with
 /// whatever moments, it takes one of them at most. Once there is such a report in a run, it takes none: so in the run of each cell
 /// of a hub, and in one that was taken up from a log.
+#[tactic(auto, using(crate::proofs::Laws::of_nothing_is_taken_twice))]
 pub fn nothing_is_taken_twice()
     ensures driven { NothingIsTakenTwice }
     ensures run { NothingOfARunIsClaimedAgain }
@@ -184,6 +202,7 @@ pub fn nothing_is_taken_twice()
 /// each of these has ended, if there is one; and no later than at the moment of the order. So it is in any run whose reports tell
 /// what has ended, in one that was taken up from the log of such a run, and in each cell of a hub. That parts stand where they were
 /// ordered to is up to the floor.
+#[tactic(auto, using(crate::proofs::Laws::of_nothing_is_ordered_wrongly))]
 pub fn nothing_is_ordered_wrongly()
     ensures driven { ADrivenCellOrdersRightly }
     ensures run { NothingIsOrderedWrongly }
@@ -192,6 +211,7 @@ pub fn nothing_is_ordered_wrongly()
 {}
 
 /// A state has a line of each job that isn't gone and of each machine that is being cleaned, and no other.
+#[tactic(auto, using(crate::proofs::Laws::of_a_state_leaves_nothing_out))]
 pub fn a_state_leaves_nothing_out()
     ensures jobs { OnlyGoneJobsAreLeftOut }
     ensures machines { OnlyCleanMachinesAreLeftOut }
@@ -201,6 +221,7 @@ pub fn a_state_leaves_nothing_out()
 /// number of one of the first 99,999,999 lines, and of a late report. The numbers of jobs and machines have at most three
 /// digits, those of moments thirteen. So it is with the numbers that are told in any run of a well-shaped plan: of its jobs and
 /// machines, of refusals, and of what is overdue. No input has a line of a higher number.
+#[tactic(auto, using(crate::proofs::Laws::of_lines_of_version_2_are_short))]
 pub fn lines_of_version_2_are_short()
     ensures states { StateLinesAreShort }
     ensures refusals { RefusalsAreShort }
@@ -212,12 +233,14 @@ pub fn lines_of_version_2_are_short()
 {}
 
 /// A late report finds something overdue, its own activity or another: so its line always says what.
+#[tactic(auto, using(crate::proofs::LateWords::late_finds_overdue))]
 pub fn a_late_report_finds_something_overdue()
     ensures { ALateReportFindsSomethingOverdue }
 {}
 
 /// Let the longest time that may pass be no shorter than any release, nominal time and cleaning time of the plan. In a run of
 /// that, whatever is possible and punctual is taken: no punctual report is refused as a leap.
+#[tactic(auto, using(crate::proofs::NoLeap::no_punctual_report_leaps))]
 pub fn no_punctual_report_leaps()
     ensures { NoPunctualReportLeaps }
 {}

@@ -1,17 +1,30 @@
-use Rattle.std.proofs.Common.{refl}
-use Rattle.std.proofs.KnownBytes.{Appends-nil}
+use Rattle.std.proofs.Common.{Bool, subst, sym}
 use Rattle.byte_streams.specs.Lent.{taker_of}
-use Rattle.cell_drive.specs.Stated.{AsksFor, CellRequests}
-use Rattle.cell_drive.specs.Session.{seen, session_by}
-use Rattle.cell_drive.proofs.LineAnswers.{no_bytes, some_bytes, was_answered, empty_line}
-use Rattle.cell_drive.proofs.Sessions.{unchanged}
+use Rattle.event_lines.specs.declared.requests.Claim.TheVariants.{Report}
+use Rattle.event_lines.specs.declared.requests.Request.TheVariants.{Claim}
+use Rattle.cell_drive.specs.Stated.{AsksFor}
+use Rattle.cell_drive.specs.Session.{AnsweredBy, AnswersRequest}
+use Rattle.cell_drive.proofs.LineAnswers.{of_texts, some_bytes}
 use Rattle.cell_drive.proofs.session.answer_line.Goals as goal
 
-pub returns-then-is_empty-clause-answered : goal.returns-then-is_empty-clause-answered
-returns-then-is_empty-clause-answered g c =
-    let s = session_by c.args.manner c.args.controller.now c.args.log.now in
-    was_answered _ _ _ (taker_of g.W.Sink c.args.writer.now) (taker_of g.W.Sink c.args.writer.now)
-    (unchanged s c.args.number _ _ (empty_line (AsksFor s.manner.tells) (CellRequests s.control.planned s.manner) (seen s) c.args.number _ (no_bytes _ _ c.is_empty.ensures c.if-is_empty.true))) (Appends-nil _) refl
+pub returns-then-manner-clause-answered : goal.returns-then-manner-clause-answered
+returns-then-manner-clause-answered g c =
+    let call = c.answer_request in
+    let v = c.args.controller.now in
+    let log = c.args.log.now in
+    let line = c.args.line.now in
+    let request = c.in-Some.request in
+    of_texts (AnswersRequest c.args.manner v log c.args.number request call.new.controller call.new.log) (AnsweredBy c.args.manner v log c.args.number line call.new.controller call.new.log)
+    call.result (taker_of g.W.Sink c.args.writer.now) (taker_of g.W.Sink call.new.writer)
+    (λ text so. so line (some_bytes _ _ c.is_empty.ensures c.if-is_empty.false) (subst (λ (tells : Bool). AsksFor tells line request) (sym c.if-manner.true) c.in-Some.ensures)) call.ensures.answered
 
-pub answer_told-requires-clause-told : goal.answer_told-requires-clause-told
-answer_told-requires-clause-told g c = some_bytes _ _ c.is_empty.ensures c.if-is_empty.false
+pub returns-clause-answered : goal.returns-clause-answered
+returns-clause-answered g c =
+    let call = c.answer_request-2 in
+    let v = c.args.controller.now in
+    let log = c.args.log.now in
+    let line = c.args.line.now in
+    let request = Claim (Report c.in-Some-report_of.report) in
+    of_texts (AnswersRequest c.args.manner v log c.args.number request call.new.controller call.new.log) (AnsweredBy c.args.manner v log c.args.number line call.new.controller call.new.log)
+    call.result (taker_of g.W.Sink c.args.writer.now) (taker_of g.W.Sink call.new.writer)
+    (λ text so. so line (some_bytes _ _ c.is_empty.ensures c.if-is_empty.false) (subst (λ (tells : Bool). AsksFor tells line request) (sym c.if-manner.false) c.in-Some-report_of.ensures)) call.ensures.answered

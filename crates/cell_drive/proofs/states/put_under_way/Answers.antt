@@ -2,10 +2,10 @@ use Rattle.std.proofs.lemmas.Result.{err_from_is_err_and}
 use Rattle.cell_drive.proofs.CellTexts.{wrote_next, took_first}
 use Rattle.cell_drive.proofs.states.put_under_way.Goals as goal
 
-pub returns-in_err-put_jobs-clause-wrote : goal.returns-in_err-put_jobs-clause-wrote
-returns-in_err-put_jobs-clause-wrote g c =
+pub returns-in_err-put_rows-clause-wrote : goal.returns-in_err-put_rows-clause-wrote
+returns-in_err-put_rows-clause-wrote g c =
     let p = err_from_is_err_and c.from_residual.result c.from_residual.ensures.1 in
-    rw p.1 (c.in_err-put_jobs.ensures.wrote.0, took_first _ _ _ _ c.in_err-put_jobs.ensures.wrote.1)
+    rw p.1 (c.in_err-put_rows.ensures.wrote.0, took_first _ _ _ _ c.in_err-put_rows.ensures.wrote.1)
 
 pub returns-clause-wrote : goal.returns-clause-wrote
-returns-clause-wrote g c = wrote_next c.put_machines.result _ _ _ _ _ _ c.in_ok-put_jobs.ensures.wrote c.put_machines.ensures.wrote
+returns-clause-wrote g c = wrote_next c.put_rows-2.result _ _ _ _ _ _ c.in_ok-put_rows.ensures.wrote c.put_rows-2.ensures.wrote
