@@ -24,4 +24,4 @@ pub mod ShortNumbers
 pub mod SameReports
 pub mod ReportLines
 pub mod GoneOnAsOne
-pub mod Laws
+pub mod LawProofs

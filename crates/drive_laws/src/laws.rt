@@ -26,7 +26,7 @@ pub use byte_streams::laws::the_limits_of_an_input_in_numbers;
 /// For a well-shaped plan, and in each manner in which a cell can be driven, an input has one answer text at most, which
 /// leads to one cell with one list of events; and so have its first lines. So what is written depends on the plan, the
 /// manner and the bytes of the input, and not on the pieces in which these come. What a session has answered is such a text.
-#[tactic(auto, using(crate::proofs::Laws::of_one_answer_text))]
+#[tactic(auto, using(crate::proofs::LawProofs::of_one_answer_text))]
 pub fn one_answer_text()
     ensures whole { OneAnswerText }
     ensures lines { OneTextForLines }
@@ -35,7 +35,7 @@ pub fn one_answer_text()
 
 /// The same of an input of several cells, each of an accepted plan, in each manner: one text at most, which leads to one
 /// list of what the cells hold.
-#[tactic(auto, using(crate::proofs::Laws::of_one_answer_text_of_cells))]
+#[tactic(auto, using(crate::proofs::LawProofs::of_one_answer_text_of_cells))]
 pub fn one_answer_text_of_cells()
     ensures whole { OneStatedCellsText }
     ensures lines { OneStatedCellsTextForLines }
@@ -67,7 +67,7 @@ pub fn an_audit_keeps_what_was_driven()
 /// Cut the log of a run after any number of bytes. The ended lines of what is left tell the first events of that run. So
 /// it is with what a cell has written in any manner, from the start of its run or from where that was taken up; and what was
 /// taken up can be taken up again by the same plan, wherever the line of its first event is out, or the plan is an accepted one.
-#[tactic(auto, using(crate::proofs::Laws::of_a_cut_log_is_taken_up))]
+#[tactic(auto, using(crate::proofs::LawProofs::of_a_cut_log_is_taken_up))]
 pub fn a_cut_log_is_taken_up()
     ensures log { ACutLogIsTakenUp }
     ensures driven { WhatWasDrivenIsTakenUp }
@@ -78,7 +78,7 @@ pub fn a_cut_log_is_taken_up()
 /// Cut the log of a controlled run after any number of bytes, as one that `drive` writes in any manner. The events of its
 /// ended lines, with the orders that are due, are the first events of that run. By an accepted plan what is left can be
 /// taken up; and if no present moment is given, it is taken up with just these orders.
-#[tactic(auto, using(crate::proofs::Laws::of_a_cut_log_has_its_orders))]
+#[tactic(auto, using(crate::proofs::LawProofs::of_a_cut_log_has_its_orders))]
 pub fn a_cut_log_has_its_orders()
     ensures log { ACutLogHasItsOrders }
     ensures driven { WhatWasDrivenHasItsOrders }
@@ -90,7 +90,7 @@ pub fn a_cut_log_has_its_orders()
 /// are written again, and then the orders that are due, are what `drive` answers to those lines. The mark between
 /// them isn't. So it is in each manner in which those lines are taken, where a cleaning may be reported by its job; but `done T`, which
 /// the manner may ask for at once behind the last order of a run, isn't written again.
-#[tactic(auto, using(crate::proofs::Laws::of_told_as_answered))]
+#[tactic(auto, using(crate::proofs::LawProofs::of_told_as_answered))]
 pub fn told_as_answered()
     ensures plain { ToldAsAnswered }
     ensures stated { ToldAsStated }
@@ -98,7 +98,7 @@ pub fn told_as_answered()
 
 /// For a well-shaped plan, and in each manner, an input has one text that answers it after what was taken up, which leads to
 /// one cell with one list of events. What `resume` writes, if it succeeds, is that text for what it read.
-#[tactic(auto, using(crate::proofs::Laws::of_one_resumed_text))]
+#[tactic(auto, using(crate::proofs::LawProofs::of_one_resumed_text))]
 pub fn one_resumed_text()
     ensures one { OneResumedText }
     ensures resumed { WhatWasResumedIsSuchAText }
@@ -106,7 +106,7 @@ pub fn one_resumed_text()
 
 /// A log is taken up in one way: by a plan, and at a present moment, as one cell with one list of events, of which the same are
 /// told as late. So an input has one text that answers it from there, in each manner.
-#[tactic(auto, using(crate::proofs::Laws::of_one_taking_up))]
+#[tactic(auto, using(crate::proofs::LawProofs::of_one_taking_up))]
 pub fn one_taking_up()
     ensures one { OneTakingUp }
     ensures text { OneTextFromALog }
@@ -122,7 +122,7 @@ pub fn a_log_without_events_is_driven()
 /// What a run that was taken up writes is by itself a log of the whole run. Let `resume` succeed, into a writer whose bytes
 /// are known, and audit what it wrote against the same plan. The only fault of the audit is `Memory`. The audit finds the
 /// events of the log, and is complete exactly if driving was done.
-#[tactic(auto, using(crate::proofs::Laws::of_an_audit_keeps_what_was_resumed))]
+#[tactic(auto, using(crate::proofs::LawProofs::of_an_audit_keeps_what_was_resumed))]
 pub fn an_audit_keeps_what_was_resumed()
     ensures log { AResumedTextIsALog }
     ensures audit { AnAuditKeepsWhatWasResumed }
@@ -141,7 +141,7 @@ pub fn what_was_resumed_goes_on()
 /// them, after each line and at the end. So by an accepted plan all stays as that promises, with its own budgets, as if the run
 /// had never been cut. Cut what is written after any number of bytes, and it has the orders that are due again, as the log had. So
 /// have any lines that tell the first events of the run, as those of a log file do.
-#[tactic(auto, using(crate::proofs::Laws::of_a_driven_run_goes_on_as_one))]
+#[tactic(auto, using(crate::proofs::LawProofs::of_a_driven_run_goes_on_as_one))]
 pub fn a_driven_run_goes_on_as_one()
     ensures run { ADrivenRunGoesOnAsOne }
     ensures promised { ItStaysAsPromised }
@@ -161,7 +161,7 @@ pub fn each_stated_cell_is_alone()
 
 /// In version 1 of the lines, and with no moment that leaps, each line is answered as `drive` answers it, and by several cells
 /// as `hub` answers it. In version 1 the events of a log are told again as ever.
-#[tactic(auto, using(crate::proofs::Laws::of_plainly_as_ever))]
+#[tactic(auto, using(crate::proofs::LawProofs::of_plainly_as_ever))]
 pub fn plainly_as_ever()
     ensures answered { PlainlyAsEver }
     ensures cells { PlainlyAsEverForCells }
@@ -175,7 +175,7 @@ pub fn plainly_as_ever()
 /// Whatever the lines are, in any manner, from the start or after a log: what version 1 answers to just the reports that were
 /// accepted leads to the same cell, with the same events. It is what was answered to the lines, without refusals and states, what
 /// stands after a late report's moment, and the `done` that comes at once. Each of several cells has the same events, too.
-#[tactic(auto, using(crate::proofs::Laws::of_version_2_only_adds))]
+#[tactic(auto, using(crate::proofs::LawProofs::of_version_2_only_adds))]
 pub fn version_2_only_adds()
     ensures answered { Version2OnlyAdds }
     ensures resumed { ResumingOnlyAdds }
@@ -188,7 +188,7 @@ pub fn version_2_only_adds()
 /// However often the lines of an arrival, of a finish or of a cleaning after a job are sent to a driven cell, and with
 /// whatever moments, it takes one of them at most. Once there is such a report in a run, it takes none: so in the run of each cell
 /// of a hub, and in one that was taken up from a log.
-#[tactic(auto, using(crate::proofs::Laws::of_nothing_is_taken_twice))]
+#[tactic(auto, using(crate::proofs::LawProofs::of_nothing_is_taken_twice))]
 pub fn nothing_is_taken_twice()
     ensures driven { NothingIsTakenTwice }
     ensures run { NothingOfARunIsClaimedAgain }
@@ -202,7 +202,7 @@ pub fn nothing_is_taken_twice()
 /// each of these has ended, if there is one; and no later than at the moment of the order. So it is in any run whose reports tell
 /// what has ended, in one that was taken up from the log of such a run, and in each cell of a hub. That parts stand where they were
 /// ordered to is up to the floor.
-#[tactic(auto, using(crate::proofs::Laws::of_nothing_is_ordered_wrongly))]
+#[tactic(auto, using(crate::proofs::LawProofs::of_nothing_is_ordered_wrongly))]
 pub fn nothing_is_ordered_wrongly()
     ensures driven { ADrivenCellOrdersRightly }
     ensures run { NothingIsOrderedWrongly }
@@ -211,7 +211,7 @@ pub fn nothing_is_ordered_wrongly()
 {}
 
 /// A state has a line of each job that isn't gone and of each machine that is being cleaned, and no other.
-#[tactic(auto, using(crate::proofs::Laws::of_a_state_leaves_nothing_out))]
+#[tactic(auto, using(crate::proofs::LawProofs::of_a_state_leaves_nothing_out))]
 pub fn a_state_leaves_nothing_out()
     ensures jobs { OnlyGoneJobsAreLeftOut }
     ensures machines { OnlyCleanMachinesAreLeftOut }
@@ -221,7 +221,7 @@ pub fn a_state_leaves_nothing_out()
 /// number of one of the first 99,999,999 lines, and of a late report. The numbers of jobs and machines have at most three
 /// digits, those of moments thirteen. So it is with the numbers that are told in any run of a well-shaped plan: of its jobs and
 /// machines, of refusals, and of what is overdue. No input has a line of a higher number.
-#[tactic(auto, using(crate::proofs::Laws::of_lines_of_version_2_are_short))]
+#[tactic(auto, using(crate::proofs::LawProofs::of_lines_of_version_2_are_short))]
 pub fn lines_of_version_2_are_short()
     ensures states { StateLinesAreShort }
     ensures refusals { RefusalsAreShort }
