@@ -35,7 +35,6 @@ pub fn one_answer_text()
 
 /// The same of an input of several cells, each of an accepted plan, in each manner: one text at most, which leads to one
 /// list of what the cells hold.
-#[tactic(auto, using(crate::proofs::LawProofs::of_one_answer_text_of_cells))]
 pub fn one_answer_text_of_cells()
     ensures whole { OneStatedCellsText }
     ensures lines { OneStatedCellsTextForLines }
@@ -51,7 +50,6 @@ pub fn each_cell_is_as_alone()
 
 /// For a well-shaped plan the lines of an answer text, in any manner, record, in order, exactly the reports that were accepted and the
 /// moves that were ordered. These are a run of the plan, which leads to the cell at the end.
-#[tactic(auto, using(cell_drive::proofs::StatedTold::an_answer_text_is_a_log))]
 pub fn an_answer_text_is_a_log()
     ensures { AnAnswerTextIsALog }
 {}
@@ -59,7 +57,6 @@ pub fn an_answer_text_is_a_log()
 /// Let `drive` succeed, in any manner, into a writer whose bytes are known, and audit what it wrote against the same plan.
 /// The only fault of the audit is `Memory`. The audit finds the events of the log, how many reports were accepted and
 /// moves ordered, the last moment, and `complete` exactly if driving was `done`.
-#[tactic(auto, using(crate::proofs::AuditKeeps::an_audit_keeps_what_was_driven))]
 pub fn an_audit_keeps_what_was_driven()
     ensures { AnAuditKeepsWhatWasDriven }
 {}
@@ -67,7 +64,6 @@ pub fn an_audit_keeps_what_was_driven()
 /// Cut the log of a run after any number of bytes. The ended lines of what is left tell the first events of that run. So
 /// it is with what a cell has written in any manner, from the start of its run or from where that was taken up; and what was
 /// taken up can be taken up again by the same plan, wherever the line of its first event is out, or the plan is an accepted one.
-#[tactic(auto, using(crate::proofs::LawProofs::of_a_cut_log_is_taken_up))]
 pub fn a_cut_log_is_taken_up()
     ensures log { ACutLogIsTakenUp }
     ensures driven { WhatWasDrivenIsTakenUp }
@@ -90,7 +86,6 @@ pub fn a_cut_log_has_its_orders()
 /// are written again, and then the orders that are due, are what `drive` answers to those lines. The mark between
 /// them isn't. So it is in each manner in which those lines are taken, where a cleaning may be reported by its job; but `done T`, which
 /// the manner may ask for at once behind the last order of a run, isn't written again.
-#[tactic(auto, using(crate::proofs::LawProofs::of_told_as_answered))]
 pub fn told_as_answered()
     ensures plain { ToldAsAnswered }
     ensures stated { ToldAsStated }
@@ -98,7 +93,6 @@ pub fn told_as_answered()
 
 /// For a well-shaped plan, and in each manner, an input has one text that answers it after what was taken up, which leads to
 /// one cell with one list of events. What `resume` writes, if it succeeds, is that text for what it read.
-#[tactic(auto, using(crate::proofs::LawProofs::of_one_resumed_text))]
 pub fn one_resumed_text()
     ensures one { OneResumedText }
     ensures resumed { WhatWasResumedIsSuchAText }
@@ -106,7 +100,6 @@ pub fn one_resumed_text()
 
 /// A log is taken up in one way: by a plan, and at a present moment, as one cell with one list of events, of which the same are
 /// told as late. So an input has one text that answers it from there, in each manner.
-#[tactic(auto, using(crate::proofs::LawProofs::of_one_taking_up))]
 pub fn one_taking_up()
     ensures one { OneTakingUp }
     ensures text { OneTextFromALog }
@@ -114,7 +107,6 @@ pub fn one_taking_up()
 
 /// Let a log tell no event, and be taken up without a present moment. What is written to answer an input is then an empty line
 /// and, behind that, what `drive` answers, in each manner.
-#[tactic(auto, using(crate::proofs::OneTaking::a_log_without_events_is_driven))]
 pub fn a_log_without_events_is_driven()
     ensures { ALogWithoutEventsIsDriven }
 {}
@@ -122,7 +114,6 @@ pub fn a_log_without_events_is_driven()
 /// What a run that was taken up writes is by itself a log of the whole run. Let `resume` succeed, into a writer whose bytes
 /// are known, and audit what it wrote against the same plan. The only fault of the audit is `Memory`. The audit finds the
 /// events of the log, and is complete exactly if driving was done.
-#[tactic(auto, using(crate::proofs::LawProofs::of_an_audit_keeps_what_was_resumed))]
 pub fn an_audit_keeps_what_was_resumed()
     ensures log { AResumedTextIsALog }
     ensures audit { AnAuditKeepsWhatWasResumed }
@@ -131,7 +122,6 @@ pub fn an_audit_keeps_what_was_resumed()
 /// After the events of its log, a run that was taken up is the controlled run that goes on from their cell, at the present
 /// moment. So each law of the rest of a run holds of it: it is never stuck, ends after exactly the reports that were left, and
 /// keeps to the moments kept for it.
-#[tactic(auto, using(crate::proofs::Resumes::what_was_resumed_goes_on))]
 pub fn what_was_resumed_goes_on()
     ensures { WhatWasResumedGoesOn }
 {}
@@ -141,7 +131,6 @@ pub fn what_was_resumed_goes_on()
 /// them, after each line and at the end. So by an accepted plan all stays as that promises, with its own budgets, as if the run
 /// had never been cut. Cut what is written after any number of bytes, and it has the orders that are due again, as the log had. So
 /// have any lines that tell the first events of the run, as those of a log file do.
-#[tactic(auto, using(crate::proofs::LawProofs::of_a_driven_run_goes_on_as_one))]
 pub fn a_driven_run_goes_on_as_one()
     ensures run { ADrivenRunGoesOnAsOne }
     ensures promised { ItStaysAsPromised }
@@ -175,7 +164,6 @@ pub fn plainly_as_ever()
 /// Whatever the lines are, in any manner, from the start or after a log: what version 1 answers to just the reports that were
 /// accepted leads to the same cell, with the same events. It is what was answered to the lines, without refusals and states, what
 /// stands after a late report's moment, and the `done` that comes at once. Each of several cells has the same events, too.
-#[tactic(auto, using(crate::proofs::LawProofs::of_version_2_only_adds))]
 pub fn version_2_only_adds()
     ensures answered { Version2OnlyAdds }
     ensures resumed { ResumingOnlyAdds }
@@ -188,7 +176,6 @@ pub fn version_2_only_adds()
 /// However often the lines of an arrival, of a finish or of a cleaning after a job are sent to a driven cell, and with
 /// whatever moments, it takes one of them at most. Once there is such a report in a run, it takes none: so in the run of each cell
 /// of a hub, and in one that was taken up from a log.
-#[tactic(auto, using(crate::proofs::LawProofs::of_nothing_is_taken_twice))]
 pub fn nothing_is_taken_twice()
     ensures driven { NothingIsTakenTwice }
     ensures run { NothingOfARunIsClaimedAgain }
