@@ -1,15 +1,10 @@
 -- What is to be accepted: no moment that is kept is exceeded by a path, and those of the leavings meet the budgets.
 use Rattle.std.proofs.Common.{ℕ, ◌+◌, ◌<◌, ◌≤◌, List, length, arith}
 use Rattle.std.proofs.lemmas.List.{length_push}
-use Rattle.shop_base.specs.declared.node.Node.{Node}
-use Rattle.shop_base.specs.Plan.{PlannedShop, jobs, budget}
-use Rattle.shop_base.specs.Cell.{Cell}
-use Rattle.shop_base.specs.Graph.{IsNode, leaving, RanksRise}
-use Rattle.shop_base.specs.Ahead.{MeetBudgetsAhead, PathAhead}
+use Rattle.shop_base.specs.{declared.node.Node.Node, Plan.{PlannedShop, jobs, budget}, Cell.Cell}
+use Rattle.shop_base.specs.{Graph.{IsNode, leaving, RanksRise}, Ahead.{MeetBudgetsAhead, PathAhead}}
 use Rattle.shop_base.proofs.Cycles.{ranks_exclude_cycle}
-use Rattle.alt_graph.specs.Bounds.{NodeBounds, PathFrom, begins_at, goes_along}
-use Rattle.alt_graph.specs.Evidence.{node_count}
-use Rattle.alt_graph.specs.Solved.{HasCycle}
+use Rattle.alt_graph.specs.{Bounds.{NodeBounds, PathFrom, begins_at, goes_along}, Evidence.node_count, Solved.HasCycle}
 use Rattle.alt_graph.specs.Times.{NodeTimes, rank_of, AreTimesFrom, IsPathFromBy}
 use Rattle.plan_verifier.specs.RestVerdicts.{IsAcceptableAhead}
 

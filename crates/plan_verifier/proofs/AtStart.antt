@@ -1,30 +1,19 @@
 -- What is ahead of the start from moment 0 on is the whole plan: its greatest lengths, its leavings, its times and the verdict on it.
 use Rattle.std.proofs.Common.{◌≡◌, ℕ, ◌<◌, ◌≤◌, List, [], ◌∷◌, None, inl, arith, sym, ap, subst, ◌∙◌}
-use Rattle.shop_base.specs.declared.node.Node.{Node}
-use Rattle.shop_base.specs.Plan.{PlannedShop, jobs, IsWellShaped}
-use Rattle.shop_base.specs.Cell.{MachineState, cleaning, start, IsGone}
-use Rattle.shop_base.specs.Report.{IsNextMoment}
-use Rattle.shop_base.specs.Graph.{leaving, Path}
-use Rattle.shop_base.specs.Ahead.{PathAhead}
-use Rattle.shop_base.specs.AheadLaw.{TheStartIsACase}
-use Rattle.shop_base.proofs.InShop.{start_unused}
-use Rattle.shop_base.proofs.Keeping.{start-made}
-use Rattle.shop_base.proofs.StartAhead.{the_start_is_a_case-holds}
+use Rattle.shop_base.specs.{declared.node.Node.Node, Plan.{PlannedShop, jobs, IsWellShaped}}
+use Rattle.shop_base.specs.{Cell.{MachineState, cleaning, start, IsGone}, Report.IsNextMoment, Graph.{leaving, Path}}
+use Rattle.shop_base.specs.{Ahead.PathAhead, AheadLaw.TheStartIsACase}
+use Rattle.shop_base.proofs.{InShop.start_unused, Keeping.start-made, StartAhead.the_start_is_a_case-holds}
 use Rattle.alt_graph.specs.Times.{NodeTimes, rank_of, earliest_of, AreOrdered}
-use Rattle.alt_graph.proofs.Paths.{path_begins, path_some}
-use Rattle.alt_graph.proofs.WholePlans.{times_ranks, path_by}
-use Rattle.plan_verifier.specs.Accepted.{IsVerified, IsGreatest}
-use Rattle.plan_verifier.specs.Held.{BeginHeldUp}
-use Rattle.plan_verifier.specs.Leavings.{AreLeavings, AreLeavingsAhead}
-use Rattle.plan_verifier.specs.Rest.{AreOrderedAhead, IsGreatestAhead}
-use Rattle.plan_verifier.specs.RestVerdicts.{IsFirstLateAhead, IsAcceptedAhead, IsReasonAhead}
-use Rattle.plan_verifier.specs.Seen.{judged, as_rest}
+use Rattle.alt_graph.proofs.{Paths.{path_begins, path_some}, WholePlans.{times_ranks, path_by}}
+use Rattle.plan_verifier.specs.{Accepted.{IsVerified, IsGreatest}, Held.BeginHeldUp}
+use Rattle.plan_verifier.specs.{Leavings.{AreLeavings, AreLeavingsAhead}, Rest.{AreOrderedAhead, IsGreatestAhead}}
+use Rattle.plan_verifier.specs.{RestVerdicts.{IsFirstLateAhead, IsAcceptedAhead, IsReasonAhead}, Seen.{judged, as_rest}}
 use Rattle.plan_verifier.specs.Verdicts.{IsFirstLate, IsReason, OnAccepted, OnRefused}
 use Rattle.plan_verifier.specs.declared.verdict.Verdict.{Verdict}
 use Rattle.plan_verifier.specs.declared.verdict.Verdict.TheVariants.{Accepted, Refused}
 use Rattle.plan_verifier.specs.declared.verdict.Why.TheVariants.{Cycle, Late}
-use Rattle.plan_verifier.proofs.Acceptable.{acceptable_ahead}
-use Rattle.plan_verifier.proofs.PathsAhead.{along_greatest}
+use Rattle.plan_verifier.proofs.{Acceptable.acceptable_ahead, PathsAhead.along_greatest}
 
 -- moment 0 can be the next moment of the start
 pub at_once : (p : PlannedShop) → IsNextMoment (start p) 0

@@ -1,26 +1,16 @@
 -- What is judged from the bounds of a whole plan is the verdict on it, and from those of a cell that on the rest of its run.
 use Rattle.std.proofs.Common.{ℕ, ◌<◌, ◌≤◌, arith}
-use Rattle.shop_base.specs.Plan.{PlannedShop, jobs, steps, IsWellShaped}
-use Rattle.shop_base.specs.Cell.{Cell, made, IsGone}
-use Rattle.shop_base.specs.Sound.{IsSound}
-use Rattle.shop_base.specs.Graph.{leaving, MeetBudgets}
-use Rattle.shop_base.specs.Ahead.{MeetBudgetsAhead}
-use Rattle.alt_graph.specs.Bounds.{IsAheadOf, whole}
-use Rattle.alt_graph.specs.Times.{rank_of, earliest_of, AreOrdered}
+use Rattle.shop_base.specs.{Plan.{PlannedShop, jobs, steps, IsWellShaped}, Cell.{Cell, made, IsGone}, Sound.IsSound}
+use Rattle.shop_base.specs.{Graph.{leaving, MeetBudgets}, Ahead.MeetBudgetsAhead}
+use Rattle.alt_graph.specs.{Bounds.{IsAheadOf, whole}, Times.{rank_of, earliest_of, AreOrdered}}
 use Rattle.alt_graph.proofs.WholePlans.{ordered_to, path_by, whole_ahead}
-use Rattle.plan_verifier.specs.declared.verdict.Judged.{Judged}
-use Rattle.plan_verifier.specs.declared.verdict.Judged.TheVariants.{Accepted, Refused}
-use Rattle.plan_verifier.specs.declared.verdict.Why.TheVariants.{Cycle, Late}
-use Rattle.plan_verifier.specs.CellBounds.{rest_bounds}
-use Rattle.plan_verifier.specs.FromBounds.{IsJudgedFrom, IsJudgedWhole}
-use Rattle.plan_verifier.specs.Rest.{AreOrderedAhead}
+use Rattle.plan_verifier.specs.{declared.verdict.Judged.Judged, declared.verdict.Judged.TheVariants.{Accepted, Refused}}
+use Rattle.plan_verifier.specs.{declared.verdict.Why.TheVariants.{Cycle, Late}, CellBounds.rest_bounds}
+use Rattle.plan_verifier.specs.{FromBounds.{IsJudgedFrom, IsJudgedWhole}, Rest.AreOrderedAhead}
 use Rattle.plan_verifier.specs.RestVerdicts.{IsAcceptedAhead, IsReasonAhead}
-use Rattle.plan_verifier.proofs.Tables.{ahead_of, of_ahead}
-use Rattle.plan_verifier.proofs.Rests.{ordered_ahead}
-use Rattle.plan_verifier.proofs.GoingOn.{leaving_ahead}
+use Rattle.plan_verifier.proofs.{Tables.{ahead_of, of_ahead}, Rests.ordered_ahead, GoingOn.leaving_ahead}
 use Rattle.plan_verifier.proofs.Acceptable.{leaving_node, acceptable_ahead, chain_few}
-use Rattle.plan_verifier.proofs.Verdicts.{first_late as first_late_rest}
-use Rattle.plan_verifier.proofs.Reasons.{acceptable, first_late}
+use Rattle.plan_verifier.proofs.{Verdicts.{first_late as first_late_rest}, Reasons.{acceptable, first_late}}
 
 pub judged_whole : (p : PlannedShop) → IsWellShaped p → (judged : Judged) → IsJudgedFrom p (whole p) judged → IsJudgedWhole p judged
 judged_whole p shaped (Accepted times) (ordered, meets) =

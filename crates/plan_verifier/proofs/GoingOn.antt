@@ -1,30 +1,22 @@
 -- What holds of every run that goes on from a cell whose rest has ranks and earliest moments.
 use Rattle.std.proofs.Common.{◌≡◌, ℕ, ◌<◌, ◌≤◌, List, ◌++◌, arith, sym, subst, inl, inr}
 use Rattle.std.proofs.lemmas.Bool.{cases_lt}
-use Rattle.shop_base.specs.declared.node.Node.{Node}
-use Rattle.shop_base.specs.declared.report.Report.{Report}
-use Rattle.shop_base.specs.Plan.{PlannedShop, jobs, steps, budget, IsWellShaped}
-use Rattle.shop_base.specs.Cell.{Cell, made, since, IsGone}
-use Rattle.shop_base.specs.Report.{IsNextMoment}
-use Rattle.shop_base.specs.Run.{Event, IsRun, ends_in}
-use Rattle.shop_base.specs.Graph.{leaving, IsSimpleCycle}
+use Rattle.shop_base.specs.{declared.node.Node.Node, declared.report.Report.Report}
+use Rattle.shop_base.specs.{Plan.{PlannedShop, jobs, steps, budget, IsWellShaped}, Cell.{Cell, made, since, IsGone}}
+use Rattle.shop_base.specs.{Report.IsNextMoment, Run.{Event, IsRun, ends_in}, Graph.{leaving, IsSimpleCycle}}
 use Rattle.shop_base.specs.KeptMoments.{KeepsMoments, KeepsLeaving}
 use Rattle.shop_base.specs.Ahead.{IsAhead, MeetBudgetsAhead, MomentsFitAhead, PathAhead, IsScheduleAhead, GoesOnTo}
-use Rattle.shop_base.specs.Deadlines.{AreDeadlines}
-use Rattle.shop_base.specs.Sound.{IsSound}
-use Rattle.shop_base.proofs.InTime.{path_kept}
-use Rattle.shop_base.proofs.Keeping.{run-sound}
+use Rattle.shop_base.specs.{Deadlines.AreDeadlines, Sound.IsSound}
+use Rattle.shop_base.proofs.{InTime.path_kept, Keeping.run-sound}
 use Rattle.shop_base.proofs.GoingOn.{never_stuck_from_there-holds, ends_on_the_reports_left-holds, a_cycle_stops_every_continuation-holds}
 use Rattle.shop_base.proofs.Within.{in_time_within-holds, each_move_is_in_time-holds, in_time_from_there-holds, just_in_time_from_there-holds, fit-can_be_kept}
 use Rattle.shop_base.proofs.SomeExact.{some_continuation_is_exact-holds}
 use Rattle.shop_base.proofs.Deadlines.{deadlines_are_the_latest-holds, no_deadline_is_too_early-holds, in_time_by_deadlines-holds, the_rest_stays_accepted-holds, all_out_by_deadlines-holds, deadlines_stay-holds}
 use Rattle.alt_graph.specs.Times.{NodeTimes, rank_of, earliest_of}
 use Rattle.plan_verifier.specs.FromThere.{IsNeverStuckFrom, IsInTimeFrom, IsNeverGoneAfterFrom, IsNeverGoneBeforeFrom, IsJustInTimeFrom, IsNeverInBudgetFrom, AreDeadlinesFrom, IsNeverDoneFrom}
-use Rattle.plan_verifier.specs.Leavings.{leaves_in, AreLeavingsAhead}
-use Rattle.plan_verifier.specs.Rest.{AreOrderedAhead}
+use Rattle.plan_verifier.specs.{Leavings.{leaves_in, AreLeavingsAhead}, Rest.AreOrderedAhead}
 use Rattle.plan_verifier.specs.RestVerdicts.{IsAcceptableAhead}
-use Rattle.plan_verifier.proofs.Acceptable.{leaving_node, acceptable_ahead}
-use Rattle.plan_verifier.proofs.PathsAhead.{path_no_faster}
+use Rattle.plan_verifier.proofs.{Acceptable.{leaving_node, acceptable_ahead}, PathsAhead.path_no_faster}
 
 -- a job that isn't gone has its leaving ahead
 pub leaving_ahead : (p : PlannedShop) (c : Cell) (j : ℕ) → (IsGone p c j → ⊥) → IsAhead c (leaving p j)

@@ -1,56 +1,38 @@
 -- What holds up a node is told by the tables, and of what is told one bound goes before all others.
-use Rattle.std.proofs.Common.{◌≡◌, ◌≢◌, ℕ, ◌+◌, ◌-◌, ◌<◌, ◌≤◌, ◌⊎◌, length, Bool, true, false, if◌then◌else◌, nat_lt, nat_eq, Option, None, Some, inl, inr, arith, refl, sym, ap, subst, ◌∙◌, ltb-true, eqb-true}
+use Rattle.std.proofs.Common.{◌≡◌, ◌≢◌, ℕ, ◌+◌, ◌-◌, ◌<◌, ◌≤◌, ◌⊎◌, length, true, false, nat_lt, nat_eq, Option, None, Some, inl, inr, arith, refl, sym, ap, subst, ◌∙◌, ltb-true, eqb-true}
+use Rattle.std.specs.Prelude.{MatchOption}
 use Rattle.std.proofs.lemmas.Bool.{and_parts}
-use Rattle.shop_base.specs.declared.node.Node.{Node}
-use Rattle.shop_base.specs.declared.shop.Step.{Step}
-use Rattle.shop_base.specs.declared.job_state.JobState.{JobState}
+use Rattle.shop_base.specs.{declared.node.Node.Node, declared.shop.Step.Step, declared.job_state.JobState.JobState}
 use Rattle.shop_base.specs.Shop.{step_at}
-use Rattle.shop_base.specs.Plan.{PlannedShop, steps, route, order, job_at, nominal, clean, release, Visits}
+use Rattle.shop_base.specs.Plan.{PlannedShop, steps, route, order, job_at, nominal, clean, release, Visits, Stands}
 use Rattle.shop_base.specs.Cell.{Cell, job_in, made, ready, since, entries, cleaning, IsOutside, IsOn}
-use Rattle.shop_base.specs.Activity.{Cleaning}
-use Rattle.shop_base.specs.Movers.{due_of_job}
-use Rattle.shop_base.specs.Sound.{IsSound}
+use Rattle.shop_base.specs.{Activity.{Cleaning, IsAwaited, IsWorked, IsCleaned}, Movers.due_of_job, Sound.IsSound}
 use Rattle.shop_base.specs.Ahead.{next_node}
-use Rattle.shop_base.proofs.CellFacts.{arrival_due, operation_due}
-use Rattle.shop_base.proofs.Ahead.{held_left}
+use Rattle.shop_base.proofs.{CellFacts.{arrival_due, operation_due}, Ahead.held_left}
+use Rattle.alt_graph.proofs.NodeNumbers.{node_same}
 use Rattle.plan_verifier.specs.declared.node_bound.Hold.{Hold}
 use Rattle.plan_verifier.specs.declared.node_bound.Hold.TheVariants.{Awaited, Arrived, Worked, Done, Cleaned}
-use Rattle.plan_verifier.specs.declared.node_bound.NodeBound.{NodeBound}
-use Rattle.plan_verifier.specs.CellBounds.{cleaned_at, is_next_in}
+use Rattle.plan_verifier.specs.{declared.node_bound.NodeBound.NodeBound, CellBounds.{cleaned_at, is_next_in}}
 use Rattle.plan_verifier.specs.Held.{IsHeldBy, awaited, arrived, worked, done, cleaned, IsHeldUp, IsToldOf, IsBoundOf, GoesBefore, later_than, overdue_at, turn}
-use Rattle.std.specs.Prelude.{MatchOption}
-use Rattle.alt_graph.proofs.NodeNumbers.{node_same}
+use Rattle.plan_verifier.specs.JobHolds.{IsJobHold, IsBoundBy, job_turn}
 use Rattle.plan_verifier.proofs.Tables.{holds_cleaned}
-
--- the turn of what holds up the next node of job j: last where it waits
-abbrev pub job_turn : Cell → ℕ → ℕ
-job_turn c j = if ready c j then 2 else 0
-
--- the turn of a cleaning is another
-not_cleaning : (b : Bool) (n : ℕ) → n ≡ (if b then 2 else 0) → n ≡ 1 → ⊥
-not_cleaning true n is bad = omega (arith, is, bad)
-not_cleaning false n is bad = omega (arith, is, bad)
 
 module _ (p : PlannedShop) (c : Cell) where
   -- what holds up a node by its job, with its due moment and its turn
-  pub record IsByJob (h : Hold) (due : Option ℕ) (v : Node) : Type 0 where
-    pub next : made c v.job ≡ v.place
-    pub due_is : due_of_job p v.job (job_in c v.job) ≡ due
-    pub turn_is : turn h ≡ job_turn c v.job
+  abbrev IsByJob : Hold → Option ℕ → Node → Type 0
+  IsByJob h due v = (made c v.job ≡ v.place) × (due ≡ due_of_job p v.job (job_in c v.job)) × (turn h ≡ job_turn c v.job)
 
   -- by a cleaning
-  pub record IsByCleaning (h : Hold) (due : Option ℕ) (v : Node) : Type 0 where
-    pub due_is : cleaned_at p c v ≡ due
-    pub some : (n : ℕ) × (due ≡ Some n)
-    pub turn_is : turn h ≡ 1
+  abbrev IsByCleaning : Hold → Option ℕ → Node → Type 0
+  IsByCleaning h due v = (n : ℕ) × (cleaned_at p c v ≡ Some n) × (due ≡ Some n) × (turn h ≡ 1)
 
   -- all that holds up a node is of one of these kinds
-  pub hold_kind : (h : Hold) (due : Option ℕ) (v : Node) → IsHeldBy p c h due v → IsByJob h due v ⊎ IsByCleaning h due v
-  hold_kind _ _ _ (awaited j d is) = inl (record { next = refl; due_is = arrival_due p c j d is; turn_is = rw is.not_ready refl })
-  hold_kind _ _ _ (arrived j outside is) = inl (record { next = refl; due_is = rw is refl; turn_is = rw is refl })
-  hold_kind _ _ _ (worked j k m d is) = inl (record { next = refl; due_is = operation_due p c j m d (k, is); turn_is = rw is.not_ready refl })
-  hold_kind _ _ _ (done j k m on is) = inl (record { next = refl; due_is = rw is refl; turn_is = rw is refl })
-  hold_kind _ _ _ (cleaned m from d v is stands) = inr (record { due_is = holds_cleaned p c v d m (from, is) stands; some = (d, refl); turn_is = refl })
+  hold_kind : (h : Hold) (due : Option ℕ) (v : Node) → IsHeldBy p c h due v → IsByJob h due v ⊎ IsByCleaning h due v
+  hold_kind _ _ _ (awaited j d is) = inl (refl, sym (arrival_due p c j d is), rw is.not_ready refl)
+  hold_kind _ _ _ (arrived j outside is) = inl (refl, rw is refl, rw is refl)
+  hold_kind _ _ _ (worked j k m d is) = inl (refl, sym (operation_due p c j m d (k, is)), rw is.not_ready refl)
+  hold_kind _ _ _ (done j k m on is) = inl (refl, rw is refl, rw is refl)
+  hold_kind _ _ _ (cleaned m from d v is stands) = inr (d, holds_cleaned p c v d m (from, is) stands, refl, refl)
 
   -- and the node is held up
   pub hold_up : (h : Hold) (due : Option ℕ) (v : Node) → IsHeldBy p c h due v → IsHeldUp p c v
@@ -60,139 +42,105 @@ module _ (p : PlannedShop) (c : Cell) where
   hold_up _ _ _ (done j k m on is) = inl refl
   hold_up _ _ _ (cleaned m from d v is stands) = inr (m, d, (from, is), stands)
 
+  -- so what holds up the next node of a job, but a cleaning, is due with the job's activity
+  job_hold : (j : ℕ) (h : Hold) (due : Option ℕ) → IsHeldBy p c h due (next_node c j) → due ≡ due_of_job p j (job_in c j) → turn h ≡ job_turn c j → IsJobHold p c j h
+  job_hold j h due holds is at = record { holds = subst (λ d. IsHeldBy p c h d (next_node c j)) is holds; turn_is = at }
+
+  pub hold_arrived : (j : ℕ) → IsOutside c j → ready c j ≡ true → IsJobHold p c j (Arrived j)
+  hold_arrived j outside is = job_hold j (Arrived j) None (arrived j outside is) (rw is refl) (rw is refl)
+
+  pub hold_awaited : (j : ℕ) → IsOutside c j → ready c j ≡ false → IsJobHold p c j (Awaited j)
+  hold_awaited j outside is =
+      let awaits : IsAwaited p c j (release p j) = record { outside = outside; not_ready = is; is_due = refl } in
+      job_hold j (Awaited j) (Some (release p j)) (awaited j (release p j) awaits) (sym (arrival_due p c j (release p j) awaits)) (rw is refl)
+
+  -- on a machine, by the job's state and the step that it is on
+  module _ (j : ℕ) (state : JobState) (step : Step) (is : state ≡ job_in c j) (inside : 0 < made c j) (within : state.made - 1 < steps p j) (at : step ≡ step_at (route p j) (state.made - 1)) where
+    on : IsOn p c j (state.made - 1) step.machine
+    on = record { entered = omega (arith, ap (λ (s : JobState). s.made) is, inside); visits = record { within = within; here = sym (ap (λ (s : Step). s.machine) at) } }
+
+    pub hold_done : state.ready ≡ true → IsJobHold p c j (Done j step.machine)
+    hold_done waits =
+        let idle : ready c j ≡ true = sym (ap (λ (s : JobState). s.ready) is) ∙ waits in
+        job_hold j (Done j step.machine) None (done j (state.made - 1) step.machine on idle) (rw idle refl) (rw idle refl)
+
+    pub hold_worked : state.ready ≡ false → IsJobHold p c j (Worked j step.machine state.since step.nominal)
+    hold_worked works =
+        let busy : ready c j ≡ false = sym (ap (λ (s : JobState). s.ready) is) ∙ works in
+        let goes : IsWorked p c j (state.made - 1) step.machine (since c j + nominal p j (state.made - 1)) = record { on = on; not_ready = busy; is_due = refl } in
+        rw (ap (λ (s : JobState). s.since) is, ap (λ (s : Step). s.nominal) at)
+        (job_hold j _ _ (worked j (state.made - 1) step.machine _ goes) (sym (operation_due p c j step.machine _ (state.made - 1, goes))) (rw busy refl))
+
   module _ (t : ℕ) (v : Node) where
     -- a bound tells of what holds up the node
-    pub told_by : (h : Hold) (due : Option ℕ) (b : NodeBound) → IsHeldBy p c h due v → b ≡ record { moment = later_than t due; holds = h; overdue = overdue_at t due } → IsToldOf p c t v b
-    told_by h due b is same = rw same (record { due = due; holds = is; moment = refl; overdue = refl })
+    pub bound_is : (h : Hold) (due : Option ℕ) (n : ℕ) (b : NodeBound) → IsHeldBy p c h due v → turn h ≡ n
+        → b ≡ record { moment = later_than t due; holds = h; overdue = overdue_at t due } → IsBoundBy p c t v due n b
+    bound_is h due n b is at same = rw same (record { told = record { due = due; holds = is; moment = refl; overdue = refl }; moment = refl; turn_is = at })
 
     -- of the cleaning of the machine that it enters
-    pub told_cleaning : (m from n : ℕ) (b : NodeBound) → Visits p v.job v.place m → is_next_in p c m v.job ≡ true → cleaning c m ≡ Some from → n ≡ clean p m
-        → b ≡ record { moment = later_than t (Some (from + n)); holds = Cleaned m from n; overdue = overdue_at t (Some (from + n)) }
-        → IsToldOf p c t v b × (turn b.holds ≡ 1)
-    told_cleaning m from n b visits next is long same =
-        let both = and_parts (nat_lt (length (entries c m)) (length (order p m))) (nat_eq (job_at p m (length (entries c m))) v.job) next in (
-          told_by (Cleaned m from n) (Some (from + n)) b
-              (rw long (cleaned m from (from + clean p m) v (record { is_cleaned = is; is_due = refl }) (record {
-                within = ltb-true (length (entries c m)) (length (order p m)) both.0;
-                job = eqb-true (job_at p m (length (entries c m))) v.job both.1;
-                visits = visits;
-              }))) same,
-          rw same refl,
-        )
+    pub cleaning_bound : (m from n : ℕ) (b : NodeBound) → Visits p v.job v.place m → is_next_in p c m v.job ≡ true → cleaning c m ≡ Some from → n ≡ clean p m
+        → b ≡ record { moment = later_than t (Some (from + n)); holds = Cleaned m from n; overdue = overdue_at t (Some (from + n)) } → IsBoundBy p c t v (cleaned_at p c v) 1 b
+    cleaning_bound m from n b visits next is long same =
+        let both = and_parts (nat_lt (length (entries c m)) (length (order p m))) (nat_eq (job_at p m (length (entries c m))) v.job) next in
+        let stands : Stands p m (length (entries c m)) v.job v.place = record {
+          within = ltb-true (length (entries c m)) (length (order p m)) both.0;
+          job = eqb-true (job_at p m (length (entries c m))) v.job both.1;
+          visits = visits;
+        } in
+        let goes : IsCleaned p c m from (from + clean p m) = record { is_cleaned = is; is_due = refl } in
+        rw (holds_cleaned p c v (from + clean p m) m (from, goes) stands)
+        (bound_is (Cleaned m from (clean p m)) (Some (from + clean p m)) 1 b (cleaned m from (from + clean p m) v goes stands) refl (rw long at same))
 
     -- a node that is not its job's next and not held up by a cleaning isn't held up
     pub free_later : made c v.job ≢ v.place → cleaned_at p c v ≡ None → IsHeldUp p c v → ⊥
     free_later later free (inl next) = later next
-    free_later later free (inr (m, due, going, holds)) = differ due (sym free ∙ holds_cleaned p c v due m going holds)
-      where
-        differ : (n : ℕ) → None ≡ Some n → ⊥
-        differ n bad = cc
+    free_later later free (inr (m, due, going, holds)) = (let at = holds_cleaned p c v due m going holds in absurd (cc))
 
     -- nor is a passed one
     pub free_passed : IsSound p c → v.place < made c v.job → IsHeldUp p c v → ⊥
     free_passed sound passed (inl next) = omega (arith, passed, next)
     free_passed sound passed (inr (m, due, going, holds)) = (let here : made c v.job ≤ v.place = (held_left p c (Cleaning m) due v sound going holds).ahead in omega (arith, here, passed))
 
-    -- the bound by a cleaning is the only one of a node that isn't its job's next
-    pub alone_later : (b : NodeBound) → made c v.job ≢ v.place → IsToldOf p c t v b → IsBoundOf p c t v b
-    alone_later b later told = record { told = told; first = λ other its. go other its (hold_kind b.holds told.due v told.holds) (hold_kind other.holds its.due v its.holds) }
+    -- the bound goes before one with this due moment and this turn
+    abbrev GoesFirst : NodeBound → Option ℕ → ℕ → Type 0
+    GoesFirst b due n = (later_than t due < b.moment) ⊎ ((b.moment ≡ later_than t due) × (turn b.holds ≤ n))
+
+    own_first : (b : NodeBound) (due : Option ℕ) (n : ℕ) → IsBoundBy p c t v due n b → GoesFirst b due n
+    own_first b due n by = inr (by.moment, omega (arith, by.turn_is))
+
+    other_first : (b other : NodeBound) (due : Option ℕ) (n : ℕ) → IsBoundBy p c t v due n other → GoesBefore b other → GoesFirst b due n
+    other_first b other due n by (inl later) = inl (omega (arith, later, by.moment))
+    other_first b other due n by (inr (same, first)) = inr (same ∙ by.moment, omega (arith, first, by.turn_is))
+
+    -- where it does so with the one by the job and the one by a cleaning it goes before all
+    bound_first : (b : NodeBound) → IsToldOf p c t v b → (made c v.job ≡ v.place → GoesFirst b (due_of_job p v.job (job_in c v.job)) (job_turn c v.job))
+        → ((n : ℕ) → cleaned_at p c v ≡ Some n → GoesFirst b (Some n) 1) → IsBoundOf p c t v b
+    bound_first b told by_job by_cleaning = record { told = told; first = λ other its. go other its (hold_kind other.holds its.due v its.holds) }
       where
-        go : (other : NodeBound) (its : IsToldOf p c t v other) → IsByJob b.holds told.due v ⊎ IsByCleaning b.holds told.due v → IsByJob other.holds its.due v ⊎ IsByCleaning other.holds its.due v → GoesBefore b other
-        go other its (inl job) _ = absurd (later job.next)
-        go other its _ (inl job) = absurd (later job.next)
-        go other its (inr one) (inr two) = inr (told.moment ∙ ap (later_than t) (sym one.due_is ∙ two.due_is) ∙ sym its.moment, omega (arith, one.turn_is, two.turn_is))
+        go : (other : NodeBound) (its : IsToldOf p c t v other) → IsByJob other.holds its.due v ⊎ IsByCleaning other.holds its.due v → GoesBefore b other
+        go other its (inl (next, is, at)) = rw (its.moment, is, at) (by_job next)
+        go other its (inr (n, is, due, at)) = rw (its.moment, due, at) (by_cleaning n is)
 
-    -- without a cleaning the bound by the job is the only one of its next node
-    pub alone_next : (b : NodeBound) → cleaned_at p c v ≡ None → IsToldOf p c t v b → IsBoundOf p c t v b
-    alone_next b free told = record { told = told; first = λ other its. go other its (hold_kind b.holds told.due v told.holds) (hold_kind other.holds its.due v its.holds) }
-      where
-        none : (due : Option ℕ) → cleaned_at p c v ≡ due → (n : ℕ) × (due ≡ Some n) → ⊥
-        none due is (n, some) = differ n (sym free ∙ is ∙ some)
-          where
-            differ : (m : ℕ) → None ≡ Some m → ⊥
-            differ m bad = cc
+    -- of a node that isn't its job's next only a cleaning is told
+    pub later_bound : (o : Option NodeBound) → made c v.job ≢ v.place → MatchOption o (cleaned_at p c v ≡ None) (IsBoundBy p c t v (cleaned_at p c v) 1)
+        → MatchOption o (IsHeldUp p c v → ⊥) (IsBoundOf p c t v)
+    later_bound None later free = free_later later free
+    later_bound (Some b) later by = bound_first b by.told (λ next. absurd (later next)) (λ n is. rw is at (own_first b (cleaned_at p c v) 1 by))
 
-        go : (other : NodeBound) (its : IsToldOf p c t v other) → IsByJob b.holds told.due v ⊎ IsByCleaning b.holds told.due v → IsByJob other.holds its.due v ⊎ IsByCleaning other.holds its.due v → GoesBefore b other
-        go other its (inr one) _ = absurd (none told.due one.due_is one.some)
-        go other its _ (inr two) = absurd (none its.due two.due_is two.some)
-        go other its (inl one) (inl two) = inr (told.moment ∙ ap (later_than t) (sym one.due_is ∙ two.due_is) ∙ sym its.moment, omega (arith, one.turn_is, two.turn_is))
+    -- of its job's next one what goes on with the job, or a cleaning too
+    module _ (own : NodeBound) (next : made c v.job ≡ v.place) (by_job : IsBoundBy p c t (next_node c v.job) (due_of_job p v.job (job_in c v.job)) (job_turn c v.job) own) where
+      abbrev due : Option ℕ
+      due = due_of_job p v.job (job_in c v.job)
 
-    -- of both the one that goes before the other
-    module _ (own cleaning_bound found : NodeBound) (told : IsToldOf p c t v own) (is_job : turn own.holds ≡ job_turn c v.job) (other_told : IsToldOf p c t v cleaning_bound) (is_cleaning : turn cleaning_bound.holds ≡ 1) where
-      own_job : IsByJob own.holds told.due v
-      own_job = go (hold_kind own.holds told.due v told.holds)
-        where
-          go : IsByJob own.holds told.due v ⊎ IsByCleaning own.holds told.due v → IsByJob own.holds told.due v
-          go (inl job) = job
-          go (inr by_cleaning) = absurd (not_cleaning (ready c v.job) (turn own.holds) is_job by_cleaning.turn_is)
+      by : IsBoundBy p c t v due (job_turn c v.job) own
+      by = subst (λ (w : Node). IsBoundBy p c t w due (job_turn c v.job) own) (node_same (next_node c v.job) v refl next) by_job
 
-      its_cleaning : IsByCleaning cleaning_bound.holds other_told.due v
-      its_cleaning = go (hold_kind cleaning_bound.holds other_told.due v other_told.holds)
-        where
-          go : IsByJob cleaning_bound.holds other_told.due v ⊎ IsByCleaning cleaning_bound.holds other_told.due v → IsByCleaning cleaning_bound.holds other_told.due v
-          go (inr by_cleaning) = by_cleaning
-          go (inl job) = absurd (not_cleaning (ready c v.job) (turn cleaning_bound.holds) job.turn_is is_cleaning)
+      pub alone_bound : cleaned_at p c v ≡ None → IsBoundOf p c t v own
+      alone_bound free = bound_first own by.told (λ _. own_first own due (job_turn c v.job) by) (λ n is. absurd (cc))
 
-      before_like : (one other : NodeBound) → GoesBefore found one → one.moment ≡ other.moment → turn one.holds ≡ turn other.holds → GoesBefore found other
-      before_like one other (inl later) same like = inl (omega (arith, later, same))
-      before_like one other (inr (equal, first)) same like = inr (equal ∙ same, omega (arith, first, like))
-
-      both : ((found ≡ own) × GoesBefore own cleaning_bound) ⊎ ((found ≡ cleaning_bound) × GoesBefore cleaning_bound own) → IsToldOf p c t v found × GoesBefore found own × GoesBefore found cleaning_bound
-      both (inl (is, before)) = rw is (told, inr (refl, omega arith), before)
-      both (inr (is, before)) = rw is (other_told, before, inr (refl, omega arith))
-
-      pub first_bound : ((found ≡ own) × GoesBefore own cleaning_bound) ⊎ ((found ≡ cleaning_bound) × GoesBefore cleaning_bound own) → IsBoundOf p c t v found
-      first_bound least = record { told = all.0; first = λ other its. go other its (hold_kind other.holds its.due v its.holds) }
-        where
-          all : IsToldOf p c t v found × GoesBefore found own × GoesBefore found cleaning_bound
-          all = both least
-
-          go : (other : NodeBound) (its : IsToldOf p c t v other) → IsByJob other.holds its.due v ⊎ IsByCleaning other.holds its.due v → GoesBefore found other
-          go other its (inl job) = before_like own other all.1 (told.moment ∙ ap (later_than t) (sym own_job.due_is ∙ job.due_is) ∙ sym its.moment) (own_job.turn_is ∙ sym job.turn_is)
-          go other its (inr by_cleaning) =
-              before_like cleaning_bound other all.2 (other_told.moment ∙ ap (later_than t) (sym its_cleaning.due_is ∙ by_cleaning.due_is) ∙ sym its.moment) (its_cleaning.turn_is ∙ sym by_cleaning.turn_is)
-
--- what holds up a job's next node by the job
-module _ (p : PlannedShop) (c : Cell) (t j : ℕ) (b : NodeBound) where
-  abbrev IsToldNext : Type 0
-  IsToldNext = IsToldOf p c t (next_node c j) b × (turn b.holds ≡ job_turn c j)
-
-  pub told_arrived : IsOutside c j → ready c j ≡ true → b ≡ record { moment = later_than t None; holds = Arrived j; overdue = overdue_at t None } → IsToldNext
-  told_arrived outside is same = (told_by p c t (next_node c j) (Arrived j) None b (arrived j outside is) same, rw (same, is) refl)
-
-  pub told_awaited : (due : ℕ) → IsOutside c j → ready c j ≡ false → due ≡ release p j
-      → b ≡ record { moment = later_than t (Some due); holds = Awaited j; overdue = overdue_at t (Some due) } → IsToldNext
-  told_awaited due outside is at same =
-      (told_by p c t (next_node c j) (Awaited j) (Some due) b (awaited j due (record { outside = outside; not_ready = is; is_due = at })) same, rw (same, is) refl)
-
-  -- on a machine, by the job's state and the step that it is on
-  module _ (state : JobState) (step : Step) (is : state ≡ job_in c j) (inside : 0 < made c j) (within : state.made - 1 < steps p j) (at : step ≡ step_at (route p j) (state.made - 1)) where
-    on : IsOn p c j (state.made - 1) step.machine
-    on = record { entered = omega (arith, ap (λ (s : JobState). s.made) is, inside); visits = record { within = within; here = sym (ap (λ (s : Step). s.machine) at) } }
-
-    pub told_done : state.ready ≡ true → b ≡ record { moment = later_than t None; holds = Done j step.machine; overdue = overdue_at t None } → IsToldNext
-    told_done waits same =
-        let idle : ready c j ≡ true = sym (ap (λ (s : JobState). s.ready) is) ∙ waits in
-        (told_by p c t (next_node c j) (Done j step.machine) None b (done j (state.made - 1) step.machine on idle) same, rw (same, idle) refl)
-
-    pub told_worked : state.ready ≡ false
-        → b ≡ record { moment = later_than t (Some (state.since + step.nominal)); holds = Worked j step.machine state.since step.nominal; overdue = overdue_at t (Some (state.since + step.nominal)) } → IsToldNext
-    told_worked works same =
-        let busy : ready c j ≡ false = sym (ap (λ (s : JobState). s.ready) is) ∙ works in
-        let holds : IsHeldBy p c (Worked j step.machine (since c j) (nominal p j (state.made - 1))) (Some (since c j + nominal p j (state.made - 1))) (next_node c j) =
-        worked j (state.made - 1) step.machine (since c j + nominal p j (state.made - 1)) (record { on = on; not_ready = busy; is_due = refl }) in (
-          told_by p c t (next_node c j) (Worked j step.machine state.since step.nominal) (Some (state.since + step.nominal)) b
-              (rw (ap (λ (s : JobState). s.since) is, ap (λ (s : Step). s.nominal) at) holds) same,
-          rw (same, busy) refl,
-        )
-
-module _ (p : PlannedShop) (c : Cell) (t : ℕ) (v : Node) where
-  -- of a node that isn't its job's next only a cleaning is told
-  pub later_bound : (o : Option NodeBound) → made c v.job ≢ v.place → MatchOption o (cleaned_at p c v ≡ None) (λ b. IsToldOf p c t v b × (turn b.holds ≡ 1))
-      → MatchOption o (IsHeldUp p c v → ⊥) (IsBoundOf p c t v)
-  later_bound None later free = free_later p c t v later free
-  later_bound (Some b) later told = alone_later p c t v b later told.0
-
-  -- of its job's next one what is told of that
-  pub told_here : (b : NodeBound) → made c v.job ≡ v.place → IsToldOf p c t (next_node c v.job) b → IsToldOf p c t v b
-  told_here b next told = subst (λ (w : Node). IsToldOf p c t w b) (node_same (next_node c v.job) v refl next) told
+      pub first_bound : (other found : NodeBound) → IsBoundBy p c t v (cleaned_at p c v) 1 other → ((found ≡ own) × GoesBefore own other) ⊎ ((found ≡ other) × GoesBefore other own)
+          → IsBoundOf p c t v found
+      first_bound other found its (inl (is, before)) =
+          rw is (bound_first own by.told (λ _. own_first own due (job_turn c v.job) by) (λ n at. rw at at (other_first own other (cleaned_at p c v) 1 its before)))
+      first_bound other found its (inr (is, before)) =
+          rw is (bound_first other its.told (λ _. other_first other own due (job_turn c v.job) by before) (λ n at. rw at at (own_first other (cleaned_at p c v) 1 its)))

@@ -2,8 +2,7 @@
 use Rattle.std.proofs.Common.{◌≡◌, ℕ, ◌+◌, ◌<◌, ◌≤◌, ◌⊎◌, max, below_more, inl, inr, arith, Option}
 use Rattle.std.specs.Prelude.{MatchOption}
 use Rattle.std.proofs.lemmas.Bool.{cases_lt}
-use Rattle.shop_base.specs.Plan.{PlannedShop}
-use Rattle.shop_base.specs.Cell.{Cell, IsGone}
+use Rattle.shop_base.specs.{Plan.PlannedShop, Cell.{Cell, IsGone}}
 
 module _ (p : PlannedShop) (leaves : ℕ → ℕ) where
   -- the latest of the first n jobs' leavings, 0 where there is none

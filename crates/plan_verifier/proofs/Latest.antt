@@ -1,12 +1,7 @@
 -- The deadlines of an accepted plan: they fit, are the latest that do, and are enough.
 use Rattle.std.proofs.Common.{ℕ, ◌≤◌, [], arith}
-use Rattle.shop_base.specs.declared.node.Node.{Node}
-use Rattle.shop_base.specs.Cell.{start}
-use Rattle.shop_base.specs.Graph.{IsNode}
-use Rattle.shop_base.specs.Deadlines.{AreDeadlines}
-use Rattle.shop_base.proofs.Cycles.{source_node}
-use Rattle.shop_base.proofs.Keeping.{start-made}
-use Rattle.shop_base.proofs.Deadlines.{deadlines_are_the_latest-holds}
+use Rattle.shop_base.specs.{declared.node.Node.Node, Cell.start, Graph.IsNode, Deadlines.AreDeadlines}
+use Rattle.shop_base.proofs.{Cycles.source_node, Keeping.start-made, Deadlines.deadlines_are_the_latest-holds}
 use Rattle.shop_base.proofs.StartAhead.{out_by_the_deadlines-holds, in_time_to_the_deadlines-holds}
 use Rattle.plan_verifier.specs.Accepted.{VerifiedPlan, IsVerified, rank_in, kept_at}
 use Rattle.plan_verifier.specs.ByDeadlines.{FitBudgets, AreEnough, AreEnoughAtTheEnd, AreTheLatest}

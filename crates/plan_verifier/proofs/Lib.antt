@@ -12,4 +12,3 @@ pub mod LastLeavings
 pub mod Holding
 pub mod AtStart
 pub mod Soon
-pub mod StartLaw

@@ -1,31 +1,17 @@
 -- Paths ahead, measured from where they can begin.
 use Rattle.std.proofs.Common.{◌≡◌, ◌↔◌, ℕ, ◌+◌, ◌<◌, ◌≤◌, List, [], ◌∷◌, ◌++◌, length, length-append, if◌then◌else◌, nat_lt, Option, None, Some, arith, refl, sym, ap, subst, ◌∙◌, inl, inr, lt-ltb, le-ltb}
 use Rattle.std.specs.Prelude.{IfSome, unwrap_or}
-use Rattle.std.proofs.Math.Seq.{get_or-append_seam}
-use Rattle.std.proofs.lemmas.Bool.{cases_lt}
-use Rattle.shop_base.specs.declared.node.Node.{Node}
-use Rattle.shop_base.specs.Plan.{PlannedShop, IsWellShaped}
-use Rattle.shop_base.specs.Cell.{Cell, job_in, made}
-use Rattle.shop_base.specs.Activity.{Activity, Arrival, Operation, Cleaning, GoesOn}
-use Rattle.shop_base.specs.Movers.{due_of_job}
-use Rattle.shop_base.specs.Sound.{IsSound}
-use Rattle.shop_base.specs.Punctual.{AreNotEarly}
-use Rattle.shop_base.specs.Graph.{node, IsNode, leaving}
-use Rattle.shop_base.specs.Ahead.{next_node, IsAhead, HoldsUp, PathAhead, now, held, onward}
-use Rattle.shop_base.proofs.CellFacts.{arrival_due, operation_due}
-use Rattle.shop_base.proofs.Cycles.{source_node}
-use Rattle.shop_base.proofs.Ahead.{IsLeftIn, held_left, path_left}
+use Rattle.std.proofs.{Math.Seq.get_or-append_seam, lemmas.Bool.cases_lt}
+use Rattle.shop_base.specs.{declared.node.Node.Node, Plan.{PlannedShop, IsWellShaped}, Cell.{Cell, job_in, made}}
+use Rattle.shop_base.specs.{Movers.due_of_job, Sound.IsSound, Punctual.AreNotEarly}
+use Rattle.shop_base.specs.{Graph.{node, IsNode, leaving}, Ahead.{IsAhead, PathAhead, now, held, onward}}
+use Rattle.shop_base.proofs.{Cycles.source_node, Ahead.{IsLeftIn, held_left, path_left}}
 use Rattle.shop_base.proofs.LowerBounds.{no_continuation_is_faster-holds}
 use Rattle.alt_graph.specs.Bounds.{NodeBounds, bound_of, PathFrom, begins_at, goes_along, IsChainFrom}
-use Rattle.alt_graph.specs.Evidence.{EndsIn}
-use Rattle.alt_graph.specs.Places.{node_at}
-use Rattle.plan_verifier.specs.CellBounds.{bound_in, held_to, cleaned_at}
-use Rattle.plan_verifier.specs.FromThere.{IsNeverGoneBeforeFrom}
-use Rattle.plan_verifier.specs.Held.{later_than}
-use Rattle.plan_verifier.specs.PathBounds.{path_bounds, beginning_in}
-use Rattle.plan_verifier.specs.Rest.{IsChainAhead}
-use Rattle.plan_verifier.proofs.Rests.{some_same, bound_path}
-use Rattle.plan_verifier.proofs.Tables.{bound_next, bound_later, bound_told, told_by, ahead_of, later_above, later_other, holds_cleaned}
+use Rattle.alt_graph.specs.{Evidence.EndsIn, Places.node_at}
+use Rattle.plan_verifier.specs.{CellBounds.{bound_in, held_to, cleaned_at}, FromThere.IsNeverGoneBeforeFrom}
+use Rattle.plan_verifier.specs.{Held.later_than, PathBounds.{path_bounds, beginning_in}, Rest.IsChainAhead}
+use Rattle.plan_verifier.proofs.{Rests.{some_same, bound_path}, Tables.{bound_next, bound_later, told_by, ahead_of, bound_from, held_bound}}
 
 -- a path ahead ends with its last node
 ahead_ends : (p : PlannedShop) (c : Cell) (t : ℕ) (nodes : List Node) (v : Node) (n i : ℕ) → PathAhead p c t nodes v n → i + 1 ≡ length nodes → node_at nodes i ≡ v
@@ -56,6 +42,12 @@ path_no_faster p c t j nodes n shaped path es fs run end more from late gone =
     (subst (λ (d : Cell). AreNotEarly p d fs) (sym end) late) gone
 
 module _ (p : PlannedShop) (c : Cell) (t : ℕ) (v : Node) where
+  pub beginning_passed : v.place < made c v.job → beginning_in p c t v ≡ None
+  beginning_passed passed = rw (lt-ltb v.place (made c v.job) passed) refl
+
+  pub beginning_here : IsAhead c v → beginning_in p c t v ≡ Some (unwrap_or (bound_in p c t v) t)
+  beginning_here ahead = let here : made c v.job ≤ v.place = ahead in rw (le-ltb v.place (made c v.job) here) refl
+
   -- the present moment or, of its job's next node, when what goes on with the job is due, if that is later
   abbrev pub begun_at : ℕ
   begun_at = if nat_lt (made c v.job) v.place then t else later_than t (due_of_job p v.job (job_in c v.job))
@@ -63,29 +55,15 @@ module _ (p : PlannedShop) (c : Cell) (t : ℕ) (v : Node) where
   pub begun_next : made c v.job ≡ v.place → begun_at ≡ later_than t (due_of_job p v.job (job_in c v.job))
   begun_next next = rw (le-ltb (made c v.job) v.place (omega arith)) refl
 
-  begun_later : made c v.job < v.place → begun_at ≡ t
-  begun_later later = rw (lt-ltb (made c v.job) v.place later) refl
-
-  begun_above : t ≤ begun_at
-  begun_above = elim (cases_lt (made c v.job) v.place) [
-    | inl later ↦ omega (arith, begun_later later)
-    | inr other ↦ rw (le-ltb (made c v.job) v.place other) (later_above t (due_of_job p v.job (job_in c v.job)))
-  ]
-
   held_or : (o : Option ℕ) → unwrap_or (held_to t o) t ≡ later_than t o
   held_or None = refl
   held_or (Some due) = refl
 
-  pub beginning_passed : v.place < made c v.job → beginning_in p c t v ≡ None
-  beginning_passed passed = rw (lt-ltb v.place (made c v.job) passed) refl
-
-  pub beginning_here : IsAhead c v → beginning_in p c t v ≡ Some (unwrap_or (bound_in p c t v) t)
-  beginning_here ahead = let here : made c v.job ≤ v.place = ahead in rw (le-ltb v.place (made c v.job) here) refl
-
-  -- it is also when the cleaning that holds the node up is due, if that is later
+  -- a path begins there then, or when the cleaning that holds the node up is due, if that is later
   pub beginning_ahead : IsAhead c v → beginning_in p c t v ≡ Some (later_than begun_at (cleaned_at p c v))
   beginning_ahead ahead = beginning_here ahead ∙ ap (λ n. Some n) (elim (cases_lt (made c v.job) v.place) [
-    | inl later ↦ ap (λ o. unwrap_or o t) (bound_later p c t v later) ∙ held_or (cleaned_at p c v) ∙ ap (λ n. later_than n (cleaned_at p c v)) (sym (begun_later later))
+    | inl later ↦ (let at : begun_at ≡ t = rw (lt-ltb (made c v.job) v.place later) refl in
+        ap (λ o. unwrap_or o t) (bound_later p c t v later) ∙ held_or (cleaned_at p c v) ∙ ap (λ n. later_than n (cleaned_at p c v)) (sym at))
     | inr other ↦ (let next : made c v.job ≡ v.place = (let here : made c v.job ≤ v.place = ahead in omega arith) in
         ap (λ o. unwrap_or o t) (bound_next p c t v next) ∙ ap (λ n. later_than n (cleaned_at p c v)) (sym (begun_next next)))
   ])
@@ -109,7 +87,7 @@ module _ (p : PlannedShop) (c : Cell) (t : ℕ) (sound : IsSound p c) where
 
       from : IsAhead c v → (o : Option ℕ) → bound_in p c t v ≡ o → PathAhead p c t (v ∷ []) v (unwrap_or o t)
       from ahead None none = now v is ahead
-      from ahead (Some m) some = bound_path p c t sound v m is ahead (bound_told p c t sound v is ∙ some)
+      from ahead (Some m) some = bound_path p c t sound v m is ahead some
 
   -- so each path from there is one ahead
   path_ahead : (nodes : List Node) (v : Node) (n : ℕ) → PathFrom p b nodes v n → PathAhead p c t nodes v n
@@ -117,27 +95,20 @@ module _ (p : PlannedShop) (c : Cell) (t : ℕ) (sound : IsSound p c) where
   path_ahead _ _ _ (goes_along nodes u v n d path from arc) = onward nodes u v n d (path_ahead nodes u n path) arc
 
   -- and along the nodes of a path ahead there is one from there that is at least as long
-  begin_long : (v : Node) (k : ℕ) → IsLeftIn p c v → k ≤ later_than (begun_at p c t v) (cleaned_at p c v) → (n : ℕ) × (k ≤ n) × PathFrom p b (v ∷ []) v n
+  begin_long : (v : Node) (k : ℕ) → IsLeftIn p c v → k ≤ unwrap_or (bound_in p c t v) t → (n : ℕ) × (k ≤ n) × PathFrom p b (v ∷ []) v n
   begin_long v k left le =
       let is : IsNode p v = record { job = left.job; place = left.place } in
-      (later_than (begun_at p c t v) (cleaned_at p c v), le, begins_at v _ is (beginning_told v is ∙ beginning_ahead p c t v left.ahead))
+      (unwrap_or (bound_in p c t v) t, le, begins_at v _ is (beginning_told v is ∙ beginning_here p c t v left.ahead))
 
-  busy_long : (j due : ℕ) (v : Node) → due_of_job p j (job_in c j) ≡ Some due → v ≡ next_node c j → due ≤ later_than (begun_at p c t v) (cleaned_at p c v)
-  busy_long j due v told is =
-      let same : v.job ≡ j = ap (λ (w : Node). w.job) is in
-      let next : made c v.job ≡ v.place = ap (made c) same ∙ sym (ap (λ (w : Node). w.place) is) in
-      let at : due_of_job p v.job (job_in c v.job) ≡ Some due = ap (λ i. due_of_job p i (job_in c i)) same ∙ told in
-      omega (arith, later_other t due (due_of_job p v.job (job_in c v.job)) at, begun_next p c t v next, later_above (begun_at p c t v) (cleaned_at p c v))
-
-  held_long : (a : Activity) (due : ℕ) (v : Node) → GoesOn p c a due → HoldsUp p c a v → due ≤ later_than (begun_at p c t v) (cleaned_at p c v)
-  held_long (Arrival j) due v going holds = busy_long j due v (arrival_due p c j due going) holds
-  held_long (Operation j m) due v going holds = busy_long j due v (operation_due p c j m due going) holds
-  held_long (Cleaning m) due v going holds = later_other (begun_at p c t v) due (cleaned_at p c v) (holds_cleaned p c v due m going holds)
+  begin_from : (v : Node) → IsAhead c v → (o : Option ℕ) → bound_in p c t v ≡ o → t ≤ unwrap_or o t
+  begin_from v ahead None is = omega arith
+  begin_from v ahead (Some n) is = bound_from p c t v n ahead is
 
   path_long : (nodes : List Node) (v : Node) (k : ℕ) → PathAhead p c t nodes v k → (n : ℕ) × (k ≤ n) × PathFrom p b nodes v n
-  path_long _ _ _ (now v is ahead) =
-      begin_long v t (record { ahead = ahead; job = is.job; place = is.place }) (omega (arith, begun_above p c t v, later_above (begun_at p c t v) (cleaned_at p c v)))
-  path_long _ _ _ (held a due v going holds) = begin_long v due (held_left p c a due v sound going holds) (held_long a due v going holds)
+  path_long _ _ _ (now v is ahead) = begin_long v t (record { ahead = ahead; job = is.job; place = is.place }) (begin_from v ahead (bound_in p c t v) refl)
+  path_long _ _ _ (held a due v going holds) =
+      let (n, is, le) = held_bound p c t a due v sound going holds in
+      begin_long v due (held_left p c a due v sound going holds) (rw is le)
   path_long _ _ _ (onward nodes u v n d path arc) =
       let (m, le, from) = path_long nodes u n path in
       (m + d, omega (arith, le), goes_along nodes u v m d from (ahead_of p c t sound u (source_node p u v d arc).job (path_left p c t nodes u n sound path).ahead) arc)

@@ -1,27 +1,17 @@
 -- The leavings of an ordered graph: their greatest lengths, and what these say of every exact run.
 use Rattle.std.proofs.Common.{◌≡◌, ℕ, ◌<◌, ◌≤◌, List, length, inl, inr, arith, sym, subst}
-use Rattle.shop_base.specs.declared.node.Node.{Node}
-use Rattle.shop_base.specs.Plan.{PlannedShop, jobs, budget, IsWellShaped}
-use Rattle.shop_base.specs.Graph.{leaving, MeetBudgets, Path}
-use Rattle.shop_base.specs.Cell.{since}
-use Rattle.shop_base.specs.KeptMoments.{KeepsLeaving}
+use Rattle.shop_base.specs.{declared.node.Node.Node, Plan.{PlannedShop, jobs, budget, IsWellShaped}}
+use Rattle.shop_base.specs.{Graph.{leaving, MeetBudgets, Path}, Cell.since, KeptMoments.KeepsLeaving}
+use Rattle.shop_base.specs.{ExactLaw.IsNeverGoneBefore, CycleLaw.{IsNeverDone, AreNeverMade}}
 use Rattle.shop_base.proofs.StartAhead.{controlled-leavings_kept, just_in_time-holds, no_exact_run_is_faster-holds}
-use Rattle.alt_graph.specs.Evidence.{node_count}
-use Rattle.shop_base.specs.ExactLaw.{IsNeverGoneBefore}
-use Rattle.shop_base.specs.CycleLaw.{IsNeverDone, AreNeverMade}
-use Rattle.alt_graph.specs.Times.{NodeTimes, rank_of, earliest_of, AreOrdered}
+use Rattle.alt_graph.specs.{Evidence.node_count, Times.{NodeTimes, rank_of, earliest_of, AreOrdered}, Bounds.whole}
 use Rattle.plan_verifier.specs.Accepted.{VerifiedPlan, kept_at, HasNoCycle, IsGreatest, IsAcceptable, IsVerified, IsMakespan, IsNeverGoneAfter, IsGoneJustAt, rank_in}
-use Rattle.alt_graph.specs.Bounds.{whole}
-use Rattle.alt_graph.proofs.CycleParts.{cycle_simple, cycle_stops}
-use Rattle.alt_graph.proofs.WholePlans.{whole_ahead}
-use Rattle.plan_verifier.specs.FromBounds.{IsFirstPastFrom}
-use Rattle.plan_verifier.specs.Leavings.{AreLeavings, IsLastLeaving, leaves_in}
-use Rattle.plan_verifier.specs.Seen.{judged}
-use Rattle.plan_verifier.specs.declared.verdict.Verdict.{Verdict}
-use Rattle.plan_verifier.specs.declared.verdict.Verdict.TheVariants.{Accepted, Refused}
-use Rattle.plan_verifier.specs.declared.verdict.Why.{Why}
+use Rattle.plan_verifier.specs.{FromBounds.IsFirstPastFrom, Leavings.{AreLeavings, IsLastLeaving, leaves_in}}
+use Rattle.plan_verifier.specs.{Seen.judged, declared.verdict.Verdict.Verdict}
+use Rattle.plan_verifier.specs.{declared.verdict.Verdict.TheVariants.{Accepted, Refused}, declared.verdict.Why.Why}
 use Rattle.plan_verifier.specs.declared.verdict.Why.TheVariants.{Cycle, Late}
 use Rattle.plan_verifier.specs.Verdicts.{IsFirstLate, IsReason, OnAccepted, OnRefused, OnCycle, OnLate, IsNeverInBudget}
+use Rattle.alt_graph.proofs.{CycleParts.{cycle_simple, cycle_stops}, WholePlans.whole_ahead}
 use Rattle.plan_verifier.proofs.Acceptable.{leaving_node, acyclic, within_budget}
 
 module _ (p : PlannedShop) (t : NodeTimes) (ordered : AreOrdered p t) where

@@ -2,20 +2,13 @@
 use Rattle.std.proofs.Common.{ℕ, ◌+◌, ◌*◌, ◌≤◌, List, arith}
 use Rattle.shop_base.specs.declared.node.Node.{Node}
 use Rattle.shop_base.specs.declared.limits.TheConstants.{MAX_JOBS, MAX_MACHINES, MAX_MOMENT, MAX_NOMINAL}
-use Rattle.shop_base.specs.Plan.{PlannedShop, IsWellShaped}
-use Rattle.shop_base.specs.Cell.{Cell}
-use Rattle.shop_base.specs.Activity.{Activity, Arrival, Operation, Cleaning, GoesOn}
-use Rattle.shop_base.specs.Sound.{IsSound}
-use Rattle.shop_base.specs.Graph.{IsNode, RanksRise}
-use Rattle.shop_base.specs.Ahead.{IsAhead, PathAhead, now, held, onward}
-use Rattle.shop_base.proofs.Bounds.{operations_of-le}
-use Rattle.shop_base.proofs.Visits.{visits_job}
-use Rattle.shop_base.proofs.InShop.{outside_in_shop, cleaned_in_shop}
-use Rattle.alt_graph.specs.Bounds.{MAX_BOUND}
-use Rattle.alt_graph.specs.Times.{NodeTimes, rank_of, earliest_of}
+use Rattle.shop_base.specs.{Plan.{PlannedShop, IsWellShaped}, Cell.Cell}
+use Rattle.shop_base.specs.{Activity.{Activity, Arrival, Operation, Cleaning, GoesOn}, Sound.IsSound}
+use Rattle.shop_base.specs.{Graph.{IsNode, RanksRise}, Ahead.{IsAhead, PathAhead, now, held, onward}}
+use Rattle.shop_base.proofs.{Bounds.operations_of-le, Visits.visits_job, InShop.{outside_in_shop, cleaned_in_shop}}
+use Rattle.alt_graph.specs.{Bounds.MAX_BOUND, Times.{NodeTimes, rank_of, earliest_of}}
 use Rattle.alt_graph.proofs.ArcKinds.{arc_short}
-use Rattle.plan_verifier.specs.Held.{AreBegun}
-use Rattle.plan_verifier.specs.Rest.{AreOrderedAhead}
+use Rattle.plan_verifier.specs.{Held.AreBegun, Rest.AreOrderedAhead}
 
 module _ (p : PlannedShop) (c : Cell) (t : ℕ) (sound : IsSound p c) (shaped : IsWellShaped p) (begun : AreBegun c) (early : t ≤ MAX_MOMENT) where
   -- what goes on is due soon

@@ -1,22 +1,17 @@
 -- What the table of a cell's bounds tells.
-use Rattle.std.proofs.Common.{◌≡◌, ℕ, ◌+◌, ◌-◌, ◌<◌, ◌≤◌, List, [], map, length, get_or, Bool, true, false, nat_lt, nat_eq, if◌then◌else◌, Option, None, Some, arith, refl, sym, ap, ◌∙◌, ◌⊎◌, inl, inr, lt-ltb, le-ltb, ltb-true, eq-eqb, eqb-true}
+use Rattle.std.proofs.Common.{◌≡◌, ℕ, ◌+◌, ◌-◌, ◌<◌, ◌≤◌, List, [], map, length, get_or, max, Bool, true, false, nat_lt, nat_eq, if◌then◌else◌, Option, None, Some, arith, refl, sym, ap, subst, ◌∙◌, ◌⊎◌, inl, inr, lt-ltb, le-ltb, ltb-true, eq-eqb, eqb-true}
 use Rattle.std.specs.List.{range_with_len}
-use Rattle.std.proofs.lemmas.Bool.{cases_lt, cases_order, and_parts, and_from}
-use Rattle.std.proofs.lemmas.List.{get_or-map}
+use Rattle.std.proofs.{lemmas.Bool.{cases_lt, cases_order, and_parts, and_from}, lemmas.List.get_or-map}
 use Rattle.std.proofs.lemmas.List.FromFn.{get_or-map-range_with_len}
-use Rattle.shop_base.specs.declared.node.Node.{Node}
-use Rattle.shop_base.specs.declared.job_state.JobState.{JobState}
+use Rattle.shop_base.specs.{declared.node.Node.Node, declared.job_state.JobState.JobState}
 use Rattle.shop_base.specs.Plan.{PlannedShop, jobs, steps, order, machine_of, job_at}
 use Rattle.shop_base.specs.Cell.{Cell, job_in, made, since, entries, cleaning, absent}
-use Rattle.shop_base.specs.Activity.{Cleaning, GoesOn}
-use Rattle.shop_base.specs.Movers.{due_of_job, due_of_cleaning}
-use Rattle.shop_base.specs.Sound.{IsSound}
-use Rattle.shop_base.specs.Graph.{node, IsNode}
-use Rattle.shop_base.specs.Ahead.{IsAhead, HoldsUp}
-use Rattle.shop_base.proofs.CellFacts.{cleaning_due, due_cleaning}
+use Rattle.shop_base.specs.Activity.{Activity, Arrival, Operation, Cleaning, GoesOn}
+use Rattle.shop_base.specs.{Movers.{due_of_job, due_of_cleaning}, Sound.IsSound, Graph.{node, IsNode}}
+use Rattle.shop_base.specs.Ahead.{next_node, IsAhead, HoldsUp}
+use Rattle.shop_base.proofs.{CellFacts.{arrival_due, operation_due, cleaning_due, due_cleaning}, Ahead.held_left}
 use Rattle.alt_graph.specs.Bounds.{bound_of, IsAheadOf, AreRooted}
-use Rattle.plan_verifier.specs.CellBounds.{rest_bounds, bound_in, held_to, is_next_in, cleaned_at}
-use Rattle.plan_verifier.specs.Held.{later_than}
+use Rattle.plan_verifier.specs.{CellBounds.{rest_bounds, bound_in, held_to, is_next_in, cleaned_at}, Held.later_than}
 
 -- what a table of bounds tells of a node
 pub told_by : (p : PlannedShop) (bound : Node → Option ℕ) (v : Node) → IsNode p v
@@ -113,3 +108,53 @@ module _ (p : PlannedShop) (c : Cell) (v : Node) (due : ℕ) where
     and_from (nat_lt (length (entries c m)) (length (order p m))) (nat_eq (job_at p m (length (entries c m))) v.job)
         (lt-ltb (length (entries c m)) (length (order p m)) stands.within) (eq-eqb (job_at p m (length (entries c m))) v.job stands.job),
   ) (cleaning_due p c m due goes)
+
+module _ (p : PlannedShop) (c : Cell) (t : ℕ) where
+  -- a node ahead that has a bound is its job's next, or is held up by a cleaning until then
+  pub bound_kind : (v : Node) (n : ℕ) → IsAhead c v → bound_in p c t v ≡ Some n
+      → (made c v.job ≡ v.place) ⊎ ((m due : ℕ) × GoesOn p c (Cleaning m) due × HoldsUp p c (Cleaning m) v × (n ≡ max t due))
+  bound_kind v n ahead told = elim (cases_order v.place (made c v.job)) [
+    | inl same ↦ inl (sym same)
+    | inr other ↦ elim other [
+      | inl passed ↦ absurd (let here : made c v.job ≤ v.place = ahead in omega arith)
+      | inr later ↦ inr (go (cleaned_at p c v) refl (sym (bound_later p c t v later) ∙ told))
+    ]
+  ]
+    where
+      go : (o : Option ℕ) → cleaned_at p c v ≡ o → held_to t o ≡ Some n → (m due : ℕ) × GoesOn p c (Cleaning m) due × HoldsUp p c (Cleaning m) v × (n ≡ max t due)
+      go None none at = absurd cc
+      go (Some due) found at = (let (m, going, holds) = cleaned_holds p c v due found in (m, due, going, holds, cc))
+
+  -- no bound of a node ahead is before the present moment
+  pub bound_from : (v : Node) (n : ℕ) → IsAhead c v → bound_in p c t v ≡ Some n → t ≤ n
+  bound_from v n ahead told = elim (bound_kind v n ahead told) [
+    | inl next ↦ (let first : ℕ = later_than t (due_of_job p v.job (job_in c v.job)) in
+        let is : later_than first (cleaned_at p c v) ≡ n = (let both = sym (bound_next p c t v next) ∙ told in cc) in
+        omega (arith, later_above t (due_of_job p v.job (job_in c v.job)), later_above first (cleaned_at p c v), is))
+    | inr (m, due, going, holds, is) ↦ omega arith
+  ]
+
+  -- the node has a bound, which isn't before this moment
+  abbrev pub IsBoundFrom : Node → ℕ → Type 0
+  IsBoundFrom v due = (n : ℕ) × (bound_in p c t v ≡ Some n) × (due ≤ n)
+
+  busy_bound : (j due : ℕ) → due_of_job p j (job_in c j) ≡ Some due → IsBoundFrom (next_node c j) due
+  busy_bound j due told =
+      let first : ℕ = later_than t (due_of_job p j (job_in c j)) in
+      let v : Node = next_node c j in
+      (later_than first (cleaned_at p c v), bound_next p c t v refl, omega (arith, later_other t due (due_of_job p j (job_in c j)) told, later_above first (cleaned_at p c v)))
+
+  -- what holds up a node is due by its bound
+  pub held_bound : (a : Activity) (due : ℕ) (v : Node) → IsSound p c → GoesOn p c a due → HoldsUp p c a v → IsBoundFrom v due
+  held_bound (Arrival j) due v sound going holds = subst (λ (w : Node). IsBoundFrom w due) (sym holds) (busy_bound j due (arrival_due p c j due going))
+  held_bound (Operation j m) due v sound going holds = subst (λ (w : Node). IsBoundFrom w due) (sym holds) (busy_bound j due (operation_due p c j m due going))
+  held_bound (Cleaning m) due v sound going holds =
+      let told = holds_cleaned p c v due m going holds in
+      elim (cases_order v.place (made c v.job)) [
+        | inl same ↦ (let first : ℕ = later_than t (due_of_job p v.job (job_in c v.job)) in
+            (later_than first (cleaned_at p c v), bound_next p c t v (sym same), later_other first due (cleaned_at p c v) told))
+        | inr other ↦ elim other [
+          | inl passed ↦ absurd (let here : made c v.job ≤ v.place = (held_left p c (Cleaning m) due v sound going holds).ahead in omega arith)
+          | inr later ↦ (max t due, bound_later p c t v later ∙ ap (held_to t) told, omega arith)
+        ]
+      ]

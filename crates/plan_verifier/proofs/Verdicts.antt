@@ -1,20 +1,12 @@
 -- The verdict on a rest: what is late, what is accepted, and what that says of the runs that go on.
 use Rattle.std.proofs.Common.{◌↔◌, ℕ, ◌<◌, ◌≤◌, List, length, Result, Ok, Err, IfOk, arith}
-use Rattle.shop_base.specs.declared.node.Node.{Node}
-use Rattle.shop_base.specs.Plan.{PlannedShop, jobs, budget, IsWellShaped}
-use Rattle.shop_base.specs.Cell.{Cell, IsGone}
-use Rattle.shop_base.specs.Graph.{leaving}
-use Rattle.shop_base.specs.CycleLaw.{AreNeverMade}
-use Rattle.shop_base.specs.Ahead.{PathAhead}
-use Rattle.alt_graph.specs.Evidence.{node_count}
-use Rattle.alt_graph.specs.Times.{NodeTimes, rank_of, earliest_of, IsPathFromBy}
-use Rattle.alt_graph.proofs.CycleParts.{cycle_simple, cycle_stops}
-use Rattle.alt_graph.proofs.WholePlans.{cycle_has}
-use Rattle.plan_verifier.specs.FromThere.{IsNeverInBudgetFrom, IsNeverDoneFrom}
-use Rattle.plan_verifier.specs.Rest.{AreOrderedAhead}
+use Rattle.shop_base.specs.{declared.node.Node.Node, Plan.{PlannedShop, jobs, budget, IsWellShaped}}
+use Rattle.shop_base.specs.{Cell.{Cell, IsGone}, Graph.leaving, CycleLaw.AreNeverMade, Ahead.PathAhead}
+use Rattle.alt_graph.specs.{Evidence.node_count, Times.{NodeTimes, rank_of, earliest_of, IsPathFromBy}}
+use Rattle.alt_graph.proofs.{CycleParts.{cycle_simple, cycle_stops}, WholePlans.cycle_has}
+use Rattle.plan_verifier.specs.{FromThere.{IsNeverInBudgetFrom, IsNeverDoneFrom}, Rest.AreOrderedAhead}
 use Rattle.plan_verifier.specs.RestVerdicts.{IsAcceptableAhead, IsAcceptedAhead, IsFirstLateAhead, IsReasonAhead, IsRestAccepted, OnRestRefused, OnRestCycle, OnRestTimes}
-use Rattle.plan_verifier.specs.declared.verdict.Judged.{Judged}
-use Rattle.plan_verifier.specs.declared.verdict.Judged.TheVariants.{Accepted, Refused}
+use Rattle.plan_verifier.specs.{declared.verdict.Judged.Judged, declared.verdict.Judged.TheVariants.{Accepted, Refused}}
 use Rattle.plan_verifier.specs.declared.verdict.Why.TheVariants.{Cycle, Late}
 use Rattle.plan_verifier.proofs.Acceptable.{leaving_node, acyclic, within_budget}
 use Rattle.plan_verifier.proofs.GoingOn.{leaving_ahead, never_gone_before, never_done_just, late_just, cycle_never_done}

@@ -10,6 +10,7 @@ pub mod FromThere
 pub mod Leavings
 pub mod StartLaw
 -- Of proofs and private contracts alone.
+pub mod JobHolds
 pub mod FromBounds
 pub mod CellBounds
 pub mod PathBounds

@@ -1,9 +1,7 @@
 //! The bounds of the nodes of a cell.
 
 ghost use Rattle.std.specs.Prelude.{◌≡◌, ◌<◌, ◌≤◌, IfSome};
-ghost use Rattle.shop_base.specs.declared.limits.TheConstants.{MAX_MOMENT};
-ghost use Rattle.shop_base.specs.Plan.{machines};
-ghost use Rattle.shop_base.specs.Graph.{IsNode};
+ghost use Rattle.shop_base.specs.{declared.limits.TheConstants.MAX_MOMENT, Plan.machines, Graph.IsNode};
 ghost use Rattle.alt_graph.specs.Bounds.{MAX_BOUND};
 ghost use Rattle.plan_verifier.specs.Held.{later_than};
 ghost use Rattle.plan_verifier.specs.CellBounds.{rest_bounds, is_next_in, cleaned_at};
@@ -50,7 +48,7 @@ fn cleaned_by<P: Planned>(cell: &WorkCell<P>, node: Node) -> Option<Moment>
 }
 
 /// The later of a moment and of another, if there is one.
-fn later_of(one: Moment, other: Option<Moment>) -> Moment
+pub(crate) fn later_of(one: Moment, other: Option<Moment>) -> Moment
     ensures { result ≡ later_than one other }
 {
     match other {

@@ -1,12 +1,9 @@
 //! The check of a chain ahead, a path to a node from what holds up its first one.
 
 ghost use Rattle.std.specs.Prelude.{◌≡◌, ℕ, ◌≤◌, ◌↔◌, IfSome, Some};
-ghost use Rattle.shop_base.specs.declared.limits.TheConstants.{MAX_MOMENT};
-ghost use Rattle.shop_base.specs.Graph.{leaving};
+ghost use Rattle.shop_base.specs.{declared.limits.TheConstants.MAX_MOMENT, Graph.leaving};
 ghost use Rattle.alt_graph.specs.Evidence.{EndsIn};
-ghost use Rattle.plan_verifier.specs.FromThere.{IsNeverGoneBeforeFrom};
-ghost use Rattle.plan_verifier.specs.PathBounds.{path_bounds};
-ghost use Rattle.plan_verifier.specs.Rest.{IsChainAhead};
+ghost use Rattle.plan_verifier.specs.{FromThere.IsNeverGoneBeforeFrom, PathBounds.path_bounds, Rest.IsChainAhead};
 
 use crate::cell_bounds::CellBounds;
 use alt_graph::{Bounds, check_chain_from};

@@ -1,14 +1,10 @@
 //! The deadlines of the rest of a run.
 
 ghost use Rattle.std.specs.Prelude.{ℕ, ◌↔◌, IfOk};
-ghost use Rattle.shop_base.specs.declared.node.Node.{Node};
-ghost use Rattle.shop_base.specs.Report.{IsNextMoment};
-ghost use Rattle.shop_base.specs.Graph.{IsNode};
-ghost use Rattle.shop_base.specs.Ahead.{MeetBudgetsAhead};
+ghost use Rattle.shop_base.specs.{declared.node.Node.Node, Report.IsNextMoment, Graph.IsNode, Ahead.MeetBudgetsAhead};
 ghost use Rattle.alt_graph.specs.Times.{AreRanks, earliest_of};
 ghost use Rattle.alt_graph.specs.Latest.{HasMoment, AreLatest, moment_of};
-ghost use Rattle.plan_verifier.specs.FromThere.{AreDeadlinesFrom};
-ghost use Rattle.plan_verifier.specs.Rest.{AreOrderedAhead};
+ghost use Rattle.plan_verifier.specs.{FromThere.AreDeadlinesFrom, Rest.AreOrderedAhead};
 
 use alt_graph::{Deadlines, Times, latest_moments};
 use cell_tables::WorkCell;

@@ -2,8 +2,7 @@
 
 ghost use Rattle.std.specs.Prelude.{◌≡◌, ◌<◌, IfOk};
 ghost use Rattle.shop_base.specs.Plan.{jobs};
-ghost use Rattle.alt_graph.specs.Bounds.{NodeBounds};
-ghost use Rattle.alt_graph.specs.Times.{AreRanks, AreOrderedFrom, earliest_of};
+ghost use Rattle.alt_graph.specs.{Bounds.NodeBounds, Times.AreRanks, Times.AreOrderedFrom, Times.earliest_of};
 ghost use Rattle.alt_graph.specs.Solved.{OnOrderedFrom, OnCyclic};
 ghost use Rattle.plan_verifier.specs.FromBounds.{IsFirstPastFrom, IsJudgedFrom};
 
@@ -26,25 +25,11 @@ pub(crate) fn judge<B: Bounds>(
     ensures { IfOk result (IsJudgedFrom shaped.now (B.bounds bounds.now)) }
 {
     match solved {
-        Solved::Ordered(times) => judge_ordered(alloc, shaped, bounds, times),
+        Solved::Ordered(times) => match first_late(shaped, bounds, &times) {
+            Some(job) => late(alloc, shaped, times, job),
+            None => Ok(Judged::Accepted(times)),
+        },
         Solved::Cyclic(nodes) => Ok(Judged::Refused(Why::Cycle(nodes))),
-    }
-}
-
-/// Judges a plan without a cycle.
-fn judge_ordered<B: Bounds>(
-    alloc: Global,
-    shaped: &Shaped,
-    bounds: &B,
-    times: Times,
-) -> Result<Judged, AllocError>
-    requires planned { B.planned bounds.now ≡ shaped.now }
-    requires ordered { AreOrderedFrom shaped.now (B.bounds bounds.now) times }
-    ensures { IfOk result (IsJudgedFrom shaped.now (B.bounds bounds.now)) }
-{
-    match first_late(shaped, bounds, &times) {
-        Some(job) => late(alloc, shaped, times, job),
-        None => Ok(Judged::Accepted(times)),
     }
 }
 

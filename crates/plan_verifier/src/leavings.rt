@@ -1,11 +1,8 @@
 //! The leavings of the jobs: the earliest moments at which they can have left.
 
 ghost use Rattle.std.specs.Prelude.{◌≡◌, ℕ, ◌<◌, ◌≤◌, ◌⊎◌, ◌↔◌, max, IsTrue, IfSome, MatchOption};
-ghost use Rattle.shop_base.specs.Plan.{jobs, budget};
-ghost use Rattle.shop_base.specs.Cell.{IsGone};
-ghost use Rattle.shop_base.specs.Graph.{leaving};
-ghost use Rattle.alt_graph.specs.Bounds.{IsAheadOf};
-ghost use Rattle.alt_graph.specs.Times.{AreRanks, earliest_of};
+ghost use Rattle.shop_base.specs.{Plan.jobs, Plan.budget, Cell.IsGone, Graph.leaving};
+ghost use Rattle.alt_graph.specs.{Bounds.IsAheadOf, Times.AreRanks, Times.earliest_of};
 ghost use Rattle.plan_verifier.specs.FromBounds.{MeetBudgetsFrom, IsFirstPastFrom};
 ghost use Rattle.plan_verifier.specs.Leavings.{leaves_in, IsLastLeaving, LeavesLast};
 

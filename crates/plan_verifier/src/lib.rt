@@ -13,7 +13,6 @@ mod judging;
 pub mod laws;
 mod leavings;
 mod node_bound;
-mod planned;
 mod solving;
 mod verdict;
 mod verified;

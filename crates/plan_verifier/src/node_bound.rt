@@ -1,16 +1,13 @@
 //! What holds up a node ahead, and until when.
 
-ghost use Rattle.std.specs.Prelude.{◌≡◌, ◌<◌, ◌≤◌, ◌⊎◌, MatchOption, None, Some, if◌then◌else◌};
-ghost use Rattle.shop_base.specs.declared.limits.TheConstants.{MAX_MOMENT};
-ghost use Rattle.shop_base.specs.Plan.{jobs, steps};
-ghost use Rattle.shop_base.specs.Cell.{made, ready};
-ghost use Rattle.shop_base.specs.Graph.{IsNode};
-ghost use Rattle.shop_base.specs.Ahead.{next_node};
+ghost use Rattle.std.specs.Prelude.{◌≡◌, ◌<◌, ◌≤◌, ◌⊎◌, MatchOption, None};
+ghost use Rattle.shop_base.specs.{declared.limits.TheConstants.MAX_MOMENT, Plan.jobs, Plan.steps};
+ghost use Rattle.shop_base.specs.{Cell.job_in, Cell.made, Movers.due_of_job, Graph.IsNode, Ahead.next_node};
 ghost use Rattle.plan_verifier.specs.CellBounds.{cleaned_at};
-ghost use Rattle.plan_verifier.specs.Held.{IsHeldUp, IsToldOf, IsBoundOf, GoesBefore, later_than, overdue_at, turn};
+ghost use Rattle.plan_verifier.specs.Held.{IsHeldUp, IsBoundOf, GoesBefore, later_than, overdue_at, turn};
+ghost use Rattle.plan_verifier.specs.JobHolds.{IsJobHold, IsBoundBy, job_turn};
 
-use crate::cell_bounds::is_next;
-use crate::leavings::later;
+use crate::cell_bounds::{is_next, later_of};
 use cell_tables::WorkCell;
 use shop_base::{JobNo, MachineNo, Moment, Node, Planned};
 
@@ -86,8 +83,8 @@ pub fn bound_after<P: Planned>(cell: &WorkCell<P>, present: Moment, node: Node) 
 fn cleaning_bound<P: Planned>(cell: &WorkCell<P>, present: Moment, node: Node) -> Option<NodeBound>
     requires node { IsNode cell.now.plan node }
     requires in_range { present ≤ MAX_MOMENT }
-    ensures { MatchOption result (cleaned_at cell.now.plan cell.now.cell node ≡ None)
-        (λ bound. IsToldOf cell.now.plan cell.now.cell present node bound × (turn bound.holds ≡ 1)) }
+    ensures { let due = cleaned_at cell.now.plan cell.now.cell node in
+        MatchOption result (due ≡ None) (IsBoundBy cell.now.plan cell.now.cell present node due 1) }
 {
     // Called for its clause alone: the plan is well shaped.
     let _plan = cell.shaped();
@@ -97,100 +94,64 @@ fn cleaning_bound<P: Planned>(cell: &WorkCell<P>, present: Moment, node: Node) -
     }
     let since = cell.cleaned_since(machine)?;
     let clean = cell.shaped().clean_of(machine);
-    Some(lasting(
-        present,
-        Hold::Cleaned {
-            machine,
-            since,
-            clean,
-        },
-        since + clean,
-    ))
+    let holds = Hold::Cleaned {
+        machine,
+        since,
+        clean,
+    };
+    Some(bound_by(present, holds, Some(since + clean)))
 }
 
 /// The bound of a job's next node by what goes on with the job, or by the present moment if it waits.
 fn job_bound<P: Planned>(cell: &WorkCell<P>, present: Moment, job: JobNo) -> NodeBound
     requires job { job < jobs cell.now.plan }
     requires here { made cell.now.cell job ≤ steps cell.now.plan job }
-    requires in_range { present ≤ MAX_MOMENT }
-    ensures told { IsToldOf cell.now.plan cell.now.cell present (next_node cell.now.cell job) result }
-    ensures turn { turn result.holds ≡ (if ready cell.now.cell job then 2 else 0) }
+    ensures { let c = cell.now.cell in
+        IsBoundBy cell.now.plan c present (next_node c job) (due_of_job cell.now.plan job (job_in c job)) (job_turn c job) result }
+{
+    bound_by(present, job_hold(cell, job), cell.job_due(job))
+}
+
+/// What goes on with the job, or that it waits.
+fn job_hold<P: Planned>(cell: &WorkCell<P>, job: JobNo) -> Hold
+    requires job { job < jobs cell.now.plan }
+    requires here { made cell.now.cell job ≤ steps cell.now.plan job }
+    ensures { IsJobHold cell.now.plan cell.now.cell job result }
 {
     let state = cell.job_state(job);
     if state.made == 0 {
-        return outside_bound(cell, present, job);
+        return if state.ready {
+            Hold::Arrived { job }
+        } else {
+            Hold::Awaited { job }
+        };
     }
-    inside_bound(cell, present, job)
-}
-
-/// The same of a job that is outside.
-fn outside_bound<P: Planned>(cell: &WorkCell<P>, present: Moment, job: JobNo) -> NodeBound
-    requires job { job < jobs cell.now.plan }
-    requires outside { made cell.now.cell job ≡ 0 }
-    requires in_range { present ≤ MAX_MOMENT }
-    ensures told { IsToldOf cell.now.plan cell.now.cell present (next_node cell.now.cell job) result }
-    ensures turn { turn result.holds ≡ (if ready cell.now.cell job then 2 else 0) }
-{
-    if cell.job_state(job).ready {
-        waiting(present, Hold::Arrived { job })
-    } else {
-        lasting(
-            present,
-            Hold::Awaited { job },
-            cell.shaped().release_of(job),
-        )
-    }
-}
-
-/// The same of a job that is on a machine.
-fn inside_bound<P: Planned>(cell: &WorkCell<P>, present: Moment, job: JobNo) -> NodeBound
-    requires job { job < jobs cell.now.plan }
-    requires inside { 0 < made cell.now.cell job }
-    requires here { made cell.now.cell job ≤ steps cell.now.plan job }
-    requires in_range { present ≤ MAX_MOMENT }
-    ensures told { IsToldOf cell.now.plan cell.now.cell present (next_node cell.now.cell job) result }
-    ensures turn { turn result.holds ≡ (if ready cell.now.cell job then 2 else 0) }
-{
-    let state = cell.job_state(job);
     let Some(step) = cell.shaped().step_of(job, state.made - 1) else {
         unreachable!()
     };
     let machine = step.machine;
     if state.ready {
-        waiting(present, Hold::Done { job, machine })
-    } else {
-        lasting(
-            present,
-            Hold::Worked {
-                job,
-                machine,
-                since: state.since,
-                nominal: step.nominal,
-            },
-            state.since + step.nominal,
-        )
+        return Hold::Done { job, machine };
+    }
+    Hold::Worked {
+        job,
+        machine,
+        since: state.since,
+        nominal: step.nominal,
     }
 }
 
-/// The bound by what is due at a moment.
-fn lasting(present: Moment, holds: Hold, due: Moment) -> NodeBound
-    ensures { result ≡ record { moment = later_than present (Some due); holds = holds; overdue = overdue_at present (Some due) } }
+/// The bound by what is due at a moment, or by what waits, which is due at none.
+fn bound_by(present: Moment, holds: Hold, due: Option<Moment>) -> NodeBound
+    ensures { result ≡ record { moment = later_than present due; holds = holds; overdue = overdue_at present due } }
 {
     NodeBound {
-        moment: later(present, due),
+        moment: later_of(present, due),
         holds,
-        overdue: if due < present { Some(due) } else { None },
-    }
-}
-
-/// The bound by a job that waits.
-fn waiting(present: Moment, holds: Hold) -> NodeBound
-    ensures { result ≡ record { moment = later_than present None; holds = holds; overdue = overdue_at present None } }
-{
-    NodeBound {
-        moment: present,
-        holds,
-        overdue: None,
+        overdue: match due {
+            Some(due) if due < present => Some(due),
+            _ => None,
+        },
     }
 }
 
@@ -216,19 +177,10 @@ fn turn_of(holds: Hold) -> u32
     ensures { result ≡ turn holds }
 {
     match holds {
-        Hold::Awaited { job: _ } => 0,
-        Hold::Worked {
-            job: _,
-            machine: _,
-            since: _,
-            nominal: _,
-        } => 0,
-        Hold::Cleaned {
-            machine: _,
-            since: _,
-            clean: _,
-        } => 1,
-        Hold::Arrived { job: _ } => 2,
-        Hold::Done { job: _, machine: _ } => 2,
+        Hold::Awaited { .. } => 0,
+        Hold::Worked { .. } => 0,
+        Hold::Cleaned { .. } => 1,
+        Hold::Arrived { .. } => 2,
+        Hold::Done { .. } => 2,
     }
 }

@@ -1,7 +1,5 @@
 ghost use Rattle.std.specs.Prelude.{◌≡◌};
-ghost use Rattle.plan_verifier.specs.Accepted.{IsVerified};
-ghost use Rattle.plan_verifier.specs.Seen.{lent, judged, as_rest};
-ghost use Rattle.plan_verifier.specs.Verdicts.{OnAccepted};
+ghost use Rattle.plan_verifier.specs.{Accepted.IsVerified, Seen.lent, Seen.judged, Seen.as_rest, Verdicts.OnAccepted};
 
 use crate::verified::Verified;
 use alt_graph::Times;

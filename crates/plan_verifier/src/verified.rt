@@ -1,18 +1,13 @@
 ghost use Rattle.std.specs.Prelude.{◌≡◌, ◌<◌, ◌≤◌, ◌↔◌, Ok, None, IfOk, IsSome, MatchOption, IfSome};
-ghost use Rattle.shop_base.specs.Plan.{jobs};
-ghost use Rattle.shop_base.specs.declared.node.Node.{Node};
-ghost use Rattle.shop_base.specs.Cell.{start};
-ghost use Rattle.shop_base.specs.Graph.{leaving, IsNode};
-ghost use Rattle.shop_base.specs.Deadlines.{AreDeadlines};
-ghost use Rattle.shop_base.specs.ExactLaw.{IsNeverGoneBefore};
-ghost use Rattle.alt_graph.specs.Times.{AreOrdered};
+ghost use Rattle.shop_base.specs.{Plan.jobs, declared.node.Node.Node, Cell.start, Graph.leaving, Graph.IsNode};
+ghost use Rattle.shop_base.specs.{Deadlines.AreDeadlines, ExactLaw.IsNeverGoneBefore};
+ghost use Rattle.alt_graph.specs.{Times.AreOrdered, Latest.HasMoment, Latest.moment_of};
 ghost use Rattle.plan_verifier.specs.Accepted.{IsVerified, IsGreatest, IsLongestTo, IsMakespan, IsNeverGoneAfter, IsGoneJustAt, IsPathToLeaving, kept_at};
-ghost use Rattle.alt_graph.specs.Latest.{HasMoment, moment_of};
 ghost use Rattle.plan_verifier.specs.ByDeadlines.{FitBudgets, AreEnough, AreEnoughAtTheEnd, AreTheLatest};
 
 use crate::leavings::{leave_time, leaving_of, makespan};
 use alt_graph::{Deadlines, Times, latest_moments};
-use shop_base::{JobNo, Moment, Node, Shaped};
+use shop_base::{JobNo, Moment, Node, Planned, Shaped};
 use std::alloc::{AllocError, Global};
 use std::marker::Model;
 
@@ -31,6 +26,14 @@ impl Model for Verified {
     ghost view = { λ v. record { planned = v.shaped; times = v.times } };
 
     ghost invariant = { λ v. IsVerified (record { planned = v.shaped; times = v.times }) };
+}
+
+impl Planned for Verified {
+    ghost planned = { λ v. v.planned };
+
+    fn shaped(&self) -> &Shaped {
+        Verified::shaped(self)
+    }
 }
 
 impl Verified {

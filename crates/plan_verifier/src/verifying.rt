@@ -1,12 +1,8 @@
 //! The verdict on a plan, and on the rest of a run: by its cycle first, and by its first late job second.
 
 ghost use Rattle.std.specs.Prelude.{◌≡◌, ℕ, ◌<◌, ◌≤◌, ◌↔◌, IfOk, IfErr};
-ghost use Rattle.shop_base.specs.declared.limits.TheConstants.{MAX_MOMENT};
-ghost use Rattle.shop_base.specs.Plan.{jobs, IsWellShaped};
-ghost use Rattle.shop_base.specs.Cell.{IsGone};
-ghost use Rattle.shop_base.specs.Report.{IsNextMoment};
-ghost use Rattle.shop_base.specs.Graph.{leaving};
-ghost use Rattle.shop_base.specs.ExactLaw.{IsNeverGoneBefore};
+ghost use Rattle.shop_base.specs.{declared.limits.TheConstants.MAX_MOMENT, Plan.jobs, Plan.IsWellShaped, Cell.IsGone};
+ghost use Rattle.shop_base.specs.{Report.IsNextMoment, Graph.leaving, ExactLaw.IsNeverGoneBefore};
 ghost use Rattle.shop_base.specs.CycleLaw.{IsNeverDone, AreNeverMade};
 ghost use Rattle.alt_graph.specs.Times.{earliest_of};
 ghost use Rattle.plan_verifier.specs.Accepted.{IsAcceptable};

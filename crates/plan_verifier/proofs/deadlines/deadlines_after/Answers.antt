@@ -1,8 +1,6 @@
-use Rattle.alt_graph.specs.Times.{rank_of, earliest_of}
-use Rattle.alt_graph.specs.Latest.{moment_of}
+use Rattle.alt_graph.specs.{Times.{rank_of, earliest_of}, Latest.moment_of}
 use Rattle.alt_graph.proofs.Latests.{latest_deadlines}
-use Rattle.plan_verifier.proofs.GoingOn.{deadlines_from}
-use Rattle.plan_verifier.proofs.Answers.{ok_each}
+use Rattle.plan_verifier.proofs.{GoingOn.deadlines_from, Answers.ok_each}
 use Rattle.plan_verifier.proofs.deadlines.deadlines_after.Goals as goal
 
 pub latest_moments-requires : goal.latest_moments-requires

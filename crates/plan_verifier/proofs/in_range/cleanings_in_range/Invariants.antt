@@ -1,6 +1,5 @@
 use Rattle.std.proofs.Common.{◌≡◌, ℕ, ◌<◌, ◌≤◌, Some}
-use Rattle.shop_base.specs.declared.limits.TheConstants.{MAX_MOMENT}
-use Rattle.shop_base.specs.Cell.{cleaning}
+use Rattle.shop_base.specs.{declared.limits.TheConstants.MAX_MOMENT, Cell.cleaning}
 use Rattle.plan_verifier.proofs.in_range.cleanings_in_range.Given as goal
 
 -- the cleanings looked at began within the limit

@@ -1,8 +1,6 @@
 use Rattle.std.proofs.Common.{ℕ, ◌<◌, ◌≤◌}
-use Rattle.shop_base.specs.Plan.{budget}
-use Rattle.shop_base.specs.Graph.{leaving}
-use Rattle.alt_graph.specs.Bounds.{IsAheadOf}
-use Rattle.alt_graph.specs.Times.{earliest_of}
+use Rattle.shop_base.specs.{Plan.budget, Graph.leaving}
+use Rattle.alt_graph.specs.{Bounds.IsAheadOf, Times.earliest_of}
 use Rattle.plan_verifier.proofs.leavings.first_late.Given as goal
 
 -- the jobs looked at whose leavings are ahead are within their budgets

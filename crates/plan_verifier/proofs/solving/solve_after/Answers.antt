@@ -1,5 +1,4 @@
-use Rattle.plan_verifier.proofs.Tables.{rest_rooted}
-use Rattle.plan_verifier.proofs.Rests.{solved_ahead}
+use Rattle.plan_verifier.proofs.{Tables.rest_rooted, Rests.solved_ahead}
 use Rattle.plan_verifier.proofs.solving.solve_after.Goals as goal
 
 pub solve_from-requires-clause-rooted : goal.solve_from-requires-clause-rooted

@@ -1,6 +1,4 @@
-use Rattle.plan_verifier.proofs.Tables.{rest_rooted}
-use Rattle.plan_verifier.proofs.Answers.{ok_each}
-use Rattle.plan_verifier.proofs.ByBounds.{judged_accepted, judged_reason}
+use Rattle.plan_verifier.proofs.{Tables.rest_rooted, Answers.ok_each, ByBounds.{judged_accepted, judged_reason}}
 use Rattle.plan_verifier.proofs.verifying.judge_rest.Goals as goal
 
 pub solve_from-requires-clause-rooted : goal.solve_from-requires-clause-rooted

@@ -1,6 +1,5 @@
 use Rattle.alt_graph.proofs.WholePlans.{whole_rooted}
-use Rattle.plan_verifier.proofs.Answers.{ok_each}
-use Rattle.plan_verifier.proofs.ByBounds.{judged_whole}
+use Rattle.plan_verifier.proofs.{Answers.ok_each, ByBounds.judged_whole}
 use Rattle.plan_verifier.proofs.verifying.judge_whole.Goals as goal
 
 pub solve_from-requires-clause-rooted : goal.solve_from-requires-clause-rooted

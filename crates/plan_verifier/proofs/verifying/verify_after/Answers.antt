@@ -1,7 +1,5 @@
 use Rattle.std.proofs.Common.{ℕ, ◌<◌}
-use Rattle.shop_base.specs.Plan.{jobs}
-use Rattle.shop_base.specs.Cell.{IsGone}
-use Rattle.shop_base.specs.Graph.{leaving}
+use Rattle.shop_base.specs.{Plan.jobs, Cell.IsGone, Graph.leaving}
 use Rattle.alt_graph.specs.Times.{NodeTimes, earliest_of}
 use Rattle.plan_verifier.specs.FromThere.{IsNeverStuckFrom, IsInTimeFrom, IsNeverGoneAfterFrom, IsNeverGoneBeforeFrom, IsJustInTimeFrom}
 use Rattle.plan_verifier.proofs.GoingOn.{never_stuck_from, in_time_from, never_gone_after, never_gone_before, just_in_time_from}

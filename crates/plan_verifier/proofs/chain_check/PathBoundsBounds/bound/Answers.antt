@@ -1,8 +1,7 @@
 use Rattle.std.proofs.Common.{◌<◌, Some, inl, inr, sym, ap, ◌∙◌}
 use Rattle.std.specs.Prelude.{unwrap_or}
 use Rattle.std.proofs.lemmas.Bool.{cases_lt}
-use Rattle.shop_base.specs.Cell.{made}
-use Rattle.shop_base.specs.Ahead.{IsAhead}
+use Rattle.shop_base.specs.{Cell.made, Ahead.IsAhead}
 use Rattle.plan_verifier.proofs.Tables.{ahead_of, of_ahead, bound_told}
 use Rattle.plan_verifier.proofs.PathsAhead.{beginning_passed, beginning_here, beginning_told}
 use Rattle.plan_verifier.proofs.chain_check.PathBoundsBounds.bound.Goals as goal

@@ -1,6 +1,5 @@
 use Rattle.alt_graph.proofs.WholePlans.{times_ranks}
-use Rattle.plan_verifier.proofs.Answers.{ok_each}
-use Rattle.plan_verifier.proofs.Latest.{of_verified}
+use Rattle.plan_verifier.proofs.{Answers.ok_each, Latest.of_verified}
 use Rattle.plan_verifier.proofs.verified.Verified.deadlines.Goals as goal
 
 pub latest_moments-requires : goal.latest_moments-requires

@@ -1,7 +1,5 @@
 use Rattle.std.proofs.Common.{◌≡◌, ◌<◌, length, arith, ap, subst, ◌∙◌}
-use Rattle.shop_base.specs.Shop.{JobShop}
-use Rattle.shop_base.specs.Plan.{jobs}
-use Rattle.shop_base.specs.Graph.{leaving}
+use Rattle.shop_base.specs.{Shop.JobShop, Plan.jobs, Graph.leaving}
 use Rattle.plan_verifier.specs.Accepted.{VerifiedPlan, IsVerified, kept_at}
 use Rattle.plan_verifier.proofs.Reasons.{verified_greatest, verified_never_before, verified_no_later, verified_just_in_time}
 use Rattle.plan_verifier.proofs.verified.Verified.earliest_leave.Goals as goal
