@@ -1,16 +1,13 @@
 -- A cell that is carried over to a plan that the run so far keeps is one as it can be in a run of that plan.
 use Rattle.std.proofs.Common.{◌≡◌, ℕ, ◌+◌, ◌-◌, ◌<◌, ◌≤◌, inl, inr, List, [], length, get_or, false, None, Some, refl, sym, ap, ◌∙◌, subst, arith, length-append, lt-ltb, le-ltb, if◌then◌else◌}
-use Rattle.std.proofs.lemmas.Bool.{cases_lt}
-use Rattle.std.proofs.lemmas.List.{get_or_past}
-use Rattle.std.proofs.Math.ListN.{get_or-append}
+use Rattle.std.proofs.{lemmas.Bool.cases_lt, lemmas.List.get_or_past, Math.ListN.get_or-append}
 use Rattle.shop_base.specs.declared.job_state.JobState.{JobState}
 use Rattle.shop_base.specs.Plan.{PlannedShop, jobs, machines, steps, machine_of, order, job_at, clean, Visits, Stands, IsWellShaped}
 use Rattle.shop_base.specs.Cell.{Cell, MachineState, absent, unused, job_in, machine_in, made, ready, since, entries, cleaning, IsGone, IsFree}
-use Rattle.shop_base.specs.Move.{IsPrefix}
-use Rattle.shop_base.specs.Sound.{IsSound}
+use Rattle.shop_base.specs.{Move.IsPrefix, Sound.IsSound}
 use Rattle.shop_base.proofs.Visits.{visits_job, visits_machine, visits_once, visits-stands, stands_once}
-use Rattle.cell_control.specs.Kept.{KeepsSoFar}
-use Rattle.cell_control.specs.Carried.{awaited, IsCarried}
+use Rattle.cell_control.specs.{Kept.KeepsSoFar, Carried.{awaited, IsCarried}}
+use Rattle.cell_control.proofs.KeptSoFar.{kept_begins}
 
 -- an entry of a prefix is one of the whole
 prefix_at : (front whole : List ℕ) (a : ℕ) → IsPrefix front whole → a < length front → (a < length whole) × (get_or whole a 0 ≡ get_or front a 0)
@@ -107,10 +104,7 @@ module _ (p q : PlannedShop) (c new : Cell) (shaped_p : IsWellShaped p) (shaped 
   in_order : (m : ℕ) → IsPrefix (entries new m) (order q m)
   in_order m = elim (cases_lt m (machines q)) [
     | inr past ↦ subst (λ (s : MachineState). IsPrefix s.entries (order q m)) (sym (machine_past m past)) (order q m, refl)
-    | inl inside ↦ subst (λ xs. IsPrefix xs (order q m)) (sym (carried.entries_same m inside)) (elim (cases_lt m (machines p)) [
-      | inl here ↦ (keeps.machines_keep m here).in_order
-      | inr there ↦ subst (λ xs. IsPrefix xs (order q m)) (sym (unentered m there)) (order q m, refl)
-    ])
+    | inl inside ↦ subst (λ xs. IsPrefix xs (order q m)) (sym (carried.entries_same m inside)) (kept_begins p c q sound keeps m)
   ]
 
   -- a job of the order that has entered a machine has made its step there

@@ -1,49 +1,23 @@
 -- The tables of all rows that are carried over to another plan.
-use Rattle.std.proofs.Common.{◌≡◌, ℕ, ◌≤◌, inl, inr, length, take, get_or, Option, None, Some, IfSome, refl, sym, ap, ◌∙◌, subst, arith, le_refl, length-append}
-use Rattle.std.proofs.lemmas.Bool.{cases_lt}
-use Rattle.std.proofs.lemmas.List.{get_or_past, take_all, take-append-le}
+use Rattle.std.proofs.Common.{◌≡◌, ℕ, ◌≤◌, inl, inr, length, take, Option, None, Some, IfSome, sym, ap, ◌∙◌, subst, arith, length-append}
+use Rattle.std.proofs.{lemmas.Bool.cases_lt, lemmas.List.{get_or_past}}
 use Rattle.shop_base.specs.declared.limits.TheConstants.{MAX_MOMENT}
 use Rattle.shop_base.specs.Plan.{PlannedShop, jobs, machines, order, IsWellShaped}
-use Rattle.shop_base.specs.Cell.{Cell, MachineState, unused, entries, cleaning}
-use Rattle.shop_base.specs.Move.{IsPrefix}
-use Rattle.shop_base.specs.Sound.{IsSound}
-use Rattle.cell_tables.specs.declared.tables.Tables.{Tables}
-use Rattle.cell_tables.specs.Tables.{cell_of, row_at, AreSound}
+use Rattle.shop_base.specs.{Cell.{Cell, MachineState, unused, entries, cleaning}, Sound.IsSound}
+use Rattle.cell_tables.specs.{declared.tables.Tables.Tables, Tables.{cell_of, row_at, AreSound}}
 use Rattle.cell_tables.proofs.Cells.{job-read, machine-read, length-jobs, length-machines, last-read}
-use Rattle.cell_control.specs.Kept.{KeepsSoFar}
-use Rattle.cell_control.specs.Carried.{IsCarried}
-use Rattle.cell_control.specs.CarriedRows.{AreCarriedJobs, AreCarriedMachines}
-use Rattle.cell_control.proofs.CarriedCells.{carried-sound}
-
--- a machine that there wasn't in the cell
-pub machine_lacks : (p : PlannedShop) (c : Cell) (m : ℕ) → IsSound p c → machines p ≤ m → (length (entries c m) ≡ 0) × (cleaning c m ≡ None)
-machine_lacks p c m sound past = (ap (λ (s : MachineState). length s.entries) none, ap (λ (s : MachineState). s.cleaning) none)
-  where
-    none : get_or c.machines m unused ≡ unused
-    none = get_or_past c.machines m unused (omega (arith, sound.machine_count))
+use Rattle.cell_control.specs.{Kept.KeepsSoFar, Carried.IsCarried, CarriedRows.{AreCarriedJobs, AreCarriedMachines}}
+use Rattle.cell_control.proofs.{KeptSoFar.{front_taken, kept_begins}, CarriedCells.carried-sound}
 
 module _ (p q : PlannedShop) (c : Cell) (t : Tables) (shaped_p : IsWellShaped p) (shaped : IsWellShaped q) (sound : IsSound p c) (keeps : KeepsSoFar p c q)
     (of_jobs : AreCarriedJobs p c (jobs q) t.jobs.items) (of_machines : AreCarriedMachines c q (machines q) t.machines.items) (last : t.last ≡ c.last) where
-  -- those that entered a machine begin its other order
-  begins : (m : ℕ) → IsPrefix (entries c m) (order q m)
-  begins m = elim (cases_lt m (machines p)) [
-    | inl here ↦ (keeps.machines_keep m here).in_order
-    | inr past ↦ subst (λ xs. IsPrefix xs (order q m)) (sym (ap (λ (s : MachineState). s.entries) (get_or_past c.machines m unused (omega (arith, sound.machine_count))))) (order q m, refl)
-  ]
-
-  begun_by : (m : ℕ) → take (length (entries c m)) (order q m) ≡ entries c m
-  begun_by m =
-      let (rest, is) = begins m in
-      ap (take (length (entries c m))) is ∙ take-append-le (length (entries c m)) (entries c m) rest (le_refl (length (entries c m)))
-      ∙ take_all (length (entries c m)) (entries c m) (le_refl (length (entries c m)))
-
   pub carried : IsCarried p c q (cell_of q t)
   carried = record {
     job_count = length-jobs q t ∙ of_jobs.count;
     machine_count = length-machines q t ∙ of_machines.count;
     jobs_same = λ j inside. job-read q t j ∙ of_jobs.same j inside;
     entries_same = λ m inside. ap (λ (s : MachineState). s.entries) (machine-read q t m (omega (arith, of_machines.count)))
-        ∙ ap (λ n. take n (order q m)) (of_machines.entered m inside) ∙ begun_by m;
+        ∙ ap (λ n. take n (order q m)) (of_machines.entered m inside) ∙ front_taken (entries c m) (order q m) (kept_begins p c q sound keeps m);
     cleaning_is = λ m inside. ap (λ (s : MachineState). s.cleaning) (machine-read q t m (omega (arith, of_machines.count))) ∙ of_machines.cleaning m inside;
     last_same = last-read q t ∙ last;
   }
@@ -58,7 +32,7 @@ module _ (p q : PlannedShop) (c : Cell) (t : Tables) (shaped_p : IsWellShaped p)
   cleaning_range m s is = elim (cases_lt m (machines q)) [
     | inl inside ↦ some_range (row_at t m).cleaning s (of_machines.in_range m inside)
         (sym (ap (λ (x : MachineState). x.cleaning) (machine-read q t m (omega (arith, of_machines.count)))) ∙ is)
-    | inr past ↦ absurd (let none : cleaning (cell_of q t) m ≡ None = (machine_lacks q (cell_of q t) m new_sound past).1 in cc)
+    | inr past ↦ absurd (let none : cleaning (cell_of q t) m ≡ None = ap (λ (s : MachineState). s.cleaning) (get_or_past (cell_of q t).machines m unused (omega (arith, new_sound.machine_count))) in cc)
   ]
 
   pub carried_are_sound : AreSound q t
@@ -67,7 +41,7 @@ module _ (p q : PlannedShop) (c : Cell) (t : Tables) (shaped_p : IsWellShaped p)
       shaped = shaped;
       job_count = of_jobs.count;
       machine_count = of_machines.count;
-      cursors = λ m inside. (let (rest, is) = begins m in omega (arith, of_machines.entered m inside, ap length is, length-append (entries c m) rest));
+      cursors = λ m inside. (let (rest, is) = kept_begins p c q sound keeps m in omega (arith, of_machines.entered m inside, ap length is, length-append (entries c m) rest));
       since_in_range = λ j. omega (arith, new_sound.begun j, new_sound.last_in_range);
       cleaning_in_range = cleaning_range;
       last_in_range = omega (arith, last-read q t, new_sound.last_in_range);

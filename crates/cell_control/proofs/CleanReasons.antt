@@ -1,17 +1,13 @@
 -- Of the report of a cleaning after a job: one that is possible is that of a cleaning that goes on, and there is one first reason at most.
 use Rattle.std.proofs.Common.{◌≡◌, ℕ, ◌+◌, ◌-◌, ◌<◌, ◌≤◌, length, cond, nat_lt, refl, ap, sym, ◌∙◌, subst, arith, length-append, lt-ltb, le-ltb}
-use Rattle.shop_base.specs.declared.limits.TheConstants.{MAX_MOMENT}
-use Rattle.shop_base.specs.Plan.{PlannedShop, jobs, machines, order, clean, IsWellShaped}
-use Rattle.shop_base.specs.Cell.{Cell, entries}
-use Rattle.shop_base.specs.Report.{CanReport}
-use Rattle.shop_base.specs.Sound.{IsSound}
-use Rattle.shop_base.specs.declared.report.Report.TheVariants.{Clean}
-use Rattle.shop_base.proofs.Sizes.{place_job}
-use Rattle.shop_base.proofs.InShop.{cleaned_in_shop}
+use Rattle.shop_base.specs.{Plan.{PlannedShop, jobs, machines, order, clean, IsWellShaped}, Cell.{Cell, entries}}
+use Rattle.shop_base.specs.{Report.CanReport, Sound.IsSound, declared.report.Report.TheVariants.Clean}
+use Rattle.shop_base.proofs.{Sizes.place_job, InShop.cleaned_in_shop}
 use Rattle.cell_tables.specs.Readings.{IsCleanedAfter}
 use Rattle.cell_control.specs.declared.report_fault.ReportFault.{ReportFault}
 use Rattle.cell_control.specs.declared.report_fault.ReportFault.TheVariants.{JobOutOfRange, MachineOutOfRange, MomentTooLarge, Backwards, NotExpected, WrongKind, WrongMachine}
 use Rattle.cell_control.specs.Reports.{CanCleanAfter, AreOfShop, IsFirstCleanReason, IsOnlyCleanReason}
+use Rattle.cell_control.proofs.OneReason.{in_time, late_found, other_found}
 
 -- no more jobs have entered a machine than its order has
 pub entered_few : (p : PlannedShop) (c : Cell) (m : ℕ) → IsSound p c → length (entries c m) ≤ length (order p m)
@@ -45,18 +41,16 @@ module _ (p : PlannedShop) (c : Cell) (m j t : ℕ) (shaped : IsWellShaped p) (s
 
   -- the reason that is found first
   abbrev found_first : ReportFault
-  found_first = cond (nat_lt m (machines p)) (cond (nat_lt j (jobs p)) (cond (nat_lt MAX_MOMENT t) MomentTooLarge (cond (nat_lt t c.last) (Backwards c.last) NotExpected)) JobOutOfRange) MachineOutOfRange
+  found_first = cond (nat_lt m (machines p)) (cond (nat_lt j (jobs p)) (in_time c t NotExpected) JobOutOfRange) MachineOutOfRange
 
   found : (fault : ReportFault) → IsFirstCleanReason p c m j t fault → fault ≡ found_first
-  found MachineOutOfRange first = rw (le-ltb m (machines p) first) refl
+  found MachineOutOfRange past = rw (le-ltb m (machines p) past) refl
   found JobOutOfRange (machine, past) = rw (lt-ltb m (machines p) machine, le-ltb j (jobs p) past) refl
-  found MomentTooLarge ((machine, job), late) = rw (lt-ltb m (machines p) machine, lt-ltb j (jobs p) job, lt-ltb MAX_MOMENT t late) refl
-  found (Backwards last) ((machine, job), range, back, is) =
-      rw (lt-ltb m (machines p) machine, lt-ltb j (jobs p) job, le-ltb MAX_MOMENT t range, lt-ltb t c.last back) (ap Backwards is)
-  found NotExpected ((machine, job), moment, not_after) =
-      rw (lt-ltb m (machines p) machine, lt-ltb j (jobs p) job, le-ltb MAX_MOMENT t moment.in_range, le-ltb t c.last moment.in_order) refl
-  found WrongKind first = absurd first
-  found (WrongMachine actual) first = absurd first
+  found MomentTooLarge ((machine, job), late) = rw (lt-ltb m (machines p) machine, lt-ltb j (jobs p) job) (late_found c t NotExpected MomentTooLarge late)
+  found (Backwards last) ((machine, job), range, back, is) = rw (lt-ltb m (machines p) machine, lt-ltb j (jobs p) job) (late_found c t NotExpected (Backwards last) (range, back, is))
+  found NotExpected ((machine, job), moment, not_after) = rw (lt-ltb m (machines p) machine, lt-ltb j (jobs p) job) (other_found c t NotExpected moment)
+  found WrongKind bad = absurd bad
+  found (WrongMachine actual) bad = absurd bad
 
   pub only_clean_reason : (fault : ReportFault) → IsFirstCleanReason p c m j t fault → IsOnlyCleanReason p c m j t fault
   only_clean_reason fault first other reason = found other reason ∙ sym (found fault first)

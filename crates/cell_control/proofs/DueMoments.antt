@@ -1,14 +1,43 @@
 -- The due moments stay tied to the cell: at the start, after a move, and after the end of an activity.
-use Rattle.std.proofs.Common.{◌≡◌, ◌≢◌, ℕ, ◌+◌, ◌<◌, List, length, length-set, get_or-set_same, get_or-set_other, set, Option, None, sym, ◌∙◌, ap, arith, ◌⊎◌, inl, inr}
+use Rattle.std.proofs.Common.{◌≡◌, ◌≢◌, ℕ, ◌+◌, ◌<◌, List, length, length-set, get_or-set_same, get_or-set_other, set, Option, None, sym, ◌∙◌, ap, arith, inl, inr}
 use Rattle.std.proofs.lemmas.Bool.{cases_eq}
 use Rattle.shop_base.specs.Plan.{PlannedShop, jobs, machines, machine_of}
-use Rattle.shop_base.specs.Cell.{Cell, job_in, cleaning, IsOutside, IsOn}
-use Rattle.shop_base.specs.Movers.{due_of_job, due_of_cleaning}
+use Rattle.shop_base.specs.{Cell.{Cell, job_in, cleaning, IsOutside, IsOn}, Movers.{due_of_job, due_of_cleaning}}
 use Rattle.shop_base.proofs.Changes.{IsMoved}
-use Rattle.cell_control.specs.Dues.{due_at}
-use Rattle.cell_control.specs.DueMoments.{AreDueMoments}
+use Rattle.cell_control.specs.{Dues.due_at, DueMoments.AreDueMoments, Noted.AreDueMomentsOf}
 
--- the due moments of all but the machine m, and the key of m renewed
+module _ (p : PlannedShop) (c : Cell) (dues : List (Option ℕ)) (J M : ℕ → Type 0) (are : AreDueMomentsOf p c dues J M) where
+  -- the key of a job renewed
+  pub job_renewed : (j : ℕ) → j < jobs p → AreDueMomentsOf p c (set dues j (due_of_job p j (job_in c j))) (λ i. i ≢ j → J i) M
+  job_renewed j inside = record {
+    count = length-set dues j (due_of_job p j (job_in c j)) ∙ are.count;
+    of_jobs = λ i below was. elim (cases_eq i j) [
+      | inl same ↦ rw same (get_or-set_same dues j (due_of_job p j (job_in c j)) None (omega (arith, are.count)))
+      | inr other ↦ get_or-set_other dues j i (due_of_job p j (job_in c j)) None other ∙ are.of_jobs i below (was other)
+    ];
+    of_others = λ m below was. get_or-set_other dues j (jobs p + m) (due_of_job p j (job_in c j)) None (λ same. absurd (omega (arith, same))) ∙ are.of_others m below was;
+  }
+
+  -- that of a machine
+  pub machine_renewed : (m : ℕ) → m < machines p → AreDueMomentsOf p c (set dues (jobs p + m) (due_of_cleaning p m (cleaning c m))) J (λ n. n ≢ m → M n)
+  machine_renewed m inside = record {
+    count = length-set dues (jobs p + m) (due_of_cleaning p m (cleaning c m)) ∙ are.count;
+    of_jobs = λ j below was. get_or-set_other dues (jobs p + m) j (due_of_cleaning p m (cleaning c m)) None (λ same. absurd (omega (arith, same))) ∙ are.of_jobs j below was;
+    of_others = λ n below was. elim (cases_eq n m) [
+      | inl same ↦ rw same (get_or-set_same dues (jobs p + m) (due_of_cleaning p m (cleaning c m)) None (omega (arith, are.count)))
+      | inr other ↦ get_or-set_other dues (jobs p + m) (jobs p + n) (due_of_cleaning p m (cleaning c m)) None (λ same. other (omega (arith, same))) ∙ are.of_others n below (was other)
+    ];
+  }
+
+  -- they are those of fewer
+  pub of_fewer : (J' M' : ℕ → Type 0) → ((j : ℕ) → j < jobs p → J' j → J j) → ((m : ℕ) → m < machines p → M' m → M m) → AreDueMomentsOf p c dues J' M'
+  of_fewer J' M' job machine = record { count = are.count; of_jobs = λ j below is. are.of_jobs j below (job j below is); of_others = λ m below is. are.of_others m below (machine m below is) }
+
+  -- or of all
+  pub of_all : ((j : ℕ) → j < jobs p → J j) → ((m : ℕ) → m < machines p → M m) → AreDueMoments p c dues
+  of_all job machine = record { count = are.count; of_jobs = λ j below. are.of_jobs j below (job j below); of_machines = λ m below. are.of_others m below (machine m below) }
+
+-- the due moments of all but the machine m
 pub record AreDueMomentsBut (p : PlannedShop) (c : Cell) (dues : List (Option ℕ)) (m : ℕ) : Type 0 where
   pub count : length dues ≡ jobs p + machines p
   pub of_jobs : (j : ℕ) → j < jobs p → due_at dues j ≡ due_of_job p j (job_in c j)
@@ -16,50 +45,27 @@ pub record AreDueMomentsBut (p : PlannedShop) (c : Cell) (dues : List (Option �
 
 pub due_moments_but-renewed : (p : PlannedShop) (c : Cell) (dues : List (Option ℕ)) (m : ℕ) → m < machines p → AreDueMomentsBut p c dues m
     → AreDueMoments p c (set dues (jobs p + m) (due_of_cleaning p m (cleaning c m)))
-due_moments_but-renewed p c dues m inside due_moments = record {
-  count = length-set dues (jobs p + m) due ∙ due_moments.count;
-  of_jobs = λ j below. get_or-set_other dues (jobs p + m) j due None (λ same. absurd (omega (arith, same))) ∙ due_moments.of_jobs j below;
-  of_machines = of_machines;
-}
-  where
-    due : Option ℕ
-    due = due_of_cleaning p m (cleaning c m)
-
-    of_machines : (n : ℕ) → n < machines p → due_at (set dues (jobs p + m) due) (jobs p + n) ≡ due_of_cleaning p n (cleaning c n)
-    of_machines n below = go (cases_eq n m)
-      where
-        go : (n ≡ m) ⊎ (n ≡ m → ⊥) → due_at (set dues (jobs p + m) due) (jobs p + n) ≡ due_of_cleaning p n (cleaning c n)
-        go (inl same) = rw same (get_or-set_same dues (jobs p + m) due None (omega (arith, due_moments.count)))
-        go (inr other) = get_or-set_other dues (jobs p + m) (jobs p + n) due None (λ same. other (omega (arith, same))) ∙ due_moments.of_others n below other
+due_moments_but-renewed p c dues m inside are =
+    let but : AreDueMomentsOf p c dues (λ _. Unit {0}) (λ n. n ≢ m) = record { count = are.count; of_jobs = λ j below _. are.of_jobs j below; of_others = are.of_others } in
+    of_all p c _ _ _ (machine_renewed p c dues _ _ but m inside) (λ j below. tt) (λ n below other. other)
 
 -- the key of a job renewed, where no other job has changed, nor a machine but m
 pub due_moments-renewed : (p : PlannedShop) (c new : Cell) (dues : List (Option ℕ)) (j m : ℕ) → j < jobs p → AreDueMoments p c dues
     → ((i : ℕ) → i ≢ j → job_in new i ≡ job_in c i) → ((n : ℕ) → n ≢ m → cleaning new n ≡ cleaning c n)
     → AreDueMomentsBut p new (set dues j (due_of_job p j (job_in new j))) m
-due_moments-renewed p c new dues j m inside due_moments others elsewhere = record {
-  count = length-set dues j due ∙ due_moments.count;
-  of_jobs = of_jobs;
-  of_others = λ n below other. get_or-set_other dues j (jobs p + n) due None (λ same. absurd (omega (arith, same))) ∙ due_moments.of_machines n below
-      ∙ ap (due_of_cleaning p n) (sym (elsewhere n other));
-}
-  where
-    due : Option ℕ
-    due = due_of_job p j (job_in new j)
-
-    of_jobs : (i : ℕ) → i < jobs p → due_at (set dues j due) i ≡ due_of_job p i (job_in new i)
-    of_jobs i below = go (cases_eq i j)
-      where
-        go : (i ≡ j) ⊎ (i ≡ j → ⊥) → due_at (set dues j due) i ≡ due_of_job p i (job_in new i)
-        go (inl same) = rw same (get_or-set_same dues j due None (omega (arith, due_moments.count)))
-        go (inr other) = get_or-set_other dues j i due None other ∙ due_moments.of_jobs i below ∙ ap (due_of_job p i) (sym (others i other))
+due_moments-renewed p c new dues j m inside due_moments others elsewhere =
+    let but : AreDueMomentsOf p new dues (λ i. i ≢ j) (λ n. n ≢ m) = record {
+      count = due_moments.count;
+      of_jobs = λ i below other. due_moments.of_jobs i below ∙ ap (due_of_job p i) (sym (others i other));
+      of_others = λ n below other. due_moments.of_machines n below ∙ ap (due_of_cleaning p n) (sym (elsewhere n other));
+    } in
+    let all = job_renewed p new dues (λ i. i ≢ j) (λ n. n ≢ m) but j inside in
+    record { count = all.count; of_jobs = λ i below. all.of_jobs i below (λ other. other); of_others = all.of_others }
 
 -- where no machine has changed either, these are all of the cell's
 pub due_moments_but-none : (p : PlannedShop) (c : Cell) (dues : List (Option ℕ)) → AreDueMomentsBut p c dues (machines p) → AreDueMoments p c dues
-due_moments_but-none p c dues due_moments = record {
-  count = due_moments.count;
-  of_jobs = due_moments.of_jobs;
-  of_machines = λ m below. due_moments.of_others m below (λ same. absurd (omega (arith, same)));
-}
+due_moments_but-none p c dues are =
+    record { count = are.count; of_jobs = are.of_jobs; of_machines = λ m below. are.of_others m below (λ same. absurd (omega (arith, same))) }
 
 -- after a move from outside
 pub due_moments-entered : (p : PlannedShop) (c new : Cell) (dues : List (Option ℕ)) (j t : ℕ) → j < jobs p → AreDueMoments p c dues → IsMoved p c j t new → IsOutside c j

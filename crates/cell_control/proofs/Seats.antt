@@ -4,10 +4,8 @@ use Rattle.std.specs.Prelude.{MatchOption}
 use Rattle.std.proofs.lemmas.Bool.{cases_eq}
 use Rattle.shop_base.specs.declared.move_order.Spot.TheVariants.{Out, At}
 use Rattle.shop_base.specs.Plan.{PlannedShop, machines, steps, machine_of, IsWellShaped}
-use Rattle.shop_base.specs.Cell.{Cell, made, IsOutside, IsOn, IsFree}
-use Rattle.shop_base.specs.Move.{source}
-use Rattle.shop_base.proofs.Visits.{visits_machine}
-use Rattle.shop_base.proofs.CellFacts.{source_on, source_outside}
+use Rattle.shop_base.specs.{Cell.{Cell, made, IsOutside, IsOn, IsFree}, Move.source}
+use Rattle.shop_base.proofs.{Visits.visits_machine, CellFacts.{source_on, source_outside}}
 
 -- a job has its source on a machine exactly where it is on it
 pub on_source : (p : PlannedShop) (c : Cell) (j m : ℕ) → made c j ≤ steps p j → source p c j ≡ At m → IsOn p c j (made c j - 1) m

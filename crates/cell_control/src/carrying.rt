@@ -1,12 +1,9 @@
 //! The tables of a cell as another plan's tables.
 
 ghost use Rattle.std.specs.Prelude.{◌≡◌, ◌<◌, ◌≤◌, length, IfOk, IfErr, IfSome};
-ghost use Rattle.shop_base.specs.declared.limits.TheConstants.{MAX_MOMENT};
-ghost use Rattle.shop_base.specs.Plan.{machines};
-ghost use Rattle.shop_base.specs.Cell.{entries};
+ghost use Rattle.shop_base.specs.{declared.limits.TheConstants.MAX_MOMENT, Plan.machines, Cell.entries};
 ghost use Rattle.cell_tables.specs.Tables.{AreSound, cell_of};
-ghost use Rattle.cell_control.specs.declared.rest_fault.RestFault.TheVariants.{Memory};
-ghost use Rattle.cell_control.specs.Kept.{KeepsSoFar};
+ghost use Rattle.cell_control.specs.{declared.rest_fault.RestFault.TheVariants.Memory, Kept.KeepsSoFar};
 ghost use Rattle.cell_control.specs.Carried.{carried_job, carried_cleaning, IsCarried};
 ghost use Rattle.cell_control.specs.CarriedRows.{AreCarriedJobs, AreCarriedMachines};
 

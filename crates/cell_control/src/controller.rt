@@ -47,14 +47,7 @@ impl<D: Dues> Core<Verified, D> {
     pub fn into_verified(self) -> Verified
         ensures { result ≡ verified_in self }
     {
-        let Core {
-            cell,
-            dues: _,
-            orders: _,
-            left: _,
-            began: _,
-            punctual: _,
-        } = self;
+        let Core { cell, .. } = self;
         let (verified, _tables) = cell.into_parts();
         verified
     }

@@ -1,15 +1,10 @@
 ghost use Rattle.std.specs.Prelude.{◌≡◌, ◌<◌, ◌≤◌, ◌↔◌, false, [], List, OnOk, IfOk, IfErr, IsOk, IsTrue, MatchOption};
-ghost use Rattle.shop_base.specs.Plan.{jobs};
-ghost use Rattle.shop_base.specs.Report.{CanReport};
-ghost use Rattle.shop_base.specs.Run.{Event, IsAtRest};
-ghost use Rattle.shop_base.specs.Ends.{HasEnded};
-ghost use Rattle.shop_base.specs.ReportsLeft.{reports_left};
-ghost use Rattle.shop_base.specs.Graph.{leaving};
+ghost use Rattle.shop_base.specs.{Plan.jobs, Report.CanReport, Run.Event, Run.IsAtRest, Ends.HasEnded};
+ghost use Rattle.shop_base.specs.{ReportsLeft.reports_left, Graph.leaving};
 ghost use Rattle.alt_graph.specs.Times.{earliest_of};
 ghost use Rattle.cell_tables.specs.Readings.{IsCleanedFor};
 ghost use Rattle.cell_control.specs.Control.{IsAnswered, IfEndsNow, IsControl};
-ghost use Rattle.cell_control.specs.Fields.{begun_with, IsRoomFor};
-ghost use Rattle.cell_control.specs.Judged.{IsJudged, IsPossible};
+ghost use Rattle.cell_control.specs.{Fields.begun_with, Fields.IsRoomFor, Judged.IsJudged, Judged.IsPossible};
 ghost use Rattle.cell_control.specs.Reports.{IsFirstReason, IsOnlyReason, CanCleanAfter, IsFirstCleanReason, IsOnlyCleanReason};
 ghost use Rattle.cell_control.specs.Promises.{IsCalled};
 ghost use Rattle.cell_control.specs.Readings.{IsPhaseOf, IsJobOn, IsDueOf, IsDueOfCleaning, IsOnTime};
@@ -17,12 +12,10 @@ ghost use Rattle.cell_control.specs.Readings.{IsPhaseOf, IsJobOn, IsDueOf, IsDue
 use crate::ack::Ack;
 use crate::checking::{check_cleaning_after, check_report};
 use crate::counting::count_left;
-use crate::due_moments::cleaning_key;
+use crate::due_moments::{cleaning_key, note_all};
 use crate::dues::Dues;
-use crate::noting::note_all;
-use crate::phase::Phase;
+use crate::phase::{Phase, phase_of};
 use crate::possible::Possible;
-use crate::readings::phase_of;
 use crate::releasing::Orders;
 use crate::report_fault::ReportFault;
 use crate::room::Room;
@@ -53,8 +46,7 @@ pub struct Core<P: Timed, D: Dues> {
 }
 
 impl<P: Timed, D: Dues> Model for Core<P, D> {
-    ghost use Rattle.cell_control.specs.Control.{Control};
-    ghost use Rattle.cell_control.specs.Fields.{control_of, AreFieldsOf};
+    ghost use Rattle.cell_control.specs.{Control.Control, Fields.control_of, Fields.AreFieldsOf};
 
     ghost Value = { Control };
 
@@ -151,7 +143,7 @@ impl<P: Timed, D: Dues> Core<P, D> {
             late,
         );
         self.left -= 1;
-        self.punctual = still_punctual(self.punctual, ack, report.at(), self.began);
+        self.punctual = still_punctual(self.punctual, ack, report, self.began);
         ack
     }
 

@@ -1,8 +1,7 @@
 //! How many reports are still to come, counted from the cell.
 
 ghost use Rattle.std.specs.Prelude.{◌≡◌, ◌<◌, ◌≤◌, length};
-ghost use Rattle.shop_base.specs.Plan.{jobs, machines, order};
-ghost use Rattle.shop_base.specs.Ends.{sum_below};
+ghost use Rattle.shop_base.specs.{Plan.jobs, Plan.machines, Plan.order, Ends.sum_below};
 ghost use Rattle.shop_base.specs.ReportsLeft.{job_reports_left, departures, cleanings_left, reports_left};
 
 use cell_tables::WorkCell;

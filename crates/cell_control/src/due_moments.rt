@@ -3,6 +3,7 @@
 
 ghost use Rattle.std.specs.Prelude.{◌≡◌, ◌+◌, ◌<◌, slice_set, length};
 ghost use Rattle.shop_base.specs.Plan.{jobs, machines};
+ghost use Rattle.cell_control.specs.{DueMoments.AreDueMoments, Noted.AreDueMomentsOf};
 ghost use Rattle.cell_control.specs.Steps.{IsJobRenewed, IsMachineRenewed};
 
 use crate::dues::Dues;
@@ -46,4 +47,33 @@ pub fn renew_machine<P: Planned, D: Dues>(cell: &WorkCell<P>, dues: &mut D, mach
 {
     let due = cell.cleaning_due(machine);
     renew(dues, cleaning_key(cell, machine), due);
+}
+
+/// Notes what goes on in the cell.
+pub fn note_all<P: Planned, D: Dues>(cell: &WorkCell<P>, dues: &mut D)
+    requires { length (D.dues dues.old) ≡ jobs cell.now.plan + machines cell.now.plan }
+    ensures { AreDueMoments cell.now.plan cell.now.cell (D.dues dues.new) }
+{
+    note_jobs(cell, dues);
+    note_machines(cell, dues);
+}
+
+/// Notes what goes on with the jobs.
+fn note_jobs<P: Planned, D: Dues>(cell: &WorkCell<P>, dues: &mut D)
+    requires { length (D.dues dues.old) ≡ jobs cell.now.plan + machines cell.now.plan }
+    ensures { AreDueMomentsOf cell.now.plan cell.now.cell (D.dues dues.new) (λ _. Unit {0}) (λ _. ⊥) }
+{
+    for job in 0..cell.job_count() {
+        renew_job(cell, dues, job);
+    }
+}
+
+/// Notes what goes on with the machines, once the jobs are noted.
+fn note_machines<P: Planned, D: Dues>(cell: &WorkCell<P>, dues: &mut D)
+    requires { AreDueMomentsOf cell.now.plan cell.now.cell (D.dues dues.old) (λ _. Unit {0}) (λ _. ⊥) }
+    ensures { AreDueMoments cell.now.plan cell.now.cell (D.dues dues.new) }
+{
+    for machine in 0..cell.machine_count() {
+        renew_machine(cell, dues, machine);
+    }
 }

@@ -1,11 +1,8 @@
 //! The end of an activity that is reported.
 
 ghost use Rattle.std.specs.Prelude.{◌≡◌, ◌<◌, IfSome};
-ghost use Rattle.shop_base.specs.Plan.{jobs};
-ghost use Rattle.shop_base.specs.Report.{CanReport, after_report};
-ghost use Rattle.shop_base.specs.Run.{IsAtRest};
-ghost use Rattle.cell_control.specs.DueMoments.{AreDueMoments};
-ghost use Rattle.cell_control.specs.Sequences.{OnlyMay};
+ghost use Rattle.shop_base.specs.{Plan.jobs, Report.CanReport, Report.after_report, Run.IsAtRest};
+ghost use Rattle.cell_control.specs.{DueMoments.AreDueMoments, Sequences.OnlyMay};
 
 use crate::due_moments::cleaning_key;
 use crate::dues::Dues;
@@ -29,19 +26,15 @@ pub(crate) fn end_activity<P: Planned, D: Dues>(
     let _plan = cell.shaped();
     cell.end(report);
     match report {
-        Report::Arrive { job, at: _ } => {
+        Report::Arrive { job, .. } => {
             dues.clear(job);
             Some(job)
         }
-        Report::Finish {
-            job,
-            machine: _,
-            at: _,
-        } => {
+        Report::Finish { job, .. } => {
             dues.clear(job);
             Some(job)
         }
-        Report::Clean { machine, at: _ } => {
+        Report::Clean { machine, .. } => {
             dues.clear(cleaning_key(cell, machine));
             cell.next_on(machine)
         }

@@ -3,10 +3,7 @@
 ghost use Rattle.std.specs.Prelude.{◌≡◌, [], OnOk, IfOk, IfErr};
 ghost use Rattle.shop_base.specs.Report.{IsNextMoment};
 ghost use Rattle.plan_verifier.specs.Rest.{AreOrderedAhead};
-ghost use Rattle.cell_control.specs.Begun.{IsRestFault};
-ghost use Rattle.cell_control.specs.Fields.{IsRoomFor};
-ghost use Rattle.cell_control.specs.Kept.{KeepsSoFar};
-ghost use Rattle.cell_control.specs.Carried.{IsCarried};
+ghost use Rattle.cell_control.specs.{Begun.IsRestFault, Fields.IsRoomFor, Kept.KeepsSoFar, Carried.IsCarried};
 ghost use Rattle.cell_control.specs.HandedOver.{IsHandOverFault};
 
 use crate::carrying::carry;

@@ -1,9 +1,8 @@
 //! Whether the run so far keeps another plan.
 
-ghost use Rattle.std.specs.Prelude.{◌≡◌, ℕ, ◌<◌, ◌≤◌, ◌↔◌, length, IsTrue, MatchOption, is_some, if◌then◌else◌};
-ghost use Rattle.shop_base.specs.Plan.{jobs, machines, steps, machine_of, order, job_at, clean, Visits};
-ghost use Rattle.shop_base.specs.Cell.{made, entries, cleaning, IsGone};
-ghost use Rattle.shop_base.specs.Move.{IsPrefix};
+ghost use Rattle.std.specs.Prelude.{◌≡◌, ℕ, ◌<◌, ◌↔◌, IsTrue, is_some, if◌then◌else◌};
+ghost use Rattle.shop_base.specs.Plan.{jobs, machines, steps, machine_of, order, clean, Visits};
+ghost use Rattle.shop_base.specs.{Cell.made, Cell.entries, Cell.cleaning, Cell.IsGone, Move.IsPrefix};
 ghost use Rattle.cell_control.specs.Kept.{KeepsJob, KeepsMachine, KeepsSoFar, KeepsCleaning};
 
 use crate::counting::departed;
@@ -110,41 +109,20 @@ fn entries_keep<P: Planned>(cell: &WorkCell<P>, shaped: &Shaped, machine: Machin
 {
     // Called for its clause alone: the cell is sound.
     let _plan = cell.shaped();
-    for place in 0..cell.entered(machine) {
-        if !place_keeps(cell, shaped, machine, place) {
-            return false;
-        }
-    }
-    true
+    let count = cell.entered(machine);
+    let front = &cell.order_of(machine)[..count as usize];
+    other_order(shaped, machine).starts_with(front)
 }
 
-/// Whether the same job is at this place of the machine's other order.
-fn place_keeps<P: Planned>(
-    cell: &WorkCell<P>,
-    shaped: &Shaped,
-    machine: MachineNo,
-    place: u32,
-) -> bool
-    requires machine { machine < machines cell.now.plan }
-    requires place { place < length (order cell.now.plan machine) }
-    ensures { let q = shaped.now in
-        IsTrue result ↔ ((place < length (order q machine)) × (job_at q machine place ≡ job_at cell.now.plan machine place)) }
+/// The order of the machine, empty if there is none.
+fn other_order(shaped: &Shaped, machine: MachineNo) -> &[JobNo]
+    ensures { result.now ≡ order shaped.now machine }
 {
-    match job_in_order(shaped, machine, place) {
-        Some(job) => job == cell.order_of(machine)[place as usize],
-        None => false,
+    if machine < shaped.machine_count() {
+        shaped.order_of(machine)
+    } else {
+        &[]
     }
-}
-
-/// The job at this place of the machine's order, if there is one.
-fn job_in_order(shaped: &Shaped, machine: MachineNo, place: u32) -> Option<JobNo>
-    ensures { let q = shaped.now in
-        MatchOption result (length (order q machine) ≤ place) (λ j. (place < length (order q machine)) × (job_at q machine place ≡ j)) }
-{
-    if machine >= shaped.machine_count() {
-        return None;
-    }
-    shaped.order_of(machine).get(place as usize).copied()
 }
 
 /// Whether the other cleaning time of the machine can be taken up.

@@ -3,8 +3,7 @@
 ghost use Rattle.std.specs.Prelude.{◌≡◌, [], OnOk, IfOk, IfErr};
 ghost use Rattle.shop_base.specs.Report.{IsNextMoment};
 ghost use Rattle.plan_verifier.specs.Rest.{AreOrderedAhead};
-ghost use Rattle.cell_control.specs.Begun.{IsRestFault};
-ghost use Rattle.cell_control.specs.Fields.{IsRoomFor};
+ghost use Rattle.cell_control.specs.{Begun.IsRestFault, Fields.IsRoomFor};
 
 use crate::dues::Dues;
 use crate::rest_fault::RestFault;

@@ -3,10 +3,8 @@
 
 ghost use Rattle.std.specs.Prelude.{◌≡◌, ◌<◌, [], MatchOption, IfSome};
 ghost use Rattle.smallvec.specs.SmallVec.{HasRoomFor};
-ghost use Rattle.shop_base.specs.Plan.{jobs};
-ghost use Rattle.shop_base.specs.Move.{CanMove, KeepsPlan, after_move, order_for};
-ghost use Rattle.shop_base.specs.Run.{IsAtRest};
-ghost use Rattle.shop_base.specs.Movers.{ready_count};
+ghost use Rattle.shop_base.specs.{Plan.jobs, Move.CanMove, Move.KeepsPlan, Move.after_move, Move.order_for};
+ghost use Rattle.shop_base.specs.{Run.IsAtRest, Movers.ready_count};
 ghost use Rattle.cell_control.specs.DueMoments.{AreDueMoments};
 ghost use Rattle.cell_control.specs.Sequences.{OnlyMay, IsMover, IsSequence};
 

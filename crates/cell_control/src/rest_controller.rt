@@ -1,8 +1,7 @@
 ghost use Rattle.std.specs.Prelude.{◌≡◌, [], OnOk, IfOk, IfErr};
 ghost use Rattle.shop_base.specs.Report.{IsNextMoment};
 ghost use Rattle.plan_verifier.specs.Rest.{AreOrderedAhead};
-ghost use Rattle.cell_control.specs.Begun.{IsBegun, IsRestFault};
-ghost use Rattle.cell_control.specs.Fields.{IsRoomFor};
+ghost use Rattle.cell_control.specs.{Begun.IsBegun, Begun.IsRestFault, Fields.IsRoomFor};
 ghost use Rattle.cell_control.specs.HandedOver.{IsHandedOver, IsHandOverFault};
 
 use crate::controller::Controller;

@@ -1,9 +1,7 @@
 //! How a cell settles: the first job that can move is moved, until the cell is at rest.
 
 ghost use Rattle.std.specs.Prelude.{◌≡◌, ◌≤◌, [], MatchOption};
-ghost use Rattle.shop_base.specs.Plan.{jobs};
-ghost use Rattle.shop_base.specs.Report.{IsNextMoment};
-ghost use Rattle.shop_base.specs.Run.{IsAtRest};
+ghost use Rattle.shop_base.specs.{Plan.jobs, Report.IsNextMoment, Run.IsAtRest};
 ghost use Rattle.cell_control.specs.Settled.{IsFirstMover, HasSettled};
 
 use crate::releasing::Orders;

@@ -1,12 +1,8 @@
 //! One step of the controlled run: a possible report, and the moves that it releases.
 
 ghost use Rattle.std.specs.Prelude.{◌≡◌, ◌≤◌, ◌↔◌, ◌⊎◌, IsTrue, [], false};
-ghost use Rattle.shop_base.specs.Plan.{jobs};
-ghost use Rattle.shop_base.specs.Report.{CanReport};
-ghost use Rattle.shop_base.specs.Run.{IsAtRest};
-ghost use Rattle.shop_base.specs.Punctual.{IsPunctual};
-ghost use Rattle.cell_control.specs.DueMoments.{AreDueMoments};
-ghost use Rattle.cell_control.specs.Steps.{IsMade, AreDueFrom};
+ghost use Rattle.shop_base.specs.{Plan.jobs, Report.at, Report.CanReport, Run.IsAtRest, Punctual.IsPunctual};
+ghost use Rattle.cell_control.specs.{DueMoments.AreDueMoments, Steps.IsMade, Steps.AreDueFrom};
 
 use crate::ack::Ack;
 use crate::dues::Dues;
@@ -54,9 +50,10 @@ pub fn is_past_due<D: Dues>(dues: &D, at: Moment) -> bool
 
 /// Whether all reports so far and this one were punctual: one that isn't late, or comes at the moment of beginning or before, so
 /// that what was overdue then ends then.
-pub(crate) fn still_punctual(punctual: bool, ack: Ack, at: Moment, began: Moment) -> bool
-    ensures { IsTrue result ↔ (IsTrue punctual × ((ack.late ≡ false) ⊎ (at ≤ began))) }
+pub(crate) fn still_punctual(punctual: bool, ack: Ack, report: Report, began: Moment) -> bool
+    ensures { IsTrue result ↔ (IsTrue punctual × ((ack.late ≡ false) ⊎ (at report ≤ began))) }
 {
+    let at = report.at();
     punctual && (!ack.late || at <= began)
 }
 

@@ -1,6 +1,5 @@
 use Rattle.std.proofs.Common.{◌+◌, ◌-◌, refl, subst, rules}
-use Rattle.shop_base.specs.Plan.{nominal}
-use Rattle.shop_base.specs.Cell.{made, since, IsOn}
+use Rattle.shop_base.specs.{Plan.nominal, Cell.{made, since, IsOn}}
 use Rattle.cell_control.proofs.checking.check_finish.Goals as goal
 
 pub returns-clause-possible : goal.returns-clause-possible

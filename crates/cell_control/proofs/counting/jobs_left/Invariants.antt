@@ -1,6 +1,5 @@
 use Rattle.std.proofs.Common.{◌≡◌, ◌*◌, ◌≤◌}
-use Rattle.shop_base.specs.Ends.{sum_below}
-use Rattle.shop_base.specs.ReportsLeft.{job_reports_left}
+use Rattle.shop_base.specs.{Ends.sum_below, ReportsLeft.job_reports_left}
 use Rattle.cell_control.proofs.counting.jobs_left.Given as goal
 
 -- those of the jobs looked at

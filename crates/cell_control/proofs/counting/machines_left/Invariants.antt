@@ -1,6 +1,5 @@
 use Rattle.std.proofs.Common.{◌≡◌, ◌*◌, ◌≤◌}
-use Rattle.shop_base.specs.Ends.{sum_below}
-use Rattle.shop_base.specs.ReportsLeft.{cleanings_left}
+use Rattle.shop_base.specs.{Ends.sum_below, ReportsLeft.cleanings_left}
 use Rattle.cell_control.proofs.counting.machines_left.Given as goal
 
 -- those of the machines looked at

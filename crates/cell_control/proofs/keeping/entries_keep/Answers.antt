@@ -1,23 +1,14 @@
-use Rattle.std.proofs.Common.{◌≡◌, true, false, refl, arith}
-use Rattle.std.specs.Prelude.{IsTrue}
-use Rattle.cell_control.proofs.KeptSoFar.{entries_begin, begin_entries}
+use Rattle.std.proofs.Common.{◌≡◌, length, take, drop, ap, ◌∙◌}
+use Rattle.std.proofs.lemmas.{Bool.Decides.{Decides-eqb}, Slice.Eq.{starts_is}}
+use Rattle.shop_base.specs.{Plan.order, Cell.entries}
+use Rattle.cell_control.proofs.KeptSoFar.{front_taken}
 use Rattle.cell_control.proofs.keeping.entries_keep.Goals as goal
-
-pub returns-then-not-place_keeps : goal.returns-then-not-place_keeps
-returns-then-not-place_keeps g c =
-    let v = c.args.cell.now in (
-      (λ wrong. let no : false ≡ true = wrong in absurd (cc)),
-      λ prefix. (
-          let yes : IsTrue c.place_keeps.result = c.place_keeps.ensures.1 (begin_entries v.plan v.cell c.args.shaped.now c.args.machine c.loop-place.place c.shaped-plan.ensures.sound prefix
-          (omega (arith, c.loop-place-test.true, c.entered-place-end.ensures.count))) in
-          let no = c.if-not-place_keeps.true in
-          absurd (cc)),
-    )
 
 pub returns : goal.returns
 returns g c =
-    let v = c.args.cell.now in (
-      (λ yes. entries_begin v.plan v.cell c.args.shaped.now c.args.machine c.entered-place-end.result c.shaped-plan.ensures.sound c.entered-place-end.ensures.count
-          (λ a below. c.loop-place.invariant a (omega (arith, c.loop-place-test.false)))),
-      λ prefix. refl,
-    )
+    let front = take c.entered-count.result c.order_of.result.now in
+    let whole = c.other_order.result.now in
+    let is = starts_is (λ a b. Decides-eqb a b) whole front c.starts_with.result c.starts_with.ensures.value in
+    let same : front ≡ entries c.args.cell.now.cell c.args.machine = ap (take c.entered-count.result) c.order_of.ensures ∙ ap (λ n. take n (order c.args.cell.now.plan c.args.machine)) c.entered-count.ensures.count
+    ∙ front_taken _ _ (c.shaped-plan.ensures.sound.in_order c.args.machine) in
+    rw (← same, ← c.other_order.ensures) ((λ yes. (drop (length front) whole, is.0 yes)), (λ found. is.1 found.0 found.1))

@@ -1,16 +1,10 @@
 use Rattle.std.proofs.Common.{◌≡◌, ◌+◌, ◌-◌, ap, sym, subst, ◌∙◌, set}
-use Rattle.shop_base.specs.declared.move_order.MoveOrder.{MoveOrder}
-use Rattle.shop_base.specs.declared.move_order.Spot.TheVariants.{Out, At}
-use Rattle.shop_base.specs.Plan.{jobs}
-use Rattle.shop_base.specs.Cell.{made, cleaning}
-use Rattle.shop_base.specs.Move.{source, after_move}
-use Rattle.shop_base.specs.Movers.{due_of_cleaning}
-use Rattle.shop_base.proofs.Changes.{IsMoved, after_move-moved, moves_within}
-use Rattle.shop_base.proofs.InShop.{ready_in_shop}
+use Rattle.shop_base.specs.{declared.move_order.MoveOrder.MoveOrder, declared.move_order.Spot.TheVariants.{Out, At}}
+use Rattle.shop_base.specs.{Plan.jobs, Cell.{made, cleaning}, Move.{source, after_move}, Movers.due_of_cleaning}
+use Rattle.shop_base.proofs.{Changes.{IsMoved, after_move-moved, moves_within}, InShop.ready_in_shop}
 use Rattle.shop_base.proofs.Visits.{visits_machine}
 use Rattle.cell_control.specs.DueMoments.{AreDueMoments}
-use Rattle.cell_control.proofs.Seats.{on_source, outside_source}
-use Rattle.cell_control.proofs.DueMoments.{due_moments-entered, due_moments-moved}
+use Rattle.cell_control.proofs.{Seats.{on_source, outside_source}, DueMoments.{due_moments-entered, due_moments-moved}}
 use Rattle.cell_control.proofs.releasing.advance.Goals as goal
 
 pub renew_machine-requires-clause-machine : goal.renew_machine-requires-clause-machine

@@ -1,4 +1,4 @@
-use Rattle.cell_control.proofs.SettledCells.{NoneMoves}
+use Rattle.cell_control.proofs.Sequences.{NoneMoves}
 use Rattle.cell_control.proofs.settling.first_mover.Given as goal
 
 -- none of the jobs looked at can move

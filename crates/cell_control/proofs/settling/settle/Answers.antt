@@ -1,11 +1,9 @@
 use Rattle.std.proofs.Common.{◌≡◌, ap, sym, subst, ◌∙◌, arith, refl}
-use Rattle.shop_base.specs.Cell.{Cell}
-use Rattle.shop_base.specs.Move.{after_move}
-use Rattle.shop_base.proofs.CellFacts.{ready_count-le}
-use Rattle.shop_base.proofs.ReadyCount.{after_move-ready_count}
+use Rattle.shop_base.specs.{Cell.Cell, Move.after_move}
+use Rattle.shop_base.proofs.{CellFacts.ready_count-le, ReadyCount.after_move-ready_count}
 use Rattle.cell_tables.specs.PlannedCell.{PlannedCell}
-use Rattle.cell_control.specs.Settling.{IsSettling}
-use Rattle.cell_control.proofs.SettledCells.{first_at, settling_begins, settling_more, settled_at_rest}
+use Rattle.cell_control.specs.Sequences.{IsSettling}
+use Rattle.cell_control.proofs.{Sequences.{first_at, settling_begins, settled_at_rest}, Sequences.settling_more}
 use Rattle.cell_control.proofs.settling.settle.Goals as goal
 
 pub loop-job-init : goal.loop-job-init
@@ -27,7 +25,7 @@ push_reserved-requires g c =
       omega arith,
       omega (
         arith,
-        c.loop-job.invariant.0.room,
+        c.loop-job.invariant.0.moving.room,
         after_move-ready_count v.plan v.cell c.in-Some.job c.args.at c.shaped-plan.ensures.well_shaped c.shaped-plan.ensures.sound first.can,
       ),
     )

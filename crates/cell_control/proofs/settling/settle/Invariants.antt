@@ -1,6 +1,6 @@
 use Rattle.std.proofs.Common.{◌≡◌}
 use Rattle.shop_base.specs.Movers.{ready_count}
-use Rattle.cell_control.specs.Settling.{IsSettling}
+use Rattle.cell_control.specs.Sequences.{IsSettling}
 use Rattle.cell_control.proofs.settling.settle.Given as goal
 
 abbrev pub invariant-loop-job : goal.invariant-loop-job

@@ -1,15 +1,11 @@
 use Rattle.std.proofs.Common.{true, ap, sym, subst}
-use Rattle.cell_control.specs.Control.{Control}
-use Rattle.cell_control.specs.Fields.{control_of, AreFieldsOf}
+use Rattle.cell_control.specs.{Control.Control, Fields.{control_of, AreFieldsOf}}
 use Rattle.cell_control.proofs.core_controller.Core.begin_at_rest.Goals as goal
 
 pub returns : goal.returns
-returns g c =
-    let cell = c.args.cell in
-    ap (λ n. control_of cell (g.P.Timed.times cell.basis) c.args.room.orders.items n c.args.began true) c.count_left-left.ensures
+returns g c = ap (λ n. control_of c.args.cell (g.P.Timed.times c.args.cell.basis) c.args.room.orders.items n c.args.began true) c.count_left-left.ensures
 
 pub invariant_of-result : goal.invariant_of-result
 invariant_of-result g c =
-    let cell = c.args.cell in
     subst (λ (v : Control). AreFieldsOf v (g.D.Dues.dues c.note_all.new.dues) c.args.room.orders.capacity) (sym (returns g c))
     (record { control = c.requires.control; due_moments = c.note_all.ensures; room = c.requires.room.orders })

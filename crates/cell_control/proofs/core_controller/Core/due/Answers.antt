@@ -4,6 +4,4 @@ use Rattle.cell_control.proofs.core_controller.Core.due.Goals as goal
 
 pub returns-then-job-job_count : goal.returns-then-job-job_count
 returns-then-job-job_count g c =
-    let cell = c.self.inside.cell in
-    rw (← c.self.view_is)
-    (key_due cell.plan cell.cell (g.D.Dues.dues c.self.inside.dues) c.args.job c.get.result c.self.invariant.due_moments (omega (arith, c.job_count.ensures.count)) c.get.ensures)
+    rw (← c.self.view_is) (key_due _ _ _ c.args.job c.get.result c.self.invariant.due_moments (omega (arith, c.job_count.ensures.count)) c.get.ensures)

@@ -3,6 +3,5 @@ use Rattle.cell_control.proofs.core_controller.Core.is_done.Goals as goal
 
 pub returns : goal.returns
 returns g c =
-    let cell = c.self.inside.cell in
     let control = c.self.invariant.control in
-    rw (← c.self.view_is) (done_is cell.plan cell.cell c.self.inside.left control.ranks.shaped control.sound control.at_rest control.counted)
+    rw (← c.self.view_is) (done_is _ _ _ control.ranks.shaped control.sound control.at_rest control.counted)

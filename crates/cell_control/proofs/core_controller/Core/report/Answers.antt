@@ -1,8 +1,7 @@
 use Rattle.std.proofs.Common.{arith, [], subst}
 use Rattle.std.proofs.lemmas.Grind.{common_steps}
 use Rattle.shop_base.specs.declared.report.Report.{Report}
-use Rattle.cell_control.specs.Control.{IsAnswered}
-use Rattle.cell_control.specs.Promises.{answered, refused}
+use Rattle.cell_control.specs.{Control.IsAnswered, Promises.{answered, refused}}
 use Rattle.cell_control.proofs.core_controller.Core.report.Goals as goal
 
 pub returns-in_err-possible-clause-called : goal.returns-in_err-possible-clause-called

@@ -1,9 +1,6 @@
-use Rattle.std.proofs.Common.{◌≡◌, ◌≤◌, ◌⊎◌, ◌↔◌, ◌-◌, false, arith, sym, subst}
-use Rattle.std.specs.Prelude.{IsTrue}
+use Rattle.std.proofs.Common.{◌-◌, arith, sym, subst}
 use Rattle.cell_tables.specs.PlannedCell.{PlannedCell}
-use Rattle.cell_control.specs.Control.{Control, IsAnswered}
-use Rattle.cell_control.specs.Fields.{control_of, AreFieldsOf}
-use Rattle.cell_control.specs.Judged.{JudgedReport}
+use Rattle.cell_control.specs.{Control.{Control, IsAnswered}, Fields.{control_of, AreFieldsOf}, Judged.JudgedReport}
 use Rattle.cell_control.proofs.Fields.{answered, some_left, fields_after}
 use Rattle.cell_control.proofs.core_controller.Core.take.Goals as goal
 
@@ -23,8 +20,7 @@ invariant_of-self g c =
     subst (λ (x : PlannedCell g.row.P.Denot). AreFieldsOf (control_of x (g.P.Timed.times x.basis) new.orders.items (s.left - 1) s.began still) (g.D.Dues.dues new.dues) new.orders.capacity)
     (sym c.make_step-ack.ensures.same_plan)
     (fields_after v (g.D.Dues.dues s.dues) s.orders.capacity c.self.invariant c.possible.inside.report c.make_step-ack.result new.orders.items new.cell.cell c.make_step-ack.ensures.made still
-    (subst (λ n. IsTrue still ↔ (IsTrue s.punctual × ((c.make_step-ack.result.late ≡ false) ⊎ (n ≤ s.began)))) c.at.ensures c.still_punctual-self-inside.ensures)
-    (g.D.Dues.dues new.dues) new.orders.capacity c.make_step-ack.ensures.capacity c.make_step-ack.ensures.due_moments)
+    c.still_punctual-self-inside.ensures (g.D.Dues.dues new.dues) new.orders.capacity c.make_step-ack.ensures.capacity c.make_step-ack.ensures.due_moments)
 
 pub returns-clause-answered : goal.returns-clause-answered
 returns-clause-answered g c =
@@ -39,4 +35,4 @@ returns-clause-answered g c =
     (subst (λ (x : PlannedCell g.row.P.Denot). IsAnswered v report c.make_step-ack.result (control_of x (g.P.Timed.times x.basis) new.orders.items (s.left - 1) s.began still))
     (sym c.make_step-ack.ensures.same_plan)
     (answered v (g.D.Dues.dues s.dues) s.orders.capacity c.self.invariant report c.make_step-ack.result new.orders.items new.cell.cell c.make_step-ack.ensures.made still
-    (subst (λ n. IsTrue still ↔ (IsTrue s.punctual × ((c.make_step-ack.result.late ≡ false) ⊎ (n ≤ s.began)))) c.at.ensures c.still_punctual-self-inside.ensures))))
+    c.still_punctual-self-inside.ensures)))

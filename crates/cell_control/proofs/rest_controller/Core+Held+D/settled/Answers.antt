@@ -1,6 +1,5 @@
 use Rattle.std.proofs.Common.{ap, sym, subst, ◌∙◌}
-use Rattle.cell_control.specs.Control.{IsControl}
-use Rattle.cell_control.specs.Begun.{IsBegun}
+use Rattle.cell_control.specs.{Control.IsControl, Begun.IsBegun}
 use Rattle.cell_control.proofs.Fields.{begun_is, settled-begun, settled-control}
 use Rattle.cell_control.proofs.rest_controller.Core+Held+D.settled.Goals as goal
 
