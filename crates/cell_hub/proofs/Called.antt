@@ -1,23 +1,17 @@
 -- What is done in the slots is a call of the definition.
 use Rattle.std.proofs.Common.{◌≡◌, ◌↔◌, ℕ, ◌+◌, ◌<◌, Some, None, IfOk, IfErr, OnErr, refl, sym, ap, ◌∙◌, subst}
-use Rattle.std.specs.Prelude.{Result}
-use Rattle.std.specs.declared.result.Result.TheVariants.{Ok, Err}
+use Rattle.std.specs.{Prelude.Result, declared.result.Result.TheVariants.{Ok, Err}}
 use Rattle.shop_base.specs.declared.report.Report.{Report}
 use Rattle.slab.specs.Slab.{Slab, get, Updates}
 use Rattle.plan_verifier.specs.Accepted.{VerifiedPlan}
-use Rattle.cell_control.specs.Control.{Control, at_start}
-use Rattle.cell_control.specs.Reports.{IsFirstReason}
+use Rattle.cell_control.specs.{Control.{Control, at_start}, Reports.IsFirstReason, declared.ack.Ack.Ack}
 use Rattle.cell_control.proofs.OneReason.{only_reason}
-use Rattle.cell_control.specs.declared.ack.Ack.{Ack}
-use Rattle.cell_hub.specs.declared.ticket.Ticket.{Ticket}
-use Rattle.cell_hub.specs.declared.slots.Placed.{Placed}
+use Rattle.cell_hub.specs.{declared.ticket.Ticket.Ticket, declared.slots.Placed.Placed}
 use Rattle.cell_hub.specs.declared.hub_fault.HubFault.{HubFault}
 use Rattle.cell_hub.specs.declared.hub_fault.HubFault.TheVariants.{NoSuchCell, SerialsSpent, Memory, Cell}
-use Rattle.cell_hub.specs.Hub.{HubState, cell_at, Puts}
-use Rattle.cell_hub.specs.Slots.{hub_of}
+use Rattle.cell_hub.specs.{Hub.{HubState, cell_at, Puts}, Slots.hub_of}
 use Rattle.cell_hub.specs.Calls.{Reported, Dismissed, no_serial, IsAdmitted, IsReported, IsNotReported, IsOnlyRefusal, IsDismissed, IsCall}
-use Rattle.cell_hub.proofs.Puts.{HasSerial}
-use Rattle.cell_hub.proofs.Hubs.{none_there, puts_there}
+use Rattle.cell_hub.proofs.{Puts.HasSerial, Hubs.{none_there, puts_there}}
 
 module _ {D : Type 0} (s new : Slab (Placed D)) (next : ℕ) (now : HubState) (seen : hub_of s next ≡ now) (t : Ticket) where
   pub report_called : (r : Report) (result : Result Ack HubFault) → IfOk result (λ ack. (n : ℕ) → IsReported (hub_of s n) t r ack (hub_of new n)) → IfErr result (λ fault. (n : ℕ) → IsNotReported (hub_of s n) t r fault) → OnErr result (new ≡ s) → IsCall now (Reported t r result) (hub_of new next)

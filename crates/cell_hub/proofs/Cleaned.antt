@@ -1,20 +1,14 @@
 -- The report that a machine was cleaned after a job, made on a ticket.
 use Rattle.std.proofs.Common.{◌≡◌, ◌↔◌, ℕ, false, true, Option, Some, None, IfSome, IfErr, refl, sym, ap, subst}
-use Rattle.std.specs.Prelude.{IsOk, Result}
-use Rattle.std.specs.declared.result.Result.TheVariants.{Ok, Err}
+use Rattle.std.specs.{Prelude.{IsOk, Result}, declared.result.Result.TheVariants.{Ok, Err}}
 use Rattle.std.proofs.lemmas.Bool.{false≢true}
-use Rattle.shop_base.specs.Report.{CanReport}
-use Rattle.shop_base.specs.declared.report.Report.TheVariants.{Clean}
-use Rattle.cell_control.specs.declared.ack.Ack.{Ack}
-use Rattle.cell_control.specs.declared.report_fault.ReportFault.{ReportFault}
-use Rattle.cell_control.specs.Control.{Control, IsControl}
-use Rattle.cell_control.specs.Reports.{CanCleanAfter, IsFirstCleanReason}
+use Rattle.shop_base.specs.{Report.CanReport, declared.report.Report.TheVariants.Clean}
+use Rattle.cell_control.specs.{declared.ack.Ack.Ack, declared.report_fault.ReportFault.ReportFault}
+use Rattle.cell_control.specs.{Control.{Control, IsControl}, Reports.{CanCleanAfter, IsFirstCleanReason}}
 use Rattle.cell_control.proofs.CleanReasons.{can_clean, only_clean_reason}
-use Rattle.cell_hub.specs.declared.ticket.Ticket.{Ticket}
-use Rattle.cell_hub.specs.declared.hub_fault.HubFault.{HubFault}
+use Rattle.cell_hub.specs.{declared.ticket.Ticket.Ticket, declared.hub_fault.HubFault.HubFault}
 use Rattle.cell_hub.specs.declared.hub_fault.HubFault.TheVariants.{NoSuchCell, SerialsSpent, Memory, Cell}
-use Rattle.cell_hub.specs.Hub.{HubState, cell_at}
-use Rattle.cell_hub.specs.Calls.{Reported, IsCall, IsOnlyCleanRefusal, cleaning_call}
+use Rattle.cell_hub.specs.{Hub.{HubState, cell_at}, Calls.{Reported, IsCall, IsOnlyCleanRefusal, cleaning_call}}
 
 module _ (o : Option Control) (v : Control) (there : o ≡ Some v) (m j t : ℕ) where
   -- where its controller refuses it, it isn't possible

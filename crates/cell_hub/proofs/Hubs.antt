@@ -4,15 +4,10 @@ use Rattle.std.proofs.lemmas.Bool.{cases_eq, eq-eqb, ne_eqb}
 use Rattle.shop_base.specs.declared.report.Report.{Report}
 use Rattle.slab.specs.Slab.{Slab, get, with_value, Updates}
 use Rattle.slab.proofs.SlabLemmas.{Updates-with_value}
-use Rattle.cell_control.specs.declared.ack.Ack.{Ack}
-use Rattle.cell_control.specs.Control.{Control, IsAnswered}
-use Rattle.cell_hub.specs.declared.ticket.Ticket.{Ticket}
-use Rattle.cell_hub.specs.declared.slots.Placed.{Placed}
-use Rattle.cell_hub.specs.Hub.{cell_at, Puts}
-use Rattle.cell_hub.specs.Slots.{hub_of}
-use Rattle.cell_hub.specs.Calls.{IsReported, IsDismissed}
-use Rattle.cell_hub.proofs.Tickets.{in_slot, cell_at-slot}
-use Rattle.cell_hub.proofs.Puts.{HasSerial, slot_puts}
+use Rattle.cell_control.specs.{declared.ack.Ack.Ack, Control.{Control, IsAnswered}}
+use Rattle.cell_hub.specs.{declared.ticket.Ticket.Ticket, declared.slots.Placed.Placed, Hub.{cell_at, Puts}}
+use Rattle.cell_hub.specs.{Slots.hub_of, Calls.{IsReported, IsDismissed}}
+use Rattle.cell_hub.proofs.{Tickets.{in_slot, cell_at-slot}, Puts.{HasSerial, slot_puts}}
 
 module _ {D : Type 0} (s : Slab (Placed D)) (t : Ticket) where
   pub stands_there : (placed : Placed D) → Some placed ≡ get s t.slot → placed.serial ≡ t.serial → (next : ℕ) → cell_at (hub_of s next) t ≡ Some placed.controller

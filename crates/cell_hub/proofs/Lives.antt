@@ -4,19 +4,15 @@ use Rattle.std.proofs.lemmas.List.Elements.{All-nil, All-cons}
 use Rattle.std.specs.declared.result.Result.TheVariants.{Ok, Err}
 use Rattle.shop_base.specs.declared.report.Report.{Report}
 use Rattle.plan_verifier.specs.Accepted.{VerifiedPlan}
-use Rattle.cell_control.specs.declared.ack.Ack.{Ack}
-use Rattle.cell_control.specs.Control.{Control, at_start, IsAnswered}
-use Rattle.cell_control.specs.Reports.{IsFirstReason}
-use Rattle.cell_hub.specs.declared.ticket.Ticket.{Ticket}
-use Rattle.cell_hub.specs.declared.hub_fault.HubFault.{HubFault}
+use Rattle.cell_control.specs.{declared.ack.Ack.Ack, Control.{Control, at_start, IsAnswered}, Reports.IsFirstReason}
+use Rattle.cell_hub.specs.{declared.ticket.Ticket.Ticket, declared.hub_fault.HubFault.HubFault}
 use Rattle.cell_hub.specs.declared.hub_fault.HubFault.TheVariants.{NoSuchCell, SerialsSpent, Memory, Cell}
 use Rattle.cell_hub.specs.Hub.{HubState, hub_from, cell_at, Puts, AreSerialsBelow}
 use Rattle.cell_hub.specs.Calls as call
 use Rattle.cell_hub.specs.Calls.{HubCall, Admitted, Reported, Shown, Dismissed, IsCall, AreCalls, IsAdmitted, IsReported, IsNotReported, IsDismissed}
 use Rattle.cell_hub.specs.Laws as law
 use Rattle.cell_hub.specs.Laws.{DismissedNeverAnswers, CellsAreApart, Life, not_given, stands, dismissed, content_in, Lives, AreLived, FindsNoCell, IsOnTicket}
-use Rattle.cell_hub.proofs.Tickets.{same_ticket}
-use Rattle.cell_hub.proofs.Puts.{serials_below}
+use Rattle.cell_hub.proofs.{Tickets.same_ticket, Puts.serials_below}
 
 -- after any call the serials are still below the next one
 pub call_serials : (old new : HubState) (call : HubCall) → IsCall old call new → AreSerialsBelow old → AreSerialsBelow new

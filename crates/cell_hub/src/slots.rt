@@ -3,8 +3,7 @@
 ghost use Rattle.std.specs.Prelude.{◌≡◌, ◌↔◌, ℕ, None, option_copied, IfOk, IfErr, IsOk, OnOk, OnErr};
 ghost use Rattle.slab.specs.Slab.{HasRoomFor};
 ghost use Rattle.shop_base.specs.Report.{CanReport};
-ghost use Rattle.cell_hub.specs.Hub.{cell_at};
-ghost use Rattle.cell_hub.specs.Slots.{hub_of, IfCell, IsReportedIn, IsDismissedFrom};
+ghost use Rattle.cell_hub.specs.{Hub.cell_at, Slots.hub_of, Slots.IfCell, Slots.IsReportedIn, Slots.IsDismissedFrom};
 ghost use Rattle.cell_hub.specs.Calls.{IsNotReported, EndsNow};
 
 use crate::hub_fault::HubFault;

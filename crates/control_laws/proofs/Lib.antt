@@ -1,4 +1,3 @@
+pub mod KeptByBoth
 pub mod KeptBefore
 pub mod KeptRuns
-pub mod KeptByBoth
-pub mod HandOverLaws

@@ -1,9 +1,7 @@
 use Rattle.std.proofs.Common.{subst, arith}
 use Rattle.std.specs.declared.result.Result.TheVariants.{Ok}
-use Rattle.cell_hub.specs.Hub.{AreSerialsBelow}
-use Rattle.cell_hub.specs.Calls.{Admitted}
-use Rattle.cell_hub.proofs.Lives.{call_serials}
-use Rattle.cell_hub.proofs.Called.{is_admitted}
+use Rattle.cell_hub.specs.{Hub.AreSerialsBelow, Calls.Admitted}
+use Rattle.cell_hub.proofs.{Lives.call_serials, Called.is_admitted}
 use Rattle.cell_hub.proofs.hub.Hub.admit.Goals as goal
 
 pub returns-in-Ok-clause-admitted : goal.returns-in-Ok-clause-admitted

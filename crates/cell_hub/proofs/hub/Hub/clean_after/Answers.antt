@@ -1,8 +1,7 @@
-use Rattle.std.proofs.Common.{refl, sym}
+use Rattle.std.proofs.Common.{sym}
 use Rattle.cell_control.proofs.CleanReasons.{clean_reason-cannot}
-use Rattle.cell_hub.specs.Hub.{cell_at}
-use Rattle.cell_hub.specs.Calls.{IsNotCleaned, IsOnlyCleanRefusal}
-use Rattle.cell_hub.proofs.Cleaned.{not_cleaned, cleaned, accepted, never_refused, only_no_cell, only_cell_reason, cleaning_called}
+use Rattle.cell_hub.specs.{Hub.cell_at, Calls.{IsNotCleaned, IsOnlyCleanRefusal}}
+use Rattle.cell_hub.proofs.Cleaned.{not_cleaned, cleaned, accepted, never_refused, only_cell_reason, cleaning_called}
 use Rattle.cell_hub.proofs.hub.Hub.clean_after.Goals as goal
 
 pub returns-in-Err-clause-possible : goal.returns-in-Err-clause-possible

@@ -1,9 +1,6 @@
 use Rattle.std.proofs.Common.{subst}
-use Rattle.cell_hub.specs.Hub.{AreSerialsBelow}
-use Rattle.cell_hub.specs.Slots.{hub_of}
-use Rattle.cell_hub.specs.Calls.{Dismissed, IsCall}
-use Rattle.cell_hub.proofs.Lives.{call_serials}
-use Rattle.cell_hub.proofs.Called.{dismissal_called, dismissal_finds, dismissal_takes}
+use Rattle.cell_hub.specs.{Hub.AreSerialsBelow, Slots.hub_of, Calls.{Dismissed, IsCall}}
+use Rattle.cell_hub.proofs.{Lives.call_serials, Called.{dismissal_called, dismissal_finds, dismissal_takes}}
 use Rattle.cell_hub.proofs.hub.Hub.dismiss.Goals as goal
 
 called : (g : _) (c : goal.After-take_from g) → IsCall c.args.self.now (Dismissed c.args.ticket c.take_from.result) (hub_of c.take_from.new.cells c.self.inside.next_serial)

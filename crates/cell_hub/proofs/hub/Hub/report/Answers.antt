@@ -1,11 +1,8 @@
 use Rattle.std.proofs.Common.{◌↔◌, IfSome, subst}
 use Rattle.std.specs.Prelude.{IsOk}
 use Rattle.shop_base.specs.Report.{CanReport}
-use Rattle.cell_hub.specs.Hub.{HubState, cell_at, AreSerialsBelow}
-use Rattle.cell_hub.specs.Slots.{hub_of}
-use Rattle.cell_hub.specs.Calls.{Reported, EndsNow, IsCall}
-use Rattle.cell_hub.proofs.Lives.{call_serials}
-use Rattle.cell_hub.proofs.Called.{report_called, report_finds, report_only}
+use Rattle.cell_hub.specs.{Hub.{HubState, cell_at, AreSerialsBelow}, Slots.hub_of, Calls.{Reported, EndsNow, IsCall}}
+use Rattle.cell_hub.proofs.{Lives.call_serials, Called.{report_called, report_finds, report_only}}
 use Rattle.cell_hub.proofs.hub.Hub.report.Goals as goal
 
 called : (g : _) (c : goal.After-report_in g) → IsCall c.args.self.now (Reported c.args.ticket c.args.report c.report_in.result) (hub_of c.report_in.new.cells c.self.inside.next_serial)
