@@ -1,22 +1,13 @@
--- From where the rest of a run is looked at.
-use Rattle.std.proofs.Common.{◌≡◌, ℕ, ◌≤◌, ◌↔◌, nat_lt, lt-ltb, arith, false, Option, Result, Ok, Err, IfErr, OnOk, List, [], ◌∷◌, length, refl, sym, subst}
-use Rattle.shop_base.specs.Plan.{PlannedShop}
-use Rattle.shop_base.specs.Cell.{Cell}
-use Rattle.shop_base.specs.Report.{IsNextMoment}
-use Rattle.cell_tables.specs.Tables.{cell_of, AreSound}
-use Rattle.cell_tables.specs.declared.entry.Entry.{Entry}
+-- From where the rest of a run is looked at, and what is left of it.
+use Rattle.std.proofs.Common.{◌≡◌, ℕ, ◌≤◌, ◌↔◌, nat_lt, lt-ltb, arith, false, Option, Result, Ok, Err, IfErr, OnOk, List, [], ◌∷◌, length, refl, sym, subst, ◌+◌, ◌++◌, map, ap, ◌∙◌}
+use Rattle.std.proofs.lemmas.List.FromFn.{map-range_with_len_more}
 use Rattle.plan_improve.specs.declared.begun.Begun.{Begun}
-use Rattle.event_lines.specs.LogLines.{LinesTell}
-use Rattle.event_lines.proofs.Readings.{one_reading}
-use Rattle.run_log.specs.Audits.{IsTold}
 use Rattle.plan_seek.specs.declared.search.TheConstants.{MAX_ROUNDS}
-use Rattle.plan_improve.specs.RestCosts.{IsCellOf}
-use Rattle.plan_improve.specs.RestOf.{IsRestOf}
-use Rattle.plan_improve.specs.Improved.{present_of}
 use Rattle.plan_improve.specs.Faults.{IsImproveRestFault}
 use Rattle.plan_improve.specs.declared.not_improved.NotImproved.{NotImproved}
 use Rattle.plan_improve.specs.declared.improve_fault.ImproveFault.TheVariants.{Memory as WantOfMemory}
-use Rattle.plan_improve.specs.RestKeeping.{IsBegun}
+use Rattle.plan_improve.proofs.Common.{AreSound, Cell, Entry, IsBegun, IsCellOf, IsNextMoment, IsRestOf, IsTold}
+use Rattle.plan_improve.proofs.Common.{LinesTell, PlannedShop, cell_of, one_reading, present_of, range_with_len}
 use Rattle.plan_improve.proofs.OneCell.{cell_once}
 
 -- whether lines tell an event, by what they tell
@@ -56,3 +47,8 @@ pub present_next : (lines : List (List ℕ)) (at : Option ℕ) (p : PlannedShop)
     → (c : Cell) → IsCellOf lines p c → IsNextMoment c (present_of at c.last)
 present_next lines at p begun is present c here =
     subst (λ (x : Cell). IsNextMoment x (present_of at x.last)) (cell_once lines p (cell_of p begun.tables) c is.cell here) (subst (IsNextMoment (cell_of p begun.tables)) present is.next)
+
+-- what a run has left, one job or machine more
+pub one_more : {A : Type 0} (f : ℕ → A) (n : ℕ) (now new : List A) (x : A) → now ≡ map f (range_with_len 0 n) → new ≡ now ++ x ∷ [] → x ≡ f n → new ≡ map f (range_with_len 0 (n + 1))
+one_more f n now new x before is same =
+    is ∙ ap (λ l. l ++ x ∷ []) before ∙ ap (λ y. map f (range_with_len 0 n) ++ y ∷ []) same ∙ sym (map-range_with_len_more f 0 n n (omega arith))

@@ -1,7 +1,6 @@
 -- How costs compare.
 use Rattle.std.proofs.Common.{◌≡◌, inl, inr, arith, refl}
-use Rattle.plan_improve.specs.declared.cost.Cost.{Cost}
-use Rattle.plan_improve.specs.Costs.{IsLess, IsAtMost}
+use Rattle.plan_improve.proofs.Common.{Cost, IsAtMost, IsLess}
 
 -- at most what is at most a cost
 pub most_of_most : (c d e : Cost) → IsAtMost c d → IsAtMost d e → IsAtMost c e
@@ -10,13 +9,9 @@ most_of_most c d e (inl less) (inr (same, most)) = inl (omega arith)
 most_of_most c d e (inr (same, less)) (inl most) = inl (omega arith)
 most_of_most c d e (inr (same, less)) (inr (equal, most)) = inr (omega arith, omega arith)
 
-pub less_is : (c d e : Cost) → c.late ≡ d.late → c.makespan ≡ d.makespan → IsLess d e → IsLess c e
-less_is c d e late makespan (inl less) = inl (omega arith)
-less_is c d e late makespan (inr (same, less)) = inr (omega arith, omega arith)
-
-pub less_than : (c d e : Cost) → d.late ≡ e.late → d.makespan ≡ e.makespan → IsLess c d → IsLess c e
-less_than c d e late makespan (inl less) = inl (omega arith)
-less_than c d e late makespan (inr (same, less)) = inr (omega arith, omega arith)
+-- costs of the same lateness and makespan are the same
+pub cost_same : (c d : Cost) → c.late ≡ d.late → c.makespan ≡ d.makespan → c ≡ d
+cost_same c d late makespan = λ i. record { late = late i; makespan = makespan i }
 
 pub not_both : (c d : Cost) → IsLess c d → IsAtMost d c → ⊥
 not_both c d (inl less) (inl most) = omega arith

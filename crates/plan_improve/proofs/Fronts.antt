@@ -1,23 +1,15 @@
 -- A plan with other orders keeps a run exactly where each of its orders begins with the entries of the cell at the end of that run.
 use Rattle.std.proofs.Common.{◌≡◌, ◌⊎◌, ℕ, List, [], ◌∷◌, ◌++◌, append_assoc, inl, inr, refl, sym, ap, ◌∙◌, subst}
-use Rattle.std.proofs.lemmas.List.{append-nil}
-use Rattle.shop_base.specs.declared.move_order.Spot.{Spot}
 use Rattle.shop_base.specs.declared.move_order.MoveOrder.{MoveOrder}
-use Rattle.shop_base.specs.Plan.{PlannedShop, order, Visits, IsWellShaped}
-use Rattle.shop_base.specs.Cell.{Cell, made, entries, start, IsOn}
 use Rattle.shop_base.specs.Activity.{Activity, Arrival, Operation, Cleaning, GoesOn}
-use Rattle.shop_base.specs.Report.{ended}
-use Rattle.shop_base.specs.Move.{IsPrefix, CanLeave, CanEnter, CanMove, CanObey, target}
-use Rattle.shop_base.specs.Run.{Event, Reported, Moved, CanHappen, AreEvents, IsRun, after, after_all, ends_in}
-use Rattle.shop_base.specs.Sound.{IsSound}
 use Rattle.shop_base.proofs.Visits.{visits_or_not}
 use Rattle.shop_base.proofs.Changes.{after_move-moved}
-use Rattle.shop_base.proofs.Keeping.{start-sound, after-sound, after_report-like, run-sound}
-use Rattle.cell_tables.specs.Events.{events_of}
-use Rattle.run_log.specs.Audits.{TellRun}
-use Rattle.plan_improve.specs.RestCosts.{IsCellOf}
-use Rattle.plan_improve.specs.Reordered.{reordered}
-use Rattle.plan_improve.specs.Laws.{BeginsWithEntries, ALogIsKeptByTheEntries}
+use Rattle.plan_improve.proofs.Common.{ALogIsKeptByTheEntries, AreEvents, BeginsWithEntries, CanEnter, CanHappen}
+use Rattle.plan_improve.proofs.Common.{CanLeave, CanMove, CanObey, Cell, Event, IsCellOf, IsOn, IsPrefix, IsRun}
+use Rattle.plan_improve.proofs.Common.{IsSound, IsWellShaped, Moved, PlannedShop, Reported, Spot, TellRun, Visits}
+use Rattle.plan_improve.proofs.Common.{after, after-sound, after_all, after_report-like, append-nil, ended, ends_in}
+use Rattle.plan_improve.proofs.Common.{entries, events_of, made, order, reordered, run-sound, start}
+use Rattle.plan_improve.proofs.Common.{start-sound, target}
 use Rattle.plan_improve.proofs.OneCell.{source_same, after_same, ends_same, tell_same, one_cell, tells_run}
 
 -- what begins a list begins what that begins

@@ -1,22 +1,13 @@
 -- What is known of the best plan so far, and how an answer keeps it.
 use Rattle.std.proofs.Common.{◌≡◌, ℕ, ◌+◌, ◌<◌, List, [], ◌∷◌, ◌++◌, append_assoc, Option, Result, Ok, Err, IfOk, length, get_or, None, Some, inr, refl, sym, ap, ◌∙◌, subst}
-use Rattle.std.proofs.lemmas.List.{append-nil}
 use Rattle.std.proofs.lemmas.Option.{slice_get_read}
-use Rattle.shop_base.specs.Plan.{PlannedShop, IsWellShaped}
-use Rattle.cell_tables.specs.PlannedCell.{PlannedCell}
-use Rattle.plan_annealing.specs.declared.rest.Rest.{Rest}
-use Rattle.plan_seek.specs.Orders.{Proposal}
-use Rattle.plan_improve.specs.declared.cost.Cost.{Cost}
-use Rattle.plan_improve.specs.declared.best.Best.{Best}
-use Rattle.plan_improve.specs.declared.fixed.Fixed.{Fixed}
-use Rattle.plan_improve.specs.AtBound.{Meets}
-use Rattle.plan_improve.specs.Costs.{IsLess, IsAtMost}
-use Rattle.plan_improve.specs.Settings.{Setting, IsBetter, IsAtBound}
-use Rattle.plan_improve.specs.Reordered.{reordered, IsReordered}
-use Rattle.plan_improve.specs.Watching.{Told, IsToldMore, told_bound}
-use Rattle.plan_improve.specs.Runs.{Asked, Becomes, no_answer, no_better, better, EndsAfter, AfterSome, nobody, one_more, AfterRound, AfterRounds, no_round, round_more, RoundsTold}
-use Rattle.plan_improve.specs.Keeping.{setting_of, rest_in, bound_in, IsFixed, Stands, IsNext, IsNextOf, IsLast, IsLastTold}
-use Rattle.plan_improve.proofs.Comparing.{most_of_most, less_is, less_than, not_both, most_same, most_less}
+use Rattle.plan_improve.proofs.Common.{AfterRound, AfterRounds, AfterSome, Asked, Becomes, Best, Cost, EndsAfter, Fixed}
+use Rattle.plan_improve.proofs.Common.{IsAtBound, IsAtMost, IsBetter, IsFixed, IsLast, IsLastTold, IsLess, IsNext}
+use Rattle.plan_improve.proofs.Common.{IsNextOf, IsReordered, IsToldMore, IsWellShaped, Meets, PlannedCell, PlannedShop}
+use Rattle.plan_improve.proofs.Common.{Proposal, Rest, RoundsTold, Setting, Stands, Told, append-nil, better, bound_in}
+use Rattle.plan_improve.proofs.Common.{no_answer, no_better, no_round, nobody, one_more, reordered, rest_in, round_more}
+use Rattle.plan_improve.proofs.Common.{setting_of, told_bound}
+use Rattle.plan_improve.proofs.Comparing.{most_of_most, not_both, most_same, most_less}
 use Rattle.plan_improve.proofs.Once.{OneCost, reordered_on}
 
 -- nothing was told, and then more
@@ -49,15 +40,11 @@ module _ (s : Setting) where
   module _ (once : OneCost s) where
     -- a plan whose cost isn't less than the bound
     pub none_below : (p : PlannedShop) (cost bound : Cost) → s.costs p cost → IsAtMost bound cost → (c : Cost) → s.costs p c → IsLess c bound → ⊥
-    none_below p cost bound is most c other less =
-        let same = once p cost c is other in
-        not_both cost bound (less_is cost c bound same.0 same.1 less) most
+    none_below p cost bound is most c other less = not_both cost bound (subst (λ d. IsLess d bound) (once p c cost other is) less) most
 
     -- a plan that isn't below the cost of another isn't better
     not_better : (x p : PlannedShop) (bound : Cost) → s.costs p bound → ((c : Cost) → s.costs x c → IsLess c bound → ⊥) → IsBetter s x p → ⊥
-    not_better x p bound is none one =
-        let same = once p one.other bound one.than is in
-        none one.cost one.is (less_than one.cost one.other bound same.0 same.1 one.less)
+    not_better x p bound is none one = none one.cost one.is (subst (IsLess one.cost) (once p one.other bound one.than is) one.less)
 
     -- orders that are no better: the cell is the first again
     pub next_worse : (x y z : PlannedCell PlannedShop) (c : Cost) (order : List (List ℕ)) → Stands s x → s.costs x.plan c → y.plan ≡ reordered x.plan order

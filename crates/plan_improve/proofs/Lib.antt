@@ -1,8 +1,7 @@
+pub mod Common
 pub mod Comparing
 pub mod OneCell
 pub mod RestCosts
-pub mod Rests
-pub mod Soon
 pub mod Once
 pub mod Keeping
 pub mod Serially
@@ -10,8 +9,6 @@ pub mod Copies
 pub mod Beginnings
 pub mod Searched
 pub mod Lawful
-pub mod Ended
-pub mod RestLawful
 pub mod RestEnded
 pub mod StartCosts
 pub mod Fronts

@@ -1,33 +1,18 @@
 -- Each plan has one cost; and what is fixed is so for all plans that differ in their orders alone.
 use Rattle.std.proofs.Common.{◌≡◌, ℕ, ◌-◌, ◌≤◌, List, Some, arith, refl, sym, ap, ◌∙◌, subst}
-use Rattle.shop_base.specs.declared.limits.TheConstants.{MAX_MOMENT}
-use Rattle.shop_base.specs.Plan.{PlannedShop, jobs, budget}
-use Rattle.shop_base.specs.Cell.{Cell}
-use Rattle.shop_base.specs.Ends.{sum_below}
-use Rattle.shop_base.specs.Graph.{leaving}
-use Rattle.shop_base.proofs.Sums.{sum_below_same}
-use Rattle.text_lines.specs.Lines.{ended_lines}
-use Rattle.alt_graph.specs.Solved.{HasCycle}
 use Rattle.plan_bounds.specs.Bounds.{times_of}
 use Rattle.plan_bounds.specs.Makespan.{IsBy}
-use Rattle.plan_verifier.proofs.Reasons.{greatest_once, makespan_le}
-use Rattle.plan_annealing.specs.declared.rest.Rest.{Rest}
-use Rattle.plan_improve.specs.declared.cost.Cost.{Cost}
-use Rattle.plan_improve.specs.declared.fixed.Fixed.{Fixed}
-use Rattle.plan_improve.specs.declared.fixed.Fixed.TheVariants.{Nothing, Run}
-use Rattle.plan_improve.specs.AtBound.{IsBound}
-use Rattle.plan_improve.specs.Costs.{IsLateness, IsCost}
-use Rattle.plan_improve.specs.RestCosts.{IsCellOf}
-use Rattle.plan_improve.specs.RestOf.{IsRestOf}
-use Rattle.plan_improve.specs.Settings.{Setting, IsRestThere}
-use Rattle.plan_improve.specs.Reordered.{reordered, IsReordered}
-use Rattle.plan_improve.specs.Keeping.{setting_of, IsFixed}
+use Rattle.plan_improve.proofs.Common.{Cell, Cost, Fixed, HasCycle, IsBound, IsCellOf, IsCost, IsFixed, IsLateness}
+use Rattle.plan_improve.proofs.Common.{IsReordered, IsRestOf, IsRestThere, MAX_MOMENT, Nothing, PlannedShop, Rest, Run}
+use Rattle.plan_improve.proofs.Common.{Setting, budget, ended_lines, greatest_once, jobs, leaving, makespan_le}
+use Rattle.plan_improve.proofs.Common.{reordered, setting_of, sum_below, sum_below_same}
+use Rattle.plan_improve.proofs.Comparing.{cost_same}
 use Rattle.plan_improve.proofs.OneCell.{one_cell}
-use Rattle.plan_improve.proofs.RestCosts.{same_late as same_rest_late, same_makespan as same_rest_makespan}
+use Rattle.plan_improve.proofs.RestCosts.{same_rest_cost}
 
 -- a plan has one cost
 abbrev pub OneCost : Setting → Type 0
-OneCost s = (p : PlannedShop) (c d : Cost) → s.costs p c → s.costs p d → (c.late ≡ d.late) × (c.makespan ≡ d.makespan)
+OneCost s = (p : PlannedShop) (c d : Cost) → s.costs p c → s.costs p d → c ≡ d
 
 lateness_once : (p : PlannedShop) (m n : ℕ) → IsLateness p m → IsLateness p n → m ≡ n
 lateness_once p m n one other = one.sum ∙ same ∙ sym other.sum
@@ -36,16 +21,13 @@ lateness_once p m n one other = one.sum ∙ same ∙ sym other.sum
     same = sum_below_same _ _ (jobs p)
         (λ j inside. ap (λ leaves. leaves - budget p j) (greatest_once p (leaving p j) (one.leaves j) (other.leaves j) (one.are j inside) (other.are j inside)))
 
-pub same_makespan : (p : PlannedShop) (c d : Cost) → IsCost p c → IsCost p d → c.makespan ≡ d.makespan
-same_makespan p c d one other = omega (arith, makespan_le p c.makespan d.makespan one.makespan other.makespan, makespan_le p d.makespan c.makespan other.makespan one.makespan)
-
-pub same_late : (p : PlannedShop) (c d : Cost) → IsCost p c → IsCost p d → c.late ≡ d.late
-same_late p c d one other = lateness_once p c.late d.late one.late other.late
+pub same_cost : (p : PlannedShop) (c d : Cost) → IsCost p c → IsCost p d → c ≡ d
+same_cost p c d one other = cost_same c d (lateness_once p c.late d.late one.late other.late)
+    (omega (arith, makespan_le p c.makespan d.makespan one.makespan other.makespan, makespan_le p d.makespan c.makespan other.makespan one.makespan))
 
 pub fixed_once : (fixed : Fixed) → OneCost (setting_of fixed)
-fixed_once (Nothing at_least) p c d one other = (same_late p c d one other, same_makespan p c d one other)
-fixed_once (Run log present rest) p c d one other =
-    (same_rest_late (ended_lines log.now) present p c d one other, same_rest_makespan (ended_lines log.now) present p c d one other)
+fixed_once (Nothing at_least) p c d one other = same_cost p c d one other
+fixed_once (Run log present rest) p c d one other = same_rest_cost (ended_lines log.now) present p c d one other
 
 -- plans that differ in their orders alone have one bound
 pub same_bound : (p q : PlannedShop) (n : ℕ) → IsReordered p q → IsBound p n → IsBound q n
@@ -68,13 +50,10 @@ pub nothing_fixed : (p : PlannedShop) (n : ℕ) → IsBound p n → IsFixed (Not
 nothing_fixed p n is = record { early = omega arith; left = λ q cost same costs. refl; bound = λ q same. same_bound p q n same is }
 
 -- what is left of a plan is left of one with other orders
-rest_same : (p : PlannedShop) (order : List (List ℕ)) (c : Cell) (t : ℕ) (rest : Rest) → IsRestOf p c t rest → IsRestOf (reordered p order) c t rest
-rest_same p order c t rest is = record { each_job = is.each_job; each_machine = is.each_machine }
-
 rest_on : (lines : List (List ℕ)) (t : ℕ) (p q : PlannedShop) (rest : Rest) (c d : Cell) → IsReordered p q → IsCellOf lines p c → IsRestOf p c t rest → IsCellOf lines q d → IsRestOf q d t rest
 rest_on lines t p q rest c d same one is other =
     subst (λ (x : Cell). IsRestOf q x t rest) (one_cell lines p q c d same one other)
-    (subst (λ (x : PlannedShop). IsRestOf x c t rest) (sym same) (rest_same p q.plan.order c t rest is))
+    (subst (λ (x : PlannedShop). IsRestOf x c t rest) (sym same) (record { each_job = is.each_job; each_machine = is.each_machine }))
 
 -- of the rest of a run
 abbrev pub FitsRun : Fixed → PlannedShop → Type 0

@@ -1,21 +1,13 @@
 -- Lines that tell runs of plans that differ in their orders alone tell the same events, and lead to one cell.
 use Rattle.std.proofs.Common.{◌≡◌, ℕ, zero, suc, List, [], ◌∷◌, refl, sym, ap, ◌∙◌, subst}
-use Rattle.shop_base.specs.declared.move_order.Spot.{Spot}
 use Rattle.shop_base.specs.declared.move_order.Spot.TheVariants.{Out, At}
-use Rattle.shop_base.specs.Plan.{PlannedShop}
-use Rattle.shop_base.specs.Cell.{Cell, made, start}
-use Rattle.shop_base.specs.Move.{source, target, spot_after, after_leaving, with_entry, with_moved}
-use Rattle.shop_base.specs.Run.{Event, Reported, Moved, after, after_all, ends_in}
 use Rattle.shop_base.specs.declared.report.Report.TheVariants.{Arrive, Finish, Clean}
-use Rattle.cell_tables.specs.Events.{events_of}
 use Rattle.cell_tables.specs.Moving.{IsSpotOf}
-use Rattle.cell_tables.specs.declared.entry.Entry.{Entry}
 use Rattle.cell_tables.specs.declared.entry.Entry.TheVariants.{Report as ReportEntry, Order as OrderEntry}
-use Rattle.event_lines.specs.LogLines.{IsEntryOf, LineTells, LinesTell}
-use Rattle.event_lines.proofs.Readings.{one_reading}
-use Rattle.plan_improve.specs.Reordered.{reordered, IsReordered}
-use Rattle.run_log.specs.Audits.{TellRun}
-use Rattle.plan_improve.specs.RestCosts.{IsCellOf}
+use Rattle.plan_improve.proofs.Common.{Cell, EachOrderHasOneCell, Entry, Event, IsCellOf, IsEntryOf, LineTells}
+use Rattle.plan_improve.proofs.Common.{LinesTell, Moved, PlannedShop, Reported, Spot, TellRun, after, after_all}
+use Rattle.plan_improve.proofs.Common.{after_leaving, ends_in, events_of, made, one_reading, reordered, source}
+use Rattle.plan_improve.proofs.Common.{spot_after, start, target, with_entry, with_moved}
 
 module _ (p : PlannedShop) (order : List (List ℕ)) where
   abbrev other_plan : PlannedShop
@@ -67,7 +59,7 @@ module _ (p : PlannedShop) (order : List (List ℕ)) where
       let told : other.told ≡ one.told = one_reading p lines other.told one.told (tell_same lines other.told other.tells) one.tells in
       one.run.cell ∙ sym (other.run.cell ∙ ap (λ es. ends_in other_plan (events_of es)) told ∙ ends_same (events_of one.told))
 
-pub one_cell : (lines : List (List ℕ)) (p q : PlannedShop) (c d : Cell) → IsReordered p q → IsCellOf lines p c → IsCellOf lines q d → c ≡ d
+pub one_cell : EachOrderHasOneCell
 one_cell lines p q c d same one other = cell_same p q.plan.order lines c d one (subst (λ (x : PlannedShop). IsCellOf lines x d) same other)
 
 -- of one plan too

@@ -1,20 +1,14 @@
 -- What a rest costs, from the moments of its nodes; it is the only cost.
 use Rattle.std.proofs.Common.{◌≡◌, ℕ, suc, ◌+◌, ◌*◌, ◌-◌, ◌<◌, ◌≤◌, if◌then◌else◌, nat_lt, lt-ltb, le-ltb, List, inl, inr, arith, refl, sym, ap, ◌∙◌, subst}
-use Rattle.std.proofs.lemmas.Bool.{cases_lt}
 use Rattle.shop_base.specs.declared.node.Node.{Node}
-use Rattle.shop_base.specs.Plan.{PlannedShop, jobs, steps, budget}
-use Rattle.shop_base.specs.Cell.{Cell, made}
-use Rattle.shop_base.specs.Graph.{leaving}
-use Rattle.shop_base.specs.Ends.{sum_below}
-use Rattle.shop_base.proofs.Sums.{sum_below_same}
-use Rattle.alt_graph.specs.Times.{NodeTimes, rank_of}
-use Rattle.plan_verifier.specs.Rest.{AreOrderedAhead, IsGreatestAhead}
-use Rattle.plan_verifier.specs.Leavings.{leaves_in, AreLeavingsAhead, IsLastLeaving}
-use Rattle.plan_verifier.proofs.Acceptable.{acyclic}
-use Rattle.plan_verifier.proofs.GoingOn.{leavings_ahead}
-use Rattle.plan_improve.specs.declared.cost.Cost.{Cost}
-use Rattle.plan_improve.specs.RestCosts.{late_by, IsCostFrom, IsRestCost}
-use Rattle.plan_improve.specs.RestKeeping.{LeaveSoon, the_last_leaving}
+use Rattle.plan_verifier.specs.Held.{AreBegun}
+use Rattle.plan_verifier.proofs.Soon.{node_soon}
+use Rattle.plan_improve.proofs.Common.{AreLeavingsAhead, AreOrderedAhead, Cell, Cost, IsCostFrom, IsGreatestAhead}
+use Rattle.plan_improve.proofs.Common.{IsLastLeaving, IsRestCost, IsSound, LeaveSoon, MAX_MOMENT, NodeTimes}
+use Rattle.plan_improve.proofs.Common.{PlannedShop, acyclic, budget, cases_lt, jobs, late_by, leaves_in, leaving}
+use Rattle.plan_improve.proofs.Common.{leaving_ahead, leaving_node, leavings_ahead, made, rank_of, steps, sum_below}
+use Rattle.plan_improve.proofs.Common.{sum_below_same, the_last_leaving}
+use Rattle.plan_improve.proofs.Comparing.{cost_same}
 use Rattle.plan_improve.proofs.OneCell.{cell_once}
 
 module _ (p : PlannedShop) (c : Cell) (t : ℕ) where
@@ -34,15 +28,12 @@ module _ (p : PlannedShop) (c : Cell) (t : ℕ) where
   last_le : (f g : ℕ → ℕ) (m n : ℕ) → ((j : ℕ) → j < jobs p → f j ≡ g j) → IsLastLeaving p f m → IsLastLeaving p g n → m ≤ n
   last_le f g m n same one other = (let (j, inside, is) = one.reached in omega (arith, is, same j inside, other.bound j inside))
 
-  cost_late : (a b : Cost) → IsCostFrom p c t a → IsCostFrom p c t b → a.late ≡ b.late
-  cost_late a b one other = one.late ∙ late_once one.leaves other.leaves one.are other.are ∙ sym other.late
-
-  cost_makespan : (a b : Cost) → IsCostFrom p c t a → IsCostFrom p c t b → a.makespan ≡ b.makespan
-  cost_makespan a b one other = omega (
+  once_from : (a b : Cost) → IsCostFrom p c t a → IsCostFrom p c t b → a ≡ b
+  once_from a b one other = cost_same a b (one.late ∙ late_once one.leaves other.leaves one.are other.are ∙ sym other.late) (omega (
     arith,
     last_le one.leaves other.leaves a.makespan b.makespan (leaves_once one.leaves other.leaves one.are other.are) one.makespan other.makespan,
     last_le other.leaves one.leaves b.makespan a.makespan (leaves_once other.leaves one.leaves other.are one.are) other.makespan one.makespan,
-  )
+  ))
 
   -- the moments of the leavings give the cost
   pub cost_is : (times : NodeTimes) (cost : Cost) → AreOrderedAhead p c t times → cost.late ≡ sum_below (late_by p c (leaves_in p times)) (jobs p)
@@ -75,12 +66,11 @@ late_more p c leaves n late x below is few =
       few = omega (arith, below.few, is, few);
     }
 
-module _ (lines : List (List ℕ)) (t : ℕ) (p : PlannedShop) (a b : Cost) (one : IsRestCost lines t p a) (other : IsRestCost lines t p b) where
-  same_costs : IsCostFrom p one.cell t b
-  same_costs = subst (λ (x : Cell). IsCostFrom p x t b) (cell_once lines p other.cell one.cell other.run one.run) other.costs
+pub same_rest_cost : (lines : List (List ℕ)) (t : ℕ) (p : PlannedShop) (a b : Cost) → IsRestCost lines t p a → IsRestCost lines t p b → a ≡ b
+same_rest_cost lines t p a b one other = once_from p one.cell t a b one.costs
+    (subst (λ (x : Cell). IsCostFrom p x t b) (cell_once lines p other.cell one.cell other.run one.run) other.costs)
 
-  pub same_late : a.late ≡ b.late
-  same_late = cost_late p one.cell t a b one.costs same_costs
-
-  pub same_makespan : a.makespan ≡ b.makespan
-  same_makespan = cost_makespan p one.cell t a b one.costs same_costs
+-- how late the jobs of a rest can leave
+pub leave_soon : (p : PlannedShop) (c : Cell) (t : ℕ) (times : NodeTimes) → IsSound p c → AreBegun c → t ≤ MAX_MOMENT → AreOrderedAhead p c t times → LeaveSoon p c (leaves_in p times)
+leave_soon p c t times sound begun early ordered j inside here =
+    omega (arith, node_soon p c t sound ordered.schedule.shaped begun early times ordered (leaving p j) (leaving_node p j inside) (leaving_ahead p c j here))

@@ -1,23 +1,13 @@
 -- What is said of a better plan for the rest of a run.
-use Rattle.std.proofs.Common.{◌≡◌, ◌⊎◌, ℕ, List, Option, Result, Ok, Err, IfOk, IfErr, inl, inr, refl, sym, ap, ◌∙◌, subst}
-use Rattle.shop_base.specs.Plan.{PlannedShop}
-use Rattle.shop_base.specs.Cell.{Cell}
-use Rattle.shop_base.specs.Report.{IsNextMoment}
-use Rattle.alt_graph.specs.Solved.{HasCycle}
-use Rattle.plan_verifier.specs.RestVerdicts.{IsAcceptableAhead, IsRestAccepted}
-use Rattle.plan_improve.specs.Settings.{rest_after, IsNoWorse}
-use Rattle.plan_improve.specs.Reordered.{IsReordered}
-use Rattle.plan_improve.specs.Watching.{Told}
-use Rattle.plan_improve.specs.Runs.{Asked}
+use Rattle.std.proofs.Common.{◌≡◌, ◌⊎◌, ℕ, List, Option, Result, Ok, Err, IfOk, inl, inr, refl, sym, ap, ◌∙◌, subst}
 use Rattle.plan_improve.specs.declared.improved.Improved.{Improved}
-use Rattle.plan_improve.specs.RestCosts.{IsCellOf}
-use Rattle.plan_improve.specs.Improved.{HasNoRestBegin, IsFound, IsFoundTold, IsNeverWorse, IsVerdictOn, present_of}
-use Rattle.cell_tables.specs.PlannedCell.{PlannedCell}
-use Rattle.plan_improve.specs.Keeping.{Comes, IsComeTo}
-use Rattle.plan_improve.specs.RestKeeping.{IsImprovedTold}
+use Rattle.plan_improve.proofs.Common.{Asked, Cell, Comes, HasCycle, HasNoRestBegin, IsAcceptableAhead, IsCellOf}
+use Rattle.plan_improve.proofs.Common.{IsComeTo, IsFoundTold, IsImprovedTold, IsNeverWorse, IsNextMoment, IsNoWorse}
+use Rattle.plan_improve.proofs.Common.{IsRestAccepted, IsVerdictOn, PlannedCell, PlannedShop, Told, present_of}
+use Rattle.plan_improve.proofs.Common.{rest_after}
 use Rattle.plan_improve.proofs.OneCell.{one_cell, cell_once}
-use Rattle.plan_improve.proofs.RestLawful.{accepted}
-use Rattle.plan_improve.proofs.Searched.{same_numbers, stays_there, never_worse_either, found_either, found_told_either}
+use Rattle.plan_improve.proofs.Lawful.{rest_accepted}
+use Rattle.plan_improve.proofs.Searched.{same_numbers, never_worse_either, found_told_either}
 
 module _ (lines : List (List ℕ)) (t : ℕ) (before after : Option (List Told)) (made : List Told → Asked) (start : PlannedShop) where
   -- the present moment can be the next after the run that the lines tell by the plan that is found
@@ -36,23 +26,9 @@ module _ (lines : List (List ℕ)) (t : ℕ) (before after : Option (List Told))
   }
   improved_answer x (Err e) come plan verdict = tt
 
-  pub back_answer : {A E : Type 0} (x : PlannedCell PlannedShop) (r : Result A (E × PlannedShop)) → IsComeTo (rest_after lines t) before after made start x → IfErr r (λ refused. refused.1 ≡ x.plan)
-      → IfErr r (λ refused. IsReordered start refused.1)
-  back_answer x (Ok found) come back = tt
-  back_answer x (Err e) come back = subst (IsReordered start) (sym back) (same_numbers (rest_after lines t) before after made start x.plan come.0)
-
-  module _ (found : Improved) (is : IsImprovedTold lines t before after made start found) where
-    pub same_rest_numbers : IsReordered start found.shaped
-    same_rest_numbers = same_numbers (rest_after lines t) before after made start found.shaped is.came
-
-    pub acyclic_unless : (HasCycle found.shaped → ⊥) ⊎ HasNoRestBegin lines start
-    acyclic_unless = elim is.came [
-      | inl stays ↦ inr stays.0
-      | inr came ↦ inl came.is.costs.acyclic
-    ]
-
-    pub rest_stays : HasNoRestBegin lines start → found.shaped ≡ start
-    rest_stays none = stays_there (rest_after lines t) before after made start found.shaped is.came none
+  pub acyclic_unless : (p : PlannedShop) → Comes (rest_after lines t) before after made start p → (HasCycle p → ⊥) ⊎ HasNoRestBegin lines start
+  acyclic_unless p (inl stays) = inr stays.0
+  acyclic_unless p (inr came) = inl came.is.costs.acyclic
 
 -- the same, where the present moment is told by the cell of the log
 module _ (lines : List (List ℕ)) (at : Option ℕ) (t : ℕ) (before after : Option (List Told)) (made : ℕ → List Told → Asked) (start : PlannedShop) (begun : Cell)
@@ -64,16 +40,12 @@ module _ (lines : List (List ℕ)) (at : Option ℕ) (t : ℕ) (before after : O
   pub never_worse : IsNeverWorse (rest_after lines (present_of at c.last)) start found.shaped
   never_worse = subst (λ n. IsNeverWorse (rest_after lines n) start found.shaped) moment (never_worse_either (rest_after lines t) before after (made t) start found.shaped is.came)
 
-  pub is_found : HasNoRestBegin lines start ⊎ IsFound (rest_after lines (present_of at c.last)) (λ p q. (told : List Told) × made (present_of at c.last) told p q) start found.shaped
-  is_found = subst (λ n. HasNoRestBegin lines start ⊎ IsFound (rest_after lines n) (λ p q. (told : List Told) × made n told p q) start found.shaped) moment
-      (found_either (rest_after lines t) before after (made t) start found.shaped is.came)
-
   pub is_found_told : HasNoRestBegin lines start ⊎ IsFoundTold (rest_after lines (present_of at c.last)) before after (made (present_of at c.last)) start found.shaped
   is_found_told = subst (λ n. HasNoRestBegin lines start ⊎ IsFoundTold (rest_after lines n) before after (made n) start found.shaped) moment
       (found_told_either (rest_after lines t) before after (made t) start found.shaped is.came)
 
   same_cell : is.cell ≡ c
-  same_cell = sym (one_cell lines start found.shaped c is.cell (same_rest_numbers lines t before after (made t) start found is) here is.run)
+  same_cell = sym (one_cell lines start found.shaped c is.cell (same_numbers (rest_after lines t) before after (made t) start found.shaped is.came) here is.run)
 
   pub verdict_there : IsVerdictOn found.shaped c (present_of at c.last) found.verdict
   verdict_there = subst (λ n. IsVerdictOn found.shaped c n found.verdict) moment (subst (λ (x : Cell). IsVerdictOn found.shaped x t found.verdict) same_cell is.verdict)
@@ -82,4 +54,4 @@ module _ (lines : List (List ℕ)) (at : Option ℕ) (t : ℕ) (before after : O
   stays_accepted acceptable =
       let no_worse : IsNoWorse (rest_after lines (present_of at c.last)) found.shaped start = never_worse start (inl (acceptable.acyclic, refl)) in
       let ends : IsCellOf lines found.shaped c = subst (λ (x : Cell). IsCellOf lines found.shaped x) same_cell is.run in
-      verdict_there.exact.1 (accepted lines (present_of at c.last) start found.shaped c c no_worse here ends acceptable)
+      verdict_there.exact.1 (rest_accepted lines (present_of at c.last) start found.shaped c c no_worse here ends acceptable)

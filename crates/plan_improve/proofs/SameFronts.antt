@@ -1,22 +1,14 @@
 -- Cells by plans with other orders that begin with the entries so far.
-use Rattle.std.proofs.Common.{◌≡◌, ◌↔◌, ℕ, suc, ◌+◌, ◌<◌, ◌≤◌, List, [], ◌∷◌, ◌++◌, length, take, get_or, length-append, Some, inl, inr, arith, refl, sym, ap, ◌∙◌, subst}
+use Rattle.std.proofs.Common.{◌≡◌, ℕ, suc, ◌+◌, ◌<◌, ◌≤◌, List, [], ◌∷◌, ◌++◌, length, take, get_or, length-append, Some, inl, inr, arith, refl, sym, ap, ◌∙◌, subst}
 use Rattle.std.proofs.Math.Seq.{take-append_seam}
-use Rattle.std.proofs.lemmas.Bool.{cases_lt}
-use Rattle.std.proofs.lemmas.List.{get_or_past}
-use Rattle.shop_base.specs.Plan.{PlannedShop, machines, order, IsWellShaped}
-use Rattle.shop_base.specs.declared.limits.TheConstants.{MAX_MOMENT}
-use Rattle.shop_base.specs.Cell.{Cell, MachineState, since, entries, cleaning}
-use Rattle.shop_base.specs.Move.{IsPrefix}
-use Rattle.shop_base.specs.Sound.{IsSound}
-use Rattle.shop_base.proofs.Keeping.{run-sound}
-use Rattle.cell_tables.specs.PlannedCell.{PlannedCell}
-use Rattle.cell_tables.specs.Tables.{cell_of, no_row, state_of, states_from, entered_at, AreSound}
 use Rattle.cell_tables.specs.declared.tables.MachineRow.{MachineRow}
 use Rattle.cell_tables.specs.declared.tables.Tables.{Tables}
+use Rattle.cell_tables.specs.Tables.{cell_of}
 use Rattle.cell_tables.proofs.Cells.{entries-read, entries-count}
-use Rattle.plan_improve.specs.Keeping.{IsReached, Begin}
-use Rattle.plan_improve.specs.Laws.{BeginsWithEntries}
-use Rattle.plan_improve.specs.Reordered.{reordered}
+use Rattle.plan_improve.proofs.Common.{AreSound, Begin, BeginsWithEntries, Cell, IsPrefix, IsReached, IsSound}
+use Rattle.plan_improve.proofs.Common.{IsWellShaped, MAX_MOMENT, MachineState, PlannedCell, PlannedShop, cases_lt}
+use Rattle.plan_improve.proofs.Common.{cleaning, entered_at, entries, get_or_past, machines, no_row, order}
+use Rattle.plan_improve.proofs.Common.{reordered, run-sound, since, state_of, states_from}
 use Rattle.plan_improve.proofs.Fronts.{run_there}
 use Rattle.plan_improve.proofs.OneCell.{ends_same}
 
@@ -82,20 +74,13 @@ module _ (p : PlannedShop) (orders : List (List ℕ)) (t : Tables) (are : AreSou
       sound = subst (IsSound other) (sym cell_same) (reached_sound other (cell_of p t) fits (reached_on p orders (cell_of p t) are.tables.shaped reached begins));
     }
 
-  -- the entries of the cell are those that the rows tell
-  pub begins_told : IsWellShaped other → Begin t.machines.items p.plan.order orders ↔ BeginsWithEntries (cell_of p t) other
-  begins_told fits = (there, λ begins. (omega (arith, are.tables.machine_count, fits.counts.orders), λ m lt. back m (omega (arith, lt, are.tables.machine_count)) (begins m)))
-    where
-      back : (m : ℕ) → m < machines p → IsPrefix (entries (cell_of p t) m) (order other m) → IsPrefix (take (entered_at t m) (order p m)) (order other m)
-      back m inside is = subst (λ es. IsPrefix es (order other m)) (entries-read p t m are.tables inside) is
-
-      there : Begin t.machines.items p.plan.order orders → BeginsWithEntries (cell_of p t) other
-      there begin m = elim (cases_lt m (machines p)) [
-        | inl inside ↦ subst (λ es. IsPrefix es (order other m)) (sym (entries-read p t m are.tables inside)) (begin.1 m (omega (arith, inside, are.tables.machine_count)))
-        | inr past ↦ subst (IsPrefix (entries (cell_of p t) m))
-            (get_or_past p.plan.order m [] (omega (arith, past, are.tables.shaped.counts.orders)) ∙ sym (get_or_past orders m [] (omega (arith, past, fits.counts.orders))))
-            (are.sound.in_order m)
-      ]
+-- where the orders fit, there is none past the machines
+begins_all : (p : PlannedShop) (orders : List (List ℕ)) (c : Cell) → IsWellShaped p → IsSound p c → IsWellShaped (reordered p orders) → Begin (machines p) c orders → BeginsWithEntries c (reordered p orders)
+begins_all p orders c shaped sound fits begin m = elim (cases_lt m (machines p)) [
+  | inl inside ↦ begin.1 m inside
+  | inr past ↦ subst (IsPrefix (entries c m))
+      (get_or_past p.plan.order m [] (omega (arith, past, shaped.counts.orders)) ∙ sym (get_or_past orders m [] (omega (arith, past, fits.counts.orders)))) (sound.in_order m)
+]
 
 -- what is taken out of a cell, and put together again
 module _ (x : PlannedCell PlannedShop) (t : Tables) (plan : x.plan ≡ x.basis) (cell : cell_of x.basis t ≡ x.cell) (sound : AreSound x.basis t) where
@@ -111,36 +96,24 @@ module _ (x : PlannedCell PlannedShop) (t : Tables) (plan : x.plan ≡ x.basis) 
   pub again_cell : (p : PlannedShop) → p ≡ x.plan → cell_of p t ≡ x.cell
   again_cell p same = ap (λ (q : PlannedShop). cell_of q t) same ∙ out_cell
 
-  -- the entries of the cell are those that the rows tell
-  pub begins_of : (orders : List (List ℕ)) → IsWellShaped (reordered x.plan orders) → Begin t.machines.items x.plan.plan.order orders ↔ BeginsWithEntries x.cell (reordered x.plan orders)
-  begins_of orders fits = (
-    λ begin. subst (λ (c : Cell). BeginsWithEntries c (reordered x.plan orders)) out_cell ((begins_told x.plan orders t out_sound fits).0 begin),
-    λ begins. (begins_told x.plan orders t out_sound fits).1 (subst (λ (c : Cell). BeginsWithEntries c (reordered x.plan orders)) (sym out_cell) begins),
-  )
-
   -- by the other plan it is the same cell
   module _ (orders : List (List ℕ)) (p : PlannedShop) (same : p ≡ reordered x.plan orders) (fits : IsWellShaped p) (reached : IsReached x.plan x.cell)
       (begins : BeginsWithEntries x.cell (reordered x.plan orders)) where
-    fits_there : IsWellShaped (reordered x.plan orders)
-    fits_there = subst IsWellShaped same fits
+    pub by_other : AreSound p t × (cell_of p t ≡ x.cell)
+    by_other =
+        let fits_there : IsWellShaped (reordered x.plan orders) = subst IsWellShaped same fits in
+        let reached_there : IsReached x.plan (cell_of x.plan t) = subst (IsReached x.plan) (sym out_cell) reached in
+        let begins_there : BeginsWithEntries (cell_of x.plan t) (reordered x.plan orders) = subst (λ (c : Cell). BeginsWithEntries c (reordered x.plan orders)) (sym out_cell) begins in (
+          subst (λ (q : PlannedShop). AreSound q t) (sym same) (other_sound x.plan orders t out_sound fits_there reached_there begins_there),
+          ap (λ (q : PlannedShop). cell_of q t) same ∙ cell_same x.plan orders t out_sound fits_there reached_there begins_there ∙ out_cell,
+        )
 
-    reached_there : IsReached x.plan (cell_of x.plan t)
-    reached_there = subst (IsReached x.plan) (sym out_cell) reached
-
-    begins_there : BeginsWithEntries (cell_of x.plan t) (reordered x.plan orders)
-    begins_there = subst (λ (c : Cell). BeginsWithEntries c (reordered x.plan orders)) (sym out_cell) begins
-
-    pub sound_by : AreSound p t
-    sound_by = subst (λ (q : PlannedShop). AreSound q t) (sym same) (other_sound x.plan orders t out_sound fits_there reached_there begins_there)
-
-    pub cell_by : cell_of p t ≡ x.cell
-    cell_by = ap (λ (q : PlannedShop). cell_of q t) same ∙ cell_same x.plan orders t out_sound fits_there reached_there begins_there ∙ out_cell
-
-  -- by a plan with other orders that fit, and begin with the entries that the rows tell
-  pub recast : (orders : List (List ℕ)) (old p : PlannedShop) → old ≡ x.plan → p ≡ reordered old orders → IsWellShaped p → IsReached x.plan x.cell → Begin t.machines.items old.plan.order orders
+  -- by a plan with other orders that fit, and begin with the entries
+  pub recast : (orders : List (List ℕ)) (old p : PlannedShop) → old ≡ x.plan → p ≡ reordered old orders → IsWellShaped p → IsReached x.plan x.cell → Begin (machines x.plan) x.cell orders
       → AreSound p t × (cell_of p t ≡ x.cell) × (p ≡ reordered x.plan orders) × BeginsWithEntries x.cell p
   recast orders old p plan is fits reached begin =
       let same : p ≡ reordered x.plan orders = is ∙ ap (λ (q : PlannedShop). reordered q orders) plan in
-      let begins : BeginsWithEntries x.cell (reordered x.plan orders) =
-      (begins_of orders (subst IsWellShaped same fits)).0 (subst (λ (q : PlannedShop). Begin t.machines.items q.plan.order orders) plan begin) in
-      (sound_by orders p same fits reached begins, cell_by orders p same fits reached begins, same, subst (BeginsWithEntries x.cell) (sym same) begins)
+      let shaped : IsWellShaped x.plan = out_sound.tables.shaped in
+      let begins : BeginsWithEntries x.cell (reordered x.plan orders) = begins_all x.plan orders x.cell shaped (reached_sound x.plan x.cell shaped reached) (subst IsWellShaped same fits) begin in
+      let by = by_other orders p same fits reached begins in
+      (by.0, by.1, same, subst (BeginsWithEntries x.cell) (sym same) begins)

@@ -1,14 +1,10 @@
 -- What is said of the plan that a search gives, from where it begins and what was kept.
-use Rattle.std.proofs.Common.{◌≡◌, ◌⊎◌, List, Option, inl, inr, refl, sym, ◌∙◌, subst}
-use Rattle.shop_base.specs.Plan.{PlannedShop}
-use Rattle.plan_improve.specs.declared.cost.Cost.{Cost}
-use Rattle.plan_improve.specs.declared.best.Best.{Best}
-use Rattle.plan_improve.specs.Settings.{Setting, IsNoWorse}
-use Rattle.plan_improve.specs.Reordered.{IsReordered}
-use Rattle.plan_improve.specs.Watching.{Told}
-use Rattle.plan_improve.specs.Runs.{Asked}
-use Rattle.plan_improve.specs.Improved.{IsBegin, HasNoBegin, IsFound, IsFoundTold, IsNeverWorse}
-use Rattle.plan_improve.specs.Keeping.{IsLastTold, IsSearched, Comes}
+use Rattle.std.proofs.Common.{◌≡◌, ◌⊎◌, ◌↔◌, List, Option, Result, Ok, Err, IfErr, inl, inr, refl, sym, ◌∙◌, subst}
+use Rattle.plan_verifier.specs.declared.verdict.Verdict.{Verdict}
+use Rattle.plan_improve.proofs.Common.{Asked, Best, Comes, Cost, HasNoBegin, IsAcceptable, IsBegin, IsFound}
+use Rattle.plan_improve.proofs.Common.{IsFoundTold, IsLastTold, IsNeverWorse, IsNoWorse, IsReordered, IsSearched}
+use Rattle.plan_improve.proofs.Common.{PlannedShop, SaysAccepted, Setting, Told, judged, whole_plan}
+use Rattle.plan_improve.proofs.Lawful.{accepted}
 use Rattle.plan_improve.proofs.Once.{reordered_on}
 
 module _ (s : Setting) where
@@ -51,11 +47,7 @@ module _ (s : Setting) where
       never_worse begin begins = subst (IsNoWorse s p) (begin_only start is.begin begin is.begins_at begins)
           (record { cost = is.cost; other = is.first; is = is.is; than = is.than; most = is.most })
 
-      -- what is found, whatever is told
-      pub found_by : IsFound s (λ x y. (told : List Told) × made told x y) start p
-      found_by = record { begin = is.begin; begins_at = is.begins_at; run = (is.told, is.run) }
-
-      -- and with what is told
+      -- what is found, with what is told
       pub found_told : IsFoundTold s before after made start p
       found_told = record { told = is.told; more = is.more; found = record { begin = is.begin; begins_at = is.begins_at; run = is.run } }
 
@@ -78,14 +70,34 @@ module _ (s : Setting) where
         | inr came ↦ never_worse p came
       ]
 
-      pub found_either : HasNoBegin s start ⊎ IsFound s (λ x y. (told : List Told) × made told x y) start p
-      found_either = elim is [
-        | inl stays ↦ inl stays.0
-        | inr came ↦ inr (found_by p came)
-      ]
-
       pub found_told_either : HasNoBegin s start ⊎ IsFoundTold s before after made start p
       found_told_either = elim is [
         | inl stays ↦ inl stays.0
         | inr came ↦ inr (found_told p came)
       ]
+
+    pub back_same : {A E : Type 0} (p : PlannedShop) (r : Result A (E × PlannedShop)) → Comes s before after made start p → IfErr r (λ refused. refused.1 ≡ p)
+        → IfErr r (λ refused. IsReordered start refused.1)
+    back_same p (Ok found) comes back = tt
+    back_same p (Err e) comes back = subst (IsReordered start) (sym back) (same_numbers p comes)
+
+  -- whatever is told
+  pub untold : (before after : Option (List Told)) (made : List Told → Asked) (start p : PlannedShop) → IsFoundTold s before after made start p
+      → IsFound s (λ x y. (told : List Told) × made told x y) start p
+  untold before after made start p is = record { begin = is.found.begin; begins_at = is.found.begins_at; run = (is.told, is.found.run) }
+
+  pub untold_either : (before after : Option (List Told)) (made : List Told → Asked) (start p : PlannedShop) → HasNoBegin s start ⊎ IsFoundTold s before after made start p
+      → HasNoBegin s start ⊎ IsFound s (λ x y. (told : List Told) × made told x y) start p
+  untold_either before after made start p (inl none) = inl none
+  untold_either before after made start p (inr is) = inr (untold before after made start p is)
+
+module _ (before after : Option (List Told)) (made : List Told → Asked) (start : PlannedShop) where
+  -- of a whole plan there always is one to begin with
+  pub came_on : (p : PlannedShop) → Comes whole_plan before after made start p → IsSearched whole_plan before after made start p
+  came_on p (inl stays) = absurd (stays.0.1 tt)
+  came_on p (inr came) = came
+
+  pub stays_accepted : (verdict : Verdict) → IsSearched whole_plan before after made start (judged verdict) → SaysAccepted verdict ↔ IsAcceptable (judged verdict)
+      → IsAcceptable start → SaysAccepted verdict
+  stays_accepted verdict is exact acceptable =
+      exact.1 (accepted start (judged verdict) (never_worse whole_plan before after made start (judged verdict) is start (inl ((λ cycle. acceptable.acyclic cycle.0 cycle.1), refl))) acceptable)

@@ -1,17 +1,9 @@
 -- The cell to which what is fixed leads, by plans that differ in their orders alone.
 use Rattle.std.proofs.Common.{◌≡◌, ℕ, List, [], ◌++◌, refl, sym, ap, ◌∙◌, subst}
-use Rattle.shop_base.specs.Plan.{PlannedShop, order, IsWellShaped}
-use Rattle.shop_base.specs.Cell.{Cell, MachineState, entries, start}
 use Rattle.shop_base.proofs.InShop.{start_unused}
-use Rattle.text_lines.specs.Lines.{ended_lines}
-use Rattle.cell_tables.specs.Events.{events_of}
-use Rattle.cell_tables.specs.PlannedCell.{PlannedCell}
-use Rattle.plan_improve.specs.declared.cost.Cost.{Cost}
-use Rattle.plan_improve.specs.declared.fixed.Fixed.{Fixed}
-use Rattle.plan_improve.specs.declared.fixed.Fixed.TheVariants.{Nothing, Run}
-use Rattle.plan_improve.specs.Keeping.{setting_of, IsReached, Stands}
-use Rattle.plan_improve.specs.Laws.{BeginsWithEntries}
-use Rattle.plan_improve.specs.Reordered.{reordered}
+use Rattle.plan_improve.proofs.Common.{BeginsWithEntries, Cell, Cost, Fixed, IsReached, IsWellShaped, MachineState}
+use Rattle.plan_improve.proofs.Common.{Nothing, PlannedCell, PlannedShop, Run, Stands, ended_lines, entries, events_of}
+use Rattle.plan_improve.proofs.Common.{order, reordered, setting_of, start}
 use Rattle.plan_improve.proofs.Fronts.{log_there, entries_law}
 use Rattle.plan_improve.proofs.OneCell.{cell_once, tells_run}
 

@@ -1,21 +1,10 @@
 -- The rest of a run that hasn't begun costs what the whole plan does; and what a cell's plan costs where something is fixed.
 use Rattle.std.proofs.Common.{◌≡◌, ℕ, ◌-◌, if◌then◌else◌, le-ltb, Option, None, Some, Result, Ok, Err, IfOk, arith, sym, ap, ◌∙◌, subst}
-use Rattle.std.specs.Prelude.{MatchOption}
-use Rattle.shop_base.specs.Plan.{PlannedShop, jobs, steps, budget, IsWellShaped}
-use Rattle.shop_base.specs.Cell.{Cell, made, start}
-use Rattle.shop_base.specs.Ends.{sum_below}
-use Rattle.shop_base.proofs.Keeping.{start-made}
-use Rattle.shop_base.proofs.Sums.{sum_below_same}
-use Rattle.alt_graph.specs.Solved.{HasCycle}
 use Rattle.plan_verifier.proofs.AtStart.{leavings_to, leavings_from}
-use Rattle.plan_verifier.proofs.Reasons.{makespan_is, makespan_last}
-use Rattle.plan_improve.specs.declared.cost.Cost.{Cost}
-use Rattle.plan_improve.specs.declared.fixed.Fixed.{Fixed}
-use Rattle.plan_improve.specs.declared.fixed.Fixed.TheVariants.{Nothing, Run}
-use Rattle.plan_improve.specs.Costs.{IsCost}
-use Rattle.plan_improve.specs.RestCosts.{late_by, IsCostFrom}
-use Rattle.plan_improve.specs.Keeping.{setting_of, present_in}
-use Rattle.plan_improve.specs.Laws.{TheRestOfTheStartCostsThePlan}
+use Rattle.plan_improve.proofs.Common.{Cell, Cost, Fixed, HasCycle, IsCost, IsCostFrom, IsWellShaped, MatchOption}
+use Rattle.plan_improve.proofs.Common.{Nothing, PlannedShop, Run, TheRestOfTheStartCostsThePlan, budget, jobs, late_by}
+use Rattle.plan_improve.proofs.Common.{made, makespan_is, makespan_last, present_in, setting_of, start, start-made}
+use Rattle.plan_improve.proofs.Common.{steps, sum_below, sum_below_same}
 
 late_whole : (p : PlannedShop) (leaves : ℕ → ℕ) → sum_below (late_by p (start p) leaves) (jobs p) ≡ sum_below (λ j. leaves j - budget p j) (jobs p)
 late_whole p leaves = sum_below_same _ _ (jobs p) (λ j inside.

@@ -1,15 +1,13 @@
 -- The best plan so far with its cost, while answers are judged.
-use Rattle.std.specs.Prelude.{◌≡◌, ◌<◌, ◌≤◌, ◌⊎◌, ℕ, List, [], Option, None, Some, length, take, slice_index_or}
+use Rattle.std.specs.Prelude.{◌≡◌, ◌<◌, ◌≤◌, ◌⊎◌, ℕ, List, [], Option, None, Some, length, slice_index_or}
 use Rattle.shop_base.specs.declared.limits.TheConstants.{MAX_MOMENT}
 use Rattle.shop_base.specs.Plan.{PlannedShop, IsWellShaped}
-use Rattle.shop_base.specs.Cell.{Cell}
+use Rattle.shop_base.specs.Cell.{Cell, entries}
 use Rattle.shop_base.specs.Move.{IsPrefix}
 use Rattle.shop_base.specs.Run.{Event, IsRun, ends_in}
 use Rattle.shop_base.specs.Vectors.{lists_of}
 use Rattle.text_lines.specs.Lines.{ended_lines}
 use Rattle.cell_tables.specs.PlannedCell.{PlannedCell}
-use Rattle.cell_tables.specs.Tables.{no_row}
-use Rattle.cell_tables.specs.declared.tables.MachineRow.{MachineRow}
 use Rattle.plan_annealing.specs.declared.rest.Rest.{Rest}
 use Rattle.plan_seek.specs.Orders.{Proposal}
 use Rattle.plan_improve.specs.declared.cost.Cost.{Cost}
@@ -129,7 +127,6 @@ abbrev pub IsRecast : PlannedCell PlannedShop → List (List ℕ) → Recast →
 IsRecast x order (Fits y old) = (y.plan ≡ reordered x.plan order) × (y.cell ≡ x.cell) × (x.plan ≡ reordered y.plan (lists_of old.items)) × IsWellShaped y.plan × BeginsWithEntries x.cell y.plan
 IsRecast x order (Stays y) = (y.plan ≡ x.plan) × (y.cell ≡ x.cell) × (IsWellShaped (reordered x.plan order) → BeginsWithEntries x.cell (reordered x.plan order) → ⊥)
 
--- there is a new order for each machine, and it begins with those of the old one that have entered it
-abbrev pub Begin : List MachineRow → List (List ℕ) → List (List ℕ) → Type 0
-Begin rows old new =
-    (length rows ≤ length new) × ((m : ℕ) → m < length rows → IsPrefix (take (slice_index_or rows m no_row).entered (slice_index_or old m [])) (slice_index_or new m []))
+-- there is an order for each of so many machines, and it begins with the entries of the cell
+abbrev pub Begin : ℕ → Cell → List (List ℕ) → Type 0
+Begin n c orders = (n ≤ length orders) × ((m : ℕ) → m < n → IsPrefix (entries c m) (slice_index_or orders m []))

@@ -33,12 +33,8 @@ impl<'a> Fixed<'a> {
         ensures { option_copied result ≡ rest_in self.now }
     {
         match self {
-            Fixed::Nothing { at_least: _ } => None,
-            Fixed::Run {
-                log: _,
-                present: _,
-                rest,
-            } => Some(rest),
+            Fixed::Nothing { .. } => None,
+            Fixed::Run { rest, .. } => Some(rest),
         }
     }
 
@@ -48,11 +44,7 @@ impl<'a> Fixed<'a> {
     {
         match self {
             Fixed::Nothing { at_least } => Some(*at_least),
-            Fixed::Run {
-                log: _,
-                present: _,
-                rest: _,
-            } => None,
+            Fixed::Run { .. } => None,
         }
     }
 
@@ -61,12 +53,8 @@ impl<'a> Fixed<'a> {
         ensures { result ≡ present_in self.now }
     {
         match self {
-            Fixed::Nothing { at_least: _ } => 0,
-            Fixed::Run {
-                log: _,
-                present,
-                rest: _,
-            } => *present,
+            Fixed::Nothing { .. } => 0,
+            Fixed::Run { present, .. } => *present,
         }
     }
 

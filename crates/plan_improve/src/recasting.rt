@@ -1,16 +1,15 @@
 //! Cells whose plan's orders are replaced.
 
-ghost use Rattle.std.specs.Prelude.{◌≡◌, ℕ, ◌<◌, ◌≤◌, ◌↔◌, [], IsTrue, length, slice_index_or};
-ghost use Rattle.shop_base.specs.Plan.{IsWellShaped};
+ghost use Rattle.std.specs.Prelude.{◌≡◌, ◌↔◌, IsTrue};
+ghost use Rattle.shop_base.specs.Plan.{IsWellShaped, machines};
 ghost use Rattle.shop_base.specs.Move.{IsPrefix};
 ghost use Rattle.shop_base.specs.Vectors.{lists_of};
-ghost use Rattle.cell_tables.specs.Tables.{no_row, AreTables};
 ghost use Rattle.plan_improve.specs.Laws.{BeginsWithEntries};
 ghost use Rattle.plan_improve.specs.Reordered.{reordered};
 ghost use Rattle.plan_improve.specs.Keeping.{IsReached, IsRecast, Begin};
 
 use crate::reordering::{Replaced, put_back, replace};
-use cell_tables::{MachineRow, Tables, WorkCell};
+use cell_tables::WorkCell;
 use shop_base::{JobNo, Shaped};
 
 /// What came of replacing the orders of a cell's plan.
@@ -28,10 +27,10 @@ pub(crate) fn reorder(cell: WorkCell<Shaped>, order: Vec<Vec<JobNo>>) -> Recast
     requires { IsReached cell.plan cell.cell }
     ensures { IsRecast cell (lists_of order.items) result }
 {
-    let (shaped, tables) = cell.into_parts();
-    if !begin_with(&shaped, &tables, &order) {
-        return Recast::Stays(WorkCell::of_parts(shaped, tables));
+    if !begin(&cell, &order) {
+        return Recast::Stays(cell);
     }
+    let (shaped, tables) = cell.into_parts();
     match replace(shaped, order) {
         Replaced::Fits(shaped, old) => Recast::Fits(WorkCell::of_parts(shaped, tables), old),
         Replaced::Stays(shaped) => Recast::Stays(WorkCell::of_parts(shaped, tables)),
@@ -58,26 +57,18 @@ pub(crate) fn plan_of(cell: WorkCell<Shaped>) -> Shaped
     shaped
 }
 
-/// Whether these orders begin with the entries that the tables tell of a plan.
-fn begin_with(shaped: &Shaped, tables: &Tables, order: &[Vec<JobNo>]) -> bool
-    requires { AreTables shaped.now tables.now }
-    ensures { IsTrue result ↔ Begin tables.now.machines.items shaped.now.plan.order (lists_of order.now) }
+/// Whether there is a new order for each machine, which begins with the jobs that have entered it.
+fn begin(cell: &WorkCell<Shaped>, new: &[Vec<JobNo>]) -> bool
+    ensures { IsTrue result ↔ Begin (machines cell.now.plan) cell.now.cell (lists_of new.now) }
 {
-    begin(&tables.machines, &shaped.plan().order, order)
-}
-
-/// Whether there is a new order for each machine, which begins with those jobs of the old one that have entered it.
-fn begin(rows: &[MachineRow], old: &[Vec<JobNo>], new: &[Vec<JobNo>]) -> bool
-    requires orders { length rows.now ≤ length old.now }
-    requires entered { (m : ℕ) → m < length rows.now → (slice_index_or rows.now m no_row).entered ≤ length (slice_index_or (lists_of old.now) m []) }
-    ensures { IsTrue result ↔ Begin rows.now (lists_of old.now) (lists_of new.now) }
-{
-    if new.len() < rows.len() {
+    // Called for its clause alone: the cell is sound.
+    let _plan = cell.shaped();
+    if new.len() < cell.machine_count() as usize {
         return false;
     }
-    for machine in 0..rows.len() {
-        let front = &old[machine][..rows[machine].entered as usize];
-        if !begins(&new[machine], front) {
+    for machine in 0..cell.machine_count() {
+        let front = &cell.order_of(machine)[..cell.entered(machine) as usize];
+        if !begins(&new[machine as usize], front) {
             return false;
         }
     }

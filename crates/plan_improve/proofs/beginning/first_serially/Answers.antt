@@ -1,9 +1,5 @@
 use Rattle.std.proofs.Common.{◌≡◌, inr, ap, subst, ◌∙◌}
-use Rattle.shop_base.specs.Plan.{PlannedShop}
-use Rattle.shop_base.specs.Vectors.{lists_of}
-use Rattle.alt_graph.specs.Solved.{HasCycle}
-use Rattle.plan_seek.specs.Orders.{serial_order}
-use Rattle.plan_improve.specs.Reordered.{reordered}
+use Rattle.plan_improve.proofs.Common.{HasCycle, PlannedShop, lists_of, reordered, serial_order}
 use Rattle.plan_improve.proofs.Serially.{serial_fits, serial_acyclic}
 use Rattle.plan_improve.proofs.Standing.{stands_reached, stands_by, fresh_begins}
 use Rattle.plan_improve.proofs.beginning.first_serially.Goals as goal

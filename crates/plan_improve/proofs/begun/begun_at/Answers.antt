@@ -1,5 +1,5 @@
 use Rattle.std.proofs.Common.{length, arith, sym, ap, ◌∙◌}
-use Rattle.text_lines.specs.Lines.{ended_lines}
+use Rattle.plan_improve.proofs.Common.{ended_lines}
 use Rattle.plan_improve.proofs.Beginnings.{event_told, begun_is}
 use Rattle.plan_improve.proofs.begun.begun_at.Goals as goal
 

@@ -1,5 +1,4 @@
-use Rattle.plan_improve.proofs.RestCosts.{cost_is}
-use Rattle.plan_improve.proofs.Soon.{leave_soon}
+use Rattle.plan_improve.proofs.RestCosts.{cost_is, leave_soon}
 use Rattle.plan_improve.proofs.costing.cost_from.Goals as goal
 
 pub cost_in-requires-clause-soon : goal.cost_in-requires-clause-soon

@@ -1,6 +1,5 @@
 use Rattle.std.proofs.Common.{◌≡◌, ◌<◌, arith}
-use Rattle.shop_base.specs.Plan.{jobs}
-use Rattle.plan_verifier.specs.Leavings.{leaves_in}
+use Rattle.plan_improve.proofs.Common.{jobs, leaves_in}
 use Rattle.plan_improve.proofs.RestCosts.{late_none, late_few, late_more}
 use Rattle.plan_improve.proofs.costing.cost_in.Goals as goal
 

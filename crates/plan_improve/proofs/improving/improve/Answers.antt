@@ -1,8 +1,5 @@
-use Rattle.plan_verifier.specs.Seen.{judged}
-use Rattle.plan_improve.specs.Settings.{whole_plan}
-use Rattle.plan_improve.specs.Runs.{RoundsTold}
-use Rattle.plan_improve.proofs.Searched.{never_worse, found_by, found_told}
-use Rattle.plan_improve.proofs.Ended.{acyclic, stays_accepted}
+use Rattle.plan_improve.proofs.Common.{RoundsTold, judged, whole_plan}
+use Rattle.plan_improve.proofs.Searched.{never_worse, found_told, untold, stays_accepted}
 use Rattle.plan_improve.proofs.improving.improve.Goals as goal
 
 pub returns-in-Ok-improve_on : goal.returns-in-Ok-improve_on
@@ -13,12 +10,13 @@ returns-in-Ok-improve_on g c =
     let start = c.args.start in
     let verdict = c.in-Ok-improve_on.verdict in
     let is = c.in-Ok-improve_on.ensures.searched in
+    let told = found_told whole_plan before after made start (judged verdict) is in
     record {
       same = is.same;
-      acyclic = acyclic before after made start (judged verdict) is;
+      acyclic = is.is.acyclic;
       never_worse = never_worse whole_plan before after made start (judged verdict) is;
-      found = found_by whole_plan before after made start (judged verdict) is;
-      told = found_told whole_plan before after made start (judged verdict) is;
+      found = untold whole_plan before after made start (judged verdict) told;
+      told = told;
       stays_accepted = stays_accepted before after made start verdict is c.in-Ok-improve_on.ensures.exact;
       exact = c.in-Ok-improve_on.ensures.exact;
       reason = c.in-Ok-improve_on.ensures.reason;

@@ -1,15 +1,8 @@
 use Rattle.std.proofs.Common.{◌≡◌, ◌↔◌, IfOk, sym, subst}
-use Rattle.shop_base.specs.Plan.{PlannedShop}
-use Rattle.plan_verifier.specs.Accepted.{IsAcceptable}
-use Rattle.plan_verifier.specs.Seen.{judged}
-use Rattle.plan_verifier.specs.Verdicts.{SaysAccepted}
-use Rattle.plan_verifier.proofs.Answers.{ok_both, ok_each}
-use Rattle.plan_verifier.proofs.Reasons.{judged_same, evident}
-use Rattle.plan_improve.specs.Keeping.{Comes, IsSearched}
-use Rattle.plan_improve.specs.Settings.{whole_plan}
-use Rattle.plan_improve.specs.Runs.{RoundsTold}
+use Rattle.plan_improve.proofs.Common.{Comes, IsAcceptable, IsSearched, PlannedShop, RoundsTold, SaysAccepted, evident}
+use Rattle.plan_improve.proofs.Common.{judged, judged_same, ok_both, ok_each, whole_plan}
 use Rattle.plan_improve.proofs.Once.{nothing_fixed}
-use Rattle.plan_improve.proofs.Ended.{came_on, back_same}
+use Rattle.plan_improve.proofs.Searched.{came_on, back_same}
 use Rattle.plan_improve.proofs.improving.improve_on.Goals as goal
 
 pub search-requires-clause-fixed : goal.search-requires-clause-fixed
@@ -29,5 +22,5 @@ returns g c =
       searched = ok_each verdict (λ told is. subst (IsSearched whole_plan before after made c.args.start) (sym is) (came_on before after made c.args.start p comes)) same;
       exact = ok_both verdict (λ told is exact. subst (λ (x : PlannedShop). SaysAccepted told ↔ IsAcceptable x) (sym is) exact) same c.verify.ensures.exact;
       reason = ok_each verdict (λ told refused. evident p told refused) c.verify.ensures.refused;
-      handed_back = back_same before after made c.args.start p verdict comes c.verify.ensures.handed_back;
+      handed_back = back_same whole_plan before after made c.args.start p verdict comes c.verify.ensures.handed_back;
     }

@@ -1,9 +1,5 @@
 use Rattle.std.proofs.Common.{sym, subst, ◌∙◌}
-use Rattle.shop_base.specs.Plan.{PlannedShop}
-use Rattle.shop_base.specs.Cell.{Cell}
-use Rattle.shop_base.specs.Vectors.{lists_of}
-use Rattle.plan_improve.specs.Keeping.{setting_of}
-use Rattle.plan_improve.specs.Laws.{BeginsWithEntries}
+use Rattle.plan_improve.proofs.Common.{BeginsWithEntries, Cell, PlannedShop, lists_of, setting_of}
 use Rattle.plan_improve.proofs.Once.{fixed_once}
 use Rattle.plan_improve.proofs.Keeping.{next_unfit, next_better, next_worse}
 use Rattle.plan_improve.proofs.Standing.{stands_reached, stands_by, costs_begin}

@@ -1,5 +1,5 @@
 use Rattle.std.proofs.Common.{◌≡◌, take}
-use Rattle.shop_base.specs.Vectors.{lists_of}
+use Rattle.plan_improve.proofs.Common.{lists_of}
 use Rattle.plan_improve.proofs.reordering.copy_orders.Given as goal
 
 -- the orders looked at are copied

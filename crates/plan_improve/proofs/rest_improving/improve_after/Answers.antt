@@ -1,12 +1,9 @@
 use Rattle.std.proofs.Common.{ℕ}
-use Rattle.text_lines.specs.Lines.{ended_lines}
-use Rattle.cell_tables.specs.Tables.{cell_of}
-use Rattle.plan_verifier.proofs.Answers.{ok_each}
-use Rattle.plan_improve.specs.Settings.{rest_after}
-use Rattle.plan_improve.specs.Runs.{RoundsTold}
+use Rattle.plan_improve.proofs.Common.{RoundsTold, cell_of, ended_lines, ok_each, present_of, rest_after}
 use Rattle.plan_improve.proofs.OneCell.{tells_run}
 use Rattle.plan_improve.proofs.Beginnings.{memory_rest, present_next, few_rounds}
-use Rattle.plan_improve.proofs.RestEnded.{same_rest_numbers, acyclic_unless, rest_stays, never_worse, is_found, is_found_told, verdict_there, stays_accepted}
+use Rattle.plan_improve.proofs.RestEnded.{acyclic_unless, never_worse, is_found_told, verdict_there, stays_accepted}
+use Rattle.plan_improve.proofs.Searched.{same_numbers, stays_there, untold_either}
 use Rattle.plan_improve.proofs.rest_improving.improve_after.Goals as goal
 
 pub returns-in-Ok : goal.returns-in-Ok
@@ -24,14 +21,15 @@ returns-in-Ok g c =
     let answer = c.improve_begun.result in
     let improved = c.improve_begun.ensures.improved in
     record {
-      same = ok_each answer (λ found is. same_rest_numbers lines t before after (made t) start found is) improved;
+      same = ok_each answer (λ found is. same_numbers (rest_after lines t) before after (made t) start found.shaped is.came) improved;
       begun = ok_each answer (λ found is. tells_run lines start begun told) improved;
       present = ok_each answer (λ found is cell here. present_next lines at start c.in-Ok.begun c.in-Ok.ensures.begun moment cell here) improved;
       kept = ok_each answer (λ found is. tells_run lines found.shaped is.cell is.run) improved;
-      stays = ok_each answer (λ found is. rest_stays lines t before after (made t) start found is) improved;
-      acyclic = ok_each answer (λ found is. acyclic_unless lines t before after (made t) start found is) improved;
+      stays = ok_each answer (λ found is. stays_there (rest_after lines t) before after (made t) start found.shaped is.came) improved;
+      acyclic = ok_each answer (λ found is. acyclic_unless lines t before after (made t) start found.shaped is.came) improved;
       never_worse = ok_each answer (λ found is cell here. never_worse lines at t before after made start begun told moment found is cell here) improved;
-      found = ok_each answer (λ found is cell here. is_found lines at t before after made start begun told moment found is cell here) improved;
+      found = ok_each answer (λ found is cell here. (let now = present_of at cell.last in
+          untold_either (rest_after lines now) before after (made now) start found.shaped (is_found_told lines at t before after made start begun told moment found is cell here))) improved;
       told = ok_each answer (λ found is cell here. is_found_told lines at t before after made start begun told moment found is cell here) improved;
       verdict = ok_each answer (λ found is cell here. verdict_there lines at t before after made start begun told moment found is cell here) improved;
       stays_accepted = ok_each answer (λ found is cell here. stays_accepted lines at t before after made start begun told moment found is cell here) improved;

@@ -1,10 +1,7 @@
-use Rattle.text_lines.specs.Lines.{ended_lines}
-use Rattle.cell_tables.specs.Tables.{cell_of}
-use Rattle.plan_improve.specs.Settings.{rest_after}
-use Rattle.plan_improve.specs.Keeping.{IsComeTo}
-use Rattle.plan_improve.specs.Runs.{RoundsTold}
+use Rattle.plan_improve.proofs.Common.{IsComeTo, RoundsTold, cell_of, ended_lines, rest_after}
 use Rattle.plan_improve.proofs.Once.{run_fixed}
-use Rattle.plan_improve.proofs.RestEnded.{come_next, improved_answer, back_answer}
+use Rattle.plan_improve.proofs.RestEnded.{come_next, improved_answer}
+use Rattle.plan_improve.proofs.Searched.{back_same}
 use Rattle.plan_improve.proofs.rest_improving.improve_from.Goals as goal
 
 pub search-requires-clause-fixed : goal.search-requires-clause-fixed
@@ -35,5 +32,5 @@ returns g c =
     let come : IsComeTo (rest_after lines t) before after made c.args.start c.in_ok-best.best = rw c.of_parts-cell.ensures at c.in_ok-best.ensures.comes in
     record {
       improved = improved_answer lines t before after made c.args.start c.in_ok-best.best c.judged.result come c.judged.ensures.plan c.judged.ensures.verdict;
-      handed_back = back_answer lines t before after made c.args.start c.in_ok-best.best c.judged.result come c.judged.ensures.handed_back;
+      handed_back = back_same (rest_after lines t) before after made c.args.start c.in_ok-best.best.plan c.judged.result come.0 c.judged.ensures.handed_back;
     }

@@ -1,6 +1,5 @@
-use Rattle.shop_base.specs.Cell.{cleaning}
-use Rattle.plan_improve.specs.RestOf.{job_rest}
-use Rattle.plan_improve.proofs.Rests.{one_more}
+use Rattle.plan_improve.proofs.Common.{cleaning, job_rest}
+use Rattle.plan_improve.proofs.Beginnings.{one_more}
 use Rattle.plan_improve.proofs.rest_of_cell.rest_of.Goals as goal
 
 pub loop-job-preserved : goal.loop-job-preserved

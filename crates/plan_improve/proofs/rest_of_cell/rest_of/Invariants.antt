@@ -1,7 +1,5 @@
 use Rattle.std.proofs.Common.{◌≡◌, map}
-use Rattle.std.specs.List.{range_with_len}
-use Rattle.shop_base.specs.Cell.{cleaning}
-use Rattle.plan_improve.specs.RestOf.{job_rest}
+use Rattle.plan_improve.proofs.Common.{cleaning, job_rest, range_with_len}
 use Rattle.plan_improve.proofs.rest_of_cell.rest_of.Given as goal
 
 -- the jobs looked at

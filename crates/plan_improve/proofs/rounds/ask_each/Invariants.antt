@@ -1,5 +1,4 @@
-use Rattle.plan_improve.specs.Runs.{AfterSome}
-use Rattle.plan_improve.specs.Keeping.{setting_of, IsLast}
+use Rattle.plan_improve.proofs.Common.{AfterSome, IsLast, setting_of}
 use Rattle.plan_improve.proofs.rounds.ask_each.Given as goal
 
 -- the best plan is what those asked so far make of the first

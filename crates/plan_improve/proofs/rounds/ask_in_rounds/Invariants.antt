@@ -1,5 +1,4 @@
-use Rattle.plan_improve.specs.Runs.{AfterRounds}
-use Rattle.plan_improve.specs.Keeping.{setting_of, IsLastTold}
+use Rattle.plan_improve.proofs.Common.{AfterRounds, IsLastTold, setting_of}
 use Rattle.plan_improve.proofs.rounds.ask_in_rounds.Given as goal
 
 -- the best plan is what the rounds so far make of the first, and what was told is of these rounds

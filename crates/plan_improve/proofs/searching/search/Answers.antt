@@ -1,6 +1,5 @@
 use Rattle.std.proofs.Common.{inl, inr}
-use Rattle.plan_improve.specs.Runs.{RoundsTold}
-use Rattle.plan_improve.specs.Keeping.{setting_of}
+use Rattle.plan_improve.proofs.Common.{RoundsTold, setting_of}
 use Rattle.plan_improve.proofs.Once.{fixed_on}
 use Rattle.plan_improve.proofs.Searched.{begin_same, searched}
 use Rattle.plan_improve.proofs.searching.search.Goals as goal
