@@ -60,14 +60,14 @@ def minutes_of(clock):
     return int(found[1]) * 60 + int(found[2]) + 1440 * int(found[3] or 0)
 
 
-def told_once(what, told, name, value):
-    """Notes what a row tells of a job or a machine, if it tells it."""
-    if value is not None and told.setdefault(name, value) != value:
+def note(what, noted, name, value):
+    """Notes what a row has of a job or a machine, if it has it; no two rows may differ."""
+    if value is not None and noted.setdefault(name, value) != value:
         raise Refused("%s has two values of %s" % (name, what))
 
 
 def read(path):
-    """The routes of jobs, and what is told of jobs and machines, each by name."""
+    """The routes of jobs, and what the rows have of jobs and machines, each by name."""
     routes, machines, release, due, cleaning = {}, [], {}, {}, {}
     for number, row in rows_of(path):
         try:
@@ -79,11 +79,11 @@ def read(path):
             routes.setdefault(job, []).append((machine, int(row["minutes"])))
             if machine not in machines:
                 machines.append(machine)
-            told_once("release", release, job, minutes_of(row["release"]) if row["release"] else None)
-            told_once("due", due, job, minutes_of(row["due"]) if row["due"] else None)
+            note("release", release, job, minutes_of(row["release"]) if row["release"] else None)
+            note("due", due, job, minutes_of(row["due"]) if row["due"] else None)
             if row["cleaning"] and not re.fullmatch(r"\d{1,7}", row["cleaning"]):
                 raise Refused("%s is no whole number of minutes" % row["cleaning"])
-            told_once("cleaning", cleaning, machine, int(row["cleaning"]) if row["cleaning"] else None)
+            note("cleaning", cleaning, machine, int(row["cleaning"]) if row["cleaning"] else None)
         except Refused as why:
             raise Refused("row %d: %s" % (number, why))
     if not routes:
