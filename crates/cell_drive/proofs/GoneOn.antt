@@ -1,19 +1,15 @@
 -- A run that goes on, whose events were told again before.
-use Rattle.std.proofs.Common.{◌≡◌, List, ℕ, ◌++◌, Bool, false, Result, Ok, Err, inl, inr, ◌∙◌, ap, refl, sym, subst}
+use Rattle.std.proofs.Common.{◌≡◌, List, ℕ, ◌++◌, Result, Err, inl, inr, ◌∙◌, refl, subst}
 use Rattle.std.specs.Io.KnownBytes.{Appends}
 use Rattle.std.proofs.KnownBytes.{Appends-trans}
-use Rattle.shop_base.specs.Cell.{start}
 use Rattle.byte_streams.specs.declared.drive_fault.DriveFault.{DriveFault}
 use Rattle.byte_streams.specs.declared.drive_fault.DriveFault.TheVariants.{Read, Write, InputTooLong, Memory}
 use Rattle.byte_streams.specs.Lent.{Output, Streams, Taker, taker}
 use Rattle.cell_drive.specs.declared.manner.Manner.{Manner}
 use Rattle.cell_drive.specs.declared.resume.RestEnd.{RestEnd}
-use Rattle.cell_drive.specs.ToldLines.{told_lines}
-use Rattle.cell_drive.specs.TakenUp.{TakenUp, plan_of, told_in}
+use Rattle.cell_drive.specs.TakenUp.{TakenUp}
 use Rattle.cell_drive.specs.Resuming.{GoesOn, WritesAndGoesOn}
-use Rattle.cell_drive.specs.Retold.{IsRetold, retold_text}
-use Rattle.cell_drive.specs.InManner.{IsResumeIn, IsToldAgainIn}
-use Rattle.cell_drive.proofs.RetoldLines.{retold_as_ever}
+use Rattle.cell_drive.specs.Retold.{IsToldAgain}
 use Rattle.cell_drive.proofs.CellTexts.{took_first, took_second}
 
 module _ (manner : Manner) (taken : TakenUp) where
@@ -40,26 +36,14 @@ module _ (manner : Manner) (taken : TakenUp) where
       let is : GoesOn manner text taken before after (Err Memory) = subst (λ (o : Result RestEnd DriveFault). GoesOn manner text taken before after o) same on in
       is.streamed.comes_to
 
--- in version 1 of the lines the events are told again by their lines alone
-pub told_plainly : (manner : Manner) (taken : TakenUp) (before after : Taker) (outcome : Result (Unit {0}) DriveFault) → manner.tells ≡ false
-    → IsRetold false (told_lines (told_in taken) taken.late) before after outcome → IsToldAgainIn manner taken before after outcome
-told_plainly manner taken before after outcome plain is =
-    let same = retold_as_ever (plan_of taken) manner (start (plan_of taken)) (told_in taken) taken.late plain in
-    subst (λ (tells : Bool). IsRetold tells (retold_text manner taken) before after outcome) (sym plain) (subst (λ (text : List ℕ). IsRetold false text before after outcome) (sym same) is)
+-- a text wasn't written whole, and nothing was read
+pub not_told : (T : Type 0) (manner : Manner) (taken : TakenUp) (before after : Streams) (fault : DriveFault) (text rest : List ℕ)
+    → IsToldAgain {T = T} text (taker before.output) (taker after.output) (Err fault) → after.input ≡ before.input → WritesAndGoesOn manner (text ++ rest) taken before after (Err fault)
+not_told T manner taken before after Write text rest cut unread = inl (refl, cut.0, unread, took_first before.output.taken after.output.taken text rest cut.1)
+not_told T manner taken before after Read text rest cut unread = absurd cut
+not_told T manner taken before after InputTooLong text rest cut unread = absurd cut
+not_told T manner taken before after Memory text rest cut unread = absurd cut
 
--- all events were told again
-pub all_retold : (tells : Bool) (text : List ℕ) (before after : Taker) (done : Unit {0}) → IsRetold tells text before after (Ok done) → Appends before.taken after.taken text × (after.failed ≡ before.failed)
-all_retold tells text before after done (inl memory) = let never = memory.1 in absurd (cc)
-all_retold tells text before after done (inr all) = all
-
--- they weren't, and nothing was read
-pub not_retold : (manner : Manner) (taken : TakenUp) (before after : Streams) (fault : DriveFault) → IsRetold manner.tells (retold_text manner taken) (taker before.output) (taker after.output) (Err fault)
-    → (fault ≡ Memory → after ≡ before) → after.input ≡ before.input → IsResumeIn manner taken before after (Err fault)
-not_retold manner taken before after fault (inl memory) untouched unread =
-    let never = memory.1 in
-    let is : fault ≡ Memory = cc in
-    inl (memory.0, ap Err is, untouched is)
-not_retold manner taken before after Write (inr cut) untouched unread = inr (inl (refl, cut.0, unread, took_first before.output.taken after.output.taken _ _ cut.1))
-not_retold manner taken before after Read (inr cut) untouched unread = absurd cut
-not_retold manner taken before after InputTooLong (inr cut) untouched unread = absurd cut
-not_retold manner taken before after Memory (inr cut) untouched unread = absurd cut
+-- memory doesn't run out by that
+pub never_told : (T : Type 0) (text : List ℕ) (before after : Taker) (fault : DriveFault) → fault ≡ Memory → IsToldAgain {T = T} text before after (Err fault) → ⊥
+never_told T text before after fault is told = subst (λ (f : DriveFault). IsToldAgain {T = T} text before after (Err f)) is told

@@ -1,5 +1,5 @@
 -- What is told again of the events of a log, in a manner.
-use Rattle.std.specs.Prelude.{◌≡◌, ℕ, List, [], ◌∷◌, ◌++◌, Bool, true, Result, Ok, Err, ◌⊎◌}
+use Rattle.std.specs.Prelude.{◌≡◌, ℕ, List, [], ◌∷◌, ◌++◌, Bool, true, Result, Ok, Err}
 use Rattle.std.specs.Io.KnownBytes.{Appends}
 use Rattle.shop_base.specs.Plan.{PlannedShop}
 use Rattle.shop_base.specs.Cell.{Cell, start}
@@ -33,13 +33,9 @@ abbrev pub retold_text : Manner → TakenUp → List ℕ
 retold_text manner taken = retold_lines (plan_of taken) manner (start (plan_of taken)) (told_in taken) taken.late
 
 -- this text was written, or a write failed before all of it was
-abbrev pub IsToldAgain : List ℕ → Taker → Taker → Result (Unit {0}) DriveFault → Type 0
+abbrev pub IsToldAgain : {T : Type 0} → List ℕ → Taker → Taker → Result T DriveFault → Type 0
 IsToldAgain text before after (Ok done) = Appends before.taken after.taken text × (after.failed ≡ before.failed)
 IsToldAgain text before after (Err Write) = (after.failed ≡ true) × TookPart before.taken after.taken text
 IsToldAgain text before after (Err Read) = ⊥
 IsToldAgain text before after (Err InputTooLong) = ⊥
 IsToldAgain text before after (Err Memory) = ⊥
-
--- so it was, or in version 2 of the lines memory ran out and nothing was touched
-abbrev pub IsRetold : Bool → List ℕ → Taker → Taker → Result (Unit {0}) DriveFault → Type 0
-IsRetold tells text before after outcome = ((tells ≡ true) × (outcome ≡ Err Memory) × (after ≡ before)) ⊎ IsToldAgain text before after outcome

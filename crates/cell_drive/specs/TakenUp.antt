@@ -7,6 +7,8 @@ use Rattle.plan_verifier.specs.Accepted.{HasNoCycle, IsAcceptable}
 use Rattle.cell_tables.specs.declared.entry.Entry.{Entry}
 use Rattle.cell_tables.specs.declared.entry.Entry.TheVariants.{Order as OrderEntry}
 use Rattle.cell_tables.specs.Events.{events_of}
+use Rattle.cell_tables.specs.declared.tables.Tables.{Tables}
+use Rattle.cell_tables.specs.Tables.{AreSound, cell_of}
 use Rattle.event_lines.specs.LogLines.{LinesTell}
 use Rattle.cell_control.specs.Begun.{IsBegun}
 use Rattle.cell_control.specs.Control.{Control}
@@ -49,6 +51,10 @@ pub record IsTakenRun (taken : TakenUp) : Type 0 where
   pub due : taken.log.entries ≡ told_in taken ++ map OrderEntry taken.control.orders
   pub within : length taken.late ≤ length taken.log.entries
   pub are_late : AreLate (plan_of taken) (start (plan_of taken)) (told_in taken) taken.late
+
+-- the tables are those of the cell at the start of a run
+abbrev pub AreAtStart : PlannedShop → Tables → Type 0
+AreAtStart p tables = AreSound p tables × (cell_of p tables ≡ start p)
 
 -- it was taken up by this plan behind these events, at the moment that was given or else at their last one; where there are no events, the plan is to be accepted
 pub record IsTakenFrom (p : PlannedShop) (told : List Entry) (at : Option ℕ) (taken : TakenUp) : Type 0 where

@@ -1,13 +1,12 @@
 //! A run that is driven from its start to the end of its input.
 
-ghost use Rattle.std.specs.Prelude.{◌≡◌, ◌↔◌, Err, IfOk, IsTrue};
+ghost use Rattle.std.specs.Prelude.{◌≡◌, ◌≢◌, ◌↔◌, Err, IfOk, IsTrue};
 ghost use Rattle.shop_base.specs.Ends.{HasEnded};
 ghost use Rattle.byte_streams.specs.Lent.{streams_of};
 ghost use Rattle.plan_verifier.specs.Accepted.{IsVerified};
 ghost use Rattle.cell_control.specs.Control.{verified_in};
-ghost use Rattle.cell_drive.specs.Manners.{plain_from};
-ghost use Rattle.cell_drive.specs.Session.{IsKept, session_start};
-ghost use Rattle.cell_drive.specs.InManner.{IsDriveIn};
+ghost use Rattle.cell_drive.specs.{Manners.plain_from, Session.IsKept, Session.session_start};
+ghost use Rattle.cell_drive.specs.InManner.{IsDriveIn, begun_in};
 
 use crate::manner::Manner;
 use crate::session::Session;
@@ -17,6 +16,7 @@ use plan_verifier::Verified;
 use run_log::RunLog;
 use shop_base::Moment;
 use std::alloc::{AllocError, Global};
+use std::marker::Model;
 
 /// What a driven run has come to at the end of its input.
 #[derive(Debug, Drop)]
@@ -31,6 +31,36 @@ pub struct DriveEnd {
     pub log: RunLog,
     /// The plan.
     pub verified: Verified,
+}
+
+/// A run that has begun, with all the memory that driving it takes.
+#[derive(Drop)]
+pub struct Begun {
+    session: Session<Verified, TourneyDues>,
+    /// Where what is read lies at a time.
+    room: Vec<u8>,
+}
+
+impl Model for Begun {
+    ghost use Rattle.std.specs.Prelude.{◌≡◌, vec_len};
+    ghost use Rattle.byte_streams.specs.declared.rooms.TheConstants.{MAX_PIECE};
+    ghost use Rattle.cell_drive.specs.InManner.{BegunRun, IsUndriven, begun_by};
+
+    ghost Value = { BegunRun };
+
+    ghost view = { λ b. begun_by b.session };
+
+    ghost invariant = { λ b. IsUndriven b.session × (vec_len b.room ≡ MAX_PIECE) };
+}
+
+impl Begun {
+    /// The plan.
+    pub fn verified(&self) -> &Verified
+        ensures plan { result.now ≡ self.now.verified }
+        ensures verified { IsVerified self.now.verified }
+    {
+        self.session.controller.verified()
+    }
 }
 
 /// The session of an accepted plan before the first report, with an empty log.
@@ -103,12 +133,43 @@ pub fn drive<R: Source, W: Outlet>(
     drive_in(alloc, verified, Manner::plain(), reader, writer)
 }
 
-/// Drives the cell of an accepted plan, as [`drive`] does, in this manner.
+/// Begins the run of an accepted plan, to be driven in this manner.
 ///
 /// In version 2 of the lines there are `clean MACHINE JOB MOMENT`, the cleaning after that job, and `status`, which asks
 /// for the state; each refusal and each late report is written with what the controller has, and `done MOMENT` at once.
 /// A report whose moment is further than `longest` from the last accepted one, or from `from` where that is later, is
 /// refused as `Leap`, after `Backwards` in the order of reasons.
+///
+/// All memory is taken here.
+pub fn begin_in(alloc: Global, verified: Verified, manner: Manner) -> Result<Begun, AllocError>
+    ensures { IfOk result (λ begun. begun ≡ begun_in manner verified) }
+{
+    let room = reading_room(alloc)?;
+    let session = begin(alloc, verified, manner)?;
+    Ok(Begun { session, room })
+}
+
+/// Drives a run that has begun, as [`drive`] does, in its manner. `Memory` is never answered.
+pub fn drive_begun<R: Source, W: Outlet>(
+    begun: Begun,
+    reader: &mut R,
+    writer: &mut W,
+) -> Result<DriveEnd, DriveFault>
+    ensures driven { IsDriveIn begun.manner begun.verified (streams_of R.Source W.Sink W.pending reader.old writer.old)
+        (streams_of R.Source W.Sink W.pending reader.new writer.new) result }
+    ensures memory { result ≢ Err DriveFault.Memory }
+{
+    let Begun {
+        mut session,
+        mut room,
+    } = begun;
+    match stream(&mut session, reader, &mut room, writer) {
+        Ok(()) => Ok(end(session)),
+        Err(fault) => Err(fault),
+    }
+}
+
+/// Drives the cell of an accepted plan, as [`drive`] does, in this manner, as [`begin_in`] says of it.
 pub fn drive_in<R: Source, W: Outlet>(
     alloc: Global,
     verified: Verified,
@@ -120,10 +181,8 @@ pub fn drive_in<R: Source, W: Outlet>(
         (streams_of R.Source W.Sink W.pending reader.new writer.new) result }
     ensures untouched { result ≡ Err DriveFault.Memory → (reader.new ≡ reader.old) × (writer.new ≡ writer.old) }
 {
-    let mut room = reading_room(alloc)?;
-    let mut session = begin(alloc, verified, manner)?;
-    match stream(&mut session, reader, &mut room, writer) {
-        Ok(()) => Ok(end(session)),
-        Err(fault) => Err(fault),
+    match begin_in(alloc, verified, manner) {
+        Ok(begun) => drive_begun(begun, reader, writer),
+        Err(error) => Err(DriveFault::from(error)),
     }
 }

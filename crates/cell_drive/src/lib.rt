@@ -21,7 +21,7 @@ mod session;
 mod states;
 mod told_again;
 
-pub use begin::{DriveEnd, drive, drive_in};
+pub use begin::{Begun, DriveEnd, begin_in, drive, drive_begun, drive_in};
 pub use byte_streams::{
     DriveFault, FromRead, Gathered, LineHandler, MAX_LINE, MAX_PIECE, Outlet, ReadFault, Source,
     reading_room, stream,
@@ -29,7 +29,7 @@ pub use byte_streams::{
 pub use event_lines::{done_line, late_line, refused_line, report_of, unfinished_line};
 pub use hub::{HubEnd, drive_hub, drive_hub_in};
 pub use manner::Manner;
-pub use recover::{Taken, take_up};
+pub use recover::{Replayed, Taken, take_up};
 pub use refusals::Refusal;
 pub use resume::{RestEnd, go_on_in, resume_in, tell_again_in};
 pub use resume_fault::ResumeFault;

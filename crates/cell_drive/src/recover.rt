@@ -1,37 +1,50 @@
 //! A log that is taken up.
 
 ghost use Rattle.std.specs.Prelude.{◌≡◌, ◌*◌, ◌≤◌, vec_len, vec_capacity, unwrap_or, Bool, true, IfOk, IfErr, OnOk, IfSome};
-ghost use Rattle.shop_base.specs.declared.limits.TheConstants.{MAX_MOMENT};
-ghost use Rattle.shop_base.specs.Plan.{IsWellShaped};
-ghost use Rattle.shop_base.specs.Cell.{start};
-ghost use Rattle.shop_base.specs.Report.{IsNextMoment};
-ghost use Rattle.shop_base.specs.Run.{IsRun};
-ghost use Rattle.shop_base.specs.Ends.{stated_number};
+ghost use Rattle.shop_base.specs.{declared.limits.TheConstants.MAX_MOMENT, Plan.IsWellShaped, Cell.start};
+ghost use Rattle.shop_base.specs.{Report.IsNextMoment, Run.IsRun, Ends.stated_number};
 ghost use Rattle.text_lines.specs.Lines.{ended_lines};
 ghost use Rattle.plan_verifier.specs.Accepted.{IsAcceptable};
 ghost use Rattle.cell_tables.specs.Events.{events_of};
 ghost use Rattle.run_log.specs.Audits.{IsTold};
 ghost use Rattle.cell_control.specs.Begun.{IsBegun, IsRestFault};
 ghost use Rattle.byte_streams.specs.declared.rooms.TheConstants.{MAX_PIECE};
-ghost use Rattle.cell_drive.specs.OneRun.{cell_after};
-ghost use Rattle.cell_drive.specs.LateEvents.{AreLate};
-ghost use Rattle.cell_drive.specs.TakenUp.{IsTakenUp, IsTakenFrom, IsTakenRun, CanBeTakenUp, told_in};
+ghost use Rattle.cell_drive.specs.{OneRun.cell_after, LateEvents.AreLate};
+ghost use Rattle.cell_drive.specs.TakenUp.{AreAtStart, IsTakenUp, IsTakenFrom, IsTakenRun, CanBeTakenUp, told_in};
 ghost use Rattle.cell_drive.specs.ResumeFaults.{IsResumeFault, IsOnlyLogFault, IsRunFault, IsRefusal};
 
 use crate::lateness::late_events;
 use crate::resume_fault::{ResumeFault, WantForRest};
 use byte_streams::reading_room;
 use cell_control::{RestController, RestFault, TourneyDues};
-use cell_tables::WorkCell;
+use cell_tables::{Tables, WorkCell};
 use plan_verifier::{Verdict, Why, verify};
 use run_log::{LoggedRun, RunLog, run_of_log};
 use shop_base::{Moment, Shaped};
-use std::alloc::Global;
+use std::alloc::{AllocError, Global};
 use std::marker::Model;
 
 /// A run that was taken up from its log.
 #[derive(Drop)]
 pub struct Taken {
+    pub(crate) run: Replayed,
+    /// The tables of the cell at the start of the run, from which its events are told again.
+    pub(crate) start: Tables,
+}
+
+impl Model for Taken {
+    ghost use Rattle.cell_drive.specs.TakenUp.{TakenUp, AreAtStart, IsTakenRun};
+
+    ghost Value = { TakenUp };
+
+    ghost view = { λ t. t.run };
+
+    ghost invariant = { λ t. IsTakenRun t.run × AreAtStart t.run.control.planned t.start };
+}
+
+/// A run that was taken up from its log, and whose events were told again.
+#[derive(Drop)]
+pub struct Replayed {
     /// The controller of the rest of the run.
     pub(crate) controller: RestController<TourneyDues>,
     /// What was accepted and ordered in the whole run: the orders that are due stand there already.
@@ -42,7 +55,7 @@ pub struct Taken {
     pub(crate) room: Vec<u8>,
 }
 
-impl Model for Taken {
+impl Model for Replayed {
     ghost use Rattle.std.specs.Prelude.{◌≡◌, vec_len};
     ghost use Rattle.byte_streams.specs.declared.rooms.TheConstants.{MAX_PIECE};
     ghost use Rattle.cell_drive.specs.TakenUp.{TakenUp, taken_by, IsTakenRun};
@@ -60,7 +73,7 @@ impl Model for Taken {
 /// the log tells no event the plan has to be an accepted one; else its budgets aren't asked for, since a cell that has begun
 /// has to go on, however late.
 ///
-/// All memory is taken here, but for what [`crate::tell_again_in`] takes in version 2 of the lines.
+/// All memory is taken here.
 pub fn take_up(
     alloc: Global,
     shaped: Shaped,
@@ -104,9 +117,26 @@ fn take_run(
     }
     let starts = entries.is_empty();
     let late = late_events(alloc, cell.shaped(), &entries)?;
+    let start = start_tables(alloc, cell.shaped())?;
     match begin(alloc, cell, starts, present) {
-        Ok(controller) => Ok(with_due(controller, RunLog::of_entries(entries), late, room)),
+        Ok(controller) => Ok(Taken {
+            run: with_due(controller, RunLog::of_entries(entries), late, room),
+            start,
+        }),
         Err(fault) => Err(fault),
+    }
+}
+
+/// The tables of the cell at the start of a run.
+fn start_tables(alloc: Global, shaped: &Shaped) -> Result<Tables, AllocError>
+    ensures { IfOk result (AreAtStart shaped.now) }
+{
+    match WorkCell::start(alloc, shaped) {
+        Ok(cell) => {
+            let (_shaped, tables) = cell.into_parts();
+            Ok(tables)
+        }
+        Err((error, _)) => Err(error),
     }
 }
 
@@ -195,7 +225,7 @@ fn with_due(
     log: RunLog,
     late: Vec<bool>,
     room: Vec<u8>,
-) -> Taken
+) -> Replayed
     requires shaped { IsWellShaped controller.planned }
     requires run { IsRun controller.planned (events_of log.entries) }
     requires begun { IsBegun controller.planned (cell_after controller.planned log.entries) controller.began controller }
@@ -210,7 +240,7 @@ fn with_due(
     let _plan = controller.shaped();
     let mut log = log;
     log.note_orders(controller.orders()).unwrap();
-    Taken {
+    Replayed {
         controller,
         log,
         late,
