@@ -243,9 +243,8 @@ streamed_from_shown answers closes start last before after (Err TooLong) is none
 streamed_from_shown answers closes start last before after (Err WantOfMemory) is none = inl (ap (λ (s : Streams). s.output.pending) is ∙ none)
 
 resume_shown : (manner : Manner) (t : TakenUp) (before after : Streams) (end : Result RestEnd DriveFault) → IsResumeIn manner t before after end → before.output.pending ≡ [] → HoldsNothing after.output
-resume_shown manner t before after end (inl (second, wanting, same)) none = inl (ap (λ (s : Streams). s.output.pending) same ∙ none)
-resume_shown manner t before after end (inr (inl cut)) none = inr cut.1
-resume_shown manner t before after end (inr (inr on)) none =
+resume_shown manner t before after end (inl cut) none = inr cut.1
+resume_shown manner t before after end (inr on) none =
     streamed_shown SessionAnswer SessionCloses (session_from manner t) on.end (record { input = before.input; output = on.middle }) after end on.streamed
 
 drive_shown : (manner : Manner) (v : VerifiedPlan) (before after : Streams) (end : Result DriveEnd DriveFault) → IsDriveIn manner v before after end → before.output.pending ≡ [] → HoldsNothing after.output

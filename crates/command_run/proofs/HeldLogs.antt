@@ -83,11 +83,11 @@ undriven true = refl
 undriven false = refl
 
 pub left_held : {D : Type 0} (seen : D → Option (List ℕ)) (may_leave : D → List ℕ → Type 0) (fault : D → Option FileFault) (written : D → Bool) (folder : Folder) (p : PlannedShop) (told : Option (List ℕ × List ℕ)) (start taken : Option (List ℕ)) (good : Type 0)
-    (opened : Option D) → IfSome opened (λ log. IsEmptyLog (seen log) (may_leave log) (fault log) folder) → IfSome told (IsToldOfNew folder p start)
+    (opened : Option D) → IfSome opened (λ log. IsEmptyLog (seen log) (may_leave log) (fault log) (written log) folder) → IfSome told (IsToldOfNew folder p start)
     → IsHeldAfter seen may_leave fault written told taken good opened (left_if (is_some opened))
 left_held seen may_leave fault written folder p told start taken good None empty is_new = tt
 left_held seen may_leave fault written folder p told start taken good (Some log) empty is_new =
-    (empty.ready.unfailed, tt, told_as told (λ t is. (at_told folder.logs is.logs (λ _. seen log ≡ Some []) is.there empty.told, empty.ready.settled)) is_new)
+    (empty.ready.unfailed, empty.unwritten, told_as told (λ t is. (at_told folder.logs is.logs (λ _. seen log ≡ Some []) is.there empty.told, empty.ready.settled)) is_new)
 
 -- so is one that was found, with its bytes
 pub undriven_found : (there : Option (List ℕ)) → false ≡ is_driven (option_map Found there)
@@ -95,12 +95,12 @@ undriven_found None = refl
 undriven_found (Some bytes) = refl
 
 pub found_held : {D : Type 0} (seen : D → Option (List ℕ)) (may_leave : D → List ℕ → Type 0) (fault : D → Option FileFault) (written : D → Bool) (folder : Folder) (told : Option (List ℕ × List ℕ)) (taken : Option (List ℕ))
-    (good : Type 0) (found : Option (D × List ℕ)) → IfSome found (λ there. IsFoundLog (seen there.0) (may_leave there.0) (fault there.0) folder there.1)
+    (good : Type 0) (found : Option (D × List ℕ)) → IfSome found (λ there. IsFoundLog (seen there.0) (may_leave there.0) (fault there.0) (written there.0) folder there.1)
     → IfSome told (λ t. (logs : List NamedLog) × (folder.logs ≡ Some logs))
     → IsHeldAfter seen may_leave fault written told taken good (option_map (λ there. there.0) found) (option_map Found (option_map (λ there. there.1) found))
 found_held seen may_leave fault written folder told taken good None is logs = tt
 found_held seen may_leave fault written folder told taken good (Some there) is logs =
-    (is.ready.unfailed, tt, told_as told (λ t has. (at_told folder.logs has.0 (λ _. seen there.0 ≡ Some there.1) has.1 is.told, is.ready.settled)) logs)
+    (is.ready.unfailed, is.unwritten, told_as told (λ t has. (at_told folder.logs has.0 (λ _. seen there.0 ≡ Some there.1) has.1 is.told, is.ready.settled)) logs)
 
 -- where a new log can't be had
 module _ {D : Type 0} (seen : D → Option (List ℕ)) (may_leave : D → List ℕ → Type 0) (fault : D → Option FileFault) (written : D → Bool) (folder after : Folder) (path : List ℕ) (p : PlannedShop) (there : Bool) (told : Option (List ℕ × List ℕ)) (start taken : Option (List ℕ)) (good : Type 0) (why : FileFault)
@@ -111,15 +111,16 @@ module _ {D : Type 0} (seen : D → Option (List ℕ)) (may_leave : D → List �
     pub why_is : IsNewLogFault folder after path p there why end
     pub held : IsHeldAfter seen may_leave fault written told taken good log end
 
-  pub lacks_held : (log : Option D) → MatchOption log (IsUnmade there path folder after why) (λ l. IsUnnamed path (digits_in p) (with_log there path folder) after (seen l) (may_leave l) (fault l) why) → LacksHeld log
-  lacks_held None is = record { end = None; driven = refl; why_is = inl (is, refl); held = tt }
-  lacks_held (Some log) (inl is) = record {
+  pub lacks_held : (log : Option D) → MatchOption log (IsUnmade there path folder after why) (λ l. IsUnnamed path (digits_in p) (with_log there path folder) after (seen l) (may_leave l) (fault l) why)
+      → IfSome log (λ l. fault l ≡ None → written l ≡ false) → LacksHeld log
+  lacks_held None is unwritten = record { end = None; driven = refl; why_is = inl (is, refl); held = tt }
+  lacks_held (Some log) (inl is) unwritten = record {
     end = Some (Found []);
     driven = refl;
     why_is = inr (inl (is.is, is.own, refl));
-    held = (is.unfailed, tt, told_as told (λ t new. (at_told folder.logs new.logs (λ _. seen log ≡ Some []) new.there (logs_before there path folder (seen log ≡ Some []) is.empty), is.settled)) is_new);
+    held = (is.unfailed, unwritten is.unfailed, told_as told (λ t new. (at_told folder.logs new.logs (λ _. seen log ≡ Some []) new.there (logs_before there path folder (seen log ≡ Some []) is.empty), is.settled)) is_new);
   }
-  lacks_held (Some log) (inr is) = record {
+  lacks_held (Some log) (inr is) unwritten = record {
     end = Some (Unlined p);
     driven = refl;
     why_is = inr (inr (is.is.0, is.named, refl));

@@ -11,8 +11,8 @@ use Rattle.text_lines.proofs.NextLines.{lines_of-le}
 use Rattle.byte_streams.specs.declared.drive_fault.DriveFault.TheVariants.{Write as NotWritten}
 use Rattle.byte_streams.specs.Lent.{Output, taker}
 use Rattle.cell_drive.specs.declared.manner.Manner.{Manner}
-use Rattle.cell_drive.specs.TakenUp.{TakenUp, IsTakenUp}
-use Rattle.cell_drive.specs.InManner.{IsToldAgainIn}
+use Rattle.cell_drive.specs.TakenUp.{TakenUp, IsTakenUp, plan_of, told_in as events_in}
+use Rattle.cell_drive.specs.InManner.{IsGoneOnIn, IsToldAgainIn}
 use Rattle.event_lines.specs.declared.run_digits.RunDigits.{RunDigits}
 use Rattle.plan_digest.proofs.SixteenDigits.{digits_are}
 use Rattle.run_journal.specs.declared.file_fault.FileFault.{FileFault}
@@ -25,15 +25,20 @@ use Rattle.logged_drive.specs.declared.taken_log.TakeUpFault.{TakeUpFault}
 use Rattle.logged_drive.specs.declared.taken_log.TakeUpFault.TheVariants.{Resume, NoTornEnd, File}
 use Rattle.logged_drive.specs.TakenLogs.{IsTakeUpFault}
 use Rattle.command_words.specs.declared.words.log_start.LogStart.{LogStart}
-use Rattle.command_run.specs.Logs.{Begins, DrivesFitting, DrivesFound, HasFewLines, IsEmptyLog, IsFoundLog, IsTakenFromLog, IsToldOf, IsToldOfFound, IsToldOfNew, IsToldOfOld, IsToldOfPath, Step, TakesUp, digits_in}
+use Rattle.command_run.specs.Resumes.{end_of_rest}
+use Rattle.command_run.specs.Logs.{Begins, DrivesFitting, DrivesFound, DrivesWithLog, HasFewLines, IsEmptyLog, IsFoundLog, IsTakenFromLog, IsToldOf, IsToldOfFound, IsToldOfNew, IsToldOfOld, IsToldOfPath, Step, TakesUp, digits_in}
 use Rattle.command_run.proofs.HeldLogs.{at_told}
 
 -- ---- what is told again
 
-pub never_shown : (manner : Manner) (t : TakenUp) (before mid after : Output) → IsToldAgainIn manner t (taker before) (taker mid) (Ok tt)
-    → Keeps mid.taken after.taken → after.failed ≡ true → IsToldAgainIn manner t (taker before) (taker after) (Err NotWritten)
-never_shown manner t before mid after (inl wanting) kept failed = absurd (cc wanting.1)
-never_shown manner t before mid after (inr is) kept failed = inr (failed, ([], record { out = _; took = Appends-kept _ _ _ _ is.0 kept; whole = append-nil _ }))
+pub never_shown : (manner : Manner) (t run : TakenUp) (before mid after : Output) → IsToldAgainIn manner t (taker before) (taker mid) (Ok run) → Keeps mid.taken after.taken → after.failed ≡ true
+    → IsToldAgainIn {T = TakenUp} manner t (taker before) (taker after) (Err NotWritten)
+never_shown manner t run before mid after is kept failed = (failed, ([], record { out = _; took = Appends-kept _ _ _ _ is.0 kept; whole = append-nil _ }))
+
+-- what goes on is what was taken up
+pub same_run : (manner : Manner) (t run : TakenUp) (step : Step) → run ≡ t → DrivesWithLog (plan_of run) (events_in run) (IsGoneOnIn manner run) end_of_rest step
+    → DrivesWithLog (plan_of t) (events_in t) (IsGoneOnIn manner t) end_of_rest step
+same_run manner t run step same is = subst (λ (x : TakenUp). DrivesWithLog (plan_of x) (events_in x) (IsGoneOnIn manner x) end_of_rest step) same is
 
 -- ---- the whole lines of a log
 
@@ -134,20 +139,23 @@ read_empty : (seen : Option (List ℕ)) (text : List ℕ) → text ≡ [] → If
 read_empty None text empty read = tt
 read_empty (Some file) text empty read = sym read ∙ empty
 
-module _ (seen : Option (List ℕ)) (may_leave : List ℕ → Type 0) (fault : Option FileFault) (folder : Folder) where
-  pub empty_found : (text : List ℕ) → text ≡ [] → IsFoundLog seen may_leave fault folder text → IsEmptyLog seen may_leave fault folder
+module _ (seen : Option (List ℕ)) (may_leave : List ℕ → Type 0) (fault : Option FileFault) (written : Bool) (folder : Folder) where
+  pub empty_found : (text : List ℕ) → text ≡ [] → IsFoundLog seen may_leave fault written folder text → IsEmptyLog seen may_leave fault written folder
   empty_found text empty is = record {
     ready = is.ready;
+    unwritten = is.unwritten;
     empty = read_empty seen text empty is.read;
     told = subst (λ (xs : List ℕ). IfSome folder.logs (λ _. seen ≡ Some xs)) empty is.told;
   }
 
-pub opened_found : {D : Type 0} (seen : D → Option (List ℕ)) (may_leave : D → List ℕ → Type 0) (fault : D → Option FileFault) (folder mid : Folder) (found : Option (D × List ℕ)) → mid ≡ handed_if (is_some found) folder
+pub opened_found : {D : Type 0} (seen : D → Option (List ℕ)) (may_leave : D → List ℕ → Type 0) (fault : D → Option FileFault) (written : D → Bool) (folder mid : Folder) (found : Option (D × List ℕ)) → mid ≡ handed_if (is_some found) folder
     → IfSome found (λ there. IfSome (seen there.0) (λ file. there.1 ≡ file)) → IfSome found (λ there. length there.1 ≤ MAX_INPUT) → IfSome found (λ there. IsSettled (seen there.0) (may_leave there.0))
-    → IfSome found (λ there. fault there.0 ≡ None) → IfSome found (λ there. IfSome folder.logs (λ _. seen there.0 ≡ Some there.1)) → IfSome found (λ there. IsFoundLog (seen there.0) (may_leave there.0) (fault there.0) mid there.1)
-opened_found seen may_leave fault folder mid None opened read within settled unfailed told = tt
-opened_found seen may_leave fault folder mid (Some there) opened read within settled unfailed told = record {
+    → IfSome found (λ there. fault there.0 ≡ None) → IfSome found (λ there. written there.0 ≡ false)
+    → IfSome found (λ there. IfSome folder.logs (λ _. seen there.0 ≡ Some there.1)) → IfSome found (λ there. IsFoundLog (seen there.0) (may_leave there.0) (fault there.0) (written there.0) mid there.1)
+opened_found seen may_leave fault written folder mid None opened read within settled unfailed unwritten told = tt
+opened_found seen may_leave fault written folder mid (Some there) opened read within settled unfailed unwritten told = record {
   ready = record { settled = settled; unfailed = unfailed };
+  unwritten = unwritten;
   read = read;
   within = within;
   told = subst (λ (f : Folder). IfSome f.logs (λ _. seen there.0 ≡ Some there.1)) (sym opened) told;

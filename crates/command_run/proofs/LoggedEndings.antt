@@ -6,11 +6,9 @@ use Rattle.plan_verifier.specs.declared.verdict.Verdict.{Verdict}
 use Rattle.plan_verifier.specs.declared.verdict.Verdict.TheVariants.{Accepted, Refused}
 use Rattle.byte_streams.specs.declared.drive_fault.DriveFault.{DriveFault}
 use Rattle.byte_streams.specs.declared.drive_fault.DriveFault.TheVariants.{Read as NotRead, Write as NotWritten, InputTooLong as TooLong, Memory as WantOfMemory}
-use Rattle.byte_streams.specs.Lent.{Taker, taker}
 use Rattle.run_log.specs.declared.audit_fault.AuditFault.TheVariants.{BadLine}
 use Rattle.cell_drive.specs.declared.manner.Manner.{Manner}
 use Rattle.cell_drive.specs.TakenUp.{TakenUp}
-use Rattle.cell_drive.specs.InManner.{IsToldAgainIn}
 use Rattle.run_journal.specs.declared.file_fault.FileFault.{FileFault}
 use Rattle.run_journal.specs.Folders.{Folder, handed_if}
 use Rattle.logged_drive.specs.declared.taken_log.TakeUpFault.{TakeUpFault}
@@ -44,16 +42,16 @@ low_log_untaken (File fault) outcome is = subst IsLow (sym is) tt
 module _ (folder folder_after : Folder) (path : List ℕ) (manner : Manner) (at : Option ℕ) where
   low_begun : (there : Bool) (verdict : Verdict) (step : Step) → BeginsBy folder folder_after path manner there verdict step → IsLow step.outcome
   low_begun there (Refused back why) step is = low_or (IsLineOf (Judged (Refused back why))) step.outcome (low_line_of (Judged (Refused back why))) is.0
-  low_begun there (Accepted v) step (inl lacks) = subst IsLow (sym lacks.is) tt
-  low_begun there (Accepted v) step (inr run) = low_logged_end run.drove.log_failed (end_of_drive run.drove.end) step.outcome run.drove.answer
+  low_begun there (Accepted v) step (inl wanting) = subst IsLow (sym wanting.0) tt
+  low_begun there (Accepted v) step (inr (inl lacks)) = subst IsLow (sym lacks.is) tt
+  low_begun there (Accepted v) step (inr (inr run)) = low_logged_end run.drove.log_failed (end_of_drive run.drove.end) step.outcome run.drove.answer
 
   low_begins : (p : PlannedShop) (there : Bool) (step : Step) → Begins folder folder_after path manner p there step → IsLow step.outcome
   low_begins p there step (inl (verdict, is, by)) = low_begun there verdict step by
   low_begins p there step (inr wanting) = subst IsLow (sym wanting.0) tt
 
-  low_after : (t : TakenUp) (mid : Output) (told : Result (Unit {0}) DriveFault) (step : Step) → GoesOnAfter manner t mid told step → IsLow step.outcome
-  low_after t mid (Ok done) step (inl run) = low_logged_end run.log_failed (end_of_rest run.end) step.outcome run.answer
-  low_after t mid (Ok done) step (inr lacks) = low_logged_end lacks.log_failed (end_of_rest lacks.end) step.outcome lacks.answer
+  low_after : (t : TakenUp) (mid : Output) (told : Result TakenUp DriveFault) (step : Step) → GoesOnAfter manner t mid told step → IsLow step.outcome
+  low_after t mid (Ok done) step run = low_logged_end run.log_failed (end_of_rest run.end) step.outcome run.answer
   low_after t mid (Err fault) step is = subst IsLow (sym is.0) tt
 
   low_taken_up : (p : PlannedShop) (text : List ℕ) (taken : Result TakenUp TakeUpFault) (step : Step) → GoesOnTaken p manner text taken step → IsLow step.outcome
@@ -95,8 +93,9 @@ module _ {W : Type 0} (gives : W → List ℕ → Result (List ℕ) CommandFault
     begun : (folder folder_after : Folder) (path : List ℕ) (there : Bool) (verdict : Verdict) → IsVerdict p verdict
         → BeginsBy folder folder_after path manner there verdict (step_of before outcome after end) → Written
     begun folder folder_after path there (Refused back why) is by = unwritten by.1.same
-    begun folder folder_after path there (Accepted v) is (inl lacks) = unwritten lacks.same
-    begun folder folder_after path there (Accepted v) is (inr run) =
+    begun folder folder_after path there (Accepted v) is (inl wanting) = unwritten wanting.1.same
+    begun folder folder_after path there (Accepted v) is (inr (inl lacks)) = unwritten lacks.same
+    begun folder folder_after path there (Accepted v) is (inr (inr run)) =
         inr (record { plan = p; later = later; shapes = shapes; outcome = outcome; log = end; is = inl (v, is.accepted.0, run.drove) })
 
     begins : (folder folder_after : Folder) (path : List ℕ) (there : Bool) → Begins folder folder_after path manner p there (step_of before outcome after end) → Written
@@ -131,34 +130,23 @@ module _ {W : Type 0} (gives : W → List ℕ → Result (List ℕ) CommandFault
 
 -- ---- what is shown
 
-told_failed : (manner : Manner) (t : TakenUp) (before after : Taker) → IsToldAgainIn manner t before after (Err NotWritten) → after.failed ≡ true
-told_failed manner t before after (inl wanting) = absurd (cc wanting.1)
-told_failed manner t before after (inr is) = is.0
+telling_shown : (manner : Manner) (t : TakenUp) (before mid : Output) (fault : DriveFault) → TellsAgain manner t before mid (Err fault) → HoldsNothing mid
+telling_shown manner t before mid NotWritten tells = inr tells.is.0
+telling_shown manner t before mid WantOfMemory tells = absurd tells.is
+telling_shown manner t before mid NotRead tells = absurd tells.is
+telling_shown manner t before mid TooLong tells = absurd tells.is
 
-told_never : (manner : Manner) (t : TakenUp) (before after : Taker) → IsToldAgainIn manner t before after (Err NotRead) ⊎ IsToldAgainIn manner t before after (Err TooLong) → ⊥
-told_never manner t before after (inl (inl wanting)) = absurd (cc wanting.1)
-told_never manner t before after (inl (inr is)) = is
-told_never manner t before after (inr (inl wanting)) = absurd (cc wanting.1)
-told_never manner t before after (inr (inr is)) = is
-
-telling_shown : (manner : Manner) (t : TakenUp) (before mid : Output) (fault : DriveFault) → TellsAgain manner t before mid (Err fault) → before.pending ≡ [] → HoldsNothing mid
-telling_shown manner t before mid NotWritten tells none = inr (told_failed manner t (taker before) (taker mid) tells.is)
-telling_shown manner t before mid WantOfMemory tells none = inl (subst (λ (o : Output). o.pending ≡ []) (sym (tells.untouched refl)) none)
-telling_shown manner t before mid NotRead tells none = absurd (told_never manner t (taker before) (taker mid) (inl tells.is))
-telling_shown manner t before mid TooLong tells none = absurd (told_never manner t (taker before) (taker mid) (inr tells.is))
-
-gone_on_shown : (manner : Manner) (t : TakenUp) (mid : Output) (told : Result (Unit {0}) DriveFault) (step : Step) → TellsAgain manner t step.before.output mid told → GoesOnAfter manner t mid told step
-    → step.before.output.pending ≡ [] → HoldsNothing step.after.output
-gone_on_shown manner t mid (Ok done) step tells (inl run) none = run.shows.shown
-gone_on_shown manner t mid (Ok done) step tells (inr lacks) none = lacks.unbegun.shown
-gone_on_shown manner t mid (Err fault) step tells is none =
-    subst (λ (s : Streams). HoldsNothing s.output) (sym is.1) (telling_shown manner t step.before.output mid fault tells none)
+gone_on_shown : (manner : Manner) (t : TakenUp) (mid : Output) (told : Result TakenUp DriveFault) (step : Step) → TellsAgain manner t step.before.output mid told → GoesOnAfter manner t mid told step
+    → HoldsNothing step.after.output
+gone_on_shown manner t mid (Ok done) step tells run = run.shows.shown
+gone_on_shown manner t mid (Err fault) step tells is =
+    subst (λ (s : Streams). HoldsNothing s.output) (sym is.1) (telling_shown manner t step.before.output mid fault tells)
 
 pub logged_shown : {W : Type 0} (gives : W → List ℕ → Result (List ℕ) CommandFault → W → Type 0) (manner : Manner) (pair : PairOfFiles) (texts : W) (before after : Streams)
     (drove : DroveWithLog gives manner pair texts before after) → before.output.pending ≡ [] → HoldsNothing after.output
 logged_shown gives manner pair texts before after drove none = elim drove.is [
   | inl (v, same, run) ↦ run.shows.shown
-  | inr (t, same, on) ↦ gone_on_shown manner t on.mid on.told (step_of before drove.outcome after drove.log) on.tells on.goes_on none
+  | inr (t, same, on) ↦ gone_on_shown manner t on.mid on.told (step_of before drove.outcome after drove.log) on.tells on.goes_on
 ]
 
 -- ---- what is answered where a cell was driven with the log
@@ -202,13 +190,13 @@ nothing_driven log step isnt none = never_driven step.log log step.outcome none.
 module _ (folder folder_after : Folder) (path : List ℕ) (manner : Manner) (at : Option ℕ) where
   silent_begins : (p : PlannedShop) (there : Bool) (step : Step) → Begins folder folder_after path manner p there step → IsDriven step.log → IsSilent step.outcome
   silent_begins p there step (inl (Refused back why, is, by)) = nothing_driven (left_if there) step (left_undriven there) by.1
-  silent_begins p there step (inl (Accepted v, is, inl lacks)) = λ driven. silent_fault _ step.outcome lacks.is
-  silent_begins p there step (inl (Accepted v, is, inr run)) = λ driven. silent_end run.drove.log_failed (end_of_drive run.drove.end) step.outcome run.drove.answer
+  silent_begins p there step (inl (Accepted v, is, inl wanting)) = nothing_driven (left_if there) step (left_undriven there) wanting.1
+  silent_begins p there step (inl (Accepted v, is, inr (inl lacks))) = λ driven. silent_fault _ step.outcome lacks.is
+  silent_begins p there step (inl (Accepted v, is, inr (inr run))) = λ driven. silent_end run.drove.log_failed (end_of_drive run.drove.end) step.outcome run.drove.answer
   silent_begins p there step (inr wanting) = nothing_driven (left_if there) step (left_undriven there) wanting.1
 
-  silent_after : (t : TakenUp) (mid : Output) (told : Result (Unit {0}) DriveFault) (step : Step) → GoesOnAfter manner t mid told step → IsSilent step.outcome
-  silent_after t mid (Ok done) step (inl run) = silent_end run.log_failed (end_of_rest run.end) step.outcome run.answer
-  silent_after t mid (Ok done) step (inr lacks) = silent_end lacks.log_failed (end_of_rest lacks.end) step.outcome lacks.answer
+  silent_after : (t : TakenUp) (mid : Output) (told : Result TakenUp DriveFault) (step : Step) → GoesOnAfter manner t mid told step → IsSilent step.outcome
+  silent_after t mid (Ok done) step run = silent_end run.log_failed (end_of_rest run.end) step.outcome run.answer
   silent_after t mid (Err fault) step is = silent_fault _ step.outcome is.0
 
   silent_taken_up : (p : PlannedShop) (text : List ℕ) (taken : Result TakenUp TakeUpFault) (step : Step) → GoesOnTaken p manner text taken step → IsDriven step.log → IsSilent step.outcome

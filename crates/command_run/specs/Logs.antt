@@ -1,5 +1,5 @@
 -- What driving a cell with a log of its own comes to.
-use Rattle.std.specs.Prelude.{◌≡◌, ◌≤◌, ◌⊎◌, ◌++◌, ℕ, suc, List, [], ◌∷◌, length, Bool, true, false, if◌then◌else◌, Option, None, Some, option_map, is_some, unwrap_or, Result, Ok, Err, IsOk, IfOk, IfErr, IfSome, OnOk}
+use Rattle.std.specs.Prelude.{◌≡◌, ◌≢◌, ◌≤◌, ◌⊎◌, ◌++◌, ℕ, suc, List, [], ◌∷◌, length, Bool, true, false, if◌then◌else◌, Option, None, Some, option_map, is_some, unwrap_or, Result, Ok, Err, IsOk, IfOk, IfErr, IfSome, OnOk}
 use Rattle.shop_base.specs.declared.shape_fault.ShapeFault.{ShapeFault}
 use Rattle.shop_base.specs.Plan.{PlannedShop}
 use Rattle.text_lines.specs.declared.limits.TheConstants.{MAX_INPUT}
@@ -34,7 +34,7 @@ use Rattle.run_journal.specs.WholeLines.{torn_end, whole_lines}
 use Rattle.logged_drive.specs.declared.taken_log.TakeUpFault.{TakeUpFault}
 use Rattle.logged_drive.specs.declared.taken_log.TakeUpFault.TheVariants.{Resume, NoTornEnd, File}
 use Rattle.logged_drive.specs.CrashLaw.{IsTakenUpAfter}
-use Rattle.logged_drive.specs.LoggedRuns.{IsAllInLog, IsUnbegun, KeepsShown, ShowsRun, nothing_held}
+use Rattle.logged_drive.specs.LoggedRuns.{IsAllInLog, KeepsShown, ShowsRun}
 use Rattle.logged_drive.specs.TakenLogs.{IsOfDevice, IsOfText, IsOnlyTakeUpFault, IsTakeUpFault, file_fault}
 use Rattle.plan_digest.specs.Digits.{digits_of}
 use Rattle.command_words.specs.declared.words.log_start.LogStart.{LogStart}
@@ -120,23 +120,16 @@ abbrev pub left_if : Bool → Option LogEnd
 left_if true = Some (Found [])
 left_if false = None
 
--- a cell was driven so by the plan, behind these events, by a writer that keeps a log, and shows only what the log has got; where a write failed, and not the log's, the output has. The status says whether the run has ended, and the log is held
+-- a cell was driven so by the plan, behind these events, by a writer that keeps a log, and shows only what the log has got; where a write failed, and not the log's, the output has; memory doesn't run out. The status says whether the run has ended, and the log is held
 pub record DrivesWithLog {T : Type 0} (p : PlannedShop) (told : List Entry) (drives : Streams → Streams → Result T DriveFault → Type 0) (ends : Result T DriveFault → Result Bool DriveFault) (step : Step) : Type 0 where
   pub end : Result T DriveFault
   pub log_failed : Bool
   pub held : Held
   pub shows : ShowsRun drives step.before.input step.before.output.taken end log_failed step.after.input step.after.output held
   pub output_failed : end ≡ Err NotWritten → log_failed ≡ false → step.after.output.failed ≡ true
+  pub memory : end ≢ Err NoMemoryToDrive
   pub answer : IsLoggedAnswer log_failed (ends end) step.outcome
   pub log : step.log ≡ Some (Driven p told held)
-
--- memory ran out for the writer, before a byte was read or written, and the log is held
-pub record LacksWriter (p : PlannedShop) (told : List Entry) (step : Step) : Type 0 where
-  pub end : Result RestEnd DriveFault
-  pub log_failed : Bool
-  pub unbegun : IsUnbegun step.before.input step.before.output.taken end log_failed step.after.input step.after.output
-  pub answer : IsLoggedAnswer log_failed (end_of_rest end) step.outcome
-  pub log : step.log ≡ Some (Driven p told (nothing_held step.before.output.taken))
 
 -- the verdict on a plan
 pub record IsVerdict (p : PlannedShop) (verdict : Verdict) : Type 0 where
@@ -164,15 +157,23 @@ module _ (folder folder_after : Folder) (path : List ℕ) where
     pub drove : DrivesWithLog v.planned [] (IsDriveIn manner v) end_of_drive step
     pub made : folder_after ≡ with_name path (with_log there path folder)
 
-  -- an accepted plan has its cell driven; any other is answered by its line, and no log is made
+  -- memory ran out before any log was made or written
+  abbrev pub LacksMemory : Bool → Step → Type 0
+  LacksMemory there step = (step.outcome ≡ Err Memory) × DrivesNothing (left_if there) step × (folder_after ≡ folder)
+
+  -- an accepted plan has its cell driven, unless memory runs out before
+  abbrev pub BeginsAccepted : Manner → Bool → VerifiedPlan → Step → Type 0
+  BeginsAccepted manner there v step = LacksMemory there step ⊎ LacksLog v.planned there step ⊎ BeginsRun manner there v step
+
+  -- any other is answered by its line, and no log is made
   abbrev pub BeginsBy : Manner → Bool → Verdict → Step → Type 0
   BeginsBy manner there (Refused back why) step = IsLineTold (Judged (Refused back why)) step.outcome × DrivesNothing (left_if there) step × (folder_after ≡ folder)
-  BeginsBy manner there (Accepted v) step = LacksLog v.planned there step ⊎ BeginsRun manner there v step
+  BeginsBy manner there (Accepted v) step = BeginsAccepted manner there v step
 
   -- the plan is judged, and then a new run begins by it, unless memory runs out before
   abbrev pub Begins : Manner → PlannedShop → Bool → Step → Type 0
   Begins manner p there step =
-      ((verdict : Verdict) × IsVerdict p verdict × BeginsBy manner there verdict step) ⊎ ((step.outcome ≡ Err Memory) × DrivesNothing (left_if there) step × (folder_after ≡ folder))
+      ((verdict : Verdict) × IsVerdict p verdict × BeginsBy manner there verdict step) ⊎ LacksMemory there step
 
 -- ---- a log with bytes
 
@@ -185,10 +186,10 @@ pub record TakesLog (p : PlannedShop) (at : Option ℕ) (text : List ℕ) (taken
   pub only : CanBeTakenUp p (ended_lines (whole_lines text)) at → is_torn (torn_end text) ≡ true → IfErr taken IsOfDevice
 
 -- the events in the log were told again, and shown; or that failed
-pub record TellsAgain (manner : Manner) (t : TakenUp) (before after : Output) (told : Result (Unit {0}) DriveFault) : Type 0 where
+pub record TellsAgain (manner : Manner) (t : TakenUp) (before after : Output) (told : Result TakenUp DriveFault) : Type 0 where
   pub is : IsToldAgainIn manner t (taker before) (taker after) told
+  pub same : IfOk told (λ run. run ≡ t)
   pub shown : OnOk told (after.pending ≡ [])
-  pub untouched : told ≡ Err NoMemoryToDrive → after ≡ before
 
 -- an input, with an output that has taken the events
 abbrev pub with_output : Streams → Output → Streams
@@ -199,13 +200,13 @@ abbrev pub from_output : Output → Step → Step
 from_output mid step = record step { before = with_output step.before mid }
 
 -- then the run goes on with the log; or the telling has failed, with no byte read, and the log is left
-abbrev pub GoesOnAfter : Manner → TakenUp → Output → Result (Unit {0}) DriveFault → Step → Type 0
-GoesOnAfter manner t mid (Ok done) step = DrivesWithLog (plan_of t) (told_in t) (IsGoneOnIn manner t) end_of_rest (from_output mid step) ⊎ LacksWriter (plan_of t) (told_in t) (from_output mid step)
+abbrev pub GoesOnAfter : Manner → TakenUp → Output → Result TakenUp DriveFault → Step → Type 0
+GoesOnAfter manner t mid (Ok done) step = DrivesWithLog (plan_of t) (told_in t) (IsGoneOnIn manner t) end_of_rest (from_output mid step)
 GoesOnAfter manner t mid (Err fault) step = (step.outcome ≡ Err (drive_command_fault fault)) × (step.after ≡ with_output step.before mid) × (step.log ≡ Some Left)
 
 -- so a run that was taken up goes on
 pub record GoesOnWithLog (manner : Manner) (t : TakenUp) (step : Step) : Type 0 where
-  pub told : Result (Unit {0}) DriveFault
+  pub told : Result TakenUp DriveFault
   pub mid : Output
   pub tells : TellsAgain manner t step.before.output mid told
   pub goes_on : GoesOnAfter manner t mid told step
@@ -308,9 +309,11 @@ fault_of (Found bytes) = None
 fault_of (Unread fault) = Some fault
 fault_of (Unlined p) = Some NotLogged
 
--- one that couldn't be synced or read was left with no byte changed
+-- no byte was changed of one that couldn't be synced or read, that wasn't as the words ask, that was left because of the plan, or that wasn't taken up for its text or for want of memory
 abbrev pub IsUntouched : Bool → LogEnd → Type 0
 IsUntouched written (Unread fault) = written ≡ false
+IsUntouched written (Found bytes) = written ≡ false
+IsUntouched written (Untaken p text fault) = IsOfText fault → written ≡ false
 IsUntouched written other = Unit {0}
 
 -- so it is with the log that is held, if one is: it tells just this fault, and where it is told what there was before, it has this
@@ -344,15 +347,17 @@ pub record IsReady (seen : Option (List ℕ)) (may_leave : List ℕ → Type 0) 
   pub settled : IsSettled seen may_leave
   pub unfailed : fault ≡ None
 
--- and it has no bytes, which is told where the logs are
-pub record IsEmptyLog (seen : Option (List ℕ)) (may_leave : List ℕ → Type 0) (fault : Option FileFault) (folder : Folder) : Type 0 where
+-- and it has no bytes, which is told where the logs are, and none was written
+pub record IsEmptyLog (seen : Option (List ℕ)) (may_leave : List ℕ → Type 0) (fault : Option FileFault) (written : Bool) (folder : Folder) : Type 0 where
   pub ready : IsReady seen may_leave fault
+  pub unwritten : written ≡ false
   pub empty : IfSome seen (λ file. file ≡ [])
   pub told : IfSome folder.logs (λ _. seen ≡ Some [])
 
--- a log that was opened and read, with these bytes, which are told where the logs are
-pub record IsFoundLog (seen : Option (List ℕ)) (may_leave : List ℕ → Type 0) (fault : Option FileFault) (folder : Folder) (text : List ℕ) : Type 0 where
+-- a log that was opened and read, and not written, with these bytes, which are told where the logs are
+pub record IsFoundLog (seen : Option (List ℕ)) (may_leave : List ℕ → Type 0) (fault : Option FileFault) (written : Bool) (folder : Folder) (text : List ℕ) : Type 0 where
   pub ready : IsReady seen may_leave fault
+  pub unwritten : written ≡ false
   pub read : IfSome seen (λ file. text ≡ file)
   pub within : length text ≤ MAX_INPUT
   pub told : IfSome folder.logs (λ _. seen ≡ Some text)

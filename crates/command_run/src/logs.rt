@@ -1,6 +1,6 @@
 //! The command `drive` with a log of its own.
 
-ghost use Rattle.std.specs.Prelude.{◌≡◌, ◌≤◌, ◌⊎◌, [], length, is_some, option_map, Some, None, IfSome};
+ghost use Rattle.std.specs.Prelude.{◌≡◌, ◌≤◌, ◌⊎◌, [], length, is_some, option_map, Some, None, false, IfOk, IfSome};
 ghost use Rattle.shop_base.specs.declared.limits.TheConstants.{MAX_MOMENT};
 ghost use Rattle.text_lines.specs.declared.limits.TheConstants.{MAX_INPUT};
 ghost use Rattle.text_lines.specs.Lines.{lines_of};
@@ -11,11 +11,11 @@ ghost use Rattle.run_journal.specs.declared.log_run.LogRun.{LogRun};
 ghost use Rattle.run_journal.specs.Logged.{AreBefore};
 ghost use Rattle.run_journal.specs.LogRuns.{IsNamedFor, IsRunOf};
 ghost use Rattle.run_journal.specs.WholeLines.{whole_lines};
-ghost use Rattle.cell_drive.specs.InManner.{IsDriveIn, IsGoneOnIn};
+ghost use Rattle.cell_drive.specs.InManner.{IsDriveIn, IsGoneOnIn, begun_in};
 ghost use Rattle.plan_verifier.specs.Seen.{judged};
 ghost use Rattle.command_run.specs.Drives.{IsLineTold, end_of_drive};
 ghost use Rattle.command_run.specs.Resumes.{end_of_rest};
-ghost use Rattle.command_run.specs.Logs.{Begins, BeginsBy, BeginsRun, DrivesByLog, DrivesFitting, DrivesFound, DrivesWithLog, GoesOnWithLog, HasFewLines, IsEmptyLog, IsFoundLog, IsLogUntakenTold, IsLoggedAnswer, IsReady, IsTakenFromLog, IsToldBehind, IsToldOfFound, IsToldOfLog, IsToldOfNew, IsToldOfOld, IsToldOfPath, LacksLog, LacksWriter, OpensLog, StepsWith, TakesUp, TellsAgain, bytes_in, digits_in, log_command_fault, logged_command_fault};
+ghost use Rattle.command_run.specs.Logs.{Begins, BeginsAccepted, BeginsBy, BeginsRun, DrivesByLog, DrivesFitting, DrivesFound, DrivesWithLog, GoesOnWithLog, HasFewLines, IsEmptyLog, IsFoundLog, IsLogUntakenTold, IsLoggedAnswer, IsReady, IsTakenFromLog, IsToldBehind, IsToldOfFound, IsToldOfLog, IsToldOfNew, IsToldOfOld, IsToldOfPath, LacksLog, OpensLog, StepsWith, TakesUp, TellsAgain, bytes_in, digits_in, log_command_fault, logged_command_fault};
 ghost use Rattle.cell_drive.specs.Retold.{retold_text};
 ghost use Rattle.command_run.specs.Program.{RunsLoggedDrive};
 
@@ -23,19 +23,24 @@ use crate::devices::Streams;
 use crate::drives::{Told, ended};
 use crate::misfits::{Misfit, misfit_answer, misfit_of};
 use crate::resumes::untaken_answer;
-use cell_drive::{DriveEnd, DriveFault, Manner, Outlet, RestEnd, Source, Taken, tell_again_in};
+use cell_drive::{
+    Begun, DriveEnd, DriveFault, Manner, Outlet, Replayed, RestEnd, Source, Taken, begin_in,
+    tell_again_in,
+};
 use command_answers::{
     Answered, CommandFault, Loaded, Pair, Texts, fault_told, loaded_answer, shape_files,
 };
 use command_words::LogStart;
 use event_lines::RunDigits;
-use logged_drive::{LoggedEnd, TakeUpFault, drive_logged, go_on_logged, take_up_log};
+use logged_drive::{LoggedEnd, TakeUpFault, TakenLog, drive_logged, go_on_logged, take_up_log};
 use plan_digest::run_digits;
 use plan_verifier::{Verdict, Verified, verify};
-use run_journal::{Before, FileFault, LogFile, LogRun, LogText, Logs, new_log, open_log};
+use run_journal::{
+    Before, FileFault, LogFile, LogRun, LogText, Logs, WritingRoom, new_log, open_log,
+};
 use run_log::AuditFault;
 use shop_base::{Moment, Shaped};
-use std::alloc::Global;
+use std::alloc::{AllocError, Global};
 
 /// A fault of a log as one of a command.
 #[derive(Drop)]
@@ -146,17 +151,18 @@ fn untaken_log_answer(alloc: Global, fault: TakeUpFault) -> Answered
 /// Drives the cell of an accepted plan with a log that has the line of the plan alone.
 fn drive_with<R: Source, W: Outlet + Drop, D: LogFile + Drop, B: Before>(
     alloc: Global,
-    verified: Verified,
-    manner: Manner,
+    begun: Begun,
+    room: WritingRoom,
     log: D,
     streams: Streams<R, W>,
     before: B,
 ) -> LoggedRun<R, W, D>
     requires ready { IsReady (D.seen log) (D.may_leave log) (D.fault log) }
     requires before { AreBefore B.before (D.seen log) streams.output.taken }
-    requires line { IfSome B.before (λ told. told.0 ≡ plan_line (digits_in verified.planned)) }
+    requires line { IfSome B.before (λ told. told.0 ≡ plan_line (digits_in begun.verified.planned)) }
     requires shown { streams.output.pending ≡ [] }
-    ensures drove { StepsWith D.seen D.may_leave D.fault D.written B.before streams result.outcome result.streams result.driven result.log (DrivesWithLog verified.planned [] (IsDriveIn manner verified) end_of_drive) }
+    ensures drove { StepsWith D.seen D.may_leave D.fault D.written B.before streams result.outcome result.streams result.driven result.log
+        (DrivesWithLog begun.verified.planned [] (IsDriveIn begun.manner begun.verified) end_of_drive) }
 {
     let Streams { mut input, output } = streams;
     let LoggedEnd {
@@ -164,7 +170,7 @@ fn drive_with<R: Source, W: Outlet + Drop, D: LogFile + Drop, B: Before>(
         log_failed,
         log,
         output,
-    } = drive_logged(alloc, verified, manner, &mut input, log, output, before);
+    } = drive_logged(begun, room, &mut input, log, output, before);
     let outcome = logged_end(alloc, is_done(end), log_failed);
     LoggedRun {
         outcome,
@@ -177,7 +183,8 @@ fn drive_with<R: Source, W: Outlet + Drop, D: LogFile + Drop, B: Before>(
 /// Goes on with a run that was taken up from a log, whose events were told again.
 fn go_on_with<R: Source, W: Outlet + Drop, D: LogFile + Drop, B: Before>(
     alloc: Global,
-    taken: Taken,
+    run: Replayed,
+    room: WritingRoom,
     manner: Manner,
     log: D,
     streams: Streams<R, W>,
@@ -185,10 +192,10 @@ fn go_on_with<R: Source, W: Outlet + Drop, D: LogFile + Drop, B: Before>(
 ) -> LoggedRun<R, W, D>
     requires ready { IsReady (D.seen log) (D.may_leave log) (D.fault log) }
     requires before { AreBefore B.before (D.seen log) streams.output.taken }
-    requires taken_up { IfSome B.before (λ told. IsTakenFromLog taken told.0) }
+    requires taken_up { IfSome B.before (λ told. IsTakenFromLog run told.0) }
     requires shown { streams.output.pending ≡ [] }
     ensures went_on { StepsWith D.seen D.may_leave D.fault D.written B.before streams result.outcome result.streams result.driven result.log
-        (λ step. DrivesWithLog (plan_of taken) (told_in taken) (IsGoneOnIn manner taken) end_of_rest step ⊎ LacksWriter (plan_of taken) (told_in taken) step) }
+        (DrivesWithLog (plan_of run) (told_in run) (IsGoneOnIn manner run) end_of_rest) }
 {
     let Streams { mut input, output } = streams;
     let LoggedEnd {
@@ -196,7 +203,7 @@ fn go_on_with<R: Source, W: Outlet + Drop, D: LogFile + Drop, B: Before>(
         log_failed,
         log,
         output,
-    } = go_on_logged(alloc, taken, manner, &mut input, log, output, before);
+    } = go_on_logged(run, room, manner, &mut input, log, output, before);
     let outcome = logged_end(alloc, is_rest_done(end), log_failed);
     LoggedRun {
         outcome,
@@ -208,16 +215,15 @@ fn go_on_with<R: Source, W: Outlet + Drop, D: LogFile + Drop, B: Before>(
 
 /// Tells the events of a run that was taken up again, and shows them.
 fn show_again<W: Outlet>(
-    alloc: Global,
-    taken: &Taken,
+    taken: Taken,
     manner: Manner,
     output: &mut W,
-) -> Result<(), DriveFault>
-    ensures { TellsAgain manner taken.now (output_of W.Sink W.pending output.old) (output_of W.Sink W.pending output.new) result }
+) -> Result<Replayed, DriveFault>
+    ensures { TellsAgain manner taken (output_of W.Sink W.pending output.old) (output_of W.Sink W.pending output.new) result }
 {
-    match tell_again_in(alloc, taken, manner, output) {
-        Ok(()) => match output.show() {
-            Ok(()) => Ok(()),
+    match tell_again_in(taken, manner, output) {
+        Ok(run) => match output.show() {
+            Ok(()) => Ok(run),
             Err(_) => Err(DriveFault::Write),
         },
         Err(fault) => Err(fault),
@@ -227,7 +233,7 @@ fn show_again<W: Outlet>(
 /// Tells the events of a run that was taken up again, and goes on with it.
 fn tell_and_go_on<R: Source, W: Outlet + Drop, D: LogFile + Drop, B: Before>(
     alloc: Global,
-    taken: Taken,
+    taken_log: TakenLog,
     manner: Manner,
     log: D,
     streams: Streams<R, W>,
@@ -235,13 +241,23 @@ fn tell_and_go_on<R: Source, W: Outlet + Drop, D: LogFile + Drop, B: Before>(
 ) -> LoggedRun<R, W, D>
     requires ready { IsReady (D.seen log) (D.may_leave log) (D.fault log) }
     requires seen { IfSome B.before (λ told. D.seen log ≡ Some told.0) }
-    requires taken_up { IfSome B.before (λ told. IsTakenFromLog taken told.0) }
-    requires output { IfSome B.before (λ told. IsToldBehind streams.output.taken (retold_text manner taken) told.1) }
-    ensures went_on { StepsWith D.seen D.may_leave D.fault D.written B.before streams result.outcome result.streams result.driven result.log (GoesOnWithLog manner taken) }
+    requires taken_up { IfSome B.before (λ told. IsTakenFromLog taken_log.taken told.0) }
+    requires output { IfSome B.before (λ told. IsToldBehind streams.output.taken (retold_text manner taken_log.taken) told.1) }
+    ensures went_on { StepsWith D.seen D.may_leave D.fault D.written B.before streams result.outcome result.streams result.driven result.log
+        (GoesOnWithLog manner taken_log.taken) }
 {
+    let TakenLog { taken, room } = taken_log;
     let Streams { input, mut output } = streams;
-    match show_again(alloc, &taken, manner, &mut output) {
-        Ok(()) => go_on_with(alloc, taken, manner, log, Streams { input, output }, before),
+    match show_again(taken, manner, &mut output) {
+        Ok(run) => go_on_with(
+            alloc,
+            run,
+            room,
+            manner,
+            log,
+            Streams { input, output },
+            before,
+        ),
         Err(fault) => LoggedRun {
             outcome: Err(Told::from(fault).0),
             streams: Streams { input, output },
@@ -267,6 +283,7 @@ fn take_up_with<R: Source, W: Outlet + Drop, D: LogFile + Drop, B: Before>(
     requires digits { digits.now ≡ digits_in shaped }
     requires at_most { IfSome at (λ present. present ≤ MAX_MOMENT) }
     requires ready { IsReady (D.seen log) (D.may_leave log) (D.fault log) }
+    requires unwritten { D.written log ≡ false }
     requires read { IfSome (D.seen log) (λ file. text.now ≡ file) }
     requires within { length text.now ≤ MAX_INPUT }
     requires told { IfSome B.before (λ told. (D.seen log ≡ Some text.now) × IsToldOfOld shaped manner at text.now streams.output.taken told) }
@@ -274,7 +291,7 @@ fn take_up_with<R: Source, W: Outlet + Drop, D: LogFile + Drop, B: Before>(
 {
     let mut log = log;
     match take_up_log(alloc, shaped, &mut log, text, at, digits) {
-        Ok(taken) => tell_and_go_on(alloc, taken, manner, log, streams, before),
+        Ok(taken_log) => tell_and_go_on(alloc, taken_log, manner, log, streams, before),
         Err(fault) => LoggedRun {
             outcome: untaken_log_answer(alloc, fault),
             streams,
@@ -288,6 +305,50 @@ fn take_up_with<R: Source, W: Outlet + Drop, D: LogFile + Drop, B: Before>(
 /// that was opened, or one that is made.
 fn drive_new<R: Source, W: Outlet + Drop, L: Logs, B: Before>(
     alloc: Global,
+    begun: Begun,
+    room: WritingRoom,
+    digits: &RunDigits,
+    path: &str,
+    opened: Option<L::Log>,
+    streams: Streams<R, W>,
+    logs: &mut L,
+    before: B,
+) -> LoggedRun<R, W, L::Log>
+    requires digits { digits.now ≡ digits_in begun.verified.planned }
+    requires empty { IfSome opened (λ log. IsEmptyLog (L.Log.seen log) (L.Log.may_leave log) (L.Log.fault log) (L.Log.written log) (L.folder logs.old)) }
+    requires shown { streams.output.pending ≡ [] }
+    requires told { IfSome B.before (IsToldOfNew (L.folder logs.old) begun.verified.planned streams.output.taken) }
+    ensures drove { StepsWith L.Log.seen L.Log.may_leave L.Log.fault L.Log.written B.before streams result.outcome result.streams result.driven result.log
+        (λ step. LacksLog (L.folder logs.old) (L.folder logs.new) path.now begun.verified.planned (is_some opened) step
+        ⊎ BeginsRun (L.folder logs.old) (L.folder logs.new) path.now begun.manner (is_some opened) begun.verified step) }
+{
+    match new_log(logs, path, opened, digits) {
+        Ok(log) => drive_with(alloc, begun, room, log, streams, before),
+        Err(back) => LoggedRun {
+            outcome: Err(LogTold::from(back.fault).0),
+            streams,
+            driven: false,
+            log: back.log,
+        },
+    }
+}
+
+/// All memory of a run that begins with a log.
+fn begun_with_room(
+    alloc: Global,
+    verified: Verified,
+    manner: Manner,
+) -> Result<(Begun, WritingRoom), AllocError>
+    ensures { IfOk result (λ both. both.0 ≡ begun_in manner verified) }
+{
+    let begun = begin_in(alloc, verified, manner)?;
+    let room = WritingRoom::new(alloc)?;
+    Ok((begun, room))
+}
+
+/// Begins a run by an accepted plan with the log of this path, which has no bytes, once all its memory is had.
+fn begin_accepted<R: Source, W: Outlet + Drop, L: Logs, B: Before>(
+    alloc: Global,
     verified: Verified,
     digits: &RunDigits,
     manner: Manner,
@@ -298,20 +359,21 @@ fn drive_new<R: Source, W: Outlet + Drop, L: Logs, B: Before>(
     before: B,
 ) -> LoggedRun<R, W, L::Log>
     requires digits { digits.now ≡ digits_in verified.planned }
-    requires empty { IfSome opened (λ log. IsEmptyLog (L.Log.seen log) (L.Log.may_leave log) (L.Log.fault log) (L.folder logs.old)) }
+    requires empty { IfSome opened (λ log. IsEmptyLog (L.Log.seen log) (L.Log.may_leave log) (L.Log.fault log) (L.Log.written log) (L.folder logs.old)) }
     requires shown { streams.output.pending ≡ [] }
     requires told { IfSome B.before (IsToldOfNew (L.folder logs.old) verified.planned streams.output.taken) }
-    ensures drove { StepsWith L.Log.seen L.Log.may_leave L.Log.fault L.Log.written B.before streams result.outcome result.streams result.driven result.log
-        (λ step. LacksLog (L.folder logs.old) (L.folder logs.new) path.now verified.planned (is_some opened) step
-        ⊎ BeginsRun (L.folder logs.old) (L.folder logs.new) path.now manner (is_some opened) verified step) }
+    ensures began { StepsWith L.Log.seen L.Log.may_leave L.Log.fault L.Log.written B.before streams result.outcome result.streams result.driven result.log
+        (BeginsAccepted (L.folder logs.old) (L.folder logs.new) path.now manner (is_some opened) verified) }
 {
-    match new_log(logs, path, opened, digits) {
-        Ok(log) => drive_with(alloc, verified, manner, log, streams, before),
-        Err(back) => LoggedRun {
-            outcome: Err(LogTold::from(back.fault).0),
+    match begun_with_room(alloc, verified, manner) {
+        Ok((begun, room)) => drive_new(
+            alloc, begun, room, digits, path, opened, streams, logs, before,
+        ),
+        Err(error) => LoggedRun {
+            outcome: Err(CommandFault::from(error)),
             streams,
             driven: false,
-            log: back.log,
+            log: opened,
         },
     }
 }
@@ -330,7 +392,7 @@ fn begin_by<R: Source, W: Outlet + Drop, L: Logs, B: Before>(
     before: B,
 ) -> LoggedRun<R, W, L::Log>
     requires digits { digits.now ≡ digits_in (judged verdict) }
-    requires empty { IfSome opened (λ log. IsEmptyLog (L.Log.seen log) (L.Log.may_leave log) (L.Log.fault log) (L.folder logs.old)) }
+    requires empty { IfSome opened (λ log. IsEmptyLog (L.Log.seen log) (L.Log.may_leave log) (L.Log.fault log) (L.Log.written log) (L.folder logs.old)) }
     requires shown { streams.output.pending ≡ [] }
     requires told { IfSome B.before (IsToldOfNew (L.folder logs.old) (judged verdict) streams.output.taken) }
     ensures began { StepsWith L.Log.seen L.Log.may_leave L.Log.fault L.Log.written B.before streams result.outcome result.streams result.driven result.log
@@ -338,7 +400,7 @@ fn begin_by<R: Source, W: Outlet + Drop, L: Logs, B: Before>(
 {
     match verdict {
         Verdict::Accepted(verified) => {
-            drive_new(
+            begin_accepted(
                 alloc, verified, digits, manner, path, opened, streams, logs, before,
             )
         }
@@ -367,7 +429,7 @@ fn begin<R: Source, W: Outlet + Drop, L: Logs, B: Before>(
     before: B,
 ) -> LoggedRun<R, W, L::Log>
     requires digits { digits.now ≡ digits_in shaped }
-    requires empty { IfSome opened (λ log. IsEmptyLog (L.Log.seen log) (L.Log.may_leave log) (L.Log.fault log) (L.folder logs.old)) }
+    requires empty { IfSome opened (λ log. IsEmptyLog (L.Log.seen log) (L.Log.may_leave log) (L.Log.fault log) (L.Log.written log) (L.folder logs.old)) }
     requires shown { streams.output.pending ≡ [] }
     requires told { IfSome B.before (IsToldOfNew (L.folder logs.old) shaped streams.output.taken) }
     ensures began { StepsWith L.Log.seen L.Log.may_leave L.Log.fault L.Log.written B.before streams result.outcome result.streams result.driven result.log
@@ -427,7 +489,7 @@ fn drive_found<R: Source, W: Outlet + Drop, L: Logs, B: Before>(
     requires digits { digits.now ≡ digits_in shaped }
     requires at_most { IfSome at (λ present. present ≤ MAX_MOMENT) }
     requires shown { streams.output.pending ≡ [] }
-    requires found { IfSome found (λ there. IsFoundLog (L.Log.seen there.0) (L.Log.may_leave there.0) (L.Log.fault there.0) (L.folder logs.old) there.1) }
+    requires found { IfSome found (λ there. IsFoundLog (L.Log.seen there.0) (L.Log.may_leave there.0) (L.Log.fault there.0) (L.Log.written there.0) (L.folder logs.old) there.1) }
     requires told { IfSome B.before (IsToldOfFound (L.folder logs.old) shaped manner at (option_map (λ there. there.1) found) streams.output.taken) }
     ensures drove { StepsWith L.Log.seen L.Log.may_leave L.Log.fault L.Log.written B.before streams result.outcome result.streams result.driven result.log
         (DrivesFound (L.folder logs.old) (L.folder logs.new) path.now start manner at shaped (option_map (λ there. there.1) found)) }
@@ -461,7 +523,7 @@ fn drive_fitting<R: Source, W: Outlet + Drop, L: Logs, B: Before>(
     requires digits { digits.now ≡ digits_in shaped }
     requires at_most { IfSome at (λ present. present ≤ MAX_MOMENT) }
     requires shown { streams.output.pending ≡ [] }
-    requires found { IfSome found (λ there. IsFoundLog (L.Log.seen there.0) (L.Log.may_leave there.0) (L.Log.fault there.0) (L.folder logs.old) there.1) }
+    requires found { IfSome found (λ there. IsFoundLog (L.Log.seen there.0) (L.Log.may_leave there.0) (L.Log.fault there.0) (L.Log.written there.0) (L.folder logs.old) there.1) }
     requires told { IfSome B.before (IsToldOfFound (L.folder logs.old) shaped manner at (option_map (λ there. there.1) found) streams.output.taken) }
     ensures drove { StepsWith L.Log.seen L.Log.may_leave L.Log.fault L.Log.written B.before streams result.outcome result.streams result.driven result.log
         (DrivesFitting (L.folder logs.old) (L.folder logs.new) path.now manner at shaped (option_map (λ there. there.1) found)) }
@@ -493,7 +555,7 @@ fn drive_there<R: Source, W: Outlet + Drop, L: Logs, B: Before>(
     requires digits { digits.now ≡ digits_in shaped }
     requires at_most { IfSome at (λ present. present ≤ MAX_MOMENT) }
     requires shown { streams.output.pending ≡ [] }
-    requires found { IsFoundLog (L.Log.seen log) (L.Log.may_leave log) (L.Log.fault log) (L.folder logs.old) text }
+    requires found { IsFoundLog (L.Log.seen log) (L.Log.may_leave log) (L.Log.fault log) (L.Log.written log) (L.folder logs.old) text }
     requires told { IfSome B.before (IsToldOfFound (L.folder logs.old) shaped manner at (Some text) streams.output.taken) }
     ensures drove { StepsWith L.Log.seen L.Log.may_leave L.Log.fault L.Log.written B.before streams result.outcome result.streams result.driven result.log
         (DrivesFitting (L.folder logs.old) (L.folder logs.new) path.now manner at shaped (Some text)) }

@@ -57,13 +57,7 @@ fn resume_log<T: Texts, R: Source, W: Outlet>(
     let text = texts.text(alloc, log)?;
     match taken_up(alloc, shaped, text, at) {
         Ok(taken) => {
-            let end = resume_in(
-                alloc,
-                taken,
-                manner,
-                &mut streams.input,
-                &mut streams.output,
-            );
+            let end = resume_in(taken, manner, &mut streams.input, &mut streams.output);
             rest_answer(alloc, end)
         }
         Err(fault) => untaken_answer(alloc, fault),

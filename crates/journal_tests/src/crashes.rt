@@ -2,7 +2,7 @@
 
 use super::MemoryLog;
 use byte_streams::{Gathered, Outlet, put_all};
-use run_journal::{LogFile, LogText, Logged, Untold, cut_end, read_log};
+use run_journal::{LogFile, LogText, Logged, Untold, WritingRoom, cut_end, read_log};
 use std::alloc::Global;
 use std::test::Fail;
 
@@ -39,9 +39,7 @@ fn run(alloc: Global, held: &[u8], calls: usize, torn: usize) -> Result<(MemoryL
         return Ok((log, 0));
     };
     let outlet = Gathered::new(alloc, 16, Vec::new(alloc))?;
-    let Ok(mut logged) = Logged::new(alloc, log, outlet, Untold) else {
-        return Err("out of memory".into());
-    };
+    let mut logged = Logged::new(WritingRoom::new(alloc)?, log, outlet, Untold);
     let mut shown = 0_usize;
     for (bytes, events) in PARTS {
         if put_all(&mut logged, bytes).is_ok() && logged.show().is_ok() {
@@ -114,9 +112,7 @@ fn many_answers_are_synced_at_once(rt: HostRuntime) -> Result<(), Fail> {
     let alloc = rt.alloc();
     let log = MemoryLog::new(Vec::new(alloc), 40, 0);
     let outlet = Gathered::new(alloc, 16, Vec::new(alloc))?;
-    let Ok(mut logged) = Logged::new(alloc, log, outlet, Untold) else {
-        return Err("out of memory".into());
-    };
+    let mut logged = Logged::new(WritingRoom::new(alloc)?, log, outlet, Untold);
     for _ in 0..1000 {
         put_all(&mut logged, b"report 1000000000 finish 100 50\n")?;
         put_all(&mut logged, b"order 1000000000 100 50 51\n")?;
@@ -135,9 +131,7 @@ fn an_answer_that_adds_nothing_is_not_synced(rt: HostRuntime) -> Result<(), Fail
     let alloc = rt.alloc();
     let log = MemoryLog::new(Vec::new(alloc), 2, 0);
     let outlet = Gathered::new(alloc, 16, Vec::new(alloc))?;
-    let Ok(mut logged) = Logged::new(alloc, log, outlet, Untold) else {
-        return Err("out of memory".into());
-    };
+    let mut logged = Logged::new(WritingRoom::new(alloc)?, log, outlet, Untold);
     for _ in 0..3 {
         put_all(&mut logged, b"refused 1 BadLine\n")?;
         logged.show()?;

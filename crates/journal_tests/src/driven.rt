@@ -3,9 +3,9 @@
 use super::MemoryLog;
 use super::two_jobs::{FIRST, LATER, PLAIN, REPORTS, TELLING, accepted, joined};
 use byte_streams::{DriveFault, FromRead, Gathered};
-use cell_drive::{DriveEnd, Manner};
+use cell_drive::{DriveEnd, Manner, begin_in};
 use logged_drive::{LoggedEnd, drive_logged};
-use run_journal::{LogFile, LogText, Untold};
+use run_journal::{LogFile, LogText, Untold, WritingRoom};
 use std::alloc::Global;
 use std::test::Fail;
 
@@ -41,8 +41,9 @@ fn driven(
     let mut reader = FromRead::new(lines);
     let log = MemoryLog::new(Vec::new(alloc), calls, 5);
     let output = Gathered::new(alloc, 16, Vec::new(alloc))?;
-    let verified = accepted(alloc)?;
-    Ok(drive_logged(alloc, verified, manner, &mut reader, log, output, Untold))
+    let begun = begin_in(alloc, accepted(alloc)?, manner)?;
+    let room = WritingRoom::new(alloc)?;
+    Ok(drive_logged(begun, room, &mut reader, log, output, Untold))
 }
 
 #[test]

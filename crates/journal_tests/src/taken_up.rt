@@ -5,9 +5,9 @@ use super::two_jobs::{
     DIGITS, FIRST, LATER, LINE, PLAIN, PieceReader, REPORTS, TELLING, accepted, joined, shaped,
 };
 use byte_streams::{FromRead, Gathered, Outlet};
-use cell_drive::{Manner, tell_again_in};
-use logged_drive::{drive_logged, go_on_logged, take_up_log};
-use run_journal::{LogFile, Untold, read_log};
+use cell_drive::{Manner, begin_in, tell_again_in};
+use logged_drive::{TakenLog, drive_logged, go_on_logged, take_up_log};
+use run_journal::{LogFile, Untold, WritingRoom, read_log};
 use std::alloc::Global;
 use std::test::Fail;
 
@@ -18,7 +18,17 @@ fn broken_off(alloc: Global, manner: Manner, calls: usize) -> Result<MemoryLog, 
     let log = MemoryLog::new(LINE.to_vec(alloc)?, calls, 5);
     let output = Gathered::new(alloc, 16, Vec::new(alloc))?;
     let verified = accepted(alloc)?;
-    let run = drive_logged(alloc, verified, manner, &mut reader, log, output, Untold);
+    let room = WritingRoom::new(alloc)?;
+    let run = drive_logged(
+        alloc,
+        verified,
+        room,
+        manner,
+        &mut reader,
+        log,
+        output,
+        Untold,
+    );
     Ok(run.log)
 }
 
@@ -26,14 +36,16 @@ fn broken_off(alloc: Global, manner: Manner, calls: usize) -> Result<MemoryLog, 
 fn taken_up(alloc: Global, manner: Manner, left: Vec<u8>) -> Result<Vec<u8>, Fail> {
     let mut log = MemoryLog::new(left, 1000, 0);
     let text = read_log(alloc, &mut log)?;
-    let Ok(taken) = take_up_log(alloc, shaped(alloc)?, &mut log, &text, None, &DIGITS) else {
+    let shaped = shaped(alloc)?;
+    let Ok(ready) = take_up_log(alloc, shaped, &mut log, &text, None, &DIGITS) else {
         return Err("the run isn't taken up".into());
     };
+    let TakenLog { taken, room } = ready;
     let mut output = Gathered::new(alloc, 16, Vec::new(alloc))?;
-    tell_again_in(alloc, &taken, manner, &mut output)?;
+    let run = tell_again_in(taken, manner, &mut output)?;
     output.show()?;
     let mut reader = FromRead::new(REPORTS);
-    let mut run = go_on_logged(alloc, taken, manner, &mut reader, log, output, Untold);
+    let mut run = go_on_logged(run, room, manner, &mut reader, log, output, Untold);
     Ok(run.log.read(alloc, 1000)?)
 }
 

@@ -7,11 +7,11 @@ ghost use Rattle.journal_tests.specs.Memory.{MayLeave};
 ghost use Rattle.journal_tests.specs.Told.{HasWhatIsShown};
 
 use crate::memory_log::MemoryLog;
-use byte_streams::{FromRead, Gathered, Outlet, Sink};
-use cell_drive::{DriveEnd, Manner, RestEnd, Taken, take_up};
+use byte_streams::{FromRead, Gathered, IntoSink, Outlet, Sink};
+use cell_drive::{Begun, DriveEnd, Manner, Replayed, RestEnd, begin_in, take_up, tell_again_in};
 use logged_drive::{LoggedEnd, drive_logged, go_on_logged};
 use plan_verifier::Verified;
-use run_journal::{Before, FileFault, LogFile, read_log};
+use run_journal::{Before, FileFault, LogFile, WritingRoom, read_log};
 use shop_base::Shaped;
 use std::alloc::Global;
 
@@ -27,9 +27,8 @@ impl Before for NothingYet {
 
 /// Drives a cell by these lines, with a log and an output that have no bytes.
 fn drive_from_nothing(
-    alloc: Global,
-    verified: Verified,
-    manner: Manner,
+    begun: Begun,
+    room: WritingRoom,
     lines: &[u8],
     log: MemoryLog,
     output: Gathered<Vec<u8>>,
@@ -41,21 +40,13 @@ fn drive_from_nothing(
     ensures in_log { IfOk result.end (λ _. IsAllInLog [] [] (Some result.log.seen) (MayLeave result.log) (⟦<Gathered<Vec<u8>> as Sink>⟧.taken result.output)) }
 {
     let mut reader = FromRead::new(lines);
-    drive_logged(
-        alloc,
-        verified,
-        manner,
-        &mut reader,
-        log,
-        output,
-        NothingYet,
-    )
+    drive_logged(begun, room, &mut reader, log, output, NothingYet)
 }
 
 /// Goes on with a run that was taken up from a log without a whole line, with an output that has no bytes.
 fn go_on_from_nothing(
-    alloc: Global,
-    taken: Taken,
+    run: Replayed,
+    room: WritingRoom,
     manner: Manner,
     lines: &[u8],
     log: MemoryLog,
@@ -68,7 +59,7 @@ fn go_on_from_nothing(
     ensures in_log { IfOk result.end (λ _. IsAllInLog [] [] (Some result.log.seen) (MayLeave result.log) (⟦<Gathered<Vec<u8>> as Sink>⟧.taken result.output)) }
 {
     let mut reader = FromRead::new(lines);
-    go_on_logged(alloc, taken, manner, &mut reader, log, output, NothingYet)
+    go_on_logged(run, room, manner, &mut reader, log, output, NothingYet)
 }
 
 /// What the log and the output have, once all is shown.
@@ -101,7 +92,13 @@ pub fn driven_from_nothing(
     let Ok(output) = Gathered::new(alloc, 16, Vec::new(alloc)) else {
         return Err(FileFault::Memory);
     };
-    let run = drive_from_nothing(alloc, verified, manner, lines, log, output);
+    let Ok(room) = WritingRoom::new(alloc) else {
+        return Err(FileFault::Memory);
+    };
+    let Ok(begun) = begin_in(alloc, verified, manner) else {
+        return Err(FileFault::Memory);
+    };
+    let run = drive_from_nothing(begun, room, lines, log, output);
     match run.end {
         Ok(_) => both_at_end(alloc, run.log, run.output),
         Err(_) => Err(FileFault::Log),
@@ -125,7 +122,14 @@ pub fn gone_on_from_nothing(
     let Ok(output) = Gathered::new(alloc, 16, Vec::new(alloc)) else {
         return Err(FileFault::Memory);
     };
-    let run = go_on_from_nothing(alloc, taken, manner, lines, log, output);
+    let Ok(room) = WritingRoom::new(alloc) else {
+        return Err(FileFault::Memory);
+    };
+    // There is nothing to be told again.
+    let Ok(taken) = tell_again_in(taken, manner, &mut IntoSink::new(Vec::new(alloc))) else {
+        return Err(FileFault::Log);
+    };
+    let run = go_on_from_nothing(taken, room, manner, lines, log, output);
     match run.end {
         Ok(_) => both_at_end(alloc, run.log, run.output),
         Err(_) => Err(FileFault::Log),

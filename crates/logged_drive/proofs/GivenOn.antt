@@ -1,7 +1,7 @@
 -- What a run that goes on has written, whatever has come of it, are the first of what is due and of some answers.
 use Rattle.std.proofs.Common.{◌≡◌, ℕ, List, [], ◌∷◌, ◌++◌, length, drop, Option, None, Some, IfSome, Bool, true, false, Result, inl, inr, ◌⊎◌, refl, sym, ap, ◌∙◌, subst, append_assoc, append-nil}
 use Rattle.std.specs.Io.KnownBytes.{Appends, append_known}
-use Rattle.std.proofs.KnownBytes.{Appends-nil, Appends-trans}
+use Rattle.std.proofs.KnownBytes.{Appends-trans}
 use Rattle.shop_base.specs.Plan.{PlannedShop}
 use Rattle.shop_base.specs.Cell.{Cell}
 use Rattle.text_lines.specs.Lines.{ended_lines}
@@ -112,11 +112,3 @@ module _ (manner : Manner) (taken : TakenUp) where
       → IfSome before (λ told. (q : PlannedShop) (at : Option ℕ) → IsTakenUp q (ended_lines told.0) at taken → law.IsTakenUpAfter q (told_in taken) told.1 may_leave after)
   taken_up_once_more before seen may_leave held writer after input input_after outcome same start whole went steps =
       written_once_more before seen may_leave held writer after same start whole (goes_first _ _ outcome went) steps
-
-  -- where nothing was written
-  pub unbegun_once_more : (before : Option (List ℕ × List ℕ)) (seen : Option (List ℕ)) (may_leave : List ℕ → Type 0) (writer : Option (List ℕ)) → IfSome before (λ told. writer ≡ Some told.1)
-      → IfSome before (λ told. whole_lines told.0 ≡ told.0) → StayInStep before seen may_leave (nothing_held writer)
-      → IfSome before (λ told. (q : PlannedShop) (at : Option ℕ) → IsTakenUp q (ended_lines told.0) at taken → law.IsTakenUpAfter q (told_in taken) told.1 may_leave writer)
-  unbegun_once_more before seen may_leave writer start whole steps =
-      written_once_more before seen may_leave (nothing_held writer) writer writer refl start whole
-      (cut_first (append_known writer []) (append_known writer []) (due_text taken, record { out = []; took = Appends-nil (append_known writer []); whole = refl })) steps

@@ -1,5 +1,5 @@
 -- What a run with a log comes to.
-use Rattle.std.proofs.Common.{◌≡◌, ℕ, List, [], ◌++◌, length, take, Option, None, Some, IfSome, Bool, true, false, Result, Ok, Err, IfOk, inl, inr, refl, sym, ap, ◌∙◌, subst, arith, append-nil}
+use Rattle.std.proofs.Common.{◌≡◌, ℕ, List, [], ◌++◌, Option, None, Some, IfSome, Bool, true, false, Result, Ok, Err, IfOk, inl, inr, refl, sym, ap, ◌∙◌, subst}
 use Rattle.std.specs.Io.KnownBytes.{append_known}
 use Rattle.plan_verifier.specs.Accepted.{VerifiedPlan}
 use Rattle.byte_streams.specs.declared.drive_fault.DriveFault.{DriveFault}
@@ -9,20 +9,13 @@ use Rattle.cell_drive.specs.declared.manner.Manner.{Manner}
 use Rattle.cell_drive.specs.declared.begin.DriveEnd.{DriveEnd}
 use Rattle.cell_drive.specs.declared.resume.RestEnd.{RestEnd}
 use Rattle.cell_drive.specs.TakenUp.{TakenUp}
-use Rattle.cell_drive.specs.Session.{session_start}
 use Rattle.cell_drive.specs.InManner.{IsDriveIn, IsGoneOnIn}
 use Rattle.run_journal.specs.LogFiles.{IsSettled}
 use Rattle.run_journal.specs.WholeLines.{whole_lines}
 use Rattle.run_journal.specs.LoggedLines.{logged}
 use Rattle.run_journal.specs.Logged.{Held, AreBefore, StayInStep}
 use Rattle.run_journal.specs.Laws.{ACrashKeepsWhatWasShown}
-use Rattle.std.proofs.lemmas.List.{append_cancel_left, take_at}
 use Rattle.logged_drive.specs.LoggedRuns.{IsAllInLog, KeepsShown, RunsLogged, nothing_held, output_held}
-
--- ---- a run that isn't begun
-
-pub unbegun : (manner : Manner) (v : VerifiedPlan) (streams : Streams) → IsDriveIn manner v streams streams (Err Memory)
-unbegun manner v streams = record { end = session_start manner v; streamed = refl; came_to = tt }
 
 told : {X : Type 0} (o : Option X) (x : X) (P : X → Type 0) → o ≡ Some x → IfSome o P → P x
 told o x P is p = subst (λ o. IfSome o P) is p
@@ -34,20 +27,6 @@ if_some-map (Some x) f p = f x p
 if_some-both : {X : Type 0} {P Q R : X → Type 0} (o : Option X) → ((x : X) → P x → Q x → R x) → IfSome o P → IfSome o Q → IfSome o R
 if_some-both None f p q = p
 if_some-both (Some x) f p q = f x p q
-
-pub stays : (before : Option (List ℕ × List ℕ)) (seen taken : Option (List ℕ)) (may_leave : List ℕ → Type 0) → AreBefore before seen taken → IsSettled seen may_leave
-    → StayInStep before seen may_leave (nothing_held taken)
-stays before seen taken may_leave are settled = if_some-map before (λ b both. record {
-  shown = [];
-  output = both.1 ∙ ap Some (sym (append-nil b.1));
-  log = λ yes. both.0 ∙ ap Some (sym (append-nil b.0));
-  crash = λ left leaves. record {
-    count = length b.0;
-    at_least = omega (arith, ap length (append-nil b.0));
-    unwritten = 0;
-    is = told seen b.0 (λ f. (l : List ℕ) → may_leave l → l ≡ f) both.0 settled left leaves ∙ sym (take_at b.0 [] (length b.0) refl) ∙ sym (append-nil (take (length b.0) (b.0 ++ [])));
-  };
-}) are
 
 -- ---- what a crash leaves
 
@@ -68,19 +47,6 @@ all_in_log before seen may_leave held taken is unfailed settled steps = if_some-
   log = step.log unfailed;
   on_disk = told seen (b.0 ++ logged step.shown) (λ f. (left : List ℕ) → may_leave left → left ≡ f) (step.log unfailed) settled;
 }) steps
-
--- the log holds what it held, and the output too, where the writer has taken nothing
-pub unchanged : (before : Option (List ℕ × List ℕ)) (seen : Option (List ℕ)) (may_leave : List ℕ → Type 0) (held : Held) (taken : Option (List ℕ)) → taken ≡ held.taken → held.failed ≡ false
-    → IfSome before (λ told. held.taken ≡ Some told.1) → StayInStep before seen may_leave held → AreBefore before seen taken
-unchanged before seen may_leave held taken is unfailed start steps = if_some-both before (λ b began step.
-    let both : b.1 ++ step.shown ≡ b.1 ++ [] = some-same (sym step.output ∙ began ∙ ap Some (sym (append-nil b.1))) in
-    let none : step.shown ≡ [] = append_cancel_left b.1 step.shown [] both in (
-      step.log unfailed ∙ ap (λ (l : List ℕ). Some (b.0 ++ logged l)) none ∙ ap Some (append-nil b.0),
-      is ∙ began,
-    )) start steps
-  where
-    some-same : {xs ys : List ℕ} → Some xs ≡ Some ys → xs ≡ ys
-    some-same same = cc same
 
 -- what the output had taken as the writer began
 pub at_start : (before : Option (List ℕ × List ℕ)) (seen taken same : Option (List ℕ)) → same ≡ taken → AreBefore before seen taken → IfSome before (λ told. same ≡ Some told.1)

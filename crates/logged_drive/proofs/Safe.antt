@@ -1,12 +1,11 @@
 -- A run with a log is taken up from whatever a crash leaves.
-use Rattle.std.proofs.Common.{◌≡◌, ℕ, List, [], ◌++◌, Option, None, Some, IfSome, false, Result, Err, refl, sym, ap, ◌∙◌, subst, append_assoc, append-nil}
+use Rattle.std.proofs.Common.{◌≡◌, ℕ, List, [], ◌++◌, Option, None, Some, IfSome, Result, refl, sym, ap, ◌∙◌, subst, append_assoc, append-nil}
 use Rattle.std.specs.Io.KnownBytes.{Appends, append_known}
 use Rattle.std.proofs.lemmas.List.{append_cancel_left}
 use Rattle.text_lines.specs.Lines.{ended_lines}
 use Rattle.plan_verifier.specs.Accepted.{VerifiedPlan, IsVerified}
 use Rattle.plan_verifier.proofs.Reasons.{acceptable}
 use Rattle.byte_streams.specs.declared.drive_fault.DriveFault.{DriveFault}
-use Rattle.byte_streams.specs.declared.drive_fault.DriveFault.TheVariants.{Memory}
 use Rattle.byte_streams.specs.Lent.{Input, Streams}
 use Rattle.cell_drive.specs.declared.manner.Manner.{Manner}
 use Rattle.cell_drive.specs.declared.begin.DriveEnd.{DriveEnd}
@@ -18,7 +17,6 @@ use Rattle.logged_drive.specs.CrashLaw.{IsTakenUpAfter}
 use Rattle.logged_drive.specs.LoggedRuns.{nothing_held, output_held}
 use Rattle.logged_drive.proofs.Given.{driven_first}
 use Rattle.logged_drive.proofs.Crashes.{driven_run}
-use Rattle.logged_drive.proofs.LoggedSteps.{unbegun}
 
 -- what was written behind a start is what was shown and what is pending
 pub is_given : (taken held : Option (List ℕ)) (start shown pending out : List ℕ) → taken ≡ Some start → held ≡ Some (start ++ shown)
@@ -46,11 +44,3 @@ module _ (manner : Manner) (v : VerifiedPlan) (verified : IsVerified v) where
             (record { closes = first.closes; lost = first.lost; given = first.whole ∙ ap (λ (l : List ℕ). l ++ first.lost) out })
             (step.crash left leaves);
       }
-
-  -- where nothing was begun
-  pub unbegun_after : (before : Option (List ℕ × List ℕ)) (seen : Option (List ℕ)) (may_leave : List ℕ → Type 0) (taken : Option (List ℕ)) → IfSome before (λ told. whole_lines told.0 ≡ told.0)
-      → IfSome before (λ told. taken ≡ Some told.1) → StayInStep before seen may_leave (nothing_held taken) → IfSome before (λ told. LinesTell v.planned (ended_lines told.0) [] → IsTakenUpAfter v.planned [] told.1 may_leave taken)
-  unbegun_after before seen may_leave taken whole start steps =
-      let none : Input = record { left = None; failed = false } in
-      let streams : Streams = record { input = none; output = output_held (nothing_held taken) } in
-      taken_up_after before seen may_leave (nothing_held taken) taken taken none none (Err Memory) refl whole start (unbegun manner v streams) steps

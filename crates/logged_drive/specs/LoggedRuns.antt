@@ -1,8 +1,7 @@
 -- A run whose events are in a log before they are shown.
-use Rattle.std.specs.Prelude.{◌≡◌, ℕ, List, [], ◌++◌, Option, Some, Bool, false, Result, Err}
+use Rattle.std.specs.Prelude.{◌≡◌, ℕ, List, [], ◌++◌, Option, Some, Bool, false, Result}
 use Rattle.std.specs.Io.KnownBytes.{append_known}
 use Rattle.byte_streams.specs.declared.drive_fault.DriveFault.{DriveFault}
-use Rattle.byte_streams.specs.declared.drive_fault.DriveFault.TheVariants.{Memory}
 use Rattle.byte_streams.specs.Lent.{Input, Output, Streams}
 use Rattle.run_journal.specs.WholeLines.{whole_lines}
 use Rattle.run_journal.specs.LoggedLines.{logged}
@@ -31,14 +30,6 @@ pub record RunsLogged {T : Type 0} (drives : Streams → Streams → Result T Dr
   pub held : Held
   pub shows : ShowsRun drives input taken outcome log_failed input_after output_after held
   pub in_step : StayInStep before seen may_leave held
-
--- memory ran out before a byte was read or written
-pub record IsUnbegun {T : Type 0} (input : Input) (taken : Option (List ℕ)) (outcome : Result T DriveFault) (log_failed : Bool) (input_after : Input) (output_after : Output) : Type 0 where
-  pub is : outcome ≡ Err Memory
-  pub log : log_failed ≡ false
-  pub input_is : input_after ≡ input
-  pub output : output_after.taken ≡ taken
-  pub shown : HoldsNothing output_after.pending output_after.failed
 
 -- behind the start the output has taken what was shown. The whole lines of each log that a crash leaves are those of the base, and behind them the first that a log gets of the answers, with all that were shown
 pub record KeepsShown (base start : List ℕ) (may_leave : List ℕ → Type 0) (taken : Option (List ℕ)) : Type 0 where

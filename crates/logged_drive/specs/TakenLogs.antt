@@ -22,6 +22,10 @@ pub record TellARun (p : PlannedShop) (lines : List (List ℕ)) : Type 0 where
   pub tells : LinesTell p lines told
   pub is_run : IsRun p (events_of told)
 
+-- memory ran out
+abbrev pub want_of_memory : TakeUpFault
+want_of_memory = Resume Memory
+
 -- after bad lines nothing is asked of the end; before any other fault a crash can have left it
 abbrev pub IsAfterEnd : ResumeFault → Bool → Type 0
 IsAfterEnd (Log fault) torn = Unit {0}

@@ -1,6 +1,6 @@
 //! A run with a log that goes on.
 
-ghost use Rattle.std.specs.Prelude.{◌≡◌, ◌⊎◌, ℕ, [], Option, None, Some, true, false, Err, IfOk, IfSome};
+ghost use Rattle.std.specs.Prelude.{◌≡◌, ◌≢◌, ℕ, [], Option, None, Some, true, false, Err, IfOk, IfSome};
 ghost use Rattle.shop_base.specs.Plan.{PlannedShop};
 ghost use Rattle.text_lines.specs.Lines.{ended_lines};
 ghost use Rattle.byte_streams.specs.Lent.{input_of, output_of};
@@ -10,53 +10,21 @@ ghost use Rattle.run_journal.specs.LogFiles.{IsSettled};
 ghost use Rattle.run_journal.specs.WholeLines.{whole_lines};
 ghost use Rattle.run_journal.specs.Logged.{AreBefore, fault_if};
 ghost use Rattle.logged_drive.specs.CrashLaw.{IsTakenUpAfter};
-ghost use Rattle.logged_drive.specs.LoggedRuns.{IsAllInLog, IsUnbegun, KeepsShown, RunsLogged};
+ghost use Rattle.logged_drive.specs.LoggedRuns.{IsAllInLog, KeepsShown, RunsLogged};
 
 use crate::logged_run::LoggedEnd;
 use byte_streams::{DriveFault, Outlet, Source};
-use cell_drive::{Manner, RestEnd, Taken, go_on_in};
+use cell_drive::{Manner, Replayed, RestEnd, go_on_in};
 use run_journal::laws::a_crash_keeps_what_was_shown;
-use run_journal::{Before, LogFile, Logged};
-use std::alloc::Global;
-
-/// Goes on with a run by a writer that keeps a log.
-fn go_on_over<R: Source, W: Outlet + Drop, D: LogFile + Drop, B: Before>(
-    taken: Taken,
-    manner: Manner,
-    reader: &mut R,
-    logged: Logged<W, D, B>,
-) -> LoggedEnd<RestEnd, W, D>
-    requires pending { logged.pending ≡ [] }
-    requires unfailed { (logged.failed ≡ false) × (logged.log_failed ≡ false) }
-    requires start { IfSome B.before (λ told. logged.taken ≡ Some told.1) }
-    ensures went_on { RunsLogged (IsGoneOnIn manner taken) B.before (input_of R.Source reader.old) logged.taken result.end result.log_failed
-        (input_of R.Source reader.new) (D.seen result.log) (D.may_leave result.log) (output_of W.Sink W.pending result.output) }
-    ensures in_log { IfOk result.end (λ _. IfSome B.before (λ told.
-        IsAllInLog told.0 told.1 (D.seen result.log) (D.may_leave result.log) (W.taken result.output))) }
-    ensures log_fault { D.fault result.log ≡ fault_if result.log_failed }
-    ensures output_failed { result.end ≡ Err DriveFault.Write → result.log_failed ≡ false → W.failed result.output ≡ true }
-    ensures untouched { result.end ≡ Err DriveFault.Memory → (reader.new ≡ reader.old) × AreBefore B.before (D.seen result.log) (W.taken result.output)
-        × IsSettled (D.seen result.log) (D.may_leave result.log) }
-{
-    let mut writer = logged;
-    let end = go_on_in(taken, manner, reader, &mut writer);
-    let log_failed = writer.has_log_failed();
-    let (log, output) = writer.into_parts();
-    LoggedEnd {
-        end,
-        log_failed,
-        log,
-        output,
-    }
-}
+use run_journal::{Before, LogFile, Logged, WritingRoom};
 
 /// Goes on with a run that was taken up, and whose events were told again, as [`go_on_in`] does, with its log. The mark, the
 /// orders that are due and the answers are put into it as far as a log gets them, and onto the disk, before any of it is shown.
 ///
-/// `Memory` is answered before the first byte is read or written. The log and the output are given back, whatever comes.
+/// `Memory` is never answered. The log and the output are given back, whatever comes.
 pub fn go_on_logged<R: Source, W: Outlet + Drop, D: LogFile + Drop, B: Before>(
-    alloc: Global,
-    taken: Taken,
+    run: Replayed,
+    room: WritingRoom,
     manner: Manner,
     reader: &mut R,
     log: D,
@@ -68,16 +36,15 @@ pub fn go_on_logged<R: Source, W: Outlet + Drop, D: LogFile + Drop, B: Before>(
     requires whole { IfSome B.before (λ told. whole_lines told.0 ≡ told.0) }
     requires shown { W.pending output ≡ [] }
     requires unfailed { D.fault log ≡ None }
-    ensures went_on { RunsLogged (IsGoneOnIn manner taken) B.before (input_of R.Source reader.old) (W.taken output) result.end result.log_failed
-        (input_of R.Source reader.new) (D.seen result.log) (D.may_leave result.log) (output_of W.Sink W.pending result.output)
-        ⊎ IsUnbegun (input_of R.Source reader.old) (W.taken output) result.end result.log_failed (input_of R.Source reader.new) (output_of W.Sink W.pending result.output) }
+    ensures went_on { RunsLogged (IsGoneOnIn manner run) B.before (input_of R.Source reader.old) (W.taken output) result.end result.log_failed
+        (input_of R.Source reader.new) (D.seen result.log) (D.may_leave result.log) (output_of W.Sink W.pending result.output) }
 
     // Whatever came of it, a crash leaves all that was shown.
     ensures crash { IfSome B.before (λ told. KeepsShown told.0 told.1 (D.may_leave result.log) (W.taken result.output)) }
 
     // From whatever it leaves of the log by which the run was taken up it is taken up again, with all events that were shown.
-    ensures taken_up { IfSome B.before (λ told. (p : PlannedShop) (at : Option ℕ) → IsTakenUp p (ended_lines told.0) at taken
-        → IsTakenUpAfter p (told_in taken) told.1 (D.may_leave result.log) (W.taken result.output)) }
+    ensures taken_up { IfSome B.before (λ told. (p : PlannedShop) (at : Option ℕ) → IsTakenUp p (ended_lines told.0) at run
+        → IsTakenUpAfter p (told_in run) told.1 (D.may_leave result.log) (W.taken result.output)) }
 
     // At the end of the input all of it is in the log.
     ensures in_log { IfOk result.end (λ _. IfSome B.before (λ told.
@@ -87,19 +54,19 @@ pub fn go_on_logged<R: Source, W: Outlet + Drop, D: LogFile + Drop, B: Before>(
     ensures log_fault { D.fault result.log ≡ fault_if result.log_failed }
     ensures output_failed { result.end ≡ Err DriveFault.Write → result.log_failed ≡ false → W.failed result.output ≡ true }
 
-    // Where memory ran out, the log and the output hold what they held.
-    ensures untouched { result.end ≡ Err DriveFault.Memory → (reader.new ≡ reader.old) × AreBefore B.before (D.seen result.log) (W.taken result.output)
-        × IsSettled (D.seen result.log) (D.may_leave result.log) }
+    // All memory was had before.
+    ensures memory { result.end ≢ Err DriveFault.Memory }
 {
     // Called for its clause alone.
     a_crash_keeps_what_was_shown();
-    match Logged::new(alloc, log, output, before) {
-        Ok(logged) => go_on_over(taken, manner, reader, logged),
-        Err((error, log, output)) => LoggedEnd {
-            end: Err(DriveFault::from(error)),
-            log_failed: false,
-            log,
-            output,
-        },
+    let mut writer = Logged::new(room, log, output, before);
+    let end = go_on_in(run, manner, reader, &mut writer);
+    let log_failed = writer.has_log_failed();
+    let (log, output) = writer.into_parts();
+    LoggedEnd {
+        end,
+        log_failed,
+        log,
+        output,
     }
 }

@@ -1,8 +1,8 @@
 //! A run that is driven with a log, which survives whatever ends the program or the machine.
 //!
 //! [`drive_logged`] drives a cell from its start: each event is in the log, on the disk, before it is shown. [`take_up_log`]
-//! takes the run up from what a crash has left of the log, and [`go_on_logged`] goes on with it. [`laws`] says that whatever
-//! a crash leaves is taken up.
+//! takes the run up from what a crash has left of the log, with all the memory that it goes on with, and [`go_on_logged`] goes on
+//! with it. [`laws`] says that whatever a crash leaves is taken up.
 #![tactic(auto)]
 
 mod going_on;
@@ -13,5 +13,5 @@ mod taking_up;
 
 pub use going_on::go_on_logged;
 pub use logged_run::{LoggedEnd, drive_logged};
-pub use taken_log::TakeUpFault;
+pub use taken_log::{TakeUpFault, TakenLog};
 pub use taking_up::take_up_log;

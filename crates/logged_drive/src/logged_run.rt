@@ -1,6 +1,6 @@
 //! A run with a log, from its start to the end of its input.
 
-ghost use Rattle.std.specs.Prelude.{◌≡◌, [], None, Some, true, false, Err, IfOk, IfSome};
+ghost use Rattle.std.specs.Prelude.{◌≡◌, ◌≢◌, [], None, Some, true, false, Err, IfOk, IfSome};
 ghost use Rattle.text_lines.specs.Lines.{ended_lines};
 ghost use Rattle.byte_streams.specs.Lent.{input_of, output_of};
 ghost use Rattle.event_lines.specs.LogLines.{LinesTell};
@@ -12,11 +12,9 @@ ghost use Rattle.logged_drive.specs.CrashLaw.{IsTakenUpAfter};
 ghost use Rattle.logged_drive.specs.LoggedRuns.{IsAllInLog, KeepsShown, RunsLogged};
 
 use byte_streams::{DriveFault, Outlet, Source};
-use cell_drive::{DriveEnd, Manner, drive_in};
-use plan_verifier::Verified;
+use cell_drive::{Begun, DriveEnd, drive_begun};
 use run_journal::laws::a_crash_keeps_what_was_shown;
-use run_journal::{Before, LogFile, Logged};
-use std::alloc::Global;
+use run_journal::{Before, LogFile, Logged, WritingRoom};
 
 /// What became of a run with a log.
 #[derive(Drop)]
@@ -31,46 +29,13 @@ pub struct LoggedEnd<T: Drop, W: Drop, D: Drop> {
     pub output: W,
 }
 
-/// Drives the cell of an accepted plan by a writer that keeps a log.
-fn drive_over<R: Source, W: Outlet + Drop, D: LogFile + Drop, B: Before>(
-    alloc: Global,
-    verified: Verified,
-    manner: Manner,
-    reader: &mut R,
-    logged: Logged<W, D, B>,
-) -> LoggedEnd<DriveEnd, W, D>
-    requires pending { logged.pending ≡ [] }
-    requires unfailed { (logged.failed ≡ false) × (logged.log_failed ≡ false) }
-    requires start { IfSome B.before (λ told. logged.taken ≡ Some told.1) }
-    ensures drove { RunsLogged (IsDriveIn manner verified) B.before (input_of R.Source reader.old) logged.taken result.end result.log_failed
-        (input_of R.Source reader.new) (D.seen result.log) (D.may_leave result.log) (output_of W.Sink W.pending result.output) }
-    ensures in_log { IfOk result.end (λ _. IfSome B.before (λ told.
-        IsAllInLog told.0 told.1 (D.seen result.log) (D.may_leave result.log) (W.taken result.output))) }
-    ensures log_fault { D.fault result.log ≡ fault_if result.log_failed }
-    ensures output_failed { result.end ≡ Err DriveFault.Write → result.log_failed ≡ false → W.failed result.output ≡ true }
-    ensures untouched { result.end ≡ Err DriveFault.Memory → (reader.new ≡ reader.old) × AreBefore B.before (D.seen result.log) (W.taken result.output)
-        × IsSettled (D.seen result.log) (D.may_leave result.log) }
-{
-    let mut writer = logged;
-    let end = drive_in(alloc, verified, manner, reader, &mut writer);
-    let log_failed = writer.has_log_failed();
-    let (log, output) = writer.into_parts();
-    LoggedEnd {
-        end,
-        log_failed,
-        log,
-        output,
-    }
-}
-
-/// Drives the cell of an accepted plan, as [`drive_in`] does, with a log that is on the disk. What a log gets of the
+/// Drives the cell of an accepted plan, as [`drive_begun`] does, with a log that is on the disk. What a log gets of the
 /// answers is put into it, and onto the disk, before any of it is shown; once that has failed nothing more is shown.
 ///
-/// `Memory` is answered before the first byte is read. The log and the output are given back, whatever comes.
+/// `Memory` is never answered. The log and the output are given back, whatever comes.
 pub fn drive_logged<R: Source, W: Outlet + Drop, D: LogFile + Drop, B: Before>(
-    alloc: Global,
-    verified: Verified,
-    manner: Manner,
+    begun: Begun,
+    room: WritingRoom,
     reader: &mut R,
     log: D,
     output: W,
@@ -81,14 +46,14 @@ pub fn drive_logged<R: Source, W: Outlet + Drop, D: LogFile + Drop, B: Before>(
     requires whole { IfSome B.before (λ told. whole_lines told.0 ≡ told.0) }
     requires shown { W.pending output ≡ [] }
     requires unfailed { D.fault log ≡ None }
-    ensures drove { RunsLogged (IsDriveIn manner verified) B.before (input_of R.Source reader.old) (W.taken output) result.end result.log_failed
+    ensures drove { RunsLogged (IsDriveIn begun.manner begun.verified) B.before (input_of R.Source reader.old) (W.taken output) result.end result.log_failed
         (input_of R.Source reader.new) (D.seen result.log) (D.may_leave result.log) (output_of W.Sink W.pending result.output) }
 
     // Whatever came of it, a crash leaves all that was shown.
     ensures crash { IfSome B.before (λ told. KeepsShown told.0 told.1 (D.may_leave result.log) (W.taken result.output)) }
 
     // From whatever it leaves of a log that told no event the run is taken up by the same plan, with all events that were shown.
-    ensures taken_up { IfSome B.before (λ told. LinesTell verified.planned (ended_lines told.0) [] → IsTakenUpAfter verified.planned [] told.1 (D.may_leave result.log) (W.taken result.output)) }
+    ensures taken_up { IfSome B.before (λ told. LinesTell begun.verified.planned (ended_lines told.0) [] → IsTakenUpAfter begun.verified.planned [] told.1 (D.may_leave result.log) (W.taken result.output)) }
 
     // At the end of the input all of it is in the log.
     ensures in_log { IfOk result.end (λ _. IfSome B.before (λ told.
@@ -98,20 +63,20 @@ pub fn drive_logged<R: Source, W: Outlet + Drop, D: LogFile + Drop, B: Before>(
     ensures log_fault { D.fault result.log ≡ fault_if result.log_failed }
     ensures output_failed { result.end ≡ Err DriveFault.Write → result.log_failed ≡ false → W.failed result.output ≡ true }
 
-    // Where memory ran out, the log and the output hold what they held.
-    ensures untouched { result.end ≡ Err DriveFault.Memory → (reader.new ≡ reader.old) × AreBefore B.before (D.seen result.log) (W.taken result.output)
-        × IsSettled (D.seen result.log) (D.may_leave result.log) }
+    // All memory was had before.
+    ensures memory { result.end ≢ Err DriveFault.Memory }
 {
     // Called for their clauses alone.
     a_crash_keeps_what_was_shown();
-    let _plan = verified.shaped();
-    match Logged::new(alloc, log, output, before) {
-        Ok(logged) => drive_over(alloc, verified, manner, reader, logged),
-        Err((error, log, output)) => LoggedEnd {
-            end: Err(DriveFault::from(error)),
-            log_failed: false,
-            log,
-            output,
-        },
+    let _plan = begun.verified().shaped();
+    let mut writer = Logged::new(room, log, output, before);
+    let end = drive_begun(begun, reader, &mut writer);
+    let log_failed = writer.has_log_failed();
+    let (log, output) = writer.into_parts();
+    LoggedEnd {
+        end,
+        log_failed,
+        log,
+        output,
     }
 }

@@ -1,7 +1,17 @@
 //! A run that is taken up from its log file.
 
-use cell_drive::ResumeFault;
-use run_journal::FileFault;
+use cell_drive::{ResumeFault, Taken};
+use run_journal::{FileFault, WritingRoom};
+use std::alloc::AllocError;
+
+/// A run that was taken up from its log file, and all the memory with which it goes on.
+#[derive(Drop)]
+pub struct TakenLog {
+    /// The run.
+    pub taken: Taken,
+    /// The room of the writer that keeps the log.
+    pub room: WritingRoom,
+}
 
 /// Why no run is taken up from a log file.
 #[derive(Debug, Drop)]
@@ -12,4 +22,15 @@ pub enum TakeUpFault {
     NoTornEnd { lines: usize },
     /// It couldn't be cut, written or synced.
     File(FileFault),
+}
+
+impl From<AllocError> for TakeUpFault {
+    ghost use Rattle.std.specs.Prelude.{◌≡◌};
+    ghost use Rattle.logged_drive.specs.TakenLogs.{want_of_memory};
+
+    ghost from_gives = { λ _ fault. fault ≡ want_of_memory };
+
+    fn from(error: AllocError) -> TakeUpFault {
+        TakeUpFault::Resume(ResumeFault::from(error))
+    }
 }

@@ -11,10 +11,10 @@ ghost use Rattle.run_journal.specs.TornEnds.{is_torn};
 ghost use Rattle.run_journal.specs.WholeLines.{torn_end, whole_lines};
 ghost use Rattle.logged_drive.specs.TakenLogs.{IsOfDevice, IsOfText, IsOnlyTakeUpFault, IsTakeUpFault, file_fault};
 
-use crate::taken_log::TakeUpFault;
+use crate::taken_log::{TakeUpFault, TakenLog};
 use cell_drive::{ResumeFault, Taken, take_up};
 use event_lines::RunDigits;
-use run_journal::{FileFault, LogFile, LogText, cut_end, is_torn_end, name_plan};
+use run_journal::{FileFault, LogFile, LogText, WritingRoom, cut_end, is_torn_end, name_plan};
 use shop_base::{Moment, Shaped};
 use std::alloc::Global;
 use text_lines::line_count;
@@ -71,6 +71,28 @@ fn take_up_text(
     }
 }
 
+/// Takes up the run that the whole lines tell, with all the memory that it goes on with.
+fn take_up_ready(
+    alloc: Global,
+    shaped: Shaped,
+    text: &LogText,
+    at: Option<Moment>,
+) -> Result<TakenLog, TakeUpFault>
+    requires { IfSome at (λ present. present ≤ MAX_MOMENT) }
+    ensures taken { IfOk result (λ ready. IsTakenUp shaped (ended_lines (whole_lines text.now)) at ready.taken) }
+    ensures torn { OnOk result (is_torn (torn_end text.now) ≡ true) }
+    ensures fault { IfErr result (IsTakeUpFault shaped text.now at) }
+    ensures only_fault { IfErr result (IsOnlyTakeUpFault shaped (ended_lines (whole_lines text.now))) }
+    ensures of_text { IfErr result IsOfText }
+    ensures only { CanBeTakenUp shaped (ended_lines (whole_lines text.now)) at → is_torn (torn_end text.now) ≡ true → IfErr result IsOfDevice }
+{
+    let taken = take_up_text(alloc, shaped, text, at)?;
+    match WritingRoom::new(alloc) {
+        Ok(room) => Ok(TakenLog { taken, room }),
+        Err(error) => Err(TakeUpFault::from(error)),
+    }
+}
+
 /// Cuts off the torn end of a log that was read, and puts the line of the plan behind its whole lines, unless it is their last
 /// line of a plan.
 fn cut_and_name<D: LogFile>(
@@ -94,7 +116,8 @@ fn cut_and_name<D: LogFile>(
 }
 
 /// Takes up the run in a log that was read, cuts off its torn end, and puts the line of the plan, which has these digits, behind
-/// its whole lines, unless it is their last line of a plan. A log whose text is at fault stays as it is.
+/// its whole lines, unless it is their last line of a plan. All the memory with which the run goes on is taken first:
+/// where it runs out, as where the log's text is at fault, the log stays as it is.
 pub fn take_up_log<D: LogFile>(
     alloc: Global,
     shaped: Shaped,
@@ -102,13 +125,13 @@ pub fn take_up_log<D: LogFile>(
     text: &LogText,
     at: Option<Moment>,
     digits: &RunDigits,
-) -> Result<Taken, TakeUpFault>
+) -> Result<TakenLog, TakeUpFault>
     requires at_most { IfSome at (λ present. present ≤ MAX_MOMENT) }
     requires settled { IsSettled (D.seen log.old) (D.may_leave log.old) }
     requires unfailed { D.fault log.old ≡ None }
     requires read { IfSome (D.seen log.old) (λ file. text.now ≡ file) }
     requires digits { AreDigits digits.now }
-    ensures taken { IfOk result (IsTakenUp shaped (ended_lines (whole_lines text.now)) at) }
+    ensures taken { IfOk result (λ ready. IsTakenUp shaped (ended_lines (whole_lines text.now)) at ready.taken) }
     ensures torn { OnOk result (is_torn (torn_end text.now) ≡ true) }
     ensures fault { IfErr result (IsTakeUpFault shaped text.now at) }
     ensures only_fault { IfErr result (IsOnlyTakeUpFault shaped (ended_lines (whole_lines text.now))) }
@@ -124,9 +147,9 @@ pub fn take_up_log<D: LogFile>(
     ensures crash { IfSome (D.seen log.old) (λ file. (left : List ℕ) → D.may_leave log.new left → IsNamedOrNot digits.now (whole_lines file) (whole_lines left)) }
     ensures torn_again { IfSome (D.seen log.old) (λ file. is_torn (torn_end file) ≡ true → (left : List ℕ) → D.may_leave log.new left → is_torn (torn_end left) ≡ true) }
 {
-    let taken = take_up_text(alloc, shaped, text, at)?;
+    let ready = take_up_ready(alloc, shaped, text, at)?;
     match cut_and_name(log, text, digits) {
-        Ok(()) => Ok(taken),
+        Ok(()) => Ok(ready),
         Err(fault) => Err(TakeUpFault::File(fault)),
     }
 }

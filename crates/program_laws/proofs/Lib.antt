@@ -7,3 +7,4 @@ pub mod SameResuming
 pub mod ToldLogs
 pub mod OneLogs
 mod NamedPlans
+mod TouchedLogs

@@ -48,9 +48,8 @@ module _ (p : PlannedShop) where
   undriven (Some bytes) driven = absurd (cc driven.2)
 
   -- the plan by which it goes on is the one by which it was taken up
-  taken_plan : (manner : Manner) (q : PlannedShop) (t : TakenUp) (mid : Output) (told : Result (Unit {0}) DriveFault) (step : Step) → plan_of t ≡ q → GoesOnAfter manner t mid told step → DrivenBy p step.log → p ≡ q
-  taken_plan manner q t mid (Ok done) step planned (inl run) driven = (let same : p ≡ plan_of t = cc (sym driven.2 ∙ run.log) in same ∙ planned)
-  taken_plan manner q t mid (Ok done) step planned (inr lacks) driven = (let same : p ≡ plan_of t = cc (sym driven.2 ∙ lacks.log) in same ∙ planned)
+  taken_plan : (manner : Manner) (q : PlannedShop) (t : TakenUp) (mid : Output) (told : Result TakenUp DriveFault) (step : Step) → plan_of t ≡ q → GoesOnAfter manner t mid told step → DrivenBy p step.log → p ≡ q
+  taken_plan manner q t mid (Ok done) step planned run driven = (let same : p ≡ plan_of t = cc (sym driven.2 ∙ run.log) in same ∙ planned)
   taken_plan manner q t mid (Err fault) step planned is driven = absurd (cc (sym driven.2 ∙ is.2))
 
   log_plan : (manner : Manner) (at : Option ℕ) (q : PlannedShop) (text : List ℕ) (taken : Result TakenUp TakeUpFault) (step : Step) → TakesLog q at text taken → GoesOnTaken q manner text taken step → DrivenBy p step.log → p ≡ q

@@ -139,9 +139,8 @@ module _ (content : List ℕ → Result (List ℕ) CommandFault) (words : List (
 
     resumed_so : (manner : Manner) (lines : List (List ℕ)) (at : Option ℕ) (taken : TakenUp) → IsTakenUp p lines at taken → (end : Result RestEnd DriveFault)
         → IsResumeIn manner taken well.before.streams mid end → IsEndAnswer (end_of_rest end) outcome → Resumed p manner lines at input status written
-    resumed_so manner lines at taken up (Ok end) (inl wanting) answer = absurd (let bad : Ok end ≡ Err WantOfMemory = wanting.1 in cc bad)
-    resumed_so manner lines at taken up (Ok end) (inr (inl cut)) answer = absurd (let bad : Ok end ≡ Err NotWritten = cut.0 in cc bad)
-    resumed_so manner lines at taken up (Ok end) (inr (inr on)) answer =
+    resumed_so manner lines at taken up (Ok end) (inl cut) answer = absurd (let bad : Ok end ≡ Err NotWritten = cut.0 in cc bad)
+    resumed_so manner lines at taken up (Ok end) (inr on) answer =
         let ended = ended_behind SessionAnswer SessionCloses (session_from manner taken) on.end (again_of manner taken) on.middle end on.streamed on.again answer in
         let text : List ℕ = again_of manner taken ++ (on.streamed.comes_to.text ++ on.streamed.comes_to.closing) in
         let state : DrivenCell = seen on.end in
@@ -159,13 +158,10 @@ module _ (content : List ℕ → Result (List ℕ) CommandFault) (words : List (
           so_far = rest_so_far p (plan_of taken) on.end end up.taken_from.planned on.came_to;
           own = ended.2;
         }
-    resumed_so manner lines at taken up (Err fault) (inl wanting) answer =
-        let same : fault ≡ WantOfMemory = (let both : Err fault ≡ Err WantOfMemory = wanting.1 in cc both) in
-        absurd (not_wanting (subst (λ (f : DriveFault). IsEndAnswer (Err f) outcome) same answer))
-    resumed_so manner lines at taken up (Err fault) (inr (inl cut)) answer =
+    resumed_so manner lines at taken up (Err fault) (inl cut) answer =
         let same : fault ≡ NotWritten = (let both : Err fault ≡ Err NotWritten = cut.0 in cc both) in
         absurd (not_cut (subst (λ (f : DriveFault). IsEndAnswer (Err f) outcome) same answer) cut.1)
-    resumed_so manner lines at taken up (Err fault) (inr (inr on)) answer =
+    resumed_so manner lines at taken up (Err fault) (inr on) answer =
         absurd (never_broke SessionAnswer SessionCloses (session_from manner taken) on.end (again_of manner taken) on.middle fault on.streamed answer)
 
     -- a log that can be taken up

@@ -3,3 +3,4 @@ pub mod ResumeLaw
 pub mod ToldLaw
 pub mod OneLogLaw
 pub mod PlanLaw
+pub mod MemoryLaw

@@ -19,6 +19,7 @@ ghost use Rattle.command_run.specs.Laws.{WhatFailsIsTold, NothingIsHeldBack, Wha
 ghost use Rattle.program_laws.specs.ResumeLaw.{ResumeWritesTheSame, ResumeWritesAsDrive};
 ghost use Rattle.program_laws.specs.OneLogLaw.{ANewLogIsOfOneRun, ATakenUpLogIsOfOneRun};
 ghost use Rattle.program_laws.specs.PlanLaw.{NoOtherPlanDrives};
+ghost use Rattle.program_laws.specs.MemoryLaw.{WantOfMemoryChangesNoLog};
 ghost use Rattle.program_laws.specs.ToldLaw.{NewLogCanBeTold, OldLogCanBeTold};
 
 use command_answers::Texts;
@@ -145,6 +146,12 @@ pub fn what_run_asks_can_be_told<T: Texts>()
 /// same plan.)
 pub fn no_other_plan_drives<T: Texts>()
     ensures { NoOtherPlanDrives T.gives }
+{}
+
+/// A run that ends with 4, since memory ran out, has changed no byte of its log: it appended none, and cut none off. (What a log
+/// that is held at the end has is said by the clause of `run`, and *written* of [`run_journal::LogFile`] is what that tells.)
+pub fn want_of_memory_changes_no_log<T: Texts>()
+    ensures { WantOfMemoryChangesNoLog T.gives }
 {}
 
 /// However often a crash cuts its log and the run is taken up from there, by its own plan and with no moment given, all its

@@ -13,6 +13,7 @@ mod logs;
 mod opening;
 mod selection;
 mod torn_end;
+mod writing_room;
 
 pub use file_fault::FileFault;
 pub use log_file::LogFile;
@@ -21,3 +22,4 @@ pub use logged::{Before, FULL, Logged, MAX_PENDING, Untold};
 pub use logs::Logs;
 pub use opening::{LogText, Unopened, cut_end, name_plan, new_log, open_log, read_log};
 pub use torn_end::is_torn_end;
+pub use writing_room::WritingRoom;

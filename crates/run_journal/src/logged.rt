@@ -1,18 +1,17 @@
 //! An output whose events a log gets, on the disk, before they are shown.
 
-ghost use Rattle.std.specs.Prelude.{◌≡◌, ◌+◌, ◌<◌, ◌≤◌, ◌++◌, [], length, take, vec_capacity, None, Some, Err, true, false, IfOk, IfErr, IfSome, OnErr, OnOk};
+ghost use Rattle.std.specs.Prelude.{◌≡◌, ◌+◌, ◌<◌, ◌≤◌, ◌++◌, [], length, take, None, Some, Err, true, false, IfOk, IfErr, IfSome, OnErr, OnOk};
 ghost use Rattle.std.specs.Io.KnownBytes.{Appends, Keeps, WriteAppends, append_known};
 ghost use Rattle.run_journal.specs.declared.file_fault.FileFault.{FileFault};
 ghost use Rattle.run_journal.specs.LogFiles.{HasFailed, IsSettled, Leaves};
 ghost use Rattle.run_journal.specs.Gathering.{IsGathered, is_shown_first};
 ghost use Rattle.run_journal.specs.Logged.{HoldsNothing, StayInStep, AreBefore, OnKept, OnLogFault, fault_if};
-ghost use Rattle.run_journal.specs.Selecting.{at_first};
 
 use crate::file_fault::FileFault;
 use crate::log_file::LogFile;
-use crate::selection::{DECIDING, Selection};
+use crate::selection::Selection;
+use crate::writing_room::WritingRoom;
 use byte_streams::{Outlet, Sink, WriteFault};
-use std::alloc::{AllocError, Global};
 use std::marker::{Model, PhantomData};
 
 /// The fewest gathered bytes that are shown before the next report's answer is gathered.
@@ -37,30 +36,6 @@ impl Before for Untold {
     ghost use Rattle.std.specs.Prelude.{None};
 
     ghost before = { None };
-}
-
-/// The room of an outlet with a log.
-#[derive(Drop)]
-struct Room {
-    gathered: Vec<u8>,
-    events: Vec<u8>,
-    selection: Selection,
-}
-
-/// The room for all that is gathered, and for what a log gets of it.
-fn reserved(alloc: Global) -> Result<Room, AllocError>
-    ensures gathered { IfOk result (λ room. (room.gathered.items ≡ []) × (MAX_PENDING ≤ vec_capacity room.gathered)) }
-    ensures events { IfOk result (λ room. MAX_PENDING + DECIDING ≤ vec_capacity room.events) }
-    ensures selection { IfOk result (λ room. room.selection ≡ at_first) }
-{
-    let gathered = Vec::with_capacity(alloc, MAX_PENDING)?;
-    let events = Vec::with_capacity(alloc, MAX_PENDING + DECIDING)?;
-    let selection = Selection::new(alloc)?;
-    Ok(Room {
-        gathered,
-        events,
-        selection,
-    })
 }
 
 /// An outlet with a log. Bytes are gathered until they are to be shown, or don't fit. Then the lines among them that a log
@@ -95,42 +70,31 @@ impl<W: Outlet, D: LogFile, B: Before> Model for Logged<W, D, B> {
 }
 
 impl<W: Outlet + Drop, D: LogFile + Drop, B: Before> Logged<W, D, B> {
-    /// A log that is synced, and an output that has shown all. All memory is taken here; where it runs out, both are given
-    /// back.
-    pub fn new(
-        alloc: Global,
-        log: D,
-        outlet: W,
-        _before: B,
-    ) -> Result<Logged<W, D, B>, (AllocError, D, W)>
+    /// A log that is synced, and an output that has shown all. No memory is taken behind the room.
+    pub fn new(room: WritingRoom, log: D, outlet: W, _before: B) -> Logged<W, D, B>
         requires settled { IsSettled (D.seen log) (D.may_leave log) }
         requires before { AreBefore B.before (D.seen log) (W.taken outlet) }
         requires shown { W.pending outlet ≡ [] }
         requires unfailed { D.fault log ≡ None }
-        ensures taken { IfOk result (λ logged. logged.taken ≡ W.taken outlet) }
-        ensures pending { IfOk result (λ logged. logged.pending ≡ []) }
-        ensures unfailed { IfOk result (λ logged. (logged.failed ≡ false) × (logged.log_failed ≡ false)) }
-        ensures given_back { IfErr result (λ back. (back.1 ≡ log) × (back.2 ≡ outlet)) }
+        ensures taken { result.taken ≡ W.taken outlet }
+        ensures pending { result.pending ≡ [] }
+        ensures unfailed { (result.failed ≡ false) × (result.log_failed ≡ false) }
     {
-        match reserved(alloc) {
-            Ok(
-                Room {
-                    gathered,
-                    events,
-                    selection,
-                },
-            ) => Ok(Logged {
-                log,
-                outlet,
-                gathered,
-                sent: 0,
-                events,
-                selection,
-                failed: false,
-                log_failed: false,
-                before: PhantomData,
-            }),
-            Err(error) => Err((error, log, outlet)),
+        let WritingRoom {
+            gathered,
+            events,
+            selection,
+        } = room;
+        Logged {
+            log,
+            outlet,
+            gathered,
+            sent: 0,
+            events,
+            selection,
+            failed: false,
+            log_failed: false,
+            before: PhantomData,
         }
     }
 

@@ -187,6 +187,10 @@ pub fn new_log<L: Logs>(
     ensures unnamed { IfErr result (λ back. MatchOption back.log
         (IsUnmade (is_some opened) path.now (L.folder logs.old) (L.folder logs.new) back.fault)
         (λ log. IsUnnamed path.now digits.now (with_log (is_some opened) path.now (L.folder logs.old)) (L.folder logs.new) (L.Log.seen log) (L.Log.may_leave log) (L.Log.fault log) back.fault)) }
+
+    // Where it wasn't the log that failed, no byte of it was changed.
+    ensures unwritten { IfSome opened (λ had. L.Log.written had ≡ false)
+        → IfErr result (λ back. IfSome back.log (λ log. L.Log.fault log ≡ None → L.Log.written log ≡ false)) }
 {
     match had_or_made(logs, path, opened) {
         Ok(log) => named_log(logs, path, log, digits),
@@ -208,6 +212,7 @@ fn had_or_made<L: Logs>(
     ensures told { IfOk result (λ log. IfSome (L.folder logs.old).logs (λ _. L.Log.seen log ≡ Some [])) }
     ensures made { OnOk result (L.folder logs.new ≡ with_log (is_some opened) path.now (L.folder logs.old)) }
     ensures unmade { IfErr result (IsUnmade (is_some opened) path.now (L.folder logs.old) (L.folder logs.new)) }
+    ensures unwritten { IfSome opened (λ had. L.Log.written had ≡ false) → IfOk result (λ log. L.Log.written log ≡ false) }
 {
     match opened {
         Some(log) => Ok(log),
@@ -232,6 +237,7 @@ fn named_log<L: Logs>(
     ensures made { OnOk result (L.folder logs.new ≡ with_name path.now (L.folder logs.old)) }
     ensures unnamed { IfErr result (λ back. MatchOption back.log ⊥
         (λ unnamed. IsUnnamed path.now digits.now (L.folder logs.old) (L.folder logs.new) (L.Log.seen unnamed) (L.Log.may_leave unnamed) (L.Log.fault unnamed) back.fault)) }
+    ensures unwritten { IfErr result (λ back. IfSome back.log (λ unnamed. L.Log.fault unnamed ≡ None → L.Log.written unnamed ≡ L.Log.written log)) }
 {
     let mut log = log;
     match logs.sync_name(path) {
@@ -291,6 +297,7 @@ pub fn name_plan<D: LogFile>(
     ensures torn { IfSome (D.seen log.old) (λ file. file ≡ whole_lines text.now → (left : List ℕ) → D.may_leave log.new left → is_torn (torn_end left) ≡ true) }
 {
     if text.run().names(digits) {
+        // Its last line of a plan is this one.
         return Ok(());
     }
     keep(log, plan_line(digits).bytes())

@@ -37,9 +37,10 @@ returns-in-Err g c =
     let log = c.in-Err.back.log in
     let folder = g.L.Logs.folder c.args.logs.now in
     let after = g.L.Logs.folder c.new_log.new.logs in
-    let lacks = lacks_held g.L.Log.LogFile.seen g.L.Log.LogFile.may_leave g.L.Log.LogFile.fault g.L.Log.LogFile.written folder after c.args.path.now c.args.verified.planned (is_some c.args.opened) g.B.Before.before _ _ _ c.in-Err.back.fault c.requires.told log
+    let lacks = lacks_held g.L.Log.LogFile.seen g.L.Log.LogFile.may_leave g.L.Log.LogFile.fault g.L.Log.LogFile.written folder after c.args.path.now c.args.begun.verified.planned (is_some c.args.opened) g.B.Before.before _ _ _ c.in-Err.back.fault c.requires.told log
     (subst (λ (d : RunDigits). MatchOption log (IsUnmade (is_some c.args.opened) c.args.path.now folder after c.in-Err.back.fault)
-    (λ l. IsUnnamed c.args.path.now d (with_log (is_some c.args.opened) c.args.path.now folder) after (g.L.Log.LogFile.seen l) (g.L.Log.LogFile.may_leave l) (g.L.Log.LogFile.fault l) c.in-Err.back.fault)) c.requires.digits c.in-Err.ensures.unnamed) in
+    (λ l. IsUnnamed c.args.path.now d (with_log (is_some c.args.opened) c.args.path.now folder) after (g.L.Log.LogFile.seen l) (g.L.Log.LogFile.may_leave l) (g.L.Log.LogFile.fault l) c.in-Err.back.fault)) c.requires.digits c.in-Err.ensures.unnamed)
+    (c.in-Err.ensures.unwritten (opened_as c.args.opened (λ log is. is.unwritten) c.requires.empty)) in
     record {
       drove = record {
         end = lacks.end;

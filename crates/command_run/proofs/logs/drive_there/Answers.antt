@@ -4,7 +4,7 @@ use Rattle.command_run.proofs.KnownLogs.{bytes_taken, empty_begins, empty_found,
 use Rattle.command_run.proofs.logs.drive_there.Goals as goal
 
 pub begin-requires-clause-empty : goal.begin-requires-clause-empty
-begin-requires-clause-empty g c = empty_found _ _ _ _ c.args.text (c.is_empty.ensures.0 c.if-is_empty.true) c.requires.found
+begin-requires-clause-empty g c = empty_found _ _ _ _ _ c.args.text (c.is_empty.ensures.0 c.if-is_empty.true) c.requires.found
 
 pub begin-requires-clause-told : goal.begin-requires-clause-told
 begin-requires-clause-told g c = told_as g.B.Before.before (λ t is. new_told _ _ _ _ _ t c.args.text (c.is_empty.ensures.0 c.if-is_empty.true) is.is) c.requires.told

@@ -6,7 +6,7 @@ use Rattle.command_run.proofs.logs.open_and_drive.Goals as goal
 pub drive_found-requires-clause-found : goal.drive_found-requires-clause-found
 drive_found-requires-clause-found g c =
     let had = c.in-Ok.ensures in
-    opened_found g.L.Log.LogFile.seen g.L.Log.LogFile.may_leave g.L.Log.LogFile.fault _ _ c.in-Ok.found had.opened had.text had.within had.settled had.unfailed had.told
+    opened_found g.L.Log.LogFile.seen g.L.Log.LogFile.may_leave g.L.Log.LogFile.fault g.L.Log.LogFile.written _ _ c.in-Ok.found had.opened had.text had.within had.settled had.unfailed had.unwritten had.told
 
 pub drive_found-requires-clause-told : goal.drive_found-requires-clause-told
 drive_found-requires-clause-told g c = told_as g.B.Before.before (path_told _ _ _ _ _ _ _ c.in-Ok.found c.in-Ok.ensures.opened c.in-Ok.ensures.found) c.requires.told

@@ -16,7 +16,7 @@ take_up_log-requires-clause-digits g c = subst AreDigits (sym c.requires.digits)
 
 pub tell_and_go_on-requires-clause-taken_up : goal.tell_and_go_on-requires-clause-taken_up
 tell_and_go_on-requires-clause-taken_up g c =
-    old_taken c.args.shaped c.args.manner c.args.at c.args.text.now _ g.B.Before.before (told_as g.B.Before.before (λ t is. is.1) c.requires.told) c.in-Ok.taken c.in-Ok.ensures.taken
+    old_taken c.args.shaped c.args.manner c.args.at c.args.text.now _ g.B.Before.before (told_as g.B.Before.before (λ t is. is.1) c.requires.told) c.in-Ok.taken_log.taken c.in-Ok.ensures.taken
 
 pub tell_and_go_on-requires-clause-seen : goal.tell_and_go_on-requires-clause-seen
 tell_and_go_on-requires-clause-seen g c =
@@ -34,7 +34,7 @@ returns-in-Ok g c =
     record {
       took_up = record {
         end = run.end;
-        is = (run.is.0, record { taken = Ok c.in-Ok.taken; takes = record { is = c.in-Ok.ensures.taken; torn = c.in-Ok.ensures.torn; fault = tt; only_fault = tt; only = λ can torn. tt }; goes_on = run.is.1 });
+        is = (run.is.0, record { taken = Ok c.in-Ok.taken_log.taken; takes = record { is = c.in-Ok.ensures.taken; torn = c.in-Ok.ensures.torn; fault = tt; only_fault = tt; only = λ can torn. tt }; goes_on = run.is.1 });
         held = run.held;
       };
     }
@@ -59,7 +59,7 @@ returns-in-Err g c =
         );
         held = (
           had.told,
-          tt,
+          λ of_text. ap g.D.LogFile.written (had.untouched of_text) ∙ c.requires.unwritten,
           told_as g.B.Before.before (λ t is. record {
             untouched = λ of_text. (
               ap g.D.LogFile.seen (had.untouched of_text) ∙ is.0,

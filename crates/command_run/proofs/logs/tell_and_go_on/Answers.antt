@@ -1,8 +1,13 @@
-use Rattle.std.proofs.Common.{Ok, Err, Some, ap, refl}
+use Rattle.std.proofs.Common.{Ok, Err, Some, ap, sym, subst, refl}
 use Rattle.byte_streams.specs.Lent.{output_of}
-use Rattle.command_run.specs.Logs.{Left}
+use Rattle.cell_drive.specs.TakenUp.{TakenUp}
+use Rattle.command_run.specs.Logs.{IsTakenFromLog, Left}
 use Rattle.command_run.proofs.HeldLogs.{told_as}
+use Rattle.command_run.proofs.KnownLogs.{same_run}
 use Rattle.command_run.proofs.logs.tell_and_go_on.Goals as goal
+
+pub go_on_with-requires-clause-taken_up : goal.go_on_with-requires-clause-taken_up
+go_on_with-requires-clause-taken_up g c = told_as g.B.Before.before (λ t from. subst (λ (x : TakenUp). IsTakenFromLog x t.0) (sym c.in-Ok.ensures.same) from) c.requires.taken_up
 
 pub returns-in-Ok : goal.returns-in-Ok
 returns-in-Ok g c =
@@ -10,7 +15,15 @@ returns-in-Ok g c =
     rw (← c.streams.view_is) (record {
       went_on = record {
         end = run.end;
-        is = (run.is.0, record { told = Ok c.in-Ok.field-0; mid = output_of g.W.Sink g.W.Outlet.pending c.show_again.new.output; tells = c.in-Ok.ensures; goes_on = run.is.1 });
+        is = (
+          run.is.0,
+          record {
+            told = Ok c.in-Ok.run';
+            mid = output_of g.W.Sink g.W.Outlet.pending c.show_again.new.output;
+            tells = c.in-Ok.ensures;
+            goes_on = same_run c.args.manner _ c.in-Ok.run' _ c.in-Ok.ensures.same run.is.1;
+          },
+        );
         held = run.held;
       };
     })
