@@ -1,6 +1,5 @@
 -- Texts of the rest of a run from their parts.
-use native.Mathlib.Numerals.{unary_clauses}
-use Rattle.std.proofs.Common.{◌≡◌, ℕ, ◌+◌, ◌<◌, ◌^◌, List, [], ◌∷◌, ◌++◌, inl, inr, Option, Result, Ok, Err, OnOk, refl, sym, ap, subst, ◌∙◌}
+use Rattle.std.proofs.Common.{◌≡◌, ℕ, ◌<◌, ◌^◌, List, [], ◌∷◌, ◌++◌, inl, inr, Result, Ok, Err, OnOk, refl, ap, subst, ◌∙◌}
 use Rattle.std.proofs.lemmas.List.{append_assoc}
 use Rattle.shop_base.specs.declared.node.Node.{Node}
 use Rattle.shop_base.specs.Plan.{PlannedShop, jobs}
@@ -9,22 +8,23 @@ use Rattle.shop_base.specs.Graph.{leaving}
 use Rattle.shop_base.specs.Ahead.{PathAhead}
 use Rattle.alt_graph.specs.Times.{NodeTimes, IsPathFromBy}
 use Rattle.people_names.specs.NameBooks.{NameBook}
-use Rattle.plan_verifier.specs.Leavings.{leaves_in, LeavesLast}
+use Rattle.plan_verifier.specs.Leavings.{leaves_in, AreLeavingsAhead, LeavesLast}
 use Rattle.plan_verifier.specs.Rest.{AreOrderedAhead}
 use Rattle.plan_verifier.specs.declared.node_bound.NodeBound.{NodeBound}
+use Rattle.plan_verifier.specs.declared.verdict.Judged.{Judged}
+use Rattle.plan_verifier.specs.declared.verdict.Judged.TheVariants.{Accepted, Refused}
 use Rattle.plan_verifier.specs.Held.{IsBoundOf}
 use Rattle.plan_verifier.proofs.GoingOn.{leavings_ahead}
 use Rattle.plan_explain.specs.Added.{Adds}
 use Rattle.plan_explain.specs.Chains.{reached_lines}
 use Rattle.plan_explain.specs.ChainsFound.{AreLinesOf, IsFound}
+use Rattle.plan_explain.specs.Explained.{AreMomentLines}
 use Rattle.plan_explain.specs.Holds.{bound_line}
 use Rattle.plan_explain.specs.RestChains.{IsRestChain, IsChainOrNone, AreRestChainLines}
-use Rattle.plan_explain.specs.RestLeavings.{rest_leaving_line, rest_leaving_lines_below}
-use Rattle.plan_verifier.specs.declared.verdict.Judged.{Judged}
-use Rattle.plan_verifier.specs.declared.verdict.Judged.TheVariants.{Accepted, Refused}
+use Rattle.plan_explain.specs.RestLeavings.{rest_leaving_lines}
 use Rattle.plan_explain.specs.RestVerdicts.{IsRestJudged}
 use Rattle.plan_explain.specs.RestFirstLines.{IsLineByTimes, IsRestFirstLine}
-use Rattle.plan_explain.specs.RestExplained.{IsChainTo, IsChainToLastAhead, IsToldChainAhead, AreRestMomentLines}
+use Rattle.plan_explain.specs.RestExplained.{IsChainTo, IsChainToLastAhead}
 use Rattle.plan_explain.proofs.RestPaths.{leaving_chain}
 
 -- the lines of a chain are that of its first node and those of the others
@@ -37,35 +37,10 @@ chain_parts names p c t first rest b (Ok x) old mid new is one two = (
 )
 chain_parts names p c t first rest b (Err e) old mid new is one two = tt
 
--- ---- the lines of jobs
-
-module _ (names : NameBook) (p : PlannedShop) (c : Cell) (leaves : ℕ → ℕ) where
-  -- one more line
-  below_more : (n : ℕ) → rest_leaving_lines_below names p c leaves (n + 1) ≡ rest_leaving_lines_below names p c leaves n ++ rest_leaving_line names p c n (leaves n)
-  below_more n = simp unary_clauses refl
-
-  -- one more job's line is written
-  pub lines_more : (old text new : List ℕ) (n moment : ℕ) → text ≡ old ++ rest_leaving_lines_below names p c leaves n → moment ≡ leaves n
-      → new ≡ text ++ rest_leaving_line names p c n moment → new ≡ old ++ rest_leaving_lines_below names p c leaves (n + 1)
-  lines_more old text new n moment written is added =
-      let below = rest_leaving_lines_below names p c leaves n in
-      added ∙ ap (λ l. l ++ rest_leaving_line names p c n moment) written ∙ append_assoc old below (rest_leaving_line names p c n moment)
-      ∙ ap (λ k. old ++ (below ++ rest_leaving_line names p c n k)) is
-      ∙ ap (λ l. old ++ l) (sym (below_more n))
-
-module _ {T E : Type 0} (names : NameBook) (p : PlannedShop) (c : Cell) (t : ℕ) (times : NodeTimes) (chain : List Node) (r : Result T E) where
-  -- by the earliest moments, and of the chain that is told, they are those behind the first line
-  pub lines_told : (told : Option ℕ) (Else : (ℕ → ℕ) → List Node → Type 0) (old new : List ℕ) → AreOrderedAhead p c t times → IsToldChainAhead p c t told Else (leaves_in p times) chain
-      → OnOk r (Adds (AreLinesOf names p c t (leaves_in p times) chain) old new) → OnOk r (Adds (AreRestMomentLines names told p c t Else) old new)
-  lines_told told Else old new ordered is adds = lifted r adds
-    where
-      lifted : (s : Result T E) → OnOk s (Adds (AreLinesOf names p c t (leaves_in p times) chain) old new) → OnOk s (Adds (AreRestMomentLines names told p c t Else) old new)
-      lifted (Ok x) (lines, (behind, are, both), added) = (
-        lines,
-        record { leaves = leaves_in p times; leavings = leavings_ahead p c t times ordered; chain = chain; is = is; behind = behind; are_behind = are; are = both },
-        added,
-      )
-      lifted (Err e) adds = tt
+-- by the earliest moments, and of the chain that is told, the lines are those behind the first one
+pub lines_told : (names : NameBook) (p : PlannedShop) (c : Cell) (t : ℕ) (times : NodeTimes) (chain : List Node) (Is : (ℕ → ℕ) → List Node → Type 0) → AreOrderedAhead p c t times → Is (leaves_in p times) chain
+    → (lines : List ℕ) → AreLinesOf names p c t (leaves_in p times) chain lines → AreMomentLines (AreLeavingsAhead p c t) (rest_leaving_lines names p c) (AreRestChainLines names p c t) Is lines
+lines_told names p c t times chain Is ordered is lines are = record { leaves = leaves_in p times; leavings = leavings_ahead p c t times ordered; chain = chain; is = is; are = are }
 
 -- ---- the chain that is told
 

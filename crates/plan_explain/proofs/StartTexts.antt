@@ -14,7 +14,7 @@ use Rattle.alt_graph.proofs.Paths.{path_begins, path_some}
 use Rattle.people_names.specs.NameBooks.{NameBook}
 use Rattle.plan_verifier.specs.Accepted.{IsGreatest}
 use Rattle.plan_verifier.specs.Held.{IsHeldBy, awaited, IsBoundOf, BeginHeldUp, later_than, overdue_at}
-use Rattle.plan_verifier.specs.Leavings.{AreLeavings, LeavesLast}
+use Rattle.plan_verifier.specs.Leavings.{AreLeavings, AreLeavingsAhead, LeavesLast}
 use Rattle.plan_verifier.specs.declared.node_bound.Hold.TheVariants.{Awaited}
 use Rattle.plan_verifier.specs.declared.node_bound.NodeBound.{NodeBound}
 use Rattle.plan_verifier.specs.declared.verdict.Judged.{Judged}
@@ -28,16 +28,17 @@ use Rattle.plan_verifier.proofs.AtStart.{start_clean, nobody_gone, case, leaving
 use Rattle.plan_verifier.proofs.Reasons.{makespan_is, makespan_last}
 use Rattle.plan_explain.specs.Chains.{release_line, reached_lines, chain_lines}
 use Rattle.plan_explain.specs.FirstLines.{IsFirstLine}
-use Rattle.plan_explain.specs.Leavings.{IsLastToLeave, leaving_line, leaving_lines_below, leaving_lines}
-use Rattle.plan_explain.specs.Explained.{IsChainToLast, IsToldChain, AreMomentLines, AreBehind, IsExplained}
+use Rattle.plan_explain.specs.Leavings.{IsLastToLeave, leaving_line, leaving_lines}
+use Rattle.plan_explain.specs.Explained.{IsChosen, IsChainOf, IsChainToLast, AreMomentLines, IsExplained}
 use Rattle.plan_explain.specs.Holds.{bound_line}
 use Rattle.plan_explain.specs.RestChains.{AreRestChainLines}
-use Rattle.plan_explain.specs.RestLeavings.{gone_line, rest_leaving_line, rest_leaving_lines_below, rest_leaving_lines}
+use Rattle.plan_explain.specs.RestLeavings.{gone_line, rest_leaving_line, rest_leaving_lines}
 use Rattle.plan_explain.specs.RestFirstLines.{IsRestFirstLine}
 use Rattle.plan_explain.specs.RestVerdicts.{IsRestJudged}
-use Rattle.plan_explain.specs.RestExplained.{IsChainToLastAhead, IsToldChainAhead, AreRestMomentLines, AreRestBehind, IsRestExplained}
+use Rattle.plan_explain.specs.RestExplained.{IsChainTo, IsChainToLastAhead, IsRestExplained}
 use Rattle.plan_explain.specs.StartTexts.{said_of, TheRestOfTheStartIsToldAsThePlan}
 use Rattle.plan_explain.proofs.Moments.{accepted_told}
+use Rattle.plan_explain.proofs.Texts.{texts_same, both_told}
 use Rattle.plan_explain.proofs.RestPaths.{ahead_led}
 use Rattle.plan_explain.proofs.AtStart.{BeginFirst, held_first, path_along}
 
@@ -103,13 +104,8 @@ module _ (names : NameBook) (p : PlannedShop) (shaped : IsWellShaped p) where
     line_told n inside =
         ap (λ yes. if yes then gone_line names n (leaves n) (budget p n) else leaving_line names n (leaves n) (budget p n)) (le-ltb (steps p n) _ (omega (arith, start-made p n inside)))
 
-    below_told : (n : ℕ) → n ≤ jobs p → rest_leaving_lines_below names p (start p) leaves n ≡ leaving_lines_below names p leaves n
-    below_told zero within = refl
-    below_told (suc n) within =
-        ap (λ l. l ++ rest_leaving_line names p (start p) n (leaves n)) (below_told n (omega arith)) ∙ ap (λ l. leaving_lines_below names p leaves n ++ l) (line_told n (omega arith))
-
-    lines_told : (behind : List ℕ) → rest_leaving_lines names p (start p) leaves ++ behind ≡ leaving_lines names p leaves ++ behind
-    lines_told behind = ap (λ l. l ++ behind) (below_told (jobs p) (omega arith))
+    lines_told : rest_leaving_lines names p (start p) leaves ≡ leaving_lines names p leaves
+    lines_told = texts_same (λ n. rest_leaving_line names p (start p) n (leaves n)) (λ n. leaving_line names n (leaves n) (budget p n)) (jobs p) line_told
 
     -- the last to leave
     module _ (are : AreLeavings p leaves) where
@@ -136,47 +132,19 @@ module _ (names : NameBook) (p : PlannedShop) (shaped : IsWellShaped p) where
 
   -- ---- the chain that is told, and the lines with it
 
-  -- what is said of the nodes of a chain that is told otherwise, of the rest and of the plan, comes to the same
-  record AreOneChain (ElseAhead Else : (ℕ → ℕ) → List Node → Type 0) : Type 0 where
-    to : (leaves : ℕ → ℕ) (nodes : List Node) (lines : List ℕ) → AreLeavings p leaves → AreRestChainLines names p (start p) 0 nodes lines → ElseAhead leaves nodes → Else leaves nodes
-    back : (leaves : ℕ → ℕ) (nodes : List Node) → AreLeavings p leaves → Else leaves nodes → ElseAhead leaves nodes × BeginFirst p nodes
+  -- what is said of the nodes of a chain, of the rest and of the plan, comes to the same
+  record AreOneChain (Ahead Whole : (ℕ → ℕ) → List Node → Type 0) : Type 0 where
+    to : (leaves : ℕ → ℕ) (nodes : List Node) (lines : List ℕ) → AreLeavings p leaves → AreRestChainLines names p (start p) 0 nodes lines → Ahead leaves nodes → Whole leaves nodes
+    back : (leaves : ℕ → ℕ) (nodes : List Node) → AreLeavings p leaves → Whole leaves nodes → Ahead leaves nodes × BeginFirst p nodes
 
-  module _ (told : Option ℕ) (inside : IfSome told (λ j. j < jobs p)) (ElseAhead Else : (ℕ → ℕ) → List Node → Type 0) (one : AreOneChain ElseAhead Else) where
-    moments_told : (lines : List ℕ) → AreRestMomentLines names told p (start p) 0 ElseAhead lines → AreMomentLines names told p Else lines
-    moments_told lines are = record {
-      leaves = are.leaves;
-      leavings = leavings;
-      chain = are.chain;
-      is = chosen told inside are.is;
-      are = are.are ∙ lines_told are.leaves are.behind ∙ ap (λ l. leaving_lines names p are.leaves ++ l) (chain_told are.chain are.behind are.are_behind);
-    }
-      where
-        leavings : AreLeavings p are.leaves
-        leavings = leavings_to p shaped are.leaves are.leavings
-
-        chosen : (asked : Option ℕ) → IfSome asked (λ j. j < jobs p) → IsToldChainAhead p (start p) 0 asked ElseAhead are.leaves are.chain → IsToldChain asked p Else are.leaves are.chain
-        chosen None within is = one.to are.leaves are.chain are.behind leavings are.are_behind is
-        chosen (Some j) within (inl (gone, none)) = absurd (nobody_gone p j within gone)
-        chosen (Some j) within (inr (still, path)) = chain_begins are.chain (leaving p j) (are.leaves j) are.behind path are.are_behind (leavings j within)
-
-    moments_back : (lines : List ℕ) → AreMomentLines names told p Else lines → AreRestMomentLines names told p (start p) 0 ElseAhead lines
-    moments_back lines are = record {
-      leaves = are.leaves;
-      leavings = leavings_from p shaped are.leaves are.leavings;
-      chain = are.chain;
-      is = found.0;
-      behind = chain_lines names p are.chain;
-      are_behind = chain_back are.chain found.1;
-      are = are.are ∙ sym (lines_told are.leaves (chain_lines names p are.chain));
-    }
-      where
-        chosen : (asked : Option ℕ) → IfSome asked (λ j. j < jobs p) → IsToldChain asked p Else are.leaves are.chain → IsToldChainAhead p (start p) 0 asked ElseAhead are.leaves are.chain × BeginFirst p are.chain
-        chosen None within is = one.back are.leaves are.chain are.leavings is
-        chosen (Some j) within path =
-            (inr (nobody_gone p j within, (case p shaped).path are.chain (leaving p j) (are.leaves j) path), begin_path are.chain (leaving p j) (are.leaves j) path)
-
-        found : IsToldChainAhead p (start p) 0 told ElseAhead are.leaves are.chain × BeginFirst p are.chain
-        found = chosen told inside are.is
+  one_to : (j : ℕ) → j < jobs p → AreOneChain (IsChainTo p (start p) 0 j) (IsChainOf p j)
+  one_to j inside = record {
+    to = λ leaves nodes lines are told is. elim is [
+      | inl (gone, none) ↦ absurd (nobody_gone p j inside gone)
+      | inr (still, path) ↦ chain_begins nodes (leaving p j) (leaves j) lines path told (are j inside)
+    ];
+    back = λ leaves nodes are path. (inr (nobody_gone p j inside, (case p shaped).path nodes (leaving p j) (leaves j) path), begin_path nodes (leaving p j) (leaves j) path);
+  }
 
   last_one : AreOneChain (IsChainToLastAhead p (start p) 0) (IsChainToLast p)
   last_one = record {
@@ -193,20 +161,31 @@ module _ (names : NameBook) (p : PlannedShop) (shaped : IsWellShaped p) where
   given_one : (chain : List Node) → BeginHeldUp p (start p) chain → AreOneChain (λ leaves nodes. nodes ≡ chain) (λ leaves nodes. nodes ≡ chain)
   given_one chain begins = record { to = λ leaves nodes lines are told is. is; back = λ leaves nodes are is. (is, subst (BeginFirst p) (sym is) (begin_held chain begins)) }
 
-  -- ---- the lines behind the first
+  chosen_one : (told : Option ℕ) → IfSome told (λ j. j < jobs p) → (Ahead Whole : (ℕ → ℕ) → List Node → Type 0) → AreOneChain Ahead Whole
+      → AreOneChain (IsChosen (IsChainTo p (start p) 0) told Ahead) (IsChosen (IsChainOf p) told Whole)
+  chosen_one None inside Ahead Whole one = one
+  chosen_one (Some j) inside Ahead Whole one = one_to j inside
 
-  module _ (told : Option ℕ) (inside : IfSome told (λ j. j < jobs p)) where
-    behind_told : (verdict : Judged) (lines : List ℕ) → IsReasonAhead p (start p) 0 verdict → AreRestBehind names told p (start p) 0 verdict lines → AreBehind names told (said_of p verdict) lines
-    behind_told (Accepted times) lines reason are = moments_told told inside (IsChainToLastAhead p (start p) 0) (IsChainToLast p) last_one lines are
-    behind_told (Refused (Cycle nodes)) lines reason are = are
-    behind_told (Refused (Late job leaves chain times)) lines (late, ordered, same) are =
-        moments_told told inside (λ moments nodes. nodes ≡ chain.items) (λ moments nodes. nodes ≡ chain.items) (given_one chain.items late.begins) lines are
+  module _ (Ahead Whole : (ℕ → ℕ) → List Node → Type 0) (one : AreOneChain Ahead Whole) (lines : List ℕ) where
+    moments_told : AreMomentLines (AreLeavingsAhead p (start p) 0) (rest_leaving_lines names p (start p)) (AreRestChainLines names p (start p) 0) Ahead lines
+        → AreMomentLines (AreLeavings p) (leaving_lines names p) (λ chain told. told ≡ chain_lines names p chain) Whole lines
+    moments_told are = let leavings = leavings_to p shaped are.leaves are.leavings in record {
+      leaves = are.leaves;
+      leavings = leavings;
+      chain = are.chain;
+      is = one.to are.leaves are.chain are.are.behind leavings are.are.are are.is;
+      are = both_told (λ told is. is ∙ lines_told are.leaves) (chain_told are.chain) lines are.are;
+    }
 
-    behind_back : (verdict : Judged) (lines : List ℕ) → IsReasonAhead p (start p) 0 verdict → AreBehind names told (said_of p verdict) lines → AreRestBehind names told p (start p) 0 verdict lines
-    behind_back (Accepted times) lines reason are = moments_back told inside (IsChainToLastAhead p (start p) 0) (IsChainToLast p) last_one lines are
-    behind_back (Refused (Cycle nodes)) lines reason are = are
-    behind_back (Refused (Late job leaves chain times)) lines (late, ordered, same) are =
-        moments_back told inside (λ moments nodes. nodes ≡ chain.items) (λ moments nodes. nodes ≡ chain.items) (given_one chain.items late.begins) lines are
+    moments_back : AreMomentLines (AreLeavings p) (leaving_lines names p) (λ chain told. told ≡ chain_lines names p chain) Whole lines
+        → AreMomentLines (AreLeavingsAhead p (start p) 0) (rest_leaving_lines names p (start p)) (AreRestChainLines names p (start p) 0) Ahead lines
+    moments_back are = let (is, begun) = one.back are.leaves are.chain are.leavings are.is in record {
+      leaves = are.leaves;
+      leavings = leavings_from p shaped are.leaves are.leavings;
+      chain = are.chain;
+      is = is;
+      are = both_told (λ told written. written ∙ sym (lines_told are.leaves)) (λ told written. subst (AreRestChainLines names p (start p) 0 are.chain) (sym written) (chain_back are.chain begun)) lines are.are;
+    }
 
 -- ---- the texts
 
@@ -223,25 +202,23 @@ module _ (p : PlannedShop) (shaped : IsWellShaped p) where
   }
   first_line_back (Refused why) line is = is
 
+module _ (names : NameBook) (p : PlannedShop) (shaped : IsWellShaped p) (told : Option ℕ) (inside : IfSome told (λ j. j < jobs p)) where
+  explained : (verdict : Judged) (text : List ℕ) → IsReasonAhead p (start p) 0 verdict → IsRestExplained names told p (start p) 0 verdict text → IsExplained names told (said_of p verdict) text
+  explained (Accepted times) text reason is = both_told (first_line_told p shaped (Accepted times)) (moments_told names p shaped _ _ (chosen_one names p shaped told inside _ _ (last_one names p shaped))) text is
+  explained (Refused (Cycle nodes)) text reason is = is
+  explained (Refused (Late job leaves chain times)) text (late, ordered, same) is =
+      both_told (λ line first. first) (moments_told names p shaped _ _ (chosen_one names p shaped told inside _ _ (given_one names p shaped chain.items late.begins))) text is
+
+  explained_back : (verdict : Judged) (text : List ℕ) → IsReasonAhead p (start p) 0 verdict → IsExplained names told (said_of p verdict) text → IsRestExplained names told p (start p) 0 verdict text
+  explained_back (Accepted times) text reason is = both_told (first_line_back p shaped (Accepted times)) (moments_back names p shaped _ _ (chosen_one names p shaped told inside _ _ (last_one names p shaped))) text is
+  explained_back (Refused (Cycle nodes)) text reason is = is
+  explained_back (Refused (Late job leaves chain times)) text (late, ordered, same) is =
+      both_told (λ line first. first) (moments_back names p shaped _ _ (chosen_one names p shaped told inside _ _ (given_one names p shaped chain.items late.begins))) text is
+
 pub the_rest_of_the_start_is_told_as_the_plan-holds : TheRestOfTheStartIsToldAsThePlan
 the_rest_of_the_start_is_told_as_the_plan-holds p verdict text shaped known = (
   (first_line_told p shaped verdict text, first_line_back p shaped verdict text),
-  λ names told inside. (
-    λ is. record {
-      first = is.first;
-      is = first_line_told p shaped verdict is.first is.is;
-      behind = is.behind;
-      are = behind_told names p shaped told inside verdict is.behind known.refused is.are;
-      both = is.both;
-    },
-    λ is. record {
-      first = is.first;
-      is = first_line_back p shaped verdict is.first is.is;
-      behind = is.behind;
-      are = behind_back names p shaped told inside verdict is.behind known.refused is.are;
-      both = is.both;
-    },
-  ),
+  λ names told inside. (explained names p shaped told inside verdict text known.refused, explained_back names p shaped told inside verdict text known.refused),
 )
 
 -- so the explanation of a verdict is that of the same verdict on the rest from there

@@ -1,11 +1,12 @@
 -- The chain that is told, and the lines behind a verdict's first one, while they are made.
-use Rattle.std.specs.Prelude.{◌≡◌, ℕ, ◌++◌, List}
+use Rattle.std.specs.Prelude.{◌≡◌, ℕ, List}
 use Rattle.shop_base.specs.declared.node.Node.{Node}
 use Rattle.shop_base.specs.Plan.{PlannedShop}
 use Rattle.shop_base.specs.Cell.{Cell}
 use Rattle.alt_graph.specs.Times.{NodeTimes}
 use Rattle.people_names.specs.NameBooks.{NameBook}
 use Rattle.plan_verifier.specs.Leavings.{leaves_in}
+use Rattle.plan_explain.specs.Parts.{AreBoth}
 use Rattle.plan_explain.specs.RestChains.{IsChainOrNone, AreRestChainLines}
 use Rattle.plan_explain.specs.RestLeavings.{rest_leaving_lines}
 
@@ -16,4 +17,4 @@ pub record IsFound (p : PlannedShop) (c : Cell) (t : ℕ) (times : NodeTimes) (I
 
 -- the lines of the jobs, and then those of this chain
 abbrev pub AreLinesOf : NameBook → PlannedShop → Cell → ℕ → (ℕ → ℕ) → List Node → List ℕ → Type 0
-AreLinesOf names p c t leaves chain lines = (behind : List ℕ) × AreRestChainLines names p c t chain behind × (lines ≡ rest_leaving_lines names p c leaves ++ behind)
+AreLinesOf names p c t leaves chain = AreBoth (λ jobs. jobs ≡ rest_leaving_lines names p c leaves) (AreRestChainLines names p c t chain)

@@ -1,5 +1,5 @@
 -- The lines of the jobs of a plan without a cycle, and which of them leaves last.
-use Rattle.std.specs.Prelude.{ℕ, zero, suc, ◌-◌, ◌<◌, nat_lt, if◌then◌else◌, List, [], ◌∷◌, ◌++◌, codes, decimal}
+use Rattle.std.specs.Prelude.{ℕ, ◌-◌, ◌<◌, nat_lt, if◌then◌else◌, List, [], ◌∷◌, ◌++◌, codes, decimal}
 use Rattle.shop_base.specs.declared.node.Node.{Node}
 use Rattle.shop_base.specs.Plan.{PlannedShop, jobs, budget}
 use Rattle.shop_base.specs.Graph.{leaving, Path}
@@ -7,6 +7,7 @@ use Rattle.people_names.specs.NameBooks.{NameBook}
 use Rattle.people_names.specs.Words.{job_word, moment_word, is_budget_told}
 use Rattle.plan_verifier.specs.Accepted.{IsMakespan}
 use Rattle.plan_explain.specs.Arcs.{before}
+use Rattle.plan_explain.specs.Parts.{texts_below}
 
 -- the least job that leaves last, and when: at the makespan, before which each job with a lesser number leaves
 pub record IsLastToLeave (p : PlannedShop) (j n : ℕ) : Type 0 where
@@ -30,11 +31,6 @@ module _ (names : NameBook) where
   abbrev pub leaving_line : ℕ → ℕ → ℕ → List ℕ
   leaving_line j leaves budget = before (codes "job " ∷ job_word names j ∷ codes " leaves " ∷ moment_word names leaves ∷ []) (before (margin_words leaves budget) (codes "\n"))
 
-  -- the lines of the first n jobs
-  abbrev pub leaving_lines_below : PlannedShop → (ℕ → ℕ) → ℕ → List ℕ
-  leaving_lines_below p leaves zero = []
-  leaving_lines_below p leaves (suc n) = leaving_lines_below p leaves n ++ leaving_line n (leaves n) (budget p n)
-
   -- the lines of all jobs, in ascending order
   abbrev pub leaving_lines : PlannedShop → (ℕ → ℕ) → List ℕ
-  leaving_lines p leaves = leaving_lines_below p leaves (jobs p)
+  leaving_lines p leaves = texts_below (λ j. leaving_line j (leaves j) (budget p j)) (jobs p)

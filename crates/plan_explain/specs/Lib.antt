@@ -4,6 +4,7 @@ pub mod FirstLines
 pub mod Cycles
 pub mod Chains
 pub mod Leavings
+pub mod Parts
 pub mod Explained
 pub mod LineLaws
 -- The same of the rest of a run.

@@ -1,10 +1,11 @@
 -- The lines of the jobs in the rest of a run.
-use Rattle.std.specs.Prelude.{ℕ, zero, suc, nat_lt, if◌then◌else◌, List, [], ◌∷◌, ◌++◌, codes}
+use Rattle.std.specs.Prelude.{ℕ, nat_lt, if◌then◌else◌, List, [], ◌∷◌, ◌++◌, codes}
 use Rattle.shop_base.specs.Plan.{PlannedShop, jobs, steps, budget}
 use Rattle.shop_base.specs.Cell.{Cell, made}
 use Rattle.people_names.specs.NameBooks.{NameBook}
 use Rattle.people_names.specs.Words.{job_word, moment_word}
 use Rattle.plan_explain.specs.Arcs.{before}
+use Rattle.plan_explain.specs.Parts.{texts_below}
 use Rattle.plan_explain.specs.Leavings.{budget_words, leaving_line}
 
 -- `job J left L budget B`
@@ -16,11 +17,6 @@ module _ (names : NameBook) (p : PlannedShop) (c : Cell) where
   abbrev pub rest_leaving_line : ℕ → ℕ → List ℕ
   rest_leaving_line j leaves = if nat_lt (steps p j) (made c j) then gone_line names j leaves (budget p j) else leaving_line names j leaves (budget p j)
 
-  -- the lines of the first n jobs
-  abbrev pub rest_leaving_lines_below : (ℕ → ℕ) → ℕ → List ℕ
-  rest_leaving_lines_below leaves zero = []
-  rest_leaving_lines_below leaves (suc n) = rest_leaving_lines_below leaves n ++ rest_leaving_line n (leaves n)
-
   -- the lines of all jobs, in ascending order
   abbrev pub rest_leaving_lines : (ℕ → ℕ) → List ℕ
-  rest_leaving_lines leaves = rest_leaving_lines_below leaves (jobs p)
+  rest_leaving_lines leaves = texts_below (λ j. rest_leaving_line j (leaves j)) (jobs p)

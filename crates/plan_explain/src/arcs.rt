@@ -1,8 +1,7 @@
 //! The arc between two nodes, as an explanation shows it.
 
 ghost use Rattle.std.specs.Prelude.{◌≡◌, ◌<◌};
-ghost use Rattle.shop_base.specs.Plan.{steps};
-ghost use Rattle.shop_base.specs.Graph.{HasArc};
+ghost use Rattle.shop_base.specs.{Plan.steps, Graph.HasArc};
 ghost use Rattle.plan_explain.specs.Arcs.{told_arc, told_job_arc, told_blocking_arc, time_of};
 
 use shop_base::{JobNo, MachineNo, Moment, Node, Shaped};

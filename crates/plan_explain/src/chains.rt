@@ -2,15 +2,14 @@
 
 ghost use Rattle.std.specs.Prelude.{◌≡◌, ◌+◌, ◌^◌, ◌<◌, ◌≤◌, ◌∷◌, ◌++◌, length, OnOk};
 ghost use Rattle.shop_base.specs.declared.limits.TheConstants.{MAX_MOMENT};
-ghost use Rattle.plan_explain.specs.Added.{Adds};
-ghost use Rattle.people_names.specs.declared.names.TheConstants.{LONGEST_MOMENT};
-ghost use Rattle.plan_explain.specs.Arcs.{before};
+ghost use Rattle.plan_explain.specs.{Added.Adds, Arcs.before};
 ghost use Rattle.plan_explain.specs.Chains.{AreAlong, length_from, reached_line, reached_lines};
 ghost use Rattle.plan_explain.specs.Holds.{bound_line, overdue_words, hold_words};
 ghost use Rattle.plan_explain.specs.RestChains.{IsRestChain, IsChainOrNone, AreRestChainLines};
+ghost use Rattle.people_names.specs.declared.names.TheConstants.{LONGEST_MOMENT};
 
 use crate::arcs::{ToldArc, told_arc};
-use crate::words::{Line, push_line, put_arc, put_node};
+use crate::words::{Line, push_line, put_arc, put_job, put_node};
 use cell_tables::WorkCell;
 use people_names::Names;
 use plan_verifier::{Hold, NodeBound, bound_after};
@@ -101,16 +100,10 @@ fn put_hold(line: &mut Line, names: &Names, holds: Hold)
             names.put_job(line, job);
             line.put_text(b"release of job ");
         }
-        Hold::Arrived { job } => {
-            line.put_text(b" has arrived");
-            names.put_job(line, job);
-            line.put_text(b"job ");
-        }
+        Hold::Arrived { job } => put_job(line, names, job, b" has arrived"),
         Hold::Done { job, machine } => {
             names.put_machine(line, machine);
-            line.put_text(b" done on machine ");
-            names.put_job(line, job);
-            line.put_text(b"job ");
+            put_job(line, names, job, b" done on machine ");
         }
         Hold::Worked {
             job,
@@ -144,9 +137,7 @@ fn put_operation(
     names.put_moment(line, since);
     line.put_text(b" since ");
     names.put_machine(line, machine);
-    line.put_text(b" on machine ");
-    names.put_job(line, job);
-    line.put_text(b"job ");
+    put_job(line, names, job, b" on machine ");
 }
 
 /// Writes `machine M cleaned since S for C`.

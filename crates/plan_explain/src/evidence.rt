@@ -3,8 +3,7 @@
 ghost use Rattle.std.specs.Prelude.{◌<◌, IfOk, IfSome, None};
 ghost use Rattle.shop_base.specs.Plan.{jobs};
 ghost use Rattle.people_names.specs.NameBooks.{no_names};
-ghost use Rattle.plan_verifier.specs.Seen.{judged};
-ghost use Rattle.plan_verifier.specs.Verdicts.{OnRefused, IsReason};
+ghost use Rattle.plan_verifier.specs.{Seen.judged, Verdicts.OnRefused, Verdicts.IsReason};
 ghost use Rattle.plan_explain.specs.Explained.{IsExplained};
 
 use crate::explaining::explain_after;

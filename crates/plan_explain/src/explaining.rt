@@ -1,19 +1,13 @@
 //! Why the rest of a run is accepted or refused.
 
 ghost use Rattle.std.specs.Prelude.{◌≡◌, ℕ, ◌<◌, ◌≤◌, ◌++◌, IfOk, IfSome, OnOk};
-ghost use Rattle.shop_base.specs.declared.limits.TheConstants.{MAX_MOMENT};
-ghost use Rattle.shop_base.specs.Plan.{jobs};
-ghost use Rattle.plan_explain.specs.Added.{Adds};
-ghost use Rattle.alt_graph.specs.Times.{AreRanks};
-ghost use Rattle.plan_verifier.specs.declared.verdict.Judged.TheVariants.{Refused};
-ghost use Rattle.plan_verifier.specs.Leavings.{leaves_in};
-ghost use Rattle.plan_verifier.specs.Rest.{AreOrderedAhead};
-ghost use Rattle.plan_verifier.specs.RestVerdicts.{IsReasonAhead};
-ghost use Rattle.plan_verifier.specs.Seen.{lent};
-ghost use Rattle.plan_explain.specs.RestChains.{IsChainOrNone};
+ghost use Rattle.shop_base.specs.{declared.limits.TheConstants.MAX_MOMENT, Plan.jobs};
+ghost use Rattle.plan_explain.specs.{Added.Adds, Explained.IsChosen, RestChains.IsChainOrNone};
 ghost use Rattle.plan_explain.specs.RestVerdicts.{IsRestJudged};
-ghost use Rattle.plan_explain.specs.RestExplained.{IsChainTo, IsChainToLastAhead, IsToldChainAhead, AreRestBehind, IsRestExplained};
+ghost use Rattle.plan_explain.specs.RestExplained.{IsChainTo, IsChainToLastAhead, AreRestBehind, IsRestExplained};
 ghost use Rattle.plan_explain.specs.ChainsFound.{AreLinesOf, IsFound};
+ghost use Rattle.alt_graph.specs.Times.{AreRanks};
+ghost use Rattle.plan_verifier.specs.{Leavings.leaves_in, Rest.AreOrderedAhead, Seen.lent};
 
 use crate::chains::push_chain_lines;
 use crate::cycles::push_cycle_lines;
@@ -73,42 +67,24 @@ fn push_lines_behind<P: Planned>(
             let chain = accepted_chain(alloc, cell, times, job)?;
             push_moment_lines(text, names, cell, present, times, &chain)
         }
-        Seen::Refused(why) => push_refused_lines(alloc, text, names, job, cell, present, why),
-    }
-}
-
-fn push_refused_lines<P: Planned>(
-    alloc: Global,
-    text: &mut Vec<u8>,
-    names: &Names,
-    job: Option<JobNo>,
-    cell: &WorkCell<P>,
-    present: Moment,
-    why: &Why,
-) -> Result<(), AllocError>
-    requires present { present ≤ MAX_MOMENT }
-    requires job { IfSome job (λ j. j < jobs cell.now.plan) }
-    requires reason { IsReasonAhead cell.now.plan cell.now.cell present (Refused why.now) }
-    ensures { let c = cell.now in
-        OnOk result (Adds (AreRestBehind names.now job c.plan c.cell present (Refused why.now)) text.old.items text.new.items) }
-{
-    match why {
-        Why::Cycle(nodes) => push_cycle_lines(text, names, cell.shaped(), nodes),
-        Why::Late {
-            job: _,
-            leaves,
-            chain,
-            times,
-        } => match job {
-            Some(job) => {
-                let asked = chain_to(alloc, cell, times, job)?;
-                push_moment_lines(text, names, cell, present, times, &asked)
-            }
-            None => {
-                // Read for its range alone: the chain is as long as a moment.
-                let _length = *leaves;
-                push_moment_lines(text, names, cell, present, times, chain)
-            }
+        Seen::Refused(why) => match why {
+            Why::Cycle(nodes) => push_cycle_lines(text, names, cell.shaped(), nodes),
+            Why::Late {
+                job: _,
+                leaves,
+                chain,
+                times,
+            } => match job {
+                Some(job) => {
+                    let asked = chain_to(alloc, cell, times, job)?;
+                    push_moment_lines(text, names, cell, present, times, &asked)
+                }
+                None => {
+                    // Read for its range alone: the chain is as long as a moment.
+                    let _length = *leaves;
+                    push_moment_lines(text, names, cell, present, times, chain)
+                }
+            },
         },
     }
 }
@@ -145,7 +121,7 @@ fn accepted_chain<P: Planned>(
     requires ranks { AreRanks cell.now.plan times.now }
     requires asked { IfSome asked (λ j. j < jobs cell.now.plan) }
     ensures { (t : ℕ) → let p = cell.now.plan in let c = cell.now.cell in
-        AreOrderedAhead p c t times.now → IfOk result (λ nodes. IsFound p c t times.now (IsToldChainAhead p c t asked (IsChainToLastAhead p c t)) nodes.items) }
+        AreOrderedAhead p c t times.now → IfOk result (λ nodes. IsFound p c t times.now (IsChosen (IsChainTo p c t) asked (IsChainToLastAhead p c t)) nodes.items) }
 {
     match asked {
         Some(job) => chain_to(alloc, cell, times, job),

@@ -1,11 +1,9 @@
 //! The first line of a verdict on a plan, or on the rest of a run.
 
 ghost use Rattle.std.specs.Prelude.{◌≡◌, ℕ, ◌++◌, IfOk, OnOk, codes, decimal};
-ghost use Rattle.shop_base.specs.NodeText.{node_text};
-ghost use Rattle.shop_base.specs.Plan.{jobs};
+ghost use Rattle.shop_base.specs.{NodeText.node_text, Plan.jobs};
 ghost use Rattle.alt_graph.specs.Times.{AreRanks};
-ghost use Rattle.plan_verifier.specs.Leavings.{leaves_in};
-ghost use Rattle.plan_verifier.specs.Seen.{lent};
+ghost use Rattle.plan_verifier.specs.{Leavings.leaves_in, Seen.lent};
 ghost use Rattle.plan_explain.specs.Added.{Adds};
 ghost use Rattle.plan_explain.specs.FirstLines.{node_words, moment_words, cycle_line, late_words, refused_late_line, refused_line, moments_below, IsAcceptedText, IsFirstLine};
 ghost use Rattle.plan_explain.specs.RestFirstLines.{IsLineByTimes, IsRestFirstLine};

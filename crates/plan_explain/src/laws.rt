@@ -8,12 +8,14 @@ ghost use Rattle.plan_explain.specs.LineLaws.{ArcsAreToldAsTheyAre, EachLineTell
 
 /// A job arc is shown by its job, the machine and the nominal time of its step. A blocking arc is shown by its machine,
 /// the job that leaves it, the one that enters and its cleaning time. The time shown is the length of the arc.
+#[tactic(auto, using(crate::proofs::LineLaws::arcs_told))]
 pub fn arcs_are_told_as_they_are()
     ensures { ArcsAreToldAsTheyAre }
 {}
 
 /// The line of a node after a path gives the length of the path up to it: the length of the path before, plus the arc
 /// between. So the moments never fall along a chain.
+#[tactic(auto, using(crate::proofs::LineLaws::each_line))]
 pub fn each_line_tells_the_path_up_to_it()
     ensures { EachLineTellsThePathUpToIt }
 {}
@@ -21,17 +23,20 @@ pub fn each_line_tells_the_path_up_to_it()
 /// The last line of a path is the line of the arc to its last node or, for a path of one node, of its job's release.
 /// Its moment is the path's length: for a late plan the moment at which the late job leaves, for an accepted one the
 /// makespan.
+#[tactic(auto, using(crate::proofs::LineLaws::last_line))]
 pub fn the_last_line_tells_the_length()
     ensures { TheLastLineTellsTheLength }
 {}
 
 /// The last line of a cycle is of the arc from its last node back to the first.
+#[tactic(auto, using(crate::proofs::LineLaws::cycle_closes))]
 pub fn the_lines_of_a_cycle_close()
     ensures { TheLinesOfACycleClose }
 {}
 
 /// Two lines that are the first line of one verdict are the same: so `check` and `explain` of a verdict begin with
 /// the same line.
+#[tactic(auto, using(crate::proofs::LineLaws::first_line_once))]
 pub fn a_verdict_has_one_first_line()
     ensures { AVerdictHasOneFirstLine }
 {}

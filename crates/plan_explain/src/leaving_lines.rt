@@ -5,11 +5,10 @@ ghost use Rattle.shop_base.specs.Plan.{jobs, budget};
 ghost use Rattle.alt_graph.specs.Times.{AreRanks};
 ghost use Rattle.people_names.specs.Words.{moment_word};
 ghost use Rattle.plan_verifier.specs.Leavings.{leaves_in};
-ghost use Rattle.plan_explain.specs.Arcs.{before};
-ghost use Rattle.plan_explain.specs.Leavings.{budget_words, margin_words, leaving_line};
-ghost use Rattle.plan_explain.specs.RestLeavings.{gone_line, rest_leaving_line, rest_leaving_lines};
+ghost use Rattle.plan_explain.specs.{Arcs.before, Leavings.budget_words, Leavings.margin_words};
+ghost use Rattle.plan_explain.specs.RestLeavings.{rest_leaving_line, rest_leaving_lines};
 
-use crate::words::{Line, push_line};
+use crate::words::{Line, push_job_at};
 use alt_graph::Times;
 use cell_tables::WorkCell;
 use people_names::Names;
@@ -35,7 +34,8 @@ pub(crate) fn push_leaving_lines<P: Planned>(
     Ok(())
 }
 
-/// Adds the line of a job: when it left, or when it leaves and what is left to its budget.
+/// Adds the line of a job: `job J left L budget B` of one that is gone; else `job J leaves L budget B slack S`, or `.. late D`
+/// where L is past B by D.
 fn push_job_line<P: Planned>(
     text: &mut Vec<u8>,
     names: &Names,
@@ -47,29 +47,13 @@ fn push_job_line<P: Planned>(
     ensures { OnOk result (text.new.items ≡ text.old.items ++ rest_leaving_line names.now cell.now.plan cell.now.cell job leaves) }
 {
     let budget = cell.shaped().budget_of(job);
-    if cell.step_count(job) < cell.job_state(job).made {
-        return push_gone_line(text, names, job, leaves, budget);
-    }
-    push_leaving_line(text, names, job, leaves, budget)
-}
-
-/// Adds `job J leaves L budget B slack S`, or `.. late D` where L is past B by D.
-fn push_leaving_line(
-    text: &mut Vec<u8>,
-    names: &Names,
-    job: JobNo,
-    leaves: Moment,
-    budget: Moment,
-) -> Result<(), AllocError>
-    ensures { OnOk result (text.new.items ≡ text.old.items ++ leaving_line names.now job leaves budget) }
-{
     let mut line = Line::ended();
+    if cell.step_count(job) < cell.job_state(job).made {
+        put_told_budget(&mut line, names, budget);
+        return push_job_at(text, names, &mut line, job, b" left ", leaves);
+    }
     put_margin(&mut line, names, leaves, budget);
-    names.put_moment(&mut line, leaves);
-    line.put_text(b" leaves ");
-    names.put_job(&mut line, job);
-    line.put_text(b"job ");
-    push_line(text, &line)
+    push_job_at(text, names, &mut line, job, b" leaves ", leaves)
 }
 
 /// Writes the budget, if it is told, and what is left to it, or by how much the leaving is past it.
@@ -99,25 +83,6 @@ fn put_budget(line: &mut Line, names: &Names, budget: Moment)
 {
     names.put_moment(line, budget);
     line.put_text(b" budget ");
-}
-
-/// Adds `job J left L budget B`, or `.. no budget` where it isn't told.
-fn push_gone_line(
-    text: &mut Vec<u8>,
-    names: &Names,
-    job: JobNo,
-    left: Moment,
-    budget: Moment,
-) -> Result<(), AllocError>
-    ensures { OnOk result (text.new.items ≡ text.old.items ++ gone_line names.now job left budget) }
-{
-    let mut line = Line::ended();
-    put_told_budget(&mut line, names, budget);
-    names.put_moment(&mut line, left);
-    line.put_text(b" left ");
-    names.put_job(&mut line, job);
-    line.put_text(b"job ");
-    push_line(text, &line)
 }
 
 /// Writes the budget, if it is told.

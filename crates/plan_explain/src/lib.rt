@@ -17,4 +17,4 @@ mod words;
 pub use evidence::{explain, explain_for};
 pub use explaining::explain_after;
 pub use first_lines::{first_line, first_line_after, push_cycle_line};
-pub use words::{LINE_ROOM, Line, push_line};
+pub use words::{LINE_ROOM, Line, push_job_at, push_line, put_job};

@@ -1,13 +1,14 @@
 //! Nodes and arcs in words, each before what a line has already.
 
-ghost use Rattle.std.specs.Prelude.{◌≡◌, ◌+◌, ◌≤◌, ◌++◌, length, OnOk};
+ghost use Rattle.std.specs.Prelude.{◌≡◌, ◌+◌, ◌≤◌, [], ◌∷◌, ◌++◌, length, codes, OnOk};
 ghost use Rattle.shop_base.specs.NodeText.{node_text};
+ghost use Rattle.people_names.specs.Words.{job_word, moment_word};
 ghost use Rattle.plan_explain.specs.Arcs.{before, clean_words, arc_words};
 ghost use Rattle.plan_explain.specs.declared.words.TheConstants.{LINE_ROOM};
 
 use crate::arcs::ToldArc;
 use people_names::Names;
-use shop_base::{Moment, Node};
+use shop_base::{JobNo, Moment, Node};
 use std::alloc::AllocError;
 
 /// The room of a line, in bytes.
@@ -26,6 +27,18 @@ pub(crate) fn put_node(line: &mut Line, node: Node)
     line.put_short_number(node.place);
     line.put_text(b".");
     line.put_short_number(node.job);
+}
+
+/// Writes `job J` and these words.
+#[inline(always)]
+pub fn put_job(line: &mut Line, names: &Names, job: JobNo, words: &[u8])
+    requires { 44 + length words.now + length line.old ≤ LINE_ROOM }
+    ensures written { line.new ≡ before (codes "job " ∷ job_word names.now job ∷ words.now ∷ []) line.old }
+    ensures length { length line.new ≤ 44 + length words.now + length line.old }
+{
+    line.put_text(words);
+    names.put_job(line, job);
+    line.put_text(b"job ");
 }
 
 /// Writes that the machine is cleaned, if it has a cleaning time.
@@ -56,9 +69,7 @@ pub(crate) fn put_arc(line: &mut Line, names: &Names, arc: ToldArc)
             line.put_number(nominal);
             line.put_text(b" for ");
             names.put_machine(line, machine);
-            line.put_text(b" on machine ");
-            names.put_job(line, job);
-            line.put_text(b"job ");
+            put_job(line, names, job, b" on machine ");
         }
         ToldArc::Blocking {
             machine,
@@ -75,6 +86,24 @@ pub(crate) fn put_arc(line: &mut Line, names: &Names, arc: ToldArc)
             line.put_text(b"machine ");
         }
     }
+}
+
+/// Adds `job J`, these words, the moment and what the line has; fails only when out of memory.
+pub fn push_job_at(
+    text: &mut Vec<u8>,
+    names: &Names,
+    line: &mut Line,
+    job: JobNo,
+    words: &[u8],
+    moment: Moment,
+) -> Result<(), AllocError>
+    requires { 73 + length words.now + length line.old ≤ LINE_ROOM }
+    ensures { OnOk result (text.new.items ≡ text.old.items
+        ++ before (codes "job " ∷ job_word names.now job ∷ words.now ∷ moment_word names.now moment ∷ []) line.old) }
+{
+    names.put_moment(line, moment);
+    put_job(line, names, job, words);
+    push_line(text, line)
 }
 
 /// Adds the line, and fails only when out of memory.

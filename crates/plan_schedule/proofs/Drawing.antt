@@ -1,5 +1,5 @@
 -- The visits of a run, one after another.
-use Rattle.std.proofs.Common.{◌≡◌, ℕ, zero, suc, subst, ◌+◌, ◌-◌, ◌<◌, ◌≤◌, List, [], ◌∷◌, ◌++◌, length, map, drop, drop-cons, get_or, Option, None, Some, MatchOption, refl, sym, ap, ◌∙◌, append-nil, append_assoc, add-one, arith}
+use Rattle.std.proofs.Common.{◌≡◌, ℕ, zero, suc, subst, ◌+◌, ◌-◌, ◌<◌, ◌≤◌, List, [], ◌∷◌, ◌++◌, length, map, drop, drop-cons, get_or, Option, None, Some, refl, sym, ap, ◌∙◌, append-nil, append_assoc, add-one, arith}
 use Rattle.std.specs.Prelude.{flat_map}
 use Rattle.std.specs.List.{range_with_len}
 use Rattle.std.proofs.lemmas.List.{map-id, flat_map_more, get_or_past}
@@ -17,11 +17,8 @@ use Rattle.shop_base.specs.Graph.{leaving}
 use Rattle.run_picture.specs.declared.visit.Cleaned.TheVariants.{By}
 use Rattle.run_picture.specs.declared.visit.DrawnVisit.{DrawnVisit}
 use Rattle.plan_schedule.specs.declared.lines.Cleaning.{Cleaning}
-use Rattle.plan_schedule.specs.Schedules.{HasNoCleaning, IsCleaning}
-use Rattle.alt_graph.specs.Times.{NodeTimes, earliest_of}
-use Rattle.alt_graph.specs.Latest.{NodeMoments}
-use Rattle.plan_schedule.specs.Calendars.{PlanCalendar, IsCalendarOf}
-use Rattle.plan_schedule.specs.DrawnVisits.{told_cleaning, cleaned_behind, drawn_visit, job_visits, place_behind, place_inside, cleaning_end, ended_visit, job_ahead, visits_ahead, leavings_by, TheRunOfTheStartIsDrawnAsThePlan}
+use Rattle.plan_schedule.specs.Schedules.{IsCleaningBehind}
+use Rattle.plan_schedule.specs.DrawnVisits.{told_cleaning, cleaned_behind, drawn_visit, job_visits, place_behind, place_inside, cleaning_end, job_ahead, visits_ahead, leavings_by, TheRunOfTheStartIsDrawnAsThePlan}
 
 range-more : (n : ℕ) → range_with_len 0 (n + 1) ≡ range_with_len 0 n ++ n ∷ []
 range-more n =
@@ -46,7 +43,7 @@ module _ (p : PlannedShop) (at : Node → ℕ) where
       sym (append-nil start) ∙ ap (λ (n : ℕ). start ++ job_visits p at j first n) (sym none)
 
   -- the cleaning behind a visit
-  pub behind : (due : Node → Option ℕ) (j k : ℕ) (found : Option Cleaning) → MatchOption found (HasNoCleaning p j k) (IsCleaning p at due j k)
+  pub behind : (due : Node → Option ℕ) (j k : ℕ) (found : Option Cleaning) → IsCleaningBehind p at due j k found
       → told_cleaning found ≡ cleaned_behind p at j k
   behind due j k None none = rw (eq-eqb (clean p (machine_of p j k)) 0 none) refl
   behind due j k (Some cleaning) is =
@@ -117,14 +114,9 @@ past_uncleaned p c t m sound past =
     let none = ap (λ (x : MachineState). x.cleaning) (get_or_past c.machines m unused (omega (arith, sound.machine_count, past))) in
     rw none refl
 
--- the visits of a calendar are those of its run
-pub run_visits : (p : PlannedShop) (c : Cell) (t : ℕ) (times : NodeTimes) (d : Option NodeMoments) (k : PlanCalendar) (start mid new told : List DrawnVisit) → IsCalendarOf p times d k
-    → start ≡ [] → mid ≡ start ++ map (ended_visit k.plan c t (earliest_of k.times)) told → new ≡ mid ++ visits_ahead k.plan c (earliest_of k.times) (jobs k.plan)
-    → new ≡ map (ended_visit p c t (earliest_of times)) told ++ visits_ahead p c (earliest_of times) (jobs p)
-run_visits p c t times d k start mid new told is none ended ahead =
-    let one : mid ≡ map (ended_visit k.plan c t (earliest_of k.times)) told = ended ∙ ap (λ (l : List DrawnVisit). l ++ map (ended_visit k.plan c t (earliest_of k.times)) told) none in
-    subst (λ (y : PlanCalendar). new ≡ map (ended_visit y.plan c t (earliest_of y.times)) told ++ visits_ahead y.plan c (earliest_of y.times) (jobs y.plan)) is
-    (ahead ∙ ap (λ (l : List DrawnVisit). l ++ visits_ahead k.plan c (earliest_of k.times) (jobs k.plan)) one)
+-- those that are told, and then those ahead
+pub run_visits : (start mid new told ahead : List DrawnVisit) → start ≡ [] → mid ≡ start ++ told → new ≡ mid ++ ahead → new ≡ told ++ ahead
+run_visits start mid new told ahead none ended added = added ∙ ap (λ (l : List DrawnVisit). l ++ ahead) (ended ∙ ap (λ (l : List DrawnVisit). l ++ told) none)
 
 -- ---- of a whole plan
 

@@ -167,13 +167,13 @@ module _ (p : PlannedShop) (rank moments : Node → ℕ) (shaped : IsWellShaped 
             (subst (λ (x : Cell). Path p nodes (node o.job (made x o.job)) (moments (next_node c o.job))) is path) in
             omega (arith, no_earlier, by.0)
 
-pub schedules_tell_the_exact_run-holds : SchedulesTellTheExactRun
-schedules_tell_the_exact_run-holds p rank moments due rs es end shaped ranks earliest run exact =
+pub exact_run_told : SchedulesTellTheExactRun
+exact_run_told p rank moments due rs es end shaped ranks earliest run exact =
     let events : IsRun p es = (controlled_to_run p rs es end shaped run).0 in
     behind_as_told p rank moments shaped ranks earliest due [] es (start p) refl events exact (start-sound p shaped) events exact
     (made_by p rank moments shaped ranks earliest rs es end run exact) (start_as_told p rank moments shaped ranks earliest)
 
-pub some_run_is_exact-holds : SomeRunIsExact
-some_run_is_exact-holds p rank moments shaped ranks earliest =
+pub some_exact_run : SomeRunIsExact
+some_exact_run p rank moments shaped ranks earliest =
     let (rs, es, end, goes, punctual, not_early, from, gone) = some_continuation_is_exact-holds p rank moments [] 0 tt (at_once p) (from_there p rank moments shaped ranks earliest) in
     (rs, es, end, ((the_start_is_a_case-holds p shaped).goes_on 0 rs es end).0 goes, reports_exact p (start p) es punctual not_early, gone)

@@ -1,6 +1,3 @@
-pub mod Moments
-pub mod Texts
-pub mod RestAdded
 pub mod Behind
 pub mod Drawing
 pub mod ExactRun

@@ -1,18 +1,29 @@
--- What a schedule is told by: a plan, its earliest moments, and its deadlines where it is accepted.
-use Rattle.std.specs.Prelude.{◌≡◌, ℕ, ◌+◌, ◌*◌, ◌≤◌, Option, None, Some, IfSome}
+-- What a schedule is told by: a plan and the cell of a run by it, the present moment, the earliest moments, and the deadlines where the rest is accepted.
+use Rattle.std.specs.Prelude.{ℕ, ◌+◌, ◌*◌, ◌≤◌, Option, None, Some, IfSome, List}
 use Rattle.shop_base.specs.declared.node.Node.{Node}
-use Rattle.shop_base.specs.declared.limits.TheConstants.{MAX_JOBS, MAX_MACHINES, MAX_NOMINAL}
+use Rattle.shop_base.specs.declared.limits.TheConstants.{MAX_MOMENT, MAX_JOBS, MAX_MACHINES, MAX_NOMINAL}
 use Rattle.shop_base.specs.Plan.{PlannedShop}
+use Rattle.shop_base.specs.Cell.{Cell}
 use Rattle.shop_base.specs.Graph.{IsNode}
+use Rattle.shop_base.specs.Ahead.{IsAhead}
 use Rattle.alt_graph.specs.Bounds.{MAX_BOUND}
 use Rattle.alt_graph.specs.Times.{NodeTimes, earliest_of, AreRanks}
 use Rattle.alt_graph.specs.Latest.{NodeMoments, HasMoment, moment_of}
+use Rattle.people_names.specs.NameBooks.{NameBook}
+use Rattle.plan_schedule.specs.declared.lines.Visit.{Visit}
+use Rattle.plan_schedule.specs.Schedules.{IsVisitText}
+use Rattle.plan_schedule.specs.RestSchedules.{IsRestJobText, IsCleanedText}
 
--- the moments of a plan, and its deadlines, if it has any
+-- the moments of the rest of a run, and its deadlines, if it has any
 pub record PlanCalendar : Type 0 where
   pub plan : PlannedShop
+  pub cell : Cell
+  pub present : ℕ
   pub times : NodeTimes
   pub deadlines : Option NodeMoments
+
+abbrev pub calendar_of : PlannedShop → Cell → ℕ → NodeTimes → Option NodeMoments → PlanCalendar
+calendar_of p c t times deadlines = record { plan = p; cell = c; present = t; times = times; deadlines = deadlines }
 
 -- what is seen of a value, if there is one
 abbrev pub seen : {R T : Type 0} → Option R → (R → T) → Option T
@@ -24,9 +35,13 @@ abbrev pub due_in : Option NodeMoments → Node → Option ℕ
 due_in None v = None
 due_in (Some deadlines) v = Some (moment_of deadlines v)
 
+-- the earliest moment of a node of the calendar
+abbrev pub at_of : PlanCalendar → Node → ℕ
+at_of k = earliest_of k.times
+
 -- the deadline of a node of the calendar
 abbrev pub due_at : PlanCalendar → Node → Option ℕ
-due_at c v = due_in c.deadlines v
+due_at k = due_in k.deadlines
 
 -- there are no deadlines, or one for each node of the shop
 abbrev pub HasDeadlines : PlannedShop → Option NodeMoments → Type 0
@@ -36,15 +51,20 @@ HasDeadlines p deadlines = IfSome deadlines (λ moments. (v : Node) → IsNode p
 abbrev pub the_last_moment : ℕ
 the_last_moment = MAX_BOUND + MAX_NOMINAL * (MAX_JOBS + MAX_JOBS * MAX_MACHINES)
 
--- there is a moment for each node, and a deadline for each, or for none
-pub record IsCalendar (c : PlanCalendar) : Type 0 where
-  pub ranks : AreRanks c.plan c.times
-  pub dues : HasDeadlines c.plan c.deadlines
+-- there is a moment for each node, none ahead is later than that one, and a deadline for each, or for none
+pub record IsCalendar (k : PlanCalendar) : Type 0 where
+  pub ranks : AreRanks k.plan k.times
+  pub dues : HasDeadlines k.plan k.deadlines
+  pub present : k.present ≤ MAX_MOMENT
+  pub soon : (v : Node) → IsNode k.plan v → IsAhead k.cell v → earliest_of k.times v ≤ the_last_moment
 
--- the calendar of this plan, with these moments and deadlines
-abbrev pub IsCalendarOf : PlannedShop → NodeTimes → Option NodeMoments → PlanCalendar → Type 0
-IsCalendarOf p times deadlines c = c ≡ record { plan = p; times = times; deadlines = deadlines }
+-- the lines of a visit, of a job and of the cleaning of a machine, by a calendar
+module _ (names : NameBook) (k : PlanCalendar) where
+  abbrev pub IsVisitTextBy : List ℕ → Visit → ℕ → List ℕ → Type 0
+  IsVisitTextBy = IsVisitText names k.plan (at_of k) (due_at k)
 
--- the moment of the node isn't later
-abbrev pub IsSoon : PlanCalendar → Node → Type 0
-IsSoon c v = earliest_of c.times v ≤ the_last_moment
+  abbrev pub IsJobTextBy : ℕ → List ℕ → Type 0
+  IsJobTextBy = IsRestJobText names k.plan k.cell k.present (at_of k) (due_at k)
+
+  abbrev pub IsCleanedTextBy : ℕ → List ℕ → Type 0
+  IsCleanedTextBy = IsCleanedText names k.plan k.cell k.present (due_at k)

@@ -1,5 +1,5 @@
 -- The visits of a run, as a picture draws them: those that are told so far, and those ahead.
-use Rattle.std.specs.Prelude.{◌≡◌, ℕ, zero, suc, ◌+◌, ◌-◌, ◌<◌, ◌==◌, nat_le, max, if◌then◌else◌, List, [], ◌++◌, map, flat_map, Option, None, Some, unwrap_or}
+use Rattle.std.specs.Prelude.{◌≡◌, ℕ, zero, suc, ◌+◌, ◌-◌, ◌<◌, ◌==◌, nat_le, if◌then◌else◌, List, [], ◌++◌, map, flat_map, Option, None, Some, unwrap_or}
 use Rattle.std.specs.List.{range_with_len}
 use Rattle.shop_base.specs.declared.node.Node.{Node}
 use Rattle.shop_base.specs.Plan.{PlannedShop, jobs, steps, machine_of, nominal, clean, IsWellShaped}
@@ -11,6 +11,7 @@ use Rattle.run_picture.specs.declared.visit.DrawnVisit.{DrawnVisit}
 use Rattle.plan_schedule.specs.declared.lines.Cleaning.{Cleaning}
 use Rattle.plan_schedule.specs.declared.picture_visits.DrawnRun.{DrawnRun}
 use Rattle.plan_schedule.specs.Scheduled.{AreEarliest}
+use Rattle.plan_schedule.specs.RestSchedules.{operation_end, cleaned_by}
 use Rattle.plan_schedule.specs.RestScheduled.{AreRestMoments}
 
 -- the end of a cleaning, if there is one
@@ -56,14 +57,10 @@ module _ (p : PlannedShop) (c : Cell) where
   place_inside j = if nat_le (made c j) (steps p j) then place_behind (made c j) else None
 
 module _ (p : PlannedShop) (c : Cell) (t : ℕ) where
-  -- when the operation that job j is in by its step k ends: when it is due, or at the present moment t where it is overdue
-  abbrev pub operation_end : ℕ → ℕ → ℕ
-  operation_end j k = max (since c j + nominal p j k) t
-
-  -- when the cleaning of machine m that goes on since a moment ends: when it is due, or at the present moment where it is overdue
+  -- when the cleaning of machine m ends that goes on since a moment, if one does
   abbrev pub end_since : ℕ → Option ℕ → Option ℕ
   end_since m None = None
-  end_since m (Some s) = Some (max (s + clean p m) t)
+  end_since m (Some from) = Some (cleaned_by p c t m from)
 
   -- when the cleaning of machine m that goes on ends, if one does
   abbrev pub cleaning_end : ℕ → Option ℕ

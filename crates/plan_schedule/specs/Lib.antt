@@ -12,4 +12,3 @@ pub mod RestScheduled
 pub mod StartSchedule
 -- Of proofs and private contracts alone.
 pub mod Calendars
-pub mod SoonAhead

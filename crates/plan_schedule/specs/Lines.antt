@@ -27,9 +27,10 @@ module _ (names : NameBook) where
       ending_words visit (before (codes " leaves " ∷ moment_word names visit.leaves ∷ []) (codes "\n"))
       )
 
-  -- `machine M cleaned from L to C by D`, where these words say when it begins
-  abbrev pub cleaning_line : List ℕ → Cleaning → List ℕ
-  cleaning_line begins cleaning =
+  -- `machine M cleaned from L to C by D`, where these words say when it begins; nothing where there is no cleaning
+  abbrev pub cleaning_line : List ℕ → Option Cleaning → List ℕ
+  cleaning_line begins None = []
+  cleaning_line begins (Some cleaning) =
       before (codes "machine " ∷ machine_word names cleaning.machine ∷ begins ∷ moment_word names cleaning.from ∷ codes " to " ∷ moment_word names cleaning.to ∷ []) (
       before (due_words cleaning.due) (codes "\n")
       )

@@ -1,10 +1,11 @@
 -- Which lines a schedule has, by the moment of each node in the exact run, and its deadline where there is one.
-use Rattle.std.specs.Prelude.{◌≡◌, ℕ, false, ◌+◌, ◌<◌, ◌⊎◌, List, [], ◌++◌, codes, Option, None, Some}
+use Rattle.std.specs.Prelude.{◌≡◌, ℕ, false, ◌+◌, ◌<◌, List, [], codes, Option, None, Some, MatchOption}
 use Rattle.shop_base.specs.declared.node.Node.{Node}
 use Rattle.shop_base.specs.Plan.{PlannedShop, jobs, steps, machine_of, nominal, release, clean}
 use Rattle.shop_base.specs.Graph.{node}
 use Rattle.people_names.specs.NameBooks.{NameBook}
 use Rattle.alt_graph.specs.Sources.{IsBlockingArc, IsTarget}
+use Rattle.plan_explain.specs.Parts.{AreBoth, AreTextsFrom}
 use Rattle.plan_schedule.specs.declared.lines.Visit.{Visit}
 use Rattle.plan_schedule.specs.declared.lines.Cleaning.{Cleaning}
 use Rattle.plan_schedule.specs.Lines.{arrival_line, visit_line, cleaning_line}
@@ -43,29 +44,27 @@ module _ (p : PlannedShop) (at : Node → ℕ) (due : Node → Option ℕ) where
     pub ends : cleaning.to ≡ at (node j (k + 1)) + clean p (machine_of p j k)
     pub deadline : IsCleaningDue p due (node j (k + 1)) cleaning.due
 
+  -- it is there just where the machine has a cleaning time
+  abbrev pub IsCleaningBehind : ℕ → ℕ → Option Cleaning → Type 0
+  IsCleaningBehind j k cleaning = MatchOption cleaning (HasNoCleaning p j k) (IsCleaning j k)
+
 module _ (names : NameBook) (p : PlannedShop) (at : Node → ℕ) (due : Node → Option ℕ) where
-  -- the line behind the visit of job j by its step k: none where the machine has no cleaning time, else that of its cleaning
+  -- the line of the cleaning behind the visit of job j by its step k, if there is one
   abbrev pub IsCleaningText : ℕ → ℕ → List ℕ → Type 0
-  IsCleaningText j k text = (HasNoCleaning p j k × (text ≡ [])) ⊎ ((cleaning : Cleaning) × IsCleaning p at due j k cleaning × (text ≡ cleaning_line names (codes " cleaned from ") cleaning))
+  IsCleaningText j k text = (cleaning : Option Cleaning) × IsCleaningBehind p at due j k cleaning × (text ≡ cleaning_line names (codes " cleaned from ") cleaning)
 
   -- the lines of a visit by its job's step k, where these words say when it begins: its own, and that of the cleaning behind it
   abbrev pub IsVisitText : List ℕ → Visit → ℕ → List ℕ → Type 0
-  IsVisitText begins visit k text = (behind : List ℕ) × IsCleaningText visit.job k behind × (text ≡ visit_line names begins visit ++ behind)
+  IsVisitText begins visit k = AreBoth (λ line. line ≡ visit_line names begins visit) (IsCleaningText visit.job k)
 
   -- the lines of job j's visits from one place of its route up to another
-  pub data AreVisitsFrom (j first : ℕ) : ℕ → List ℕ → Type 0 where
-    no_visit : AreVisitsFrom j first first []
-    next_visit : (k : ℕ) (text more : List ℕ) → AreVisitsFrom j first k text → IsVisitText (codes " from ") (visit_of p at due j k) k more → AreVisitsFrom j first (k + 1) (text ++ more)
+  abbrev pub AreVisitsFrom : ℕ → ℕ → ℕ → List ℕ → Type 0
+  AreVisitsFrom j = AreTextsFrom (λ k. IsVisitText (codes " from ") (visit_of p at due j k) k)
 
   -- the lines of job j
   abbrev pub IsJobText : ℕ → List ℕ → Type 0
-  IsJobText j text = (visits : List ℕ) × AreVisitsFrom j 0 (steps p j) visits × (text ≡ arrival_line names j (release p j) (due (node j 0)) ++ visits)
+  IsJobText j = AreBoth (λ line. line ≡ arrival_line names j (release p j) (due (node j 0))) (AreVisitsFrom j 0 (steps p j))
 
-  -- the lines of the first jobs, ascending
-  pub data AreJobTexts : ℕ → List ℕ → Type 0 where
-    no_job : AreJobTexts 0 []
-    next_job : (j : ℕ) (text more : List ℕ) → AreJobTexts j text → IsJobText j more → AreJobTexts (j + 1) (text ++ more)
-
-  -- the lines of all jobs
+  -- the lines of all jobs, ascending
   abbrev pub AreScheduleLines : List ℕ → Type 0
-  AreScheduleLines text = AreJobTexts (jobs p) text
+  AreScheduleLines = AreTextsFrom IsJobText 0 (jobs p)

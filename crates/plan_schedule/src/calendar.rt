@@ -1,63 +1,96 @@
 //! The moments that a schedule shows.
 
-ghost use Rattle.std.specs.Prelude.{◌≡◌, ◌+◌, ◌<◌, ◌≤◌, IfOk, MatchOption};
-ghost use Rattle.shop_base.specs.Shop.{step_at};
-ghost use Rattle.shop_base.specs.Plan.{jobs, steps, route};
-ghost use Rattle.shop_base.specs.Graph.{IsNode, node};
-ghost use Rattle.alt_graph.specs.Times.{AreRanks, earliest_of};
-ghost use Rattle.plan_schedule.specs.Schedules.{visit_of, IsCleaning, IsCleaningDue, HasNoCleaning};
-ghost use Rattle.plan_schedule.specs.Calendars.{IsCalendar, IsCalendarOf, IsSoon, seen, due_at, HasDeadlines};
+ghost use Rattle.std.specs.Prelude.{◌≡◌, ℕ, ◌+◌, ◌<◌, ◌≤◌, max, IfOk, IfSome};
+ghost use Rattle.shop_base.specs.{declared.limits.TheConstants.MAX_MOMENT, Report.IsNextMoment, Shop.step_at};
+ghost use Rattle.shop_base.specs.Plan.{jobs, machines, steps, route, release, Visits};
+ghost use Rattle.shop_base.specs.{Cell.job_in, Cell.made, Cell.cleaning, Graph.IsNode, Sound.IsSound};
+ghost use Rattle.alt_graph.specs.Sources.{IsBlockingArc, IsTarget};
+ghost use Rattle.plan_verifier.specs.Rest.{AreOrderedAhead};
+ghost use Rattle.plan_schedule.specs.Schedules.{visit_of, IsCleaningDue, IsCleaningBehind};
+ghost use Rattle.plan_schedule.specs.RestSchedules.{operation_end, cleaned_by, entered_of, IsNextDue, IsCleaningOn};
+ghost use Rattle.plan_schedule.specs.Calendars.{IsCalendar, calendar_of, seen, at_of, due_at, HasDeadlines};
 
 use crate::lines::{Cleaning, Visit};
 use alt_graph::{Deadlines, Graph, Times};
-use shop_base::{JobNo, Moment, Node, Shaped, Step};
+use cell_tables::WorkCell;
+use plan_verifier::cleanings_in_range;
+use shop_base::{JobNo, JobState, MachineNo, Moment, Node, Planned, Step};
 use std::alloc::{AllocError, Global};
 use std::marker::Model;
 
-/// A plan without a cycle, with a moment for each of its nodes, as in the exact run, and its deadlines if it is
-/// accepted. Or the same for the rest of a run; its passed nodes have moments that no line shows.
+/// The rest of a run from a cell and the present moment on, with the earliest moment of each node ahead, and its deadlines
+/// if it is accepted. Passed nodes have moments that no line shows.
 #[derive(Drop)]
-pub(crate) struct Calendar<'a> {
+pub(crate) struct Calendar<'a, P: Planned> {
+    cell: &'a WorkCell<P>,
+    present: Moment,
     graph: Graph<'a>,
     times: &'a Times,
     deadlines: Option<&'a Deadlines>,
 }
 
-impl<'a> Model for Calendar<'a> {
-    ghost use Rattle.plan_schedule.specs.Calendars.{PlanCalendar, IsCalendar, seen};
+impl<'a, P: Planned> Model for Calendar<'a, P> {
+    ghost use Rattle.std.specs.Prelude.{◌≡◌};
+    ghost use Rattle.plan_schedule.specs.Calendars.{PlanCalendar, IsCalendar, calendar_of, seen};
 
     ghost Value = { PlanCalendar };
 
-    ghost view = { λ c. record { plan = c.graph.plan; times = c.times.now; deadlines = seen c.deadlines (λ d. d.now) } };
+    ghost view = { λ c. calendar_of c.cell.now.plan c.cell.now.cell c.present c.times.now (seen c.deadlines (λ d. d.now)) };
 
-    ghost invariant = { λ c. IsCalendar (record { plan = c.graph.plan; times = c.times.now; deadlines = seen c.deadlines (λ d. d.now) }) };
+    ghost invariant = { λ c. (c.graph.plan ≡ c.cell.now.plan) × IsCalendar (calendar_of c.cell.now.plan c.cell.now.cell c.present c.times.now (seen c.deadlines (λ d. d.now))) };
 }
 
-impl<'a> Calendar<'a> {
-    /// The calendar of a plan by these moments and deadlines. Fails only when out of memory.
+impl<'a, P: Planned> Calendar<'a, P> {
+    /// The calendar of the rest of a run by these moments and deadlines. Fails only when out of memory.
     pub(crate) fn new(
         alloc: Global,
-        shaped: &'a Shaped,
+        cell: &'a WorkCell<P>,
+        present: Moment,
         times: &'a Times,
         deadlines: Option<&'a Deadlines>,
-    ) -> Result<Calendar<'a>, AllocError>
-        requires ranks { AreRanks shaped.now times.now }
-        requires deadlines { HasDeadlines shaped.now (seen deadlines (λ d. d.now)) }
-        ensures { IfOk result (IsCalendarOf shaped.now times.now (seen deadlines.entry (λ d. d.now))) }
+    ) -> Result<Calendar<'a, P>, AllocError>
+        requires present { IsNextMoment cell.now.cell present }
+        requires ordered { AreOrderedAhead cell.now.plan cell.now.cell present times.now }
+        requires deadlines { HasDeadlines cell.now.plan (seen deadlines (λ d. d.now)) }
+        ensures { IfOk result (λ k. k ≡ calendar_of cell.now.plan cell.now.cell present times.now (seen deadlines.entry (λ d. d.now))) }
     {
-        let graph = Graph::new(alloc, shaped)?;
+        // Called for its clause alone: sums with these moments fit.
+        cleanings_in_range(cell);
+        let graph = Graph::new(alloc, cell.shaped())?;
         Ok(Calendar {
+            cell,
+            present,
             graph,
             times,
             deadlines,
         })
     }
 
+    fn cell(&self) -> &'a WorkCell<P>
+        ensures plan { result.now.plan ≡ self.now.plan }
+        ensures cell { result.now.cell ≡ self.now.cell }
+    {
+        self.cell
+    }
+
     /// How many jobs there are.
     pub(crate) fn jobs(&self) -> u32
-        ensures { result ≡ jobs self.now.plan }
+        ensures count { result ≡ jobs self.now.plan }
+        ensures sound { IsSound self.now.plan self.now.cell }
     {
-        self.graph.shaped().job_count()
+        // Called for its clause alone: the cell is sound.
+        let _plan = self.cell.shaped();
+        self.cell.job_count()
+    }
+
+    /// How many machines there are.
+    pub(crate) fn machines(&self) -> u32
+        ensures count { result ≡ machines self.now.plan }
+        ensures sound { IsSound self.now.plan self.now.cell }
+    {
+        // Called for its clause alone: the cell is sound.
+        let _plan = self.cell.shaped();
+        self.cell.machine_count()
     }
 
     /// How many steps the job has.
@@ -65,15 +98,36 @@ impl<'a> Calendar<'a> {
         requires { job < jobs self.now.plan }
         ensures { result ≡ steps self.now.plan job }
     {
-        self.graph.shaped().step_count(job)
+        self.cell.step_count(job)
     }
 
-    /// The job's visit by the step at a place of its route.
+    /// The state of the job.
+    pub(crate) fn state(&self, job: JobNo) -> JobState
+        requires { job < jobs self.now.plan }
+        ensures state { result ≡ job_in self.now.cell job }
+        ensures made { result.made ≡ made self.now.cell job }
+        ensures early { result.since ≤ MAX_MOMENT }
+    {
+        // Called for its clause alone: the cell is sound.
+        let _plan = self.cell.shaped();
+        self.cell.job_state(job)
+    }
+
+    /// When the job arrives that hasn't yet: at its release, or at the present moment where that is past.
+    pub(crate) fn arrival(&self, job: JobNo) -> Moment
+        requires { job < jobs self.now.plan }
+        ensures { result ≡ max (release self.now.plan job) self.now.present }
+    {
+        self.cell.shaped().release_of(job).max(self.present)
+    }
+
+    /// The job's visit ahead by the step at a place of its route.
+    #[inline(always)]
     pub(crate) fn visit(&self, job: JobNo, place: u32) -> Visit
         requires job { job < jobs self.now.plan }
         requires place { place < steps self.now.plan job }
-        requires soon { IsSoon self.now (node job place) }
-        ensures { let c = self.now in result ≡ visit_of c.plan (earliest_of c.times) (due_at c) job place }
+        requires ahead { made self.now.cell job ≤ place }
+        ensures { let k = self.now in result ≡ visit_of k.plan (at_of k) (due_at k) job place }
     {
         let step = self.step(job, place);
         let from = self.at(Node { job, place });
@@ -92,15 +146,51 @@ impl<'a> Calendar<'a> {
         }
     }
 
-    /// The cleaning after that visit, if the machine has a cleaning time.
+    /// The visit that the job is in, by the step at a place of its route.
+    pub(crate) fn entered(&self, job: JobNo, place: u32) -> Visit
+        requires job { job < jobs self.now.plan }
+        requires place { place < steps self.now.plan job }
+        ensures { let k = self.now in result ≡ entered_of k.plan k.cell k.present (at_of k) (due_at k) job place }
+    {
+        let state = self.state(job);
+        let step = self.step(job, place);
+        let left = Node {
+            job,
+            place: place + 1,
+        };
+        Visit {
+            job,
+            machine: step.machine,
+            from: state.since,
+            to: self.operation_end(job, place),
+            due: self.due(left),
+            done: state.ready,
+            leaves: self.at(left),
+        }
+    }
+
+    /// When the operation that the job is in ends, by the step at this place: when it is due, or at the present moment.
+    pub(crate) fn operation_end(&self, job: JobNo, place: u32) -> Moment
+        requires job { job < jobs self.now.plan }
+        requires place { place < steps self.now.plan job }
+        ensures { let k = self.now in result ≡ operation_end k.plan k.cell k.present job place }
+    {
+        let state = self.state(job);
+        let step = self.step(job, place);
+        let due = state.since + step.nominal;
+        due.max(self.present)
+    }
+
+    /// The cleaning after the job's visit by the step at this place, if the machine has a cleaning time.
+    #[inline(always)]
     pub(crate) fn cleaning(&self, job: JobNo, place: u32) -> Option<Cleaning>
         requires job { job < jobs self.now.plan }
         requires place { place < steps self.now.plan job }
-        requires soon { IsSoon self.now (node job (place + 1)) }
-        ensures { let c = self.now in MatchOption result (HasNoCleaning c.plan job place) (IsCleaning c.plan (earliest_of c.times) (due_at c) job place) }
+        requires ahead { made self.now.cell job ≤ place + 1 }
+        ensures { let k = self.now in IsCleaningBehind k.plan (at_of k) (due_at k) job place result }
     {
         let machine = self.step(job, place).machine;
-        let time = self.graph.shaped().clean_of(machine);
+        let time = self.cell.shaped().clean_of(machine);
         if time == 0 {
             return None;
         }
@@ -119,10 +209,65 @@ impl<'a> Calendar<'a> {
 
     /// The deadline of the cleaning after a node by which its job leaves a machine, if another job waits for it.
     fn cleaning_due(&self, left: Node) -> Option<Moment>
-        ensures { let c = self.now in IsCleaningDue c.plan (due_at c) left result }
+        ensures { let k = self.now in IsCleaningDue k.plan (due_at k) left result }
     {
-        match self.graph.blocking_target(left) {
+        match self.next_entry(left) {
             Some(next) => self.due(next),
+            None => None,
+        }
+    }
+
+    /// The node by which the next job in the order enters the machine that is left by this node, if there is one.
+    fn next_entry(&self, left: Node) -> Option<Node>
+        ensures { IsTarget (IsBlockingArc self.now.plan) left result }
+    {
+        self.graph.blocking_target(left)
+    }
+
+    /// The cleaning of the machine that goes on, if it is being cleaned.
+    pub(crate) fn cleaning_on(&self, machine: MachineNo) -> Option<Cleaning>
+        requires { machine < machines self.now.plan }
+        ensures { let k = self.now in IsCleaningOn k.plan k.cell k.present (due_at k) machine result }
+    {
+        let from = self.cleaned_since(machine)?;
+        Some(Cleaning {
+            machine,
+            from,
+            to: self.cleaned_by(machine, from),
+            due: self.next_due(machine),
+        })
+    }
+
+    fn cleaned_since(&self, machine: MachineNo) -> Option<Moment>
+        requires { machine < machines self.now.plan }
+        ensures since { result ≡ cleaning self.now.cell machine }
+        ensures early { IfSome result (λ since. since ≤ MAX_MOMENT) }
+    {
+        self.cell.cleaned_since(machine)
+    }
+
+    /// When the cleaning of the machine ends that goes on since a moment: when it is due, or at the present moment.
+    fn cleaned_by(&self, machine: MachineNo, since: Moment) -> Moment
+        requires machine { machine < machines self.now.plan }
+        requires since { since ≤ MAX_MOMENT }
+        ensures { let k = self.now in result ≡ cleaned_by k.plan k.cell k.present machine since }
+    {
+        (since + self.cell.shaped().clean_of(machine)).max(self.present)
+    }
+
+    /// The deadline of the entry of the machine by the next job in its order, if there is one, and the rest is accepted.
+    fn next_due(&self, machine: MachineNo) -> Option<Moment>
+        requires { machine < machines self.now.plan }
+        ensures { let k = self.now in IsNextDue k.plan k.cell (due_at k) machine result }
+    {
+        let cell = self.cell();
+        // Called for its clause alone: the plan is well shaped.
+        let _plan = cell.shaped();
+        match cell.next_on(machine) {
+            Some(job) => {
+                let place = place_on(cell, job, machine);
+                self.due(Node { job, place })
+            }
             None => None,
         }
     }
@@ -133,7 +278,7 @@ impl<'a> Calendar<'a> {
         ensures step { result ≡ step_at (route self.now.plan job) place }
         ensures calendar { IsCalendar self.now }
     {
-        match self.graph.shaped().step_of(job, place) {
+        match self.cell.shaped().step_of(job, place) {
             Some(step) => step,
             None => unreachable!(),
         }
@@ -142,7 +287,7 @@ impl<'a> Calendar<'a> {
     /// The moment of the node's move, in time units.
     pub(crate) fn at(&self, node: Node) -> Moment
         requires { IsNode self.now.plan node }
-        ensures { result ≡ earliest_of self.now.times node }
+        ensures { result ≡ at_of self.now node }
     {
         match self.times.earliest(node) {
             Some(moment) => moment,
@@ -150,7 +295,7 @@ impl<'a> Calendar<'a> {
         }
     }
 
-    /// The node's deadline, if the plan is accepted.
+    /// The node's deadline, if the rest is accepted.
     pub(crate) fn due(&self, node: Node) -> Option<Moment>
         requires { IsNode self.now.plan node }
         ensures { result ≡ due_at self.now node }
@@ -160,4 +305,18 @@ impl<'a> Calendar<'a> {
             None => None,
         }
     }
+}
+
+/// The place of the job's step on the machine.
+fn place_on<P: Planned>(cell: &WorkCell<P>, job: JobNo, machine: MachineNo) -> u32
+    requires job { job < jobs cell.now.plan }
+    requires visits { (k : ℕ) × Visits cell.now.plan job k machine }
+    ensures { Visits cell.now.plan job result machine }
+{
+    for place in 0..cell.step_count(job) {
+        if cell.machine_at(job, place) == Some(machine) {
+            return place;
+        }
+    }
+    unreachable!()
 }

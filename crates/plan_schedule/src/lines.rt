@@ -5,7 +5,7 @@ ghost use Rattle.plan_explain.specs.Arcs.{before};
 ghost use Rattle.plan_schedule.specs.Lines.{due_words, arrival_line, ending_words, visit_line, cleaning_line, left_line, arrived_line};
 
 use people_names::Names;
-use plan_explain::{Line, push_line};
+use plan_explain::{Line, push_job_at, push_line, put_job};
 use shop_base::{JobNo, MachineNo, Moment};
 use std::alloc::AllocError;
 
@@ -43,15 +43,12 @@ pub(crate) fn push_arrival_line(
 {
     let mut line = Line::ended();
     put_due(&mut line, names, due);
-    names.put_moment(&mut line, release);
-    line.put_text(b" arrives ");
-    names.put_job(&mut line, job);
-    line.put_text(b"job ");
-    push_line(text, &line)
+    push_job_at(text, names, &mut line, job, b" arrives ", release)
 }
 
 /// Adds `job J on machine M from E to F by D leaves L`; of a visit that the job is in `.. since E to F by D leaves L`, or
 /// `.. since E done leaves L`.
+#[inline(always)]
 pub(crate) fn push_visit_line(
     text: &mut Vec<u8>,
     names: &Names,
@@ -68,13 +65,12 @@ pub(crate) fn push_visit_line(
     names.put_moment(&mut line, visit.from);
     line.put_text(begins);
     names.put_machine(&mut line, visit.machine);
-    line.put_text(b" on machine ");
-    names.put_job(&mut line, visit.job);
-    line.put_text(b"job ");
+    put_job(&mut line, names, visit.job, b" on machine ");
     push_line(text, &line)
 }
 
 /// Writes when the operation ends, or that it is done.
+#[inline(always)]
 fn put_ending(line: &mut Line, names: &Names, visit: Visit)
     requires { length line.old ≤ 60 }
     ensures written { line.new ≡ ending_words names.now visit line.old }
@@ -89,16 +85,19 @@ fn put_ending(line: &mut Line, names: &Names, visit: Visit)
     }
 }
 
-/// Adds `machine M cleaned from L to C by D`, or `.. since L to C by D` if the cleaning goes on.
+/// Adds `machine M cleaned from L to C by D`, or `.. since L to C by D` if the cleaning goes on; nothing if there is none.
 pub(crate) fn push_cleaning_line(
     text: &mut Vec<u8>,
     names: &Names,
     begins: &[u8],
-    cleaning: Cleaning,
+    cleaning: Option<Cleaning>,
 ) -> Result<(), AllocError>
     requires { length begins.now ≤ 20 }
     ensures { OnOk result (text.new.items ≡ text.old.items ++ cleaning_line names.now begins.now cleaning) }
 {
+    let Some(cleaning) = cleaning else {
+        return Ok(());
+    };
     let mut line = Line::ended();
     put_due(&mut line, names, cleaning.due);
     names.put_moment(&mut line, cleaning.to);
@@ -111,6 +110,7 @@ pub(crate) fn push_cleaning_line(
 }
 
 /// Writes the deadline, if there is one to tell.
+#[inline(always)]
 fn put_due(line: &mut Line, names: &Names, due: Option<Moment>)
     requires { length line.old ≤ 60 }
     ensures written { line.new ≡ before (due_words names.now due) line.old }
@@ -121,6 +121,7 @@ fn put_due(line: &mut Line, names: &Names, due: Option<Moment>)
     }
 }
 
+#[inline(always)]
 fn put_deadline(line: &mut Line, names: &Names, deadline: Moment)
     requires { length line.old ≤ 60 }
     ensures written { line.new ≡ before (due_words names.now (Some deadline)) line.old }
@@ -142,11 +143,7 @@ pub(crate) fn push_left_line(
     ensures { OnOk result (text.new.items ≡ text.old.items ++ left_line names.now job left) }
 {
     let mut line = Line::ended();
-    names.put_moment(&mut line, left);
-    line.put_text(b" left ");
-    names.put_job(&mut line, job);
-    line.put_text(b"job ");
-    push_line(text, &line)
+    push_job_at(text, names, &mut line, job, b" left ", left)
 }
 
 /// Adds `job J has arrived`.
@@ -158,8 +155,6 @@ pub(crate) fn push_arrived_line(
     ensures { OnOk result (text.new.items ≡ text.old.items ++ arrived_line names.now job) }
 {
     let mut line = Line::ended();
-    line.put_text(b" has arrived");
-    names.put_job(&mut line, job);
-    line.put_text(b"job ");
+    put_job(&mut line, names, job, b" has arrived");
     push_line(text, &line)
 }

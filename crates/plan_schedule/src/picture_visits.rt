@@ -1,24 +1,19 @@
 //! The visits of a run, as a picture draws them: those told so far with their ends, and those ahead.
 
 ghost use Rattle.std.specs.Prelude.{◌≡◌, ◌+◌, ◌-◌, ◌<◌, ◌≤◌, ◌++◌, map, IfOk, IfSome, OnOk, unwrap_or};
-ghost use Rattle.shop_base.specs.declared.limits.TheConstants.{MAX_MOMENT};
-ghost use Rattle.shop_base.specs.Report.{IsNextMoment};
-ghost use Rattle.shop_base.specs.Plan.{jobs, steps};
-ghost use Rattle.shop_base.specs.Cell.{made};
-ghost use Rattle.shop_base.specs.Graph.{node};
+ghost use Rattle.shop_base.specs.{Report.IsNextMoment, Plan.jobs, Plan.steps, Cell.made};
 ghost use Rattle.alt_graph.specs.Times.{earliest_of, AreRanks};
 ghost use Rattle.plan_verifier.specs.Rest.{AreOrderedAhead};
-ghost use Rattle.plan_schedule.specs.Calendars.{IsSoon};
-ghost use Rattle.plan_schedule.specs.SoonAhead.{AreSoonAhead, AreSoonFrom};
-ghost use Rattle.plan_schedule.specs.DrawnVisits.{told_cleaning, drawn_visit, job_visits, place_inside, operation_end, cleaning_end, ended_cleaning, left_visit, going_visit, staying_visit, ended_visit, job_ahead, visits_ahead, leavings_by, IsDrawnRun};
+ghost use Rattle.plan_schedule.specs.Calendars.{at_of};
+ghost use Rattle.plan_schedule.specs.DrawnVisits.{told_cleaning, drawn_visit, job_visits, place_inside, cleaning_end, ended_cleaning, left_visit, going_visit, staying_visit, ended_visit, job_ahead, visits_ahead, leavings_by, IsDrawnRun};
 
 use crate::calendar::Calendar;
 use crate::lines::Cleaning;
 use alt_graph::Times;
 use cell_tables::WorkCell;
-use plan_verifier::{cleanings_in_range, leave_time};
+use plan_verifier::leave_time;
 use run_picture::{Cleaned, DrawnVisit};
-use shop_base::{JobNo, MachineNo, Moment, Node, Planned};
+use shop_base::{JobNo, MachineNo, Moment, Planned};
 use std::alloc::{AllocError, Global};
 
 /// The visits of a run, and when each job leaves or has left.
@@ -45,12 +40,10 @@ pub fn drawn_run<'a, P: Planned>(
     requires ordered { AreOrderedAhead cell.now.plan cell.now.cell present times.now }
     ensures { IfOk result (IsDrawnRun cell.now.plan cell.now.cell present told.now) }
 {
-    // Called for its clause alone: sums with these moments fit.
-    cleanings_in_range(cell);
-    let calendar = Calendar::new(alloc, cell.shaped(), times, None)?;
+    let calendar = Calendar::new(alloc, cell, present, times, None)?;
     let mut visits = Vec::new(alloc);
-    push_told(&mut visits, cell, present, &calendar, told)?;
-    push_ahead(&mut visits, cell, &calendar)?;
+    push_told(&mut visits, &calendar, told)?;
+    push_ahead(&mut visits, &calendar)?;
     let leavings = leavings_by(alloc, cell, times)?;
     Ok(DrawnRun { visits, leavings })
 }
@@ -74,46 +67,33 @@ fn leavings_by<P: Planned>(
 /// Adds the visits that are told so far, with their ends.
 fn push_told<P: Planned>(
     visits: &mut Vec<DrawnVisit>,
-    cell: &WorkCell<P>,
-    present: Moment,
-    calendar: &Calendar<'_>,
+    calendar: &Calendar<'_, P>,
     told: &[DrawnVisit],
 ) -> Result<(), AllocError>
-    requires plan { calendar.now.plan ≡ cell.now.plan }
-    requires present { present ≤ MAX_MOMENT }
-    requires soon { AreSoonAhead calendar.now cell.now.cell }
-    ensures { let k = calendar.now in OnOk result (visits.new.items ≡ visits.old.items ++ map (ended_visit k.plan cell.now.cell present (earliest_of k.times)) told.now) }
+    ensures { let k = calendar.now in
+        OnOk result (visits.new.items ≡ visits.old.items ++ map (ended_visit k.plan k.cell k.present (at_of k)) told.now) }
 {
     for visit in told {
-        visits.push(ended_visit(cell, present, calendar, *visit))?;
+        visits.push(ended_visit(calendar, *visit))?;
     }
     Ok(())
 }
 
 /// A visit that is told so far, with its ends.
-fn ended_visit<P: Planned>(
-    cell: &WorkCell<P>,
-    present: Moment,
-    calendar: &Calendar<'_>,
-    visit: DrawnVisit,
-) -> DrawnVisit
-    requires plan { calendar.now.plan ≡ cell.now.plan }
-    requires present { present ≤ MAX_MOMENT }
-    requires soon { AreSoonAhead calendar.now cell.now.cell }
-    ensures { let k = calendar.now in result ≡ ended_visit k.plan cell.now.cell present (earliest_of k.times) visit }
+fn ended_visit<P: Planned>(calendar: &Calendar<'_, P>, visit: DrawnVisit) -> DrawnVisit
+    ensures { let k = calendar.now in result ≡ ended_visit k.plan k.cell k.present (at_of k) visit }
 {
     match visit.leave {
-        Some(_) => left_visit(cell, present, visit),
-        None => staying_visit(cell, present, calendar, visit),
+        Some(_) => left_visit(calendar, visit),
+        None => staying_visit(calendar, visit),
     }
 }
 
 /// A visit that is over, with the end of the cleaning after it.
-fn left_visit<P: Planned>(cell: &WorkCell<P>, present: Moment, visit: DrawnVisit) -> DrawnVisit
-    requires { present ≤ MAX_MOMENT }
-    ensures { result ≡ left_visit cell.now.plan cell.now.cell present visit }
+fn left_visit<P: Planned>(calendar: &Calendar<'_, P>, visit: DrawnVisit) -> DrawnVisit
+    ensures { let k = calendar.now in result ≡ left_visit k.plan k.cell k.present visit }
 {
-    let end = cleaning_end(cell, present, visit.machine);
+    let end = cleaning_end(calendar, visit.machine);
     DrawnVisit {
         job: visit.job,
         machine: visit.machine,
@@ -125,21 +105,14 @@ fn left_visit<P: Planned>(cell: &WorkCell<P>, present: Moment, visit: DrawnVisit
 }
 
 /// When the machine's cleaning that goes on ends, if one does.
-fn cleaning_end<P: Planned>(
-    cell: &WorkCell<P>,
-    present: Moment,
-    machine: MachineNo,
-) -> Option<Moment>
-    requires { present ≤ MAX_MOMENT }
-    ensures { result ≡ cleaning_end cell.now.plan cell.now.cell present machine }
+fn cleaning_end<P: Planned>(calendar: &Calendar<'_, P>, machine: MachineNo) -> Option<Moment>
+    ensures { let k = calendar.now in result ≡ cleaning_end k.plan k.cell k.present machine }
 {
-    // Called for its clause alone: the cell is sound.
-    let shaped = cell.shaped();
-    if machine >= cell.machine_count() {
+    if machine >= calendar.machines() {
         return None;
     }
-    let since = cell.cleaned_since(machine)?;
-    Some((since + shaped.clean_of(machine)).max(present))
+    let cleaning = calendar.cleaning_on(machine)?;
+    Some(cleaning.to)
 }
 
 /// A cleaning, with this end if its own isn't told.
@@ -157,91 +130,52 @@ fn ended_cleaning(cleaned: Cleaned, end: Option<Moment>) -> Cleaned
 }
 
 /// A visit whose job hasn't left, with its ends if the job is on a machine.
-fn staying_visit<P: Planned>(
-    cell: &WorkCell<P>,
-    present: Moment,
-    calendar: &Calendar<'_>,
-    visit: DrawnVisit,
-) -> DrawnVisit
-    requires plan { calendar.now.plan ≡ cell.now.plan }
-    requires present { present ≤ MAX_MOMENT }
-    requires soon { AreSoonAhead calendar.now cell.now.cell }
+fn staying_visit<P: Planned>(calendar: &Calendar<'_, P>, visit: DrawnVisit) -> DrawnVisit
     ensures { let k = calendar.now in
-        result ≡ staying_visit k.plan cell.now.cell present (earliest_of k.times) visit (place_inside k.plan cell.now.cell visit.job) }
+        result ≡ staying_visit k.plan k.cell k.present (at_of k) visit (place_inside k.plan k.cell visit.job) }
 {
-    match place_inside(cell, visit.job) {
-        Some(place) => going_visit(cell, present, calendar, visit, place),
+    match place_inside(calendar, visit.job) {
+        Some(place) => going_visit(calendar, visit, place),
         None => visit,
     }
 }
 
 /// The place in the job's route of the step by which it is on a machine, if it is on one.
-fn place_inside<P: Planned>(cell: &WorkCell<P>, job: JobNo) -> Option<u32>
-    ensures place { result ≡ place_inside cell.now.plan cell.now.cell job }
-    ensures job { IfSome result (λ _. job < jobs cell.now.plan) }
-    ensures within { IfSome result (λ place. place < steps cell.now.plan job) }
-    ensures made { IfSome result (λ place. made cell.now.cell job ≡ place + 1) }
+fn place_inside<P: Planned>(calendar: &Calendar<'_, P>, job: JobNo) -> Option<u32>
+    ensures place { result ≡ place_inside calendar.now.plan calendar.now.cell job }
+    ensures job { IfSome result (λ _. job < jobs calendar.now.plan) }
+    ensures within { IfSome result (λ place. place < steps calendar.now.plan job) }
+    ensures made { IfSome result (λ place. made calendar.now.cell job ≡ place + 1) }
 {
-    // Called for its clause alone: the cell is sound.
-    let _plan = cell.shaped();
-    if job >= cell.job_count() {
+    if job >= calendar.jobs() {
         return None;
     }
-    let made = cell.job_state(job).made;
+    let made = calendar.state(job).made;
     if made == 0 {
         return None;
     }
-    if cell.step_count(job) < made {
+    if calendar.steps(job) < made {
         return None;
     }
     Some(made - 1)
 }
 
 /// The visit that the job is in by the step at a place of its route, with its ends.
-fn going_visit<P: Planned>(
-    cell: &WorkCell<P>,
-    present: Moment,
-    calendar: &Calendar<'_>,
-    visit: DrawnVisit,
-    place: u32,
-) -> DrawnVisit
-    requires plan { calendar.now.plan ≡ cell.now.plan }
-    requires present { present ≤ MAX_MOMENT }
+fn going_visit<P: Planned>(calendar: &Calendar<'_, P>, visit: DrawnVisit, place: u32) -> DrawnVisit
     requires job { visit.job < jobs calendar.now.plan }
     requires place { place < steps calendar.now.plan visit.job }
-    requires left { IsSoon calendar.now (node visit.job (place + 1)) }
-    ensures { let k = calendar.now in result ≡ going_visit k.plan cell.now.cell present (earliest_of k.times) visit place }
+    requires left { made calendar.now.cell visit.job ≤ place + 1 }
+    ensures { let k = calendar.now in result ≡ going_visit k.plan k.cell k.present (at_of k) visit place }
 {
-    // Called for its clause alone: the plan is well shaped.
-    let _plan = cell.shaped();
-    let cleaning = calendar.cleaning(visit.job, place);
-    let finish = told_or(visit.finish, operation_end(cell, present, visit.job, place));
-    let next = Node {
-        job: visit.job,
-        place: place + 1,
-    };
+    let here = calendar.entered(visit.job, place);
     DrawnVisit {
         job: visit.job,
         machine: visit.machine,
         enter: visit.enter,
-        finish: Some(finish),
-        leave: Some(calendar.at(next)),
-        cleaned: cleaned(cleaning),
+        finish: Some(told_or(visit.finish, here.to)),
+        leave: Some(here.leaves),
+        cleaned: cleaned(calendar.cleaning(visit.job, place)),
     }
-}
-
-/// When the operation that the job is in ends, by the step at this place.
-fn operation_end<P: Planned>(cell: &WorkCell<P>, present: Moment, job: JobNo, place: u32) -> Moment
-    requires present { present ≤ MAX_MOMENT }
-    requires job { job < jobs cell.now.plan }
-    requires place { place < steps cell.now.plan job }
-    ensures { result ≡ operation_end cell.now.plan cell.now.cell present job place }
-{
-    let state = cell.job_state(job);
-    let Some(step) = cell.shaped().step_of(job, place) else {
-        unreachable!()
-    };
-    (state.since + step.nominal).max(present)
 }
 
 /// A moment as it is told, else this one.
@@ -257,16 +191,13 @@ fn told_or(told: Option<Moment>, other: Moment) -> Moment
 /// Adds the visits that are ahead.
 fn push_ahead<P: Planned>(
     visits: &mut Vec<DrawnVisit>,
-    cell: &WorkCell<P>,
-    calendar: &Calendar<'_>,
+    calendar: &Calendar<'_, P>,
 ) -> Result<(), AllocError>
-    requires plan { calendar.now.plan ≡ cell.now.plan }
-    requires soon { AreSoonAhead calendar.now cell.now.cell }
     ensures { let k = calendar.now in
-        OnOk result (visits.new.items ≡ visits.old.items ++ visits_ahead k.plan cell.now.cell (earliest_of k.times) (jobs k.plan)) }
+        OnOk result (visits.new.items ≡ visits.old.items ++ visits_ahead k.plan k.cell (at_of k) (jobs k.plan)) }
 {
-    for job in 0..cell.job_count() {
-        push_job(visits, cell, calendar, job)?;
+    for job in 0..calendar.jobs() {
+        push_job(visits, calendar, job)?;
     }
     Ok(())
 }
@@ -274,17 +205,13 @@ fn push_ahead<P: Planned>(
 /// Adds the visits of a job that are ahead.
 fn push_job<P: Planned>(
     visits: &mut Vec<DrawnVisit>,
-    cell: &WorkCell<P>,
-    calendar: &Calendar<'_>,
+    calendar: &Calendar<'_, P>,
     job: JobNo,
 ) -> Result<(), AllocError>
-    requires plan { calendar.now.plan ≡ cell.now.plan }
-    requires job { job < jobs calendar.now.plan }
-    requires soon { AreSoonAhead calendar.now cell.now.cell }
-    ensures { let k = calendar.now in
-        OnOk result (visits.new.items ≡ visits.old.items ++ job_ahead k.plan cell.now.cell (earliest_of k.times) job) }
+    requires { job < jobs calendar.now.plan }
+    ensures { let k = calendar.now in OnOk result (visits.new.items ≡ visits.old.items ++ job_ahead k.plan k.cell (at_of k) job) }
 {
-    let made = cell.job_state(job).made;
+    let made = calendar.state(job).made;
     if calendar.steps(job) < made {
         return Ok(());
     }
@@ -292,17 +219,17 @@ fn push_job<P: Planned>(
 }
 
 /// Adds the visits of a job from a place of its route on.
-fn push_visits(
+fn push_visits<P: Planned>(
     visits: &mut Vec<DrawnVisit>,
-    calendar: &Calendar<'_>,
+    calendar: &Calendar<'_, P>,
     job: JobNo,
     first: u32,
 ) -> Result<(), AllocError>
     requires job { job < jobs calendar.now.plan }
     requires first { first ≤ steps calendar.now.plan job }
-    requires soon { AreSoonFrom calendar.now job first }
+    requires ahead { made calendar.now.cell job ≤ first }
     ensures { let k = calendar.now in
-        OnOk result (visits.new.items ≡ visits.old.items ++ job_visits k.plan (earliest_of k.times) job first (steps k.plan job - first)) }
+        OnOk result (visits.new.items ≡ visits.old.items ++ job_visits k.plan (at_of k) job first (steps k.plan job - first)) }
 {
     for place in first..calendar.steps(job) {
         visits.push(drawn_visit(calendar, job, place))?;
@@ -311,12 +238,11 @@ fn push_visits(
 }
 
 /// The job's visit by the step at a place of its route.
-fn drawn_visit(calendar: &Calendar<'_>, job: JobNo, place: u32) -> DrawnVisit
+fn drawn_visit<P: Planned>(calendar: &Calendar<'_, P>, job: JobNo, place: u32) -> DrawnVisit
     requires job { job < jobs calendar.now.plan }
     requires place { place < steps calendar.now.plan job }
-    requires begun { IsSoon calendar.now (node job place) }
-    requires left { IsSoon calendar.now (node job (place + 1)) }
-    ensures { let c = calendar.now in result ≡ drawn_visit c.plan (earliest_of c.times) job place }
+    requires ahead { made calendar.now.cell job ≤ place }
+    ensures { result ≡ drawn_visit calendar.now.plan (at_of calendar.now) job place }
 {
     let visit = calendar.visit(job, place);
     DrawnVisit {

@@ -2,25 +2,20 @@
 
 ghost use Rattle.std.specs.Prelude.{IfOk, OnOk};
 ghost use Rattle.shop_base.specs.Report.{IsNextMoment};
-ghost use Rattle.shop_base.specs.Ahead.{MeetBudgetsAhead};
-ghost use Rattle.alt_graph.specs.Times.{earliest_of};
-ghost use Rattle.plan_explain.specs.Added.{Adds};
+ghost use Rattle.plan_verifier.specs.{Rest.AreOrderedAhead, Seen.lent};
+ghost use Rattle.plan_explain.specs.{Added.Adds, RestVerdicts.IsRestJudged};
 ghost use Rattle.plan_schedule.specs.Calendars.{HasDeadlines, seen, due_in};
-ghost use Rattle.plan_verifier.specs.declared.verdict.Judged.TheVariants.{Refused};
-ghost use Rattle.plan_verifier.specs.Rest.{AreOrderedAhead};
-ghost use Rattle.plan_verifier.specs.Seen.{lent};
-ghost use Rattle.plan_verifier.specs.RestVerdicts.{IsReasonAhead};
-ghost use Rattle.plan_explain.specs.RestVerdicts.{IsRestJudged};
 ghost use Rattle.plan_schedule.specs.RestSchedules.{AreRestLines};
-ghost use Rattle.plan_schedule.specs.RestScheduled.{AreRestLinesInTime, AreRestScheduledBehind, IsRestScheduled};
+ghost use Rattle.plan_schedule.specs.RestScheduled.{AreRestScheduledBehind, IsRestScheduled};
+ghost use Rattle.alt_graph.specs.Times.{earliest_of};
 
 use crate::calendar::Calendar;
-use crate::scheduling::{push_cleanings, push_jobs};
+use crate::scheduling::push_all;
 use alt_graph::{Deadlines, Times};
 use cell_tables::WorkCell;
 use people_names::Names;
 use plan_explain::first_line_after;
-use plan_verifier::{Seen, Why, cleanings_in_range, deadlines_after};
+use plan_verifier::{Seen, Why, deadlines_after};
 use shop_base::{Moment, Planned};
 use std::alloc::{AllocError, Global};
 
@@ -60,49 +55,20 @@ fn push_lines_behind<P: Planned>(
         OnOk result (Adds (AreRestScheduledBehind names.now p cell.now.cell present (lent verdict.entry)) text.old.items text.new.items) }
 {
     match verdict {
-        Seen::Accepted(times) => push_lines_in_time(alloc, text, names, cell, present, times),
-        Seen::Refused(why) => push_refused_lines(alloc, text, names, cell, present, why),
+        Seen::Accepted(times) => {
+            let deadlines = deadlines_after(alloc, cell, times)?;
+            push_lines(alloc, text, names, cell, present, times, Some(&deadlines))
+        }
+        Seen::Refused(why) => match why {
+            Why::Cycle(_) => Ok(()),
+            Why::Late {
+                job: _,
+                leaves: _,
+                chain: _,
+                times,
+            } => push_lines(alloc, text, names, cell, present, times, None),
+        },
     }
-}
-
-fn push_refused_lines<P: Planned>(
-    alloc: Global,
-    text: &mut Vec<u8>,
-    names: &Names,
-    cell: &WorkCell<P>,
-    present: Moment,
-    why: &Why,
-) -> Result<(), AllocError>
-    requires present { IsNextMoment cell.now.cell present }
-    requires reason { IsReasonAhead cell.now.plan cell.now.cell present (Refused why.now) }
-    ensures { OnOk result (Adds (AreRestScheduledBehind names.now cell.now.plan cell.now.cell present (Refused why.now)) text.old.items text.new.items) }
-{
-    match why {
-        Why::Cycle(_) => Ok(()),
-        Why::Late {
-            job: _,
-            leaves: _,
-            chain: _,
-            times,
-        } => push_lines(alloc, text, names, cell, present, times, None),
-    }
-}
-
-fn push_lines_in_time<P: Planned>(
-    alloc: Global,
-    text: &mut Vec<u8>,
-    names: &Names,
-    cell: &WorkCell<P>,
-    present: Moment,
-    times: &Times,
-) -> Result<(), AllocError>
-    requires present { IsNextMoment cell.now.cell present }
-    requires ordered { AreOrderedAhead cell.now.plan cell.now.cell present times.now }
-    requires budgets { MeetBudgetsAhead cell.now.plan cell.now.cell (earliest_of times.now) }
-    ensures { OnOk result (Adds (AreRestLinesInTime names.now cell.now.plan cell.now.cell present) text.old.items text.new.items) }
-{
-    let deadlines = deadlines_after(alloc, cell, times)?;
-    push_lines(alloc, text, names, cell, present, times, Some(&deadlines))
 }
 
 /// Adds the lines of all jobs and of the cleanings that go on, by these moments and deadlines.
@@ -121,9 +87,6 @@ fn push_lines<'a, P: Planned>(
     ensures { OnOk result (Adds (AreRestLines names.now cell.now.plan cell.now.cell present (earliest_of times.now) (due_in (seen deadlines.entry (λ d. d.now))))
         text.old.items text.new.items) }
 {
-    // Called for its clause alone: sums with these moments fit.
-    cleanings_in_range(cell);
-    let calendar = Calendar::new(alloc, cell.shaped(), times, deadlines)?;
-    push_jobs(text, names, cell, present, &calendar)?;
-    push_cleanings(text, names, cell, present, &calendar)
+    let calendar = Calendar::new(alloc, cell, present, times, deadlines)?;
+    push_all(text, names, &calendar)
 }

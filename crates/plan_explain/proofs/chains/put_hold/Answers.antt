@@ -2,5 +2,4 @@ use Rattle.std.proofs.Common.{refl}
 use Rattle.plan_explain.proofs.chains.put_hold.Goals as goal
 
 pub returns-in-Done-clause-written : goal.returns-in-Done-clause-written
-returns-in-Done-clause-written c = rw (c.in-Done.is, c.put_text-in-Done-2.ensures.written, c.put_job-in-Done.ensures.written, c.put_text-in-Done.ensures.written) (
-    rw (c.put_machine.ensures.written) refl)
+returns-in-Done-clause-written c = rw (c.in-Done.is, c.put_job-in-Done.ensures.written, c.put_machine.ensures.written) refl

@@ -1,5 +1,5 @@
-use Rattle.plan_schedule.proofs.ExactRun.{schedules_tell_the_exact_run-holds, some_run_is_exact-holds}
+use Rattle.plan_schedule.proofs.ExactRun.{exact_run_told, some_exact_run}
 use Rattle.plan_schedule.proofs.laws.schedules_tell_the_exact_run.Goals as goal
 
 pub returns : goal.returns
-returns c = record { exact = schedules_tell_the_exact_run-holds; some = some_run_is_exact-holds }
+returns c = record { exact = exact_run_told; some = some_exact_run }

@@ -1,5 +1,5 @@
-use Rattle.plan_schedule.proofs.StartSchedule.{the_rest_of_the_start_is_scheduled_as_the_plan-holds}
+use Rattle.plan_schedule.proofs.StartSchedule.{start_scheduled}
 use Rattle.plan_schedule.proofs.laws.the_rest_of_the_start_is_scheduled_as_the_plan.Goals as goal
 
 pub returns : goal.returns
-returns c = the_rest_of_the_start_is_scheduled_as_the_plan-holds
+returns c = start_scheduled

@@ -1,5 +1,5 @@
 use Rattle.std.proofs.Common.{sym, append-nil}
-use Rattle.alt_graph.specs.Times.{earliest_of}
+use Rattle.plan_schedule.specs.Calendars.{at_of}
 use Rattle.plan_schedule.proofs.Drawing.{one_more_job}
 use Rattle.plan_schedule.proofs.picture_visits.push_ahead.Goals as goal
 
@@ -8,5 +8,4 @@ loop-job-init g c = sym (append-nil _)
 
 pub loop-job-preserved : goal.loop-job-preserved
 loop-job-preserved g c =
-    let k = c.args.calendar.now in
-    one_more_job k.plan c.args.cell.now.cell (earliest_of k.times) _ _ _ c.loop-job.job c.loop-job.invariant c.in_ok-push_job.ensures
+    let k = c.args.calendar.now in one_more_job k.plan k.cell (at_of k) _ _ _ c.loop-job.job c.loop-job.invariant c.in_ok-push_job.ensures

@@ -1,7 +1,7 @@
 use Rattle.std.proofs.Common.{◌≡◌, ◌++◌}
-use Rattle.alt_graph.specs.Times.{earliest_of}
+use Rattle.plan_schedule.specs.Calendars.{at_of}
 use Rattle.plan_schedule.specs.DrawnVisits.{visits_ahead}
 use Rattle.plan_schedule.proofs.picture_visits.push_ahead.Given as goal
 
 abbrev pub invariant-loop-job : goal.invariant-loop-job
-invariant-loop-job g l = l.visits.items ≡ l.initial.visits.items ++ visits_ahead l.calendar.plan l.cell.cell (earliest_of l.calendar.times) l.job
+invariant-loop-job g l = l.visits.items ≡ l.initial.visits.items ++ visits_ahead l.calendar.plan l.calendar.cell (at_of l.calendar) l.job

@@ -1,5 +1,5 @@
 use Rattle.std.proofs.Common.{◌++◌, ◌∷◌, [], ap, ◌∙◌, refl, arith}
-use Rattle.alt_graph.specs.Times.{earliest_of}
+use Rattle.plan_schedule.specs.Calendars.{at_of}
 use Rattle.plan_schedule.specs.DrawnVisits.{ended_visit}
 use Rattle.plan_schedule.proofs.Drawing.{one_more_told, all_told}
 use Rattle.plan_schedule.proofs.picture_visits.push_told.Goals as goal
@@ -10,10 +10,9 @@ loop-visit-init g c = refl
 pub loop-visit-preserved : goal.loop-visit-preserved
 loop-visit-preserved g c =
     let k = c.args.calendar.now in
-    one_more_told (ended_visit k.plan c.args.cell.now.cell c.args.present (earliest_of k.times)) _ _ _ c.args.told.now c.loop-visit.visit-index _ (omega arith) c.loop-visit.invariant
+    one_more_told (ended_visit k.plan k.cell k.present (at_of k)) _ _ _ c.args.told.now c.loop-visit.visit-index _ (omega arith) c.loop-visit.invariant
     (c.in_ok-push.ensures.items ∙ ap (λ visit. c.loop-visit.visits.items ++ visit ∷ []) c.ended_visit.ensures)
 
 pub returns : goal.returns
 returns g c =
-    let k = c.args.calendar.now in
-    all_told (ended_visit k.plan c.args.cell.now.cell c.args.present (earliest_of k.times)) _ _ c.args.told.now c.loop-visit.visit-index (omega arith) c.loop-visit.invariant
+    let k = c.args.calendar.now in all_told (ended_visit k.plan k.cell k.present (at_of k)) _ _ c.args.told.now c.loop-visit.visit-index (omega arith) c.loop-visit.invariant

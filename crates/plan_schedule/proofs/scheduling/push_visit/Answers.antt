@@ -1,15 +1,14 @@
-use Rattle.alt_graph.specs.Times.{earliest_of}
-use Rattle.plan_schedule.specs.Calendars.{due_at}
-use Rattle.plan_schedule.specs.Schedules.{IsVisitText, IsCleaningText}
-use Rattle.plan_schedule.proofs.Texts.{on_ok_adds}
-use Rattle.plan_schedule.proofs.RestAdded.{visit_added}
+use Rattle.std.proofs.Common.{◌≡◌, ℕ, List, refl}
+use Rattle.plan_explain.proofs.Texts.{both_added, on_ok_adds}
+use Rattle.plan_schedule.specs.Calendars.{at_of, due_at}
+use Rattle.plan_schedule.specs.Lines.{visit_line}
+use Rattle.plan_schedule.specs.Schedules.{IsCleaningText}
 use Rattle.plan_schedule.proofs.scheduling.push_visit.Goals as goal
 
 pub returns : goal.returns
-returns c =
-    let d = c.args.calendar.now in
-    let names = c.args.names.now in
-    let visit = c.args.visit in
-    on_ok_adds (IsCleaningText names d.plan (earliest_of d.times) (due_at d) visit.job c.args.place) (IsVisitText names d.plan (earliest_of d.times) (due_at d) c.args.begins.now visit c.args.place)
-    c.push_cleaning_behind.result _ _ _ (visit_added names d.plan (earliest_of d.times) (due_at d) c.args.begins.now visit _ _ _ c.args.place c.in_ok-push_visit_line.ensures)
-    c.push_cleaning_behind.ensures
+returns g c =
+    let k = c.args.calendar.now in
+    let line : List ℕ = visit_line c.args.names.now c.args.begins.now c.args.visit in
+    let Behind : List ℕ → Type 0 = IsCleaningText c.args.names.now k.plan (at_of k) (due_at k) c.args.visit.job c.args.place in
+    both_added (λ (l : List ℕ). l ≡ line) Behind c.push_cleaning_line.result _ _ _ (line, refl, c.in_ok-push_visit_line.ensures)
+    (on_ok_adds Behind c.push_cleaning_line.result _ _ _ (c.cleaning-behind.result, c.cleaning-behind.ensures, refl) c.push_cleaning_line.ensures)

@@ -1,9 +1,8 @@
-use Rattle.alt_graph.specs.Times.{earliest_of}
 use Rattle.plan_explain.specs.Added.{Adds}
-use Rattle.plan_schedule.specs.Calendars.{due_at}
+use Rattle.plan_schedule.specs.Calendars.{at_of, due_at}
 use Rattle.plan_schedule.specs.Schedules.{AreVisitsFrom}
 use Rattle.plan_schedule.proofs.scheduling.push_visits.Given as goal
 
 -- the lines of the visits looked at are written
 abbrev pub invariant-loop-place : goal.invariant-loop-place
-invariant-loop-place l = Adds (AreVisitsFrom l.names l.calendar.plan (earliest_of l.calendar.times) (due_at l.calendar) l.job l.first l.place) l.initial.text.items l.text.items
+invariant-loop-place g l = Adds (AreVisitsFrom l.names l.calendar.plan (at_of l.calendar) (due_at l.calendar) l.job l.first l.place) l.initial.text.items l.text.items

@@ -1,6 +1,6 @@
 use Rattle.std.proofs.Common.{ℕ, ◌<◌}
 use Rattle.shop_base.specs.Plan.{Visits}
-use Rattle.plan_schedule.proofs.scheduling.place_on.Given as goal
+use Rattle.plan_schedule.proofs.calendar.place_on.Given as goal
 
 -- none of the steps looked at is on the machine
 abbrev pub invariant-loop-place : goal.invariant-loop-place
