@@ -17,18 +17,9 @@ fn broken_off(alloc: Global, manner: Manner, calls: usize) -> Result<MemoryLog, 
     let mut reader = FromRead::new(PieceReader { bytes: REPORTS });
     let log = MemoryLog::new(LINE.to_vec(alloc)?, calls, 5);
     let output = Gathered::new(alloc, 16, Vec::new(alloc))?;
-    let verified = accepted(alloc)?;
+    let begun = begin_in(alloc, accepted(alloc)?, manner)?;
     let room = WritingRoom::new(alloc)?;
-    let run = drive_logged(
-        alloc,
-        verified,
-        room,
-        manner,
-        &mut reader,
-        log,
-        output,
-        Untold,
-    );
+    let run = drive_logged(begun, room, &mut reader, log, output, Untold);
     Ok(run.log)
 }
 
