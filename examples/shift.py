@@ -52,6 +52,14 @@ def name_of(text):
     return "-" + name if name.isdigit() or name in ("out", "or", "fewer") else name
 
 
+def named(text, texts):
+    """The text as a name, which no other text has."""
+    name = name_of(text)
+    if texts.setdefault(name, text) != text:
+        raise Refused("%r and %r would have one name" % (texts[name], text))
+    return name
+
+
 def minutes_of(clock):
     """The minutes from midnight on: of 06:30, or of 06:30+1 on the next day."""
     found = re.fullmatch(r"(\d{1,2}):(\d\d)(?:\+(\d{1,4}))?", clock)
@@ -69,9 +77,10 @@ def note(what, noted, name, value):
 def read(path):
     """The routes of jobs, and what the rows have of jobs and machines, each by name."""
     routes, machines, release, due, cleaning = {}, [], {}, {}, {}
+    job_texts, machine_texts = {}, {}
     for number, row in rows_of(path):
         try:
-            job, machine = name_of(row["job"]), name_of(row["machine"])
+            job, machine = named(row["job"], job_texts), named(row["machine"], machine_texts)
             if not (job and machine and re.fullmatch(r"\d{1,7}", row["minutes"])):
                 raise Refused("job, machine and a whole number of minutes are needed")
             if machine in (at for at, _ in routes.get(job, [])):
@@ -104,7 +113,9 @@ def make(path, begin):
         for job, moment in moments.items():
             if moment < begin:
                 raise Refused("%s %s before the beginning" % (job, what))
-    base = os.path.splitext(path)[0]
+    base, ending = os.path.splitext(path)
+    if ending in (".txt", ".toml"):
+        raise Refused("%s would be written over: give the table another ending, as .csv" % path)
     route = lambda job: " ".join("%d %d" % (machines.index(machine), minutes) for machine, minutes in routes[job])
     written(base + ".txt", os.path.basename(base).replace(" ", "-"), "%d %d" % (len(routes), len(machines)), *map(route, routes))
     written(
