@@ -23,14 +23,14 @@ module _ (p : PlannedShop) (b : NodeBounds) (t : NodeTimes) (are : AreTimesFrom 
     where
       go : ((u : Node) → rank_of t u < n → IsNode p u → (nodes : List Node) × PathFrom p b nodes u (earliest_of t u))
           → (o : Option Node) → IsAttainedFrom p b t v (earliest_of t v) o → (nodes : List Node) × PathFrom p b nodes v (earliest_of t v)
-      go below None told = (v ∷ [], begins_at v (earliest_of t v) is told)
+      go below None recorded = (v ∷ [], begins_at v (earliest_of t v) is recorded)
       go below (Some u) (d, arc, at, ahead) =
           let path = below u (omega (arith, are.ranks.rise u v d arc)) (source_node p u v d arc) in
           (path.0 ++ v ∷ [], subst (λ (m : ℕ). PathFrom p b (path.0 ++ v ∷ []) v m) at (goes_along path.0 u v (earliest_of t u) d path.1 ahead arc))
 
   -- no path is longer
   none_longer : (nodes : List Node) (v : Node) (n : ℕ) → PathFrom p b nodes v n → n ≤ earliest_of t v
-  none_longer nodes v n (begins_at w m is told) = are.moments.bounds w m is told
+  none_longer nodes v n (begins_at w m is recorded) = are.moments.bounds w m is recorded
   none_longer nodes v n (goes_along front u w m d path ahead arc) = omega (arith, none_longer front u m path, are.moments.arcs u w d ahead arc)
 
   ordered : AreOrderedFrom p b t
@@ -70,7 +70,7 @@ module _ (graph : PlanGraph) (q : PlannedShop) (b : NodeBounds) (done : List Nod
       apart = λ u v one other same. sym (sound.places u one (all u one)) ∙ ap (node_at done) same ∙ sound.places v other (all v other);
     };
     moments = record {
-      bounds = λ v n is told. (sound.placed v is (all v is)).bound n told;
+      bounds = λ v n is recorded. (sound.placed v is (all v is)).bound n recorded;
       arcs = λ u v d ahead arc. (let is = target_node p u v d arc in (sound.placed v is (all v is)).fits u d arc ahead);
     };
     attained = λ v is. (sound.placed v is (all v is)).attained;

@@ -101,22 +101,22 @@ module _ (p : PlannedShop) (t : NodeTimes) (are : AreRanks p t) (nodes : List (O
   abbrev more : List (Option Node)
   more = set nodes (rank_of t u) (Some u)
 
-  pub told_new : IsAtItsRank t more u
-  told_new = get_or-set_same nodes (rank_of t u) (Some u) None inside
+  pub ranked_new : IsAtItsRank t more u
+  ranked_new = get_or-set_same nodes (rank_of t u) (Some u) None inside
 
-  pub told_still : (v : Node) → IsNode p v → IsAtItsRank t nodes v → IsAtItsRank t more v
-  told_still v inside_v told = elim (cases_eq (rank_of t v) (rank_of t u)) [
-    | inl same ↦ subst (λ (w : Node). IsAtItsRank t more w) (are.apart u v is inside_v (sym same)) told_new
-    | inr other ↦ get_or-set_other nodes (rank_of t u) (rank_of t v) (Some u) None other ∙ told
+  pub ranked_still : (v : Node) → IsNode p v → IsAtItsRank t nodes v → IsAtItsRank t more v
+  ranked_still v inside_v ranked = elim (cases_eq (rank_of t v) (rank_of t u)) [
+    | inl same ↦ subst (λ (w : Node). IsAtItsRank t more w) (are.apart u v is inside_v (sym same)) ranked_new
+    | inr other ↦ get_or-set_other nodes (rank_of t u) (rank_of t v) (Some u) None other ∙ ranked
   ]
 
-  pub told_more : AreAtTheirRanks p t nodes → AreAtTheirRanks p t more
-  told_more told i v at = elim (cases_eq i (rank_of t u)) [
+  pub ranked_more : AreAtTheirRanks p t nodes → AreAtTheirRanks p t more
+  ranked_more ranked i v at = elim (cases_eq i (rank_of t u)) [
     | inl same ↦ (
-        let here : get_or more i None ≡ Some u = ap (λ k. get_or more k None) same ∙ told_new in
+        let here : get_or more i None ≡ Some u = ap (λ k. get_or more k None) same ∙ ranked_new in
         let one : u ≡ v = some_same (sym here ∙ at) in
         (subst (IsNode p) one is, ap (rank_of t) (sym one) ∙ sym same))
-    | inr other ↦ told i v (sym (get_or-set_other nodes (rank_of t u) i (Some u) None other) ∙ at)
+    | inr other ↦ ranked i v (sym (get_or-set_other nodes (rank_of t u) i (Some u) None other) ∙ at)
   ]
     where
       some_same : {x y : Node} → Some x ≡ Some y → x ≡ y

@@ -38,16 +38,16 @@ module _ (firsts : List ℕ) (rows : List NodeTime) where
     job_size = ap length (rows_at v.job job)
 
     -- a node's row is that of its number
-    pub time_told : number_of firsts v < get_or firsts (v.job + 1) 0 → time_at (by_job firsts rows) v ≡ get_or rows (number_of firsts v) no_time
-    time_told within =
+    pub time_by_job : number_of firsts v < get_or firsts (v.job + 1) 0 → time_at (by_job firsts rows) v ≡ get_or rows (number_of firsts v) no_time
+    time_by_job within =
         let gap : ℕ = get_or firsts (v.job + 1) 0 - get_or firsts v.job 0 in
         let inside : v.place < gap = omega arith in
         ap (λ (times : List NodeTime). get_or times v.place no_time) (rows_at v.job job)
         ∙ get_or-take gap (drop (get_or firsts v.job 0) rows) v.place no_time inside
         ∙ get_or-drop (get_or firsts v.job 0) rows v.place no_time
 
-    pub timed_told : number_of firsts v < get_or firsts (v.job + 1) 0 → get_or firsts (v.job + 1) 0 ≤ length rows → IsTimed (by_job firsts rows) v
-    timed_told within few = record {
+    pub timed_by_job : number_of firsts v < get_or firsts (v.job + 1) 0 → get_or firsts (v.job + 1) 0 ≤ length rows → IsTimed (by_job firsts rows) v
+    timed_by_job within few = record {
       job = jobs_all firsts rows v.job job;
       place = omega (
         arith,

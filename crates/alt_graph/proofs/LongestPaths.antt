@@ -42,14 +42,14 @@ module _ (r : PlanRanking) (shaped : IsWellShaped r.plan) (rooted : AreRooted r.
       subst (IsAheadOf r.bounds) same ahead
 
   at_bound : (longest : Longest) → IsFromBound r v longest → IsAttainedFrom r.plan r.bounds r.times v longest.length longest.before
-  at_bound longest base = subst (λ (o : Option Node). IsAttainedFrom r.plan r.bounds r.times v longest.length o) (sym base.before) base.told
+  at_bound longest base = subst (λ (o : Option Node). IsAttainedFrom r.plan r.bounds r.times v longest.length o) (sym base.before) base.recorded
 
   -- the bound alone
   pub longest_bound : (longest : Longest) → ((u : Node) (d : ℕ) → IsJobArc r.plan u v d → ⊥) → IsFromBound r v longest → IsLongest r (IsJobArc r.plan) v longest
   longest_bound longest none base = record {
     ranked = λ u d arc. absurd (none u d arc);
     fits = λ u d arc. absurd (none u d arc);
-    bound = λ n told. omega (arith, some_same longest.length n (bound_of r.bounds v) base.told told);
+    bound = λ n recorded. omega (arith, some_same longest.length n (bound_of r.bounds v) base.recorded recorded);
     attained = at_bound longest base;
     bounded = omega (arith, base.limited);
   }
@@ -65,7 +65,7 @@ module _ (r : PlanRanking) (shaped : IsWellShaped r.plan) (rooted : AreRooted r.
   longest_along s longest arc free over = record {
     ranked = λ u d other. (let once = job_source_once r.plan shaped u s.node v d s.length other arc in subst (IsRanked r.times) (sym once.0) over.ranked);
     fits = λ u d other ahead. (let once = job_source_once r.plan shaped u s.node v d s.length other arc in omega (arith, ap (earliest_of r.times) once.0, once.1, over.length));
-    bound = λ n told. absurd (some_or_none n (bound_of r.bounds v) free told);
+    bound = λ n recorded. absurd (some_or_none n (bound_of r.bounds v) free recorded);
     attained = over_last s longest (job_arc_is r.plan s.node v s.length arc) (ahead_before s arc free) over;
     bounded = over.bounded;
   }
@@ -101,15 +101,15 @@ module _ (r : PlanRanking) (shaped : IsWellShaped r.plan) (rooted : AreRooted r.
 
   -- over the job arc besides the bound
   pub longest_both : (base : Longest) (s : ArcIn) (longest : Longest) → IsJobArc r.plan s.node v s.length → IsFromBound r v base → IsWith r base s longest → IsLongest r (IsJobArc r.plan) v longest
-  longest_both base s longest arc told both =
+  longest_both base s longest arc at_base both =
       let as_arc = job_arc_is r.plan s.node v s.length arc in
       record {
         ranked = λ u d other. (let once = job_source_once r.plan shaped u s.node v d s.length other arc in subst (IsRanked r.times) (sym once.0) both.ranked);
         fits = λ u d other ahead. with_fits base s longest as_arc both u d (job_source_once r.plan shaped u s.node v d s.length other arc) ahead;
-        bound = λ n other. omega (arith, some_same base.length n (bound_of r.bounds v) told.told other, both.longer);
-        attained = with_attained base s longest as_arc both (at_bound base told);
+        bound = λ n other. omega (arith, some_same base.length n (bound_of r.bounds v) at_base.recorded other, both.longer);
+        attained = with_attained base s longest as_arc both (at_bound base at_base);
         bounded = elim both.is [
-          | inl same ↦ omega (arith, told.limited, ap (λ (l : Longest). l.length) same)
+          | inl same ↦ omega (arith, at_base.limited, ap (λ (l : Longest). l.length) same)
           | inr over ↦ over.1.bounded
         ];
       }
@@ -127,7 +127,7 @@ module _ (r : PlanRanking) (shaped : IsWellShaped r.plan) (rooted : AreRooted r.
           | inl job ↦ omega (arith, is_along.fits u d job ahead, both.longer)
           | inr blocking ↦ with_fits along s longest as_arc both u d (blocking_source_once r.plan shaped u s.node v d s.length blocking arc) ahead
         ];
-        bound = λ n told. omega (arith, is_along.bound n told, both.longer);
+        bound = λ n recorded. omega (arith, is_along.bound n recorded, both.longer);
         attained = with_attained along s longest as_arc both is_along.attained;
         bounded = elim both.is [
           | inl same ↦ omega (arith, is_along.bounded, ap (λ (l : Longest). l.length) same)

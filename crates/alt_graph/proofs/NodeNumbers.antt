@@ -11,7 +11,7 @@ use Rattle.alt_graph.specs.Evidence.{node_count}
 use Rattle.alt_graph.specs.Lookups.{AreFirsts}
 use Rattle.alt_graph.specs.Times.{NodeTimes, no_time, time_at, IsTimed}
 use Rattle.alt_graph.specs.Layout.{number_of, by_job}
-use Rattle.alt_graph.proofs.Layouts.{time_told, timed_told, timed_counted}
+use Rattle.alt_graph.proofs.Layouts.{time_by_job, timed_by_job, timed_counted}
 
 -- nodes with the same job and place are one
 pub node_same : (u v : Node) → u.job ≡ v.job → u.place ≡ v.place → u ≡ v
@@ -72,7 +72,7 @@ module _ (p : PlannedShop) (firsts : List ℕ) (are : AreFirsts p firsts) where
   place_inside v is = omega (arith, is.place, are.follows v.job is.job)
 
   pub node_time : (rows : List NodeTime) (v : Node) → IsNode p v → time_at (by_job firsts rows) v ≡ get_or rows (number_of firsts v) no_time
-  node_time rows v is = time_told firsts rows v (job_inside v is) (place_inside v is)
+  node_time rows v is = time_by_job firsts rows v (job_inside v is) (place_inside v is)
 
   -- exactly the nodes of the shop have rows
   pub timed_node : (rows : List NodeTime) (v : Node) → IsTimed (by_job firsts rows) v → IsNode p v
@@ -90,7 +90,7 @@ module _ (p : PlannedShop) (firsts : List ℕ) (are : AreFirsts p firsts) where
   ]
 
   pub node_timed : (rows : List NodeTime) (v : Node) → length rows ≡ get_or firsts (jobs p) 0 → IsNode p v → IsTimed (by_job firsts rows) v
-  node_timed rows v size is = timed_told firsts rows v (job_inside v is) (place_inside v is) (omega (arith, size, next_first v.job is.job))
+  node_timed rows v size is = timed_by_job firsts rows v (job_inside v is) (place_inside v is) (omega (arith, size, next_first v.job is.job))
 
   -- a row that is written is that of its node alone
   module _ (rows : List NodeTime) (size : length rows ≡ get_or firsts (jobs p) 0) (v : Node) (is : IsNode p v) (row : NodeTime) where

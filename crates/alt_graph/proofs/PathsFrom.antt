@@ -22,25 +22,25 @@ snoc_same xs ys a b same =
 module _ (p : PlannedShop) (b : NodeBounds) where
   -- a path has a node
   pub path_some : (nodes : List Node) (v : Node) (n : ℕ) → PathFrom p b nodes v n → 0 < length nodes
-  path_some _ _ _ (begins_at v n is told) = omega arith
+  path_some _ _ _ (begins_at v n is recorded) = omega arith
   path_some _ _ _ (goes_along nodes u v n d path ahead arc) = omega (arith, length-append nodes (v ∷ []))
 
   -- it begins with a bounded node
   pub path_begins : (nodes : List Node) (v : Node) (n : ℕ) → PathFrom p b nodes v n → (m : ℕ) × HasBound p b (node_at nodes 0) m
-  path_begins _ _ _ (begins_at v n is told) = (n, (is, told))
+  path_begins _ _ _ (begins_at v n is recorded) = (n, (is, recorded))
   path_begins _ _ _ (goes_along nodes u v n d path ahead arc) =
       rw (get_or_append_left nodes (v ∷ []) (node 0 0) 0 (path_some nodes u n path)) (path_begins nodes u n path)
 
   -- and ends with its last node
   pub path_ends : (nodes : List Node) (v : Node) (n i : ℕ) → PathFrom p b nodes v n → i + 1 ≡ length nodes → node_at nodes i ≡ v
-  path_ends _ _ _ i (begins_at v n inside told) end = let is : i ≡ 0 = omega arith in ap (node_at (v ∷ [])) is
+  path_ends _ _ _ i (begins_at v n inside recorded) end = let is : i ≡ 0 = omega arith in ap (node_at (v ∷ [])) is
   path_ends _ _ _ i (goes_along nodes u v n d path ahead arc) end =
       let is : i ≡ length nodes = omega (arith, length-append nodes (v ∷ [])) in
       ap (node_at (nodes ++ v ∷ [])) is ∙ get_or-append_seam nodes v [] (node 0 0)
 
   -- arcs from nodes ahead lead along it
   pub path_arcs : (nodes : List Node) (v : Node) (n i : ℕ) → PathFrom p b nodes v n → i + 1 < length nodes → LeadsAhead p b (node_at nodes i) (node_at nodes (i + 1))
-  path_arcs _ _ _ i (begins_at v n is told) lt = absurd (omega arith)
+  path_arcs _ _ _ i (begins_at v n is recorded) lt = absurd (omega arith)
   path_arcs _ _ _ i (goes_along nodes u v n d path ahead arc) lt = elim (cases_lt (i + 1) (length nodes)) [
     | inl before ↦ rw (get_or_append_left nodes (v ∷ []) (node 0 0) i (omega arith), get_or_append_left nodes (v ∷ []) (node 0 0) (i + 1) before) (path_arcs nodes u n i path before)
     | inr past ↦ (let end : i + 1 ≡ length nodes = omega (arith, length-append nodes (v ∷ [])) in
@@ -51,13 +51,13 @@ module _ (p : PlannedShop) (b : NodeBounds) where
 
   -- a list of nodes is a path of one length at most
   pub path_once : (xs ys : List Node) (v w : Node) (n m : ℕ) → IsWellShaped p → PathFrom p b xs v n → PathFrom p b ys w m → xs ≡ ys → (v ≡ w) × (n ≡ m)
-  path_once _ _ _ _ _ _ shaped (begins_at v n inside told) (begins_at w m in_shop also) same =
+  path_once _ _ _ _ _ _ shaped (begins_at v n inside recorded) (begins_at w m in_shop also) same =
       let is : v ≡ w = ap (λ nodes. node_at nodes 0) same in
-      let both : Some n ≡ Some m = sym told ∙ ap (bound_of b) is ∙ also in
+      let both : Some n ≡ Some m = sym recorded ∙ ap (bound_of b) is ∙ also in
       (is, cc)
-  path_once _ _ _ _ _ _ shaped (begins_at w m inside told) (goes_along nodes u v n d path ahead arc) same =
+  path_once _ _ _ _ _ _ shaped (begins_at w m inside recorded) (goes_along nodes u v n d path ahead arc) same =
       absurd (omega (arith, ap length same, length-append nodes (v ∷ []), path_some nodes u n path))
-  path_once _ _ _ _ _ _ shaped (goes_along nodes u v n d path ahead arc) (begins_at w m inside told) same =
+  path_once _ _ _ _ _ _ shaped (goes_along nodes u v n d path ahead arc) (begins_at w m inside recorded) same =
       absurd (omega (arith, ap length same, length-append nodes (v ∷ []), path_some nodes u n path))
   path_once _ _ _ _ _ _ shaped (goes_along nodes u v n d path ahead arc) (goes_along others x w m e other further also) same =
       let (front, end) = snoc_same nodes others v w same in
@@ -87,16 +87,16 @@ module _ (p : PlannedShop) (b : NodeBounds) where
       none (subst (λ (k : ℕ). LeadsAhead p b (node_at nodes (i - 1)) (node_at nodes k)) next (path_arcs nodes v n (i - 1) path (omega arith)))
 
   -- nothing is told of what is no chain
-  pub told_none : (nodes : List Node) (told : Option ℕ) → told ≡ None → ((n : ℕ) → IsChainFrom p b nodes n → ⊥) → (n : ℕ) → (told ≡ Some n) ↔ IsChainFrom p b nodes n
-  told_none nodes told is none n = (λ some. absurd (differ (sym is ∙ some)), λ chain. absurd (none n chain))
+  pub no_chain : (nodes : List Node) (answer : Option ℕ) → answer ≡ None → ((n : ℕ) → IsChainFrom p b nodes n → ⊥) → (n : ℕ) → (answer ≡ Some n) ↔ IsChainFrom p b nodes n
+  no_chain nodes answer is none n = (λ some. absurd (differ (sym is ∙ some)), λ chain. absurd (none n chain))
     where
       differ : None ≡ Some n → ⊥
       differ bad = cc
 
   -- the length of a chain is told
-  pub told_length : (nodes : List Node) (v : Node) (n : ℕ) → IsWellShaped p → length nodes ≤ node_count p → PathFrom p b nodes v n
+  pub chain_length : (nodes : List Node) (v : Node) (n : ℕ) → IsWellShaped p → length nodes ≤ node_count p → PathFrom p b nodes v n
       → (m : ℕ) → (Some n ≡ Some m) ↔ IsChainFrom p b nodes m
-  told_length nodes v n shaped few path m = (there, back)
+  chain_length nodes v n shaped few path m = (there, back)
     where
       there : Some n ≡ Some m → IsChainFrom p b nodes m
       there same = let is : n ≡ m = cc in record { few = few; path = (v, subst (λ (k : ℕ). PathFrom p b nodes v k) is path) }
@@ -105,10 +105,10 @@ module _ (p : PlannedShop) (b : NodeBounds) where
       back chain = ap (λ k. Some k) (path_once nodes nodes v chain.path.0 n m shaped path chain.path.1 refl).1
 
 -- what is told of the first node
-pub bound_told : (p : PlannedShop) (b : NodeBounds) (v : Node) → IsNode p v → (told : Option ℕ) → told ≡ bound_of b v
-    → MatchOption told ((n : ℕ) → HasBound p b v n → ⊥) (HasBound p b v)
-bound_told p b v is None same = λ n (inside, bound). differ n (same ∙ bound)
+pub bound_exact : (p : PlannedShop) (b : NodeBounds) (v : Node) → IsNode p v → (recorded : Option ℕ) → recorded ≡ bound_of b v
+    → MatchOption recorded ((n : ℕ) → HasBound p b v n → ⊥) (HasBound p b v)
+bound_exact p b v is None same = λ n (inside, bound). differ n (same ∙ bound)
   where
     differ : (n : ℕ) → None ≡ Some n → ⊥
     differ n bad = cc
-bound_told p b v is (Some n) same = (is, sym same)
+bound_exact p b v is (Some n) same = (is, sym same)

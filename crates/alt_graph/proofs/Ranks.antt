@@ -39,7 +39,7 @@ pub placed_still : (p : PlannedShop) (b : NodeBounds) (t s : NodeTimes) (v : Nod
 placed_still p b t s v same sources placed = record {
   rises = λ u d arc. omega (arith, ap (λ (row : NodeTime). row.rank) (sources u d arc), ap (λ (row : NodeTime). row.rank) same, placed.rises u d arc);
   fits = λ u d arc ahead. omega (arith, ap (λ (row : NodeTime). row.earliest) (sources u d arc), ap (λ (row : NodeTime). row.earliest) same, placed.fits u d arc ahead);
-  bound = λ n told. omega (arith, ap (λ (row : NodeTime). row.earliest) same, placed.bound n told);
+  bound = λ n recorded. omega (arith, ap (λ (row : NodeTime). row.earliest) same, placed.bound n recorded);
   attained = subst (λ (row : NodeTime). IsAttainedFrom p b s v row.earliest row.before) (sym same) (still (before_of t v) placed.attained);
   bounded = omega (arith, ap (λ (row : NodeTime). row.earliest) same, ap (λ (row : NodeTime). row.rank) same, placed.bounded);
 }
@@ -173,7 +173,7 @@ module _ (graph : PlanGraph) (q : PlannedShop) (b : NodeBounds) (done : List Nod
         record {
           rises = λ u d arc. omega (arith, ap (λ (row : NodeTime). row.rank) (sources u d arc), rank_new, sound.within u (source_node p u v d arc) (best.ranked u d arc));
           fits = λ u d arc ahead. omega (arith, ap (λ (row : NodeTime). row.earliest) (sources u d arc), ap (λ (row : NodeTime). row.earliest) at_new, best.fits u d arc ahead);
-          bound = λ n told. omega (arith, ap (λ (row : NodeTime). row.earliest) at_new, best.bound n told);
+          bound = λ n recorded. omega (arith, ap (λ (row : NodeTime). row.earliest) at_new, best.bound n recorded);
           attained = subst (λ (row : NodeTime). IsAttainedFrom p b next_times v row.earliest row.before) (sym at_new) (last_is longest.before best.attained sources);
           bounded = omega (arith, ap (λ (row : NodeTime). row.earliest) at_new, rank_new, best.bounded);
         }

@@ -15,23 +15,23 @@ lookups_of p lookups firsts graph is are = subst (λ (g : PlanGraph). AreLookups
 
 module _ (p : PlannedShop) (shaped : IsWellShaped p) where
   -- the place of a step's job, looked up
-  pub place_told : (lookups : Lookups) (j k m : ℕ) → AreLookups p lookups → Visits p j k m → Stands p m (get_or lookups.places.items (slot_of m j) 0) j k
-  place_told lookups j k m are visits =
+  pub place_found : (lookups : Lookups) (j k m : ℕ) → AreLookups p lookups → Visits p j k m → Stands p m (get_or lookups.places.items (slot_of m j) 0) j k
+  place_found lookups j k m are visits =
       let found = visits-stands p j k m shaped visits in
       let stands : Stands p m found.0 j k = found.1 in
-      let told : get_or lookups.places.items (slot_of m (job_at p m found.0)) 0 ≡ found.0 = are.places m (visits_machine p j k m shaped visits) found.0 stands.within in
-      let same : get_or lookups.places.items (slot_of m j) 0 ≡ found.0 = ap (λ i. get_or lookups.places.items (slot_of m i) 0) (sym stands.job) ∙ told in
+      let looked_up : get_or lookups.places.items (slot_of m (job_at p m found.0)) 0 ≡ found.0 = are.places m (visits_machine p j k m shaped visits) found.0 stands.within in
+      let same : get_or lookups.places.items (slot_of m j) 0 ≡ found.0 = ap (λ i. get_or lookups.places.items (slot_of m i) 0) (sym stands.job) ∙ looked_up in
       rw same stands
 
   -- the step of the job at a place, looked up
-  pub entry_told : (lookups : Lookups) (m a : ℕ) → AreLookups p lookups → m < machines p → a < length (order p m)
+  pub entry_found : (lookups : Lookups) (m a : ℕ) → AreLookups p lookups → m < machines p → a < length (order p m)
       → Stands p m a (job_at p m a) (get_or lookups.steps.items (slot_of m (job_at p m a)) 0)
-  entry_told lookups m a are machine within =
+  entry_found lookups m a are machine within =
       let found = stands_at p m a shaped machine within in
       let stands : Stands p m a (job_at p m a) found.0 = found.1 in
-      let told : get_or lookups.steps.items (slot_of m (job_at p m a)) 0 ≡ found.0 =
+      let looked_up : get_or lookups.steps.items (slot_of m (job_at p m a)) 0 ≡ found.0 =
       are.steps (job_at p m a) (visits_job p (job_at p m a) found.0 m stands.visits) found.0 m stands.visits in
-      rw told stands
+      rw looked_up stands
 
   -- a step is on one machine
   visits_here : (j k m n : ℕ) → Visits p j k m → Visits p j k n → m ≡ n

@@ -40,9 +40,9 @@ mark_free place is = elim (eqb_tells place UNRANKED) [
   | inr other ↦ absurd (other.1 is)
 ]
 
-mark_taken : (place : ℕ) → place ≢ UNRANKED → mark place ≡ 0
-mark_taken place taken = elim (eqb_tells place UNRANKED) [
-  | inl same ↦ absurd (taken same.1)
+mark_placed : (place : ℕ) → place ≢ UNRANKED → mark place ≡ 0
+mark_placed place placed = elim (eqb_tells place UNRANKED) [
+  | inl same ↦ absurd (placed same.1)
   | inr other ↦ rw other.0 refl
 ]
 
@@ -53,8 +53,8 @@ unseen_all (suc n) =
     omega (arith, more, unseen_all n)
 
 pub unseen_less : (seen : List ℕ) (i place : ℕ) → i < length seen → get_or seen i 0 ≡ UNRANKED → place ≢ UNRANKED → unseen (set seen i place) + 1 ≡ unseen seen
-unseen_less seen i place inside free taken =
-    omega (arith, sum_by-set mark seen i place 0 inside, mark_free (get_or seen i 0) free, mark_taken place taken)
+unseen_less seen i place inside free placed =
+    omega (arith, sum_by-set mark seen i place 0 inside, mark_free (get_or seen i 0) free, mark_placed place placed)
 
 -- ---- walks
 
@@ -133,15 +133,15 @@ module _ (p : PlannedShop) (firsts : List ℕ) (are : AreFirsts p firsts) (rows 
       marks_more i (inr same) = ap (λ (w : Node). get_or after (number_of firsts w) 0) (newest i same) ∙ seen_new ∙ same
 
       marked_in_more : (u : Node) → IsNode p u → (u ≡ v) ⊎ (u ≢ v) → get_or after (number_of firsts u) 0 ≢ UNRANKED → get_or after (number_of firsts u) 0 < length more
-      marked_in_more u other (inl same) taken = omega (arith, ap (λ (w : Node). get_or after (number_of firsts w) 0) same, seen_new, length_push nodes v)
-      marked_in_more u other (inr apart) taken =
-          let was : get_or seen (number_of firsts u) 0 ≢ UNRANKED = λ is. taken (seen_other u other apart ∙ is) in
+      marked_in_more u other (inl same) placed = omega (arith, ap (λ (w : Node). get_or after (number_of firsts w) 0) same, seen_new, length_push nodes v)
+      marked_in_more u other (inr apart) placed =
+          let was : get_or seen (number_of firsts u) 0 ≢ UNRANKED = λ is. placed (seen_other u other apart ∙ is) in
           omega (arith, seen_other u other apart, walk.marked_in u other was, length_push nodes v)
 
       marked_more : (u : Node) → IsNode p u → (u ≡ v) ⊎ (u ≢ v) → get_or after (number_of firsts u) 0 ≢ UNRANKED → node_at more (get_or after (number_of firsts u) 0) ≡ u
-      marked_more u other (inl same) taken = newest _ (sym (ap (λ (w : Node). get_or after (number_of firsts w) 0) same ∙ seen_new)) ∙ sym same
-      marked_more u other (inr apart) taken =
-          let was : get_or seen (number_of firsts u) 0 ≢ UNRANKED = λ is. taken (seen_other u other apart ∙ is) in
+      marked_more u other (inl same) placed = newest _ (sym (ap (λ (w : Node). get_or after (number_of firsts w) 0) same ∙ seen_new)) ∙ sym same
+      marked_more u other (inr apart) placed =
+          let was : get_or seen (number_of firsts u) 0 ≢ UNRANKED = λ is. placed (seen_other u other apart ∙ is) in
           ap (node_at more) (seen_other u other apart) ∙ earlier _ (walk.marked_in u other was) ∙ walk.marked u other was
 
       -- the walk goes on
@@ -154,8 +154,8 @@ module _ (p : PlannedShop) (firsts : List ℕ) (are : AreFirsts p firsts) (rows 
         back = λ i lt. back_more i (cases_place (i + 1) lt);
         last = λ i same. subst (λ (w : Node). HasArc p u w) (sym (newest i (omega (arith, length_push nodes v)))) arc;
         marks = λ i lt. marks_more i (cases_place i lt);
-        marked_in = λ w is taken. marked_in_more w is (cases_node p firsts are w v is walk.next_node) taken;
-        marked = λ w is taken. marked_more w is (cases_node p firsts are w v is walk.next_node) taken;
+        marked_in = λ w is placed. marked_in_more w is (cases_node p firsts are w v is walk.next_node) placed;
+        marked = λ w is placed. marked_more w is (cases_node p firsts are w v is walk.next_node) placed;
         count = omega (arith, length_push nodes v, length-set seen (number_of firsts v) (length nodes), unseen_less seen (number_of firsts v) (length nodes) inside free (λ same. omega (arith, few_nodes, same)), walk.count);
       }
 
@@ -165,11 +165,11 @@ module _ (p : PlannedShop) (firsts : List ℕ) (are : AreFirsts p firsts) (rows 
   -- where a node comes again
   pub walk_trail : (trail : Trail) (seen : List ℕ) (v : Node) → IsWalk p firsts rows trail.nodes.items seen v → get_or seen (number_of firsts v) 0 ≢ UNRANKED
       → trail.start ≡ get_or seen (number_of firsts v) 0 → IsTrail p trail
-  walk_trail trail seen v walk taken is = record {
-    start = omega (arith, is, walk.marked_in v walk.next_node taken);
+  walk_trail trail seen v walk placed is = record {
+    start = omega (arith, is, walk.marked_in v walk.next_node placed);
     back = walk.back;
     closes = λ i same.
-        let at : trail_at trail trail.start ≡ v = ap (trail_at trail) is ∙ walk.marked v walk.next_node taken in
+        let at : trail_at trail trail.start ≡ v = ap (trail_at trail) is ∙ walk.marked v walk.next_node placed in
         subst (λ (w : Node). HasArc p w (trail_at trail i)) (sym at) (walk.last i same);
     apart = λ i j lt within same. omega (arith, walk.marks i (omega arith), walk.marks j within, ap (λ (w : Node). get_or seen (number_of firsts w) 0) same);
   }

@@ -55,8 +55,8 @@ pub table_first : (p : PlannedShop) → IsWellShaped p → (v : Node) → IsNode
 table_first p shaped v is first = table_at p.plan.release v.job v.place (omega (arith, is.job, shaped.counts.releases)) ∙ bound_first (release p v.job) v.place (release p v.job) first refl
 
 module _ (p : PlannedShop) (shaped : IsWellShaped p) where
-  told_at : (v : Node) → IsNode p v → bound_of (whole p) v ≡ bound_at (release p v.job) v.place
-  told_at v is = table_at p.plan.release v.job v.place (omega (arith, is.job, shaped.counts.releases))
+  release_bound : (v : Node) → IsNode p v → bound_of (whole p) v ≡ bound_at (release p v.job) v.place
+  release_bound v is = table_at p.plan.release v.job v.place (omega (arith, is.job, shaped.counts.releases))
 
   pub whole_ahead : (v : Node) → IsAheadOf (whole p) v
   whole_ahead v = omega arith
@@ -66,7 +66,7 @@ module _ (p : PlannedShop) (shaped : IsWellShaped p) where
 
   -- they are rooted
   pub whole_rooted : AreRooted p (whole p)
-  whole_rooted v is free = (let (l, above) = bound_none (release p v.job) v.place (sym (told_at v is) ∙ free) in (l, above, whole_ahead (node v.job l)))
+  whole_rooted v is free = (let (l, above) = bound_none (release p v.job) v.place (sym (release_bound v is) ∙ free) in (l, above, whole_ahead (node v.job l)))
 
   first_node : (j : ℕ) → j < jobs p → IsNode p (node j 0)
   first_node j inside = record { job = inside; place = omega arith }
@@ -77,26 +77,26 @@ module _ (p : PlannedShop) (shaped : IsWellShaped p) where
   from_path _ _ _ (follows nodes u v n d path arc) = goes_along nodes u v n d (from_path nodes u n path) (whole_ahead u) arc
 
   to_path : (nodes : List Node) (v : Node) (n : ℕ) → PathFrom p (whole p) nodes v n → Path p nodes v n
-  to_path _ _ _ (begins_at v n is told) =
-      let (first, at) = bound_some (release p v.job) v.place n (sym (told_at v is) ∙ told) in
+  to_path _ _ _ (begins_at v n is recorded) =
+      let (first, at) = bound_some (release p v.job) v.place n (sym (release_bound v is) ∙ recorded) in
       subst (λ m. Path p (v ∷ []) v m) (sym at) (first_path p v first is.job)
   to_path _ _ _ (goes_along nodes u v n d path ahead arc) = follows nodes u v n d (to_path nodes u n path) arc
 
   -- and so are its times
   attained_from : (t : NodeTimes) (v : Node) → IsNode p v → (n : ℕ) (o : Option Node) → IsAttained p t v n o → IsAttainedFrom p (whole p) t v n o
-  attained_from t v is n None (first, at) = told_at v is ∙ bound_first (release p v.job) v.place n first at
+  attained_from t v is n None (first, at) = release_bound v is ∙ bound_first (release p v.job) v.place n first at
   attained_from t v is n (Some u) (d, arc, at) = (d, arc, at, whole_ahead u)
 
   attained_to : (t : NodeTimes) (v : Node) → IsNode p v → (n : ℕ) (o : Option Node) → IsAttainedFrom p (whole p) t v n o → IsAttained p t v n o
-  attained_to t v is n None told = bound_some (release p v.job) v.place n (sym (told_at v is) ∙ told)
+  attained_to t v is n None recorded = bound_some (release p v.job) v.place n (sym (release_bound v is) ∙ recorded)
   attained_to t v is n (Some u) (d, arc, at, ahead) = (d, arc, at)
 
   times_from : (t : NodeTimes) → AreTimes p t → AreTimesFrom p (whole p) t
   times_from t are = record {
     ranks = times_ranks p t are;
     moments = record {
-      bounds = λ v n is told. (
-          let (first, at) = bound_some (release p v.job) v.place n (sym (told_at v is) ∙ told) in
+      bounds = λ v n is recorded. (
+          let (first, at) = bound_some (release p v.job) v.place n (sym (release_bound v is) ∙ recorded) in
           let same : node v.job 0 ≡ v = node_same (node v.job 0) v refl (sym first) in
           omega (arith, at, ap (earliest_of t) same, are.schedule.moments.releases v.job is.job));
       arcs = λ u v d ahead arc. are.schedule.moments.arcs u v d arc;
@@ -136,14 +136,14 @@ module _ (p : PlannedShop) (shaped : IsWellShaped p) where
   chain_from : (nodes : List Node) (n : ℕ) → IsChain p nodes n → IsChainFrom p (whole p) nodes n
   chain_from nodes n chain = record { few = chain.few; path = (chain.path.0, from_path nodes chain.path.0 n chain.path.1) }
 
-  module _ (nodes : List Node) (told : Option ℕ) (exact : (n : ℕ) → (told ≡ Some n) ↔ IsChainFrom p (whole p) nodes n) where
-    pub told_chain : (n : ℕ) → (told ≡ Some n) ↔ IsChain p nodes n
-    told_chain n = (λ some. chain_to nodes n ((exact n).0 some), λ chain. (exact n).1 (chain_from nodes n chain))
+  module _ (nodes : List Node) (answer : Option ℕ) (exact : (n : ℕ) → (answer ≡ Some n) ↔ IsChainFrom p (whole p) nodes n) where
+    pub exact_chain : (n : ℕ) → (answer ≡ Some n) ↔ IsChain p nodes n
+    exact_chain n = (λ some. chain_to nodes n ((exact n).0 some), λ chain. (exact n).1 (chain_from nodes n chain))
 
-    pub told_no_faster : IfSome told (λ n. (j : ℕ) → EndsIn nodes (leaving p j) → IsNeverGoneBefore p j n)
-    told_no_faster = go told refl
+    pub answer_no_faster : IfSome answer (λ n. (j : ℕ) → EndsIn nodes (leaving p j) → IsNeverGoneBefore p j n)
+    answer_no_faster = go answer refl
       where
-        go : (o : Option ℕ) → told ≡ o → IfSome o (λ n. (j : ℕ) → EndsIn nodes (leaving p j) → IsNeverGoneBefore p j n)
+        go : (o : Option ℕ) → answer ≡ o → IfSome o (λ n. (j : ℕ) → EndsIn nodes (leaving p j) → IsNeverGoneBefore p j n)
         go None is = tt
         go (Some n) is = (let chain = (exact n).0 is in chain_no_faster p nodes chain.path.0 n shaped (to_path nodes chain.path.0 n chain.path.1))
 

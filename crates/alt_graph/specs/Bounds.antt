@@ -9,7 +9,7 @@ use Rattle.alt_graph.specs.Evidence.{node_count}
 -- for each job how many of its nodes are passed, and for its places the moments before which they aren't reached, whatever leads to them, where there is one
 pub record NodeBounds : Type 0 where
   pub made : List ℕ
-  pub told : List (List (Option ℕ))
+  pub recorded : List (List (Option ℕ))
 
 -- the node is ahead, so that its arcs count
 abbrev pub IsAheadOf : NodeBounds → Node → Type 0
@@ -17,7 +17,7 @@ IsAheadOf b v = slice_index b.made v.job ≤ v.place
 
 -- the node's bound, if it has one
 abbrev pub bound_of : NodeBounds → Node → Option ℕ
-bound_of b v = slice_index_or (slice_index_or b.told v.job []) v.place None
+bound_of b v = slice_index_or (slice_index_or b.recorded v.job []) v.place None
 
 -- no bound is greater
 abbrev pub MAX_BOUND : ℕ
@@ -52,4 +52,4 @@ pub record MomentsFitFrom (p : PlannedShop) (b : NodeBounds) (kept : Node → �
 
 -- the bounds of a whole plan: the releases, at the jobs' first places; all nodes are ahead
 abbrev pub whole : PlannedShop → NodeBounds
-whole p = record { made = []; told = map (λ release. Some release ∷ []) p.plan.release }
+whole p = record { made = []; recorded = map (λ release. Some release ∷ []) p.plan.release }

@@ -52,7 +52,7 @@ pub record IsLongest (r : PlanRanking) (Into : Node → Node → ℕ → Type 0)
 
 -- the path that begins with v, at its bound
 pub record IsFromBound (r : PlanRanking) (v : Node) (longest : Longest) : Type 0 where
-  pub told : bound_of r.bounds v ≡ Some longest.length
+  pub recorded : bound_of r.bounds v ≡ Some longest.length
   pub limited : longest.length ≤ MAX_BOUND
   pub before : longest.before ≡ None
 

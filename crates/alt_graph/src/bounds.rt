@@ -24,7 +24,7 @@ pub trait Bounds: Sized + Drop {
     /// The moment before which the node isn't reached, in time units, if it has one.
     fn bound(&self, node: Node) -> Option<Moment>
         requires { IsNode (planned self.now) node }
-        ensures told { result ≡ bound_of (bounds self.now) node }
+        ensures recorded { result ≡ bound_of (bounds self.now) node }
         ensures limited { IfSome result (λ moment. moment ≤ MAX_BOUND) };
 }
 

@@ -90,7 +90,7 @@ pub fn by_rank(
     requires ranks { AreRanks shaped.now times.now }
     requires count { count ≡ node_count shaped.now }
     ensures size { IfOk result (λ nodes. length nodes.items ≡ count) }
-    ensures told { IfOk result (λ nodes. AreAtTheirRanks shaped.now times.now nodes.items) }
+    ensures ranked { IfOk result (λ nodes. AreAtTheirRanks shaped.now times.now nodes.items) }
     ensures all { IfOk result (λ nodes. (v : Node) → IsNode shaped.now v → IsAtItsRank times.now nodes.items v) }
 {
     let mut nodes = vec![in alloc; None; count]?;
@@ -105,8 +105,8 @@ fn note_ranks(shaped: &Shaped, times: &Times, job: JobNo, nodes: &mut [Option<No
     requires ranks { AreRanks shaped.now times.now }
     requires job { job < jobs shaped.now }
     requires size { length nodes.old ≡ node_count shaped.now }
-    requires told { AreAtTheirRanks shaped.now times.now nodes.old }
-    ensures told { AreAtTheirRanks shaped.now times.now nodes.new }
+    requires ranked { AreAtTheirRanks shaped.now times.now nodes.old }
+    ensures ranked { AreAtTheirRanks shaped.now times.now nodes.new }
     ensures noted { (k : ℕ) → k ≤ steps shaped.now job → IsAtItsRank times.now nodes.new (node job k) }
     ensures still { (v : Node) → IsNode shaped.now v → IsAtItsRank times.now nodes.old v → IsAtItsRank times.now nodes.new v }
 {

@@ -11,7 +11,7 @@ use Rattle.arc_choice.specs.declared.branch.Decision.{Decision}
 use Rattle.arc_choice.specs.declared.branch.Decision.TheVariants.{Open, One}
 use Rattle.arc_choice.specs.Choices.{Keeps, KeepsOne, Answers, IsArc, IsSound, nodes, pair_at, arc_at, no_arc, side_of}
 use Rattle.arc_choice.specs.Reach.{Rises, HasBit}
-use Rattle.arc_choice.specs.Branches.{IsForced, IsBranch, IsWithin, IsCopy, Narrows, HasNone, Told, Always, AreHeads, AreLatest, KeepsDecision, decision_at, decision_for}
+use Rattle.arc_choice.specs.Branches.{IsForced, IsBranch, IsWithin, IsCopy, Narrows, HasNone, Propagates, Always, AreHeads, AreLatest, KeepsDecision, decision_at, decision_for}
 
 -- ---- one step after another
 
@@ -36,13 +36,13 @@ pub narrows_then : (P : (ℕ → ℕ) → Type 0) (q : Question) (s t u : Branch
 narrows_then P q s t u one other = record { branch = other.branch; keeps = λ w answers holds within. other.keeps w answers holds (one.keeps w answers tt within) }
 
 -- the same of a call that comes last
-pub told_on : {A : Type 0} (P : (ℕ → ℕ) → Type 0) (q : Question) (s t u : Branch) (r : Result A Clash) → Narrows P q s t → Told P q t u r → Told P q s u r
-told_on P q s t u (Ok x) one other = record { branch = other.branch; keeps = λ w answers holds within. other.keeps w answers holds (one.keeps w answers holds within) }
-told_on P q s t u (Err e) one none = λ w answers holds within. none w answers holds (one.keeps w answers holds within)
+pub propagates_on : {A : Type 0} (P : (ℕ → ℕ) → Type 0) (q : Question) (s t u : Branch) (r : Result A Clash) → Narrows P q s t → Propagates P q t u r → Propagates P q s u r
+propagates_on P q s t u (Ok x) one other = record { branch = other.branch; keeps = λ w answers holds within. other.keeps w answers holds (one.keeps w answers holds within) }
+propagates_on P q s t u (Err e) one none = λ w answers holds within. none w answers holds (one.keeps w answers holds within)
 
-pub told_by : {A : Type 0} (P : (ℕ → ℕ) → Type 0) (q : Question) (s t : Branch) (r : Result A Clash) → ((w : ℕ → ℕ) → Answers q w → IsWithin q s w → P w) → Told P q s t r → Told Always q s t r
-told_by P q s t (Ok x) holds one = narrows_by P q s t holds one
-told_by P q s t (Err e) holds none = none_by P q s holds none
+pub propagates_by : {A : Type 0} (P : (ℕ → ℕ) → Type 0) (q : Question) (s t : Branch) (r : Result A Clash) → ((w : ℕ → ℕ) → Answers q w → IsWithin q s w → P w) → Propagates P q s t r → Propagates Always q s t r
+propagates_by P q s t (Ok x) holds one = narrows_by P q s t holds one
+propagates_by P q s t (Err e) holds none = none_by P q s holds none
 
 -- ---- heads and latest moments
 

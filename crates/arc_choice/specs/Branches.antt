@@ -70,8 +70,8 @@ module _ (P : (ℕ → ℕ) → Type 0) (q : Question) where
   HasNone b = (w : ℕ → ℕ) → Answers q w → P w → IsWithin q b w → ⊥
 
   -- the one or, at a clash, the other
-  abbrev pub Told : {A : Type 0} → Branch → Branch → Result A Clash → Type 0
-  Told old new result = MatchResult result (λ _. Narrows old new) (λ _. HasNone old)
+  abbrev pub Propagates : {A : Type 0} → Branch → Branch → Result A Clash → Type 0
+  Propagates old new result = MatchResult result (λ _. Narrows old new) (λ _. HasNone old)
 
 -- each answer of the branch keeps the side
 pub record IsForced (q : Question) (b : Branch) (side : Side) : Type 0 where
@@ -80,4 +80,4 @@ pub record IsForced (q : Question) (b : Branch) (side : Side) : Type 0 where
 
 -- it is so of the side that is told, if one is; at a clash the branch has no answers
 abbrev pub Forces : Question → Branch → Result (Option Side) Clash → Type 0
-Forces q b result = MatchResult result (λ told. IfSome told (IsForced q b)) (λ _. HasNone Always q b)
+Forces q b result = MatchResult result (λ side. IfSome side (IsForced q b)) (λ _. HasNone Always q b)

@@ -2,7 +2,7 @@
 
 ghost use Rattle.std.specs.Prelude.{◌≡◌, ℕ, ◌<◌, ◌≤◌, length, true, false};
 ghost use Rattle.arc_choice.specs.Choices.{Keeps, IsArc, IsSound, nodes, side_of};
-ghost use Rattle.arc_choice.specs.Branches.{IsBranch, Narrows, HasNone, Told, Forces, Always};
+ghost use Rattle.arc_choice.specs.Branches.{IsBranch, Narrows, HasNone, Propagates, Forces, Always};
 ghost use Rattle.arc_choice.specs.Branches.{AreHeads, AreLatest, decision_for};
 
 use crate::branch::{Branch, Decision};
@@ -55,7 +55,7 @@ impl Branch {
     fn keep(&mut self, question: &Question, work: &mut Work, arc: Arc) -> Result<(), Clash>
         requires branch { IsBranch question.now self.old }
         requires arc { IsArc (nodes question.now) arc }
-        ensures { Told (λ w. Keeps w arc) question.now self.old self.new result }
+        ensures { Propagates (λ w. Keeps w arc) question.now self.old self.new result }
     {
         let (from, to) = (arc.from as usize, arc.to as usize);
         let head = self.state.heads[from].saturating_add(arc.length);
@@ -108,7 +108,7 @@ impl Branch {
         requires sound { IsSound question.now }
         requires branch { IsBranch question.now self.old }
         requires pair { side.pair < length question.now.pairs.items }
-        ensures { Told (λ w. Keeps w (side_of question.now side.pair side.one)) question.now self.old self.new result }
+        ensures { Propagates (λ w. Keeps w (side_of question.now side.pair side.one)) question.now self.old self.new result }
     {
         self.note(question, side);
         self.keep(question, work, question.side(side))
@@ -170,7 +170,7 @@ impl Branch {
     ) -> Result<(), Clash>
         requires sound { IsSound question.now }
         requires branch { IsBranch question.now self.old }
-        ensures { Told Always question.now self.old self.new result }
+        ensures { Propagates Always question.now self.old self.new result }
     {
         if number >= question.arcs.len() {
             return Ok(());
@@ -187,7 +187,7 @@ impl Branch {
     ) -> Result<(), Clash>
         requires sound { IsSound question.now }
         requires branch { IsBranch question.now self.old }
-        ensures { Told Always question.now self.old self.new result }
+        ensures { Propagates Always question.now self.old self.new result }
     {
         if side.pair >= question.pairs.len() {
             return Ok(());

@@ -2,7 +2,7 @@
 
 ghost use Rattle.std.specs.Prelude.{◌<◌, length};
 ghost use Rattle.arc_choice.specs.Choices.{Keeps, IsSound, side_of};
-ghost use Rattle.arc_choice.specs.Branches.{IsBranch, Told, Always};
+ghost use Rattle.arc_choice.specs.Branches.{IsBranch, Propagates, Always};
 
 use crate::branch::Branch;
 use crate::choosing::Side;
@@ -24,7 +24,7 @@ impl Branch {
     ) -> Result<(), Clash>
         requires sound { IsSound question.now }
         requires branch { IsBranch question.now self.old }
-        ensures { Told Always question.now self.old self.new result }
+        ensures { Propagates Always question.now self.old self.new result }
     {
         for number in numbers {
             self.keep_arc(question, work, *number)?;
@@ -41,7 +41,7 @@ impl Branch {
     ) -> Result<(), Clash>
         requires sound { IsSound question.now }
         requires branch { IsBranch question.now self.old }
-        ensures { Told Always question.now self.old self.new result }
+        ensures { Propagates Always question.now self.old self.new result }
     {
         for side in sides {
             self.keep_side(question, work, *side)?;
@@ -58,7 +58,7 @@ impl Branch {
     ) -> Result<(), Clash>
         requires sound { IsSound question.now }
         requires branch { IsBranch question.now self.old }
-        ensures { Told Always question.now self.old self.new result }
+        ensures { Propagates Always question.now self.old self.new result }
     {
         let Some(end) = end else {
             return Ok(());
@@ -76,7 +76,7 @@ impl Branch {
     ) -> Result<(), Clash>
         requires sound { IsSound question.now }
         requires branch { IsBranch question.now self.old }
-        ensures { Told Always question.now self.old self.new result }
+        ensures { Propagates Always question.now self.old self.new result }
     {
         for _ in 0..ROUNDS {
             let Some(node) = work.raised.pop() else {
@@ -96,7 +96,7 @@ impl Branch {
     ) -> Result<(), Clash>
         requires sound { IsSound question.now }
         requires branch { IsBranch question.now self.old }
-        ensures { Told Always question.now self.old self.new result }
+        ensures { Propagates Always question.now self.old self.new result }
     {
         for _ in 0..ROUNDS {
             let Some(node) = work.lowered.pop() else {
@@ -111,7 +111,7 @@ impl Branch {
     fn settle(&mut self, question: &Question, work: &mut Work, at: usize) -> Result<usize, Clash>
         requires sound { IsSound question.now }
         requires branch { IsBranch question.now self.old }
-        ensures { Told Always question.now self.old self.new result }
+        ensures { Propagates Always question.now self.old self.new result }
     {
         if at >= self.state.open.len() {
             return Ok(at);
@@ -134,7 +134,7 @@ impl Branch {
     fn settle_all(&mut self, question: &Question, work: &mut Work) -> Result<(), Clash>
         requires sound { IsSound question.now }
         requires branch { IsBranch question.now self.old }
-        ensures { Told Always question.now self.old self.new result }
+        ensures { Propagates Always question.now self.old self.new result }
     {
         let mut at = 0;
         for _ in 0..self.state.open.len() {
@@ -152,7 +152,7 @@ impl Branch {
     ) -> Result<(), Clash>
         requires sound { IsSound question.now }
         requires branch { IsBranch question.now self.old }
-        ensures { Told Always question.now self.old self.new result }
+        ensures { Propagates Always question.now self.old self.new result }
     {
         for _ in 0..ROUNDS {
             self.spread_raised(question, links, work)?;
@@ -177,7 +177,7 @@ impl Branch {
         requires sound { IsSound question.now }
         requires branch { IsBranch question.now self.old }
         requires pair { side.pair < length question.now.pairs.items }
-        ensures { Told (λ w. Keeps w (side_of question.now side.pair side.one)) question.now self.old self.new result }
+        ensures { Propagates (λ w. Keeps w (side_of question.now side.pair side.one)) question.now self.old self.new result }
     {
         self.decide(question, work, side)?;
         self.tighten(question, links, work)

@@ -7,14 +7,14 @@ use Rattle.std.proofs.KnownBytes.{Appends-nil, Appends-kept, Appends-trans, Cons
 use Rattle.text_lines.specs.declared.limits.TheConstants.{MAX_INPUT}
 use Rattle.byte_streams.specs.declared.drive_fault.DriveFault.{DriveFault}
 use Rattle.byte_streams.specs.declared.drive_fault.DriveFault.TheVariants.{Read, Write, InputTooLong, Memory}
-use Rattle.byte_streams.specs.Lent.{Taker, Input, Output, Streams, taker}
+use Rattle.byte_streams.specs.Lent.{SinkState, Input, Output, Streams, output_sink}
 use Rattle.byte_streams.specs.Holding.{ended, held_after}
 use Rattle.byte_streams.specs.Answering.{AnswerAll, AreCutOff, AreCutShort}
-use Rattle.byte_streams.specs.Reading.{Reached, at_first, IsPieceAnswered, IsReadOn, IsReadTaken, IsDrained}
+use Rattle.byte_streams.specs.Reading.{Reached, at_first, IsPieceAnswered, IsReadOn, IsReadAnswered, IsDrained}
 use Rattle.byte_streams.proofs.Held.{ended-append, held_after-append, length-ended}
 use Rattle.byte_streams.proofs.Told.{AnswerAll-append, cut_behind}
 
-module _ {S : Type 0} (answers : S → ℕ → Option (List ℕ) → List ℕ → S → Type 0) (start : S) (now : Reached S) (bytes piece : List ℕ) (before middle : Taker)
+module _ {S : Type 0} (answers : S → ℕ → Option (List ℕ) → List ℕ → S → Type 0) (start : S) (now : Reached S) (bytes piece : List ℕ) (before middle : SinkState)
     (first : IsPieceAnswered answers (at_first start) bytes now before middle) where
   whole : ended (Some []) bytes ++ ended now.held piece ≡ ended (Some []) (bytes ++ piece)
   whole =
@@ -31,7 +31,7 @@ module _ {S : Type 0} (answers : S → ℕ → Option (List ℕ) → List ℕ �
       (AnswerAll-append answers (ended (Some []) bytes) (ended now.held piece) start now.state end 1 (now.lines + 1) first.text text first.are_answers next_number second)
 
   -- a piece is answered, and the next
-  pub piece_more : (next : Reached S) (after : Taker) → IsPieceAnswered answers now piece next middle after → IsPieceAnswered answers (at_first start) (bytes ++ piece) next before after
+  pub piece_more : (next : Reached S) (after : SinkState) → IsPieceAnswered answers now piece next middle after → IsPieceAnswered answers (at_first start) (bytes ++ piece) next before after
   piece_more next after second =
       let lines_are : now.lines ≡ 0 + length (ended (Some []) bytes) = first.lines_are in
       let more_lines = second.lines_are in
@@ -39,24 +39,24 @@ module _ {S : Type 0} (answers : S → ℕ → Option (List ℕ) → List ℕ �
       record {
         text = first.text ++ second.text;
         are_answers = answers_more second.text next.state second.are_answers;
-        written = Appends-trans before.taken middle.taken after.taken first.text second.text first.written second.written;
+        written = Appends-trans before.written middle.written after.written first.text second.text first.written second.written;
         unfailed = second.unfailed ∙ first.unfailed;
         lines_are = all;
         held_is = second.held_is ∙ ap (λ h. held_after h piece) first.held_is ∙ sym (held_after-append bytes piece (Some []));
       }
 
   -- a piece is answered, and an answer in the next is cut off, or they can't be shown
-  pub short_more : (end : S) (after : Option (List ℕ)) → AreCutShort answers now.state (now.lines + 1) (ended now.held piece) end middle.taken after
-      → AreCutShort answers start 1 (ended (Some []) (bytes ++ piece)) end before.taken after
+  pub short_more : (end : S) (after : Option (List ℕ)) → AreCutShort answers now.state (now.lines + 1) (ended now.held piece) end middle.written after
+      → AreCutShort answers start 1 (ended (Some []) (bytes ++ piece)) end before.written after
   short_more end after (inl second) =
       inl
-      (subst (λ l. AreCutOff answers start 1 l end before.taken after) whole
-      (cut_behind answers (ended (Some []) bytes) (ended now.held piece) start now.state end 1 (now.lines + 1) first.text before.taken middle.taken after first.are_answers next_number first.written second))
+      (subst (λ l. AreCutOff answers start 1 l end before.written after) whole
+      (cut_behind answers (ended (Some []) bytes) (ended now.held piece) start now.state end 1 (now.lines + 1) first.text before.written middle.written after first.are_answers next_number first.written second))
   short_more end after (inr second) =
       inr (record {
         text = first.text ++ second.text;
         are_answers = answers_more second.text end second.are_answers;
-        written = Appends-trans before.taken middle.taken after first.text second.text first.written second.written;
+        written = Appends-trans before.written middle.written after first.text second.text first.written second.written;
       })
 
 -- so much was read, the lines that end in it are answered, and no device failed; so many bytes are left of the limit
@@ -65,7 +65,7 @@ pub record Draining {S : Type 0} (answers : S → ℕ → Option (List ℕ) → 
   pub was_read : Consumes before.input.left after.input.left bytes
   pub unfailed : after.input.failed ≡ before.input.failed
   pub count : length bytes + left ≡ MAX_INPUT
-  pub answered : IsPieceAnswered answers (at_first start) bytes now (taker before.output) (taker after.output)
+  pub answered : IsPieceAnswered answers (at_first start) bytes now (output_sink before.output) (output_sink after.output)
 
 -- before the first read
 pub Draining-first : {S : Type 0} (answers : S → ℕ → Option (List ℕ) → List ℕ → S → Type 0) (start : S) (lines : ℕ) (held : Option (List ℕ)) (before : Streams) → lines ≡ 0 → held ≡ Some []
@@ -75,7 +75,7 @@ Draining-first answers start lines held before no_lines none_held = record {
   was_read = Consumes-nil before.input.left;
   unfailed = refl;
   count = refl;
-  answered = record { text = []; are_answers = (refl, refl); written = Appends-nil before.output.taken; unfailed = refl; lines_are = no_lines; held_is = none_held };
+  answered = record { text = []; are_answers = (refl, refl); written = Appends-nil before.output.written; unfailed = refl; lines_are = no_lines; held_is = none_held };
 }
 
 module _ {S : Type 0} (answers : S → ℕ → Option (List ℕ) → List ℕ → S → Type 0) (start : S) (now : Reached S) (left : ℕ) (before middle : Streams)
@@ -88,9 +88,9 @@ module _ {S : Type 0} (answers : S → ℕ → Option (List ℕ) → List ℕ �
       omega (arith, length-ended so_far.bytes (Some []))
 
   -- showing the answers, or the read behind it, failed
-  pub Draining-unread : {U : Type 0} {room : ℕ} (T : Type 0) (e : DriveFault) (after : Streams) → Keeps middle.input.left after.input.left → Keeps middle.output.taken after.output.taken
+  pub Draining-unread : {U : Type 0} {room : ℕ} (T : Type 0) (e : DriveFault) (after : Streams) → Keeps middle.input.left after.input.left → Keeps middle.output.written after.output.written
       → IsReadOn {T = T} (Err e) (record { before = middle; after = after }) → IsDrained {T = U} (Err e) room answers start now before after
-  Draining-unread T Read after kept kept_taken failed =
+  Draining-unread T Read after kept kept_written failed =
       let count = so_far.count in
       record {
         bytes = so_far.bytes;
@@ -101,12 +101,12 @@ module _ {S : Type 0} (answers : S → ℕ → Option (List ℕ) → List ℕ �
           record {
             text = so_far.answered.text;
             are_answers = so_far.answered.are_answers;
-            written = Appends-kept before.output.taken middle.output.taken after.output.taken so_far.answered.text so_far.answered.written kept_taken;
+            written = Appends-kept before.output.written middle.output.written after.output.written so_far.answered.text so_far.answered.written kept_written;
             unfailed = failed.1 ∙ so_far.answered.unfailed;
           },
         );
       }
-  Draining-unread T Write after kept kept_taken failed =
+  Draining-unread T Write after kept kept_written failed =
       let count = so_far.count in
       let all : so_far.bytes ≡ take MAX_INPUT so_far.bytes = sym (take_all MAX_INPUT so_far.bytes (omega arith)) in
       record {
@@ -117,16 +117,16 @@ module _ {S : Type 0} (answers : S → ℕ → Option (List ℕ) → List ℕ �
           inr (record {
             text = so_far.answered.text;
             are_answers = subst (λ l. AnswerAll answers start 1 (ended (Some []) l) so_far.answered.text now.state) all so_far.answered.are_answers;
-            written = Appends-kept before.output.taken middle.output.taken after.output.taken so_far.answered.text so_far.answered.written kept_taken;
+            written = Appends-kept before.output.written middle.output.written after.output.written so_far.answered.text so_far.answered.written kept_written;
           }),
           failed.0 ∙ so_far.unfailed,
         );
       }
-  Draining-unread T InputTooLong after kept kept_taken failed = absurd failed
-  Draining-unread T Memory after kept kept_taken failed = absurd failed
+  Draining-unread T InputTooLong after kept kept_written failed = absurd failed
+  Draining-unread T Memory after kept kept_written failed = absurd failed
 
   -- showing them fails no device, and takes nothing
-  pub Draining-shown : (shown : Output) → Keeps middle.output.taken shown.taken → shown.failed ≡ middle.output.failed → Draining answers start now left before (record { input = middle.input; output = shown })
+  pub Draining-shown : (shown : Output) → Keeps middle.output.written shown.written → shown.failed ≡ middle.output.failed → Draining answers start now left before (record { input = middle.input; output = shown })
   Draining-shown shown kept unfailed = record {
     bytes = so_far.bytes;
     was_read = so_far.was_read;
@@ -135,7 +135,7 @@ module _ {S : Type 0} (answers : S → ℕ → Option (List ℕ) → List ℕ �
     answered = record {
       text = so_far.answered.text;
       are_answers = so_far.answered.are_answers;
-      written = Appends-kept before.output.taken middle.output.taken shown.taken so_far.answered.text so_far.answered.written kept;
+      written = Appends-kept before.output.written middle.output.written shown.written so_far.answered.text so_far.answered.written kept;
       unfailed = unfailed ∙ so_far.answered.unfailed;
       lines_are = so_far.answered.lines_are;
       held_is = so_far.answered.held_is;
@@ -155,17 +155,17 @@ module _ {S : Type 0} (answers : S → ℕ → Option (List ℕ) → List ℕ �
         }
 
     -- a piece was read and answered
-    pub Draining-more : (rest : ℕ) (next : Reached S) (output : Output) → IsReadTaken (Ok rest) answers now piece left next (taker middle.output) (taker output)
+    pub Draining-more : (rest : ℕ) (next : Reached S) (output : Output) → IsReadAnswered (Ok rest) answers now piece left next (output_sink middle.output) (output_sink output)
         → Draining answers start next rest before (record { input = input; output = output })
-    Draining-more rest next output taken =
+    Draining-more rest next output reading =
         let count = so_far.count in
-        let fewer = taken.0 in
+        let fewer = reading.0 in
         record {
           bytes = so_far.bytes ++ piece;
           was_read = Consumes-trans before.input.left middle.input.left input.left so_far.bytes piece so_far.was_read gave;
           unfailed = gave_unfailed ∙ so_far.unfailed;
           count = omega (arith, length-append so_far.bytes piece);
-          answered = piece_more answers start now so_far.bytes piece (taker before.output) (taker middle.output) so_far.answered next (taker output) taken.1;
+          answered = piece_more answers start now so_far.bytes piece (output_sink before.output) (output_sink middle.output) so_far.answered next (output_sink output) reading.1;
         }
 
     -- what is left of the limit takes so much of the piece
@@ -173,24 +173,24 @@ module _ {S : Type 0} (answers : S → ℕ → Option (List ℕ) → List ℕ �
     cut = sym (take-append-add so_far.bytes piece left) ∙ ap (λ (n : ℕ). take n (so_far.bytes ++ piece)) so_far.count
 
     -- a piece was read, and a write failed, or it went past the limit
-    pub Draining-failed : {T : Type 0} (room : ℕ) (e : DriveFault) (next : Reached S) (output : Output) → IsReadTaken (Err e) answers now piece left next (taker middle.output) (taker output) → length piece ≤ room
+    pub Draining-failed : {T : Type 0} (room : ℕ) (e : DriveFault) (next : Reached S) (output : Output) → IsReadAnswered (Err e) answers now piece left next (output_sink middle.output) (output_sink output) → length piece ≤ room
         → IsDrained {T = T} (Err e) room answers start next before (record { input = input; output = output })
-    Draining-failed room Read next output taken fits = absurd taken
-    Draining-failed room Memory next output taken fits = absurd taken
-    Draining-failed room Write next output taken fits = record {
+    Draining-failed room Read next output reading fits = absurd reading
+    Draining-failed room Memory next output reading fits = absurd reading
+    Draining-failed room Write next output reading fits = record {
       bytes = so_far.bytes ++ piece;
       was_read = Consumes-trans before.input.left middle.input.left input.left so_far.bytes piece so_far.was_read gave;
       comes_to = (
-        taken.0,
-        subst (λ l. AreCutShort answers start 1 (ended (Some []) l) next.state before.output.taken output.taken) cut
-            (short_more answers start now so_far.bytes (take left piece) (taker before.output) (taker middle.output) so_far.answered next.state output.taken taken.1),
+        reading.0,
+        subst (λ l. AreCutShort answers start 1 (ended (Some []) l) next.state before.output.written output.written) cut
+            (short_more answers start now so_far.bytes (take left piece) (output_sink before.output) (output_sink middle.output) so_far.answered next.state output.written reading.1),
         gave_unfailed ∙ so_far.unfailed,
       );
     }
-    Draining-failed room InputTooLong next output taken fits =
+    Draining-failed room InputTooLong next output reading fits =
         let count = so_far.count in
-        let over = taken.0 in
-        let both = piece_more answers start now so_far.bytes (take left piece) (taker before.output) (taker middle.output) so_far.answered next (taker output) taken.1 in
+        let over = reading.0 in
+        let both = piece_more answers start now so_far.bytes (take left piece) (output_sink before.output) (output_sink middle.output) so_far.answered next (output_sink output) reading.1 in
         record {
           bytes = so_far.bytes ++ piece;
           was_read = Consumes-trans before.input.left middle.input.left input.left so_far.bytes piece so_far.was_read gave;

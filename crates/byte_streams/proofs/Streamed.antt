@@ -6,7 +6,7 @@ use Rattle.std.proofs.KnownBytes.{Appends-kept, Appends-trans}
 use Rattle.text_lines.specs.declared.limits.TheConstants.{MAX_INPUT}
 use Rattle.byte_streams.specs.declared.drive_fault.DriveFault.{DriveFault}
 use Rattle.byte_streams.specs.declared.drive_fault.DriveFault.TheVariants.{Read, Write, InputTooLong, Memory}
-use Rattle.byte_streams.specs.Lent.{Taker, Output, Streams, WroteOne, taker}
+use Rattle.byte_streams.specs.Lent.{SinkState, Output, Streams, WroteOne, output_sink}
 use Rattle.byte_streams.specs.Lines.{input_lines}
 use Rattle.byte_streams.specs.Holding.{held_line, ended}
 use Rattle.byte_streams.specs.Answering.{AnswerAll, AreAnswered, AreCutOff, AreCutShort, IsClosingCut, WereAnswered}
@@ -17,7 +17,7 @@ use Rattle.byte_streams.proofs.WholeLines.{input_lines-ended, complete_lines-end
 
 -- ---- the last line
 
-pub last_some : {S T E : Type 0} (answers : S → ℕ → Option (List ℕ) → List ℕ → S → Type 0) (start : S) (number : ℕ) (held : Option (List ℕ)) (end : S) (outcome : Result T E) (before after : Taker)
+pub last_some : {S T E : Type 0} (answers : S → ℕ → Option (List ℕ) → List ℕ → S → Type 0) (start : S) (number : ℕ) (held : Option (List ℕ)) (end : S) (outcome : Result T E) (before after : SinkState)
     → (held ≡ Some [] → ⊥) → WroteOne (λ text. answers start number (held_line held) text end) outcome before after
     → WereAnswered answers start number (last_line held) end outcome before after
 last_some answers start number held end (Ok x) before after some_held was = record {
@@ -28,17 +28,17 @@ last_some answers start number held end (Ok x) before after some_held was = reco
 }
 last_some answers start number held end (Err e) before after some_held was = (
   was.wrote.0,
-  subst (λ l. AreCutOff answers start number l end before.taken after.taken) (sym (last_line-some held some_held))
-      (cut_one answers start end number (held_line held) [] was.text before.taken after.taken was.is_text was.wrote.1),
+  subst (λ l. AreCutOff answers start number l end before.written after.written) (sym (last_line-some held some_held))
+      (cut_one answers start end number (held_line held) [] was.text before.written after.written was.is_text was.wrote.1),
 )
 
 -- ---- the closing text behind it
 
 -- the last line is answered, and the closing text behind it is cut off
-pub finish_cut : {S T E : Type 0} (e : E) (answers : S → ℕ → Option (List ℕ) → List ℕ → S → Type 0) (closes : S → List ℕ → Type 0) (now : Reached S) (end : S) (before middle after : Taker)
+pub finish_cut : {S T E : Type 0} (e : E) (answers : S → ℕ → Option (List ℕ) → List ℕ → S → Type 0) (closes : S → List ℕ → Type 0) (now : Reached S) (end : S) (before middle after : SinkState)
     → AreAnswered answers now.state (now.lines + 1) (last_line now.held) end before middle
     → WroteOne {T = T} (closes end) (Err e) middle after
-    → (after.failed ≡ true) × (AreCutOff answers now.state (now.lines + 1) (last_line now.held) end before.taken after.taken ⊎ IsClosingCut answers closes now.state (now.lines + 1) (last_line now.held) end before.taken after.taken)
+    → (after.failed ≡ true) × (AreCutOff answers now.state (now.lines + 1) (last_line now.held) end before.written after.written ⊎ IsClosingCut answers closes now.state (now.lines + 1) (last_line now.held) end before.written after.written)
 finish_cut e answers closes now end before middle after were was = (
   was.wrote.0,
   inr
@@ -47,24 +47,24 @@ finish_cut e answers closes now end before middle after were was = (
         are_answers = were.are_answers;
         closing = was.text;
         is_closing = was.is_text;
-        between = middle.taken;
+        between = middle.written;
         written = were.written;
         part = was.wrote.1;
       }),
 )
 
 -- or it is written too, and then they are shown, or that failed
-pub finish_shown : {S T U E F : Type 0} (x : T) (outcome : Result U F) (answers : S → ℕ → Option (List ℕ) → List ℕ → S → Type 0) (closes : S → List ℕ → Type 0) (now : Reached S) (end : S) (before middle closed after : Taker)
+pub finish_shown : {S T U E F : Type 0} (x : T) (outcome : Result U F) (answers : S → ℕ → Option (List ℕ) → List ℕ → S → Type 0) (closes : S → List ℕ → Type 0) (now : Reached S) (end : S) (before middle closed after : SinkState)
     → AreAnswered answers now.state (now.lines + 1) (last_line now.held) end before middle
     → WroteOne {E = E} (closes end) (Ok x) middle closed
-    → Keeps closed.taken after.taken → OnOk outcome (after.failed ≡ closed.failed) → OnErr outcome (after.failed ≡ true)
+    → Keeps closed.written after.written → OnOk outcome (after.failed ≡ closed.failed) → OnErr outcome (after.failed ≡ true)
     → IsFinished outcome answers closes now end before after
 finish_shown x (Ok y) answers closes now end before middle closed after were was kept unfailed has_failed = record {
   text = were.text;
   are_answers = were.are_answers;
   closing = was.text;
   is_closing = was.is_text;
-  written = Appends-kept before.taken closed.taken after.taken (were.text ++ was.text) (Appends-trans before.taken middle.taken closed.taken were.text was.text were.written was.wrote) kept;
+  written = Appends-kept before.written closed.written after.written (were.text ++ was.text) (Appends-trans before.written middle.written closed.written were.text was.text were.written was.wrote) kept;
   unfailed = unfailed ∙ was.unfailed ∙ were.unfailed;
 }
 finish_shown x (Err e) answers closes now end before middle closed after were was kept unfailed has_failed = (
@@ -75,9 +75,9 @@ finish_shown x (Err e) answers closes now end before middle closed after were wa
         are_answers = were.are_answers;
         closing = was.text;
         is_closing = was.is_text;
-        between = middle.taken;
+        between = middle.written;
         written = were.written;
-        part = ([], record { out = was.text; took = Appends-kept middle.taken closed.taken after.taken was.text was.wrote kept; whole = append-nil was.text });
+        part = ([], record { out = was.text; took = Appends-kept middle.written closed.written after.written was.text was.wrote kept; whole = append-nil was.text });
       }),
 )
 
@@ -89,7 +89,7 @@ pub stream_drained : {S T U : Type 0} {room : ℕ} (e : DriveFault) (answers : S
     → IsStreamed {T = U} (Err e) room answers closes start next.state before after
 stream_drained Memory answers closes start next before after drained shown = absurd drained.comes_to
 stream_drained Read answers closes start next before after drained shown =
-    let told = drained.comes_to.2 in
+    let answered = drained.comes_to.2 in
     record {
       input = drained.bytes;
       was_read = drained.was_read;
@@ -97,16 +97,16 @@ stream_drained Read answers closes start next before after drained shown =
         drained.comes_to.0,
         drained.comes_to.1,
         record {
-          text = told.text;
-          are_answers = subst (λ l. AnswerAll answers start 1 l told.text next.state) (complete_lines-ended drained.bytes) told.are_answers;
-          written = told.written;
-          unfailed = told.unfailed;
+          text = answered.text;
+          are_answers = subst (λ l. AnswerAll answers start 1 l answered.text next.state) (complete_lines-ended drained.bytes) answered.are_answers;
+          written = answered.written;
+          unfailed = answered.unfailed;
         },
       );
       shown = shown;
     }
 stream_drained InputTooLong answers closes start next before after drained shown =
-    let told = drained.comes_to.2 in
+    let answered = drained.comes_to.2 in
     record {
       input = drained.bytes;
       was_read = drained.was_read;
@@ -114,10 +114,10 @@ stream_drained InputTooLong answers closes start next before after drained shown
         drained.comes_to.0,
         drained.comes_to.1,
         record {
-          text = told.text;
-          are_answers = subst (λ l. AnswerAll answers start 1 l told.text next.state) (complete_lines-ended (take MAX_INPUT drained.bytes)) told.are_answers;
-          written = told.written;
-          unfailed = told.unfailed;
+          text = answered.text;
+          are_answers = subst (λ l. AnswerAll answers start 1 l answered.text next.state) (complete_lines-ended (take MAX_INPUT drained.bytes)) answered.are_answers;
+          written = answered.written;
+          unfailed = answered.unfailed;
         },
         drained.comes_to.3,
       );
@@ -129,7 +129,7 @@ stream_drained Write answers closes start next before after drained shown =
       was_read = drained.was_read;
       comes_to = (
         drained.comes_to.0,
-        inl (subst (λ l. AreCutShort answers start 1 l next.state before.output.taken after.output.taken) (complete_lines-ended (take MAX_INPUT drained.bytes)) drained.comes_to.1),
+        inl (subst (λ l. AreCutShort answers start 1 l next.state before.output.written after.output.written) (complete_lines-ended (take MAX_INPUT drained.bytes)) drained.comes_to.1),
         drained.comes_to.2,
       );
       shown = shown;
@@ -141,7 +141,7 @@ module _ {S T : Type 0} {room : ℕ} (answers : S → ℕ → Option (List ℕ) 
   abbrev after : Streams
   after = record { input = between.input; output = last }
 
-  abbrev so_far : IsPieceAnswered answers (at_first start) drained.bytes now (taker before.output) (taker between.output)
+  abbrev so_far : IsPieceAnswered answers (at_first start) drained.bytes now (output_sink before.output) (output_sink between.output)
   so_far = drained.comes_to.2
 
   all_lines : ended (Some []) drained.bytes ++ last_line now.held ≡ input_lines drained.bytes
@@ -150,7 +150,7 @@ module _ {S T : Type 0} {room : ℕ} (answers : S → ℕ → Option (List ℕ) 
   next_number : now.lines + 1 ≡ 1 + length (ended (Some []) drained.bytes)
   next_number = let lines_are : now.lines ≡ 0 + length (ended (Some []) drained.bytes) = so_far.lines_are in omega arith
 
-  pub stream_done : {V : Type 0} (v : V) → IsWhollyFinished answers closes now end (taker between.output) (taker last) → last.pending ≡ []
+  pub stream_done : {V : Type 0} (v : V) → IsWhollyFinished answers closes now end (output_sink between.output) (output_sink last) → last.pending ≡ []
       → IsStreamed {T = V} (Ok v) room answers closes start end before after
   stream_done v finished shown =
       let all : AnswerAll answers start 1 (ended (Some []) drained.bytes ++ last_line now.held) (so_far.text ++ finished.text) end =
@@ -165,8 +165,8 @@ module _ {S T : Type 0} {room : ℕ} (answers : S → ℕ → Option (List ℕ) 
           are_answers = subst (λ l. AnswerAll answers start 1 l (so_far.text ++ finished.text) end) all_lines all;
           closing = finished.closing;
           is_closing = finished.is_closing;
-          written = subst (Appends before.output.taken last.taken) (sym (append_assoc so_far.text finished.text finished.closing))
-              (Appends-trans before.output.taken between.output.taken last.taken so_far.text (finished.text ++ finished.closing) so_far.written finished.written);
+          written = subst (Appends before.output.written last.written) (sym (append_assoc so_far.text finished.text finished.closing))
+              (Appends-trans before.output.written between.output.written last.written so_far.text (finished.text ++ finished.closing) so_far.written finished.written);
           read_unfailed = drained.comes_to.3;
           write_unfailed = finished.unfailed ∙ so_far.unfailed;
         };
@@ -174,19 +174,19 @@ module _ {S T : Type 0} {room : ℕ} (answers : S → ℕ → Option (List ℕ) 
       }
 
   -- the answer to the last line was cut off, or the closing text
-  cut_at : AreCutOff answers now.state (now.lines + 1) (last_line now.held) end between.output.taken last.taken ⊎ IsClosingCut answers closes now.state (now.lines + 1) (last_line now.held) end between.output.taken last.taken
-      → AreCutOff answers start 1 (input_lines drained.bytes) end before.output.taken last.taken ⊎ IsClosingCut answers closes start 1 (input_lines drained.bytes) end before.output.taken last.taken
+  cut_at : AreCutOff answers now.state (now.lines + 1) (last_line now.held) end between.output.written last.written ⊎ IsClosingCut answers closes now.state (now.lines + 1) (last_line now.held) end between.output.written last.written
+      → AreCutOff answers start 1 (input_lines drained.bytes) end before.output.written last.written ⊎ IsClosingCut answers closes start 1 (input_lines drained.bytes) end before.output.written last.written
   cut_at (inl off) =
       inl
-      (subst (λ l. AreCutOff answers start 1 l end before.output.taken last.taken) all_lines
-      (cut_behind answers (ended (Some []) drained.bytes) (last_line now.held) start now.state end 1 (now.lines + 1) so_far.text before.output.taken between.output.taken last.taken so_far.are_answers next_number so_far.written off))
+      (subst (λ l. AreCutOff answers start 1 l end before.output.written last.written) all_lines
+      (cut_behind answers (ended (Some []) drained.bytes) (last_line now.held) start now.state end 1 (now.lines + 1) so_far.text before.output.written between.output.written last.written so_far.are_answers next_number so_far.written off))
   cut_at (inr closing) =
       inr
-      (subst (λ l. IsClosingCut answers closes start 1 l end before.output.taken last.taken) all_lines
-      (closing_cut_behind answers closes (ended (Some []) drained.bytes) (last_line now.held) start now.state end 1 (now.lines + 1) so_far.text before.output.taken between.output.taken last.taken so_far.are_answers next_number so_far.written closing))
+      (subst (λ l. IsClosingCut answers closes start 1 l end before.output.written last.written) all_lines
+      (closing_cut_behind answers closes (ended (Some []) drained.bytes) (last_line now.held) start now.state end 1 (now.lines + 1) so_far.text before.output.written between.output.written last.written so_far.are_answers next_number so_far.written closing))
 
   pub stream_failed : {V : Type 0} → (last.failed ≡ true)
-      × (AreCutOff answers now.state (now.lines + 1) (last_line now.held) end between.output.taken last.taken ⊎ IsClosingCut answers closes now.state (now.lines + 1) (last_line now.held) end between.output.taken last.taken)
+      × (AreCutOff answers now.state (now.lines + 1) (last_line now.held) end between.output.written last.written ⊎ IsClosingCut answers closes now.state (now.lines + 1) (last_line now.held) end between.output.written last.written)
       → IsStreamed {T = V} (Err Write) room answers closes start end before after
   stream_failed finished = record {
     input = drained.bytes;

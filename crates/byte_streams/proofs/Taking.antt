@@ -4,27 +4,27 @@ use Rattle.std.specs.Io.KnownBytes.{Appends}
 use Rattle.std.proofs.KnownBytes.{Appends-trans}
 use Rattle.text_lines.specs.Cuts.{HasNone, IsCutAt}
 use Rattle.byte_streams.specs.Holding.{joined, held_line, ended, held_after}
-use Rattle.byte_streams.specs.Lent.{Taker, WroteOne}
+use Rattle.byte_streams.specs.Lent.{SinkState, WroteOne}
 use Rattle.byte_streams.specs.Answering.{AnswerAll, AreAnswered, AreCutOff}
 use Rattle.byte_streams.proofs.Held.{ended-first, held_after-first, ended-none, held_after-none}
 use Rattle.byte_streams.proofs.Told.{AnswerAll-append, AnswerAll-one, cut_behind, cut_one}
 
 -- of a piece some lines were answered and no write failed; these bytes are left of it
 pub record Taking {S : Type 0} (answers : S → ℕ → Option (List ℕ) → List ℕ → S → Type 0) (start : S) (lines : ℕ) (held : Option (List ℕ)) (piece : List ℕ)
-    (now : S) (lines_now : ℕ) (held_now : Option (List ℕ)) (left : List ℕ) (before after : Taker) : Type 0 where
+    (now : S) (lines_now : ℕ) (held_now : Option (List ℕ)) (left : List ℕ) (before after : SinkState) : Type 0 where
   pub done : List (Option (List ℕ))
   pub text : List ℕ
   pub split : ended held piece ≡ done ++ ended held_now left
   pub same : held_after held piece ≡ held_after held_now left
   pub are_answers : AnswerAll answers start (lines + 1) done text now
-  pub written : Appends before.taken after.taken text
+  pub written : Appends before.written after.written text
   pub unfailed : after.failed ≡ before.failed
   pub lines_are : lines_now ≡ lines + length done
 
 -- ---- one more line
 
 module _ {S : Type 0} (answers : S → ℕ → Option (List ℕ) → List ℕ → S → Type 0) (start : S) (lines : ℕ) (held : Option (List ℕ)) (piece : List ℕ)
-    (now : S) (lines_now : ℕ) (held_now : Option (List ℕ)) (left line more : List ℕ) (before middle after : Taker)
+    (now : S) (lines_now : ℕ) (held_now : Option (List ℕ)) (left line more : List ℕ) (before middle after : SinkState)
     (so_far : Taking answers start lines held piece now lines_now held_now left before middle) (cut : IsCutAt 10 left line more) where
   abbrev the_line : Option (List ℕ)
   the_line = held_line (joined held_now line)
@@ -49,26 +49,26 @@ module _ {S : Type 0} (answers : S → ℕ → Option (List ℕ) → List ℕ �
     split = split_more ∙ ap (λ h. (so_far.done ++ the_line ∷ []) ++ ended h more) (sym cleared);
     same = so_far.same ∙ ap (held_after held_now) cut.split ∙ held_after-first line more held_now cut.before ∙ ap (λ h. held_after h more) (sym cleared);
     are_answers = answers_more was.text end was.is_text;
-    written = Appends-trans before.taken middle.taken after.taken so_far.text was.text so_far.written was.wrote;
+    written = Appends-trans before.written middle.written after.written so_far.text was.text so_far.written was.wrote;
     unfailed = was.unfailed ∙ so_far.unfailed;
     lines_are = let lines_are = so_far.lines_are in omega (arith, length-append so_far.done (the_line ∷ []));
   }
 
   pub Taking-failed : {T E : Type 0} (end : S) (e : E) → WroteOne {T = T} {E = E} (λ text. answers now (lines_now + 1) the_line text end) (Err e) middle after
-      → (after.failed ≡ true) × AreCutOff answers start (lines + 1) (ended held piece) end before.taken after.taken
+      → (after.failed ≡ true) × AreCutOff answers start (lines + 1) (ended held piece) end before.written after.written
   Taking-failed end e was =
       let lines_are = so_far.lines_are in
       let whole : ended held piece ≡ so_far.done ++ the_line ∷ ended (Some []) more = so_far.split ∙ ap (λ l. so_far.done ++ l) first_line in (
         was.wrote.0,
-        subst (λ l. AreCutOff answers start (lines + 1) l end before.taken after.taken) (sym whole)
-            (cut_behind answers so_far.done (the_line ∷ ended (Some []) more) start now end (lines + 1) (lines_now + 1) so_far.text before.taken middle.taken after.taken so_far.are_answers (omega arith) so_far.written
-            (cut_one answers now end (lines_now + 1) the_line (ended (Some []) more) was.text middle.taken after.taken was.is_text was.wrote.1)),
+        subst (λ l. AreCutOff answers start (lines + 1) l end before.written after.written) (sym whole)
+            (cut_behind answers so_far.done (the_line ∷ ended (Some []) more) start now end (lines + 1) (lines_now + 1) so_far.text before.written middle.written after.written so_far.are_answers (omega arith) so_far.written
+            (cut_one answers now end (lines_now + 1) the_line (ended (Some []) more) was.text middle.written after.written was.is_text was.wrote.1)),
       )
 
 -- ---- no more line
 
 module _ {S : Type 0} (answers : S → ℕ → Option (List ℕ) → List ℕ → S → Type 0) (start : S) (lines : ℕ) (held : Option (List ℕ)) (piece : List ℕ)
-    (now : S) (lines_now : ℕ) (held_now : Option (List ℕ)) (left : List ℕ) (before after : Taker)
+    (now : S) (lines_now : ℕ) (held_now : Option (List ℕ)) (left : List ℕ) (before after : SinkState)
     (so_far : Taking answers start lines held piece now lines_now held_now left before after) (no_end : HasNone 10 left) where
   all_done : ended held piece ≡ so_far.done
   all_done = so_far.split ∙ ap (λ l. so_far.done ++ l) (ended-none left held_now no_end) ∙ append-nil so_far.done

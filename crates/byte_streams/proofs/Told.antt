@@ -25,15 +25,15 @@ AnswerAll-one answers start end number line text is_answer = (text, [], end, is_
 pub cut_behind : {S : Type 0} (answers : S → ℕ → Option (List ℕ) → List ℕ → S → Type 0) (xs ys : List (Option (List ℕ))) (start middle end : S) (number next : ℕ) (text : List ℕ) (before now after : Option (List ℕ))
     → AnswerAll answers start number xs text middle → next ≡ number + length xs → Appends before now text → AreCutOff answers middle next ys end now after → AreCutOff answers start number (xs ++ ys) end before after
 cut_behind answers xs ys start middle end number next text before now after first at wrote second =
-    let same_number : next + length second.told ≡ number + length (xs ++ second.told) = omega (arith, at, length-append xs second.told) in
+    let same_number : next + length second.answered ≡ number + length (xs ++ second.answered) = omega (arith, at, length-append xs second.answered) in
     record {
-      told = xs ++ second.told;
+      answered = xs ++ second.answered;
       line = second.line;
       rest = second.rest;
-      whole = append_assoc xs second.told (second.line ∷ second.rest) ∙ ap (λ l. xs ++ l) second.whole;
+      whole = append_assoc xs second.answered (second.line ∷ second.rest) ∙ ap (λ l. xs ++ l) second.whole;
       text = text ++ second.text;
       state = second.state;
-      are_answers = AnswerAll-append answers xs second.told start middle second.state number next text second.text first at second.are_answers;
+      are_answers = AnswerAll-append answers xs second.answered start middle second.state number next text second.text first at second.are_answers;
       cut = second.cut;
       is_answer = subst (λ (n : ℕ). answers second.state n second.line second.cut end) same_number second.is_answer;
       between = second.between;
@@ -60,7 +60,7 @@ pub cut_one : {S : Type 0} (answers : S → ℕ → Option (List ℕ) → List �
 cut_one answers start end number line rest cut before after is_answer part =
     let same_number : number ≡ number + 0 = omega arith in
     record {
-      told = [];
+      answered = [];
       line = line;
       rest = rest;
       whole = refl;

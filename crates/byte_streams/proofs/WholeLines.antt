@@ -39,7 +39,7 @@ joined-kept raw more = cases_bool (leb (length raw) 64) _
 within_limit-over : (line : List ℕ) → 63 < length line → within_limit line ≡ None
 within_limit-over line over = rw (lt-leb (length line) 63 over) refl
 
--- at most one byte is taken off a line
+-- at most one byte is cut off a line
 length-without_return : (raw : List ℕ) → length raw ≤ length (without_return raw) + 1
 length-without_return raw = cases_bool (ends_with nat_eq raw (13 ∷ [])) _
     (λ returned. rw returned (omega (arith, length-take-le (length raw - 1) raw (omega arith))))

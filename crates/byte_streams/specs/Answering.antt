@@ -4,7 +4,7 @@ use Rattle.std.specs.Prelude.{◌≡◌, ℕ, ◌+◌, List, [], ◌∷◌, ◌+
 use Rattle.std.specs.Io.KnownBytes.{Appends}
 use Rattle.byte_streams.specs.declared.sink.Sink.{Ghosts as SinkOf}
 use Rattle.byte_streams.specs.Sinks.{TookPart}
-use Rattle.byte_streams.specs.Lent.{Taker, WroteOneTo}
+use Rattle.byte_streams.specs.Lent.{SinkState, WroteOneTo}
 
 -- in this state the line of this number was answered, which led to that state: all of a text that answers it was written to the device, or its first bytes up to a write that failed
 abbrev pub WasAnswered : {S W T E : Type 0} → (S → ℕ → Option (List ℕ) → List ℕ → S → Type 0) → S → ℕ → Option (List ℕ) → S → SinkOf W → Result T E → W → W → Type 0
@@ -18,24 +18,24 @@ AnswerAll {S} answers start number (line ∷ lines) text end = (first : List ℕ
 
 -- these lines were answered, numbered from a number on, all of the answers was written, and no write failed
 pub record AreAnswered {S : Type 0} (answers : S → ℕ → Option (List ℕ) → List ℕ → S → Type 0) (start : S) (number : ℕ) (lines : List (Option (List ℕ))) (end : S)
-    (before after : Taker) : Type 0 where
+    (before after : SinkState) : Type 0 where
   pub text : List ℕ
   pub are_answers : AnswerAll answers start number lines text end
-  pub written : Appends before.taken after.taken text
+  pub written : Appends before.written after.written text
   pub unfailed : after.failed ≡ before.failed
 
--- of these lines the first were answered, the answer to the next was cut off by a write that failed, and no line behind it was taken
+-- of these lines the first were answered, the answer to the next was cut off by a write that failed, and no line behind it was answered
 pub record AreCutOff {S : Type 0} (answers : S → ℕ → Option (List ℕ) → List ℕ → S → Type 0) (start : S) (number : ℕ) (lines : List (Option (List ℕ))) (end : S)
     (before after : Option (List ℕ)) : Type 0 where
-  pub told : List (Option (List ℕ))
+  pub answered : List (Option (List ℕ))
   pub line : Option (List ℕ)
   pub rest : List (Option (List ℕ))
-  pub whole : told ++ line ∷ rest ≡ lines
+  pub whole : answered ++ line ∷ rest ≡ lines
   pub text : List ℕ
   pub state : S
-  pub are_answers : AnswerAll answers start number told text state
+  pub are_answers : AnswerAll answers start number answered text state
   pub cut : List ℕ
-  pub is_answer : answers state (number + length told) line cut end
+  pub is_answer : answers state (number + length answered) line cut end
   pub between : Option (List ℕ)
   pub written : Appends before between text
   pub part : TookPart between after cut
@@ -64,6 +64,6 @@ pub record IsClosingCut {S : Type 0} (answers : S → ℕ → Option (List ℕ) 
 
 -- these lines were answered, or the first ones up to a write that failed
 abbrev pub WereAnswered : {S T E : Type 0} → (S → ℕ → Option (List ℕ) → List ℕ → S → Type 0) → S → ℕ → List (Option (List ℕ)) → S → Result T E
-    → Taker → Taker → Type 0
+    → SinkState → SinkState → Type 0
 WereAnswered answers start number lines end (Ok x) before after = AreAnswered answers start number lines end before after
-WereAnswered answers start number lines end (Err e) before after = (after.failed ≡ true) × AreCutOff answers start number lines end before.taken after.taken
+WereAnswered answers start number lines end (Err e) before after = (after.failed ≡ true) × AreCutOff answers start number lines end before.written after.written

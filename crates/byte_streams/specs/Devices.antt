@@ -2,7 +2,7 @@
 use Rattle.std.specs.Prelude.{ℕ}
 use Rattle.std.specs.Io.Buffered.{writer_inner, writer_capacity}
 use Rattle.byte_streams.specs.declared.from_read.FromRead.{FromRead}
-use Rattle.byte_streams.specs.declared.gathered.Gathered.{Gathered}
+use Rattle.byte_streams.specs.declared.buffered.Buffered.{Buffered}
 use Rattle.byte_streams.specs.declared.into_sink.IntoSink.{IntoSink}
 
 -- the device that takes
@@ -14,9 +14,9 @@ abbrev pub device_of : {R : Type 0} → FromRead R → R
 device_of s = s.device
 
 -- the device for which bytes are gathered
-abbrev pub gathering_for : {W : Type 0} → Gathered W → W
-gathering_for s = writer_inner s.writer
+abbrev pub buffered_device : {W : Type 0} → Buffered W → W
+buffered_device s = writer_inner s.writer
 
 -- how many are gathered at most
-abbrev pub gathering_most : {W : Type 0} → Gathered W → ℕ
-gathering_most s = writer_capacity s.writer
+abbrev pub buffered_most : {W : Type 0} → Buffered W → ℕ
+buffered_most s = writer_capacity s.writer

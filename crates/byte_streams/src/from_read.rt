@@ -1,6 +1,6 @@
 ghost use Rattle.std.specs.Prelude.{◌≡◌, false};
 
-use crate::outlet::Outlet;
+use crate::buffered_sink::BufferedSink;
 use crate::source::{ReadFault, Source};
 use std::io::Read;
 
@@ -40,7 +40,7 @@ impl<R: Read> Source for FromRead<R> {
 
     ghost failed = { λ s. s.failed };
 
-    fn get<W: Outlet>(&mut self, room: &mut [u8], _outlet: &W) -> Result<usize, ReadFault> {
+    fn get<W: BufferedSink>(&mut self, room: &mut [u8], _output: &W) -> Result<usize, ReadFault> {
         match self.device.read(room) {
             Ok(count) => Ok(count),
             Err(_) => {

@@ -16,7 +16,7 @@ impl<W: Write> IntoSink<W> {
     /// The sink for a device. No write to it has failed yet.
     pub fn new(device: W) -> IntoSink<W>
         ensures device { device_behind result ≡ device }
-        ensures taken { ⟦<IntoSink<W> as Sink>⟧.taken result ≡ W.contents device }
+        ensures written { ⟦<IntoSink<W> as Sink>⟧.written result ≡ W.contents device }
         ensures unfailed { ⟦<IntoSink<W> as Sink>⟧.failed result ≡ false }
     {
         IntoSink {
@@ -35,7 +35,7 @@ impl<W: Write> IntoSink<W> {
 }
 
 impl<W: Write> Sink for IntoSink<W> {
-    ghost taken = { λ s. W.contents s.device };
+    ghost written = { λ s. W.contents s.device };
 
     ghost failed = { λ s. s.failed };
 

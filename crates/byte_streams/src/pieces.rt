@@ -2,7 +2,7 @@
 
 ghost use Rattle.std.specs.Prelude.{◌≡◌, ◌+◌, ◌^◌, ◌<◌, [], length, Some, OnOk};
 ghost use Rattle.byte_streams.specs.Holding.{held_line, ended_line, ended, held_after};
-ghost use Rattle.byte_streams.specs.Lent.{taker_of};
+ghost use Rattle.byte_streams.specs.Lent.{sink_state};
 ghost use Rattle.byte_streams.specs.Answering.{WasAnswered, WereAnswered};
 
 use crate::held_line::{HeldLine, MAX_LINE};
@@ -77,7 +77,7 @@ pub(crate) fn take_piece<H: LineHandler, W: Sink>(
 ) -> Result<(), WriteFault>
     requires { input.old.lines + length piece.now < 2 ^ 64 }
     ensures answered { WereAnswered H.answers handler.old (input.old.lines + 1) (ended input.old.held piece.now) handler.new result
-        (taker_of W.Sink writer.old) (taker_of W.Sink writer.new) }
+        (sink_state W.Sink writer.old) (sink_state W.Sink writer.new) }
     ensures held { OnOk result (input.new.held ≡ held_after input.old.held piece.now) }
     ensures lines { OnOk result (input.new.lines ≡ input.old.lines + length (ended input.old.held piece.now)) }
 {

@@ -2,33 +2,33 @@
 
 ghost use Rattle.std.specs.Prelude.{◌≡◌, ◌+◌, ◌^◌, ◌<◌, ◌≤◌, [], length, Some, IfOk, IfErr, OnOk};
 ghost use Rattle.std.specs.Io.KnownBytes.{Keeps, ReadConsumes};
-ghost use Rattle.byte_streams.specs.Lent.{taker_of, output_of, streams_of, lent};
+ghost use Rattle.byte_streams.specs.Lent.{sink_state, output_of, streams_of, lent};
 ghost use Rattle.byte_streams.specs.Answering.{WereAnswered};
-ghost use Rattle.byte_streams.specs.Reading.{IsReadOn, IsPastLimit, IsReadTaken, IsDrained, IsFinished, last_line, reached};
+ghost use Rattle.byte_streams.specs.Reading.{IsReadOn, IsPastLimit, IsReadAnswered, IsDrained, IsFinished, last_line, reached};
 ghost use Rattle.byte_streams.specs.Streams.{IsShown, IsShownAt, IsStreamed};
 
+use crate::buffered_sink::BufferedSink;
 use crate::drive_fault::DriveFault;
 use crate::held_line::HeldLine;
 use crate::line_handler::LineHandler;
-use crate::outlet::Outlet;
 use crate::pieces::{Input, answer_held, take_piece};
 use crate::sink::{Sink, WriteFault};
 use crate::source::Source;
 use text_lines::MAX_INPUT;
 
 /// Shows what was answered within the limit. Then the fault is that more came.
-fn past_limit<W: Outlet>(writer: &mut W) -> DriveFault
-    ensures taken { Keeps (W.taken writer.old) (W.taken writer.new) }
+fn past_limit<W: BufferedSink>(writer: &mut W) -> DriveFault
+    ensures written { Keeps (W.written writer.old) (W.written writer.new) }
     ensures fault { IsPastLimit result (output_of W.Sink W.pending writer.old) (output_of W.Sink W.pending writer.new) }
 {
-    match writer.show() {
+    match writer.flush() {
         Ok(()) => DriveFault::InputTooLong,
         Err(_) => DriveFault::Write,
     }
 }
 
 /// Takes what was read, up to the number of bytes that are left of the limit, and returns how many are left then.
-fn take_read<H: LineHandler, W: Outlet>(
+fn take_read<H: LineHandler, W: BufferedSink>(
     handler: &mut H,
     input: &mut Input,
     piece: &[u8],
@@ -36,8 +36,8 @@ fn take_read<H: LineHandler, W: Outlet>(
     writer: &mut W,
 ) -> Result<usize, DriveFault>
     requires { input.old.lines + left < 2 ^ 64 }
-    ensures taken { IsReadTaken result H.answers (reached handler.old input.old) piece.now left (reached handler.new input.new)
-        (taker_of W.Sink writer.old) (taker_of W.Sink writer.new) }
+    ensures written { IsReadAnswered result H.answers (reached handler.old input.old) piece.now left (reached handler.new input.new)
+        (sink_state W.Sink writer.old) (sink_state W.Sink writer.new) }
     ensures shown { IfErr result (λ fault. IsShownAt fault (W.pending writer.new)) }
 {
     let within = piece.len().min(left);
@@ -51,7 +51,7 @@ fn take_read<H: LineHandler, W: Outlet>(
 }
 
 /// Shows what was answered, and then reads on.
-fn read_on<R: Source, W: Outlet>(
+fn read_on<R: Source, W: BufferedSink>(
     reader: &mut R,
     room: &mut [u8],
     writer: &mut W,
@@ -59,11 +59,11 @@ fn read_on<R: Source, W: Outlet>(
     requires { 0 < length room.old }
     ensures count { IfOk result (λ count. count ≤ length room.new) }
     ensures given { ReadConsumes (R.left reader.old) (R.left reader.new) result room.new }
-    ensures taken { Keeps (W.taken writer.old) (W.taken writer.new) }
+    ensures written { Keeps (W.written writer.old) (W.written writer.new) }
     ensures failed { IsReadOn result (lent R.Source W.Sink W.pending reader.old writer.old reader.new writer.new) }
     ensures shown { IsShown result (W.pending writer.new) }
 {
-    if writer.show().is_err() {
+    if writer.flush().is_err() {
         return Err(DriveFault::Write);
     }
     match reader.get(room, writer) {
@@ -73,7 +73,7 @@ fn read_on<R: Source, W: Outlet>(
 }
 
 /// Reads all bytes and answers the lines that end in them. All answers are shown before each read.
-fn drain<H: LineHandler, R: Source, W: Outlet>(
+fn drain<H: LineHandler, R: Source, W: BufferedSink>(
     handler: &mut H,
     input: &mut Input,
     reader: &mut R,
@@ -105,7 +105,7 @@ fn answer_last<H: LineHandler, W: Sink>(
 ) -> Result<(), WriteFault>
     requires { input.now.lines + 1 < 2 ^ 64 }
     ensures { WereAnswered H.answers handler.old (input.now.lines + 1) (last_line input.now.held) handler.new result
-        (taker_of W.Sink writer.old) (taker_of W.Sink writer.new) }
+        (sink_state W.Sink writer.old) (sink_state W.Sink writer.new) }
 {
     if input.held.is_empty() {
         return Ok(());
@@ -114,19 +114,19 @@ fn answer_last<H: LineHandler, W: Sink>(
 }
 
 /// Answers the last line, where bytes of it are held, writes the closing text, and shows all.
-fn finish<H: LineHandler, W: Outlet>(
+fn finish<H: LineHandler, W: BufferedSink>(
     handler: &mut H,
     input: &Input,
     writer: &mut W,
 ) -> Result<(), WriteFault>
     requires { input.now.lines + 1 < 2 ^ 64 }
     ensures finished { IsFinished result H.answers H.closes (reached handler.old input.now) handler.new
-        (taker_of W.Sink writer.old) (taker_of W.Sink writer.new) }
+        (sink_state W.Sink writer.old) (sink_state W.Sink writer.new) }
     ensures shown { OnOk result (W.pending writer.new ≡ []) }
 {
     answer_last(handler, input, writer)?;
     handler.put_closing(writer)?;
-    writer.show()
+    writer.flush()
 }
 
 /// Answers each line that the reader gives, and writes the closing text after the last answer. The room holds what is
@@ -134,9 +134,9 @@ fn finish<H: LineHandler, W: Outlet>(
 ///
 /// A line is answered once its line feed is read, or at the end of the input if bytes are left. One carriage return
 /// before the line feed, or at the end, isn't part of the line. All that was answered is shown before the reader is
-/// asked for more, and at the end. After a failed write no line is taken. `Memory` is never answered, since only one
+/// asked for more, and at the end. After a failed write no line is answered. `Memory` is never answered, since only one
 /// line is held at a time. Past the limit of an input at most as many bytes are read as the room has.
-pub fn stream<H: LineHandler, R: Source, W: Outlet>(
+pub fn stream<H: LineHandler, R: Source, W: BufferedSink>(
     handler: &mut H,
     reader: &mut R,
     room: &mut [u8],

@@ -7,7 +7,7 @@ use Rattle.shop_base.specs.{Cell.{Cell, MachineState, unused, entries, cleaning}
 use Rattle.cell_tables.specs.{declared.tables.Tables.Tables, Tables.{cell_of, row_at, AreSound}}
 use Rattle.cell_tables.proofs.Cells.{job-read, machine-read, length-jobs, length-machines, last-read}
 use Rattle.cell_control.specs.{Kept.KeepsSoFar, Carried.IsCarried, CarriedRows.{AreCarriedJobs, AreCarriedMachines}}
-use Rattle.cell_control.proofs.{KeptSoFar.{front_taken, kept_begins}, CarriedCells.carried-sound}
+use Rattle.cell_control.proofs.{KeptSoFar.{take_front, kept_begins}, CarriedCells.carried-sound}
 
 module _ (p q : PlannedShop) (c : Cell) (t : Tables) (shaped_p : IsWellShaped p) (shaped : IsWellShaped q) (sound : IsSound p c) (keeps : KeepsSoFar p c q)
     (of_jobs : AreCarriedJobs p c (jobs q) t.jobs.items) (of_machines : AreCarriedMachines c q (machines q) t.machines.items) (last : t.last ≡ c.last) where
@@ -17,7 +17,7 @@ module _ (p q : PlannedShop) (c : Cell) (t : Tables) (shaped_p : IsWellShaped p)
     machine_count = length-machines q t ∙ of_machines.count;
     jobs_same = λ j inside. job-read q t j ∙ of_jobs.same j inside;
     entries_same = λ m inside. ap (λ (s : MachineState). s.entries) (machine-read q t m (omega (arith, of_machines.count)))
-        ∙ ap (λ n. take n (order q m)) (of_machines.entered m inside) ∙ front_taken (entries c m) (order q m) (kept_begins p c q sound keeps m);
+        ∙ ap (λ n. take n (order q m)) (of_machines.entered m inside) ∙ take_front (entries c m) (order q m) (kept_begins p c q sound keeps m);
     cleaning_is = λ m inside. ap (λ (s : MachineState). s.cleaning) (machine-read q t m (omega (arith, of_machines.count))) ∙ of_machines.cleaning m inside;
     last_same = last-read q t ∙ last;
   }

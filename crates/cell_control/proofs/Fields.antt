@@ -72,7 +72,7 @@ module _ (p : PlannedShop) (c : Cell) (t : ℕ) (times : NodeTimes) (orders : Li
   settled-control = record {
     ranks = ordered.ranks;
     sound = subst (IsSound p) (sym settled.leads) (after_moves-sound p c t settled.movers ordered.ranks.shaped sound settled.settles.moves);
-    at_rest = subst (IsAtRest p) (sym settled.leads) settled.settles.rest;
+    at_rest = subst (IsAtRest p) (sym settled.leads) settled.settles.quiescent;
     counted = refl;
     moments_kept = λ punctual. subst (λ x. AreMomentsKept p x t (earliest_of times)) (sym settled.leads) (record {
       fit = settled-fits p (rank_of times) (earliest_of times) c t settled.movers sound moment.in_order ordered.schedule settled.settles.moves;
@@ -107,7 +107,7 @@ module _ (v : Control) (dues : List (Option ℕ)) (capacity : ℕ) (fields : Are
   pub some_left : 0 < v.left
   some_left = omega (arith, fewer)
 
-  module _ (still : Bool) (told : IsTrue still ↔ (IsTrue v.punctual × ((ack.late ≡ false) ⊎ (at r ≤ v.began)))) where
+  module _ (still : Bool) (punctual_is : IsTrue still ↔ (IsTrue v.punctual × ((ack.late ≡ false) ⊎ (at r ≤ v.began)))) where
     -- the controller after it
     abbrev pub stepped : Control
     stepped = record { planned = p; times = v.times; cell = new; orders = items; left = v.left - 1; began = v.began; punctual = still }
@@ -119,7 +119,7 @@ module _ (v : Control) (dues : List (Option ℕ)) (capacity : ℕ) (fields : Are
 
     keeps : IsTrue still → AreMomentsKept p new v.began kept
     keeps so =
-        let (so_far, now) = told.0 so in
+        let (so_far, now) = punctual_is.0 so in
         let moments = fields.control.moments_kept so_far in
         let none : IsNoneLate p v.cell v.began kept = to_none_late p v.cell v.began kept moments.from in
         let within : IsWithin p kept v.cell r = from-within p kept v.cell v.began v.cell.last r fields.control.sound moments.fit none (soon_enough now) in
@@ -141,7 +141,7 @@ module _ (v : Control) (dues : List (Option ℕ)) (capacity : ℕ) (fields : Are
       orders = made.orders_are;
       left = omega (arith, some_left);
       late = made.late;
-      punctual = told;
+      punctual = punctual_is;
     }
 
     -- what holds of it holds after a step
@@ -150,7 +150,7 @@ module _ (v : Control) (dues : List (Option ℕ)) (capacity : ℕ) (fields : Are
       control = record {
         ranks = fields.control.ranks;
         sound = subst (IsSound p) (sym made.leads) (after_step-sound p v.cell r js fields.control.ranks.shaped fields.control.sound made.step);
-        at_rest = subst (IsAtRest p) (sym made.leads) made.step.rest;
+        at_rest = subst (IsAtRest p) (sym made.leads) made.step.quiescent;
         counted = omega (arith, fewer);
         moments_kept = keeps;
       };

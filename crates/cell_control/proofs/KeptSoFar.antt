@@ -7,8 +7,8 @@ use Rattle.shop_base.specs.{Cell.{Cell, MachineState, unused, entries}, Move.IsP
 use Rattle.cell_control.specs.Kept.{KeepsSoFar}
 
 -- a beginning is what stands first
-pub front_taken : (front whole : List ℕ) → IsPrefix front whole → take (length front) whole ≡ front
-front_taken front whole (rest, is) =
+pub take_front : (front whole : List ℕ) → IsPrefix front whole → take (length front) whole ≡ front
+take_front front whole (rest, is) =
     ap (take (length front)) is ∙ take-append-le (length front) front rest (le_refl (length front)) ∙ take_all (length front) front (le_refl (length front))
 
 -- those that entered a machine begin its other order

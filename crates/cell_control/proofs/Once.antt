@@ -109,11 +109,11 @@ cleaned_once p c r fs m j shaped sound can events is was again =
     }
 
 pub once : NoNamedEndIsAcceptedTwice
-once p es fs r again (Arrived j) shaped run tells other can =
-    let (m, is, worked) = (no_end_is_accepted_twice p es fs r again shaped run (other ∙ sym tells) can).0 in absurd (cc (tells, is))
-once p es fs r again (Finished j m) shaped run tells other can =
-    let (n, is, worked) = (no_end_is_accepted_twice p es fs r again shaped run (other ∙ sym tells) can).0 in absurd (cc (tells, is))
-once p es fs r again (Cleaned m j) shaped run tells other can =
+once p es fs r again (Arrived j) shaped run named other can =
+    let (m, is, worked) = (no_end_is_accepted_twice p es fs r again shaped run (other ∙ sym named) can).0 in absurd (cc (named, is))
+once p es fs r again (Finished j m) shaped run named other can =
+    let (n, is, worked) = (no_end_is_accepted_twice p es fs r again shaped run (other ∙ sym named) can).0 in absurd (cc (named, is))
+once p es fs r again (Cleaned m j) shaped run named other can =
     let (first, rest) = events_split p (start p) es (Reported r ∷ fs) run in
-    cleaned_once p (ends_in p es) r fs m j shaped (run-sound p es shaped first) rest.0 rest.1 tells.0 tells.1
+    cleaned_once p (ends_in p es) r fs m j shaped (run-sound p es shaped first) rest.0 rest.1 named.0 named.1
     (subst (λ (d : Cell). IsCleanedAfter p d m j) (after_all_join p (start p) es (Reported r ∷ fs)) other.1)

@@ -8,7 +8,7 @@ use Rattle.shop_base.specs.ReportsLeft.{reports_left}
 use Rattle.alt_graph.specs.Evidence.{IsCycle}
 use Rattle.plan_verifier.specs.Rest.{AreOrderedAhead}
 use Rattle.cell_control.specs.declared.rest_fault.RestFault.{RestFault}
-use Rattle.cell_control.specs.declared.rest_fault.RestFault.TheVariants.{MomentTooLarge, KeepsNot, Backwards, Cycle, Memory}
+use Rattle.cell_control.specs.declared.rest_fault.RestFault.TheVariants.{MomentTooLarge, IncompatiblePlan, Backwards, Cycle, Memory}
 use Rattle.cell_control.specs.Control.{Control}
 use Rattle.cell_control.specs.Settled.{HasSettled}
 
@@ -25,7 +25,7 @@ pub record IsBegun (p : PlannedShop) (c : Cell) (t : ℕ) (new : Control) : Type
 -- this is the first reason for which the rest from cell c and moment t on isn't driven, or memory ran out
 abbrev pub IsRestFault : PlannedShop → Cell → ℕ → RestFault → Type 0
 IsRestFault p c t MomentTooLarge = MAX_MOMENT < t
-IsRestFault p c t KeepsNot = ⊥
+IsRestFault p c t IncompatiblePlan = ⊥
 IsRestFault p c t (Backwards last) = (t ≤ MAX_MOMENT) × (t < c.last) × (last ≡ c.last)
 IsRestFault p c t (Cycle nodes) = IsNextMoment c t × IsCycle p nodes.items
 IsRestFault p c t Memory = IsNextMoment c t

@@ -6,7 +6,7 @@ use Rattle.shop_base.specs.Cell.{Cell}
 use Rattle.shop_base.specs.Report.{IsNextMoment}
 use Rattle.alt_graph.specs.Evidence.{IsCycle}
 use Rattle.cell_control.specs.declared.rest_fault.RestFault.{RestFault}
-use Rattle.cell_control.specs.declared.rest_fault.RestFault.TheVariants.{MomentTooLarge, KeepsNot, Backwards, Cycle, Memory}
+use Rattle.cell_control.specs.declared.rest_fault.RestFault.TheVariants.{MomentTooLarge, IncompatiblePlan, Backwards, Cycle, Memory}
 use Rattle.cell_control.specs.Kept.{KeepsSoFar}
 use Rattle.cell_control.specs.Carried.{IsCarried}
 use Rattle.cell_control.specs.Control.{Control}
@@ -15,7 +15,7 @@ use Rattle.cell_control.specs.Begun.{IsBegun}
 -- this is the first reason for which plan q can't take over cell c of plan p at moment t, or memory ran out
 abbrev pub IsHandOverFault : PlannedShop → Cell → PlannedShop → ℕ → RestFault → Type 0
 IsHandOverFault p c q t MomentTooLarge = MAX_MOMENT < t
-IsHandOverFault p c q t KeepsNot = (t ≤ MAX_MOMENT) × (KeepsSoFar p c q → ⊥)
+IsHandOverFault p c q t IncompatiblePlan = (t ≤ MAX_MOMENT) × (KeepsSoFar p c q → ⊥)
 IsHandOverFault p c q t (Backwards last) = KeepsSoFar p c q × (t ≤ MAX_MOMENT) × (t < c.last) × (last ≡ c.last)
 IsHandOverFault p c q t (Cycle nodes) = KeepsSoFar p c q × IsNextMoment c t × IsCycle q nodes.items
 IsHandOverFault p c q t Memory = KeepsSoFar p c q × (t ≤ MAX_MOMENT)

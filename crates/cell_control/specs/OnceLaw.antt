@@ -15,12 +15,12 @@ pub data NamedEnd : Type 0 where
   Cleaned : (machine job : ℕ) → NamedEnd
 
 -- in this cell the report tells that end
-abbrev pub Tells : PlannedShop → Cell → Report → NamedEnd → Type 0
-Tells p c r (Arrived j) = ended r ≡ Arrival j
-Tells p c r (Finished j m) = ended r ≡ Operation j m
-Tells p c r (Cleaned m j) = (ended r ≡ Cleaning m) × IsCleanedAfter p c m j
+abbrev pub ReportsEnd : PlannedShop → Cell → Report → NamedEnd → Type 0
+ReportsEnd p c r (Arrived j) = ended r ≡ Arrival j
+ReportsEnd p c r (Finished j m) = ended r ≡ Operation j m
+ReportsEnd p c r (Cleaned m j) = (ended r ≡ Cleaning m) × IsCleanedAfter p c m j
 
 -- in any run, once an end that names its job was reported, no report that tells it is possible again, at whatever moment
 abbrev pub NoNamedEndIsAcceptedTwice : Type 0
 NoNamedEndIsAcceptedTwice = (p : PlannedShop) (es fs : List Event) (r again : Report) (end : NamedEnd) → IsWellShaped p → IsRun p (es ++ Reported r ∷ fs)
-    → Tells p (ends_in p es) r end → Tells p (ends_in p (es ++ Reported r ∷ fs)) again end → CanReport p (ends_in p (es ++ Reported r ∷ fs)) again → ⊥
+    → ReportsEnd p (ends_in p es) r end → ReportsEnd p (ends_in p (es ++ Reported r ∷ fs)) again end → CanReport p (ends_in p (es ++ Reported r ∷ fs)) again → ⊥

@@ -16,7 +16,7 @@ pub(crate) fn end_activity<P: Planned, D: Dues>(
     report: Report,
 ) -> Option<JobNo>
     requires due_moments { AreDueMoments cell.old.plan cell.old.cell (D.dues dues.old) }
-    requires rest { IsAtRest cell.old.plan cell.old.cell }
+    requires quiescent { IsAtRest cell.old.plan cell.old.cell }
     requires possible { CanReport cell.old.plan cell.old.cell report }
     ensures ended { cell.new ≡ record cell.old { cell = after_report cell.old.cell report } }
     ensures due_moments { AreDueMoments cell.old.plan cell.new.cell (D.dues dues.new) }

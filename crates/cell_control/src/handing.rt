@@ -18,7 +18,7 @@ use std::alloc::Global;
 
 /// A cell as one of the plan that takes over, and what is prepared for it.
 #[derive(Drop)]
-pub(crate) struct TakenOver<D: Dues> {
+pub(crate) struct HandedCell<D: Dues> {
     pub cell: WorkCell<Shaped>,
     pub prepared: Prepared<D>,
 }
@@ -29,7 +29,7 @@ pub(crate) fn take_over<P: Planned, D: Dues>(
     cell: &WorkCell<P>,
     shaped: Shaped,
     present: Moment,
-) -> Result<TakenOver<D>, (RestFault, Shaped)>
+) -> Result<HandedCell<D>, (RestFault, Shaped)>
     ensures kept { OnOk result (KeepsSoFar cell.now.plan cell.now.cell shaped) }
     ensures plan { IfOk result (λ new. new.cell.plan ≡ shaped) }
     ensures carried { IfOk result (λ new. IsCarried cell.now.plan cell.now.cell shaped new.cell.cell) }
@@ -44,7 +44,7 @@ pub(crate) fn take_over<P: Planned, D: Dues>(
         return Err((RestFault::MomentTooLarge, shaped));
     }
     if !keeps_so_far(cell, &shaped) {
-        return Err((RestFault::KeepsNot, shaped));
+        return Err((RestFault::IncompatiblePlan, shaped));
     }
     match carry(alloc, cell, &shaped) {
         Ok(tables) => prepare_cell(alloc, WorkCell::of_parts(shaped, tables), present),
@@ -57,7 +57,7 @@ fn prepare_cell<D: Dues>(
     alloc: Global,
     cell: WorkCell<Shaped>,
     present: Moment,
-) -> Result<TakenOver<D>, (RestFault, Shaped)>
+) -> Result<HandedCell<D>, (RestFault, Shaped)>
     ensures same { IfOk result (λ new. new.cell ≡ cell) }
     ensures moment { OnOk result (IsNextMoment cell.cell present) }
     ensures ordered { IfOk result (λ new. AreOrderedAhead cell.plan cell.cell present new.prepared.times) }
@@ -67,7 +67,7 @@ fn prepare_cell<D: Dues>(
     ensures handed_back { IfErr result (λ refused. refused.1 ≡ cell.basis) }
 {
     match prepare(alloc, &cell, present) {
-        Ok(prepared) => Ok(TakenOver { cell, prepared }),
+        Ok(prepared) => Ok(HandedCell { cell, prepared }),
         Err(fault) => Err((fault, cell.into_basis())),
     }
 }

@@ -30,7 +30,7 @@ pub(crate) fn release_moves<P: Planned, D: Dues>(
     requires empty { orders.old.items ≡ [] }
     requires room { HasRoomFor orders.old (ready_count cell.old.plan cell.old.cell) }
     ensures sequence { let c = cell.old.cell in IsSequence cell.old.plan c c.last orders.new.items cell.new.cell }
-    ensures rest { IsAtRest cell.old.plan cell.new.cell }
+    ensures quiescent { IsAtRest cell.old.plan cell.new.cell }
     ensures same_plan { cell.new ≡ record cell.old { cell = cell.new.cell } }
     ensures due_moments { AreDueMoments cell.old.plan cell.new.cell (D.dues dues.new) }
     ensures capacity { orders.new.capacity ≡ orders.old.capacity }

@@ -7,7 +7,7 @@ ghost use Rattle.cell_control.specs.HandedOver.{IsHandedOver, IsHandOverFault};
 use crate::controller::Controller;
 use crate::core_controller::Core;
 use crate::dues::Dues;
-use crate::handing::{TakenOver, take_over};
+use crate::handing::{HandedCell, take_over};
 use crate::preparing::{Prepared, prepare};
 use crate::rest_fault::RestFault;
 use crate::room::Room;
@@ -110,8 +110,8 @@ impl<D: Dues> Core<Held, D> {
         ensures handed_back { IfErr result (λ refused. refused.1 ≡ shaped) }
     {
         match take_over(alloc, &self.cell, shaped, present) {
-            Ok(taken) => {
-                let TakenOver { cell, prepared } = taken;
+            Ok(next) => {
+                let HandedCell { cell, prepared } = next;
                 *self = RestController::settled(cell, prepared, present);
                 Ok(())
             }

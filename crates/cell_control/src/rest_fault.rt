@@ -10,8 +10,8 @@ pub enum RestFault {
     #[error("MomentTooLarge")]
     MomentTooLarge,
     /// The run so far isn't one of the other plan. A controller that begins isn't refused for this.
-    #[error("KeepsNot")]
-    KeepsNot,
+    #[error("IncompatiblePlan")]
+    IncompatiblePlan,
     /// The moment is before the last one.
     #[error("Backwards last {last}")]
     Backwards { last: Moment },

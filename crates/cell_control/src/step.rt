@@ -20,7 +20,7 @@ pub(crate) fn make_step<P: Planned, D: Dues>(
     late: bool,
 ) -> Ack
     requires due_moments { AreDueMoments cell.old.plan cell.old.cell (D.dues dues.old) }
-    requires rest { IsAtRest cell.old.plan cell.old.cell }
+    requires quiescent { IsAtRest cell.old.plan cell.old.cell }
     requires possible { CanReport cell.old.plan cell.old.cell report }
     requires late { (late ≡ false) ↔ IsPunctual cell.old.plan cell.old.cell report }
     requires room { jobs cell.old.plan ≤ orders.old.capacity }

@@ -10,21 +10,21 @@ use Rattle.text_lines.specs.Lines.{lines_of, ended_lines}
 use Rattle.cell_tables.specs.declared.entry.Entry.{Entry}
 use Rattle.cell_tables.specs.declared.entry.Entry.TheVariants.{Report as ReportEntry, Order as OrderEntry}
 use Rattle.cell_tables.specs.Events.{events_of}
-use Rattle.event_lines.specs.LogLines.{LinesTell}
-use Rattle.event_lines.proofs.Readings.{tell-parts}
+use Rattle.event_lines.specs.LogLines.{LinesParse}
+use Rattle.event_lines.proofs.Readings.{parse-parts}
 use Rattle.run_log.proofs.Audits.{events-join}
 use Rattle.byte_streams.specs.Answering.{AnswerAll}
 use Rattle.event_lines.specs.declared.requests.Request.{Request}
 use Rattle.event_lines.specs.declared.requests.Request.TheVariants.{Claim as ClaimRequest, Status}
 use Rattle.event_lines.specs.Requests.{claimed}
-use Rattle.cell_drive.specs.declared.manner.Manner.{Manner}
+use Rattle.cell_drive.specs.declared.protocol.Protocol.{Protocol}
 use Rattle.cell_drive.specs.AnswerText.{DrivenCell, undriven, CellCloses}
-use Rattle.cell_drive.specs.Stated.{RequestAnswer, StatedAnswers}
+use Rattle.cell_drive.specs.ProtocolText.{RequestAnswer, ProtocolAnswers}
 use Rattle.cell_drive.specs.OneRun.{cell_after, IsRunOf}
-use Rattle.event_lines.specs.ReadBack.{TellsFirst}
-use Rattle.event_lines.proofs.Telling.{tells_none}
-use Rattle.cell_drive.proofs.ReadBack.{closing_told}
-use Rattle.cell_drive.specs.CutLaw.{IsCutFrom, ACutLogIsTakenUp, ACutLogHasItsOrders}
+use Rattle.event_lines.specs.ReadBack.{ParsesFirst}
+use Rattle.event_lines.proofs.Telling.{parses_none}
+use Rattle.cell_drive.proofs.ReadBack.{closing_parses}
+use Rattle.cell_drive.specs.CutLaw.{IsCutFrom, ACutLogIsRecovered, ACutLogHasItsOrders}
 use Rattle.cell_drive.proofs.Parts.{events-orders, entries_moved}
 use Rattle.cell_drive.proofs.CutRuns.{cut_of_run}
 use Rattle.text_lines.proofs.EndedLines.{ended-more}
@@ -35,17 +35,17 @@ pub run_of_leads : (p : PlannedShop) (reports : List Report) (entries : List Ent
 run_of_leads p reports entries end shaped run =
     (reports, subst (IsControlledRun p reports (events_of entries)) (controlled_to_run p reports (events_of entries) end shaped run).1 run)
 
-pub a_cut_log_is_taken_up : ACutLogIsTakenUp
-a_cut_log_is_taken_up p cut lost entries tells run =
+pub a_cut_log_is_recovered : ACutLogIsRecovered
+a_cut_log_is_recovered p cut lost entries tells run =
     let (more, lines) = ended-more cut lost in
-    let (a, b, first, second, parts) = tell-parts p (ended_lines cut) more entries (subst (λ (ls : List (List ℕ)). LinesTell p ls entries) lines tells) in
+    let (a, b, first, second, parts) = parse-parts p (ended_lines cut) more entries (subst (λ (ls : List (List ℕ)). LinesParse p ls entries) lines tells) in
     let events : events_of entries ≡ events_of a ++ events_of b = ap events_of parts ∙ events-join a b in
     record { told = a; tells = first; run = front_events p (start p) (events_of a) (events_of b) (subst (IsRun p) events run); later = b; whole = parts }
 
 pub a_cut_log_has_its_orders : ACutLogHasItsOrders
 a_cut_log_has_its_orders p cut lost entries shaped tells run =
     let (more, lines) = ended-more cut lost in
-    let (a, b, first, second, parts) = tell-parts p (ended_lines cut) more entries (subst (λ (ls : List (List ℕ)). LinesTell p ls entries) lines tells) in
+    let (a, b, first, second, parts) = parse-parts p (ended_lines cut) more entries (subst (λ (ls : List (List ℕ)). LinesParse p ls entries) lines tells) in
     let events : events_of entries ≡ events_of a ++ events_of b = ap events_of parts ∙ events-join a b in
     let leads : Leads p (start p) run.0 (events_of a ++ events_of b) (cell_after p entries) = subst (λ es. Leads p (start p) run.0 es (cell_after p entries)) events run.1 in
     let cut_run = cut_of_run (length (events_of a)) p (start p) (cell_after p entries) run.0 (events_of a) (events_of b) (omega arith) leads in
@@ -87,7 +87,7 @@ nothing_led p before end same = record {
   leads = subst (λ (d : DrivenCell). Leads p before.cell [] [] d.cell) (sym same) (done before.cell);
 }
 
-module _ (p : PlannedShop) (manner : Manner) where
+module _ (p : PlannedShop) (protocol : Protocol) where
   abbrev pub LeadsOn : Cell → List Entry → Cell → Type 0
   LeadsOn c events end = (reports : List Report) × Leads p c reports (events_of events) end
 
@@ -96,7 +96,7 @@ module _ (p : PlannedShop) (manner : Manner) where
       subst (λ (es : List Entry). LeadsOn c (es ++ more) end) (sym none) (subst (λ (x : Cell). LeadsOn x more end) same on)
 
   -- a request, and what comes behind it
-  pub answer_leads : (prefix : List ℕ) (c next end : Cell) (number : ℕ) (request : Request) (text : List ℕ) (events more : List Entry) → RequestAnswer p manner prefix c number request text events next → LeadsOn next more end
+  pub answer_leads : (prefix : List ℕ) (c next end : Cell) (number : ℕ) (request : Request) (text : List ℕ) (events more : List Entry) → RequestAnswer p protocol prefix c number request text events next → LeadsOn next more end
       → LeadsOn c (events ++ more) end
   answer_leads prefix c next end number (ClaimRequest claim) text events more (inl is) on = no_events c next end events more is.events_are is.next_is on
   answer_leads prefix c next end number (ClaimRequest claim) text events more (inr is) on =
@@ -110,7 +110,7 @@ module _ (p : PlannedShop) (manner : Manner) where
   answer_leads prefix c next end number Status text events more is on = no_events c next end events more is.events_are is.next_is on
 
   -- a line, and those behind it
-  line_leads : (before next end : DrivenCell) (number : ℕ) (line : Option (List ℕ)) (text : List ℕ) → StatedAnswers p manner before number line text next → AreLed p next end → AreLed p before end
+  line_leads : (before next end : DrivenCell) (number : ℕ) (line : Option (List ℕ)) (text : List ℕ) → ProtocolAnswers p protocol before number line text next → AreLed p next end → AreLed p before end
   line_leads before next end number None text is on = subst (λ (d : DrivenCell). AreLed p d end) is.end_is on
   line_leads before next end number (Some []) text is on = subst (λ (d : DrivenCell). AreLed p d end) is.end_is on
   line_leads before next end number (Some (b ∷ line)) text (inl is) on = subst (λ (d : DrivenCell). AreLed p d end) is.1.end_is on
@@ -124,17 +124,17 @@ module _ (p : PlannedShop) (manner : Manner) where
         leads = led.1;
       }
 
-  pub stated_answers_lead : (lines : List (Option (List ℕ))) (before end : DrivenCell) (number : ℕ) (text : List ℕ) → AnswerAll (StatedAnswers p manner) before number lines text end → AreLed p before end
-  stated_answers_lead [] before end number text all = nothing_led p before end all.1
-  stated_answers_lead (line ∷ lines) before end number text all =
-      line_leads before all.2 end number line all.0 all.3 (stated_answers_lead lines all.2 end (number + 1) all.1 all.4)
+  pub protocol_answers_lead : (lines : List (Option (List ℕ))) (before end : DrivenCell) (number : ℕ) (text : List ℕ) → AnswerAll (ProtocolAnswers p protocol) before number lines text end → AreLed p before end
+  protocol_answers_lead [] before end number text all = nothing_led p before end all.1
+  protocol_answers_lead (line ∷ lines) before end number text all =
+      line_leads before all.2 end number line all.0 all.3 (protocol_answers_lead lines all.2 end (number + 1) all.1 all.4)
 
-pub closing_part : (p : PlannedShop) (end : DrivenCell) (closing : List ℕ) → (closing ≡ []) ⊎ CellCloses p end closing → TellsFirst p closing []
-closing_part p end closing (inl none) = subst (λ (t : List ℕ). TellsFirst p t []) (sym none) (tells_none p)
-closing_part p end closing (inr closes) = closing_told p end closing closes
+pub closing_part : (p : PlannedShop) (end : DrivenCell) (closing : List ℕ) → (closing ≡ []) ⊎ CellCloses p end closing → ParsesFirst p closing []
+closing_part p end closing (inl none) = subst (λ (t : List ℕ). ParsesFirst p t []) (sym none) (parses_none p)
+closing_part p end closing (inr closes) = closing_parses p end closing closes
 
 -- the log of a cell that was led so is cut at any byte
-pub cut_of_led : (p : PlannedShop) (cut lost : List ℕ) (end : DrivenCell) → IsWellShaped p → LinesTell p (lines_of (cut ++ lost)) end.entries → AreLed p (undriven p) end → IsCutFrom p cut end.entries
+pub cut_of_led : (p : PlannedShop) (cut lost : List ℕ) (end : DrivenCell) → IsWellShaped p → LinesParse p (lines_of (cut ++ lost)) end.entries → AreLed p (undriven p) end → IsCutFrom p cut end.entries
 cut_of_led p cut lost end shaped tells led =
     a_cut_log_has_its_orders p cut lost end.entries shaped tells
     (run_of_leads p led.reports end.entries end.cell shaped (subst (λ (es : List Entry). IsControlledRun p led.reports (events_of es) end.cell) (sym led.entries) led.leads))

@@ -6,14 +6,14 @@ use Rattle.cell_control.specs.Control.{Control}
 use Rattle.event_lines.specs.AnswerLines.{refused_line}
 use Rattle.event_lines.specs.SentLines.{cell_prefix}
 use Rattle.event_lines.specs.declared.requests.Request.{Request}
-use Rattle.cell_drive.specs.declared.manner.Manner.{Manner}
+use Rattle.cell_drive.specs.declared.protocol.Protocol.{Protocol}
 use Rattle.cell_drive.specs.declared.replies.Reply.{Reply}
 use Rattle.cell_drive.specs.ManyCells.{PlannedCell, cell_start, hub_start}
-use Rattle.cell_drive.specs.StatedCells.{AsksCell, AsksOf, IsToldIn, CellsTell, CellsStated, StatedHubAnswer, hub_stated}
+use Rattle.cell_drive.specs.ProtocolCells.{AsksCell, AsksOf, IsReplyIn, CellsReply, ProtocolCellsAnswer, HubAnswer, hub_of}
 use Rattle.cell_drive.specs.Replies.{IsReply, reply_events, reply_text}
 use Rattle.cell_drive.specs.Numbers.{AnsweredByCells, AreInRun, planned_cell, planned_cells}
 use Rattle.cell_drive.proofs.LineAnswers.{asked_line}
-use Rattle.cell_drive.proofs.OneText.{told_keep}
+use Rattle.cell_drive.proofs.OneText.{replies_keep}
 use Rattle.cell_drive.proofs.Replied.{plan_after, replied_so}
 
 -- ---- the cell of a number
@@ -52,44 +52,44 @@ one_more_begun controls plans v w begun is =
 
 -- ---- what is asked of it
 
-module _ (manner : Manner) (controls : List Control) (number k : ℕ) where
+module _ (protocol : Protocol) (controls : List Control) (number k : ℕ) where
   -- there is none
-  pub told_none : (request : Request) → slice_get (planned_cells controls) k ≡ None
-      → CellsTell manner (planned_cells controls) number (record { cell = k; request = request }) (refused_line number (codes "NoSuchCell")) (planned_cells controls)
-  told_none request none =
-      subst (λ (o : Option PlannedCell). IsToldIn manner o (planned_cells controls) number (record { cell = k; request = request }) (refused_line number (codes "NoSuchCell")) (planned_cells controls)) (sym none)
+  pub answers_none : (request : Request) → slice_get (planned_cells controls) k ≡ None
+      → CellsReply protocol (planned_cells controls) number (record { cell = k; request = request }) (refused_line number (codes "NoSuchCell")) (planned_cells controls)
+  answers_none request none =
+      subst (λ (o : Option PlannedCell). IsReplyIn protocol o (planned_cells controls) number (record { cell = k; request = request }) (refused_line number (codes "NoSuchCell")) (planned_cells controls)) (sym none)
       (record { text_is = refl; end_is = refl })
 
   -- its controller replies
-  pub told_reply : (v new : Control) (request : Request) (reply : Reply) → slice_get (planned_cells controls) k ≡ Some (planned_cell v) → IsReply manner v request reply new
-      → CellsTell manner (planned_cells controls) number (record { cell = k; request = request }) (reply_text manner (cell_prefix k) number new reply) (planned_cells (set controls k new))
-  told_reply v new request reply found is =
-      let text = reply_text manner (cell_prefix k) number new reply in
+  pub reply_answers : (v new : Control) (request : Request) (reply : Reply) → slice_get (planned_cells controls) k ≡ Some (planned_cell v) → IsReply protocol v request reply new
+      → CellsReply protocol (planned_cells controls) number (record { cell = k; request = request }) (reply_text protocol (cell_prefix k) number new reply) (planned_cells (set controls k new))
+  reply_answers v new request reply found is =
+      let text = reply_text protocol (cell_prefix k) number new reply in
       let end = planned_cells (set controls k new) in
-      subst (λ (o : Option PlannedCell). IsToldIn manner o (planned_cells controls) number (record { cell = k; request = request }) text end) (sym found) (record {
+      subst (λ (o : Option PlannedCell). IsReplyIn protocol o (planned_cells controls) number (record { cell = k; request = request }) text end) (sym found) (record {
         events = reply_events new reply;
         next = new.cell;
-        answer = replied_so manner v (cell_prefix k) number request reply new is;
+        answer = replied_so protocol v (cell_prefix k) number request reply new is;
         end_is = set_there controls k new
-            ∙ ap (λ (plan : VerifiedPlan). set (planned_cells controls) k (record { plan = plan; cell = new.cell })) (plan_after manner v request reply new is);
+            ∙ ap (λ (plan : VerifiedPlan). set (planned_cells controls) k (record { plan = plan; cell = new.cell })) (plan_after protocol v request reply new is);
       })
 
 -- ---- lines
 
 -- what is asked of a cell by a line
-pub asked_of : (manner : Manner) (controls ends : List Control) (number : ℕ) (line text : List ℕ) (cell : ℕ) (request : Request) → (line ≡ [] → ⊥) → AsksCell manner.tells line cell request
-    → CellsTell manner (planned_cells controls) number (record { cell = cell; request = request }) text (planned_cells ends) → AnsweredByCells manner controls number line ends text
-asked_of manner controls ends number line text cell request some asked told = record {
-  answer = asked_line (AsksOf manner.tells) (CellsTell manner) (planned_cells controls) number line text (record { cell = cell; request = request }) (planned_cells ends) some asked told;
-  manner = refl;
+pub asked_of : (protocol : Protocol) (controls ends : List Control) (number : ℕ) (line text : List ℕ) (cell : ℕ) (request : Request) → (line ≡ [] → ⊥) → AsksCell protocol.version_2 line cell request
+    → CellsReply protocol (planned_cells controls) number (record { cell = cell; request = request }) text (planned_cells ends) → AnsweredByCells protocol controls number line ends text
+asked_of protocol controls ends number line text cell request some asked told = record {
+  answer = asked_line (AsksOf protocol.version_2) (CellsReply protocol) (planned_cells controls) number line text (record { cell = cell; request = request }) (planned_cells ends) some asked told;
+  protocol = refl;
 }
 
 -- a line by which nothing changes
-pub unchanged : (manner : Manner) (cells : List PlannedCell) (number : ℕ) (line : Option (List ℕ)) (text : List ℕ) → CellsStated manner cells number line text cells
-    → StatedHubAnswer (hub_stated manner cells) number line text (hub_stated manner cells)
-unchanged manner cells number line text answer = record { answer = answer; manner = refl }
+pub unchanged : (protocol : Protocol) (cells : List PlannedCell) (number : ℕ) (line : Option (List ℕ)) (text : List ℕ) → ProtocolCellsAnswer protocol cells number line text cells
+    → HubAnswer (hub_of protocol cells) number line text (hub_of protocol cells)
+unchanged protocol cells number line text answer = record { answer = answer; protocol = refl }
 
 -- each is as it can be in a run
-pub still_in_run : (manner : Manner) (controls ends : List Control) (number cell : ℕ) (request : Request) (text : List ℕ) → AreInRun (planned_cells controls)
-    → CellsTell manner (planned_cells controls) number (record { cell = cell; request = request }) text (planned_cells ends) → AreInRun (planned_cells ends)
-still_in_run manner controls ends number cell request text in_run told = told_keep manner (planned_cells controls) number (record { cell = cell; request = request }) text (planned_cells ends) in_run told
+pub still_in_run : (protocol : Protocol) (controls ends : List Control) (number cell : ℕ) (request : Request) (text : List ℕ) → AreInRun (planned_cells controls)
+    → CellsReply protocol (planned_cells controls) number (record { cell = cell; request = request }) text (planned_cells ends) → AreInRun (planned_cells ends)
+still_in_run protocol controls ends number cell request text in_run told = replies_keep protocol (planned_cells controls) number (record { cell = cell; request = request }) text (planned_cells ends) in_run told

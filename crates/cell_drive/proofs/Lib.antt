@@ -18,11 +18,11 @@ pub mod Sessions
 pub mod LateOnes
 pub mod FollowedEvents
 pub mod OneFault
-pub mod TakingUp
+pub mod Recovering
 pub mod ToldAgain
-pub mod RetoldLines
+pub mod ReplayLines
 pub mod StateTexts
-pub mod StatedTold
+pub mod ProtocolParses
 pub mod OnTime
 pub mod Hubs
 pub mod GoneOn

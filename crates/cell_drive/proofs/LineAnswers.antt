@@ -2,16 +2,16 @@
 use Rattle.std.proofs.Common.{◌≡◌, ℕ, List, [], ◌∷◌, codes, length, ◌==◌, Bool, true, false, Some, Result, OnOk, refl, sym, ap, ◌∙◌, subst, arith, inl, inr}
 use Rattle.std.proofs.lemmas.Bool.{eqb-true, false≢true}
 use Rattle.byte_streams.specs.Sinks.{Wrote}
-use Rattle.byte_streams.specs.Lent.{Taker, WroteOne}
+use Rattle.byte_streams.specs.Lent.{SinkState, WroteOne}
 use Rattle.event_lines.specs.AnswerLines.{refused_line}
 use Rattle.cell_drive.specs.LineAnswers.{LineAnswer, AsksNothing}
 
-pub was_answered : {T E : Type 0} (texts : List ℕ → Type 0) (text : List ℕ) (outcome : Result T E) (before after : Taker)
-    → texts text → Wrote outcome after.failed before.taken after.taken text → OnOk outcome (after.failed ≡ before.failed) → WroteOne texts outcome before after
+pub was_answered : {T E : Type 0} (texts : List ℕ → Type 0) (text : List ℕ) (outcome : Result T E) (before after : SinkState)
+    → texts text → Wrote outcome after.failed before.written after.written text → OnOk outcome (after.failed ≡ before.failed) → WroteOne texts outcome before after
 was_answered texts text outcome before after is wrote unfailed = record { text = text; is_text = is; wrote = wrote; unfailed = unfailed }
 
 -- so by other texts, if each of these is one
-pub of_texts : {T E : Type 0} (texts others : List ℕ → Type 0) (outcome : Result T E) (before after : Taker) → ((text : List ℕ) → texts text → others text)
+pub of_texts : {T E : Type 0} (texts others : List ℕ → Type 0) (outcome : Result T E) (before after : SinkState) → ((text : List ℕ) → texts text → others text)
     → WroteOne texts outcome before after → WroteOne others outcome before after
 of_texts texts others outcome before after so wrote = record { text = wrote.text; is_text = so wrote.text wrote.is_text; wrote = wrote.wrote; unfailed = wrote.unfailed }
 

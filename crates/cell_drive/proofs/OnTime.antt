@@ -42,6 +42,6 @@ module _ (p : PlannedShop) (c : Cell) (t : ℕ) (on_time : IsOnTime p c t) where
       ∙ ap (own_first t own) (none_of_those (machine_standing p c) 0 (machines p) (λ m. cleaned m (cleaning c m) refl))
 
 -- so nothing is told, in any version of the lines
-pub untold : (tells : Bool) (found : Option Overdue) → found ≡ None → None ≡ cond tells found None
-untold true found none = sym none
-untold false found none = refl
+pub none_printed : (version_2 : Bool) (found : Option Overdue) → found ≡ None → None ≡ cond version_2 found None
+none_printed true found none = sym none
+none_printed false found none = refl

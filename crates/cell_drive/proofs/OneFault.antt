@@ -11,8 +11,8 @@ use Rattle.shop_base.specs.Report.{at, ended}
 use Rattle.cell_tables.specs.declared.entry.Entry.{Entry}
 use Rattle.cell_tables.specs.declared.entry.Entry.TheVariants.{Report as ReportEntry, Order as OrderEntry}
 use Rattle.cell_tables.specs.Events.{events_of}
-use Rattle.event_lines.specs.LogLines.{LineTells, LinesTell}
-use Rattle.event_lines.proofs.Readings.{one_telling, one_reading}
+use Rattle.event_lines.specs.LogLines.{LineParses, LinesParse}
+use Rattle.event_lines.proofs.Readings.{one_parse, one_reading}
 use Rattle.run_log.specs.declared.audit_fault.AuditFault.{AuditFault}
 use Rattle.run_log.specs.declared.audit_fault.AuditFault.TheVariants.{BadLine, NotExpected, Backwards, NotReady, Occupied, OutOfOrder, WrongPlace, NotClean, Memory}
 use Rattle.run_log.specs.Audits.{IsFaultOf, IsGoingOn, IsLineFault, IsBadLine, IsFirstBad, IsAuditFault, IsItsWay, IsOccupied, IsTimely, IsUnclean, IsOutOfTurn, IsOpen, fault_line}
@@ -144,7 +144,7 @@ module _ (p : PlannedShop) (c : Cell) where
 
   -- a line is bad, or tells an entry that has the fault
   abbrev FoundIn : List ℕ → AuditFault → Type 0
-  FoundIn line f = ((kind f ≡ 0) × IsBadLine p line) ⊎ ((entry : Entry) × LineTells p line (entry ∷ []) × IsFaultOf p c entry f)
+  FoundIn line f = ((kind f ≡ 0) × IsBadLine p line) ⊎ ((entry : Entry) × LineParses p line (entry ∷ []) × IsFaultOf p c entry f)
 
   found_in : (line : List ℕ) (f : AuditFault) → IsLineFault p c line f → FoundIn line f
   found_in line (BadLine number) fault = inl (refl, fault)
@@ -159,10 +159,10 @@ module _ (p : PlannedShop) (c : Cell) where
 
   line_kinds : (line : List ℕ) (f g : AuditFault) → FoundIn line f → FoundIn line g → kind f ≡ kind g
   line_kinds line f g (inl one) (inl two) = one.0 ∙ sym two.0
-  line_kinds line f g (inl one) (inr (entry, tells, fault)) = absurd (one.1.untold entry tells.1 tells.2)
-  line_kinds line f g (inr (entry, tells, fault)) (inl two) = absurd (two.1.untold entry tells.1 tells.2)
+  line_kinds line f g (inl one) (inr (entry, tells, fault)) = absurd (one.1.none_printed entry tells.1 tells.2)
+  line_kinds line f g (inr (entry, tells, fault)) (inl two) = absurd (two.1.none_printed entry tells.1 tells.2)
   line_kinds line f g (inr (a, tells, fault)) (inr (b, also, other)) =
-      let lists = one_telling p line (a ∷ []) (b ∷ []) tells also in
+      let lists = one_parse p line (a ∷ []) (b ∷ []) tells also in
       let heads : b ≡ a = cc in
       entry_kinds a f g fault (subst (λ (e : Entry). IsFaultOf p c e g) heads other)
 
@@ -186,7 +186,7 @@ module _ (p : PlannedShop) (lines : List (List ℕ)) where
     where
       same : one.before ≡ other.before → one.line ≡ other.line → g ≡ f
       same befores line_is =
-          let told : other.told ≡ one.told = one_reading p one.before other.told one.told (subst (λ (ls : List (List ℕ)). LinesTell p ls other.told) (sym befores) other.tells) one.tells in
+          let told : other.told ≡ one.told = one_reading p one.before other.told one.told (subst (λ (ls : List (List ℕ)). LinesParse p ls other.told) (sym befores) other.tells) one.tells in
           let fault : IsLineFault p (ends_in p (events_of one.told)) one.line g =
           subst (λ (l : List ℕ). IsLineFault p (ends_in p (events_of one.told)) l g) (sym line_is) (subst (λ (es : List Entry). IsLineFault p (ends_in p (events_of es)) other.line g) told other.is_fault) in
           let c = ends_in p (events_of one.told) in

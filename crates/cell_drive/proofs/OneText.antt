@@ -26,20 +26,20 @@ use Rattle.event_lines.specs.declared.requests.Request.{Request}
 use Rattle.event_lines.specs.declared.requests.Request.TheVariants.{Claim as ClaimRequest, Status}
 use Rattle.event_lines.specs.Requests.{claimed}
 use Rattle.event_lines.proofs.Readings.{one_report, one_request, one_cell_report, one_cell_request}
-use Rattle.cell_drive.specs.declared.manner.Manner.{Manner}
+use Rattle.cell_drive.specs.declared.protocol.Protocol.{Protocol}
 use Rattle.cell_drive.specs.declared.refusals.Refusal.{Refusal}
 use Rattle.cell_drive.specs.declared.hub.HubEnd.{HubEnd}
 use Rattle.cell_drive.specs.Refusals.{refusal_word, refusal_detail}
 use Rattle.cell_drive.specs.LineAnswers.{LineAnswer, IsClosingLine}
 use Rattle.cell_drive.specs.AnswerText.{DrivenCell, undriven, CellCloses}
-use Rattle.cell_drive.specs.Stated.{AsksFor, IsClaimRefused, IsClaimTaken, RequestAnswer, CellRequests, refusal_prefix, StatedAnswers, taken_lines, tells_end, told_overdue}
-use Rattle.cell_drive.specs.StatedLaw.{OneAnswerText, OneTextForLines}
+use Rattle.cell_drive.specs.ProtocolText.{AsksFor, IsClaimRefused, IsClaimAccepted, RequestAnswer, CellRequests, refusal_prefix, ProtocolAnswers, acceptance_lines, prints_end, printed_overdue}
+use Rattle.cell_drive.specs.ProtocolLaw.{OneAnswerText, OneTextForLines}
 use Rattle.cell_drive.specs.ManyCells.{PlannedCell, CellsClose, hub_start}
-use Rattle.cell_drive.specs.StatedCells.{AsksCell, AsksOf, OfCell, IsToldIn, CellsTell, AreDrivesIn, stated_hub_start}
-use Rattle.cell_drive.specs.StatedCellsLaw.{OneStatedCellsTextForLines, OneStatedCellsText}
+use Rattle.cell_drive.specs.ProtocolCells.{AsksCell, AsksOf, OfCell, IsReplyIn, CellsReply, AreDrivesIn, hub_of_plans}
+use Rattle.cell_drive.specs.ProtocolCellsLaw.{OneCellsTextForLines, OneCellsText}
 use Rattle.cell_drive.specs.Numbers.{IsInRun, AreInRun}
 use Rattle.cell_drive.proofs.ManyCells.{start_in_run, one_in_run, set_in_run}
-use Rattle.cell_drive.proofs.Refusing.{one_refusal, refused_or_taken}
+use Rattle.cell_drive.proofs.Refusing.{one_refusal, refused_or_admissible}
 
 -- ---- lines, whatever they ask for
 
@@ -92,7 +92,7 @@ pub record IsOne (text other : List ℕ) (events events' : List Entry) (next nex
   pub events_are : events' ≡ events
   pub next_is : next' ≡ next
 
-one_asked : (tells : Bool) (line : List ℕ) (what other : Request) → AsksFor tells line what → AsksFor tells line other → other ≡ what
+one_asked : (version_2 : Bool) (line : List ℕ) (what other : Request) → AsksFor version_2 line what → AsksFor version_2 line other → other ≡ what
 one_asked true line what other is also = one_request line what other is also
 one_asked false line (ClaimRequest (Report report)) (ClaimRequest (Report other)) is also = ap (λ r. ClaimRequest (Report r)) (one_report line report other is also)
 one_asked false line (ClaimRequest (Report report)) (ClaimRequest (CleanAfter machine job at)) is also = absurd also
@@ -100,38 +100,38 @@ one_asked false line (ClaimRequest (Report report)) Status is also = absurd also
 one_asked false line (ClaimRequest (CleanAfter machine job at)) other is also = absurd is
 one_asked false line Status other is also = absurd is
 
-module _ (p : PlannedShop) (manner : Manner) (prefix : List ℕ) (c : Cell) (number : ℕ) (on : IsOnCourse p c) where
+module _ (p : PlannedShop) (protocol : Protocol) (prefix : List ℕ) (c : Cell) (number : ℕ) (on : IsOnCourse p c) where
   one_claim_answer : (claim : Claim) (text other : List ℕ) (events events' : List Entry) (next next' : Cell)
-      → IsClaimRefused p manner (refusal_prefix manner prefix) c number claim text events next ⊎ IsClaimTaken p manner prefix c claim text events next
-      → IsClaimRefused p manner (refusal_prefix manner prefix) c number claim other events' next' ⊎ IsClaimTaken p manner prefix c claim other events' next' → IsOne text other events events' next next'
+      → IsClaimRefused p protocol (refusal_prefix protocol prefix) c number claim text events next ⊎ IsClaimAccepted p protocol prefix c claim text events next
+      → IsClaimRefused p protocol (refusal_prefix protocol prefix) c number claim other events' next' ⊎ IsClaimAccepted p protocol prefix c claim other events' next' → IsOne text other events events' next next'
   one_claim_answer claim text other events events' next next' (inl one) (inl also) =
-      let same : also.refusal ≡ one.refusal = one_refusal p c on.shaped on.sound manner claim one.refusal also.refusal one.first also.first in
+      let same : also.refusal ≡ one.refusal = one_refusal p c on.shaped on.sound protocol claim one.refusal also.refusal one.first also.first in
       record {
-        text_is = also.text_is ∙ ap (λ (r : Refusal). refusal_prefix manner prefix ++ refused_detail_line number (refusal_word r) (refusal_detail manner p c (claimed claim) r)) same ∙ sym one.text_is;
+        text_is = also.text_is ∙ ap (λ (r : Refusal). refusal_prefix protocol prefix ++ refused_detail_line number (refusal_word r) (refusal_detail protocol p c (claimed claim) r)) same ∙ sym one.text_is;
         events_are = also.events_are ∙ sym one.events_are;
         next_is = also.next_is ∙ sym one.next_is;
       }
-  one_claim_answer claim text other events events' next next' (inl one) (inr also) = absurd (refused_or_taken p c on.shaped on.sound manner claim one.refusal one.first also.taken)
-  one_claim_answer claim text other events events' next next' (inr one) (inl also) = absurd (refused_or_taken p c on.shaped on.sound manner claim also.refusal also.first one.taken)
+  one_claim_answer claim text other events events' next next' (inl one) (inr also) = absurd (refused_or_admissible p c on.shaped on.sound protocol claim one.refusal one.first also.accepted)
+  one_claim_answer claim text other events events' next next' (inr one) (inl also) = absurd (refused_or_admissible p c on.shaped on.sound protocol claim also.refusal also.first one.accepted)
   one_claim_answer claim text other events events' next next' (inr one) (inr also) =
       let r = claimed claim in
       let only = one_step p c r on.shaped on.sound on.rest one.step.can in
       let moves : also.movers ≡ one.movers = only.2 also.movers also.step ∙ sym (only.2 one.movers one.step) in
       let orders : step_orders p c r also.movers ≡ step_orders p c r one.movers = ap (step_orders p c r) moves in
       let next_is : next' ≡ next = also.next_is ∙ ap (after_step p c r) moves ∙ sym one.next_is in
-      let overdue = told_overdue manner p c (claimed claim) in
+      let overdue = printed_overdue protocol p c (claimed claim) in
       record {
         text_is = also.text_is
-            ∙ ap (λ (l : Bool). taken_lines prefix (claimed claim) l overdue (step_orders p c r also.movers) (tells_end manner p next')) (same_truth one.late also.late one.late_is also.late_is)
-            ∙ ap (λ (os : List MoveOrder). taken_lines prefix (claimed claim) one.late overdue os (tells_end manner p next')) orders
-            ∙ ap (λ (x : Cell). taken_lines prefix (claimed claim) one.late overdue (step_orders p c r one.movers) (tells_end manner p x)) next_is
+            ∙ ap (λ (l : Bool). acceptance_lines prefix (claimed claim) l overdue (step_orders p c r also.movers) (prints_end protocol p next')) (same_truth one.late also.late one.late_is also.late_is)
+            ∙ ap (λ (os : List MoveOrder). acceptance_lines prefix (claimed claim) one.late overdue os (prints_end protocol p next')) orders
+            ∙ ap (λ (x : Cell). acceptance_lines prefix (claimed claim) one.late overdue (step_orders p c r one.movers) (prints_end protocol p x)) next_is
             ∙ sym one.text_is;
         events_are = also.events_are ∙ ap (λ (os : List MoveOrder). ReportEntry (claimed claim) ∷ map OrderEntry os) orders ∙ sym one.events_are;
         next_is = next_is;
       }
 
   pub one_request_answer : (request : Request) (text other : List ℕ) (events events' : List Entry) (next next' : Cell)
-      → RequestAnswer p manner prefix c number request text events next → RequestAnswer p manner prefix c number request other events' next' → IsOne text other events events' next next'
+      → RequestAnswer p protocol prefix c number request text events next → RequestAnswer p protocol prefix c number request other events' next' → IsOne text other events events' next next'
   one_request_answer (ClaimRequest claim) text other events events' next next' one also = one_claim_answer claim text other events events' next next' one also
   one_request_answer Status text other events events' next next' one also = record {
     text_is = also.text_is ∙ sym one.text_is;
@@ -139,10 +139,10 @@ module _ (p : PlannedShop) (manner : Manner) (prefix : List ℕ) (c : Cell) (num
     next_is = also.next_is ∙ sym one.next_is;
   }
 
-  pub request_keeps : (request : Request) (text : List ℕ) (events : List Entry) (next : Cell) → RequestAnswer p manner prefix c number request text events next → IsOnCourse p next
+  pub request_keeps : (request : Request) (text : List ℕ) (events : List Entry) (next : Cell) → RequestAnswer p protocol prefix c number request text events next → IsOnCourse p next
   request_keeps (ClaimRequest claim) text events next (inl is) = subst (IsOnCourse p) (sym is.next_is) on
   request_keeps (ClaimRequest claim) text events next (inr is) =
-      subst (IsOnCourse p) (sym is.next_is) (record { shaped = on.shaped; sound = after_step-sound p c (claimed claim) is.movers on.shaped on.sound is.step; rest = is.step.rest })
+      subst (IsOnCourse p) (sym is.next_is) (record { shaped = on.shaped; sound = after_step-sound p c (claimed claim) is.movers on.shaped on.sound is.step; rest = is.step.quiescent })
   request_keeps Status text events next is = subst (IsOnCourse p) (sym is.next_is) on
 
 -- ---- lines of one cell
@@ -150,26 +150,26 @@ module _ (p : PlannedShop) (manner : Manner) (prefix : List ℕ) (c : Cell) (num
 abbrev IsDrivenOn : PlannedShop → DrivenCell → Type 0
 IsDrivenOn p d = IsOnCourse p d.cell
 
-module _ (p : PlannedShop) (manner : Manner) where
+module _ (p : PlannedShop) (protocol : Protocol) where
   one_requested : (start : DrivenCell) (number : ℕ) (request : Request) (text other : List ℕ) (end last : DrivenCell) → IsDrivenOn p start
-      → CellRequests p manner start number request text end → CellRequests p manner start number request other last → (other ≡ text) × (last ≡ end)
+      → CellRequests p protocol start number request text end → CellRequests p protocol start number request other last → (other ≡ text) × (last ≡ end)
   one_requested start number request text other end last on one also =
-      let same = one_request_answer p manner [] start.cell number on request text other one.more also.more end.cell last.cell one.answer also.answer in
+      let same = one_request_answer p protocol [] start.cell number on request text other one.more also.more end.cell last.cell one.answer also.answer in
       let entries : last.entries ≡ end.entries = also.entries ∙ ap (λ (es : List Entry). start.entries ++ es) same.events_are ∙ sym one.entries in
       (same.text_is, ap (λ (x : Cell). record { cell = x; entries = last.entries }) same.next_is ∙ ap (λ (es : List Entry). record { cell = end.cell; entries = es }) entries)
 
-  requested_keeps : (start : DrivenCell) (number : ℕ) (request : Request) (text : List ℕ) (end : DrivenCell) → IsDrivenOn p start → CellRequests p manner start number request text end → IsDrivenOn p end
-  requested_keeps start number request text end on is = request_keeps p manner [] start.cell number on request text is.more end.cell is.answer
+  requested_keeps : (start : DrivenCell) (number : ℕ) (request : Request) (text : List ℕ) (end : DrivenCell) → IsDrivenOn p start → CellRequests p protocol start number request text end → IsDrivenOn p end
+  requested_keeps start number request text end on is = request_keeps p protocol [] start.cell number on request text is.more end.cell is.answer
 
-  pub stated_lines_keep : (start : DrivenCell) (number : ℕ) (line : Option (List ℕ)) (text : List ℕ) (end : DrivenCell) → IsOnCourse p start.cell
-      → StatedAnswers p manner start number line text end → IsOnCourse p end.cell
-  stated_lines_keep start number line text end on is =
-      line_keeps (AsksFor manner.tells) (CellRequests p manner) (IsDrivenOn p) (one_asked manner.tells) one_requested requested_keeps start number line text end on is
+  pub protocol_lines_keep : (start : DrivenCell) (number : ℕ) (line : Option (List ℕ)) (text : List ℕ) (end : DrivenCell) → IsOnCourse p start.cell
+      → ProtocolAnswers p protocol start number line text end → IsOnCourse p end.cell
+  protocol_lines_keep start number line text end on is =
+      line_keeps (AsksFor protocol.version_2) (CellRequests p protocol) (IsDrivenOn p) (one_asked protocol.version_2) one_requested requested_keeps start number line text end on is
 
   pub one_lines_text : (lines : List (Option (List ℕ))) (start end last : DrivenCell) (number : ℕ) (text other : List ℕ) → IsOnCourse p start.cell
-      → AnswerAll (StatedAnswers p manner) start number lines text end → AnswerAll (StatedAnswers p manner) start number lines other last → (other ≡ text) × (last ≡ end)
+      → AnswerAll (ProtocolAnswers p protocol) start number lines text end → AnswerAll (ProtocolAnswers p protocol) start number lines other last → (other ≡ text) × (last ≡ end)
   one_lines_text lines start end last number text other on all also =
-      one_text (AsksFor manner.tells) (CellRequests p manner) (IsDrivenOn p) (one_asked manner.tells) one_requested requested_keeps lines start end last number text other on all also
+      one_text (AsksFor protocol.version_2) (CellRequests p protocol) (IsDrivenOn p) (one_asked protocol.version_2) one_requested requested_keeps lines start end last number text other on all also
 
 pub start_on_course : (p : PlannedShop) → IsWellShaped p → IsOnCourse p (undriven p).cell
 start_on_course p shaped = record { shaped = shaped; sound = start-sound p shaped; rest = start_at_rest p }
@@ -181,7 +181,7 @@ one_closing p c text other (inr unfinished) (inl not_so) = absurd (unfinished.0 
 one_closing p c text other (inr unfinished) (inr also) = also.1 ∙ sym unfinished.1
 
 pub one_text_for_lines : OneTextForLines
-one_text_for_lines p manner lines text other end last shaped all also = one_lines_text p manner lines (undriven p) end last 1 text other (start_on_course p shaped) all also
+one_text_for_lines p protocol lines text other end last shaped all also = one_lines_text p protocol lines (undriven p) end last 1 text other (start_on_course p shaped) all also
 
 -- with the closing line
 pub one_closed : (p : PlannedShop) (end last : DrivenCell) (answers answers' closing closing' : List ℕ) → CellCloses p end closing → CellCloses p last closing' → (answers' ≡ answers) × (last ≡ end)
@@ -191,8 +191,8 @@ one_closed p end last answers answers' closing closing' is also same =
     ap (λ (t : List ℕ). t ++ closing') same.0 ∙ ap (λ (t : List ℕ). answers ++ t) line
 
 pub one_answer_text : OneAnswerText
-one_answer_text p manner input text other end last shaped is also =
-    let one = one_text_for_lines p manner (input_lines input) is.answers also.answers end last shaped is.are_answers also.are_answers in
+one_answer_text p protocol input text other end last shaped is also =
+    let one = one_text_for_lines p protocol (input_lines input) is.answers also.answers end last shaped is.are_answers also.are_answers in
     (also.whole ∙ one_closed p end last is.answers also.answers is.closing also.closing is.is_closing also.is_closing one ∙ sym is.whole, one.1)
 
 -- ---- many cells
@@ -207,7 +207,7 @@ one_closing_text (c ∷ cells) number text other is also =
     let rest = one_closing_text cells (suc number) is.1 also.1 is.3 also.3 in
     also.4 ∙ ap (λ (l : List ℕ). (cell_prefix number ++ l) ++ also.1) line ∙ ap (λ (t : List ℕ). (cell_prefix number ++ is.0) ++ t) rest ∙ sym is.4
 
-pub one_asked_of : (tells : Bool) (line : List ℕ) (cell cell' : ℕ) (request other : Request) → AsksCell tells line cell request → AsksCell tells line cell' other → (cell' ≡ cell) × (other ≡ request)
+pub one_asked_of : (version_2 : Bool) (line : List ℕ) (cell cell' : ℕ) (request other : Request) → AsksCell version_2 line cell request → AsksCell version_2 line cell' other → (cell' ≡ cell) × (other ≡ request)
 one_asked_of true line cell cell' request other is also = one_cell_request line cell cell' request other is also
 one_asked_of false line cell cell' (ClaimRequest (Report report)) (ClaimRequest (Report other)) is also =
     let same = one_cell_report line cell cell' report other is also in (same.0, ap (λ r. ClaimRequest (Report r)) same.1)
@@ -216,46 +216,46 @@ one_asked_of false line cell cell' (ClaimRequest (Report report)) Status is also
 one_asked_of false line cell cell' (ClaimRequest (CleanAfter machine job at)) other is also = absurd is
 one_asked_of false line cell cell' Status other is also = absurd is
 
-one_asked_cell : (tells : Bool) (line : List ℕ) (asked other : OfCell) → AsksOf tells line asked → AsksOf tells line other → other ≡ asked
-one_asked_cell tells line asked other is also =
-    let same = one_asked_of tells line asked.cell other.cell asked.request other.request is also in
+one_asked_cell : (version_2 : Bool) (line : List ℕ) (asked other : OfCell) → AsksOf version_2 line asked → AsksOf version_2 line other → other ≡ asked
+one_asked_cell version_2 line asked other is also =
+    let same = one_asked_of version_2 line asked.cell other.cell asked.request other.request is also in
     ap (λ (k : ℕ). record { cell = k; request = other.request }) same.0 ∙ ap (λ (r : Request). record { cell = asked.cell; request = r }) same.1
 
-module _ (manner : Manner) where
+module _ (protocol : Protocol) where
   one_in : (o : Option PlannedCell) (cells : List PlannedCell) (number : ℕ) (asked : OfCell) (text other : List ℕ) (end last : List PlannedCell) → ((c : PlannedCell) → o ≡ Some c → IsInRun c)
-      → IsToldIn manner o cells number asked text end → IsToldIn manner o cells number asked other last → (other ≡ text) × (last ≡ end)
+      → IsReplyIn protocol o cells number asked text end → IsReplyIn protocol o cells number asked other last → (other ≡ text) × (last ≡ end)
   one_in None cells number asked text other end last in_run one also = (also.text_is ∙ sym one.text_is, also.end_is ∙ sym one.end_is)
   one_in (Some c) cells number asked text other end last in_run one also =
-      let same = one_request_answer c.plan.planned manner (cell_prefix asked.cell) c.cell number (on_course c (in_run c refl)) asked.request text other one.events also.events one.next also.next one.answer also.answer in
+      let same = one_request_answer c.plan.planned protocol (cell_prefix asked.cell) c.cell number (on_course c (in_run c refl)) asked.request text other one.events also.events one.next also.next one.answer also.answer in
       (same.text_is, also.end_is ∙ ap (λ (x : Cell). set cells asked.cell (record { plan = c.plan; cell = x })) same.next_is ∙ sym one.end_is)
 
   one_of_cells : (cells : List PlannedCell) (number : ℕ) (asked : OfCell) (text other : List ℕ) (end last : List PlannedCell) → AreInRun cells
-      → CellsTell manner cells number asked text end → CellsTell manner cells number asked other last → (other ≡ text) × (last ≡ end)
+      → CellsReply protocol cells number asked text end → CellsReply protocol cells number asked other last → (other ≡ text) × (last ≡ end)
   one_of_cells cells number asked text other end last in_run one also =
       one_in (slice_get cells asked.cell) cells number asked text other end last (λ c found. one_in_run cells asked.cell c in_run found) one also
 
   keeps_in : (o : Option PlannedCell) (cells : List PlannedCell) (number : ℕ) (asked : OfCell) (text : List ℕ) (end : List PlannedCell) → AreInRun cells → ((c : PlannedCell) → o ≡ Some c → IsInRun c)
-      → IsToldIn manner o cells number asked text end → AreInRun end
+      → IsReplyIn protocol o cells number asked text end → AreInRun end
   keeps_in None cells number asked text end all in_run is = subst AreInRun (sym is.end_is) all
   keeps_in (Some c) cells number asked text end all in_run is =
       let kept = in_run c refl in
-      let next = request_keeps c.plan.planned manner (cell_prefix asked.cell) c.cell number (on_course c kept) asked.request text is.events is.next is.answer in
+      let next = request_keeps c.plan.planned protocol (cell_prefix asked.cell) c.cell number (on_course c kept) asked.request text is.events is.next is.answer in
       subst AreInRun (sym is.end_is) (set_in_run cells asked.cell (record { plan = c.plan; cell = is.next }) all (record { verified = kept.verified; sound = next.sound; rest = next.rest }))
 
-  pub told_keep : (cells : List PlannedCell) (number : ℕ) (asked : OfCell) (text : List ℕ) (end : List PlannedCell) → AreInRun cells → CellsTell manner cells number asked text end → AreInRun end
-  told_keep cells number asked text end all is = keeps_in (slice_get cells asked.cell) cells number asked text end all (λ c found. one_in_run cells asked.cell c all found) is
+  pub replies_keep : (cells : List PlannedCell) (number : ℕ) (asked : OfCell) (text : List ℕ) (end : List PlannedCell) → AreInRun cells → CellsReply protocol cells number asked text end → AreInRun end
+  replies_keep cells number asked text end all is = keeps_in (slice_get cells asked.cell) cells number asked text end all (λ c found. one_in_run cells asked.cell c all found) is
 
-pub one_stated_cells_text_for_lines : OneStatedCellsTextForLines
-one_stated_cells_text_for_lines plans manner lines text other end last verified all also =
-    one_text (AsksOf manner.tells) (CellsTell manner) AreInRun (one_asked_cell manner.tells) (one_of_cells manner) (told_keep manner) lines (hub_start plans) end last 1 text other (start_in_run plans verified) all also
+pub one_cells_text_for_lines : OneCellsTextForLines
+one_cells_text_for_lines plans protocol lines text other end last verified all also =
+    one_text (AsksOf protocol.version_2) (CellsReply protocol) AreInRun (one_asked_cell protocol.version_2) (one_of_cells protocol) (replies_keep protocol) lines (hub_start plans) end last 1 text other (start_in_run plans verified) all also
 
-pub one_stated_cells_text : OneStatedCellsText
-one_stated_cells_text plans manner input text other end last verified is also =
-    let one = one_stated_cells_text_for_lines plans manner (input_lines input) is.answers also.answers end last verified is.are_answers also.are_answers in
+pub one_cells_text : OneCellsText
+one_cells_text plans protocol input text other end last verified is also =
+    let one = one_cells_text_for_lines plans protocol (input_lines input) is.answers also.answers end last verified is.are_answers also.are_answers in
     let closing = one_closing_text end 0 is.closing also.closing is.is_closing (subst (λ (s : List PlannedCell). CellsClose 0 s also.closing) one.1 also.is_closing) in
     (also.whole ∙ ap (λ (t : List ℕ). t ++ also.closing) one.0 ∙ ap (λ (t : List ℕ). is.answers ++ t) closing ∙ sym is.whole, one.1)
 
 -- where memory ran out before the first byte was read
-pub undriven_hub : (plans : List VerifiedPlan) (manner : Manner) (streams : Streams) (outcome : Result HubEnd DriveFault) → outcome ≡ Err Memory → AreDrivesIn manner plans streams streams outcome
-undriven_hub plans manner streams outcome is =
-    subst (AreDrivesIn manner plans streams streams) (sym is) (record { end = stated_hub_start manner plans; streamed = refl; done = tt; verified = tt })
+pub undriven_hub : (plans : List VerifiedPlan) (protocol : Protocol) (streams : Streams) (outcome : Result HubEnd DriveFault) → outcome ≡ Err Memory → AreDrivesIn protocol plans streams streams outcome
+undriven_hub plans protocol streams outcome is =
+    subst (AreDrivesIn protocol plans streams streams) (sym is) (record { end = hub_of_plans protocol plans; streamed = refl; done = tt; verified = tt })

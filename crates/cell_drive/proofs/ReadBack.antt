@@ -18,9 +18,9 @@ use Rattle.cell_tables.specs.declared.entry.Entry.{Entry}
 use Rattle.cell_tables.specs.declared.entry.Entry.TheVariants.{Report as ReportEntry, Order as OrderEntry}
 use Rattle.cell_tables.specs.Events.{events_of}
 use Rattle.event_lines.specs.EventLines.{report_line, order_line, order_lines}
-use Rattle.event_lines.specs.LogLines.{LinesTell}
-use Rattle.event_lines.specs.ReadBack.{IsSpaceless, TellsFirst}
-use Rattle.event_lines.proofs.Telling.{tells_none, tells_both, tells_entry, others_tell_none}
+use Rattle.event_lines.specs.LogLines.{LinesParse}
+use Rattle.event_lines.specs.ReadBack.{IsSpaceless, ParsesFirst}
+use Rattle.event_lines.proofs.Telling.{parses_none, parses_both, parses_entry, others_parse_none}
 use Rattle.run_log.proofs.Audits.{events-join}
 use Rattle.byte_streams.specs.Answering.{AnswerAll}
 use Rattle.cell_drive.specs.AnswerText.{DrivenCell, undriven, CellCloses}
@@ -39,42 +39,42 @@ name_spaceless WrongKind = refl
 name_spaceless (WrongMachine actual) = refl
 
 module _ (p : PlannedShop) where
-  pub closing_told : (end : DrivenCell) (text : List ℕ) → CellCloses p end text → TellsFirst p text []
-  closing_told end text (inl (ended, line)) = subst (λ (t : List ℕ). TellsFirst p t []) (sym line) ((others_tell_none p).done end.cell.last)
-  closing_told end text (inr (unfinished, line)) = subst (λ (t : List ℕ). TellsFirst p t []) (sym line) ((others_tell_none p).unfinished _)
+  pub closing_parses : (end : DrivenCell) (text : List ℕ) → CellCloses p end text → ParsesFirst p text []
+  closing_parses end text (inl (ended, line)) = subst (λ (t : List ℕ). ParsesFirst p t []) (sym line) ((others_parse_none p).done end.cell.last)
+  closing_parses end text (inr (unfinished, line)) = subst (λ (t : List ℕ). ParsesFirst p t []) (sym line) ((others_parse_none p).unfinished _)
 
   module _ (shaped : IsWellShaped p) where
-    pub tells_moves : (c : Cell) (t : ℕ) (js : List ℕ) → IsSound p c → AreMoves p c t js → TellsFirst p (order_lines (orders_for p c t js)) (map OrderEntry (orders_for p c t js))
-    tells_moves c t [] sound moves = (tells_none p)
-    tells_moves c t (j ∷ js) sound moves =
+    pub parses_moves : (c : Cell) (t : ℕ) (js : List ℕ) → IsSound p c → AreMoves p c t js → ParsesFirst p (order_lines (orders_for p c t js)) (map OrderEntry (orders_for p c t js))
+    parses_moves c t [] sound moves = (parses_none p)
+    parses_moves c t (j ∷ js) sound moves =
         let o = order_for p c j t in
         let os = orders_for p (after_move p c j t) t js in
-        tells_both p (order_line o) (order_lines os) (OrderEntry o ∷ []) (map OrderEntry os) (tells_entry p shaped (OrderEntry o) (order_of_shop p c j t shaped sound moves.0))
-        (tells_moves (after_move p c j t) t js (after_move-sound p c j t shaped sound moves.0 moves.1) moves.2)
+        parses_both p (order_line o) (order_lines os) (OrderEntry o ∷ []) (map OrderEntry os) (parses_entry p shaped (OrderEntry o) (order_of_shop p c j t shaped sound moves.0))
+        (parses_moves (after_move p c j t) t js (after_move-sound p c j t shaped sound moves.0 moves.1) moves.2)
 
     -- ---- answers
 
     -- what was answered tells what came between the cells before and behind it
-    pub record AreTold (before : DrivenCell) (text : List ℕ) (end : DrivenCell) : Type 0 where
+    pub record AreParsed (before : DrivenCell) (text : List ℕ) (end : DrivenCell) : Type 0 where
       pub more : List Entry
-      pub tells : TellsFirst p text more
+      pub tells : ParsesFirst p text more
       pub entries : end.entries ≡ before.entries ++ more
       pub events : AreEvents p before.cell (events_of more)
       pub cell : end.cell ≡ after_all p before.cell (events_of more)
 
-    pub nothing_told : (before : DrivenCell) (text line : List ℕ) (end : DrivenCell) → end ≡ before → text ≡ line → TellsFirst p line [] → AreTold before text end
-    nothing_told before text line end same text_is tells = record {
+    pub nothing_parsed : (before : DrivenCell) (text line : List ℕ) (end : DrivenCell) → end ≡ before → text ≡ line → ParsesFirst p line [] → AreParsed before text end
+    nothing_parsed before text line end same text_is tells = record {
       more = [];
-      tells = subst (λ (t : List ℕ). TellsFirst p t []) (sym text_is) tells;
+      tells = subst (λ (t : List ℕ). ParsesFirst p t []) (sym text_is) tells;
       entries = ap (λ (d : DrivenCell). d.entries) same ∙ sym (append-nil before.entries);
       events = tt;
       cell = ap (λ (d : DrivenCell). d.cell) same;
     }
 
-    pub step_told : (before : DrivenCell) (report : Report) (text : List ℕ) (end : DrivenCell) (movers : List ℕ) → IsSound p before.cell → IsStep p before.cell report movers
-        → TellsFirst p text (ReportEntry report ∷ map OrderEntry (step_orders p before.cell report movers))
-        → end.entries ≡ before.entries ++ ReportEntry report ∷ map OrderEntry (step_orders p before.cell report movers) → end.cell ≡ after_step p before.cell report movers → AreTold before text end
-    step_told before report text end movers sound step tells entries next_is =
+    pub step_parses : (before : DrivenCell) (report : Report) (text : List ℕ) (end : DrivenCell) (movers : List ℕ) → IsSound p before.cell → IsStep p before.cell report movers
+        → ParsesFirst p text (ReportEntry report ∷ map OrderEntry (step_orders p before.cell report movers))
+        → end.entries ≡ before.entries ++ ReportEntry report ∷ map OrderEntry (step_orders p before.cell report movers) → end.cell ≡ after_step p before.cell report movers → AreParsed before text end
+    step_parses before report text end movers sound step tells entries next_is =
         let c = before.cell in
         let next = after_report c report in
         let moves : events_of (map OrderEntry (step_orders p c report movers)) ≡ moved (step_orders p c report movers) = events-orders (step_orders p c report movers) in
@@ -88,27 +88,27 @@ module _ (p : PlannedShop) where
 
     -- the lines of a step's moves
     pub step_moves : (c : Cell) (report : Report) (movers : List ℕ) → IsSound p c → IsStep p c report movers
-        → TellsFirst p (order_lines (step_orders p c report movers)) (map OrderEntry (step_orders p c report movers))
-    step_moves c report movers sound step = tells_moves (after_report c report) (at report) movers (after_report-sound p c report shaped sound step.can) step.moves
+        → ParsesFirst p (order_lines (step_orders p c report movers)) (map OrderEntry (step_orders p c report movers))
+    step_moves c report movers sound step = parses_moves (after_report c report) (at report) movers (after_report-sound p c report shaped sound step.can) step.moves
 
     -- and that of its report
-    pub step_report : (c : Cell) (report : Report) (movers : List ℕ) → IsSound p c → IsStep p c report movers → TellsFirst p (report_line report) (ReportEntry report ∷ [])
-    step_report c report movers sound step = tells_entry p shaped (ReportEntry report) (report_of_shop p c report shaped sound step.can)
+    pub step_report : (c : Cell) (report : Report) (movers : List ℕ) → IsSound p c → IsStep p c report movers → ParsesFirst p (report_line report) (ReportEntry report ∷ [])
+    step_report c report movers sound step = parses_entry p shaped (ReportEntry report) (report_of_shop p c report shaped sound step.can)
 
     -- lines, whatever is answered to each
     module _ (answers : DrivenCell → ℕ → Option (List ℕ) → List ℕ → DrivenCell → Type 0)
         (keeps : (before : DrivenCell) (number : ℕ) (line : Option (List ℕ)) (text : List ℕ) (end : DrivenCell) → IsOnCourse p before.cell → answers before number line text end → IsOnCourse p end.cell)
-        (told : (before : DrivenCell) (number : ℕ) (line : Option (List ℕ)) (text : List ℕ) (end : DrivenCell) → IsSound p before.cell → answers before number line text end → AreTold before text end) where
-      pub all_told : (lines : List (Option (List ℕ))) (before end : DrivenCell) (number : ℕ) (text : List ℕ) → IsOnCourse p before.cell
-          → AnswerAll answers before number lines text end → AreTold before text end
-      all_told [] before end number text on all = nothing_told before text [] end all.1 all.0 (tells_none p)
-      all_told (line ∷ lines) before end number text on all =
+        (told : (before : DrivenCell) (number : ℕ) (line : Option (List ℕ)) (text : List ℕ) (end : DrivenCell) → IsSound p before.cell → answers before number line text end → AreParsed before text end) where
+      pub all_parsed : (lines : List (Option (List ℕ))) (before end : DrivenCell) (number : ℕ) (text : List ℕ) → IsOnCourse p before.cell
+          → AnswerAll answers before number lines text end → AreParsed before text end
+      all_parsed [] before end number text on all = nothing_parsed before text [] end all.1 all.0 (parses_none p)
+      all_parsed (line ∷ lines) before end number text on all =
           let first = told before number line all.0 all.2 on.sound all.3 in
-          let others = all_told lines all.2 end (number + 1) all.1 (keeps before number line all.0 all.2 on all.3) all.4 in
+          let others = all_parsed lines all.2 end (number + 1) all.1 (keeps before number line all.0 all.2 on all.3) all.4 in
           let joined = events-join first.more others.more in
           record {
             more = first.more ++ others.more;
-            tells = subst (λ (t : List ℕ). TellsFirst p t (first.more ++ others.more)) (sym all.5) (tells_both p all.0 all.1 first.more others.more first.tells others.tells);
+            tells = subst (λ (t : List ℕ). ParsesFirst p t (first.more ++ others.more)) (sym all.5) (parses_both p all.0 all.1 first.more others.more first.tells others.tells);
             entries = others.entries ∙ ap (λ (es : List Entry). es ++ others.more) first.entries ∙ append_assoc before.entries first.more others.more;
             events = subst (AreEvents p before.cell) (sym joined)
                 (events_join p before.cell (events_of first.more) (events_of others.more) first.events (subst (λ (x : Cell). AreEvents p x (events_of others.more)) first.cell others.events));
@@ -117,15 +117,15 @@ module _ (p : PlannedShop) where
           }
 
 -- answers from the start of a run on, and the closing line, are a log
-pub log_of_told : (p : PlannedShop) (shaped : IsWellShaped p) (answers closing text : List ℕ) (end : DrivenCell) → AreTold p shaped (undriven p) answers end → CellCloses p end closing
+pub log_of_parsed : (p : PlannedShop) (shaped : IsWellShaped p) (answers closing text : List ℕ) (end : DrivenCell) → AreParsed p shaped (undriven p) answers end → CellCloses p end closing
     → text ≡ answers ++ closing → IsLogOf p text end
-log_of_told p shaped answers closing text end told closes whole =
-    let tells : LinesTell p (lines_of ((answers ++ closing) ++ [])) ((told.more ++ []) ++ []) =
-    tells_both p answers closing told.more [] told.tells (closing_told p end closing closes) [] [] refl in
+log_of_parsed p shaped answers closing text end told closes whole =
+    let tells : LinesParse p (lines_of ((answers ++ closing) ++ [])) ((told.more ++ []) ++ []) =
+    parses_both p answers closing told.more [] told.tells (closing_parses p end closing closes) [] [] refl in
     let same_text : (answers ++ closing) ++ [] ≡ text = append-nil (answers ++ closing) ∙ sym whole in
     let same_entries : (told.more ++ []) ++ [] ≡ end.entries = append-nil (told.more ++ []) ∙ append-nil told.more ∙ sym told.entries in
     record {
-      tells = subst (λ (t : List ℕ). LinesTell p (lines_of t) end.entries) same_text (subst (λ (es : List Entry). LinesTell p (lines_of ((answers ++ closing) ++ [])) es) same_entries tells);
+      tells = subst (λ (t : List ℕ). LinesParse p (lines_of t) end.entries) same_text (subst (λ (es : List Entry). LinesParse p (lines_of ((answers ++ closing) ++ [])) es) same_entries tells);
       run = subst (λ (es : List Entry). IsRun p (events_of es)) (sym told.entries) told.events;
       cell = told.cell ∙ ap (λ (es : List Entry). ends_in p (events_of es)) (sym told.entries);
     }

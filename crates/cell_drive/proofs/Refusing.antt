@@ -15,10 +15,10 @@ use Rattle.cell_control.proofs.Reasons.{reason-cannot}
 use Rattle.event_lines.specs.declared.requests.Claim.{Claim}
 use Rattle.event_lines.specs.declared.requests.Claim.TheVariants.{Report, CleanAfter}
 use Rattle.event_lines.specs.Requests.{claimed}
-use Rattle.cell_drive.specs.declared.manner.Manner.{Manner}
+use Rattle.cell_drive.specs.declared.protocol.Protocol.{Protocol}
 use Rattle.cell_drive.specs.declared.refusals.Refusal.{Refusal}
 use Rattle.cell_drive.specs.declared.refusals.Refusal.TheVariants.{Reason, Leap}
-use Rattle.cell_drive.specs.Refusals.{CanClaim, IsClaimReason, IsRefusal, IsTaken, claim_leaps, first_refusal, is_before_leap}
+use Rattle.cell_drive.specs.Refusals.{CanClaim, IsClaimReason, IsRefusal, IsAdmissible, claim_leaps, first_refusal, is_before_leap}
 use Rattle.cell_drive.proofs.ShopEntries.{report_of_shop}
 
 -- what can be claimed can be reported
@@ -52,14 +52,14 @@ module _ (p : PlannedShop) (c : Cell) where
   first_named false false reason given same = cc
 
   -- what is refused for a reason has that reason against it
-  pub refused_reason : (manner : Manner) (claim : Claim) (reason : ReportFault) → IsRefusal manner p c claim (Reason reason) → IsClaimReason p c claim reason
-  refused_reason manner claim reason (inl (given, is, same)) =
-      subst (IsClaimReason p c claim) (sym (first_named (is_before_leap given) (claim_leaps manner c claim) reason given same)) is
-  refused_reason manner claim reason (inr (can, does_leap, same)) = absurd (cc)
+  pub refused_reason : (protocol : Protocol) (claim : Claim) (reason : ReportFault) → IsRefusal protocol p c claim (Reason reason) → IsClaimReason p c claim reason
+  refused_reason protocol claim reason (inl (given, is, same)) =
+      subst (IsClaimReason p c claim) (sym (first_named (is_before_leap given) (claim_leaps protocol c claim) reason given same)) is
+  refused_reason protocol claim reason (inr (can, does_leap, same)) = absurd (cc)
 
   -- and so it is of the shop, where that is looked for after a leap
-  pub refused_of_shop : (manner : Manner) (claim : Claim) (reason : ReportFault) → IsRefusal manner p c claim (Reason reason) → is_before_leap reason ≡ false → IsOfShop p (ended (claimed claim))
-  refused_of_shop manner claim reason is after = claim_of_shop claim reason (refused_reason manner claim reason is) after
+  pub refused_of_shop : (protocol : Protocol) (claim : Claim) (reason : ReportFault) → IsRefusal protocol p c claim (Reason reason) → is_before_leap reason ≡ false → IsOfShop p (ended (claimed claim))
+  refused_of_shop protocol claim reason is after = claim_of_shop claim reason (refused_reason protocol claim reason is) after
 
   module _ (shaped : IsWellShaped p) (sound : IsSound p c) where
     only_claim_reason : (claim : Claim) (one other : ReportFault) → IsClaimReason p c claim one → IsClaimReason p c claim other → other ≡ one
@@ -70,16 +70,16 @@ module _ (p : PlannedShop) (c : Cell) where
     claim_reason-cannot (Report report) reason is can = reason-cannot p c report reason sound is can
     claim_reason-cannot (CleanAfter machine job at) reason is can = clean_reason-cannot p c machine job at shaped sound reason is can
 
-    module _ (manner : Manner) (claim : Claim) where
+    module _ (protocol : Protocol) (claim : Claim) where
       -- what is claimed is refused for one thing
-      pub one_refusal : (one other : Refusal) → IsRefusal manner p c claim one → IsRefusal manner p c claim other → other ≡ one
+      pub one_refusal : (one other : Refusal) → IsRefusal protocol p c claim one → IsRefusal protocol p c claim other → other ≡ one
       one_refusal one other (inl (reason, is, same)) (inl (reason', is', same')) =
-          same' ∙ ap (first_refusal (claim_leaps manner c claim)) (only_claim_reason claim reason reason' is is') ∙ sym same
+          same' ∙ ap (first_refusal (claim_leaps protocol c claim)) (only_claim_reason claim reason reason' is is') ∙ sym same
       one_refusal one other (inl (reason, is, same)) (inr (can, does_leap, same')) = absurd (claim_reason-cannot claim reason is can)
       one_refusal one other (inr (can, does_leap, same)) (inl (reason, is, same')) = absurd (claim_reason-cannot claim reason is can)
       one_refusal one other (inr (can, does_leap, same)) (inr (can', does_leap', same')) = same' ∙ sym same
 
       -- or it is taken
-      pub refused_or_taken : (refusal : Refusal) → IsRefusal manner p c claim refusal → IsTaken manner p c claim → ⊥
-      refused_or_taken refusal (inl (reason, is, same)) (can, stays) = claim_reason-cannot claim reason is can
-      refused_or_taken refusal (inr (can, does_leap, same)) (can', stays) = absurd (cc)
+      pub refused_or_admissible : (refusal : Refusal) → IsRefusal protocol p c claim refusal → IsAdmissible protocol p c claim → ⊥
+      refused_or_admissible refusal (inl (reason, is, same)) (can, stays) = claim_reason-cannot claim reason is can
+      refused_or_admissible refusal (inr (can, does_leap, same)) (can', stays) = absurd (cc)

@@ -15,68 +15,68 @@ use Rattle.event_lines.specs.declared.requests.Request.{Request}
 use Rattle.event_lines.specs.declared.requests.Request.TheVariants.{Claim as ClaimRequest, Status}
 use Rattle.event_lines.specs.Requests.{claimed}
 use Rattle.shop_base.specs.declared.report.Report as reports
-use Rattle.cell_drive.specs.declared.manner.Manner.{Manner}
+use Rattle.cell_drive.specs.declared.protocol.Protocol.{Protocol}
 use Rattle.cell_drive.specs.declared.replies.Reply.{Reply}
-use Rattle.cell_drive.specs.declared.replies.Reply.TheVariants.{Refused, Taken, State}
+use Rattle.cell_drive.specs.declared.replies.Reply.TheVariants.{Refused, Accepted, State}
 use Rattle.cell_drive.specs.Refusals.{refusal_word}
 use Rattle.cell_drive.specs.States.{state_text}
 use Rattle.cell_drive.specs.Session.{IsKept}
-use Rattle.cell_drive.specs.Stated.{RequestAnswer, refusal_prefix, taken_lines, tells_end, told_overdue}
+use Rattle.cell_drive.specs.ProtocolText.{RequestAnswer, refusal_prefix, acceptance_lines, prints_end, printed_overdue}
 use Rattle.cell_drive.specs.Replies.{IsClaimReply, IsReply, reply_events, reply_text}
 use Rattle.cell_drive.proofs.Rooms.{kept_more, room_for}
 
-either_way : (tells : Bool) (prefix : List ℕ) → cond tells prefix prefix ≡ prefix
+either_way : (version_2 : Bool) (prefix : List ℕ) → cond version_2 prefix prefix ≡ prefix
 either_way true prefix = refl
 either_way false prefix = refl
 
 -- where nothing stands before a line, nothing does before a refusal
-pub no_prefix : (manner : Manner) → refusal_prefix manner [] ≡ []
-no_prefix manner = either_way manner.tells []
+pub no_prefix : (protocol : Protocol) → refusal_prefix protocol [] ≡ []
+no_prefix protocol = either_way protocol.version_2 []
 
-module _ (manner : Manner) (v : Control) where
-  claim_answer : (prefix : List ℕ) (number : ℕ) (claim : Claim) (reply : Reply) (new : Control) → IsClaimReply manner v claim reply new
-      → RequestAnswer v.planned manner prefix v.cell number (ClaimRequest claim) (reply_text manner prefix number new reply) (reply_events new reply) new.cell
+module _ (protocol : Protocol) (v : Control) where
+  claim_answer : (prefix : List ℕ) (number : ℕ) (claim : Claim) (reply : Reply) (new : Control) → IsClaimReply protocol v claim reply new
+      → RequestAnswer v.planned protocol prefix v.cell number (ClaimRequest claim) (reply_text protocol prefix number new reply) (reply_events new reply) new.cell
   claim_answer prefix number claim (Refused refusal detail) new (first, same, stays) = inl (record {
     refusal = refusal;
     first = first;
-    text_is = ap (λ (d : Detail). refusal_prefix manner prefix ++ refused_detail_line number (refusal_word refusal) d) same;
+    text_is = ap (λ (d : Detail). refusal_prefix protocol prefix ++ refused_detail_line number (refusal_word refusal) d) same;
     events_are = refl;
     next_is = ap (λ (w : Control). w.cell) stays;
   })
-  claim_answer prefix number claim (Taken report late overdue ended) new (taken, same, answered, overdue_is, ended_is) =
-      let told = told_overdue manner v.planned v.cell (claimed claim) in
+  claim_answer prefix number claim (Accepted report late overdue ended) new (accepted, same, answered, overdue_is, ended_is) =
+      let told = printed_overdue protocol v.planned v.cell (claimed claim) in
       inr (record {
-        taken = taken;
+        accepted = accepted;
         movers = answered.movers;
         step = answered.step;
         late = late;
         late_is = answered.late;
-        text_is = ap (λ (r : reports.Report). taken_lines prefix r late overdue new.orders ended) same
-            ∙ ap (λ (o : Option Overdue). taken_lines prefix (claimed claim) late o new.orders ended) overdue_is
-            ∙ ap (λ (os : List MoveOrder). taken_lines prefix (claimed claim) late told os ended) answered.orders
-            ∙ ap (taken_lines prefix (claimed claim) late told _) (ended_is ∙ ap (λ (p : PlannedShop). tells_end manner p new.cell) answered.planned);
+        text_is = ap (λ (r : reports.Report). acceptance_lines prefix r late overdue new.orders ended) same
+            ∙ ap (λ (o : Option Overdue). acceptance_lines prefix (claimed claim) late o new.orders ended) overdue_is
+            ∙ ap (λ (os : List MoveOrder). acceptance_lines prefix (claimed claim) late told os ended) answered.orders
+            ∙ ap (acceptance_lines prefix (claimed claim) late told _) (ended_is ∙ ap (λ (p : PlannedShop). prints_end protocol p new.cell) answered.planned);
         events_are = ap (λ (r : reports.Report). ReportEntry r ∷ map OrderEntry new.orders) same ∙ ap (λ (os : List MoveOrder). ReportEntry (claimed claim) ∷ map OrderEntry os) answered.orders;
         next_is = answered.cell;
       })
   claim_answer prefix number claim State new is = absurd is
 
   -- the reply's text answers the request
-  pub replied_so : (prefix : List ℕ) (number : ℕ) (request : Request) (reply : Reply) (new : Control) → IsReply manner v request reply new
-      → RequestAnswer v.planned manner prefix v.cell number request (reply_text manner prefix number new reply) (reply_events new reply) new.cell
+  pub replied_so : (prefix : List ℕ) (number : ℕ) (request : Request) (reply : Reply) (new : Control) → IsReply protocol v request reply new
+      → RequestAnswer v.planned protocol prefix v.cell number request (reply_text protocol prefix number new reply) (reply_events new reply) new.cell
   replied_so prefix number (ClaimRequest claim) reply new is = claim_answer prefix number claim reply new is
   replied_so prefix number Status reply new (same, stays) = record {
-    text_is = ap (reply_text manner prefix number new) same ∙ ap (λ (w : Control). state_text prefix w.planned w.cell) stays;
+    text_is = ap (reply_text protocol prefix number new) same ∙ ap (λ (w : Control). state_text prefix w.planned w.cell) stays;
     events_are = ap (reply_events new) same;
     next_is = ap (λ (w : Control). w.cell) stays;
   }
 
-  claim_plan : (claim : Claim) (reply : Reply) (new : Control) → IsClaimReply manner v claim reply new → verified_in new ≡ verified_in v
+  claim_plan : (claim : Claim) (reply : Reply) (new : Control) → IsClaimReply protocol v claim reply new → verified_in new ≡ verified_in v
   claim_plan claim (Refused refusal detail) new (first, same, stays) = ap verified_in stays
-  claim_plan claim (Taken report late overdue ended) new (taken, same, answered, overdue_is, ended_is) = plan_stays v new (claimed claim) _ answered
+  claim_plan claim (Accepted report late overdue ended) new (accepted, same, answered, overdue_is, ended_is) = plan_stays v new (claimed claim) _ answered
   claim_plan claim State new is = absurd is
 
   -- the plan stays
-  pub plan_after : (request : Request) (reply : Reply) (new : Control) → IsReply manner v request reply new → verified_in new ≡ verified_in v
+  pub plan_after : (request : Request) (reply : Reply) (new : Control) → IsReply protocol v request reply new → verified_in new ≡ verified_in v
   plan_after (ClaimRequest claim) reply new is = claim_plan claim reply new is
   plan_after Status reply new (same, stays) = ap verified_in stays
 
@@ -87,24 +87,24 @@ module _ (manner : Manner) (v : Control) where
         ∙ ap (λ (n : ℕ). let l : Noted = record { entries = log.entries; reserved = n } in l) notes.reserved in
         subst (λ (w : Control). IsKept w longer) (sym stays) (subst (IsKept v) (sym same) kept)
 
-    claim_room : (claim : Claim) (reply : Reply) (new : Control) → length log.entries ≤ log.reserved → IsClaimReply manner v claim reply new → length log.entries + length (reply_events new reply) ≤ log.reserved
+    claim_room : (claim : Claim) (reply : Reply) (new : Control) → length log.entries ≤ log.reserved → IsClaimReply protocol v claim reply new → length log.entries + length (reply_events new reply) ≤ log.reserved
     claim_room claim (Refused refusal detail) new fits is = omega (arith, fits)
-    claim_room claim (Taken report late overdue ended) new fits (taken, same, answered, overdue_is, ended_is) =
+    claim_room claim (Accepted report late overdue ended) new fits (accepted, same, answered, overdue_is, ended_is) =
         subst (λ (r : reports.Report). length log.entries + length (ReportEntry r ∷ map OrderEntry new.orders) ≤ log.reserved) (sym same) (room_for v log (claimed claim) _ new kept answered)
     claim_room claim State new fits is = absurd is
 
     -- the log has room for what the reply adds
-    pub reply_room : (request : Request) (reply : Reply) (new : Control) → length log.entries ≤ log.reserved → IsReply manner v request reply new → length log.entries + length (reply_events new reply) ≤ log.reserved
+    pub reply_room : (request : Request) (reply : Reply) (new : Control) → length log.entries ≤ log.reserved → IsReply protocol v request reply new → length log.entries + length (reply_events new reply) ≤ log.reserved
     reply_room (ClaimRequest claim) reply new fits is = claim_room claim reply new fits is
     reply_room Status reply new fits (same, stays) = subst (λ (r : Reply). length log.entries + length (reply_events new r) ≤ log.reserved) (sym same) (omega (arith, fits))
 
-    claim_kept : (claim : Claim) (reply : Reply) (new : Control) (longer : Noted) → IsClaimReply manner v claim reply new → Notes log longer (reply_events new reply) → IsControl new → IsKept new longer
+    claim_kept : (claim : Claim) (reply : Reply) (new : Control) (longer : Noted) → IsClaimReply protocol v claim reply new → Notes log longer (reply_events new reply) → IsControl new → IsKept new longer
     claim_kept claim (Refused refusal detail) new longer (first, same, stays) notes control = nothing_more new longer stays notes
-    claim_kept claim (Taken report late overdue ended) new longer (taken, same, answered, overdue_is, ended_is) notes control =
+    claim_kept claim (Accepted report late overdue ended) new longer (accepted, same, answered, overdue_is, ended_is) notes control =
         kept_more v log (claimed claim) _ new kept answered longer (subst (λ (r : reports.Report). Notes log longer (ReportEntry r ∷ map OrderEntry new.orders)) same notes) control
     claim_kept claim State new longer is notes control = absurd is
 
     -- and with it there is a run of the plan again
-    pub reply_kept : (request : Request) (reply : Reply) (new : Control) (longer : Noted) → IsReply manner v request reply new → Notes log longer (reply_events new reply) → IsControl new → IsKept new longer
+    pub reply_kept : (request : Request) (reply : Reply) (new : Control) (longer : Noted) → IsReply protocol v request reply new → Notes log longer (reply_events new reply) → IsControl new → IsKept new longer
     reply_kept (ClaimRequest claim) reply new longer is notes control = claim_kept claim reply new longer is notes control
     reply_kept Status reply new longer (same, stays) notes control = nothing_more new longer stays (subst (λ (r : Reply). Notes log longer (reply_events new r)) same notes)

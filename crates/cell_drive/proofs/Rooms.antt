@@ -18,7 +18,7 @@ use Rattle.cell_tables.specs.declared.entry.Entry.{Entry}
 use Rattle.cell_tables.specs.declared.entry.Entry.TheVariants.{Report as ReportEntry, Order as OrderEntry}
 use Rattle.cell_tables.specs.Events.{events_of}
 use Rattle.run_log.specs.Log.{Noted, Notes}
-use Rattle.run_log.specs.Audits.{IsTold}
+use Rattle.run_log.specs.Audits.{IsReplayed}
 use Rattle.run_log.proofs.Audits.{events-join, run-few}
 use Rattle.cell_control.specs.Control.{Control, IsControl, IsAnswered}
 use Rattle.cell_drive.specs.OneRun.{cell_after, IsSoFar, IsNeverFull}
@@ -26,9 +26,9 @@ use Rattle.cell_drive.specs.Session.{IsKept}
 use Rattle.cell_drive.proofs.Parts.{events-orders}
 
 -- events behind a run that was told
-pub told_on : (p : PlannedShop) (c : Cell) (entries more : List Entry) → IsTold p c entries → AreEvents p c (events_of more)
-    → IsTold p (after_all p c (events_of more)) (entries ++ more)
-told_on p c entries more told events =
+pub replayed_on : (p : PlannedShop) (c : Cell) (entries more : List Entry) → IsReplayed p c entries → AreEvents p c (events_of more)
+    → IsReplayed p (after_all p c (events_of more)) (entries ++ more)
+replayed_on p c entries more told events =
     let joined : events_of (entries ++ more) ≡ events_of entries ++ events_of more = events-join entries more in
     record {
       run = subst (IsRun p) (sym joined) (events_join p (start p) (events_of entries) (events_of more) told.run (subst (λ (d : Cell). AreEvents p d (events_of more)) told.cell events));
@@ -36,12 +36,12 @@ told_on p c entries more told events =
     }
 
 -- moves behind it
-pub told_moves : (p : PlannedShop) (c : Cell) (t : ℕ) (js : List ℕ) (entries : List Entry) (orders : List MoveOrder) → IsTold p c entries → AreEvents p c (moved (orders_for p c t js))
-    → orders ≡ orders_for p c t js → IsTold p (after_moves p c t js) (entries ++ map OrderEntry orders)
-told_moves p c t js entries orders told events are =
+pub replayed_moves : (p : PlannedShop) (c : Cell) (t : ℕ) (js : List ℕ) (entries : List Entry) (orders : List MoveOrder) → IsReplayed p c entries → AreEvents p c (moved (orders_for p c t js))
+    → orders ≡ orders_for p c t js → IsReplayed p (after_moves p c t js) (entries ++ map OrderEntry orders)
+replayed_moves p c t js entries orders told events are =
     let same : events_of (map OrderEntry orders) ≡ moved (orders_for p c t js) = events-orders orders ∙ ap moved are in
-    subst (λ (d : Cell). IsTold p d (entries ++ map OrderEntry orders)) (ap (after_all p c) same ∙ after_all-moves p c t js)
-    (told_on p c entries (map OrderEntry orders) told (subst (AreEvents p c) (sym same) events))
+    subst (λ (d : Cell). IsReplayed p d (entries ++ map OrderEntry orders)) (ap (after_all p c) same ∙ after_all-moves p c t js)
+    (replayed_on p c entries (map OrderEntry orders) told (subst (AreEvents p c) (sym same) events))
 
 module _ (control : Control) (log : Noted) (report : Report) (ack : Ack) (after : Control) (kept : IsKept control log) (answered : IsAnswered control report ack after) where
   abbrev p : PlannedShop
@@ -50,20 +50,20 @@ module _ (control : Control) (log : Noted) (report : Report) (ack : Ack) (after 
   abbrev new_entries : List Entry
   new_entries = ReportEntry report ∷ map OrderEntry after.orders
 
-  told_after : IsTold p after.cell (log.entries ++ new_entries)
-  told_after =
+  replayed_after : IsReplayed p after.cell (log.entries ++ new_entries)
+  replayed_after =
       let c = control.cell in
       let next = after_report c report in
       let same : events_of (map OrderEntry after.orders) ≡ moved (step_orders p c report answered.movers) = events-orders after.orders ∙ ap moved answered.orders in
       let events : AreEvents p c (events_of new_entries) =
       (answered.step.can, subst (AreEvents p next) (sym same) (moves-events p next (at report) answered.movers answered.step.moves)) in
-      subst (λ (d : Cell). IsTold p d (log.entries ++ new_entries)) (ap (after_all p next) same ∙ after_all-moves p next (at report) answered.movers ∙ sym answered.cell)
-      (told_on p c log.entries new_entries kept.told events)
+      subst (λ (d : Cell). IsReplayed p d (log.entries ++ new_entries)) (ap (after_all p next) same ∙ after_all-moves p next (at report) answered.movers ∙ sym answered.cell)
+      (replayed_on p c log.entries new_entries kept.told events)
 
   -- the log has room for it
   pub room_for : length log.entries + length new_entries ≤ log.reserved
   room_for =
-      let few = run-few p (log.entries ++ new_entries) kept.shaped told_after.run in
+      let few = run-few p (log.entries ++ new_entries) kept.shaped replayed_after.run in
       let reserved = kept.reserved in
       omega (arith, few, reserved, length-append log.entries new_entries)
 
@@ -74,8 +74,8 @@ module _ (control : Control) (log : Noted) (report : Report) (ack : Ack) (after 
       record {
         shaped = subst IsWellShaped (sym same_plan) kept.shaped;
         control = still;
-        told = subst (λ (q : PlannedShop). IsTold q after.cell longer.entries) (sym same_plan)
-            (subst (λ (es : List Entry). IsTold p after.cell es) (sym notes.entries) told_after);
+        told = subst (λ (q : PlannedShop). IsReplayed q after.cell longer.entries) (sym same_plan)
+            (subst (λ (es : List Entry). IsReplayed p after.cell es) (sym notes.entries) replayed_after);
         reserved = notes.reserved ∙ kept.reserved ∙ ap (λ (q : PlannedShop). 2 * stated_number q) (sym same_plan);
       }
 

@@ -16,20 +16,20 @@ use Rattle.byte_streams.specs.Lent.{Streams}
 use Rattle.byte_streams.specs.Lines.{input_lines}
 use Rattle.byte_streams.specs.Answering.{AnswerAll}
 use Rattle.event_lines.specs.declared.requests.Request.{Request}
-use Rattle.cell_drive.specs.declared.manner.Manner.{Manner}
+use Rattle.cell_drive.specs.declared.protocol.Protocol.{Protocol}
 use Rattle.cell_drive.specs.declared.begin.DriveEnd.{DriveEnd}
 use Rattle.cell_drive.specs.declared.resume.RestEnd.{RestEnd}
 use Rattle.cell_drive.specs.declared.replies.Reply.{Reply}
 use Rattle.cell_drive.specs.LineAnswers.{LineAnswer, closing_line}
 use Rattle.cell_drive.specs.AnswerText.{CellCloses, undriven}
 use Rattle.cell_drive.specs.OneRun.{IsNeverFull, IsRunOf, IsSoFar, NeverWentWrong, cell_after}
-use Rattle.cell_drive.specs.Stated.{AsksFor, CellRequests, IsStatedText, StatedAnswers}
+use Rattle.cell_drive.specs.ProtocolText.{AsksFor, CellRequests, IsProtocolText, ProtocolAnswers}
 use Rattle.cell_drive.specs.Replies.{IsReply, reply_events, reply_text}
 use Rattle.cell_drive.specs.Session.{AnsweredBy, IsEndOf, IsKept, IsRestEndOf, SessionAnswer, SessionCloses, SessionState, seen, session_by, session_start}
-use Rattle.cell_drive.specs.StatedLaw.{ASessionAnswersSo}
-use Rattle.cell_drive.specs.InManner.{IsDriveIn}
+use Rattle.cell_drive.specs.ProtocolLaw.{ASessionAnswersSo}
+use Rattle.cell_drive.specs.InProtocol.{IsDriveIn}
 use Rattle.cell_drive.proofs.Closing.{closing_line_is}
-use Rattle.cell_drive.proofs.CutLogs.{run_of_leads, stated_answers_lead}
+use Rattle.cell_drive.proofs.CutLogs.{run_of_leads, protocol_answers_lead}
 use Rattle.cell_drive.proofs.LineAnswers.{asked_line}
 use Rattle.cell_drive.proofs.PromisesKept.{stays_as_promised}
 use Rattle.cell_drive.proofs.Replied.{plan_after, replied_so}
@@ -39,40 +39,40 @@ use Rattle.cell_drive.proofs.Rooms.{never_full, so_far}
 
 -- a line by which nothing changes
 pub unchanged : (s : SessionState) (number : ℕ) (line : Option (List ℕ)) (text : List ℕ)
-    → LineAnswer (AsksFor s.manner.tells) (CellRequests s.control.planned s.manner) (seen s) number line text (seen s) → SessionAnswer s number line text s
-unchanged s number line text answer = record { answer = answer; plan = refl; reserved = refl; manner = refl }
+    → LineAnswer (AsksFor s.protocol.version_2) (CellRequests s.control.planned s.protocol) (seen s) number line text (seen s) → SessionAnswer s number line text s
+unchanged s number line text answer = record { answer = answer; plan = refl; reserved = refl; protocol = refl }
 
 -- one that asks for something
-pub replied : (manner : Manner) (v new : Control) (log longer : Noted) (number : ℕ) (line : List ℕ) (request : Request) (reply : Reply) → (line ≡ [] → ⊥) → AsksFor manner.tells line request
-    → IsReply manner v request reply new → Notes log longer (reply_events new reply) → AnsweredBy manner v log number line new longer (reply_text manner [] number new reply)
-replied manner v new log longer number line request reply some asked is notes = record {
-  answer = asked_line (AsksFor manner.tells) (CellRequests v.planned manner) (seen (session_by manner v log)) number line _ request (seen (session_by manner new longer)) some asked (record {
+pub replied : (protocol : Protocol) (v new : Control) (log longer : Noted) (number : ℕ) (line : List ℕ) (request : Request) (reply : Reply) → (line ≡ [] → ⊥) → AsksFor protocol.version_2 line request
+    → IsReply protocol v request reply new → Notes log longer (reply_events new reply) → AnsweredBy protocol v log number line new longer (reply_text protocol [] number new reply)
+replied protocol v new log longer number line request reply some asked is notes = record {
+  answer = asked_line (AsksFor protocol.version_2) (CellRequests v.planned protocol) (seen (session_by protocol v log)) number line _ request (seen (session_by protocol new longer)) some asked (record {
     more = reply_events new reply;
-    answer = replied_so manner v [] number request reply new is;
+    answer = replied_so protocol v [] number request reply new is;
     entries = notes.entries;
   });
-  plan = plan_after manner v request reply new is;
+  plan = plan_after protocol v request reply new is;
   reserved = notes.reserved;
-  manner = refl;
+  protocol = refl;
 }
 
-session_answers : (p : PlannedShop) (manner : Manner) (lines : List (Option (List ℕ))) (s e : SessionState) (number : ℕ) (text : List ℕ) → s.control.planned ≡ p → s.manner ≡ manner
-    → AnswerAll SessionAnswer s number lines text e → AnswerAll (StatedAnswers p manner) (seen s) number lines text (seen e) × (verified_in e.control ≡ verified_in s.control)
-session_answers p manner [] s e number text of_plan of_manner all = ((all.0, ap seen all.1), ap (λ (d : SessionState). verified_in d.control) all.1)
-session_answers p manner (line ∷ lines) s e number text of_plan of_manner all =
+session_answers : (p : PlannedShop) (protocol : Protocol) (lines : List (Option (List ℕ))) (s e : SessionState) (number : ℕ) (text : List ℕ) → s.control.planned ≡ p → s.protocol ≡ protocol
+    → AnswerAll SessionAnswer s number lines text e → AnswerAll (ProtocolAnswers p protocol) (seen s) number lines text (seen e) × (verified_in e.control ≡ verified_in s.control)
+session_answers p protocol [] s e number text of_plan of_protocol all = ((all.0, ap seen all.1), ap (λ (d : SessionState). verified_in d.control) all.1)
+session_answers p protocol (line ∷ lines) s e number text of_plan of_protocol all =
     let next = all.2 in
     let plan_is = all.3.plan in
-    let rest = session_answers p manner lines next e (number + 1) all.1 (ap (λ (v : VerifiedPlan). v.planned) plan_is ∙ of_plan) (all.3.manner ∙ of_manner) all.4 in
-    let answer : StatedAnswers p manner (seen s) number line all.0 (seen next) =
-    subst (λ (m : Manner). StatedAnswers p m (seen s) number line all.0 (seen next)) of_manner
-    (subst (λ (q : PlannedShop). StatedAnswers q s.manner (seen s) number line all.0 (seen next)) of_plan all.3.answer) in
+    let rest = session_answers p protocol lines next e (number + 1) all.1 (ap (λ (v : VerifiedPlan). v.planned) plan_is ∙ of_plan) (all.3.protocol ∙ of_protocol) all.4 in
+    let answer : ProtocolAnswers p protocol (seen s) number line all.0 (seen next) =
+    subst (λ (m : Protocol). ProtocolAnswers p m (seen s) number line all.0 (seen next)) of_protocol
+    (subst (λ (q : PlannedShop). ProtocolAnswers q s.protocol (seen s) number line all.0 (seen next)) of_plan all.3.answer) in
     ((all.0, all.1, seen next, answer, rest.0, all.5), rest.1 ∙ plan_is)
 
 pub a_session_answers_so : ASessionAnswersSo
-a_session_answers_so s e number lines text all = session_answers s.control.planned s.manner lines s e number text refl refl all
+a_session_answers_so s e number lines text all = session_answers s.control.planned s.protocol lines s e number text refl refl all
 
-pub closes : (v : Control) (log : Noted) (manner : Manner) → IsKept v log → SessionCloses (session_by manner v log) (closing_line v.planned v.cell)
-closes v log manner kept = closing_line_is v.planned v.cell kept.shaped kept.control.sound kept.control.at_rest
+pub closes : (v : Control) (log : Noted) (protocol : Protocol) → IsKept v log → SessionCloses (session_by protocol v log) (closing_line v.planned v.cell)
+closes v log protocol kept = closing_line_is v.planned v.cell kept.shaped kept.control.sound kept.control.at_rest
 
 pub seen_closes : (p : PlannedShop) (s : SessionState) (text : List ℕ) → s.control.planned ≡ p → SessionCloses s text → CellCloses p (seen s) text
 seen_closes p s text of_plan closes = subst (λ q. CellCloses q (seen s) text) of_plan closes
@@ -80,13 +80,13 @@ seen_closes p s text of_plan closes = subst (λ q. CellCloses q (seen s) text) o
 -- ---- the start
 
 -- where memory ran out before the first byte was read
-pub undriven_drive : (v : VerifiedPlan) (manner : Manner) (streams : Streams) (outcome : Result DriveEnd DriveFault) → outcome ≡ Err Memory → IsDriveIn manner v streams streams outcome
-undriven_drive v manner streams outcome is = subst (IsDriveIn manner v streams streams) (sym is) (record { end = session_start manner v; streamed = refl; came_to = tt })
+pub undriven_drive : (v : VerifiedPlan) (protocol : Protocol) (streams : Streams) (outcome : Result DriveEnd DriveFault) → outcome ≡ Err Memory → IsDriveIn protocol v streams streams outcome
+undriven_drive v protocol streams outcome is = subst (IsDriveIn protocol v streams streams) (sym is) (record { end = session_start protocol v; streamed = refl; came_to = tt })
 
 -- ---- the end
 
-module _ (v : VerifiedPlan) (manner : Manner) (e : SessionState) (lines : List (Option (List ℕ))) (text : List ℕ) (end : DriveEnd) (kept : IsKept e.control e.log)
-    (all : AnswerAll SessionAnswer (session_start manner v) 1 lines text e) where
+module _ (v : VerifiedPlan) (protocol : Protocol) (e : SessionState) (lines : List (Option (List ℕ))) (text : List ℕ) (end : DriveEnd) (kept : IsKept e.control e.log)
+    (all : AnswerAll SessionAnswer (session_start protocol v) 1 lines text e) where
   abbrev p : PlannedShop
   p = v.planned
 
@@ -97,11 +97,11 @@ module _ (v : VerifiedPlan) (manner : Manner) (e : SessionState) (lines : List (
   pub end_of : end.log ≡ e.log → end.verified ≡ verified_in e.control → IsVerified (verified_in e.control) → IsTrue end.done ↔ HasEnded e.control.planned e.control.cell
       → end.last ≡ e.control.cell.last → end.left ≡ e.control.left → IsEndOf v e end
   end_of log plan verified ended moment count =
-      let so = a_session_answers_so (session_start manner v) e 1 lines text all in
+      let so = a_session_answers_so (session_start protocol v) e 1 lines text all in
       let same : verified_in e.control ≡ v = so.1 in
       let same_plan : e.control.planned ≡ p = ap (λ (w : VerifiedPlan). w.planned) same in
       let is_verified : IsVerified v = subst IsVerified same verified in
-      let led = stated_answers_lead p manner lines (undriven p) (seen e) 1 text so.0 in
+      let led = protocol_answers_lead p protocol lines (undriven p) (seen e) 1 text so.0 in
       let run : IsControlledRun p led.reports (events_of entries) e.control.cell = subst (λ (es : List Entry). IsControlledRun p led.reports (events_of es) e.control.cell) (sym led.entries) led.leads in
       let left : end.left ≡ _ = count ∙ kept.control.counted in
       record {
@@ -116,11 +116,11 @@ module _ (v : VerifiedPlan) (manner : Manner) (e : SessionState) (lines : List (
       }
 
 -- what was written is the answer text of what was read
-pub driven_text : (v : VerifiedPlan) (manner : Manner) (end : DriveEnd) (before after : Streams) (is : IsDriveIn manner v before after (Ok end))
-    → IsStatedText v.planned manner is.streamed.input (is.streamed.comes_to.text ++ is.streamed.comes_to.closing) (seen is.end)
-driven_text v manner end before after is =
+pub driven_text : (v : VerifiedPlan) (protocol : Protocol) (end : DriveEnd) (before after : Streams) (is : IsDriveIn protocol v before after (Ok end))
+    → IsProtocolText v.planned protocol is.streamed.input (is.streamed.comes_to.text ++ is.streamed.comes_to.closing) (seen is.end)
+driven_text v protocol end before after is =
     let all = is.streamed.comes_to in
-    let answers = a_session_answers_so (session_start manner v) is.end 1 (input_lines is.streamed.input) all.text all.are_answers in
+    let answers = a_session_answers_so (session_start protocol v) is.end 1 (input_lines is.streamed.input) all.text all.are_answers in
     record {
       answers = all.text;
       are_answers = answers.0;
@@ -130,9 +130,9 @@ driven_text v manner end before after is =
     }
 
 -- the end of one that was taken up
-pub rest_end_of : (manner : Manner) (v : Control) (log : Noted) → IsKept v log → (end : RestEnd) → end.log ≡ log → IsTrue end.done ↔ HasEnded v.planned v.cell → end.last ≡ v.cell.last → end.left ≡ v.left
-    → IsRestEndOf v.planned (session_by manner v log) end
-rest_end_of manner v log kept end same ended moment count =
+pub rest_end_of : (protocol : Protocol) (v : Control) (log : Noted) → IsKept v log → (end : RestEnd) → end.log ≡ log → IsTrue end.done ↔ HasEnded v.planned v.cell → end.last ≡ v.cell.last → end.left ≡ v.left
+    → IsRestEndOf v.planned (session_by protocol v log) end
+rest_end_of protocol v log kept end same ended moment count =
     let is_so_far = so_far v log kept end.done end.last end.left ended moment (count ∙ kept.control.counted) in
     record {
       log = same;

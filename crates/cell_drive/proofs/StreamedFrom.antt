@@ -11,16 +11,16 @@ module _ {S : Type 0} (answers : S → ℕ → Option (List ℕ) → List ℕ �
   pub ended_so : {T U : Type 0} {room : ℕ} (x : T) (y : U) → IsStreamed (Ok x) room answers closes start end before after → IsStreamed (Ok y) 65536 answers closes start end before after
   ended_so x y is = record { input = is.input; was_read = is.was_read; comes_to = is.comes_to; shown = is.shown }
 
-  told_so : (T U : Type 0) (room : ℕ) (fault : DriveFault) (input : List ℕ) → room ≡ 65536 → ComesTo {T = T} (Err fault) room answers closes start input end before after
+  answered_so : (T U : Type 0) (room : ℕ) (fault : DriveFault) (input : List ℕ) → room ≡ 65536 → ComesTo {T = T} (Err fault) room answers closes start input end before after
       → ComesTo {T = U} (Err fault) 65536 answers closes start input end before after
-  told_so T U room Read input same is = is
-  told_so T U room Write input same is = is
-  told_so T U room InputTooLong input same is = let most = is.1 in (is.0, omega (arith, most, same), is.2, is.3)
-  told_so T U room Memory input same is = is
+  answered_so T U room Read input same is = is
+  answered_so T U room Write input same is = is
+  answered_so T U room InputTooLong input same is = let most = is.1 in (is.0, omega (arith, most, same), is.2, is.3)
+  answered_so T U room Memory input same is = is
 
   pub broken_so : {T : Type 0} {room : ℕ} (U : Type 0) (fault : DriveFault) → room ≡ 65536 → IsStreamed {T = T} (Err fault) room answers closes start end before after
       → IsStreamed {T = U} (Err fault) 65536 answers closes start end before after
-  broken_so {T} {room} U fault same is = record { input = is.input; was_read = is.was_read; comes_to = told_so T U room fault is.input same is.comes_to; shown = is.shown }
+  broken_so {T} {room} U fault same is = record { input = is.input; was_read = is.was_read; comes_to = answered_so T U room fault is.input same is.comes_to; shown = is.shown }
 
   from_broken : (U : Type 0) (fault : DriveFault) → IsStreamed {T = U} (Err fault) 65536 answers closes start end before after → IsStreamedFrom {T = U} answers closes start (Err fault) end before after
   from_broken U Read is = is

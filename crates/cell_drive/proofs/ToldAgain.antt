@@ -1,36 +1,36 @@
 -- The lines of events that are told once more, one after another.
 use Rattle.std.proofs.Common.{◌≡◌, ℕ, zero, suc, ◌+◌, ◌<◌, Bool, List, [], ◌∷◌, ◌++◌, length, take, drop, drop-cons, add-one, get_or, refl, sym, ap, ◌∙◌, arith, append_assoc}
 use Rattle.cell_tables.specs.declared.entry.Entry.{Entry}
-use Rattle.cell_drive.specs.ToldLines.{told_line, told_lines}
+use Rattle.cell_drive.specs.PlainLines.{plain_line, plain_lines}
 
-none_late : (es : List Entry) → told_lines es [] ≡ []
+none_late : (es : List Entry) → plain_lines es [] ≡ []
 none_late [] = refl
 none_late (e ∷ es) = refl
 
 -- the first ones, and those after them
-pub first_told : (n : ℕ) (es : List Entry) (late : List Bool) → told_lines (take n es) (take n late) ++ told_lines (drop n es) (drop n late) ≡ told_lines es late
-first_told zero es late = refl
-first_told (suc n) [] late = refl
-first_told (suc n) (e ∷ es) [] = none_late (drop n es)
-first_told (suc n) (e ∷ es) (l ∷ late) =
-    append_assoc (told_line e l) (told_lines (take n es) (take n late)) (told_lines (drop n es) (drop n late)) ∙ ap (λ text. told_line e l ++ text) (first_told n es late)
+pub first_plain : (n : ℕ) (es : List Entry) (late : List Bool) → plain_lines (take n es) (take n late) ++ plain_lines (drop n es) (drop n late) ≡ plain_lines es late
+first_plain zero es late = refl
+first_plain (suc n) [] late = refl
+first_plain (suc n) (e ∷ es) [] = none_late (drop n es)
+first_plain (suc n) (e ∷ es) (l ∷ late) =
+    append_assoc (plain_line e l) (plain_lines (take n es) (take n late)) (plain_lines (drop n es) (drop n late)) ∙ ap (λ text. plain_line e l ++ text) (first_plain n es late)
 
 -- there are none behind the last
-pub none_told : (es : List Entry) (late : List Bool) → told_lines (drop (length es) es) late ≡ []
-none_told [] late = refl
-none_told (e ∷ es) late = none_told es late
+pub none_plain : (es : List Entry) (late : List Bool) → plain_lines (drop (length es) es) late ≡ []
+none_plain [] late = refl
+none_plain (e ∷ es) late = none_plain es late
 
 -- the first line that is left, and those after it
-pub next_told : (es : List Entry) (late : List Bool) (i : ℕ) (d : Entry) (e : Bool) → i < length es → length es ≡ length late
-    → told_line (get_or es i d) (get_or late i e) ++ told_lines (drop (i + 1) es) (drop (i + 1) late) ≡ told_lines (drop i es) (drop i late)
-next_told es late i d e below same =
+pub next_plain : (es : List Entry) (late : List Bool) (i : ℕ) (d : Entry) (e : Bool) → i < length es → length es ≡ length late
+    → plain_line (get_or es i d) (get_or late i e) ++ plain_lines (drop (i + 1) es) (drop (i + 1) late) ≡ plain_lines (drop i es) (drop i late)
+next_plain es late i d e below same =
     let one : drop i es ≡ get_or es i d ∷ drop (i + 1) es = drop-cons es i d below ∙ ap (λ (n : ℕ). get_or es i d ∷ drop n es) (sym (add-one i)) in
     let two : drop i late ≡ get_or late i e ∷ drop (i + 1) late = drop-cons late i e (omega (arith, below, same)) ∙ ap (λ (n : ℕ). get_or late i e ∷ drop n late) (sym (add-one i)) in
-    sym (ap (λ xs. told_lines xs (drop i late)) one ∙ ap (told_lines (get_or es i d ∷ drop (i + 1) es)) two)
+    sym (ap (λ xs. plain_lines xs (drop i late)) one ∙ ap (plain_lines (get_or es i d ∷ drop (i + 1) es)) two)
 
 -- a line written before those behind it
-pub told_before : (es : List Entry) (late : List Bool) (i place : ℕ) (d : Entry) (f : Bool) (text old : List ℕ)
-    → text ≡ told_line (get_or es i d) (get_or late i f) ++ old → old ≡ told_lines (drop place es) (drop place late) → place ≡ i + 1
-    → i < length es → length es ≡ length late → text ≡ told_lines (drop i es) (drop i late)
-told_before es late i place d f text old is before next below same =
-    is ∙ ap (λ l. told_line (get_or es i d) (get_or late i f) ++ l) (before ∙ ap (λ (n : ℕ). told_lines (drop n es) (drop n late)) next) ∙ next_told es late i d f below same
+pub plain_before : (es : List Entry) (late : List Bool) (i place : ℕ) (d : Entry) (f : Bool) (text old : List ℕ)
+    → text ≡ plain_line (get_or es i d) (get_or late i f) ++ old → old ≡ plain_lines (drop place es) (drop place late) → place ≡ i + 1
+    → i < length es → length es ≡ length late → text ≡ plain_lines (drop i es) (drop i late)
+plain_before es late i place d f text old is before next below same =
+    is ∙ ap (λ l. plain_line (get_or es i d) (get_or late i f) ++ l) (before ∙ ap (λ (n : ℕ). plain_lines (drop n es) (drop n late)) next) ∙ next_plain es late i d f below same

@@ -7,21 +7,21 @@ use Rattle.text_lines.specs.Lines.{lines_of}
 use Rattle.cell_tables.specs.declared.entry.Entry.{Entry}
 use Rattle.run_log.specs.declared.audit_result.Audit.{Audit}
 use Rattle.cell_tables.specs.Events.{events_of}
-use Rattle.event_lines.specs.LogLines.{LinesTell}
-use Rattle.cell_drive.specs.declared.manner.Manner.{Manner}
+use Rattle.event_lines.specs.LogLines.{LinesParse}
+use Rattle.cell_drive.specs.declared.protocol.Protocol.{Protocol}
 use Rattle.cell_drive.specs.AnswerText.{DrivenCell}
 use Rattle.cell_drive.specs.OneRun.{cell_after}
-use Rattle.cell_drive.specs.Stated.{IsStatedText}
+use Rattle.cell_drive.specs.ProtocolText.{IsProtocolText}
 
 -- the lines of the text tell exactly what was accepted and ordered, which is a run of the plan that leads to the cell
 pub record IsLogOf (p : PlannedShop) (text : List ℕ) (end : DrivenCell) : Type 0 where
-  pub tells : LinesTell p (lines_of text) end.entries
+  pub tells : LinesParse p (lines_of text) end.entries
   pub run : IsRun p (events_of end.entries)
   pub cell : end.cell ≡ cell_after p end.entries
 
 -- the answer text of an input, in any manner, is a log of what was accepted and ordered
 abbrev pub AnAnswerTextIsALog : Type 0
-AnAnswerTextIsALog = (p : PlannedShop) (manner : Manner) (input text : List ℕ) (end : DrivenCell) → IsWellShaped p → IsStatedText p manner input text end → IsLogOf p text end
+AnAnswerTextIsALog = (p : PlannedShop) (protocol : Protocol) (input text : List ℕ) (end : DrivenCell) → IsWellShaped p → IsProtocolText p protocol input text end → IsLogOf p text end
 
 -- the audit has found what driving came to: the same events, so many reports that exactly those are left, and the end of the run exactly where it was done
 pub record IsFoundAgain (p : PlannedShop) (entries : List Entry) (done : Bool) (last left : ℕ) (audit : Audit) : Type 0 where

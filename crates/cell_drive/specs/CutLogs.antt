@@ -8,7 +8,7 @@ use Rattle.shop_base.specs.Controlled.{IsControlledRun}
 use Rattle.cell_tables.specs.declared.entry.Entry.{Entry}
 use Rattle.cell_tables.specs.declared.entry.Entry.TheVariants.{Order as OrderEntry}
 use Rattle.cell_tables.specs.Events.{events_of}
-use Rattle.event_lines.specs.LogLines.{LinesTell}
+use Rattle.event_lines.specs.LogLines.{LinesParse}
 use Rattle.cell_drive.specs.OneRun.{cell_after}
 
 -- the reports among the events
@@ -23,7 +23,7 @@ IsOwnRun p entries = IsControlledRun p (reported (events_of entries)) (events_of
 
 -- the lines tell these events, which are, with these orders behind them, a controlled run in which all their reports are accepted
 pub record IsCutLog (p : PlannedShop) (lines : List (List ℕ)) (told : List Entry) (due : List MoveOrder) : Type 0 where
-  pub tells : LinesTell p lines told
+  pub tells : LinesParse p lines told
   pub run : IsOwnRun p (told ++ map OrderEntry due)
 
 -- the lines are such a log: they tell the first of these entries, so many, and the others are the orders that are due

@@ -5,10 +5,10 @@ use Rattle.shop_base.specs.Sound.{IsSound}
 use Rattle.plan_verifier.specs.Accepted.{IsVerified}
 use Rattle.cell_control.specs.Control.{Control, verified_in}
 use Rattle.event_lines.specs.SentLines.{cell_prefix}
-use Rattle.cell_drive.specs.declared.manner.Manner.{Manner}
+use Rattle.cell_drive.specs.declared.protocol.Protocol.{Protocol}
 use Rattle.cell_drive.specs.LineAnswers.{closing_line}
 use Rattle.cell_drive.specs.ManyCells.{PlannedCell}
-use Rattle.cell_drive.specs.StatedCells.{StatedHubAnswer, hub_stated}
+use Rattle.cell_drive.specs.ProtocolCells.{HubAnswer, hub_of}
 
 -- a controller's cell
 abbrev pub planned_cell : Control → PlannedCell
@@ -30,8 +30,8 @@ AreInRun [] = Unit {0}
 AreInRun (c ∷ cells) = IsInRun c × AreInRun cells
 
 -- the texts that answer a line of this number that isn't too long, by these controllers before and after it
-abbrev pub AnsweredByCells : Manner → List Control → ℕ → List ℕ → List Control → List ℕ → Type 0
-AnsweredByCells manner controls number line controls_then text = StatedHubAnswer (hub_stated manner (planned_cells controls)) number (Some line) text (hub_stated manner (planned_cells controls_then))
+abbrev pub AnsweredByCells : Protocol → List Control → ℕ → List ℕ → List Control → List ℕ → Type 0
+AnsweredByCells protocol controls number line controls_then text = HubAnswer (hub_of protocol (planned_cells controls)) number (Some line) text (hub_of protocol (planned_cells controls_then))
 
 -- the closing line of the cell of a number
 abbrev pub closing_of : ℕ → PlannedCell → List ℕ

@@ -16,8 +16,8 @@ use Rattle.event_lines.specs.declared.details.Detail.TheVariants.{Nothing, Last,
 use Rattle.event_lines.specs.declared.requests.Claim.{Claim}
 use Rattle.event_lines.specs.declared.requests.Claim.TheVariants.{Report, CleanAfter}
 use Rattle.event_lines.specs.Requests.{claimed}
-use Rattle.cell_drive.specs.declared.manner.Manner.{Manner}
-use Rattle.cell_drive.specs.Manners.{leap_base, leaps}
+use Rattle.cell_drive.specs.declared.protocol.Protocol.{Protocol}
+use Rattle.cell_drive.specs.Protocols.{leap_base, leaps}
 use Rattle.cell_drive.specs.declared.refusals.Refusal.{Refusal}
 use Rattle.cell_drive.specs.declared.refusals.Refusal.TheVariants.{Reason, Leap}
 
@@ -32,8 +32,8 @@ IsClaimReason p c (Report report) reason = IsFirstReason p c report reason
 IsClaimReason p c (CleanAfter machine job at) reason = IsFirstCleanReason p c machine job at reason
 
 -- whether its moment leaps
-abbrev pub claim_leaps : Manner → Cell → Claim → Bool
-claim_leaps manner c claim = leaps manner c.last (at (claimed claim))
+abbrev pub claim_leaps : Protocol → Cell → Claim → Bool
+claim_leaps protocol c claim = leaps protocol c.last (at (claimed claim))
 
 -- whether the reason is looked for before a leap: it is one against the numbers, or the moment is before the last one
 abbrev pub is_before_leap : ReportFault → Bool
@@ -50,14 +50,14 @@ abbrev pub first_refusal : Bool → ReportFault → Refusal
 first_refusal leaps reason = if is_before_leap reason then Reason reason else (if leaps then Leap else Reason reason)
 
 -- the claim is refused for this: a reason is against it, or it is possible and leaps
-abbrev pub IsRefusal : Manner → PlannedShop → Cell → Claim → Refusal → Type 0
-IsRefusal manner p c claim refusal =
-    ((reason : ReportFault) × IsClaimReason p c claim reason × (refusal ≡ first_refusal (claim_leaps manner c claim) reason))
-    ⊎ (CanClaim p c claim × (claim_leaps manner c claim ≡ true) × (refusal ≡ Leap))
+abbrev pub IsRefusal : Protocol → PlannedShop → Cell → Claim → Refusal → Type 0
+IsRefusal protocol p c claim refusal =
+    ((reason : ReportFault) × IsClaimReason p c claim reason × (refusal ≡ first_refusal (claim_leaps protocol c claim) reason))
+    ⊎ (CanClaim p c claim × (claim_leaps protocol c claim ≡ true) × (refusal ≡ Leap))
 
 -- the claim is taken: it is possible, and doesn't leap
-abbrev pub IsTaken : Manner → PlannedShop → Cell → Claim → Type 0
-IsTaken manner p c claim = CanClaim p c claim × (claim_leaps manner c claim ≡ false)
+abbrev pub IsAdmissible : Protocol → PlannedShop → Cell → Claim → Type 0
+IsAdmissible protocol p c claim = CanClaim p c claim × (claim_leaps protocol c claim ≡ false)
 
 -- the name of the refusal, as it stands in a line
 abbrev pub refusal_word : Refusal → List ℕ
@@ -81,10 +81,10 @@ reason_detail p c report WrongKind = Stands (standing_of p c report)
 reason_detail p c report (WrongMachine actual) = Stands (standing_of p c report)
 
 -- of a leap, the moment from which it counts
-abbrev pub told_detail : Manner → PlannedShop → Cell → reports.Report → Refusal → Detail
-told_detail manner p c report (Reason reason) = reason_detail p c report reason
-told_detail manner p c report Leap = Last (leap_base manner c.last)
+abbrev pub printed_detail : Protocol → PlannedShop → Cell → reports.Report → Refusal → Detail
+printed_detail protocol p c report (Reason reason) = reason_detail p c report reason
+printed_detail protocol p c report Leap = Last (leap_base protocol c.last)
 
 -- what is told behind the name of a refusal, from version 2 of the lines on
-abbrev pub refusal_detail : Manner → PlannedShop → Cell → reports.Report → Refusal → Detail
-refusal_detail manner p c report refusal = if manner.tells then told_detail manner p c report refusal else Nothing
+abbrev pub refusal_detail : Protocol → PlannedShop → Cell → reports.Report → Refusal → Detail
+refusal_detail protocol p c report refusal = if protocol.version_2 then printed_detail protocol p c report refusal else Nothing

@@ -8,35 +8,35 @@ use Rattle.event_lines.specs.Requests.{claimed}
 use Rattle.event_lines.specs.declared.requests.Request.{Request}
 use Rattle.event_lines.specs.declared.requests.Request.TheVariants.{Claim as ClaimRequest, Status}
 use Rattle.event_lines.specs.declared.requests.Claim.{Claim}
-use Rattle.cell_drive.specs.declared.manner.Manner.{Manner}
+use Rattle.cell_drive.specs.declared.protocol.Protocol.{Protocol}
 use Rattle.cell_drive.specs.declared.replies.Reply.{Reply}
-use Rattle.cell_drive.specs.declared.replies.Reply.TheVariants.{Refused, Taken, State}
-use Rattle.cell_drive.specs.Refusals.{IsRefusal, IsTaken, refusal_detail, refusal_word}
+use Rattle.cell_drive.specs.declared.replies.Reply.TheVariants.{Refused, Accepted, State}
+use Rattle.cell_drive.specs.Refusals.{IsRefusal, IsAdmissible, refusal_detail, refusal_word}
 use Rattle.cell_drive.specs.States.{state_text}
-use Rattle.cell_drive.specs.Stated.{refusal_prefix, taken_lines, tells_end, told_overdue}
+use Rattle.cell_drive.specs.ProtocolText.{refusal_prefix, acceptance_lines, prints_end, printed_overdue}
 
 -- the reply to a claim, and what it makes of the controller: it is refused, with what is told of that, or its report is taken
-abbrev pub IsClaimReply : Manner → Control → Claim → Reply → Control → Type 0
-IsClaimReply manner v claim (Refused refusal detail) new =
-    IsRefusal manner v.planned v.cell claim refusal × (detail ≡ refusal_detail manner v.planned v.cell (claimed claim) refusal) × (new ≡ v)
-IsClaimReply manner v claim (Taken report late overdue ended) new =
-    IsTaken manner v.planned v.cell claim × (report ≡ claimed claim) × IsAnswered v (claimed claim) (record { late = late }) new
-    × (overdue ≡ told_overdue manner v.planned v.cell (claimed claim)) × (ended ≡ tells_end manner new.planned new.cell)
-IsClaimReply manner v claim State new = ⊥
+abbrev pub IsClaimReply : Protocol → Control → Claim → Reply → Control → Type 0
+IsClaimReply protocol v claim (Refused refusal detail) new =
+    IsRefusal protocol v.planned v.cell claim refusal × (detail ≡ refusal_detail protocol v.planned v.cell (claimed claim) refusal) × (new ≡ v)
+IsClaimReply protocol v claim (Accepted report late overdue ended) new =
+    IsAdmissible protocol v.planned v.cell claim × (report ≡ claimed claim) × IsAnswered v (claimed claim) (record { late = late }) new
+    × (overdue ≡ printed_overdue protocol v.planned v.cell (claimed claim)) × (ended ≡ prints_end protocol new.planned new.cell)
+IsClaimReply protocol v claim State new = ⊥
 
 -- and to a request
-abbrev pub IsReply : Manner → Control → Request → Reply → Control → Type 0
-IsReply manner v (ClaimRequest claim) reply new = IsClaimReply manner v claim reply new
-IsReply manner v Status reply new = (reply ≡ State) × (new ≡ v)
+abbrev pub IsReply : Protocol → Control → Request → Reply → Control → Type 0
+IsReply protocol v (ClaimRequest claim) reply new = IsClaimReply protocol v claim reply new
+IsReply protocol v Status reply new = (reply ≡ State) × (new ≡ v)
 
 -- its text, where it leaves the controller so, with this before each of its lines
-abbrev pub reply_text : Manner → List ℕ → ℕ → Control → Reply → List ℕ
-reply_text manner prefix number v (Refused refusal detail) = refusal_prefix manner prefix ++ refused_detail_line number (refusal_word refusal) detail
-reply_text manner prefix number v (Taken report late overdue ended) = taken_lines prefix report late overdue v.orders ended
-reply_text manner prefix number v State = state_text prefix v.planned v.cell
+abbrev pub reply_text : Protocol → List ℕ → ℕ → Control → Reply → List ℕ
+reply_text protocol prefix number v (Refused refusal detail) = refusal_prefix protocol prefix ++ refused_detail_line number (refusal_word refusal) detail
+reply_text protocol prefix number v (Accepted report late overdue ended) = acceptance_lines prefix report late overdue v.orders ended
+reply_text protocol prefix number v State = state_text prefix v.planned v.cell
 
 -- the events that it adds
 abbrev pub reply_events : Control → Reply → List Entry
 reply_events v (Refused refusal detail) = []
-reply_events v (Taken report late overdue ended) = ReportEntry report ∷ map OrderEntry v.orders
+reply_events v (Accepted report late overdue ended) = ReportEntry report ∷ map OrderEntry v.orders
 reply_events v State = []

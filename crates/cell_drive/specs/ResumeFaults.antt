@@ -8,7 +8,7 @@ use Rattle.plan_verifier.specs.declared.verdict.Why.TheVariants.{Cycle, Late}
 use Rattle.plan_verifier.specs.Verdicts.{IsReason}
 use Rattle.cell_tables.specs.declared.entry.Entry.{Entry}
 use Rattle.cell_tables.specs.Events.{events_of}
-use Rattle.event_lines.specs.LogLines.{LinesTell}
+use Rattle.event_lines.specs.LogLines.{LinesParse}
 use Rattle.run_log.specs.declared.audit_fault.AuditFault.{AuditFault}
 use Rattle.run_log.specs.declared.audit_fault.AuditFault.TheVariants.{Memory as WantOfMemory}
 use Rattle.run_log.specs.Audits.{IsFirstBad}
@@ -44,7 +44,7 @@ IsRunFault p told at Memory = Unit {0}
 abbrev pub IsResumeFault : PlannedShop → List (List ℕ) → Option ℕ → ResumeFault → Type 0
 IsResumeFault p lines at Memory = Unit {0}
 IsResumeFault p lines at (Log fault) = IsFirstBad p lines fault
-IsResumeFault p lines at fault = (told : List Entry) × LinesTell p lines told × IsRun p (events_of told) × IsRunFault p told at fault
+IsResumeFault p lines at fault = (told : List Entry) × LinesParse p lines told × IsRun p (events_of told) × IsRunFault p told at fault
 
 -- where this is the fault of the log, no other is the first of its lines
 abbrev pub IsOnlyLogFault : PlannedShop → List (List ℕ) → ResumeFault → Type 0

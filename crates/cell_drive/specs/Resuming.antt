@@ -12,7 +12,7 @@ use Rattle.cell_tables.specs.Events.{events_of}
 use Rattle.run_log.specs.declared.audit_result.Audit.{Audit}
 use Rattle.run_log.specs.declared.audit_fault.AuditFault.{AuditFault}
 use Rattle.run_log.specs.declared.audit_fault.AuditFault.TheVariants.{Memory as WantOfMemory}
-use Rattle.run_log.specs.Audits.{IsAudit, TellRun}
+use Rattle.run_log.specs.Audits.{IsAudit, ParseAsRun}
 use Rattle.event_lines.specs.EventLines.{entry_lines}
 use Rattle.byte_streams.specs.Sinks.{TookPart}
 use Rattle.byte_streams.specs.declared.drive_fault.DriveFault.{DriveFault}
@@ -22,66 +22,66 @@ use Rattle.byte_streams.specs.Lent.{Output, Streams}
 use Rattle.byte_streams.specs.Lines.{input_lines}
 use Rattle.byte_streams.specs.Streams.{IsStreamed}
 use Rattle.byte_streams.specs.Answering.{AnswerAll}
-use Rattle.cell_drive.specs.declared.manner.Manner.{Manner}
+use Rattle.cell_drive.specs.declared.protocol.Protocol.{Protocol}
 use Rattle.cell_drive.specs.declared.resume.RestEnd.{RestEnd}
 use Rattle.cell_drive.specs.AnswerText.{DrivenCell, CellCloses}
 use Rattle.cell_drive.specs.OneRun.{cell_after}
 use Rattle.cell_drive.specs.AuditLaw.{IsLogOf, IsFoundAgain}
-use Rattle.cell_drive.specs.Stated.{StatedAnswers}
+use Rattle.cell_drive.specs.ProtocolText.{ProtocolAnswers}
 use Rattle.cell_drive.specs.Session.{SessionState, SessionAnswer, SessionCloses, IsRestEndOf, session_by, seen}
-use Rattle.cell_drive.specs.TakenUp.{TakenUp, IsTakenRun, plan_of, told_in, cell_told}
-use Rattle.cell_drive.specs.Retold.{retold_lines, retold_text}
+use Rattle.cell_drive.specs.Recovered.{Recovered, IsRecoveredRun, plan_of, replayed_events, replayed_cell}
+use Rattle.cell_drive.specs.Replay.{replay_lines, replay_text}
 
 -- an empty line, the mark, and the lines of these events
 abbrev pub marked : List Entry → List ℕ
 marked entries = 10 ∷ entry_lines entries
 
 -- the events that were told, in a manner, an empty line, and the orders that were due
-abbrev pub again_text : PlannedShop → Manner → List Entry → List Bool → List ℕ
-again_text p manner entries late = retold_lines p manner (start p) (take (length late) entries) late ++ marked (drop (length late) entries)
+abbrev pub again_text : PlannedShop → Protocol → List Entry → List Bool → List ℕ
+again_text p protocol entries late = replay_lines p protocol (start p) (take (length late) entries) late ++ marked (drop (length late) entries)
 
 -- the cell after these events
 abbrev pub driven_so_far : PlannedShop → List Entry → DrivenCell
 driven_so_far p entries = record { cell = cell_after p entries; entries = entries }
 
 -- the events once more, of which so many were told; then the answers to the lines of an input in a manner, from there on, and the closing line
-pub record IsResumedText (p : PlannedShop) (manner : Manner) (entries : List Entry) (late : List Bool) (input text : List ℕ) (end : DrivenCell) : Type 0 where
+pub record IsResumedText (p : PlannedShop) (protocol : Protocol) (entries : List Entry) (late : List Bool) (input text : List ℕ) (end : DrivenCell) : Type 0 where
   pub answers : List ℕ
-  pub are_answers : AnswerAll (StatedAnswers p manner) (driven_so_far p entries) 1 (input_lines input) answers end
+  pub are_answers : AnswerAll (ProtocolAnswers p protocol) (driven_so_far p entries) 1 (input_lines input) answers end
   pub closing : List ℕ
   pub is_closing : CellCloses p end closing
-  pub whole : text ≡ again_text p manner entries late ++ (answers ++ closing)
+  pub whole : text ≡ again_text p protocol entries late ++ (answers ++ closing)
 
 -- the mark, and the orders that are due
-abbrev pub due_text : TakenUp → List ℕ
-due_text taken = marked (drop (length taken.late) taken.log.entries)
+abbrev pub due_text : Recovered → List ℕ
+due_text recovered = marked (drop (length recovered.late) recovered.log.entries)
 
 -- the events of a run that was taken up which its log told, once more, and behind them the orders that are due
-abbrev pub again_of : Manner → TakenUp → List ℕ
-again_of manner taken = retold_text manner taken ++ due_text taken
+abbrev pub again_of : Protocol → Recovered → List ℕ
+again_of protocol recovered = replay_text protocol recovered ++ due_text recovered
 
 -- a write failed before all of this text was written, and nothing was read
 abbrev pub IsCutAgain : List ℕ → Streams → Streams → Result RestEnd DriveFault → Type 0
 IsCutAgain text before after outcome =
-    (outcome ≡ Err Write) × (after.output.failed ≡ true) × (after.input ≡ before.input) × TookPart before.output.taken after.output.taken text
+    (outcome ≡ Err Write) × (after.output.failed ≡ true) × (after.input ≡ before.input) × TookPart before.output.written after.output.written text
 
 -- the session of a run that was taken up
-abbrev pub session_from : Manner → TakenUp → SessionState
-session_from manner taken = session_by manner taken.control taken.log
+abbrev pub session_from : Protocol → Recovered → SessionState
+session_from protocol recovered = session_by protocol recovered.control recovered.log
 
 -- this text was written, and behind it the answers to the input, which is read into a room of 65,536 bytes, are streamed from this session on. It comes to this end or this fault, with this cell and log
-pub record GoesOn (manner : Manner) (text : List ℕ) (taken : TakenUp) (before after : Streams) (outcome : Result RestEnd DriveFault) : Type 0 where
-  pub from : IsTakenRun taken
+pub record GoesOn (protocol : Protocol) (text : List ℕ) (recovered : Recovered) (before after : Streams) (outcome : Result RestEnd DriveFault) : Type 0 where
+  pub from : IsRecoveredRun recovered
   pub middle : Output
-  pub again : Appends before.output.taken middle.taken text
+  pub again : Appends before.output.written middle.written text
   pub unfailed : middle.failed ≡ before.output.failed
   pub end : SessionState
-  pub streamed : IsStreamed outcome MAX_PIECE SessionAnswer SessionCloses (session_from manner taken) end (record { input = before.input; output = middle }) after
-  pub came_to : IfOk outcome (IsRestEndOf (plan_of taken) end)
+  pub streamed : IsStreamed outcome MAX_PIECE SessionAnswer SessionCloses (session_from protocol recovered) end (record { input = before.input; output = middle }) after
+  pub came_to : IfOk outcome (IsRestEndOf (plan_of recovered) end)
 
 -- either of these
-abbrev pub WritesAndGoesOn : Manner → List ℕ → TakenUp → Streams → Streams → Result RestEnd DriveFault → Type 0
-WritesAndGoesOn manner text taken before after outcome = IsCutAgain text before after outcome ⊎ GoesOn manner text taken before after outcome
+abbrev pub WritesAndGoesOn : Protocol → List ℕ → Recovered → Streams → Streams → Result RestEnd DriveFault → Type 0
+WritesAndGoesOn protocol text recovered before after outcome = IsCutAgain text before after outcome ⊎ GoesOn protocol text recovered before after outcome
 
 -- the events are a run of the plan, and lead to a cell at rest
 abbrev pub IsRunToRest : PlannedShop → List Entry → Type 0
@@ -89,35 +89,35 @@ IsRunToRest p entries = IsRun p (events_of entries) × IsAtRest p (cell_after p 
 
 -- such a text is by itself a log of the whole run
 abbrev pub AResumedTextIsALog : Type 0
-AResumedTextIsALog = (p : PlannedShop) (manner : Manner) (entries : List Entry) (late : List Bool) (input text : List ℕ) (end : DrivenCell) → IsWellShaped p
-    → IsRunToRest p entries → length late ≤ length entries → IsResumedText p manner entries late input text end → IsLogOf p text end
+AResumedTextIsALog = (p : PlannedShop) (protocol : Protocol) (entries : List Entry) (late : List Bool) (input text : List ℕ) (end : DrivenCell) → IsWellShaped p
+    → IsRunToRest p entries → length late ≤ length entries → IsResumedText p protocol entries late input text end → IsLogOf p text end
 
 -- an input has one such text, which leads to one cell with one list of events
 abbrev pub OneResumedText : Type 0
-OneResumedText = (p : PlannedShop) (manner : Manner) (entries : List Entry) (late : List Bool) (input text other : List ℕ) (end last : DrivenCell) → IsWellShaped p
-    → IsRunToRest p entries → IsResumedText p manner entries late input text end → IsResumedText p manner entries late input other last → (other ≡ text) × (last ≡ end)
+OneResumedText = (p : PlannedShop) (protocol : Protocol) (entries : List Entry) (late : List Bool) (input text other : List ℕ) (end last : DrivenCell) → IsWellShaped p
+    → IsRunToRest p entries → IsResumedText p protocol entries late input text end → IsResumedText p protocol entries late input other last → (other ≡ text) × (last ≡ end)
 
 -- what was written behind what stood there, where driving on succeeded, is such a text of what was read
 abbrev pub WhatWasResumedIsSuchAText : Type 0
-WhatWasResumedIsSuchAText = (manner : Manner) (taken : TakenUp) (end : RestEnd) (before after : Streams) (is : GoesOn manner (again_of manner taken) taken before after (Ok end))
-    → IsResumedText (plan_of taken) manner taken.log.entries taken.late is.streamed.input (again_of manner taken ++ (is.streamed.comes_to.text ++ is.streamed.comes_to.closing)) (seen is.end)
+WhatWasResumedIsSuchAText = (protocol : Protocol) (recovered : Recovered) (end : RestEnd) (before after : Streams) (is : GoesOn protocol (again_of protocol recovered) recovered before after (Ok end))
+    → IsResumedText (plan_of recovered) protocol recovered.log.entries recovered.late is.streamed.input (again_of protocol recovered ++ (is.streamed.comes_to.text ++ is.streamed.comes_to.closing)) (seen is.end)
 
 -- an audit of what was written finds what driving on came to, and its only fault is that it is out of memory
 abbrev pub AnAuditKeepsWhatWasResumed : Type 0
-AnAuditKeepsWhatWasResumed = (manner : Manner) (taken : TakenUp) (end : RestEnd) (before after : Streams) (start text : List ℕ) (outcome : Result Audit AuditFault)
-    → WritesAndGoesOn manner (again_of manner taken) taken before after (Ok end)
-    → before.output.taken ≡ Some start → after.output.taken ≡ Some (start ++ text)
-    → IfOk outcome (IsAudit (plan_of taken) (lines_of text))
-    → (TellRun (plan_of taken) (lines_of text) → IfErr outcome (λ fault. fault ≡ WantOfMemory))
-    → MatchResult outcome (IsFoundAgain (plan_of taken) end.log.entries end.done end.last end.left) (λ fault. fault ≡ WantOfMemory)
+AnAuditKeepsWhatWasResumed = (protocol : Protocol) (recovered : Recovered) (end : RestEnd) (before after : Streams) (start text : List ℕ) (outcome : Result Audit AuditFault)
+    → WritesAndGoesOn protocol (again_of protocol recovered) recovered before after (Ok end)
+    → before.output.written ≡ Some start → after.output.written ≡ Some (start ++ text)
+    → IfOk outcome (IsAudit (plan_of recovered) (lines_of text))
+    → (ParseAsRun (plan_of recovered) (lines_of text) → IfErr outcome (λ fault. fault ≡ WantOfMemory))
+    → MatchResult outcome (IsFoundAgain (plan_of recovered) end.log.entries end.done end.last end.left) (λ fault. fault ≡ WantOfMemory)
 
 -- after the events that the log told come those of the controlled run that goes on from their cell, at the moment at which the controller began
-pub record GoesOnFrom (taken : TakenUp) (end : RestEnd) : Type 0 where
+pub record GoesOnFrom (recovered : Recovered) (end : RestEnd) : Type 0 where
   pub later : List Entry
-  pub whole : end.log.entries ≡ told_in taken ++ later
+  pub whole : end.log.entries ≡ replayed_events recovered ++ later
   pub reports : List Report
-  pub goes_on : GoesOnTo (plan_of taken) (cell_told taken) taken.control.began reports (events_of later) (cell_after (plan_of taken) end.log.entries)
+  pub goes_on : GoesOnTo (plan_of recovered) (replayed_cell recovered) recovered.control.began reports (events_of later) (cell_after (plan_of recovered) end.log.entries)
 
 -- so it is where driving on succeeded
 abbrev pub WhatWasResumedGoesOn : Type 0
-WhatWasResumedGoesOn = (text : List ℕ) (manner : Manner) (taken : TakenUp) (end : RestEnd) (before after : Streams) → GoesOn manner text taken before after (Ok end) → GoesOnFrom taken end
+WhatWasResumedGoesOn = (text : List ℕ) (protocol : Protocol) (recovered : Recovered) (end : RestEnd) (before after : Streams) → GoesOn protocol text recovered before after (Ok end) → GoesOnFrom recovered end

@@ -8,34 +8,34 @@ use Rattle.cell_tables.specs.Events.{events_of}
 use Rattle.cell_control.specs.Control.{Control, IsControl, at_start, verified_in}
 use Rattle.event_lines.specs.declared.requests.Request.{Request}
 use Rattle.run_log.specs.Log.{Noted}
-use Rattle.run_log.specs.Audits.{IsTold}
-use Rattle.cell_drive.specs.declared.manner.Manner.{Manner}
+use Rattle.run_log.specs.Audits.{IsReplayed}
+use Rattle.cell_drive.specs.declared.protocol.Protocol.{Protocol}
 use Rattle.cell_drive.specs.declared.begin.DriveEnd.{DriveEnd}
 use Rattle.cell_drive.specs.declared.resume.RestEnd.{RestEnd}
 use Rattle.cell_drive.specs.LineAnswers.{IsClosingLine}
 use Rattle.cell_drive.specs.AnswerText.{DrivenCell}
 use Rattle.cell_drive.specs.OneRun.{IsNeverFull, IsRunOf, IsSoFar, NeverWentWrong, cell_after}
-use Rattle.cell_drive.specs.Stated.{AsksFor, StatedAnswers}
+use Rattle.cell_drive.specs.ProtocolText.{AsksFor, ProtocolAnswers}
 
 -- its manner, its controller and its log
 pub record SessionState : Type 0 where
-  pub manner : Manner
+  pub protocol : Protocol
   pub control : Control
   pub log : Noted
 
 -- these three as one value
-abbrev pub session_by : Manner → Control → Noted → SessionState
-session_by manner control log = record { manner = manner; control = control; log = log }
+abbrev pub session_by : Protocol → Control → Noted → SessionState
+session_by protocol control log = record { protocol = protocol; control = control; log = log }
 
 -- before the first line of a run that begins
-abbrev pub session_start : Manner → VerifiedPlan → SessionState
-session_start manner v = session_by manner (at_start v) (record { entries = []; reserved = 2 * stated_number v.planned })
+abbrev pub session_start : Protocol → VerifiedPlan → SessionState
+session_start protocol v = session_by protocol (at_start v) (record { entries = []; reserved = 2 * stated_number v.planned })
 
 -- the log has a run of the plan, which leads to the controller's cell, and room for the rest of it
 pub record IsKept (v : Control) (log : Noted) : Type 0 where
   pub shaped : IsWellShaped v.planned
   pub control : IsControl v
-  pub told : IsTold v.planned v.cell log.entries
+  pub told : IsReplayed v.planned v.cell log.entries
   pub reserved : log.reserved ≡ 2 * stated_number v.planned
 
 -- its cell, and what was accepted and ordered in the whole run
@@ -44,19 +44,19 @@ seen s = record { cell = s.control.cell; entries = s.log.entries }
 
 -- the line of this number is answered by this text, by the cell and into the log
 pub record SessionAnswer (start : SessionState) (number : ℕ) (line : Option (List ℕ)) (text : List ℕ) (end : SessionState) : Type 0 where
-  pub answer : StatedAnswers start.control.planned start.manner (seen start) number line text (seen end)
+  pub answer : ProtocolAnswers start.control.planned start.protocol (seen start) number line text (seen end)
   pub plan : verified_in end.control ≡ verified_in start.control
   pub reserved : end.log.reserved ≡ start.log.reserved
-  pub manner : end.manner ≡ start.manner
+  pub protocol : end.protocol ≡ start.protocol
 
 -- the texts that answer a line of this number that isn't too long, by a controller and its log before and after it
-abbrev pub AnsweredBy : Manner → Control → Noted → ℕ → List ℕ → Control → Noted → List ℕ → Type 0
-AnsweredBy manner control log number line control_then log_then text = SessionAnswer (session_by manner control log) number (Some line) text (session_by manner control_then log_then)
+abbrev pub AnsweredBy : Protocol → Control → Noted → ℕ → List ℕ → Control → Noted → List ℕ → Type 0
+AnsweredBy protocol control log number line control_then log_then text = SessionAnswer (session_by protocol control log) number (Some line) text (session_by protocol control_then log_then)
 
 -- the texts that answer any line of this number that asks for this
-abbrev pub AnswersRequest : Manner → Control → Noted → ℕ → Request → Control → Noted → List ℕ → Type 0
-AnswersRequest manner control log number request control_then log_then text =
-    (line : List ℕ) → (line ≡ [] → ⊥) → AsksFor manner.tells line request → AnsweredBy manner control log number line control_then log_then text
+abbrev pub AnswersRequest : Protocol → Control → Noted → ℕ → Request → Control → Noted → List ℕ → Type 0
+AnswersRequest protocol control log number request control_then log_then text =
+    (line : List ℕ) → (line ≡ [] → ⊥) → AsksFor protocol.version_2 line request → AnsweredBy protocol control log number line control_then log_then text
 
 -- the closing line
 abbrev pub SessionCloses : SessionState → List ℕ → Type 0

@@ -5,12 +5,12 @@ ghost use Rattle.shop_base.specs.Ends.{HasEnded};
 ghost use Rattle.byte_streams.specs.Lent.{streams_of};
 ghost use Rattle.plan_verifier.specs.Accepted.{IsVerified};
 ghost use Rattle.cell_control.specs.Control.{verified_in};
-ghost use Rattle.cell_drive.specs.{Manners.plain_from, Session.IsKept, Session.session_start};
-ghost use Rattle.cell_drive.specs.InManner.{IsDriveIn, begun_in};
+ghost use Rattle.cell_drive.specs.{Protocols.plain_from, Session.IsKept, Session.session_start};
+ghost use Rattle.cell_drive.specs.InProtocol.{IsDriveIn, begun_in};
 
-use crate::manner::Manner;
+use crate::protocol::Protocol;
 use crate::session::Session;
-use byte_streams::{DriveFault, Outlet, Source, reading_room, stream};
+use byte_streams::{BufferedSink, DriveFault, Source, reading_room, stream};
 use cell_control::{Controller, TourneyDues};
 use plan_verifier::Verified;
 use run_log::RunLog;
@@ -44,7 +44,7 @@ pub struct Begun {
 impl Model for Begun {
     ghost use Rattle.std.specs.Prelude.{◌≡◌, vec_len};
     ghost use Rattle.byte_streams.specs.declared.rooms.TheConstants.{MAX_PIECE};
-    ghost use Rattle.cell_drive.specs.InManner.{BegunRun, IsUndriven, begun_by};
+    ghost use Rattle.cell_drive.specs.InProtocol.{BegunRun, IsUndriven, begun_by};
 
     ghost Value = { BegunRun };
 
@@ -67,9 +67,9 @@ impl Begun {
 fn begin(
     alloc: Global,
     verified: Verified,
-    manner: Manner,
+    protocol: Protocol,
 ) -> Result<Session<Verified, TourneyDues>, AllocError>
-    ensures { IfOk result (λ session. session ≡ session_start manner verified) }
+    ensures { IfOk result (λ session. session ≡ session_start protocol verified) }
 {
     let log = RunLog::for_run(alloc, &verified)?;
     match Controller::new(alloc, verified) {
@@ -77,7 +77,7 @@ fn begin(
             // Called for its clauses alone: what holds of every such controller.
             let _plan = controller.verified();
             Ok(Session {
-                manner,
+                protocol,
                 controller,
                 log,
             })
@@ -97,7 +97,7 @@ fn end(session: Session<Verified, TourneyDues>) -> DriveEnd
     ensures left { result.left ≡ session.control.left }
 {
     let Session {
-        manner: _,
+        protocol: _,
         controller,
         log,
     } = session;
@@ -120,7 +120,7 @@ fn end(session: Session<Verified, TourneyDues>) -> DriveEnd
 ///
 /// `Memory` is answered before the first byte is read. A closing line is written only where nothing has failed before it;
 /// of one whose own write fails the first bytes may be out. After a fault the plan is gone.
-pub fn drive<R: Source, W: Outlet>(
+pub fn drive<R: Source, W: BufferedSink>(
     alloc: Global,
     verified: Verified,
     reader: &mut R,
@@ -130,32 +130,32 @@ pub fn drive<R: Source, W: Outlet>(
         (streams_of R.Source W.Sink W.pending reader.new writer.new) result }
     ensures untouched { result ≡ Err DriveFault.Memory → (reader.new ≡ reader.old) × (writer.new ≡ writer.old) }
 {
-    drive_in(alloc, verified, Manner::plain(), reader, writer)
+    drive_in(alloc, verified, Protocol::plain(), reader, writer)
 }
 
 /// Begins the run of an accepted plan, to be driven in this manner.
 ///
 /// In version 2 of the lines there are `clean MACHINE JOB MOMENT`, the cleaning after that job, and `status`, which asks
 /// for the state; each refusal and each late report is written with what the controller has, and `done MOMENT` at once.
-/// A report whose moment is further than `longest` from the last accepted one, or from `from` where that is later, is
+/// A report whose moment is further than `max_gap` from the last accepted one, or from `from` where that is later, is
 /// refused as `Leap`, after `Backwards` in the order of reasons.
 ///
 /// All memory is taken here.
-pub fn begin_in(alloc: Global, verified: Verified, manner: Manner) -> Result<Begun, AllocError>
-    ensures { IfOk result (λ begun. begun ≡ begun_in manner verified) }
+pub fn begin_in(alloc: Global, verified: Verified, protocol: Protocol) -> Result<Begun, AllocError>
+    ensures { IfOk result (λ begun. begun ≡ begun_in protocol verified) }
 {
     let room = reading_room(alloc)?;
-    let session = begin(alloc, verified, manner)?;
+    let session = begin(alloc, verified, protocol)?;
     Ok(Begun { session, room })
 }
 
 /// Drives a run that has begun, as [`drive`] does, in its manner. `Memory` is never answered.
-pub fn drive_begun<R: Source, W: Outlet>(
+pub fn drive_begun<R: Source, W: BufferedSink>(
     begun: Begun,
     reader: &mut R,
     writer: &mut W,
 ) -> Result<DriveEnd, DriveFault>
-    ensures driven { IsDriveIn begun.manner begun.verified (streams_of R.Source W.Sink W.pending reader.old writer.old)
+    ensures driven { IsDriveIn begun.protocol begun.verified (streams_of R.Source W.Sink W.pending reader.old writer.old)
         (streams_of R.Source W.Sink W.pending reader.new writer.new) result }
     ensures memory { result ≢ Err DriveFault.Memory }
 {
@@ -170,18 +170,18 @@ pub fn drive_begun<R: Source, W: Outlet>(
 }
 
 /// Drives the cell of an accepted plan, as [`drive`] does, in this manner, as [`begin_in`] says of it.
-pub fn drive_in<R: Source, W: Outlet>(
+pub fn drive_in<R: Source, W: BufferedSink>(
     alloc: Global,
     verified: Verified,
-    manner: Manner,
+    protocol: Protocol,
     reader: &mut R,
     writer: &mut W,
 ) -> Result<DriveEnd, DriveFault>
-    ensures driven { IsDriveIn manner verified (streams_of R.Source W.Sink W.pending reader.old writer.old)
+    ensures driven { IsDriveIn protocol verified (streams_of R.Source W.Sink W.pending reader.old writer.old)
         (streams_of R.Source W.Sink W.pending reader.new writer.new) result }
     ensures untouched { result ≡ Err DriveFault.Memory → (reader.new ≡ reader.old) × (writer.new ≡ writer.old) }
 {
-    match begin_in(alloc, verified, manner) {
+    match begin_in(alloc, verified, protocol) {
         Ok(begun) => drive_begun(begun, reader, writer),
         Err(error) => Err(DriveFault::from(error)),
     }

@@ -4,16 +4,16 @@ ghost use Rattle.std.specs.Prelude.{◌≡◌, ◌↔◌, Err, IfOk, IsTrue, Mat
 ghost use Rattle.shop_base.specs.Ends.{HasEnded};
 ghost use Rattle.byte_streams.specs.Lent.{WroteTo, WroteOneTo, streams_of};
 ghost use Rattle.plan_verifier.specs.Accepted.{IsVerified};
-ghost use Rattle.cell_drive.specs.Manners.{plain_from};
+ghost use Rattle.cell_drive.specs.Protocols.{plain_from};
 ghost use Rattle.cell_drive.specs.ManyCells.{AreAllDone, AreVerified, cell_start, hub_start};
-ghost use Rattle.cell_drive.specs.StatedCells.{AreDrivesIn, AsksCell, AsksNoCell, hub_stated};
+ghost use Rattle.cell_drive.specs.ProtocolCells.{AreDrivesIn, AsksCell, AsksNoCell, hub_of};
 ghost use Rattle.cell_drive.specs.Numbers.{AnsweredByCells, AreInRun, closing_text, planned_cell, planned_cells};
 
 use crate::judging::reply_to;
-use crate::manner::Manner;
+use crate::protocol::Protocol;
 use crate::replies::{put_closing, put_refused, put_reply};
 use byte_streams::{
-    DriveFault, LineHandler, Outlet, Sink, Source, WriteFault, reading_room, stream,
+    BufferedSink, DriveFault, LineHandler, Sink, Source, WriteFault, reading_room, stream,
 };
 use cell_control::{Controller, Dues, TourneyDues};
 use event_lines::{Claim, Request, cell_prefix, cell_report_of, cell_request_of};
@@ -31,17 +31,17 @@ pub struct HubEnd {
 /// The cells, and the manner in which their lines are read and answered.
 #[derive(Drop)]
 struct Cells<D: Dues> {
-    manner: Manner,
+    protocol: Protocol,
     controllers: Vec<Controller<D>>,
 }
 
 impl<D: Dues> Model for Cells<D> {
-    ghost use Rattle.cell_drive.specs.StatedCells.{StatedHub, hub_stated};
+    ghost use Rattle.cell_drive.specs.ProtocolCells.{HubOfCells, hub_of};
     ghost use Rattle.cell_drive.specs.Numbers.{AreInRun, planned_cells};
 
-    ghost Value = { StatedHub };
+    ghost Value = { HubOfCells };
 
-    ghost view = { λ s. hub_stated s.manner (planned_cells s.controllers.items) };
+    ghost view = { λ s. hub_of s.protocol (planned_cells s.controllers.items) };
 
     ghost invariant = { λ s. AreInRun (planned_cells s.controllers.items) };
 }
@@ -76,10 +76,10 @@ fn begin_cell<D: Dues>(alloc: Global, verified: Verified) -> Result<Controller<D
 }
 
 /// What the line asks of a cell, and the number of that cell before it, if it asks for anything.
-fn asked_of(tells: bool, line: &[u8]) -> Option<(u32, Request)>
-    ensures { MatchOption result (AsksNoCell tells line.now) (λ found. AsksCell tells line.now found.0 found.1) }
+fn asked_of(version_2: bool, line: &[u8]) -> Option<(u32, Request)>
+    ensures { MatchOption result (AsksNoCell version_2 line.now) (λ found. AsksCell version_2 line.now found.0 found.1) }
 {
-    if tells {
+    if version_2 {
         return cell_request_of(line);
     }
     let (cell, report) = cell_report_of(line)?;
@@ -88,7 +88,7 @@ fn asked_of(tells: bool, line: &[u8]) -> Option<(u32, Request)>
 
 /// Answers a line. An empty one has no answer.
 fn answer_line<D: Dues, W: Sink>(
-    manner: Manner,
+    protocol: Protocol,
     cells: &mut [Controller<D>],
     number: u64,
     line: &[u8],
@@ -96,12 +96,12 @@ fn answer_line<D: Dues, W: Sink>(
 ) -> Result<(), WriteFault>
     requires { AreInRun (planned_cells cells.old) }
     ensures in_run { AreInRun (planned_cells cells.new) }
-    ensures answered { WroteOneTo W.Sink result writer.old writer.new (AnsweredByCells manner cells.old number line.now cells.new) }
+    ensures answered { WroteOneTo W.Sink result writer.old writer.new (AnsweredByCells protocol cells.old number line.now cells.new) }
 {
     if line.is_empty() {
         return Ok(());
     }
-    let Some((cell, request)) = asked_of(manner.tells, line) else {
+    let Some((cell, request)) = asked_of(protocol.version_2, line) else {
         return put_refused(number, b"BadLine", writer);
     };
     let place = cell as usize;
@@ -109,9 +109,9 @@ fn answer_line<D: Dues, W: Sink>(
         return put_refused(number, b"NoSuchCell", writer);
     }
     let controller = &mut cells[place];
-    let reply = reply_to(manner, controller, request);
+    let reply = reply_to(protocol, controller, request);
     let prefix = cell_prefix(u64::from(cell));
-    put_reply(manner, prefix.bytes(), number, controller, reply, writer)
+    put_reply(protocol, prefix.bytes(), number, controller, reply, writer)
 }
 
 /// Writes the closing line of each cell.
@@ -139,11 +139,11 @@ fn all_done<D: Dues>(cells: &[Controller<D>]) -> bool
 }
 
 impl<D: Dues> LineHandler for Cells<D> {
-    ghost use Rattle.cell_drive.specs.StatedCells.{StatedHubAnswer, StatedHubCloses};
+    ghost use Rattle.cell_drive.specs.ProtocolCells.{HubAnswer, HubCloses};
 
-    ghost answers = { StatedHubAnswer };
+    ghost answers = { HubAnswer };
 
-    ghost closes = { StatedHubCloses };
+    ghost closes = { HubCloses };
 
     fn answer<W: Sink>(
         &mut self,
@@ -151,7 +151,7 @@ impl<D: Dues> LineHandler for Cells<D> {
         line: &[u8],
         writer: &mut W,
     ) -> Result<(), WriteFault> {
-        answer_line(self.manner, &mut self.controllers, number, line, writer)
+        answer_line(self.protocol, &mut self.controllers, number, line, writer)
     }
 
     fn answer_long<W: Sink>(&mut self, number: u64, writer: &mut W) -> Result<(), WriteFault> {
@@ -168,7 +168,7 @@ impl<D: Dues> LineHandler for Cells<D> {
 ///
 /// Each cell is answered as by a controller alone that is given the reports on it, and so never goes wrong.
 /// `Memory` is answered before the first byte is read. After a fault the plans are gone.
-pub fn drive_hub<R: Source, W: Outlet>(
+pub fn drive_hub<R: Source, W: BufferedSink>(
     alloc: Global,
     cells: Vec<Verified>,
     reader: &mut R,
@@ -178,7 +178,7 @@ pub fn drive_hub<R: Source, W: Outlet>(
         (streams_of R.Source W.Sink W.pending reader.new writer.new) result }
     ensures untouched { result ≡ Err DriveFault.Memory → (reader.new ≡ reader.old) × (writer.new ≡ writer.old) }
 {
-    drive_hub_in(alloc, cells, Manner::plain(), reader, writer)
+    drive_hub_in(alloc, cells, Protocol::plain(), reader, writer)
 }
 
 /// Drives a cell for each accepted plan, as [`drive_hub`] does, in this manner.
@@ -186,21 +186,21 @@ pub fn drive_hub<R: Source, W: Outlet>(
 /// Each cell reads and answers what a driven cell does in the manner, after the cell's number; in version 2 of the lines
 /// that stands before each refusal too by which a cell has answered. A leap counts from the last accepted report of the
 /// same cell, or from `from` where that is later.
-pub fn drive_hub_in<R: Source, W: Outlet>(
+pub fn drive_hub_in<R: Source, W: BufferedSink>(
     alloc: Global,
     cells: Vec<Verified>,
-    manner: Manner,
+    protocol: Protocol,
     reader: &mut R,
     writer: &mut W,
 ) -> Result<HubEnd, DriveFault>
-    ensures driven { AreDrivesIn manner cells.items (streams_of R.Source W.Sink W.pending reader.old writer.old)
+    ensures driven { AreDrivesIn protocol cells.items (streams_of R.Source W.Sink W.pending reader.old writer.old)
         (streams_of R.Source W.Sink W.pending reader.new writer.new) result }
     ensures untouched { result ≡ Err DriveFault.Memory → (reader.new ≡ reader.old) × (writer.new ≡ writer.old) }
 {
     let mut room = reading_room(alloc)?;
     let controllers: Vec<Controller<TourneyDues>> = begin(alloc, cells)?;
     let mut driven = Cells {
-        manner,
+        protocol,
         controllers,
     };
     match stream(&mut driven, reader, &mut room, writer) {

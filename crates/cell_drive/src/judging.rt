@@ -1,13 +1,13 @@
-//! Whether what is claimed is taken, and what the cell replies.
+//! Whether what is claimed is accepted, and what the cell replies.
 
 ghost use Rattle.std.specs.Prelude.{◌≡◌, IfOk, IfErr, false};
 ghost use Rattle.shop_base.specs.Report.{at, CanReport};
 ghost use Rattle.cell_control.specs.{Control.IsControl, Judged.IsJudged, Readings.IsOnTime};
 ghost use Rattle.event_lines.specs.Requests.{claimed};
-ghost use Rattle.cell_drive.specs.Refusals.{IsClaimReason, IsRefusal, IsTaken, CanClaim};
-ghost use Rattle.cell_drive.specs.{Stated.tells_end, Stated.told_overdue, Replies.IsClaimReply, Replies.IsReply};
+ghost use Rattle.cell_drive.specs.Refusals.{IsClaimReason, IsRefusal, IsAdmissible, CanClaim};
+ghost use Rattle.cell_drive.specs.{ProtocolText.prints_end, ProtocolText.printed_overdue, Replies.IsClaimReply, Replies.IsReply};
 
-use crate::manner::Manner;
+use crate::protocol::Protocol;
 use crate::refusals::{Refusal, claim_leaps, first_refusal, refusal_detail, standing_of};
 use crate::replies::Reply;
 use crate::states::overdue_in;
@@ -17,17 +17,17 @@ use event_lines::{Claim, Overdue, Request};
 use shop_base::Planned;
 
 /// What the line says is overdue as the report comes. It is looked for only if something is.
-pub(crate) fn told_overdue<P: Planned>(
-    manner: Manner,
+pub(crate) fn printed_overdue<P: Planned>(
+    protocol: Protocol,
     cell: &WorkCell<P>,
     late: bool,
     report: Report,
 ) -> Option<Overdue>
     requires possible { CanReport cell.now.plan cell.now.cell report }
     requires on_time { late ≡ false → IsOnTime cell.now.plan cell.now.cell (at report) }
-    ensures { result ≡ told_overdue manner cell.now.plan cell.now.cell report }
+    ensures { result ≡ printed_overdue protocol cell.now.plan cell.now.cell report }
 {
-    if !manner.tells {
+    if !protocol.version_2 {
         return None;
     }
     if !late {
@@ -52,17 +52,17 @@ fn judge_possible<P: Timed, D: Dues>(
     }
 }
 
-/// Whether what is claimed is taken, or why it is refused.
+/// Whether what is claimed is accepted, or why it is refused.
 fn judge<P: Timed, D: Dues>(
-    manner: Manner,
+    protocol: Protocol,
     controller: &Core<P, D>,
     claim: Claim,
 ) -> Result<Possible, Refusal>
-    ensures taken { IfOk result (λ possible. IsTaken manner controller.now.planned controller.now.cell claim) }
+    ensures accepted { IfOk result (λ possible. IsAdmissible protocol controller.now.planned controller.now.cell claim) }
     ensures judged { IfOk result (IsJudged controller.now.planned controller.now.cell (claimed claim)) }
-    ensures refused { IfErr result (IsRefusal manner controller.now.planned controller.now.cell claim) }
+    ensures refused { IfErr result (IsRefusal protocol controller.now.planned controller.now.cell claim) }
 {
-    let leaps = claim_leaps(manner, controller, claim);
+    let leaps = claim_leaps(protocol, controller, claim);
     match judge_possible(controller, claim) {
         Ok(possible) => {
             if leaps {
@@ -76,29 +76,29 @@ fn judge<P: Timed, D: Dues>(
 }
 
 /// Whether the end of the run is told at once.
-fn tells_end<P: Timed, D: Dues>(manner: Manner, controller: &Core<P, D>) -> bool
-    ensures { result ≡ tells_end manner controller.now.planned controller.now.cell }
+fn prints_end<P: Timed, D: Dues>(protocol: Protocol, controller: &Core<P, D>) -> bool
+    ensures { result ≡ prints_end protocol controller.now.planned controller.now.cell }
 {
-    manner.tells && controller.reports_left() == 0
+    protocol.version_2 && controller.reports_left() == 0
 }
 
 /// Takes what was claimed and judged.
 #[inline(always)]
 fn take<P: Timed, D: Dues>(
-    manner: Manner,
+    protocol: Protocol,
     controller: &mut Core<P, D>,
     claim: Claim,
     possible: Possible,
 ) -> Reply
-    requires taken { IsTaken manner controller.old.planned controller.old.cell claim }
+    requires accepted { IsAdmissible protocol controller.old.planned controller.old.cell claim }
     requires judged { IsJudged controller.old.planned controller.old.cell (claimed claim) possible }
-    ensures { IsClaimReply manner controller.old claim result controller.new }
+    ensures { IsClaimReply protocol controller.old claim result controller.new }
 {
     let report = possible.report();
-    let overdue = told_overdue(manner, controller.work_cell(), possible.is_late(), report);
+    let overdue = printed_overdue(protocol, controller.work_cell(), possible.is_late(), report);
     let ack = controller.take(possible);
-    let ended = tells_end(manner, controller);
-    Reply::Taken {
+    let ended = prints_end(protocol, controller);
+    Reply::Accepted {
         report,
         late: ack.late,
         overdue,
@@ -108,32 +108,32 @@ fn take<P: Timed, D: Dues>(
 
 /// Replies to what is claimed.
 fn reply_to_claim<P: Timed, D: Dues>(
-    manner: Manner,
+    protocol: Protocol,
     controller: &mut Core<P, D>,
     claim: Claim,
 ) -> Reply
-    ensures { IsClaimReply manner controller.old claim result controller.new }
+    ensures { IsClaimReply protocol controller.old claim result controller.new }
 {
-    match judge(manner, controller, claim) {
-        Ok(possible) => take(manner, controller, claim, possible),
+    match judge(protocol, controller, claim) {
+        Ok(possible) => take(protocol, controller, claim, possible),
         Err(refusal) => Reply::Refused {
             refusal,
-            detail: refusal_detail(manner, controller.work_cell(), claim, refusal),
+            detail: refusal_detail(protocol, controller.work_cell(), claim, refusal),
         },
     }
 }
 
 /// Replies to a request: takes what is claimed, if it is possible and doesn't leap.
 pub(crate) fn reply_to<P: Timed, D: Dues>(
-    manner: Manner,
+    protocol: Protocol,
     controller: &mut Core<P, D>,
     request: Request,
 ) -> Reply
-    ensures reply { IsReply manner controller.old request result controller.new }
+    ensures reply { IsReply protocol controller.old request result controller.new }
     ensures control { IsControl controller.new }
 {
     let reply = match request {
-        Request::Claim(claim) => reply_to_claim(manner, controller, claim),
+        Request::Claim(claim) => reply_to_claim(protocol, controller, claim),
         Request::Status => Reply::State,
     };
     // Called for its clause alone: what holds of every such controller.

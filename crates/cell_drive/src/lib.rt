@@ -1,6 +1,6 @@
 //! Cells driven by lines of text: reports in, move orders out, over any reader and any writer of bytes.
 //!
-//! A session is a controller and the [`Manner`] in which lines are read and answered. [`drive`] and [`drive_hub`] begin one
+//! A session is a controller and the [`Protocol`] in which lines are read and answered. [`drive`] and [`drive_hub`] begin one
 //! at the start of a run, for one cell or for several. A driven run is taken up again from its log, which may have been cut at
 //! any byte: [`take_up`] gives what the run had come to by the log, or why it can't be taken up. [`resume_in`] goes on from
 //! there: it writes the run once more, and drives it on.
@@ -10,26 +10,26 @@ mod begin;
 mod hub;
 mod judging;
 mod lateness;
-mod manner;
+mod protocol;
 mod recover;
 mod refusals;
+mod replay;
 mod replies;
 mod resume;
 mod resume_fault;
-mod retelling;
 mod session;
 mod states;
 mod told_again;
 
 pub use begin::{Begun, DriveEnd, begin_in, drive, drive_begun, drive_in};
 pub use byte_streams::{
-    DriveFault, FromRead, Gathered, LineHandler, MAX_LINE, MAX_PIECE, Outlet, ReadFault, Source,
-    reading_room, stream,
+    Buffered, BufferedSink, DriveFault, FromRead, LineHandler, MAX_LINE, MAX_PIECE, ReadFault,
+    Source, reading_room, stream,
 };
 pub use event_lines::{done_line, late_line, refused_line, report_of, unfinished_line};
 pub use hub::{HubEnd, drive_hub, drive_hub_in};
-pub use manner::Manner;
-pub use recover::{Replayed, Taken, take_up};
+pub use protocol::Protocol;
+pub use recover::{RecoveredRun, Replayed, take_up};
 pub use refusals::Refusal;
-pub use resume::{RestEnd, go_on_in, resume_in, tell_again_in};
+pub use resume::{RestEnd, go_on_in, replay_in, resume_in};
 pub use resume_fault::ResumeFault;

@@ -6,11 +6,11 @@ ghost use Rattle.shop_base.specs.{Report.IsNextMoment, Run.IsRun, Ends.stated_nu
 ghost use Rattle.text_lines.specs.Lines.{ended_lines};
 ghost use Rattle.plan_verifier.specs.Accepted.{IsAcceptable};
 ghost use Rattle.cell_tables.specs.Events.{events_of};
-ghost use Rattle.run_log.specs.Audits.{IsTold};
+ghost use Rattle.run_log.specs.Audits.{IsReplayed};
 ghost use Rattle.cell_control.specs.Begun.{IsBegun, IsRestFault};
 ghost use Rattle.byte_streams.specs.declared.rooms.TheConstants.{MAX_PIECE};
 ghost use Rattle.cell_drive.specs.{OneRun.cell_after, LateEvents.AreLate};
-ghost use Rattle.cell_drive.specs.TakenUp.{AreAtStart, IsTakenUp, IsTakenFrom, IsTakenRun, CanBeTakenUp, told_in};
+ghost use Rattle.cell_drive.specs.Recovered.{AreAtStart, IsRecovered, IsRecoveredFrom, IsRecoveredRun, IsRecoverable, replayed_events};
 ghost use Rattle.cell_drive.specs.ResumeFaults.{IsResumeFault, IsOnlyLogFault, IsRunFault, IsRefusal};
 
 use crate::lateness::late_events;
@@ -26,20 +26,20 @@ use std::marker::Model;
 
 /// A run that was taken up from its log.
 #[derive(Drop)]
-pub struct Taken {
+pub struct RecoveredRun {
     pub(crate) run: Replayed,
     /// The tables of the cell at the start of the run, from which its events are told again.
     pub(crate) start: Tables,
 }
 
-impl Model for Taken {
-    ghost use Rattle.cell_drive.specs.TakenUp.{TakenUp, AreAtStart, IsTakenRun};
+impl Model for RecoveredRun {
+    ghost use Rattle.cell_drive.specs.Recovered.{Recovered, AreAtStart, IsRecoveredRun};
 
-    ghost Value = { TakenUp };
+    ghost Value = { Recovered };
 
     ghost view = { λ t. t.run };
 
-    ghost invariant = { λ t. IsTakenRun t.run × AreAtStart t.run.control.planned t.start };
+    ghost invariant = { λ t. IsRecoveredRun t.run × AreAtStart t.run.control.planned t.start };
 }
 
 /// A run that was taken up from its log, and whose events were told again.
@@ -58,13 +58,13 @@ pub struct Replayed {
 impl Model for Replayed {
     ghost use Rattle.std.specs.Prelude.{◌≡◌, vec_len};
     ghost use Rattle.byte_streams.specs.declared.rooms.TheConstants.{MAX_PIECE};
-    ghost use Rattle.cell_drive.specs.TakenUp.{TakenUp, taken_by, IsTakenRun};
+    ghost use Rattle.cell_drive.specs.Recovered.{Recovered, recovered_by, IsRecoveredRun};
 
-    ghost Value = { TakenUp };
+    ghost Value = { Recovered };
 
-    ghost view = { λ t. taken_by t.controller t.log t.late.items };
+    ghost view = { λ t. recovered_by t.controller t.log t.late.items };
 
-    ghost invariant = { λ t. IsTakenRun (taken_by t.controller t.log t.late.items) × (vec_len t.room ≡ MAX_PIECE) };
+    ghost invariant = { λ t. IsRecoveredRun (recovered_by t.controller t.log t.late.items) × (vec_len t.room ≡ MAX_PIECE) };
 }
 
 /// Takes up a run where its log ends, at a present moment or else at the last one of the log. The log may have been cut at any
@@ -79,34 +79,34 @@ pub fn take_up(
     shaped: Shaped,
     text: &[u8],
     at: Option<Moment>,
-) -> Result<Taken, ResumeFault>
+) -> Result<RecoveredRun, ResumeFault>
     requires { IfSome at (λ present. present ≤ MAX_MOMENT) }
-    ensures taken { IfOk result (IsTakenUp shaped (ended_lines text.now) at) }
+    ensures recovered { IfOk result (IsRecovered shaped (ended_lines text.now) at) }
     ensures fault { IfErr result (IsResumeFault shaped (ended_lines text.now) at) }
     ensures only_fault { IfErr result (IsOnlyLogFault shaped (ended_lines text.now)) }
-    ensures only { CanBeTakenUp shaped (ended_lines text.now) at → IfErr result (λ fault. fault ≡ ResumeFault.Memory) }
+    ensures only { IsRecoverable shaped (ended_lines text.now) at → IfErr result (λ fault. fault ≡ ResumeFault.Memory) }
 {
     // Called for its clause alone: the plan is well shaped.
     let _plan = shaped.shop();
     let room = reading_room(alloc)?;
     match run_of_log(alloc, shaped, text) {
-        Ok(run) => take_run(alloc, run, at, room),
+        Ok(run) => recover_run(alloc, run, at, room),
         Err(fault) => Err(ResumeFault::from(fault)),
     }
 }
 
 /// Takes up a run that a log told.
-fn take_run(
+fn recover_run(
     alloc: Global,
     run: LoggedRun<Shaped>,
     at: Option<Moment>,
     room: Vec<u8>,
-) -> Result<Taken, ResumeFault>
+) -> Result<RecoveredRun, ResumeFault>
     requires at_most { IfSome at (λ present. present ≤ MAX_MOMENT) }
-    requires told { IsTold run.cell.plan run.cell.cell run.entries.items }
+    requires told { IsReplayed run.cell.plan run.cell.cell run.entries.items }
     requires reserved { vec_capacity run.entries ≡ 2 * stated_number run.cell.plan }
     requires room { vec_len room ≡ MAX_PIECE }
-    ensures taken { IfOk result (IsTakenFrom run.cell.plan run.entries.items at) }
+    ensures recovered { IfOk result (IsRecoveredFrom run.cell.plan run.entries.items at) }
     ensures fault { IfErr result (IsRunFault run.cell.plan run.entries.items at) }
 {
     let LoggedRun { cell, entries } = run;
@@ -119,7 +119,7 @@ fn take_run(
     let late = late_events(alloc, cell.shaped(), &entries)?;
     let start = start_tables(alloc, cell.shaped())?;
     match begin(alloc, cell, starts, present) {
-        Ok(controller) => Ok(Taken {
+        Ok(controller) => Ok(RecoveredRun {
             run: with_due(controller, RunLog::of_entries(entries), late, room),
             start,
         }),
@@ -213,9 +213,9 @@ fn rest_fault(fault: RestFault, cell: WorkCell<Shaped>, present: Moment) -> Resu
     match fault {
         RestFault::Cycle(nodes) => ResumeFault::Refused(cell.into_basis(), Why::Cycle(nodes)),
         fault @ RestFault::Memory => ResumeFault::from(WantForRest { fault }),
-        RestFault::MomentTooLarge | RestFault::KeepsNot | RestFault::Backwards { last: _ } => {
-            unreachable!()
-        }
+        RestFault::MomentTooLarge
+        | RestFault::IncompatiblePlan
+        | RestFault::Backwards { last: _ } => { unreachable!() }
     }
 }
 
@@ -233,8 +233,8 @@ fn with_due(
     requires late { AreLate controller.planned (start controller.planned) log.entries late.items }
     requires room { vec_len room ≡ MAX_PIECE }
     ensures control { result.control ≡ controller }
-    ensures told { told_in result ≡ log.entries }
-    ensures run { IsTakenRun result }
+    ensures told { replayed_events result ≡ log.entries }
+    ensures run { IsRecoveredRun result }
 {
     // Called for its clause alone: what holds of every such controller.
     let _plan = controller.shaped();

@@ -6,7 +6,7 @@ ghost use Rattle.cell_control.specs.Reports.{IsOfShop};
 ghost use Rattle.event_lines.specs.Requests.{claimed};
 ghost use Rattle.cell_drive.specs.Refusals.{IsRefusal, claim_leaps, first_refusal, is_before_leap, reason_detail, refusal_detail, refusal_word, standing_of};
 
-use crate::manner::Manner;
+use crate::protocol::Protocol;
 use cell_control::{Core, Dues, Report, ReportFault, Timed};
 use cell_tables::{Standing, WorkCell};
 use event_lines::{Claim, Detail};
@@ -63,13 +63,13 @@ pub(crate) fn first_refusal(leaps: bool, reason: ReportFault) -> Refusal
 
 /// Whether the moment of the claim leaps.
 pub(crate) fn claim_leaps<P: Timed, D: Dues>(
-    manner: Manner,
+    protocol: Protocol,
     controller: &Core<P, D>,
     claim: Claim,
 ) -> bool
-    ensures { result ≡ claim_leaps manner controller.now.cell claim }
+    ensures { result ≡ claim_leaps protocol controller.now.cell claim }
 {
-    manner.leaps(controller.now(), claim.report().at())
+    protocol.leaps(controller.now(), claim.report().at())
 }
 
 /// The state of the job or the machine of the report.
@@ -107,19 +107,19 @@ fn reason_detail<P: Planned>(cell: &WorkCell<P>, report: Report, reason: ReportF
 
 /// What the line says after the name of the refusal.
 pub(crate) fn refusal_detail<P: Planned>(
-    manner: Manner,
+    protocol: Protocol,
     cell: &WorkCell<P>,
     claim: Claim,
     refusal: Refusal,
 ) -> Detail
-    requires { IsRefusal manner cell.now.plan cell.now.cell claim refusal }
-    ensures { result ≡ refusal_detail manner cell.now.plan cell.now.cell (claimed claim) refusal }
+    requires { IsRefusal protocol cell.now.plan cell.now.cell claim refusal }
+    ensures { result ≡ refusal_detail protocol cell.now.plan cell.now.cell (claimed claim) refusal }
 {
-    if !manner.tells {
+    if !protocol.version_2 {
         return Detail::Nothing;
     }
     match refusal {
         Refusal::Reason(reason) => reason_detail(cell, claim.report(), reason),
-        Refusal::Leap => Detail::Last(manner.leap_base(cell.last())),
+        Refusal::Leap => Detail::Last(protocol.leap_base(cell.last())),
     }
 }

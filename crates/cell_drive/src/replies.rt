@@ -7,10 +7,10 @@ ghost use Rattle.event_lines.specs.{EventLines.report_line, EventLines.order_lin
 ghost use Rattle.event_lines.specs.StandingLines.{refused_detail_line};
 ghost use Rattle.byte_streams.specs.Lent.{WroteTo};
 ghost use Rattle.cell_drive.specs.{LineAnswers.closing_line, Refusals.refusal_word};
-ghost use Rattle.cell_drive.specs.Stated.{end_part, lateness_part, refusal_prefix, taken_lines};
+ghost use Rattle.cell_drive.specs.ProtocolText.{end_part, lateness_part, refusal_prefix, acceptance_lines};
 ghost use Rattle.cell_drive.specs.Replies.{reply_text};
 
-use crate::manner::Manner;
+use crate::protocol::Protocol;
 use crate::refusals::Refusal;
 use crate::states::put_state;
 use byte_streams::{Sink, WriteFault, put_all};
@@ -31,7 +31,7 @@ pub(crate) enum Reply {
     },
     /// The report is taken, late or not, with what is told to be overdue, and whether the end of the run is told. The moves
     /// that it released are the controller's last orders.
-    Taken {
+    Accepted {
         report: Report,
         late: bool,
         overdue: Option<Overdue>,
@@ -132,7 +132,7 @@ fn put_end<W: Sink>(
 
 /// Writes the line of the report, the line that it was late, the lines of the orders, and the line of the end.
 #[inline(always)]
-pub(crate) fn put_taken<W: Sink>(
+pub(crate) fn put_accepted<W: Sink>(
     prefix: &[u8],
     report: Report,
     late: bool,
@@ -141,7 +141,7 @@ pub(crate) fn put_taken<W: Sink>(
     ended: bool,
     writer: &mut W,
 ) -> Result<(), WriteFault>
-    ensures wrote { WroteTo W.Sink result writer.old writer.new (taken_lines prefix.now report late overdue orders.now ended) }
+    ensures wrote { WroteTo W.Sink result writer.old writer.new (acceptance_lines prefix.now report late overdue orders.now ended) }
     ensures unfailed { OnOk result (W.failed writer.new ≡ W.failed writer.old) }
 {
     put_report_line(prefix, report, writer)?;
@@ -183,43 +183,43 @@ fn put_refusal<W: Sink>(
 }
 
 /// What stands before a refusal.
-fn before_refusal(manner: Manner, prefix: &[u8]) -> &[u8]
-    ensures { result.now ≡ refusal_prefix manner prefix.now }
+fn before_refusal(protocol: Protocol, prefix: &[u8]) -> &[u8]
+    ensures { result.now ≡ refusal_prefix protocol prefix.now }
 {
-    if manner.tells { prefix } else { b"" }
+    if protocol.version_2 { prefix } else { b"" }
 }
 
 /// Writes the reply of the cell to the line of this number.
 #[inline(always)]
 pub(crate) fn put_reply<P: Timed, D: Dues, W: Sink>(
-    manner: Manner,
+    protocol: Protocol,
     prefix: &[u8],
     number: u64,
     controller: &Core<P, D>,
     reply: Reply,
     writer: &mut W,
 ) -> Result<(), WriteFault>
-    ensures wrote { WroteTo W.Sink result writer.old writer.new (reply_text manner prefix.now number controller.now reply) }
+    ensures wrote { WroteTo W.Sink result writer.old writer.new (reply_text protocol prefix.now number controller.now reply) }
     ensures unfailed { OnOk result (W.failed writer.new ≡ W.failed writer.old) }
 {
     match reply {
         Reply::Refused { refusal, detail } => {
             put_refusal(
-                before_refusal(manner, prefix),
+                before_refusal(protocol, prefix),
                 number,
                 refusal,
                 detail,
                 writer,
             )
         }
-        Reply::Taken {
+        Reply::Accepted {
             report,
             late,
             overdue,
             ended,
         } => {
             let orders = controller.orders();
-            put_taken(prefix, report, late, overdue, orders, ended, writer)
+            put_accepted(prefix, report, late, overdue, orders, ended, writer)
         }
         Reply::State => put_state(prefix, controller, writer),
     }

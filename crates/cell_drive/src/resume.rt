@@ -1,18 +1,18 @@
 //! A run that was taken up and goes on, in any manner.
 
 ghost use Rattle.std.specs.Prelude.{◌≡◌, ◌≢◌, ◌≤◌, ◌∷◌, drop, length, Err, IfOk, OnOk};
-ghost use Rattle.byte_streams.specs.Lent.{WroteTo, streams_of, taker_of};
+ghost use Rattle.byte_streams.specs.Lent.{WroteTo, streams_of, sink_state};
 ghost use Rattle.event_lines.specs.EventLines.{entry_lines};
-ghost use Rattle.cell_drive.specs.{TakenUp.AreAtStart, TakenUp.plan_of, Resuming.due_text, Retold.retold_text};
+ghost use Rattle.cell_drive.specs.{Recovered.AreAtStart, Recovered.plan_of, Resuming.due_text, Replay.replay_text};
 ghost use Rattle.cell_drive.specs.Session.{IsRestEndOf};
-ghost use Rattle.cell_drive.specs.InManner.{IsGoneOnIn, IsResumeIn, IsToldAgainIn};
+ghost use Rattle.cell_drive.specs.InProtocol.{IsGoneOnIn, IsResumeIn, IsReplayedIn};
 
-use crate::manner::Manner;
-use crate::recover::{Replayed, Taken};
-use crate::retelling::put_retold_events;
+use crate::protocol::Protocol;
+use crate::recover::{RecoveredRun, Replayed};
+use crate::replay::put_replay_events;
 use crate::session::Session;
 use crate::told_again::put_told;
-use byte_streams::{DriveFault, Outlet, Source, stream};
+use byte_streams::{BufferedSink, DriveFault, Source, stream};
 use cell_control::{Held, TourneyDues};
 use cell_tables::{Entry, Tables, WorkCell};
 use run_log::{RunLog, Sink, WriteFault, put_all, write_lines};
@@ -32,20 +32,20 @@ pub struct RestEnd {
 }
 
 /// Writes the events that the log of a run told once more in this manner. The tables are those of its cell at its start.
-fn put_told_in<W: Sink>(
+fn put_replay_in<W: Sink>(
     run: &Replayed,
     start: Tables,
-    manner: Manner,
+    protocol: Protocol,
     writer: &mut W,
 ) -> Result<(), WriteFault>
     requires { AreAtStart (plan_of run.now) start }
-    ensures wrote { WroteTo W.Sink result writer.old writer.new (retold_text manner run.now) }
+    ensures wrote { WroteTo W.Sink result writer.old writer.new (replay_text protocol run.now) }
     ensures unfailed { OnOk result (W.failed writer.new ≡ W.failed writer.old) }
 {
     let entries = &run.log.entries()[..run.late.len()];
-    if manner.tells {
+    if protocol.version_2 {
         let cell = WorkCell::of_parts(run.controller.shaped(), start);
-        put_retold_events(manner, cell, entries, &run.late, writer)
+        put_replay_events(protocol, cell, entries, &run.late, writer)
     } else {
         put_told(entries, &run.late, writer)
     }
@@ -53,16 +53,16 @@ fn put_told_in<W: Sink>(
 
 /// Writes the events that the log of a run told once more in this manner, each report that was late with the line that it
 /// was. In version 2 that line also says what was overdue as the report came.
-pub fn tell_again_in<W: Sink>(
-    taken: Taken,
-    manner: Manner,
+pub fn replay_in<W: Sink>(
+    recovered: RecoveredRun,
+    protocol: Protocol,
     writer: &mut W,
 ) -> Result<Replayed, DriveFault>
-    ensures told { IsToldAgainIn manner taken (taker_of W.Sink writer.old) (taker_of W.Sink writer.new) result }
-    ensures run { IfOk result (λ run. run ≡ taken) }
+    ensures told { IsReplayedIn protocol recovered (sink_state W.Sink writer.old) (sink_state W.Sink writer.new) result }
+    ensures run { IfOk result (λ run. run ≡ recovered) }
 {
-    let Taken { run, start } = taken;
-    match put_told_in(&run, start, manner, writer) {
+    let RecoveredRun { run, start } = recovered;
+    match put_replay_in(&run, start, protocol, writer) {
         Ok(()) => Ok(run),
         Err(_) => Err(DriveFault::Write),
     }
@@ -91,7 +91,7 @@ fn end(session: Session<Held, TourneyDues>) -> RestEnd
     ensures { IsRestEndOf session.control.planned session result }
 {
     let Session {
-        manner: _,
+        protocol: _,
         controller,
         log,
     } = session;
@@ -107,13 +107,13 @@ fn end(session: Session<Held, TourneyDues>) -> RestEnd
 /// the orders that are due, and then drives the run on as [`crate::drive_in`] does.
 ///
 /// `Memory` is never answered. A closing line is written only where nothing has failed before it.
-pub fn go_on_in<R: Source, W: Outlet>(
+pub fn go_on_in<R: Source, W: BufferedSink>(
     run: Replayed,
-    manner: Manner,
+    protocol: Protocol,
     reader: &mut R,
     writer: &mut W,
 ) -> Result<RestEnd, DriveFault>
-    ensures { IsGoneOnIn manner run (streams_of R.Source W.Sink W.pending reader.old writer.old)
+    ensures { IsGoneOnIn protocol run (streams_of R.Source W.Sink W.pending reader.old writer.old)
         (streams_of R.Source W.Sink W.pending reader.new writer.new) result }
 {
     let Ok(()) = put_due(&run, writer) else {
@@ -126,7 +126,7 @@ pub fn go_on_in<R: Source, W: Outlet>(
         mut room,
     } = run;
     let mut session = Session {
-        manner,
+        protocol,
         controller,
         log,
     };
@@ -136,22 +136,22 @@ pub fn go_on_in<R: Source, W: Outlet>(
     }
 }
 
-/// Goes on with a run that was taken up in this manner: tells its events again as [`tell_again_in`] does, and then goes on as
+/// Goes on with a run that was taken up in this manner: tells its events again as [`replay_in`] does, and then goes on as
 /// [`go_on_in`] does. What is written is by itself a log of the whole run.
 ///
 /// `Memory` is never answered.
-pub fn resume_in<R: Source, W: Outlet>(
-    taken: Taken,
-    manner: Manner,
+pub fn resume_in<R: Source, W: BufferedSink>(
+    recovered: RecoveredRun,
+    protocol: Protocol,
     reader: &mut R,
     writer: &mut W,
 ) -> Result<RestEnd, DriveFault>
-    ensures resumed { IsResumeIn manner taken (streams_of R.Source W.Sink W.pending reader.old writer.old)
+    ensures resumed { IsResumeIn protocol recovered (streams_of R.Source W.Sink W.pending reader.old writer.old)
         (streams_of R.Source W.Sink W.pending reader.new writer.new) result }
     ensures memory { result ≢ Err DriveFault.Memory }
 {
-    match tell_again_in(taken, manner, writer) {
-        Ok(run) => go_on_in(run, manner, reader, writer),
+    match replay_in(recovered, protocol, writer) {
+        Ok(run) => go_on_in(run, protocol, reader, writer),
         Err(fault) => Err(fault),
     }
 }

@@ -76,7 +76,7 @@ impl From<WantForRest> for ResumeFault {
         match told.fault {
             RestFault::Memory => ResumeFault::Memory,
             RestFault::MomentTooLarge
-            | RestFault::KeepsNot
+            | RestFault::IncompatiblePlan
             | RestFault::Backwards { last: _ }
             | RestFault::Cycle(_) => unreachable!(),
         }

@@ -7,7 +7,7 @@ ghost use Rattle.cell_drive.specs.Replies.{reply_events};
 ghost use Rattle.cell_drive.specs.Session.{AnsweredBy, AnswersRequest, IsKept};
 
 use crate::judging::reply_to;
-use crate::manner::Manner;
+use crate::protocol::Protocol;
 use crate::replies::{Reply, put_closing, put_refused, put_reply};
 use byte_streams::{LineHandler, Sink, WriteFault};
 use cell_control::{Core, Dues, Report, Timed};
@@ -20,7 +20,7 @@ use std::marker::Model;
 /// A controller, the manner in which the lines of its cell are read and answered, and the log of the whole run.
 #[derive(Drop)]
 pub(crate) struct Session<P: Timed, D: Dues> {
-    pub manner: Manner,
+    pub protocol: Protocol,
     pub controller: Core<P, D>,
     pub log: RunLog,
 }
@@ -30,7 +30,7 @@ impl<P: Timed, D: Dues> Model for Session<P, D> {
 
     ghost Value = { SessionState };
 
-    ghost view = { λ s. session_by s.manner s.controller s.log };
+    ghost view = { λ s. session_by s.protocol s.controller s.log };
 
     ghost invariant = { λ s. IsKept s.controller s.log };
 }
@@ -51,7 +51,7 @@ fn note_reply<P: Timed, D: Dues>(log: &mut RunLog, controller: &Core<P, D>, repl
     ensures { Notes log.old log.new (reply_events controller.now reply) }
 {
     match reply {
-        Reply::Taken {
+        Reply::Accepted {
             report,
             late: _,
             overdue: _,
@@ -68,7 +68,7 @@ fn note_reply<P: Timed, D: Dues>(log: &mut RunLog, controller: &Core<P, D>, repl
 /// Answers what the line of this number asks for, and notes the events that this adds.
 #[inline(always)]
 fn answer_request<P: Timed, D: Dues, W: Sink>(
-    manner: Manner,
+    protocol: Protocol,
     controller: &mut Core<P, D>,
     log: &mut RunLog,
     number: u64,
@@ -78,17 +78,17 @@ fn answer_request<P: Timed, D: Dues, W: Sink>(
     requires { IsKept controller.old log.old }
     ensures kept { IsKept controller.new log.new }
     ensures answered { WroteOneTo W.Sink result writer.old writer.new
-        (AnswersRequest manner controller.old log.old number request controller.new log.new) }
+        (AnswersRequest protocol controller.old log.old number request controller.new log.new) }
 {
-    let reply = reply_to(manner, controller, request);
+    let reply = reply_to(protocol, controller, request);
     note_reply(log, controller, reply);
-    put_reply(manner, b"", number, controller, reply, writer)
+    put_reply(protocol, b"", number, controller, reply, writer)
 }
 
 /// Answers a line. An empty one has no answer.
 #[inline(never)]
 fn answer_line<P: Timed, D: Dues, W: Sink>(
-    manner: Manner,
+    protocol: Protocol,
     controller: &mut Core<P, D>,
     log: &mut RunLog,
     number: u64,
@@ -98,22 +98,22 @@ fn answer_line<P: Timed, D: Dues, W: Sink>(
     requires { IsKept controller.old log.old }
     ensures kept { IsKept controller.new log.new }
     ensures answered { WroteOneTo W.Sink result writer.old writer.new
-        (AnsweredBy manner controller.old log.old number line.now controller.new log.new) }
+        (AnsweredBy protocol controller.old log.old number line.now controller.new log.new) }
 {
     if line.is_empty() {
         return Ok(());
     }
-    if manner.tells {
+    if protocol.version_2 {
         let Some(request) = request_of(line) else {
             return put_refused(number, b"BadLine", writer);
         };
-        return answer_request(manner, controller, log, number, request, writer);
+        return answer_request(protocol, controller, log, number, request, writer);
     }
     let Some(report) = report_of(line) else {
         return put_refused(number, b"BadLine", writer);
     };
     let request = Request::Claim(Claim::Report(report));
-    answer_request(manner, controller, log, number, request, writer)
+    answer_request(protocol, controller, log, number, request, writer)
 }
 
 impl<P: Timed, D: Dues> LineHandler for Session<P, D> {
@@ -130,7 +130,7 @@ impl<P: Timed, D: Dues> LineHandler for Session<P, D> {
         writer: &mut W,
     ) -> Result<(), WriteFault> {
         answer_line(
-            self.manner,
+            self.protocol,
             &mut self.controller,
             &mut self.log,
             number,

@@ -3,7 +3,7 @@
 ghost use Rattle.std.specs.Prelude.{◌≡◌, ◌+◌, ◌≤◌, ◌++◌, length, OnOk};
 ghost use Rattle.byte_streams.specs.Lent.{WroteTo};
 ghost use Rattle.cell_drive.specs.declared.told_again.TheConstants.{MOST, EVENT_ROOM, LINES_ROOM};
-ghost use Rattle.cell_drive.specs.ToldLines.{told_line, told_lines};
+ghost use Rattle.cell_drive.specs.PlainLines.{plain_line, plain_lines};
 
 use byte_streams::{Sink, WriteFault, put_all};
 use cell_tables::Entry;
@@ -24,9 +24,9 @@ type Lines = LineText<LINES_ROOM>;
 
 /// Writes the line of the event, and after a late report's the line that it is late, before what there is.
 #[inline(always)]
-fn put_told_line(lines: &mut Lines, entry: Entry, late: bool)
+fn put_plain_line(lines: &mut Lines, entry: Entry, late: bool)
     requires { EVENT_ROOM + length lines.old ≤ LINES_ROOM }
-    ensures written { lines.new ≡ told_line entry late ++ lines.old }
+    ensures written { lines.new ≡ plain_line entry late ++ lines.old }
     ensures length { length lines.new ≤ EVENT_ROOM + length lines.old }
 {
     match entry {
@@ -44,14 +44,14 @@ fn put_told_line(lines: &mut Lines, entry: Entry, late: bool)
 fn put_few<W: Sink>(entries: &[Entry], late: &[bool], writer: &mut W) -> Result<(), WriteFault>
     requires same { length entries.now ≡ length late.now }
     requires few { length entries.now ≤ MOST }
-    ensures wrote { WroteTo W.Sink result writer.old writer.new (told_lines entries.now late.now) }
+    ensures wrote { WroteTo W.Sink result writer.old writer.new (plain_lines entries.now late.now) }
     ensures unfailed { OnOk result (W.failed writer.new ≡ W.failed writer.old) }
 {
     let mut lines = Lines::empty();
     let mut place = entries.len();
     'places: while place > 0 {
         place -= 1;
-        put_told_line(&mut lines, entries[place], late[place]);
+        put_plain_line(&mut lines, entries[place], late[place]);
     }
     put_all(writer, lines.bytes())
 }
@@ -63,7 +63,7 @@ pub(crate) fn put_told<W: Sink>(
     writer: &mut W,
 ) -> Result<(), WriteFault>
     requires { length entries.now ≡ length late.now }
-    ensures wrote { WroteTo W.Sink result writer.old writer.new (told_lines entries.now late.now) }
+    ensures wrote { WroteTo W.Sink result writer.old writer.new (plain_lines entries.now late.now) }
     ensures unfailed { OnOk result (W.failed writer.new ≡ W.failed writer.old) }
 {
     let mut rest = entries;

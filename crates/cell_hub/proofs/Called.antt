@@ -19,8 +19,8 @@ module _ {D : Type 0} (s new : Slab (Placed D)) (next : ℕ) (now : HubState) (s
   report_called r (Err fault) reported refused unchanged = (subst (λ h. IsNotReported h t r fault) seen (refused next), ap (λ (x : Slab (Placed D)). hub_of x next) unchanged ∙ seen)
 
   pub dismissal_called : (result : Result Control HubFault) → IfOk result (λ content. (n : ℕ) → IsDismissed (hub_of s n) t content (hub_of new n)) → OnErr result ((n : ℕ) → cell_at (hub_of s n) t ≡ None) → IfErr result (λ fault. fault ≡ NoSuchCell) → OnErr result (new ≡ s) → IsCall now (Dismissed t result) (hub_of new next)
-  dismissal_called (Ok content) taken none fault unchanged = subst (λ h. IsDismissed h t content (hub_of new next)) seen (taken next)
-  dismissal_called (Err _) taken none fault unchanged = (fault, subst (λ (h : HubState). cell_at h t ≡ None) seen (none next), ap (λ (x : Slab (Placed D)). hub_of x next) unchanged ∙ seen)
+  dismissal_called (Ok content) removed none fault unchanged = subst (λ h. IsDismissed h t content (hub_of new next)) seen (removed next)
+  dismissal_called (Err _) removed none fault unchanged = (fault, subst (λ (h : HubState). cell_at h t ≡ None) seen (none next), ap (λ (x : Slab (Placed D)). hub_of x next) unchanged ∙ seen)
 
 module _ {D : Type 0} (s reserved new : Slab (Placed D)) (next : ℕ) (now : HubState) (seen : hub_of s next ≡ now) where
   -- a cell is put into a slot that was reserved
@@ -52,7 +52,7 @@ report_finds old new t r (Err SerialsSpent) is = absurd is.0
 report_finds old new t r (Err Memory) is = absurd is.0
 report_finds old new t r (Err (Cell reason)) is = ((λ same. absurd (cc)), λ none. let e = is.0.1 in absurd (cc))
 
--- why a report isn't taken has no second reason
+-- why a report isn't accepted has no second reason
 only_refusal : (h : HubState) (t : Ticket) (r : Report) (fault : HubFault) → IsNotReported h t r fault → IsOnlyRefusal h t r fault
 only_refusal h t r NoSuchCell none NoSuchCell other = refl
 only_refusal h t r NoSuchCell none SerialsSpent other = absurd other

@@ -34,7 +34,7 @@ module _ (o : Option Control) (v : Control) (there : o ≡ Some v) (m j t : ℕ)
         go (Ok ack) ok = tt
         go (Err fault) ok = absurd (false≢true ok)
 
--- it isn't taken for one reason: the ticket has no cell
+-- it isn't accepted for one reason: the ticket has no cell
 pub only_no_cell : (h : HubState) (t : Ticket) (m j at : ℕ) → cell_at h t ≡ None → IsOnlyCleanRefusal h t m j at NoSuchCell
 only_no_cell h t m j at none NoSuchCell other = refl
 only_no_cell h t m j at none SerialsSpent other = absurd other
@@ -53,7 +53,7 @@ only_cell_reason h t m j at v reason there control first (Cell another) other =
     ap Cell (only_clean_reason v.planned v.cell m j at control.ranks.shaped control.sound reason first another
     (subst (λ (c : Control). IsFirstCleanReason c.planned c.cell m j at another) same other.2))
 
--- where it is taken, that is a call of the definition
+-- where it is accepted, that is a call of the definition
 pub cleaning_called : (old new : HubState) (t : Ticket) (m at : ℕ) (result : Result Ack HubFault) → IsOk result → IsCall old (Reported t (Clean m at) result) new
     → IsCall old (cleaning_call old t m at result) new
 cleaning_called old new t m at (Ok ack) ok is = is

@@ -98,18 +98,18 @@ shown_on old t content not_given is fits = law.before _ (λ on. is ∙ fits.cont
 shown_on old t content (stands c) is fits = subst (λ x. Lives t (stands c) (Shown t x) (stands c)) (sym (is ∙ fits.content)) (law.shown c)
 shown_on old t content dismissed is fits = law.after _ (λ on. is ∙ fits.content)
 
-taken_on : (old new : HubState) (t : Ticket) (content : Control) (life : Life) → AreSerialsBelow old → IsDismissed old t content new → Fits old t life → GoesOn new t life (Dismissed t (Ok content))
-taken_on old new t content not_given below is fits = let e = fits.content in let f = is.cell in absurd (cc)
-taken_on old new t content (stands c) below is fits =
+removed_on : (old new : HubState) (t : Ticket) (content : Control) (life : Life) → AreSerialsBelow old → IsDismissed old t content new → Fits old t life → GoesOn new t life (Dismissed t (Ok content))
+removed_on old new t content not_given below is fits = let e = fits.content in let f = is.cell in absurd (cc)
+removed_on old new t content (stands c) below is fits =
     let e = fits.content in
     let f = is.cell in
     let same : c ≡ content = cc in
     record {
       next = dismissed;
-      lives = subst (λ x. Lives t (stands c) (Dismissed t (Ok x)) dismissed) same (law.taken c);
+      lives = subst (λ x. Lives t (stands c) (Dismissed t (Ok x)) dismissed) same (law.removed c);
       fits = record { content = is.cells.changed; spent = λ was. let so = below t c fits.content in omega (arith, is.next_serial) };
     }
-taken_on old new t content dismissed below is fits = let e = fits.content in let f = is.cell in absurd (cc)
+removed_on old new t content dismissed below is fits = let e = fits.content in let f = is.cell in absurd (cc)
 
 -- any call
 goes_on : (old new : HubState) (t : Ticket) (life : Life) (call : HubCall) → AreSerialsBelow old → IsCall old call new → Fits old t life → GoesOn new t life call
@@ -136,7 +136,7 @@ goes_on old new t life (Shown other content) below is fits =
     ]
 goes_on old new t life (Dismissed other (Ok content)) below is fits =
     elim (same_ticket t other) [
-      | inl same ↦ subst (λ (u : Ticket). IsDismissed old u content new → GoesOn new t life (Dismissed u (Ok content))) same (λ on. taken_on old new t content life below on fits) is
+      | inl same ↦ subst (λ (u : Ticket). IsDismissed old u content new → GoesOn new t life (Dismissed u (Ok content))) same (λ on. removed_on old new t content life below on fits) is
       | inr differ ↦ past old new t other _ life _ differ is.cells (omega (arith, is.next_serial)) (λ on. differ (sym on)) (λ on. absurd (differ (sym on))) fits
     ]
 goes_on old new t life (Dismissed other (Err fault)) below is fits =

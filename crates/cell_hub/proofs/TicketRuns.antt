@@ -76,7 +76,7 @@ module _ (p : PlannedShop) (shaped : IsWellShaped p) (t : Ticket) where
             (promise.refused c r (reason-cannot c.planned c.cell r reason (subst (λ q. IsSound q c.cell) (sym of_plan) sound) first)) more.calls;
       })
   stand _ _ _ content of_plan sound (law.once_more _ _ end _ calls (law.shown c) rest) there = stand c calls end content of_plan sound rest there
-  stand _ _ _ content of_plan sound (law.once_more _ _ end _ calls (law.taken c) rest) there = let none = stays_dismissed t calls end rest in absurd (cc)
+  stand _ _ _ content of_plan sound (law.once_more _ _ end _ calls (law.removed c) rest) there = let none = stays_dismissed t calls end rest in absurd (cc)
   stand _ _ _ content of_plan sound (law.once_more _ _ end call calls (law.elsewhere c same off) rest) there =
       subst (λ rs. AreItsCalls c rs content) (sym (elsewhere_adds_none t call calls off)) (stand c calls end content of_plan sound rest there)
 
@@ -86,7 +86,7 @@ given_there t plan _ _ _ (law.given other) is = let same : other ≡ plan = cc i
 given_there t plan _ _ _ (law.answered c new r ack answer) is = absurd (cc)
 given_there t plan _ _ _ (law.refused c r reason first) is = absurd (cc)
 given_there t plan _ _ _ (law.shown c) is = absurd (cc)
-given_there t plan _ _ _ (law.taken c) is = absurd (cc)
+given_there t plan _ _ _ (law.removed c) is = absurd (cc)
 given_there t plan _ _ _ (law.elsewhere c call off) is = absurd (off (subst (IsOnTicket t) (sym is) refl))
 given_there t plan _ _ _ (law.before call none) is = absurd (subst (FindsNoCell t) is none refl)
 given_there t plan _ _ _ (law.after call none) is = absurd (subst (FindsNoCell t) is none refl)

@@ -42,25 +42,25 @@ pub record IsReported (old : HubState) (t : Ticket) (r : Report) (ack : Ack) (ne
   pub cells : Puts old new t (Some after)
   pub next_serial : new.next_serial ≡ old.next_serial
 
--- why a report isn't taken: the ticket has no cell, or its controller refuses the report by the first reason
+-- why a report isn't accepted: the ticket has no cell, or its controller refuses the report by the first reason
 abbrev pub IsNotReported : HubState → Ticket → Report → HubFault → Type 0
 IsNotReported h t r NoSuchCell = cell_at h t ≡ None
 IsNotReported h t r SerialsSpent = ⊥
 IsNotReported h t r Memory = ⊥
 IsNotReported h t r (Cell reason) = (c : Control) × (cell_at h t ≡ Some c) × IsFirstReason c.planned c.cell r reason
 
--- no fault but this one is a reason why the report isn't taken, the fields of a first reason included
+-- no fault but this one is a reason why the report isn't accepted, the fields of a first reason included
 abbrev pub IsOnlyRefusal : HubState → Ticket → Report → HubFault → Type 0
 IsOnlyRefusal h t r fault = (other : HubFault) → IsNotReported h t r other → other ≡ fault
 
--- why the report that machine m was cleaned after job j isn't taken: the ticket has no cell, or its controller refuses it by the first reason
+-- why the report that machine m was cleaned after job j isn't accepted: the ticket has no cell, or its controller refuses it by the first reason
 abbrev pub IsNotCleaned : HubState → Ticket → ℕ → ℕ → ℕ → HubFault → Type 0
 IsNotCleaned h t m j at NoSuchCell = cell_at h t ≡ None
 IsNotCleaned h t m j at SerialsSpent = ⊥
 IsNotCleaned h t m j at Memory = ⊥
 IsNotCleaned h t m j at (Cell reason) = (c : Control) × (cell_at h t ≡ Some c) × IsFirstCleanReason c.planned c.cell m j at reason
 
--- no fault but this one is a reason why that report isn't taken, the fields of a first reason included
+-- no fault but this one is a reason why that report isn't accepted, the fields of a first reason included
 abbrev pub IsOnlyCleanRefusal : HubState → Ticket → ℕ → ℕ → ℕ → HubFault → Type 0
 IsOnlyCleanRefusal h t m j at fault = (other : HubFault) → IsNotCleaned h t m j at other → other ≡ fault
 
@@ -70,7 +70,7 @@ pub record EndsNow (c : Control) (r : Report) : Type 0 where
   pub going : GoesOn c.planned c.cell (ended r) due
   pub now : at r ≡ c.cell.last
 
--- the ticket's cell is taken out with this content
+-- the ticket's cell is removed with this content
 pub record IsDismissed (old : HubState) (t : Ticket) (content : Control) (new : HubState) : Type 0 where
   pub cell : cell_at old t ≡ Some content
   pub cells : Puts old new t None
@@ -83,7 +83,7 @@ pub data HubCall : Type 0 where
   Shown : Ticket → Option Control → HubCall
   Dismissed : Ticket → Result Control HubFault → HubCall
 
--- the call that the report of a cleaning after a job is, by its answer: where it is taken, a report of that cleaning; where it isn't, a look at the ticket's cell
+-- the call that the report of a cleaning after a job is, by its answer: where it is accepted, a report of that cleaning; where it isn't, a look at the ticket's cell
 abbrev pub cleaning_call : HubState → Ticket → ℕ → ℕ → Result Ack HubFault → HubCall
 cleaning_call h t m at (Ok ack) = Reported t (Clean m at) (Ok ack)
 cleaning_call h t m at (Err fault) = Shown t (cell_at h t)

@@ -51,7 +51,7 @@ pub data Lives (t : Ticket) : Life → HubCall → Life → Type 0 where
   answered : (c new : Control) (r : Report) (ack : Ack) → IsAnswered c r ack new → Lives t (stands c) (Reported t r (Ok ack)) (stands new)
   refused : (c : Control) (r : Report) (reason : ReportFault) → IsFirstReason c.planned c.cell r reason → Lives t (stands c) (Reported t r (Err (Cell reason))) (stands c)
   shown : (c : Control) → Lives t (stands c) (Shown t (Some c)) (stands c)
-  taken : (c : Control) → Lives t (stands c) (Dismissed t (Ok c)) dismissed
+  removed : (c : Control) → Lives t (stands c) (Dismissed t (Ok c)) dismissed
   elsewhere : (c : Control) (call : HubCall) → (IsOnTicket t call → ⊥) → Lives t (stands c) call (stands c)
   before : (call : HubCall) → FindsNoCell t call → Lives t not_given call not_given
   after : (call : HubCall) → FindsNoCell t call → Lives t dismissed call dismissed

@@ -26,6 +26,6 @@ module _ {D : Type 0} where
   abbrev pub IsReportedIn : Slab (Placed D) → Ticket → Report → Ack → Slab (Placed D) → Type 0
   IsReportedIn old t r ack new = (next : ℕ) → IsReported (hub_of old next) t r ack (hub_of new next)
 
-  -- the ticket's cell is taken out with this content
+  -- the ticket's cell is removed with this content
   abbrev pub IsDismissedFrom : Slab (Placed D) → Ticket → Control → Slab (Placed D) → Type 0
   IsDismissedFrom old t content new = (next : ℕ) → IsDismissed (hub_of old next) t content (hub_of new next)

@@ -1,7 +1,7 @@
 //! Many cells at once, each under a ticket of its own.
 //!
 //! A [`Hub`] takes accepted plans, and gives a [`Ticket`] for the cell of each. With the ticket the cell is given
-//! reports, looked at and taken out again. The cells know nothing of one another: each is a controller alone.
+//! reports, looked at and removed again. The cells know nothing of one another: each is a controller alone.
 //!
 //! Only [`Hub::admit`] takes memory.
 #![tactic(auto)]

@@ -5,7 +5,7 @@ use super::driven_inputs::{Driven, Driver, End};
 use super::echo::Echo;
 use super::one_byte_writer::OneByteWriter;
 use super::piece_reader::PieceReader;
-use cell_drive::{DriveFault, FromRead, Gathered, drive, drive_hub, stream};
+use cell_drive::{Buffered, DriveFault, FromRead, drive, drive_hub, stream};
 use plan_verifier::Verified;
 use std::alloc::Global;
 use std::cell::Cell;
@@ -16,7 +16,7 @@ use std::test::Fail;
 #[derive(Clone, Copy)]
 pub(super) struct Limits {
     pub(super) piece: usize,
-    pub(super) gathered: usize,
+    pub(super) buffered: usize,
     pub(super) reads: usize,
     pub(super) writes: usize,
     pub(super) shows: usize,
@@ -26,7 +26,7 @@ pub(super) struct Limits {
 /// No device fails.
 pub(super) const GOOD: Limits = Limits {
     piece: 1000,
-    gathered: 1000,
+    buffered: 1000,
     reads: 1000,
     writes: 1000,
     shows: 1000,
@@ -35,7 +35,7 @@ pub(super) const GOOD: Limits = Limits {
 
 type Reader<'a> = FromRead<PieceReader<'a>>;
 
-type Writer<'a> = Gathered<OneByteWriter<'a>>;
+type Writer<'a> = Buffered<OneByteWriter<'a>>;
 
 /// What came of a call: its answer, whether all that was written is the beginning of the answers, how much that is and how
 /// much of it was out before the last read, and how many reads were made.
@@ -111,7 +111,7 @@ pub(super) fn driven_over(alloc: Global, driven: &Driven, limits: Limits) -> Res
         limits.shows,
         limits.takes_nothing,
     );
-    let mut writer = Gathered::new(alloc, limits.gathered, device)?;
+    let mut writer = Buffered::new(alloc, limits.buffered, device)?;
     let end = match driven.driver {
         Driver::Cell(texts) => {
             driven_cell(alloc, accepted(alloc, texts)?, &mut reader, &mut writer)

@@ -39,10 +39,10 @@ fn failed_writes_leave_the_first_bytes(
 #[test]
 fn a_failed_write_leaves_the_first_bytes(rt: HostRuntime) -> Result<(), Fail> {
     for driven in DRIVEN {
-        for &(piece, gathered, takes_nothing) in driven.writers {
+        for &(piece, buffered, takes_nothing) in driven.writers {
             let limits = Limits {
                 piece,
-                gathered,
+                buffered,
                 takes_nothing,
                 ..GOOD
             };
@@ -113,8 +113,8 @@ fn failed_flushes_leave_what_was_answered(
 #[test]
 fn a_failed_flush_leaves_what_was_answered(rt: HostRuntime) -> Result<(), Fail> {
     for driven in DRIVEN {
-        for gathered in [0, 3, 1000] {
-            failed_flushes_leave_what_was_answered(&rt, driven, Limits { gathered, ..BYTES })?;
+        for buffered in [0, 3, 1000] {
+            failed_flushes_leave_what_was_answered(&rt, driven, Limits { buffered, ..BYTES })?;
         }
     }
     Ok(())

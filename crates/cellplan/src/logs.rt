@@ -107,7 +107,7 @@ impl LogFile for SystemLog {
 
     ghost seen = { λ _. None };
 
-    ghost may_leave = { λ _ _. Unit {0} };
+    ghost crash_states = { λ _ _. Unit {0} };
 
     ghost fault = { λ l. l.fault };
 

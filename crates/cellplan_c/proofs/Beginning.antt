@@ -12,7 +12,7 @@ use Rattle.command_answers.specs.declared.command_fault.CommandFault.{CommandFau
 use Rattle.command_answers.specs.declared.loading.Loaded.{Loaded}
 use Rattle.command_answers.specs.declared.loading.Loaded.TheVariants.{NotShaped, Judged}
 use Rattle.command_answers.specs.Checks.{IsLoaded}
-use Rattle.command_answers.specs.Plans.{TellBoth}
+use Rattle.command_answers.specs.Plans.{BothParse}
 use Rattle.command_answers.specs.Readings.{AreTextsAnswered}
 use Rattle.cellplan_c.specs.Calls.{IsEarliestLeaving, IsStarted, loaded_status, IsStatusOfBoth, IsStatusOfPlan}
 use Rattle.cellplan_c.specs.Begun.{IsControllerOf}
@@ -53,7 +53,7 @@ module _ (instance : List ℕ) (name : Option (List ℕ)) (plan : List ℕ) wher
       let judged = are.found.is.accepted in
       record {
         accepted = verified;
-        tell = subst (λ (p : PlannedShop). TellBoth instance name plan p) (sym judged.0) are.found.tell;
+        tell = subst (λ (p : PlannedShop). BothParse instance name plan p) (sym judged.0) are.found.tell;
         well_shaped = is.0.schedule.shaped;
         acceptable = subst IsAcceptable (sym judged.0) judged.1;
         verified = is.0;
@@ -68,7 +68,7 @@ module _ (instance : List ℕ) (name : Option (List ℕ)) (plan : List ℕ) wher
     pub judged : result ≤ 1 → IsStatusOfBoth instance name plan result
     judged small = elim status [ inl four ↦ absurd (omega (arith, four, small)) | inr is ↦ record { loaded = loaded; both = are.found; status_is = is } ]
 
-    pub only : (p : PlannedShop) → TellBoth instance name plan p → IsStatusOfPlan p result
+    pub only : (p : PlannedShop) → BothParse instance name plan p → IsStatusOfPlan p result
     only p tell = elim status [ inl four ↦ inl four | inr is ↦ inr (loaded, are.only p tell, is) ]
 
     pub statuses : (result ≤ 4) × (result ≢ 2)

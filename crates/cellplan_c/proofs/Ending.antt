@@ -13,7 +13,7 @@ use Rattle.cellplan_c.specs.declared.told.Ended.{Ended}
 use Rattle.cellplan_c.specs.declared.told.Ended.TheVariants.{Reported, CleanedAfter}
 use Rattle.cellplan_c.specs.Told.{fault_number, fault_detail}
 use Rattle.cellplan_c.specs.Ended.{CanEnd, IsFirstFor, IsOnlyFor, IfGoesOnNow, Calls}
-use Rattle.cellplan_c.specs.Cells.{IsReportTold}
+use Rattle.cellplan_c.specs.Cells.{IsReportAnswered}
 
 -- what holds holds if something goes on
 pub goes_anyway : (v : Control) (ended : Ended) (Holds : Type 0) → Holds → IfGoesOnNow v ended Holds
@@ -54,7 +54,7 @@ number_high (WrongMachine actual) = omega arith
 -- what a refusal comes to
 pub refused_told : (old : Control) (ended : Ended) (fault : ReportFault) (number detail : ℕ) (late : Bool) (new : Control) (Taken : Type 0) → (Taken → ⊥) → Taken ↔ CanEnd old ended
     → IsFirstFor old ended fault → IsOnlyFor old ended fault → Calls old ended new → IfGoesOnNow old ended Taken → number ≡ fault_number fault → detail ≡ fault_detail fault
-    → IsReportTold number late detail old ended new
+    → IsReportAnswered number late detail old ended new
 refused_told old ended fault number detail late new Taken refused possible first only called goes number_is detail_is = record {
   possible = ((λ good. absurd (omega (arith, good, number_is, number_high fault))), λ can. absurd (refused (possible.1 can)));
   answered = λ good. absurd (omega (arith, good, number_is, number_high fault));

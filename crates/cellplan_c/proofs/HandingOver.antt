@@ -12,7 +12,7 @@ use Rattle.command_answers.specs.Readings.{AreTextsAnswered}
 use Rattle.command_answers.specs.Shapes.{IsShapedOrNot}
 use Rattle.command_answers.specs.Statuses.{status_of}
 use Rattle.cell_control.specs.declared.rest_fault.RestFault.{RestFault}
-use Rattle.cell_control.specs.declared.rest_fault.RestFault.TheVariants.{MomentTooLarge, KeepsNot, Backwards, Cycle, Memory}
+use Rattle.cell_control.specs.declared.rest_fault.RestFault.TheVariants.{MomentTooLarge, IncompatiblePlan, Backwards, Cycle, Memory}
 use Rattle.cell_control.specs.HandedOver.{IsHandedOver, IsHandOverFault}
 use Rattle.cell_control.specs.Control.{Control}
 use Rattle.cellplan_c.specs.HandOvers.{MayTakeOver, IsHandOverStatus, takes_over, not_shaped, keeps_not, backwards, has_cycle, no_memory, rest_fault_status, IsHandOver}
@@ -33,8 +33,8 @@ module _ (old : Control) (t : ℕ) where
   acyclic q new handed cycle = ranks_exclude_cycle q (rank_of new.times) cycle.0 handed.begun.ordered.ranks.rise cycle.1
 
   -- the plan that is told has taken over
-  pub taken_status : (shaped : PlannedShop) (new : Control) → IsHandedOver old shaped t new → (q : PlannedShop) → IsShapedOrNot q (Ok shaped) → IsHandOverStatus old q t 0
-  taken_status shaped new handed q is =
+  pub handed_over_status : (shaped : PlannedShop) (new : Control) → IsHandedOver old shaped t new → (q : PlannedShop) → IsShapedOrNot q (Ok shaped) → IsHandOverStatus old q t 0
+  handed_over_status shaped new handed q is =
       let by : IsHandedOver old q t new = subst (λ (p : PlannedShop). IsHandedOver old p t new) is.0 handed in
       takes_over refl (may_take_over q new is.1 by) (acyclic q new by)
 
@@ -47,7 +47,7 @@ module _ (old : Control) (t : ℕ) where
 
   fault_status : (q : PlannedShop) (fault : RestFault) → t ≤ MAX_MOMENT → IsWellShaped q → IsHandOverFault old.planned old.cell q t fault → IsHandOverStatus old q t (rest_fault_status fault)
   fault_status q MomentTooLarge low shaped is = absurd (omega (arith, low, is))
-  fault_status q KeepsNot low shaped is = keeps_not refl shaped is.1
+  fault_status q IncompatiblePlan low shaped is = keeps_not refl shaped is.1
   fault_status q (Backwards last) low shaped is = backwards refl shaped is.0 is.2
   fault_status q (Cycle nodes) low shaped is = has_cycle nodes.items refl (record { well_shaped = shaped; kept = is.0; moment = is.1 }) is.2
   fault_status q Memory low shaped is = no_memory refl
@@ -70,7 +70,7 @@ module _ (instance : List ℕ) (name : Option (List ℕ)) (plan : List ℕ) (t :
   pub too_late : (old new : Control) → MAX_MOMENT < t → IsHandOver instance name plan t 18 old new
   too_late old new over = record {
     too_large = ((λ _. over), λ _. refl);
-    taken_over = λ good. absurd (omega (arith, good));
+    handed_over_by = λ good. absurd (omega (arith, good));
     fault = λ three. absurd (omega (arith, three));
     first = λ low. absurd (omega (arith, low, over));
     second = λ low. absurd (omega (arith, low, over));
@@ -86,7 +86,7 @@ module _ (instance : List ℕ) (name : Option (List ℕ)) (plan : List ℕ) (t :
       let either : (status ≡ 3) ⊎ (status ≡ 4) = three_or_four status (omega (arith, is, bounds.0)) (omega (arith, is, bounds.1)) in
       record {
         too_large = ((λ large. absurd (omega (arith, large, is, bounds.1))), λ over. absurd (omega (arith, low, over)));
-        taken_over = λ good. absurd (omega (arith, good, is, bounds.0));
+        handed_over_by = λ good. absurd (omega (arith, good, is, bounds.0));
         fault = λ three. (fault, record { right = are.fault; status = sym is ∙ three });
         first = λ _ other first. either;
         second = λ _ other tells first. either;
@@ -95,13 +95,13 @@ module _ (instance : List ℕ) (name : Option (List ℕ)) (plan : List ℕ) (t :
       }
 
   -- a plan is told, and this came of it
-  pub plan_told : (told : Result PlannedShop ShapeFault) (status : ℕ) (old new : Control) → t ≤ MAX_MOMENT → AreTextsAnswered instance name plan IsShapedOrNot (Ok told)
+  pub plan_handed_over : (told : Result PlannedShop ShapeFault) (status : ℕ) (old new : Control) → t ≤ MAX_MOMENT → AreTextsAnswered instance name plan IsShapedOrNot (Ok told)
       → ((q : PlannedShop) → IsShapedOrNot q told → IsHandOverStatus old q t status)
       → ((q : PlannedShop) → IsShapedOrNot q told → status ≡ 0 → IsHandedOver old q t new)
       → status ≢ 3 → status ≢ 18 → IsHandOver instance name plan t status old new
-  plan_told told status old new low are judged taken no_fault soon = record {
+  plan_handed_over told status old new low are judged taken no_fault soon = record {
     too_large = ((λ large. absurd (soon large)), λ over. absurd (omega (arith, low, over)));
-    taken_over = λ good. record {
+    handed_over_by = λ good. record {
       planned = are.found.planned;
       tell = are.found.tell;
       handed_over = taken are.found.planned are.found.is good;

@@ -11,9 +11,9 @@ use Rattle.command_answers.specs.Checks.{IsCheckLine, verdict_status}
 use Rattle.command_answers.specs.Explains.{IsExplanation}
 use Rattle.command_answers.specs.Plans.{IsRightOfBoth}
 use Rattle.command_answers.specs.Statuses.{status_of}
-use Rattle.command_answers.specs.declared.rests.PlanTelling.{PlanTelling}
+use Rattle.command_answers.specs.declared.rests.PlanAnswer.{PlanAnswer}
 use Rattle.people_names.specs.NameBooks.{no_names}
-use Rattle.command_answers.specs.Rests.{rest_status, IsRestTold}
+use Rattle.command_answers.specs.Rests.{rest_status, AnswersRest}
 use Rattle.plan_verifier.specs.declared.verdict.Judged.{Judged}
 use Rattle.plan_verifier.specs.declared.verdict.Judged.TheVariants.{Accepted as AcceptedRest, Refused}
 
@@ -35,8 +35,8 @@ rest_bound : (verdict : Judged) → rest_status verdict ≤ 1
 rest_bound (AcceptedRest times) = omega arith
 rest_bound (Refused why) = omega arith
 
-pub told_bound : (telling : PlanTelling) (p : PlannedShop) (c : Cell) (t : ℕ) (answer : Answer) → IsRestTold no_names telling p c t answer → answer.status ≤ 1
-told_bound telling p c t answer told = omega (arith, told.status, rest_bound told.verdict)
+pub known_bound : (wanted : PlanAnswer) (p : PlannedShop) (c : Cell) (t : ℕ) (answer : Answer) → AnswersRest no_names wanted p c t answer → answer.status ≤ 1
+known_bound wanted p c t answer told = omega (arith, told.status, rest_bound told.verdict)
 
 pub fault_bounds : (instance : List ℕ) (name : Option (List ℕ)) (plan : List ℕ) (fault : CommandFault)
     → IsRightOfBoth instance name plan fault → (3 ≤ status_of fault) × (status_of fault ≤ 4)

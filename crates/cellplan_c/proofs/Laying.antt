@@ -12,7 +12,7 @@ use denote.RawPtr.{Ptr, block_ptr, null_ptr, ptr_val, in_a_block}
 use denote.Steps.{nothing}
 use denote.Struct.Struct.{within}
 use denote.Struct.Owning.{shape}
-use Rattle.core.proofs.alloc.Calls.{token, Fits, handle_tells}
+use Rattle.core.proofs.alloc.Calls.{token, Fits, handle_reads}
 use Rattle.std_alloc.specs.Box.Ownership.{box_owns}
 use Rattle.std_alloc.proofs.BoxSteps.Form.{Bx, X, R, P, τ, handle, word}
 use Rattle.cellplan_c.specs.contracts.lain.Lain as Lain_type
@@ -29,7 +29,7 @@ module _ (E : Bx) where
     takes t lain vs then_with =
         let owned = λ (p : Ptr). box_owns (token E.al lain.from) (R E) p lain.value in
         fsplit t $ fpick t (λ parts. fsplit t $ feq_l t (λ whole. fsplit t $ feq_l t (λ at. fsplit t $
-        handle_tells E.al t lain.from parts.1.0 (λ hv eh fits. move t (1 ∷ []) $ drop t $ move t (1 ∷ []) $
+        handle_reads E.al t lain.from parts.1.0 (λ hv eh fits. move t (1 ∷ []) $ drop t $ move t (1 ∷ []) $
         in_a_block t lain.place owned (fst∗ 𝓤 (never 𝓤) (sem 𝓛 (token E.al lain.from (bare (τ E)) null_ptr))) (λ b o lies.
         let one : vs ≡ vstruct (of_list (ptr_val lain.place ∷ (parts.1.0 ++ []))) ∷ [] =
         subst (λ (ps : List Val). vs ≡ vstruct (of_list (ps ++ (parts.1.0 ++ []))) ∷ []) at whole in

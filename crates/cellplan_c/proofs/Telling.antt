@@ -10,29 +10,29 @@ use Rattle.command_answers.specs.Instances.{IsInstanceRefusal}
 use Rattle.command_answers.specs.Plans.{IsRightOfBoth, IsPlanRefusal}
 use Rattle.command_answers.specs.Readings.{AreTextsAnswered}
 use Rattle.command_answers.specs.Statuses.{status_of}
-use Rattle.cellplan_c.specs.Calls.{IsPut, Answers, IsTextFaultTold, IsTextsTold, AreTextsTold}
-use Rattle.cellplan_c.specs.Untold.{IsUntold}
+use Rattle.cellplan_c.specs.Calls.{IsPut, Answers, IsTextFaultReport, IsTextsReport, AreTextsReported}
+use Rattle.cellplan_c.specs.Untold.{HasNoLine}
 
 put_told : (Is : Answer → Type 0) (told : Result Answer CommandFault) (result : ℕ) (old new : List ℕ) (needed : ℕ)
     → IfErr told (λ fault. (result ≡ status_of fault) × (needed ≡ 0) × (new ≡ old))
     → IfOk told (λ answer. IsPut answer.text.items answer.status result old new needed)
     → IfErr told (λ fault. fault ≡ Memory) → IfOk told Is → Answers result old new needed Is
-put_told Is (Err fault) result old new needed untold put memory is = inl (untold.0 ∙ ap status_of memory, untold.1, untold.2)
-put_told Is (Ok answer) result old new needed untold put memory is = inr (answer, is, put)
+put_told Is (Err fault) result old new needed unsaid put memory is = inl (unsaid.0 ∙ ap status_of memory, unsaid.1, unsaid.2)
+put_told Is (Ok answer) result old new needed unsaid put memory is = inr (answer, is, put)
 
-memory_untold : (Is : Answer → Type 0) (told : Result Answer CommandFault) → IfOk told (IsTextFaultTold Memory) → IfOk told Is
-memory_untold Is (Err fault) line = tt
-memory_untold Is (Ok answer) line = absurd line.0
+memory_no_line : (Is : Answer → Type 0) (told : Result Answer CommandFault) → IfOk told (IsTextFaultReport Memory) → IfOk told Is
+memory_no_line Is (Err fault) line = tt
+memory_no_line Is (Ok answer) line = absurd line.0
 
 no_line : (Is : Answer → Type 0) (fault : CommandFault) (told : Result Answer CommandFault) → fault ≡ Memory
-    → IfOk told (IsTextFaultTold fault) → IfOk told Is
+    → IfOk told (IsTextFaultReport fault) → IfOk told Is
 no_line Is fault told is line =
-    memory_untold Is told (subst (λ (f : CommandFault). IfOk told (IsTextFaultTold f)) is line)
+    memory_no_line Is told (subst (λ (f : CommandFault). IfOk told (IsTextFaultReport f)) is line)
 
 instance_line : (fault : CommandFault) (why : OrFault) (told : Result Answer CommandFault) → IsInstanceRefusal {A = Answer} (Err fault) why
-    → IfOk told (IsTextFaultTold fault) → IfOk told (IsTextFaultTold (Instance why))
+    → IfOk told (IsTextFaultReport fault) → IfOk told (IsTextFaultReport (Instance why))
 instance_line (Instance answered) why told is line = line
-instance_line Memory why told is line = memory_untold (IsTextFaultTold (Instance why)) told line
+instance_line Memory why told is line = memory_no_line (IsTextFaultReport (Instance why)) told line
 instance_line (Plan fault) why told is line = absurd is
 instance_line (Names names) why told is line = absurd is
 instance_line Read why told is line = absurd is
@@ -42,9 +42,9 @@ instance_line Log why told is line = absurd is
 instance_line LogInUse why told is line = absurd is
 
 plan_line : (fault : CommandFault) (why : PlanFault) (told : Result Answer CommandFault) → IsPlanRefusal {A = Answer} (Err fault) why
-    → IfOk told (IsTextFaultTold fault) → IfOk told (IsTextFaultTold (Plan why))
+    → IfOk told (IsTextFaultReport fault) → IfOk told (IsTextFaultReport (Plan why))
 plan_line (Plan answered) why told is line = line
-plan_line Memory why told is line = memory_untold (IsTextFaultTold (Plan why)) told line
+plan_line Memory why told is line = memory_no_line (IsTextFaultReport (Plan why)) told line
 plan_line (Instance fault) why told is line = absurd is
 plan_line (Names names) why told is line = absurd is
 plan_line Read why told is line = absurd is
@@ -54,7 +54,7 @@ plan_line Log why told is line = absurd is
 plan_line LogInUse why told is line = absurd is
 
 -- a fault that has a line is of a text
-of_text : (fault : CommandFault) (answer : Answer) → IsTextFaultTold fault answer → status_of fault ≡ 3
+of_text : (fault : CommandFault) (answer : Answer) → IsTextFaultReport fault answer → status_of fault ≡ 3
 of_text (Instance why) answer line = refl
 of_text (Plan why) answer line = refl
 of_text Memory answer line = absurd line.0
@@ -67,27 +67,27 @@ of_text LogInUse answer line = absurd line.0
 
 -- of the faults that two texts may have, none but out of memory is told by no line
 memory_alone : (instance : List ℕ) (name : Option (List ℕ)) (plan : List ℕ) (fault other : CommandFault)
-    → IsRightOfBoth instance name plan fault → IsUntold fault other → other ≡ Memory
-memory_alone instance name plan (Instance why) other is untold = untold
-memory_alone instance name plan (Plan why) other is untold = untold
-memory_alone instance name plan Memory other is untold = untold
-memory_alone instance name plan (Names names) other is untold = absurd is
-memory_alone instance name plan Read other is untold = absurd is
-memory_alone instance name plan Write other is untold = absurd is
-memory_alone instance name plan InputTooLong other is untold = absurd is
-memory_alone instance name plan Log other is untold = absurd is
-memory_alone instance name plan LogInUse other is untold = absurd is
+    → IsRightOfBoth instance name plan fault → HasNoLine fault other → other ≡ Memory
+memory_alone instance name plan (Instance why) other is unsaid = unsaid
+memory_alone instance name plan (Plan why) other is unsaid = unsaid
+memory_alone instance name plan Memory other is unsaid = unsaid
+memory_alone instance name plan (Names names) other is unsaid = absurd is
+memory_alone instance name plan Read other is unsaid = absurd is
+memory_alone instance name plan Write other is unsaid = absurd is
+memory_alone instance name plan InputTooLong other is unsaid = absurd is
+memory_alone instance name plan Log other is unsaid = absurd is
+memory_alone instance name plan LogInUse other is unsaid = absurd is
 
 module _ (instance : List ℕ) (name : Option (List ℕ)) (plan : List ℕ) (Is : PlannedShop → Answer → Type 0)
     (bound : (p : PlannedShop) (answer : Answer) → Is p answer → answer.status ≤ 1) where
-  memory_told : (fault : CommandFault) (told : Result Answer CommandFault) → IsRightOfBoth instance name plan fault
-      → IfErr told (IsUntold fault) → IfErr told (λ other. other ≡ Memory)
-  memory_told fault (Ok answer) is untold = tt
-  memory_told fault (Err other) is untold = memory_alone instance name plan fault other is untold
+  memory_reported : (fault : CommandFault) (told : Result Answer CommandFault) → IsRightOfBoth instance name plan fault
+      → IfErr told (HasNoLine fault) → IfErr told (λ other. other ≡ Memory)
+  memory_reported fault (Ok answer) is unsaid = tt
+  memory_reported fault (Err other) is unsaid = memory_alone instance name plan fault other is unsaid
 
-  answer_told : (answer : Answer) → AreTextsAnswered instance name plan Is (Ok answer)
-      → AreTextsTold instance name plan Is (IfOk {E = CommandFault} (Ok answer))
-  answer_told answer are = record {
+  answer_reported : (answer : Answer) → AreTextsAnswered instance name plan Is (Ok answer)
+      → AreTextsReported instance name plan Is (IfOk {E = CommandFault} (Ok answer))
+  answer_reported answer are = record {
     found = inl (are.found, bound are.found.planned answer are.found.is);
     only = are.only;
     first = λ fault is. absurd (are.first fault is);
@@ -95,13 +95,13 @@ module _ (instance : List ℕ) (name : Option (List ℕ)) (plan : List ℕ) (Is 
   }
 
   fault_found : (fault : CommandFault) (told : Result Answer CommandFault) → IsRightOfBoth instance name plan fault
-      → IfOk told (IsTextFaultTold fault) → IfOk told (IsTextsTold instance name plan Is)
+      → IfOk told (IsTextFaultReport fault) → IfOk told (IsTextsReport instance name plan Is)
   fault_found fault (Err other) right line = tt
   fault_found fault (Ok answer) right line = inr (fault, record { right = right; status = of_text fault answer line }, line)
 
-  fault_told : (fault : CommandFault) (told : Result Answer CommandFault) → AreTextsAnswered instance name plan Is (Err fault)
-      → IfOk told (IsTextFaultTold fault) → AreTextsTold instance name plan Is (IfOk told)
-  fault_told fault told are line = record {
+  log_fault_answer : (fault : CommandFault) (told : Result Answer CommandFault) → AreTextsAnswered instance name plan Is (Err fault)
+      → IfOk told (IsTextFaultReport fault) → AreTextsReported instance name plan Is (IfOk told)
+  log_fault_answer fault told are line = record {
     found = fault_found fault told are.fault line;
     only = λ p tell. no_line (Is p) fault told (are.only p tell) line;
     first = λ why is. instance_line fault why told (are.first why is) line;
@@ -112,9 +112,9 @@ module _ (instance : List ℕ) (name : Option (List ℕ)) (plan : List ℕ) (Is 
       → IfErr told (λ fault. (result ≡ status_of fault) × (needed ≡ 0) × (new ≡ old))
       → IfOk told (λ answer. IsPut answer.text.items answer.status result old new needed)
       → IfErr told (λ fault. fault ≡ Memory)
-      → AreTextsTold instance name plan Is (IfOk told)
-      → AreTextsTold instance name plan Is (Answers result old new needed)
-  put_texts told result old new needed untold put memory are = record {
+      → AreTextsReported instance name plan Is (IfOk told)
+      → AreTextsReported instance name plan Is (Answers result old new needed)
+  put_texts told result old new needed unsaid put memory are = record {
     found = answers _ are.found;
     only = λ p tell. answers _ (are.only p tell);
     first = λ fault is. answers _ (are.first fault is);
@@ -122,20 +122,20 @@ module _ (instance : List ℕ) (name : Option (List ℕ)) (plan : List ℕ) (Is 
   }
     where
       answers : (Tells : Answer → Type 0) → IfOk told Tells → Answers result old new needed Tells
-      answers Tells is = put_told Tells told result old new needed untold put memory is
+      answers Tells is = put_told Tells told result old new needed unsaid put memory is
 
   -- what two texts are answered, told and put
-  pub told_and_put : (answered told : Result Answer CommandFault) (result : ℕ) (old new : List ℕ) (needed : ℕ)
+  pub found_and_put : (answered told : Result Answer CommandFault) (result : ℕ) (old new : List ℕ) (needed : ℕ)
       → AreTextsAnswered instance name plan Is answered
       → IfOk answered (λ answer. told ≡ Ok answer)
-      → IfErr answered (λ fault. IfOk told (IsTextFaultTold fault))
-      → IfErr answered (λ fault. IfErr told (IsUntold fault))
+      → IfErr answered (λ fault. IfOk told (IsTextFaultReport fault))
+      → IfErr answered (λ fault. IfErr told (HasNoLine fault))
       → IfErr told (λ fault. (result ≡ status_of fault) × (needed ≡ 0) × (new ≡ old))
       → IfOk told (λ answer. IsPut answer.text.items answer.status result old new needed)
-      → AreTextsTold instance name plan Is (Answers result old new needed)
-  told_and_put (Err fault) told result old new needed are same line other untold put =
-      put_texts told result old new needed untold put (memory_told fault told are.fault other) (fault_told fault told are line)
-  told_and_put (Ok answer) told result old new needed are same line other untold put =
-      put_texts told result old new needed untold put
+      → AreTextsReported instance name plan Is (Answers result old new needed)
+  found_and_put (Err fault) told result old new needed are same line other unsaid put =
+      put_texts told result old new needed unsaid put (memory_reported fault told are.fault other) (log_fault_answer fault told are line)
+  found_and_put (Ok answer) told result old new needed are same line other unsaid put =
+      put_texts told result old new needed unsaid put
       (subst (λ (t : Result Answer CommandFault). IfErr t (λ fault. fault ≡ Memory)) (sym same) tt)
-      (subst (λ (t : Result Answer CommandFault). AreTextsTold instance name plan Is (IfOk t)) (sym same) (answer_told answer are))
+      (subst (λ (t : Result Answer CommandFault). AreTextsReported instance name plan Is (IfOk t)) (sym same) (answer_reported answer are))

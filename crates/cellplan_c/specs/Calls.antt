@@ -17,7 +17,7 @@ use Rattle.command_answers.specs.declared.command_fault.CommandFault.TheVariants
 use Rattle.command_answers.specs.declared.loading.Loaded.{Loaded}
 use Rattle.command_answers.specs.declared.loading.Loaded.TheVariants.{NotShaped, Judged}
 use Rattle.command_answers.specs.Instances.{IsFirstInstanceFault}
-use Rattle.command_answers.specs.Plans.{TellBoth, TellsAShop, IsOfBoth, IsRightOfBoth}
+use Rattle.command_answers.specs.Plans.{BothParse, ParsesAsShop, IsOfBoth, IsRightOfBoth}
 use Rattle.command_answers.specs.Checks.{IsLoaded, verdict_status}
 use Rattle.command_answers.specs.Statuses.{status_of}
 
@@ -55,22 +55,22 @@ IsTextFaultLine (Plan fault) line = (words : List ℕ) × (line ≡ codes "cellp
 IsTextFaultLine other line = ⊥
 
 -- the line of this fault, with the status of a text that is refused
-abbrev pub IsTextFaultTold : CommandFault → Answer → Type 0
-IsTextFaultTold fault told = IsTextFaultLine fault told.text.items × (told.status ≡ 3)
+abbrev pub IsTextFaultReport : CommandFault → Answer → Type 0
+IsTextFaultReport fault told = IsTextFaultLine fault told.text.items × (told.status ≡ 3)
 
 -- an answer to the two texts of status 0 or 1, or the line of what is wrong with them
-abbrev pub IsTextsTold : List ℕ → Option (List ℕ) → List ℕ → (PlannedShop → Answer → Type 0) → Answer → Type 0
-IsTextsTold instance name plan Is told =
+abbrev pub IsTextsReport : List ℕ → Option (List ℕ) → List ℕ → (PlannedShop → Answer → Type 0) → Answer → Type 0
+IsTextsReport instance name plan Is told =
     (IsOfBoth instance name plan Is told × (told.status ≤ 1))
-    ⊎ ((fault : CommandFault) × IsTextFault instance name plan fault × IsTextFaultTold fault told)
+    ⊎ ((fault : CommandFault) × IsTextFault instance name plan fault × IsTextFaultReport fault told)
 
 -- an answer to the two texts is told, or the line of what is wrong with them: that of their shop and plan wherever they tell them, else the line of the first fault of the instance, or of the plan's
-pub record AreTextsTold (instance : List ℕ) (name : Option (List ℕ)) (plan : List ℕ) (Is : PlannedShop → Answer → Type 0)
+pub record AreTextsReported (instance : List ℕ) (name : Option (List ℕ)) (plan : List ℕ) (Is : PlannedShop → Answer → Type 0)
     (Tells : (Answer → Type 0) → Type 0) : Type 0 where
-  pub found : Tells (IsTextsTold instance name plan Is)
-  pub only : (p : PlannedShop) → TellBoth instance name plan p → Tells (Is p)
-  pub first : (fault : OrFault) → IsFirstInstanceFault instance name fault → Tells (IsTextFaultTold (Instance fault))
-  pub second : (fault : PlanFault) → TellsAShop instance name → IsFirstPlanFault plan fault → Tells (IsTextFaultTold (Plan fault))
+  pub found : Tells (IsTextsReport instance name plan Is)
+  pub only : (p : PlannedShop) → BothParse instance name plan p → Tells (Is p)
+  pub first : (fault : OrFault) → IsFirstInstanceFault instance name fault → Tells (IsTextFaultReport (Instance fault))
+  pub second : (fault : PlanFault) → ParsesAsShop instance name → IsFirstPlanFault plan fault → Tells (IsTextFaultReport (Plan fault))
 
 -- the moment kept for the leaving of job j
 abbrev pub kept_leaving : Control → ℕ → ℕ
@@ -87,12 +87,12 @@ pub record IsEarliestLeaving (v : Control) (j : ℕ) : Type 0 where
 -- the controller of the accepted plan that the two texts tell, before the first report
 pub record IsStarted (instance : List ℕ) (name : Option (List ℕ)) (plan : List ℕ) (control : Control) : Type 0 where
   pub accepted : VerifiedPlan
-  pub tell : TellBoth instance name plan accepted.planned
+  pub tell : BothParse instance name plan accepted.planned
   pub well_shaped : IsWellShaped accepted.planned
   pub acceptable : IsAcceptable accepted.planned
   pub verified : IsVerified accepted
   pub start : control ≡ at_start accepted
-  pub same : (p : PlannedShop) → TellBoth instance name plan p → control.planned ≡ p
+  pub same : (p : PlannedShop) → BothParse instance name plan p → control.planned ≡ p
   -- as many reports are left as the stated number, and each job keeps to its earliest leaving
   pub left : reports_left control.planned control.cell ≡ stated_number control.planned
   pub leavings : (j : ℕ) → j < jobs control.planned → IsEarliestLeaving control j

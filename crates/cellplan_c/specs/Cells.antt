@@ -7,7 +7,7 @@ use Rattle.cell_control.specs.Promises.{NeverGoesWrong, KeepsLeavings}
 use Rattle.cellplan_c.specs.declared.cell.Cell.{Cell}
 use Rattle.cellplan_c.specs.declared.told.Order.{Order}
 use Rattle.cellplan_c.specs.declared.told.Ended.{Ended}
-use Rattle.cellplan_c.specs.Told.{report_by, order_told, fault_number, fault_detail}
+use Rattle.cellplan_c.specs.Told.{report_by, order_numbers, fault_number, fault_detail}
 use Rattle.cellplan_c.specs.Ended.{ended_by, CanEnd, IsFirstFor, IsOnlyFor, IfGoesOnNow, Calls}
 
 -- of the controller that the cell holds, if it holds one
@@ -29,22 +29,22 @@ Reporting old new kind job machine at Is =
     Holding old (λ before. Holding new (λ after. IfSome (report_by kind job machine at) (λ ended. Is before ended after)))
 
 -- the report is refused for its first reason, which is the only one: its number is answered, and what it names is told
-abbrev pub IsReasonTold : Control → Ended → ℕ → ℕ → Type 0
-IsReasonTold control ended number detail = (fault : ReportFault) × (number ≡ fault_number fault) × (detail ≡ fault_detail fault)
+abbrev pub IsReasonNumber : Control → Ended → ℕ → ℕ → Type 0
+IsReasonNumber control ended number detail = (fault : ReportFault) × (number ≡ fault_number fault) × (detail ≡ fault_detail fault)
     × IsFirstFor control ended fault × IsOnlyFor control ended fault
 
 -- what a report comes to, by its status, whether it was late, and what is told of its reason
-pub record IsReportTold (status : ℕ) (late : Bool) (detail : ℕ) (old : Control) (ended : Ended) (new : Control) : Type 0 where
+pub record IsReportAnswered (status : ℕ) (late : Bool) (detail : ℕ) (old : Control) (ended : Ended) (new : Control) : Type 0 where
   pub possible : (status ≡ 0) ↔ CanEnd old ended
   pub answered : status ≡ 0 → IsAnswered old (ended_by ended) (record { late = late }) new
-  pub reason : status ≢ 0 → IsReasonTold old ended status detail
+  pub reason : status ≢ 0 → IsReasonNumber old ended status detail
   pub called : Calls old ended new
   pub never_refused : IfGoesOnNow old ended (status ≡ 0)
 
 -- each order from a first one on, for which there is room, stands in its place as its numbers
 abbrev pub AreOrdersPut : List MoveOrder → ℕ → List Order → List Order → Type 0
 AreOrdersPut orders first old new =
-    (i : ℕ) → first + i < length orders → i < length old → slice_get new i ≡ option_map order_told (slice_get orders (first + i))
+    (i : ℕ) → first + i < length orders → i < length old → slice_get new i ≡ option_map order_numbers (slice_get orders (first + i))
 
 -- behind the orders from a first one on the room stays as it was
 abbrev pub IsKeptBehind : List MoveOrder → ℕ → List Order → List Order → Type 0

@@ -13,9 +13,9 @@ use Rattle.plan_text.specs.declared.plan_fault.PlanFault.{PlanFault}
 use Rattle.plan_text.specs.Documents.{IsFirstPlanFault}
 use Rattle.command_answers.specs.declared.command_fault.CommandFault.{CommandFault}
 use Rattle.command_answers.specs.Instances.{IsFirstInstanceFault}
-use Rattle.command_answers.specs.Plans.{TellBoth, TellsAShop}
+use Rattle.command_answers.specs.Plans.{BothParse, ParsesAsShop}
 use Rattle.cell_control.specs.declared.rest_fault.RestFault.{RestFault}
-use Rattle.cell_control.specs.declared.rest_fault.RestFault.TheVariants.{MomentTooLarge, KeepsNot, Backwards, Cycle, Memory}
+use Rattle.cell_control.specs.declared.rest_fault.RestFault.TheVariants.{MomentTooLarge, IncompatiblePlan, Backwards, Cycle, Memory}
 use Rattle.cell_control.specs.Kept.{KeepsSoFar}
 use Rattle.cell_control.specs.HandedOver.{IsHandedOver}
 use Rattle.cell_control.specs.Control.{Control}
@@ -24,7 +24,7 @@ use Rattle.cellplan_c.specs.Calls.{IsTextFault}
 -- the status of each reason for which another plan doesn't take over
 abbrev pub rest_fault_status : RestFault → ℕ
 rest_fault_status MomentTooLarge = 18
-rest_fault_status KeepsNot = 10
+rest_fault_status IncompatiblePlan = 10
 rest_fault_status (Backwards last) = 19
 rest_fault_status (Cycle nodes) = 1
 rest_fault_status Memory = 4
@@ -46,24 +46,24 @@ pub data IsHandOverStatus (v : Control) (q : PlannedShop) (t status : ℕ) : Typ
 
 module _ (instance : List ℕ) (name : Option (List ℕ)) (plan : List ℕ) (t : ℕ) where
   -- the plan that the two texts tell has taken over
-  pub record HasTakenOver (old new : Control) : Type 0 where
+  pub record HasHandedOver (old new : Control) : Type 0 where
     pub planned : PlannedShop
-    pub tell : TellBoth instance name plan planned
+    pub tell : BothParse instance name plan planned
     pub handed_over : IsHandedOver old planned t new
-    pub same : (p : PlannedShop) → TellBoth instance name plan p → new.planned ≡ p
+    pub same : (p : PlannedShop) → BothParse instance name plan p → new.planned ≡ p
 
   -- the status is of a plan that the two texts tell
-  pub record IsStatusOfTold (old : Control) (status : ℕ) : Type 0 where
+  pub record IsStatusOfParsed (old : Control) (status : ℕ) : Type 0 where
     pub planned : PlannedShop
-    pub tell : TellBoth instance name plan planned
+    pub tell : BothParse instance name plan planned
     pub is : IsHandOverStatus old planned t status
 
   -- what handing over to the plan of the two texts comes to, by its status: the moment is judged first, then the texts, and then the plan that they tell
   pub record IsHandOver (status : ℕ) (old new : Control) : Type 0 where
     pub too_large : (status ≡ 18) ↔ (MAX_MOMENT < t)
-    pub taken_over : status ≡ 0 → HasTakenOver old new
+    pub handed_over_by : status ≡ 0 → HasHandedOver old new
     pub fault : status ≡ 3 → (fault : CommandFault) × IsTextFault instance name plan fault
     pub first : t ≤ MAX_MOMENT → (fault : OrFault) → IsFirstInstanceFault instance name fault → (status ≡ 3) ⊎ (status ≡ 4)
-    pub second : t ≤ MAX_MOMENT → (fault : PlanFault) → TellsAShop instance name → IsFirstPlanFault plan fault → (status ≡ 3) ⊎ (status ≡ 4)
-    pub found : t ≤ MAX_MOMENT → status ≢ 3 → status ≢ 4 → IsStatusOfTold old status
-    pub only : t ≤ MAX_MOMENT → (p : PlannedShop) → TellBoth instance name plan p → IsHandOverStatus old p t status
+    pub second : t ≤ MAX_MOMENT → (fault : PlanFault) → ParsesAsShop instance name → IsFirstPlanFault plan fault → (status ≡ 3) ⊎ (status ≡ 4)
+    pub found : t ≤ MAX_MOMENT → status ≢ 3 → status ≢ 4 → IsStatusOfParsed old status
+    pub only : t ≤ MAX_MOMENT → (p : PlannedShop) → BothParse instance name plan p → IsHandOverStatus old p t status

@@ -8,7 +8,7 @@ use Rattle.cell_control.specs.declared.phase.Phase.{Phase as Whereabouts}
 use Rattle.cell_control.specs.Control.{Control}
 use Rattle.cellplan_c.specs.declared.cell.Cell.{Cell}
 use Rattle.cellplan_c.specs.declared.told.Phase.{Phase}
-use Rattle.cellplan_c.specs.Told.{phase_told, answer_of}
+use Rattle.cellplan_c.specs.Told.{phase_numbers, answer_of}
 use Rattle.cellplan_c.specs.Calls.{kept_leaving}
 use Rattle.cellplan_c.specs.Cells.{Holding}
 
@@ -28,9 +28,9 @@ pub record Tells {A : Type 0} (old new : Cell) (status : ℕ) (before after : A)
   pub unwritten : status ≢ 0 → after ≡ before
 
 -- where the job is, as numbers; none for a number that is no job's
-abbrev pub IsPhaseTold : Control → ℕ → Option Phase → Type 0
-IsPhaseTold held job answer =
-    (place : Option Whereabouts) × (answer ≡ option_map phase_told place) × IsPhaseOf held.planned held.cell job place
+abbrev pub IsPhaseFound : Control → ℕ → Option Phase → Type 0
+IsPhaseFound held job answer =
+    (place : Option Whereabouts) × (answer ≡ option_map phase_numbers place) × IsPhaseOf held.planned held.cell job place
 
 -- the moment kept for the job's leaving; none for a number that is no job's
 abbrev pub IsLeaveOf : Control → ℕ → Option ℕ → Type 0

@@ -44,14 +44,14 @@ spot_number Out = 4294967295
 spot_number (At machine) = machine
 
 -- the order as its numbers
-abbrev pub order_told : MoveOrder → Order
-order_told order = record { job = order.job; source = spot_number order.source; target = spot_number order.target; at = order.at }
+abbrev pub order_numbers : MoveOrder → Order
+order_numbers order = record { job = order.job; source = spot_number order.source; target = spot_number order.target; at = order.at }
 
 -- where a job is as numbers: 0 outside, 1 on a machine, 2 gone
-abbrev pub phase_told : Whereabouts → Phase
-phase_told (Outside ready) = record { place = 0; machine = 0; ready = ready; at = 0 }
-phase_told (OnMachine machine ready) = record { place = 1; machine = machine; ready = ready; at = 0 }
-phase_told (Gone at) = record { place = 2; machine = 0; ready = false; at = at }
+abbrev pub phase_numbers : Whereabouts → Phase
+phase_numbers (Outside ready) = record { place = 0; machine = 0; ready = ready; at = 0 }
+phase_numbers (OnMachine machine ready) = record { place = 1; machine = machine; ready = ready; at = 0 }
+phase_numbers (Gone at) = record { place = 2; machine = 0; ready = false; at = at }
 
 -- what a call that reads has answered: what it wrote, at status 0, else none
 abbrev pub answer_of : {A : Type 0} → ℕ → A → Option A

@@ -4,7 +4,7 @@ use Rattle.command_answers.specs.declared.command_fault.CommandFault.{CommandFau
 use Rattle.command_answers.specs.declared.command_fault.CommandFault.TheVariants.{Instance, Plan, Memory}
 
 -- that memory ran out, or the fault itself where it is of no text
-abbrev pub IsUntold : CommandFault → CommandFault → Type 0
-IsUntold (Instance why) other = other ≡ Memory
-IsUntold (Plan why) other = other ≡ Memory
-IsUntold fault other = other ≡ fault
+abbrev pub HasNoLine : CommandFault → CommandFault → Type 0
+HasNoLine (Instance why) other = other ≡ Memory
+HasNoLine (Plan why) other = other ≡ Memory
+HasNoLine fault other = other ≡ fault

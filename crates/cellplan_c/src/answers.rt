@@ -4,8 +4,8 @@ ghost use Rattle.std.specs.Prelude.{◌≡◌, IfOk, IfErr};
 ghost use Rattle.command_answers.specs.Checks.{IsCheckLine};
 ghost use Rattle.command_answers.specs.Explains.{IsExplanation};
 ghost use Rattle.cellplan_c.specs.Told.{named};
-ghost use Rattle.cellplan_c.specs.Calls.{Answers, AreTextsTold, IsTextFaultTold};
-ghost use Rattle.cellplan_c.specs.Untold.{IsUntold};
+ghost use Rattle.cellplan_c.specs.Calls.{Answers, AreTextsReported, IsTextFaultReport};
+ghost use Rattle.cellplan_c.specs.Untold.{HasNoLine};
 
 use crate::faults::fault_answer;
 use crate::instances::name_in;
@@ -25,7 +25,7 @@ pub extern "C" fn cellplan_check(
     line: &mut [u8],
     length: &mut usize,
 ) -> u32
-    ensures { AreTextsTold instance.now (named name.now) plan.now IsCheckLine
+    ensures { AreTextsReported instance.now (named name.now) plan.now IsCheckLine
         (Answers result line.old line.new length.new) }
 {
     let answered = check(alloc, instance, name_in(name), plan);
@@ -43,7 +43,7 @@ pub extern "C" fn cellplan_explain(
     text: &mut [u8],
     length: &mut usize,
 ) -> u32
-    ensures { AreTextsTold instance.now (named name.now) plan.now IsExplanation
+    ensures { AreTextsReported instance.now (named name.now) plan.now IsExplanation
         (Answers result text.old text.new length.new) }
 {
     let answered = explain(alloc, instance, name_in(name), plan);
@@ -53,8 +53,8 @@ pub extern "C" fn cellplan_explain(
 /// The answer, or the line of a text's fault. A fault of no text is passed on.
 fn told(alloc: Global, answered: Result<Answer, CommandFault>) -> Result<Answer, CommandFault>
     ensures answer { IfOk answered (λ answer. result ≡ Ok answer) }
-    ensures line { IfErr answered (λ fault. IfOk result (IsTextFaultTold fault)) }
-    ensures untold { IfErr answered (λ fault. IfErr result (IsUntold fault)) }
+    ensures line { IfErr answered (λ fault. IfOk result (IsTextFaultReport fault)) }
+    ensures unsaid { IfErr answered (λ fault. IfErr result (HasNoLine fault)) }
 {
     match answered {
         Ok(answer) => Ok(answer),

@@ -9,7 +9,7 @@ ghost use Rattle.plan_verifier.specs.Accepted.{IsVerified};
 ghost use Rattle.cell_control.specs.Control.{at_start};
 ghost use Rattle.command_answers.specs.declared.command_fault.CommandFault.{CommandFault};
 ghost use Rattle.command_answers.specs.Instances.{IsFirstInstanceFault};
-ghost use Rattle.command_answers.specs.Plans.{TellBoth, TellsAShop};
+ghost use Rattle.command_answers.specs.Plans.{BothParse, ParsesAsShop};
 ghost use Rattle.cellplan_c.specs.Told.{named};
 ghost use Rattle.cellplan_c.specs.Calls.{IsTextFault, IsStarted, loaded_status, IsStatusOfBoth, IsStatusOfPlan};
 ghost use Rattle.cellplan_c.specs.Cells.{Holding, GoesAsPromised};
@@ -40,9 +40,9 @@ pub extern "C" fn cellplan_cell_new(
     ensures never_wrong { result ≡ 0 → Holding cell.new GoesAsPromised }
     ensures judged { result ≤ 1 → IsStatusOfBoth instance.now (named name.now) plan.now result }
     ensures fault { result ≡ 3 → (fault : CommandFault) × IsTextFault instance.now (named name.now) plan.now fault }
-    ensures only { (p : PlannedShop) → TellBoth instance.now (named name.now) plan.now p → IsStatusOfPlan p result }
+    ensures only { (p : PlannedShop) → BothParse instance.now (named name.now) plan.now p → IsStatusOfPlan p result }
     ensures first { (fault : OrFault) → IsFirstInstanceFault instance.now (named name.now) fault → 3 ≤ result }
-    ensures second { (fault : PlanFault) → TellsAShop instance.now (named name.now) → IsFirstPlanFault plan.now fault → 3 ≤ result }
+    ensures second { (fault : PlanFault) → ParsesAsShop instance.now (named name.now) → IsFirstPlanFault plan.now fault → 3 ≤ result }
     ensures unchanged { result ≢ 0 → cell.new.slot.held ≡ cell.old.slot.held }
     ensures statuses { (result ≤ 4) × (result ≢ 2) }
 {

@@ -2,8 +2,8 @@
 
 ghost use Rattle.std.specs.Prelude.{◌≡◌, ◌++◌, ℕ, List, IfOk, IfErr, codes};
 ghost use Rattle.command_answers.specs.declared.command_fault.CommandFault.TheVariants.{Memory};
-ghost use Rattle.cellplan_c.specs.Calls.{IsTextFaultTold};
-ghost use Rattle.cellplan_c.specs.Untold.{IsUntold};
+ghost use Rattle.cellplan_c.specs.Calls.{IsTextFaultReport};
+ghost use Rattle.cellplan_c.specs.Untold.{HasNoLine};
 
 use crate::statuses::FAULT;
 use command_answers::{Answer, CommandFault};
@@ -12,8 +12,8 @@ use std::alloc::{AllocError, Global};
 /// The line that the program writes for a text's fault on its standard error, as an answer with its status. A fault of
 /// no text is passed on.
 pub fn fault_answer(alloc: Global, fault: CommandFault) -> Result<Answer, CommandFault>
-    ensures told { IfOk result (IsTextFaultTold fault) }
-    ensures untold { IfErr result (IsUntold fault) }
+    ensures told { IfOk result (IsTextFaultReport fault) }
+    ensures unsaid { IfErr result (HasNoLine fault) }
 {
     match fault {
         CommandFault::Instance(why) => {

@@ -111,7 +111,7 @@ fn rest_fault_status(fault: RestFault) -> u32
 {
     match fault {
         RestFault::MomentTooLarge => MOMENT_TOO_LARGE,
-        RestFault::KeepsNot => KEEPS_NOT,
+        RestFault::IncompatiblePlan => KEEPS_NOT,
         RestFault::Backwards { last: _ } => BACKWARDS,
         RestFault::Cycle(_) => REFUSED,
         RestFault::Memory => 4,

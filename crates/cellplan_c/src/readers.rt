@@ -5,12 +5,12 @@ ghost use Rattle.shop_base.specs.Plan.{jobs, machines};
 ghost use Rattle.shop_base.specs.Ends.{HasEnded};
 ghost use Rattle.cell_tables.specs.Readings.{IsCleanedFor};
 ghost use Rattle.cell_control.specs.Readings.{IsJobOn, IsDueOf, IsDueOfCleaning};
-ghost use Rattle.cellplan_c.specs.Readings.{Finds, Tells, IsPhaseTold, IsLeaveOf, AreReportsLeft};
+ghost use Rattle.cellplan_c.specs.Readings.{Finds, Tells, IsPhaseFound, IsLeaveOf, AreReportsLeft};
 
 use crate::cell::Cell;
 use crate::rooms::put_found;
 use crate::statuses::{GOOD, NO_CELL, NONE};
-use crate::told::{Phase, phase_told};
+use crate::told::{Phase, phase_numbers};
 use std::alloc::Global;
 
 /// Where the job is; `NONE` for a number that is no job's.
@@ -21,7 +21,7 @@ pub extern "C" fn cellplan_cell_phase(
     job: u32,
     phase: &mut Phase,
 ) -> u32
-    ensures { Finds cell.old cell.new result phase.old phase.new (λ held. IsPhaseTold held job) }
+    ensures { Finds cell.old cell.new result phase.old phase.new (λ held. IsPhaseFound held job) }
 {
     let Some(inner) = cell.take(alloc) else {
         return NO_CELL;
@@ -30,7 +30,7 @@ pub extern "C" fn cellplan_cell_phase(
     cell.put(inner);
     match found {
         Some(place) => {
-            *phase = phase_told(place);
+            *phase = phase_numbers(place);
             GOOD
         }
         None => NONE,

@@ -4,7 +4,7 @@ ghost use Rattle.std.specs.Prelude.{◌≡◌, ◌≢◌, ◌<◌, ◌≤◌, �
 ghost use Rattle.cell_control.specs.Control.{IsAnswered};
 ghost use Rattle.cellplan_c.specs.Told.{report_by};
 ghost use Rattle.cellplan_c.specs.Ended.{ended_by, CanEnd, IsFirstFor, IsOnlyFor, IfGoesOnNow, Calls};
-ghost use Rattle.cellplan_c.specs.Cells.{Holding, GoesAsPromised, Reporting, IsReportTold, AreOrdersPut, IsKeptBehind};
+ghost use Rattle.cellplan_c.specs.Cells.{Holding, GoesAsPromised, Reporting, IsReportAnswered, AreOrdersPut, IsKeptBehind};
 
 use crate::cell::Cell;
 use crate::inner::Inner;
@@ -35,7 +35,7 @@ pub extern "C" fn cellplan_cell_report(
     ensures full { IsSome cell.old.slot.held → IsSome cell.new.slot.held }
     ensures no_kind { (report_by kind job machine at ≡ None) ↔ (result ≡ 9) }
     ensures no_cell { IfSome (report_by kind job machine at) (λ ended. (cell.old.slot.held ≡ None) ↔ (result ≡ 8)) }
-    ensures reported { Reporting cell.old cell.new kind job machine at (IsReportTold result late.new detail.new) }
+    ensures reported { Reporting cell.old cell.new kind job machine at (IsReportAnswered result late.new detail.new) }
     ensures unchanged { result ≢ 0 → cell.new.slot.held ≡ cell.old.slot.held }
     ensures never_wrong { result ≢ 9 → Holding cell.new GoesAsPromised }
     ensures not_late { result ≢ 0 → late.new ≡ false }
@@ -95,7 +95,7 @@ pub extern "C" fn cellplan_cell_orders(
 
 /// Takes what has ended, and gives 0 or the number of the reason.
 fn report_to(inner: &mut Inner, ended: Ended, late: &mut bool, detail: &mut u64) -> u32
-    ensures reported { IsReportTold result late.new detail.new inner.old.controller ended inner.new.controller }
+    ensures reported { IsReportAnswered result late.new detail.new inner.old.controller ended inner.new.controller }
     ensures unchanged { result ≢ 0 → inner.new ≡ inner.old }
     ensures numbers { result ≢ 0 → 16 ≤ result }
     ensures not_late { result ≢ 0 → late.new ≡ late.old }

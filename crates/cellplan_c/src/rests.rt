@@ -1,7 +1,7 @@
 //! What is told of the rest of a cell's run, called from C.
 
 ghost use Rattle.std.specs.Prelude.{◌≡◌, ◌≢◌, ◌≤◌, ◌↔◌, None};
-ghost use Rattle.command_answers.specs.declared.rests.PlanTelling.TheVariants.{Verdict, Moments};
+ghost use Rattle.command_answers.specs.declared.rests.PlanAnswer.TheVariants.{Verdict, Moments};
 ghost use Rattle.command_answers.specs.Rests.{job_asked};
 ghost use Rattle.cellplan_c.specs.Cells.{Holding};
 ghost use Rattle.cellplan_c.specs.RestsAsked.{IsRestAsked};
@@ -10,7 +10,7 @@ use crate::cell::Cell;
 use crate::rooms::put_text;
 use crate::statuses::{BACKWARDS, MOMENT_TOO_LARGE, NO_CELL, status_of_refused};
 use cell_control::{RestController, TourneyDues};
-use command_answers::{PlanTelling, rest_told};
+use command_answers::{PlanAnswer, answer_rest};
 use people_names::Names;
 use shop_base::limits::MAX_MOMENT;
 use std::alloc::Global;
@@ -27,14 +27,14 @@ pub extern "C" fn cellplan_cell_check(
     ensures asked { Holding cell.old (IsRestAsked Verdict at result line.old line.new length.new) }
     ensures no_cell { (cell.old.slot.held ≡ None) ↔ (result ≡ 8) }
     ensures unchanged { cell.new.slot.held ≡ cell.old.slot.held }
-    ensures untold { 8 ≤ result → (length.new ≡ 0) × (line.new ≡ line.old) }
+    ensures unwritten { 8 ≤ result → (length.new ≡ 0) × (line.new ≡ line.old) }
 {
     *length = 0;
     let Some(inner) = cell.take(alloc) else {
         return NO_CELL;
     };
-    let telling = PlanTelling::Verdict;
-    let status = tell_rest(alloc, &inner.controller, at, telling, line, length);
+    let wanted = PlanAnswer::Verdict;
+    let status = put_rest(alloc, &inner.controller, at, wanted, line, length);
     cell.put(inner);
     status
 }
@@ -51,30 +51,30 @@ pub extern "C" fn cellplan_cell_schedule(
     ensures asked { Holding cell.old (IsRestAsked Moments at result text.old text.new length.new) }
     ensures no_cell { (cell.old.slot.held ≡ None) ↔ (result ≡ 8) }
     ensures unchanged { cell.new.slot.held ≡ cell.old.slot.held }
-    ensures untold { 8 ≤ result → (length.new ≡ 0) × (text.new ≡ text.old) }
+    ensures unwritten { 8 ≤ result → (length.new ≡ 0) × (text.new ≡ text.old) }
 {
     *length = 0;
     let Some(inner) = cell.take(alloc) else {
         return NO_CELL;
     };
-    let telling = PlanTelling::Moments;
-    let status = tell_rest(alloc, &inner.controller, at, telling, text, length);
+    let wanted = PlanAnswer::Moments;
+    let status = put_rest(alloc, &inner.controller, at, wanted, text, length);
     cell.put(inner);
     status
 }
 
 /// Tells of the rest of a run, if the moment can be the next.
-fn tell_rest(
+fn put_rest(
     alloc: Global,
     controller: &RestController<TourneyDues>,
     at: u64,
-    telling: PlanTelling,
+    wanted: PlanAnswer,
     room: &mut [u8],
     needed: &mut usize,
 ) -> u32
-    requires { job_asked telling ≡ None }
-    ensures asked { IsRestAsked telling at result room.old room.new needed.new controller.now }
-    ensures untold { 8 ≤ result → (needed.new ≡ 0) × (room.new ≡ room.old) }
+    requires { job_asked wanted ≡ None }
+    ensures asked { IsRestAsked wanted at result room.old room.new needed.new controller.now }
+    ensures unwritten { 8 ≤ result → (needed.new ≡ 0) × (room.new ≡ room.old) }
     ensures statuses { result ≢ 8 }
 {
     *needed = 0;
@@ -85,7 +85,7 @@ fn tell_rest(
         return BACKWARDS;
     }
     let names = Names::none(alloc);
-    match rest_told(alloc, &names, controller.work_cell(), at, telling) {
+    match answer_rest(alloc, &names, controller.work_cell(), at, wanted) {
         Ok(answer) => put_text(&answer.text, u32::from(answer.status), room, needed),
         Err(error) => status_of_refused(error),
     }

@@ -7,7 +7,7 @@ ghost use Rattle.cellplan_c.specs.Calls.{IsPut};
 ghost use Rattle.cellplan_c.specs.Cells.{AreOrdersPut, IsKeptBehind};
 
 use crate::statuses::{GOOD, NO_ROOM, NONE};
-use crate::told::{Order, order_told};
+use crate::told::{Order, order_numbers};
 use cell_control::MoveOrder;
 use command_answers::{Answer, CommandFault};
 
@@ -19,7 +19,7 @@ pub fn put_orders(orders: &[MoveOrder], first: usize, room: &mut [Order])
 {
     let count = orders.len().saturating_sub(first).min(room.len());
     for place in 0..count {
-        room[place] = order_told(orders[first + place]);
+        room[place] = order_numbers(orders[first + place]);
     }
 }
 

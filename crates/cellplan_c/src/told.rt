@@ -1,7 +1,7 @@
 //! Reports, reasons, orders and phases as numbers.
 
 ghost use Rattle.std.specs.Prelude.{◌≡◌, MatchOption};
-ghost use Rattle.cellplan_c.specs.Told.{report_by, fault_number, NoReason, fault_detail, order_told, spot_number, phase_told};
+ghost use Rattle.cellplan_c.specs.Told.{report_by, fault_number, NoReason, fault_detail, order_numbers, spot_number, phase_numbers};
 
 use cell_control::{MoveOrder, Phase as Whereabouts, Report, ReportFault, Spot};
 
@@ -100,8 +100,8 @@ fn spot_number(spot: Spot) -> u32
 }
 
 /// The order as its numbers.
-pub fn order_told(order: MoveOrder) -> Order
-    ensures { result ≡ order_told order }
+pub fn order_numbers(order: MoveOrder) -> Order
+    ensures { result ≡ order_numbers order }
 {
     Order {
         job: order.job,
@@ -112,8 +112,8 @@ pub fn order_told(order: MoveOrder) -> Order
 }
 
 /// Where a job is as its numbers.
-pub fn phase_told(phase: Whereabouts) -> Phase
-    ensures { result ≡ phase_told phase }
+pub fn phase_numbers(phase: Whereabouts) -> Phase
+    ensures { result ≡ phase_numbers phase }
 {
     match phase {
         Whereabouts::Outside { ready } => Phase {

@@ -7,7 +7,7 @@ use Rattle.plan_verifier.specs.declared.verdict.Verdict.TheVariants.{Accepted, R
 use Rattle.plan_verifier.specs.Accepted.{IsAcceptable}
 use Rattle.plan_verifier.specs.Verdicts.{OnAccepted, OnRefused, IsReason}
 use Rattle.plan_verifier.specs.declared.verdict.Why.TheVariants.{Cycle, Late}
-use Rattle.plan_explain.specs.FirstLines.{TellsAccepted}
+use Rattle.plan_explain.specs.FirstLines.{IsAcceptedFirstLine}
 use Rattle.plan_verifier.proofs.Reasons.{evident}
 use Rattle.command_answers.specs.declared.answer.Answer.{Answer}
 use Rattle.command_answers.specs.declared.loading.Loaded.{Loaded}
@@ -21,7 +21,7 @@ use Rattle.command_answers.specs.Margins.{IsMarginAnswer, IsMarginAnswerOf, IsMa
 pub line_of_loaded : (p : PlannedShop) (loaded : Loaded) (answer : Answer) → IsLoaded p loaded → IsLineOf loaded answer → IsCheckLine p answer
 line_of_loaded p (NotShaped fault) answer first line = inl (record { fault = fault; first = first; line = line })
 line_of_loaded p (Judged (Accepted verified)) answer judged (line, status) =
-    inr (judged.well_shaped, inl (record { acceptable = judged.accepted.1; line = subst (λ (q : PlannedShop). TellsAccepted q answer.text.items) judged.accepted.0 line; good = status }))
+    inr (judged.well_shaped, inl (record { acceptable = judged.accepted.1; line = subst (λ (q : PlannedShop). IsAcceptedFirstLine q answer.text.items) judged.accepted.0 line; good = status }))
 line_of_loaded p (Judged (Refused back (Cycle nodes))) answer judged (line, status) =
     inr (judged.well_shaped, inr (inl (record { nodes = nodes.items; cycle = judged.refused.1; line = line; refused = status })))
 line_of_loaded p (Judged (Refused back (Late job leaves chain times))) answer judged (line, status) =
@@ -51,7 +51,7 @@ margin_of_verdict names p (Refused back (Late job leaves chain times)) answer ac
     inr (inr (record { job = job; leaves = leaves; chain = chain.items; late = refused.1.0; line = line.0; refused = line.1 }))
 
 -- so of an answer that may not come
-pub margin_told : {E : Type 0} (names : NameBook) (p : PlannedShop) (verdict : Verdict) (answered : Result Answer E) → OnAccepted (λ verified. (verified.planned ≡ p) × IsAcceptable p) verdict → OnRefused (λ back why. (back ≡ p) × IsReason p why) verdict
+pub margin_answered : {E : Type 0} (names : NameBook) (p : PlannedShop) (verdict : Verdict) (answered : Result Answer E) → OnAccepted (λ verified. (verified.planned ≡ p) × IsAcceptable p) verdict → OnRefused (λ back why. (back ≡ p) × IsReason p why) verdict
     → IfOk answered (IsMarginAnswerOf names verdict) → IfOk answered (IsMarginAnswer names p)
-margin_told names p verdict (Ok answer) accepted refused line = margin_of_verdict names p verdict answer accepted refused line
-margin_told names p verdict (Err error) accepted refused line = tt
+margin_answered names p verdict (Ok answer) accepted refused line = margin_of_verdict names p verdict answer accepted refused line
+margin_answered names p verdict (Err error) accepted refused line = tt

@@ -18,7 +18,7 @@ use Rattle.command_answers.specs.declared.answer.Answer.{Answer}
 use Rattle.command_answers.specs.declared.command_fault.CommandFault.{CommandFault}
 use Rattle.command_answers.specs.declared.command_fault.CommandFault.TheVariants.{Instance, Plan, Names, Read, Write, InputTooLong, Log, LogInUse, Memory}
 use Rattle.command_answers.specs.DecisionLines.{within_line}
-use Rattle.command_answers.specs.Deciding.{CanBeTold, IsDecidedAnswer, IsDecisionAnswer, IsUndecidedAnswer}
+use Rattle.command_answers.specs.Deciding.{IsAnswerable, IsDecidedAnswer, IsDecisionAnswer, IsUndecidedAnswer}
 use Rattle.command_answers.specs.Documents.{IsDocumentAnswer, IsHeadedAnswer}
 
 module _ (names : NameBook) (t : Case) (aim : Aim) where
@@ -62,14 +62,14 @@ module _ (names : NameBook) (t : Case) (aim : Aim) where
   decided_is planned (Open back) (Err fault) kept best never left_open text = rw text tt
 
 -- that a job isn't of the shop is told of one that is asked for
-pub can_be_told : (t : Case) (aim : Aim) (fault : DecideFault) → IsDecideFault t aim fault → CanBeTold aim fault
-can_be_told t Promises JobOutOfRange is = is tt
-can_be_told t (Least Makespan) JobOutOfRange is = is tt
-can_be_told t (Least (Leaving j)) JobOutOfRange is = tt
-can_be_told t aim WantOfMemory is = tt
-can_be_told t aim (LogFault fault) is = absurd is
-can_be_told t aim (EarlierMoment last) is = absurd is
-can_be_told t aim MomentTooLarge is = absurd is
+pub is_answerable : (t : Case) (aim : Aim) (fault : DecideFault) → IsDecideFault t aim fault → IsAnswerable aim fault
+is_answerable t Promises JobOutOfRange is = is tt
+is_answerable t (Least Makespan) JobOutOfRange is = is tt
+is_answerable t (Least (Leaving j)) JobOutOfRange is = tt
+is_answerable t aim WantOfMemory is = tt
+is_answerable t aim (LogFault fault) is = absurd is
+is_answerable t aim (EarlierMoment last) is = absurd is
+is_answerable t aim MomentTooLarge is = absurd is
 
 pub outside : (j n : ℕ) → (j < n → ⊥) → n ≤ j
 outside j n isnt = omega (arith, isnt)

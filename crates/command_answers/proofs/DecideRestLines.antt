@@ -24,7 +24,7 @@ use Rattle.plan_decide.specs.Decisions.{IsBest, IsKept, OnBest, OnKept, OnNever,
 use Rattle.command_answers.specs.declared.answer.Answer.{Answer}
 use Rattle.command_answers.specs.declared.command_fault.CommandFault.{CommandFault}
 use Rattle.command_answers.specs.declared.command_fault.CommandFault.TheVariants.{Instance, Plan, Names, Read, Write, InputTooLong, Log, LogInUse, Memory}
-use Rattle.command_answers.specs.Deciding.{CanBeTold, IsDecidedAnswer, IsDecisionAnswer, IsUndecidedAnswer}
+use Rattle.command_answers.specs.Deciding.{IsAnswerable, IsDecidedAnswer, IsDecisionAnswer, IsUndecidedAnswer}
 use Rattle.command_answers.specs.DecidingRests.{IsRestDecisionAnswer}
 use Rattle.command_answers.specs.LogLines.{IsLogRefused}
 use Rattle.command_answers.specs.Rests.{IsPastLine}
@@ -82,14 +82,14 @@ never_large None last early is = is
 never_large (Some n) last early is = omega (arith, is.1, early)
 
 -- why nothing is decided can be told
-pub rest_can_be_told : (at : Option ℕ) (lines : List (List ℕ)) (start : PlannedShop) (aim : Aim) (fault : DecideFault) → IfSome at (λ n. n ≤ MAX_MOMENT) → IsDecideRestFault lines at start aim fault → CanBeTold aim fault
-rest_can_be_told at lines start Promises JobOutOfRange early is = is tt
-rest_can_be_told at lines start (Least Makespan) JobOutOfRange early is = is tt
-rest_can_be_told at lines start (Least (Leaving j)) JobOutOfRange early is = tt
-rest_can_be_told at lines start aim (LogFault fault) early is = tt
-rest_can_be_told at lines start aim (EarlierMoment last) early is = tt
-rest_can_be_told at lines start aim MomentTooLarge early is = never_large at is.1.0.last early is.1.2
-rest_can_be_told at lines start aim WantOfMemory early is = tt
+pub rest_is_answerable : (at : Option ℕ) (lines : List (List ℕ)) (start : PlannedShop) (aim : Aim) (fault : DecideFault) → IfSome at (λ n. n ≤ MAX_MOMENT) → IsDecideRestFault lines at start aim fault → IsAnswerable aim fault
+rest_is_answerable at lines start Promises JobOutOfRange early is = is tt
+rest_is_answerable at lines start (Least Makespan) JobOutOfRange early is = is tt
+rest_is_answerable at lines start (Least (Leaving j)) JobOutOfRange early is = tt
+rest_is_answerable at lines start aim (LogFault fault) early is = tt
+rest_is_answerable at lines start aim (EarlierMoment last) early is = tt
+rest_is_answerable at lines start aim MomentTooLarge early is = never_large at is.1.0.last early is.1.2
+rest_is_answerable at lines start aim WantOfMemory early is = tt
 
 module _ (names : NameBook) (at : Option ℕ) (lines : List (List ℕ)) (start : PlannedShop) where
   -- a line, or that memory ran out

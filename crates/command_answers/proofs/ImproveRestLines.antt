@@ -10,7 +10,7 @@ use Rattle.std.specs.Prelude.{IfSome}
 use Rattle.alt_graph.specs.Evidence.{IsCycle}
 use Rattle.alt_graph.specs.Solved.{HasCycle}
 use Rattle.alt_graph.proofs.WholePlans.{cycle_has}
-use Rattle.run_log.specs.Audits.{TellRun, IsFirstBad, IsAuditFault}
+use Rattle.run_log.specs.Audits.{ParseAsRun, IsFirstBad, IsAuditFault}
 use Rattle.run_log.specs.declared.audit_fault.AuditFault.{AuditFault}
 use Rattle.run_log.specs.declared.audit_fault.AuditFault.TheVariants.{BadLine, NotExpected, Backwards, NotReady, Occupied, NotClean, OutOfOrder, WrongPlace, Memory as LogMemory}
 use Rattle.plan_seek.specs.declared.search.TheConstants.{MAX_ROUNDS}
@@ -36,8 +36,8 @@ use Rattle.command_answers.specs.Steps.{IsOrMemory}
 use Rattle.command_answers.specs.ImprovingRests.{RestAsked, IsBestRest, IsRestStatus, IsRestAnswer, IsJudgedAnswer, IsUnfoundAnswer}
 
 -- the cell of lines that tell a run
-cell_there : (lines : List (List ℕ)) (start : PlannedShop) → TellRun start lines → (c : Cell) × IsCellOf lines start c
-cell_there lines start run = (ends_in start (events_of run.0), record { told = run.0; tells = run.1; run = record { run = run.2; cell = refl } })
+cell_there : (lines : List (List ℕ)) (start : PlannedShop) → ParseAsRun start lines → (c : Cell) × IsCellOf lines start c
+cell_there lines start run = (ends_in start (events_of run.0), record { entries = run.0; parse = run.1; run = record { run = run.2; cell = refl } })
 
 -- a first bad line is a fault of the audit
 audit_of : (p : PlannedShop) (lines : List (List ℕ)) (fault : AuditFault) → IsFirstBad p lines fault → IsAuditFault p lines fault
@@ -88,8 +88,8 @@ module _ (made : RestAsked) (at : Option ℕ) (rounds : ℕ) (lines : List (List
   text_is c best status (Err (Plan fault)) few here present is says text = (text.0, few, record { cell = c; run = here; present = present; best = best; is = is; unreadable = text.1 })
   text_is c best status (Err Memory) few here present is says text = tt
 
-  module _ (best : PlannedShop) (few : rounds ≤ MAX_ROUNDS) (same : IsReordered start best) (begun : TellRun start lines)
-      (present : (c : Cell) → IsCellOf lines start c → IsNextMoment c (present_of at c.last)) (kept : TellRun best lines)
+  module _ (best : PlannedShop) (few : rounds ≤ MAX_ROUNDS) (same : IsReordered start best) (begun : ParseAsRun start lines)
+      (present : (c : Cell) → IsCellOf lines start c → IsNextMoment c (present_of at c.last)) (kept : ParseAsRun best lines)
       (acyclic : (HasCycle best → ⊥) ⊎ HasNoRestBegin lines start) (stays : HasNoRestBegin lines start → best ≡ start)
       (never_worse : (c : Cell) → IsCellOf lines start c → IsNeverWorse (rest_after lines (present_of at c.last)) start best)
       (found : (c : Cell) → IsCellOf lines start c → HasNoRestBegin lines start ⊎ IsFound (rest_after lines (present_of at c.last)) (made lines (present_of at c.last)) start best) where

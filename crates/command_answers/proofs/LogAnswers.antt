@@ -7,21 +7,21 @@ use Rattle.run_log.specs.Audits.{IsAuditFault, IsFirstBad}
 use Rattle.command_answers.specs.declared.answer.Answer.{Answer}
 use Rattle.command_answers.specs.declared.command_fault.CommandFault.{CommandFault}
 use Rattle.command_answers.specs.Steps.{IsOrMemory}
-use Rattle.command_answers.specs.LogLines.{IsFaultLine, IsFaultTold, IsLogRefused}
+use Rattle.command_answers.specs.LogLines.{IsFaultLine, IsLogFaultAnswer, IsLogRefused}
 
-module _ (p : PlannedShop) (lines : List (List ℕ)) (Is : Answer → Type 0) (told_so : (answer : Answer) → IsLogRefused p lines answer → Is answer) where
+module _ (p : PlannedShop) (lines : List (List ℕ)) (Is : Answer → Type 0) (answered_so : (answer : Answer) → IsLogRefused p lines answer → Is answer) where
   -- the line of a fault that is none of memory is what is told of these lines
-  line_told : (fault : AuditFault) (outcome : Result Answer CommandFault) → IsFirstBad p lines fault → IsOrMemory (IsFaultLine fault) outcome → IsOrMemory Is outcome
-  line_told fault (Ok answer) first line = told_so answer (record { fault = fault; first = first; line = line })
-  line_told fault (Err wanting) first line = line
+  line_answered : (fault : AuditFault) (outcome : Result Answer CommandFault) → IsFirstBad p lines fault → IsOrMemory (IsFaultLine fault) outcome → IsOrMemory Is outcome
+  line_answered fault (Ok answer) first line = answered_so answer (record { fault = fault; first = first; line = line })
+  line_answered fault (Err wanting) first line = line
 
-  pub refused_log : (fault : AuditFault) (outcome : Result Answer CommandFault) → IsAuditFault p lines fault → IsFaultTold fault outcome → IsOrMemory Is outcome
+  pub refused_log : (fault : AuditFault) (outcome : Result Answer CommandFault) → IsAuditFault p lines fault → IsLogFaultAnswer fault outcome → IsOrMemory Is outcome
   refused_log Memory outcome is told = rw told refl
-  refused_log (BadLine line) outcome is told = line_told (BadLine line) outcome is told
-  refused_log (NotExpected line) outcome is told = line_told (NotExpected line) outcome is told
-  refused_log (Backwards line) outcome is told = line_told (Backwards line) outcome is told
-  refused_log (NotReady line) outcome is told = line_told (NotReady line) outcome is told
-  refused_log (Occupied line) outcome is told = line_told (Occupied line) outcome is told
-  refused_log (OutOfOrder line) outcome is told = line_told (OutOfOrder line) outcome is told
-  refused_log (WrongPlace line) outcome is told = line_told (WrongPlace line) outcome is told
-  refused_log (NotClean line) outcome is told = line_told (NotClean line) outcome is told
+  refused_log (BadLine line) outcome is told = line_answered (BadLine line) outcome is told
+  refused_log (NotExpected line) outcome is told = line_answered (NotExpected line) outcome is told
+  refused_log (Backwards line) outcome is told = line_answered (Backwards line) outcome is told
+  refused_log (NotReady line) outcome is told = line_answered (NotReady line) outcome is told
+  refused_log (Occupied line) outcome is told = line_answered (Occupied line) outcome is told
+  refused_log (OutOfOrder line) outcome is told = line_answered (OutOfOrder line) outcome is told
+  refused_log (WrongPlace line) outcome is told = line_answered (WrongPlace line) outcome is told
+  refused_log (NotClean line) outcome is told = line_answered (NotClean line) outcome is told

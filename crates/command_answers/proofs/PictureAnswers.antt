@@ -7,7 +7,7 @@ use Rattle.text_lines.specs.Lines.{ended_lines}
 use Rattle.cell_tables.specs.declared.entry.Entry.{Entry}
 use Rattle.cell_tables.specs.Events.{events_of}
 use Rattle.run_log.specs.declared.audit_result.Audit.{Audit}
-use Rattle.run_log.specs.Audits.{TellRun}
+use Rattle.run_log.specs.Audits.{ParseAsRun}
 use Rattle.people_names.specs.NameBooks.{NameBook}
 use Rattle.run_picture.specs.declared.head.Sheet.{Sheet}
 use Rattle.run_picture.specs.declared.visit.DrawnVisit.{DrawnVisit}
@@ -15,7 +15,7 @@ use Rattle.run_picture.specs.declared.late_leaving.LateLeaving.{LateLeaving}
 use Rattle.run_picture.specs.Late.{late_leavings}
 use Rattle.run_picture.specs.PictureText.{IsPicture}
 use Rattle.run_gantt.specs.DrawnVisits.{drawn_visits}
-use Rattle.run_gantt.specs.LeavingsTold.{leavings_told}
+use Rattle.run_gantt.specs.LeavingsSoFar.{leavings_so_far}
 use Rattle.plan_schedule.specs.declared.picture_visits.DrawnRun.{DrawnRun}
 use Rattle.plan_schedule.specs.DrawnVisits.{IsDrawnRun}
 use Rattle.plan_explain.specs.RestVerdicts.{IsRestJudged}
@@ -33,12 +33,12 @@ same_picture names sheet other visits others late lates picture is are marks dra
 
 -- that of a log's entries
 pub audit_drawn : (names : NameBook) (p : PlannedShop) (run : Audit) (sheet : Sheet) (entries : List Entry) (visits : List DrawnVisit) (leavings lent : List (Option ℕ)) (late : List (Option LateLeaving)) (picture : List ℕ)
-    → sheet ≡ log_sheet p run → entries ≡ run.entries.items → visits ≡ drawn_visits p entries → leavings ≡ leavings_told (jobs p) entries → lent ≡ leavings → late ≡ late_leavings p lent
+    → sheet ≡ log_sheet p run → entries ≡ run.entries.items → visits ≡ drawn_visits p entries → leavings ≡ leavings_so_far (jobs p) entries → lent ≡ leavings → late ≡ late_leavings p lent
     → IsPicture names sheet visits late picture
-    → IsPicture names (log_sheet p run) (drawn_visits p run.entries.items) (late_leavings p (leavings_told (jobs p) run.entries.items)) picture
+    → IsPicture names (log_sheet p run) (drawn_visits p run.entries.items) (late_leavings p (leavings_so_far (jobs p) run.entries.items)) picture
 audit_drawn names p run sheet entries visits leavings lent late picture is same are left lends marks drawn =
-    same_picture names sheet (log_sheet p run) visits (drawn_visits p run.entries.items) late (late_leavings p (leavings_told (jobs p) run.entries.items)) picture is
-    (are ∙ ap (drawn_visits p) same) (marks ∙ ap (late_leavings p) (lends ∙ left ∙ ap (leavings_told (jobs p)) same)) drawn
+    same_picture names sheet (log_sheet p run) visits (drawn_visits p run.entries.items) late (late_leavings p (leavings_so_far (jobs p) run.entries.items)) picture is
+    (are ∙ ap (drawn_visits p) same) (marks ∙ ap (late_leavings p) (lends ∙ left ∙ ap (leavings_so_far (jobs p)) same)) drawn
 
 module _ (names : NameBook) (p : PlannedShop) (c : Cell) (t : ℕ) (line : Option ℕ) (told : List DrawnVisit) where
   -- that of a run, by what is drawn of it
@@ -64,7 +64,7 @@ rest_shown at names p c entries (Ok drawn) later is = inr (later, is)
 rest_shown at names p c entries (Err error) later is = tt
 
 -- what comes of the cell at the end of the run that a log tells
-pub run_shown : (at : Option ℕ) (names : NameBook) (p : PlannedShop) (log : List ℕ) (run : TellRun p (ended_lines log)) (q : PlannedShop) (c : Cell) (entries : List Entry) (drawn : Drawn)
+pub run_shown : (at : Option ℕ) (names : NameBook) (p : PlannedShop) (log : List ℕ) (run : ParseAsRun p (ended_lines log)) (q : PlannedShop) (c : Cell) (entries : List Entry) (drawn : Drawn)
     → q ≡ p → c ≡ ends_in p (events_of run.0) → entries ≡ run.0 → IsCellDrawn at names q c entries drawn → IsRestDrawing at names p log drawn
 run_shown at names p log run q c entries drawn plan cell same is =
     let of_entries : IsCellDrawn at names q c run.0 drawn = subst (λ (es : List Entry). IsCellDrawn at names q c es drawn) same is in

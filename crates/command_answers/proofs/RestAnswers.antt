@@ -5,7 +5,7 @@ use Rattle.shop_base.specs.Cell.{Cell}
 use Rattle.shop_base.specs.Run.{ends_in}
 use Rattle.text_lines.specs.Lines.{ended_lines}
 use Rattle.cell_tables.specs.Events.{events_of}
-use Rattle.run_log.specs.Audits.{TellRun}
+use Rattle.run_log.specs.Audits.{ParseAsRun}
 use Rattle.people_names.specs.NameBooks.{NameBook}
 use Rattle.plan_verifier.specs.declared.verdict.Judged.{Judged}
 use Rattle.plan_verifier.specs.declared.verdict.Judged.TheVariants.{Accepted, Refused}
@@ -15,14 +15,14 @@ use Rattle.alt_graph.specs.Evidence.{IsCycle}
 use Rattle.alt_graph.specs.Solved.{HasCycle}
 use Rattle.cell_control.specs.Begun.{IsRestFault}
 use Rattle.cell_control.specs.declared.rest_fault.RestFault.{RestFault}
-use Rattle.cell_control.specs.declared.rest_fault.RestFault.TheVariants.{MomentTooLarge, KeepsNot, Backwards, Cycle, Memory as WantOfMoves}
+use Rattle.cell_control.specs.declared.rest_fault.RestFault.TheVariants.{MomentTooLarge, IncompatiblePlan, Backwards, Cycle, Memory as WantOfMoves}
 use Rattle.plan_explain.specs.RestVerdicts.{HasRanks, IsRestJudged}
 use Rattle.command_answers.specs.declared.answer.Answer.{Answer}
 use Rattle.command_answers.specs.declared.command_fault.CommandFault.{CommandFault}
 use Rattle.command_answers.specs.Steps.{IsOrMemory}
-use Rattle.command_answers.specs.declared.rests.PlanTelling.{PlanTelling}
-use Rattle.command_answers.specs.Moves.{AreMovesOfLog, AreMovesTold, moves_command_fault}
-use Rattle.command_answers.specs.Rests.{IsCellTold, IsLogTold, IsPastLine, IsRestLine, IsRestTold, present_at, rest_status}
+use Rattle.command_answers.specs.declared.rests.PlanAnswer.{PlanAnswer}
+use Rattle.command_answers.specs.Moves.{AreMovesOfLog, IsMovesAnswer, moves_command_fault}
+use Rattle.command_answers.specs.Rests.{IsCellAnswer, IsLogAnswer, IsPastLine, IsRestLine, AnswersRest, present_at, rest_status}
 
 -- the present moment is within a limit where both that may be it are
 pub present_within : (most : ℕ) (at : Option ℕ) (last : ℕ) → IfSome at (λ n. n ≤ most) → last ≤ most → unwrap_or at last ≤ most
@@ -34,40 +34,40 @@ pub has_ranks : (p : PlannedShop) (c : Cell) (t : ℕ) (verdict : Judged) → Is
 has_ranks p c t (Accepted times) judged = judged.accepted.0.ranks
 has_ranks p c t (Refused why) judged = tt
 
-module _ {E : Type 0} (IsTold : PlannedShop → Cell → ℕ → Answer → Type 0) (at : Option ℕ) (p : PlannedShop) (c : Cell) (answered : Result Answer E) where
+module _ {E : Type 0} (AnswersAt : PlannedShop → Cell → ℕ → Answer → Type 0) (at : Option ℕ) (p : PlannedShop) (c : Cell) (answered : Result Answer E) where
   -- a moment that is past
-  pub past_told : present_at at c < c.last → IfOk answered (IsPastLine c.last) → IfOk answered (IsCellTold IsTold at p c)
-  past_told = go answered
+  pub past_answered : present_at at c < c.last → IfOk answered (IsPastLine c.last) → IfOk answered (IsCellAnswer AnswersAt at p c)
+  past_answered = go answered
     where
-      go : (r : Result Answer E) → present_at at c < c.last → IfOk r (IsPastLine c.last) → IfOk r (IsCellTold IsTold at p c)
+      go : (r : Result Answer E) → present_at at c < c.last → IfOk r (IsPastLine c.last) → IfOk r (IsCellAnswer AnswersAt at p c)
       go (Ok answer) past line = inl (past, line)
       go (Err error) past line = tt
 
   -- the rest from there
-  pub rest_told : c.last ≤ present_at at c → IfOk answered (IsTold p c (present_at at c)) → IfOk answered (IsCellTold IsTold at p c)
-  rest_told = go answered
+  pub answer_rest : c.last ≤ present_at at c → IfOk answered (AnswersAt p c (present_at at c)) → IfOk answered (IsCellAnswer AnswersAt at p c)
+  answer_rest = go answered
     where
-      go : (r : Result Answer E) → c.last ≤ present_at at c → IfOk r (IsTold p c (present_at at c)) → IfOk r (IsCellTold IsTold at p c)
+      go : (r : Result Answer E) → c.last ≤ present_at at c → IfOk r (AnswersAt p c (present_at at c)) → IfOk r (IsCellAnswer AnswersAt at p c)
       go (Ok answer) later told = inr (later, told)
       go (Err error) later told = tt
 
 -- what is told of the cell at the end of the run that a log tells
-pub of_run : (IsTold : PlannedShop → Cell → ℕ → Answer → Type 0) (at : Option ℕ) (p : PlannedShop) (log : List ℕ) (run : TellRun p (ended_lines log)) (q : PlannedShop) (c : Cell) (answer : Answer)
-    → q ≡ p → c ≡ ends_in p (events_of run.0) → IsCellTold IsTold at q c answer → IsLogTold IsTold at p log answer
-of_run IsTold at p log run q c answer plan cell told =
-    let at_end : IsCellTold IsTold at q (ends_in p (events_of run.0)) answer = subst (λ (d : Cell). IsCellTold IsTold at q d answer) cell told in
-    inl (record { run = run; told = subst (λ (x : PlannedShop). IsCellTold IsTold at x (ends_in p (events_of run.0)) answer) plan at_end })
+pub of_run : (AnswersAt : PlannedShop → Cell → ℕ → Answer → Type 0) (at : Option ℕ) (p : PlannedShop) (log : List ℕ) (run : ParseAsRun p (ended_lines log)) (q : PlannedShop) (c : Cell) (answer : Answer)
+    → q ≡ p → c ≡ ends_in p (events_of run.0) → IsCellAnswer AnswersAt at q c answer → IsLogAnswer AnswersAt at p log answer
+of_run AnswersAt at p log run q c answer plan cell told =
+    let at_end : IsCellAnswer AnswersAt at q (ends_in p (events_of run.0)) answer = subst (λ (d : Cell). IsCellAnswer AnswersAt at q d answer) cell told in
+    inl (record { run = run; told = subst (λ (x : PlannedShop). IsCellAnswer AnswersAt at x (ends_in p (events_of run.0)) answer) plan at_end })
 
 -- so of an outcome
-pub outcome_of_run : (IsTold : PlannedShop → Cell → ℕ → Answer → Type 0) (at : Option ℕ) (p : PlannedShop) (log : List ℕ) (run : TellRun p (ended_lines log)) (q : PlannedShop) (c : Cell) (outcome : Result Answer CommandFault)
-    → q ≡ p → c ≡ ends_in p (events_of run.0) → IsOrMemory (IsCellTold IsTold at q c) outcome → IsOrMemory (IsLogTold IsTold at p log) outcome
-outcome_of_run IsTold at p log run q c (Ok answer) plan cell told = of_run IsTold at p log run q c answer plan cell told
-outcome_of_run IsTold at p log run q c (Err fault) plan cell told = told
+pub outcome_of_run : (AnswersAt : PlannedShop → Cell → ℕ → Answer → Type 0) (at : Option ℕ) (p : PlannedShop) (log : List ℕ) (run : ParseAsRun p (ended_lines log)) (q : PlannedShop) (c : Cell) (outcome : Result Answer CommandFault)
+    → q ≡ p → c ≡ ends_in p (events_of run.0) → IsOrMemory (IsCellAnswer AnswersAt at q c) outcome → IsOrMemory (IsLogAnswer AnswersAt at p log) outcome
+outcome_of_run AnswersAt at p log run q c (Ok answer) plan cell told = of_run AnswersAt at p log run q c answer plan cell told
+outcome_of_run AnswersAt at p log run q c (Err fault) plan cell told = told
 
 -- where no moves are given, and memory hasn't run out, the plan has a cycle
 pub no_moves : (p : PlannedShop) (c : Cell) (t : ℕ) (fault : RestFault) → IsNextMoment c t → IsRestFault p c t fault → moves_command_fault fault ≡ None → HasCycle p
 no_moves p c t MomentTooLarge next is none = (let few = next.in_range in absurd (omega (arith, is, few)))
-no_moves p c t KeepsNot next is none = absurd is
+no_moves p c t IncompatiblePlan next is none = absurd is
 no_moves p c t (Backwards last) next is none = (let later = next.in_order in let sooner = is.1 in absurd (omega (arith, later, sooner)))
 no_moves p c t (Cycle nodes) next is none = found nodes.items is.1
   where
@@ -82,22 +82,22 @@ low_verdict : (verdict : Judged) (status : ℕ) → status ≡ rest_status verdi
 low_verdict (Accepted times) status is = omega (arith, is)
 low_verdict (Refused why) status is = omega (arith, is)
 
-low_cell : (IsTold : PlannedShop → Cell → ℕ → Answer → Type 0) → ((q : PlannedShop) (d : Cell) (t : ℕ) (answer : Answer) → IsTold q d t answer → answer.status ≤ 1)
-    → (at : Option ℕ) (p : PlannedShop) (c : Cell) (answer : Answer) → IsCellTold IsTold at p c answer → answer.status ≤ 1
-low_cell IsTold low at p c answer (inl past) = (let one = past.1.1 in omega (arith, one))
-low_cell IsTold low at p c answer (inr rest) = low p c _ answer rest.1
+low_cell : (AnswersAt : PlannedShop → Cell → ℕ → Answer → Type 0) → ((q : PlannedShop) (d : Cell) (t : ℕ) (answer : Answer) → AnswersAt q d t answer → answer.status ≤ 1)
+    → (at : Option ℕ) (p : PlannedShop) (c : Cell) (answer : Answer) → IsCellAnswer AnswersAt at p c answer → answer.status ≤ 1
+low_cell AnswersAt low at p c answer (inl past) = (let one = past.1.1 in omega (arith, one))
+low_cell AnswersAt low at p c answer (inr rest) = low p c _ answer rest.1
 
-low_log : (IsTold : PlannedShop → Cell → ℕ → Answer → Type 0) → ((q : PlannedShop) (d : Cell) (t : ℕ) (answer : Answer) → IsTold q d t answer → answer.status ≤ 1)
-    → (at : Option ℕ) (p : PlannedShop) (log : List ℕ) (answer : Answer) → IsLogTold IsTold at p log answer → answer.status ≤ 1
-low_log IsTold low at p log answer (inl run) = low_cell IsTold low at p _ answer run.told
-low_log IsTold low at p log answer (inr refused) = (let one = refused.line.1 in omega (arith, one))
+low_log : (AnswersAt : PlannedShop → Cell → ℕ → Answer → Type 0) → ((q : PlannedShop) (d : Cell) (t : ℕ) (answer : Answer) → AnswersAt q d t answer → answer.status ≤ 1)
+    → (at : Option ℕ) (p : PlannedShop) (log : List ℕ) (answer : Answer) → IsLogAnswer AnswersAt at p log answer → answer.status ≤ 1
+low_log AnswersAt low at p log answer (inl run) = low_cell AnswersAt low at p _ answer run.told
+low_log AnswersAt low at p log answer (inr refused) = (let one = refused.line.1 in omega (arith, one))
 
 -- the status of what is told of the rest is 0 or 1
-pub low_rest : (names : NameBook) (telling : PlanTelling) (at : Option ℕ) (p : PlannedShop) (log : List ℕ) (answer : Answer) → IsRestLine names telling at p log answer → answer.status ≤ 1
-low_rest names telling = low_log (IsRestTold names telling) (λ q d t answer told. low_verdict told.verdict answer.status told.status)
+pub low_rest : (names : NameBook) (wanted : PlanAnswer) (at : Option ℕ) (p : PlannedShop) (log : List ℕ) (answer : Answer) → IsRestLine names wanted at p log answer → answer.status ≤ 1
+low_rest names wanted = low_log (AnswersRest names wanted) (λ q d t answer told. low_verdict told.verdict answer.status told.status)
 
-pub low_moves : (names : NameBook) (p : PlannedShop) (c : Cell) (t : ℕ) (answer : Answer) → AreMovesTold names p c t answer → answer.status ≤ 1
+pub low_moves : (names : NameBook) (p : PlannedShop) (c : Cell) (t : ℕ) (answer : Answer) → IsMovesAnswer names p c t answer → answer.status ≤ 1
 low_moves names p c t answer told = low_verdict told.verdict answer.status told.status
 
 pub low_log_moves : (names : NameBook) (at : Option ℕ) (p : PlannedShop) (log : List ℕ) (answer : Answer) → AreMovesOfLog names at p log answer → answer.status ≤ 1
-low_log_moves names = low_log (AreMovesTold names) (low_moves names)
+low_log_moves names = low_log (IsMovesAnswer names) (low_moves names)

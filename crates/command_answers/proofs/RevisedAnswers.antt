@@ -8,7 +8,7 @@ use Rattle.shop_base.specs.Cell.{Cell}
 use Rattle.shop_base.specs.Run.{ends_in}
 use Rattle.text_lines.specs.Lines.{ended_lines}
 use Rattle.cell_tables.specs.Events.{events_of}
-use Rattle.run_log.specs.Audits.{TellRun}
+use Rattle.run_log.specs.Audits.{ParseAsRun}
 use Rattle.orlib_read.specs.declared.not_written.NotWritten.{NotWritten}
 use Rattle.orlib_read.specs.declared.not_written.NotWritten.TheVariants.{NotReadBack as NotRead, Memory as WantOfMemory}
 use Rattle.plan_revise.specs.declared.change.Change.{Change}
@@ -39,12 +39,12 @@ module _ (p : PlannedShop) (c : Cell) (t : ℕ) (changes : List Change) where
     refused_at NoMemory outcome is wanting = rw wanting refl
 
     -- what is answered where nothing is changed
-    pub refused_told : (told : NotRevised) (why : Unrevised) (outcome : Result Answer CommandFault) → IsReason p c t changes told → why ≡ unrevised_of told → IsUnrevised changes values why outcome
+    pub refused_answered : (told : NotRevised) (why : Unrevised) (outcome : Result Answer CommandFault) → IsReason p c t changes told → why ≡ unrevised_of told → IsUnrevised changes values why outcome
         → IsOrMemory (IsChangeRefused prints description changes values p c t) outcome
-    refused_told told why outcome is same answered = refused_at told outcome is (subst (λ (x : Unrevised). IsUnrevised changes values x outcome) same answered)
+    refused_answered told why outcome is same answered = refused_at told outcome is (subst (λ (x : Unrevised). IsUnrevised changes values x outcome) same answered)
 
 -- what is answered of the cell at the end of the run that a log tells
-pub of_run : (prints : Revised) (description : List ℕ) (at : Option ℕ) (changes : List Change) (values : List (List ℕ)) (p : PlannedShop) (log : List ℕ) (run : TellRun p (ended_lines log))
+pub of_run : (prints : Revised) (description : List ℕ) (at : Option ℕ) (changes : List Change) (values : List (List ℕ)) (p : PlannedShop) (log : List ℕ) (run : ParseAsRun p (ended_lines log))
     (q : PlannedShop) (c : Cell) (outcome : Result Answer CommandFault) → q ≡ p → c ≡ ends_in p (events_of run.0)
     → IsRevisedFrom prints description at changes values q c outcome → IsReviseAnswer prints description at changes values p log outcome
 of_run prints description at changes values p log run q c outcome plan cell told =

@@ -9,7 +9,7 @@ use Rattle.plan_bounds.specs.declared.makespan.LeastMakespan.{LeastMakespan}
 use Rattle.plan_bounds.specs.Bounds.{ShopTimes, times_of, job_count, job_bound}
 use Rattle.plan_bounds.specs.Makespan.{IsLeastMakespan}
 use Rattle.people_names.specs.NameBooks.{NameBook, no_names}
-use Rattle.people_names.specs.Words.{job_word, machine_word, moment_word, is_budget_told}
+use Rattle.people_names.specs.Words.{job_word, machine_word, moment_word, is_budget_printed}
 use Rattle.plan_explain.specs.Arcs.{before}
 use Rattle.command_answers.specs.declared.answer.Answer.{Answer}
 use Rattle.command_answers.specs.Shapes.{IsLineOfFault}
@@ -28,7 +28,7 @@ makespan_line names least = before (codes "makespan at least " ∷ moment_word n
 abbrev pub budget_words : NameBook → ℕ → ℕ → List ℕ
 budget_words names bound budget =
     if nat_lt budget bound then codes " budget " ++ (moment_word names budget ++ codes " never")
-    else if is_budget_told names budget then codes " budget " ++ moment_word names budget
+    else if is_budget_printed names budget then codes " budget " ++ moment_word names budget
     else codes " no budget"
 
 -- `job J leaves at least N budget B`, and ` never` where N is past B

@@ -8,7 +8,7 @@ use Rattle.plan_verifier.specs.declared.verdict.Verdict.{Verdict}
 use Rattle.plan_verifier.specs.declared.verdict.Verdict.TheVariants.{Accepted, Refused}
 use Rattle.plan_verifier.specs.Accepted.{VerifiedPlan, IsAcceptable}
 use Rattle.plan_verifier.specs.Verdicts.{OnAccepted, OnRefused, IsFirstLate, IsReason}
-use Rattle.plan_explain.specs.FirstLines.{cycle_line, refused_late_line, TellsAccepted, IsFirstLine}
+use Rattle.plan_explain.specs.FirstLines.{cycle_line, refused_late_line, IsAcceptedFirstLine, IsFirstLine}
 use Rattle.command_answers.specs.declared.answer.Answer.{Answer}
 use Rattle.command_answers.specs.declared.loading.Loaded.{Loaded}
 use Rattle.command_answers.specs.declared.loading.Loaded.TheVariants.{NotShaped, Judged}
@@ -39,7 +39,7 @@ accepted_in (NotShaped fault) = Err (NotShaped fault)
 -- the line of an accepted plan
 pub record IsAcceptedLine (p : PlannedShop) (answer : Answer) : Type 0 where
   pub acceptable : IsAcceptable p
-  pub line : TellsAccepted p answer.text.items
+  pub line : IsAcceptedFirstLine p answer.text.items
   pub good : answer.status ≡ 0
 
 -- the line of a plan with a cycle

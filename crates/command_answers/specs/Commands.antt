@@ -33,9 +33,9 @@ use Rattle.command_answers.specs.Digests.{IsDigestAnswer}
 use Rattle.command_answers.specs.DecidingRests.{IsRestDecisionAnswer, IsUnfitLine}
 use Rattle.command_answers.specs.Search.{IsSearchAnswer}
 use Rattle.command_answers.specs.Improving.{IsImproveAnswer, ordered}
-use Rattle.command_answers.specs.declared.logs.Telling.{Telling}
+use Rattle.command_answers.specs.declared.logs.LogAnswer.{LogAnswer}
 use Rattle.command_answers.specs.LogLines.{IsLogLine}
-use Rattle.command_answers.specs.declared.rests.PlanTelling.{PlanTelling}
+use Rattle.command_answers.specs.declared.rests.PlanAnswer.{PlanAnswer}
 use Rattle.command_answers.specs.Rests.{IsRestLine, job_asked}
 use Rattle.command_answers.specs.ImprovingRests.{RestAsked, IsRestAnswer}
 use Rattle.text_lines.specs.Lines.{ended_lines}
@@ -156,13 +156,13 @@ module _ {W : Type 0} (gives : W → List ℕ → Result (List ℕ) CommandFault
   WithLogOf Comes path p = IfShaped p (Then (Asks gives path) (λ log. Told (Comes p log)))
 
   -- `audit` and `gantt`: both are read, then the names, and then the log
-  abbrev pub RunsLog : Telling → PairOfFiles → Option (List ℕ) → List ℕ → W → Result Answer CommandFault → W → Type 0
-  RunsLog telling pair names log = WithBoth pair (λ p. IfShaped p (WithNamesAndLog names log p (λ book. IsLogLine book telling p)))
+  abbrev pub RunsLog : LogAnswer → PairOfFiles → Option (List ℕ) → List ℕ → W → Result Answer CommandFault → W → Type 0
+  RunsLog wanted pair names log = WithBoth pair (λ p. IfShaped p (WithNamesAndLog names log p (λ book. IsLogLine book wanted p)))
 
   -- `check`, `explain` and `schedule` of the rest of a run: both are read, then the names, and then its log
-  abbrev pub RunsRest : PlanTelling → Option ℕ → PairOfFiles → Option (List ℕ) → List ℕ → W → Result Answer CommandFault → W → Type 0
-  RunsRest telling at pair names log =
-      WithBoth pair (λ p. IfShaped p (IfThere (job_asked telling) p (WithNamesAndLog names log p (λ book. IsRestLine book telling at p))))
+  abbrev pub RunsRest : PlanAnswer → Option ℕ → PairOfFiles → Option (List ℕ) → List ℕ → W → Result Answer CommandFault → W → Type 0
+  RunsRest wanted at pair names log =
+      WithBoth pair (λ p. IfShaped p (IfThere (job_asked wanted) p (WithNamesAndLog names log p (λ book. IsRestLine book wanted at p))))
 
   -- `schedule --moves` of the rest of a run: both are read, then the names, and then its log
   abbrev pub RunsRestMoves : Option ℕ → PairOfFiles → Option (List ℕ) → List ℕ → W → Result Answer CommandFault → W → Type 0

@@ -24,7 +24,7 @@ use Rattle.command_answers.specs.declared.command_fault.CommandFault.TheVariants
 use Rattle.command_answers.specs.AskedJobs.{no_job_line}
 use Rattle.command_answers.specs.DecisionLines.{never_lines, within_line}
 use Rattle.command_answers.specs.Documents.{IsDocumentOf, IsDocumentAnswer, IsHeadedBy, IsHeadedAnswer}
-use Rattle.command_answers.specs.LogLines.{IsFaultTold, IsLogRefused}
+use Rattle.command_answers.specs.LogLines.{IsLogFaultAnswer, IsLogRefused}
 use Rattle.command_answers.specs.Rests.{IsPastLine}
 use Rattle.command_answers.specs.Steps.{IsOrMemory}
 
@@ -104,10 +104,10 @@ AsksForJob (Least Makespan) = ⊥
 AsksForJob (Least (Leaving j)) = Unit {0}
 
 -- that the job isn't of the shop is told only of one that is asked for
-abbrev pub CanBeTold : Aim → DecideFault → Type 0
-CanBeTold aim JobOutOfRange = AsksForJob aim
-CanBeTold aim MomentTooLarge = ⊥
-CanBeTold aim fault = Unit {0}
+abbrev pub IsAnswerable : Aim → DecideFault → Type 0
+IsAnswerable aim JobOutOfRange = AsksForJob aim
+IsAnswerable aim MomentTooLarge = ⊥
+IsAnswerable aim fault = Unit {0}
 
 -- `bad numbers JobOutOfRange job J`
 abbrev pub out_of_range_line : Aim → List ℕ
@@ -118,7 +118,7 @@ out_of_range_line (Least (Leaving j)) = no_job_line j
 -- what is answered where nothing is decided: the line of a job that isn't of the shop, of the log's first fault, or of a moment that is past; or that memory ran out
 abbrev pub IsUndecidedAnswer : Aim → DecideFault → Result Answer CommandFault → Type 0
 IsUndecidedAnswer aim JobOutOfRange outcome = IsOrMemory (IsLineRefused (out_of_range_line aim)) outcome
-IsUndecidedAnswer aim (Log fault) outcome = IsFaultTold fault outcome
+IsUndecidedAnswer aim (Log fault) outcome = IsLogFaultAnswer fault outcome
 IsUndecidedAnswer aim (Past last) outcome = IsOrMemory (IsPastLine last) outcome
 IsUndecidedAnswer aim MomentTooLarge outcome = Unit {0}
 IsUndecidedAnswer aim WantOfMemory outcome = outcome ≡ Err Memory

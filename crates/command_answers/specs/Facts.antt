@@ -3,7 +3,7 @@ use Rattle.std.specs.Prelude.{◌≡◌, ℕ, ◌+◌, List, ◌++◌, length, c
 use Rattle.shop_base.specs.Shop.{JobShop, operations_of}
 use Rattle.shop_base.specs.Work.{work_of}
 use Rattle.command_answers.specs.declared.answer.Answer.{Answer}
-use Rattle.command_answers.specs.Instances.{Tells}
+use Rattle.command_answers.specs.Instances.{ParsesAs}
 
 -- the line of an instance's facts
 unfoldable pub facts_line : JobShop → List ℕ
@@ -21,8 +21,8 @@ pub record AreFacts (answer : Answer) (shop : JobShop) : Type 0 where
   pub good : answer.status ≡ 0
 
 -- the answer is the line of the facts of a shop that the text tells
-pub record AreToldFacts (text : List ℕ) (name : Option (List ℕ)) (answer : Answer) : Type 0 where
+pub record AreFactsOfText (text : List ℕ) (name : Option (List ℕ)) (answer : Answer) : Type 0 where
   pub description : List ℕ
   pub shop : JobShop
-  pub tells : Tells text name description shop
+  pub tells : ParsesAs text name description shop
   pub facts : AreFacts answer shop

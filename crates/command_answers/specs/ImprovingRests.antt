@@ -6,7 +6,7 @@ use Rattle.shop_base.specs.Cell.{Cell}
 use Rattle.shop_base.specs.Report.{IsNextMoment}
 use Rattle.alt_graph.specs.Evidence.{IsCycle}
 use Rattle.alt_graph.specs.Solved.{HasCycle}
-use Rattle.run_log.specs.Audits.{TellRun}
+use Rattle.run_log.specs.Audits.{ParseAsRun}
 use Rattle.plan_text.specs.declared.plan_fault.PlanFault.TheVariants.{NotReadBack}
 use Rattle.plan_text.specs.Lines.{plan_lines}
 use Rattle.plan_text.specs.Documents.{IsPlanText}
@@ -29,7 +29,7 @@ use Rattle.command_answers.specs.declared.command_fault.CommandFault.{CommandFau
 use Rattle.command_answers.specs.declared.command_fault.CommandFault.TheVariants.{Plan, Memory}
 use Rattle.command_answers.specs.Documents.{IsDocumentOf, IsDocumentAnswer}
 use Rattle.command_answers.specs.Improving.{IsTooManyLine}
-use Rattle.command_answers.specs.LogLines.{IsFaultTold, IsLogRefused}
+use Rattle.command_answers.specs.LogLines.{IsLogFaultAnswer, IsLogRefused}
 use Rattle.command_answers.specs.Rests.{IsPastLine}
 use Rattle.command_answers.specs.Steps.{IsOrMemory}
 
@@ -44,7 +44,7 @@ RestRoundsOf rounds may improvers lines t = Rounds (rest_after lines t) may impr
 -- the best plan that is met for the rest: only the orders may differ, the log tells a run of it, no cycle, never worse for the rest than the one with which the search begins, exactly what the questions make of that, and its rest is accepted if the start's is
 pub record IsBestRest (made : RestAsked) (lines : List (List ℕ)) (t : ℕ) (c : Cell) (start best : PlannedShop) : Type 0 where
   pub same : IsReordered start best
-  pub kept : TellRun best lines
+  pub kept : ParseAsRun best lines
   pub acyclic : HasCycle best → ⊥
   pub never_worse : IsNeverWorse (rest_after lines t) start best
   pub found : IsFound (rest_after lines t) (made lines t) start best
@@ -121,7 +121,7 @@ improve_command_fault fault = None
 -- what is answered where no plan is given
 abbrev pub IsUnfoundAnswer : ImproveFault → Result Answer CommandFault → Type 0
 IsUnfoundAnswer TooManyRounds outcome = IsOrMemory (λ answer. (answer.text.items ≡ codes "too many rounds\n") × (answer.status ≡ 1)) outcome
-IsUnfoundAnswer (Log fault) outcome = IsFaultTold fault outcome
+IsUnfoundAnswer (Log fault) outcome = IsLogFaultAnswer fault outcome
 IsUnfoundAnswer (Past last) outcome = IsOrMemory (IsPastLine last) outcome
 IsUnfoundAnswer MomentTooLarge outcome = Unit {0}
 IsUnfoundAnswer WantOfMemory outcome = outcome ≡ Err Memory

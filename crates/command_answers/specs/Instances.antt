@@ -9,9 +9,9 @@ use Rattle.command_answers.specs.declared.command_fault.CommandFault.{CommandFau
 use Rattle.command_answers.specs.declared.command_fault.CommandFault.TheVariants.{Instance, Memory}
 
 -- the text tells this description and this shop: as one instance, or as a collection under a name
-abbrev pub Tells : List ℕ → Option (List ℕ) → List ℕ → JobShop → Type 0
-Tells text None description shop = IsInstance text description shop
-Tells text (Some name) description shop = IsInstanceOf text name description shop
+abbrev pub ParsesAs : List ℕ → Option (List ℕ) → List ℕ → JobShop → Type 0
+ParsesAs text None description shop = IsInstance text description shop
+ParsesAs text (Some name) description shop = IsInstanceOf text name description shop
 
 -- this is what is wrong first with the text: as one instance, or as a collection under a name
 abbrev pub IsFirstInstanceFault : List ℕ → Option (List ℕ) → OrFault → Type 0

@@ -12,8 +12,8 @@ use Rattle.run_gantt.specs.GanttText.{gantt_text}
 use Rattle.command_answers.specs.declared.answer.Answer.{Answer}
 use Rattle.command_answers.specs.declared.command_fault.CommandFault.{CommandFault}
 use Rattle.command_answers.specs.declared.command_fault.CommandFault.TheVariants.{Memory as WantOfMemory}
-use Rattle.command_answers.specs.declared.logs.Telling.{Telling}
-use Rattle.command_answers.specs.declared.logs.Telling.TheVariants.{Numbers, Drawing}
+use Rattle.command_answers.specs.declared.logs.LogAnswer.{LogAnswer}
+use Rattle.command_answers.specs.declared.logs.LogAnswer.TheVariants.{Numbers, Drawing}
 use Rattle.command_answers.specs.Steps.{IsOrMemory}
 
 -- whether the run has ended, in words
@@ -30,18 +30,18 @@ abbrev pub log_refused_line : ℕ → List ℕ → List ℕ
 log_refused_line line name = codes "log refused " ++ decimal line ++ codes " " ++ name ++ codes "\n"
 
 -- what is told of a run: its numbers, or its Gantt text
-abbrev pub run_text : NameBook → Telling → PlannedShop → Audit → List ℕ
+abbrev pub run_text : NameBook → LogAnswer → PlannedShop → Audit → List ℕ
 run_text names Numbers p run = kept_line run
 run_text names Drawing p run = gantt_text names (machines p) run.entries.items
 
-abbrev pub IsRunTold : NameBook → Telling → PlannedShop → Audit → Answer → Type 0
-IsRunTold names telling p run answer = (answer.text.items ≡ run_text names telling p run) × (answer.status ≡ 0)
+abbrev pub IsRunAnswer : NameBook → LogAnswer → PlannedShop → Audit → Answer → Type 0
+IsRunAnswer names wanted p run answer = (answer.text.items ≡ run_text names wanted p run) × (answer.status ≡ 0)
 
 -- what is told of a log that tells a run of the plan
-pub record IsLogKept (names : NameBook) (telling : Telling) (p : PlannedShop) (log : List ℕ) (answer : Answer) : Type 0 where
+pub record IsLogKept (names : NameBook) (wanted : LogAnswer) (p : PlannedShop) (log : List ℕ) (answer : Answer) : Type 0 where
   pub run : Audit
   pub is : IsAudit p (lines_of log) run
-  pub told : IsRunTold names telling p run answer
+  pub told : IsRunAnswer names wanted p run answer
 
 -- the line of a fault
 abbrev pub IsFaultLine : AuditFault → Answer → Type 0
@@ -54,8 +54,8 @@ pub record IsLogRefused (p : PlannedShop) (lines : List (List ℕ)) (answer : An
   pub line : IsFaultLine fault answer
 
 -- what is told of a log
-abbrev pub IsLogLine : NameBook → Telling → PlannedShop → List ℕ → Answer → Type 0
-IsLogLine names telling p log answer = IsLogKept names telling p log answer ⊎ IsLogRefused p (lines_of log) answer
+abbrev pub IsLogLine : NameBook → LogAnswer → PlannedShop → List ℕ → Answer → Type 0
+IsLogLine names wanted p log answer = IsLogKept names wanted p log answer ⊎ IsLogRefused p (lines_of log) answer
 
 -- the fault of a command that the audit's is, if memory ran out
 abbrev pub audit_command_fault : AuditFault → Option CommandFault
@@ -63,6 +63,6 @@ audit_command_fault Memory = Some WantOfMemory
 audit_command_fault fault = None
 
 -- out of memory is a fault of the command, and any other fault is answered by its line, unless memory runs out
-abbrev pub IsFaultTold : AuditFault → Result Answer CommandFault → Type 0
-IsFaultTold Memory outcome = outcome ≡ Err WantOfMemory
-IsFaultTold fault outcome = IsOrMemory (IsFaultLine fault) outcome
+abbrev pub IsLogFaultAnswer : AuditFault → Result Answer CommandFault → Type 0
+IsLogFaultAnswer Memory outcome = outcome ≡ Err WantOfMemory
+IsLogFaultAnswer fault outcome = IsOrMemory (IsFaultLine fault) outcome

@@ -15,7 +15,7 @@ use Rattle.plan_moves.specs.MoveLines.{move_lines}
 use Rattle.command_answers.specs.declared.answer.Answer.{Answer}
 use Rattle.command_answers.specs.declared.command_fault.CommandFault.{CommandFault}
 use Rattle.command_answers.specs.declared.command_fault.CommandFault.TheVariants.{Memory as WantOfMemory}
-use Rattle.command_answers.specs.Rests.{IsLogTold, rest_status}
+use Rattle.command_answers.specs.Rests.{IsLogAnswer, rest_status}
 
 -- a line for each of the moves from cell c and moment t on
 pub record AreMoveLines (names : NameBook) (p : PlannedShop) (c : Cell) (t : ℕ) (lines : List ℕ) : Type 0 where
@@ -33,7 +33,7 @@ moves_command_fault Memory = Some WantOfMemory
 moves_command_fault fault = None
 
 -- what is told of the moves from cell c and moment t on: the first line of the verdict on the rest, with its status, and the moves below it
-pub record AreMovesTold (names : NameBook) (p : PlannedShop) (c : Cell) (t : ℕ) (answer : Answer) : Type 0 where
+pub record IsMovesAnswer (names : NameBook) (p : PlannedShop) (c : Cell) (t : ℕ) (answer : Answer) : Type 0 where
   pub verdict : Judged
   pub judged : IsRestJudged p c t verdict
   pub first : List ℕ
@@ -45,8 +45,8 @@ pub record AreMovesTold (names : NameBook) (p : PlannedShop) (c : Cell) (t : ℕ
 
 -- of a plan: the moves from the start on
 abbrev pub AreMovesOfPlan : NameBook → PlannedShop → Answer → Type 0
-AreMovesOfPlan names p = AreMovesTold names p (start p) 0
+AreMovesOfPlan names p = IsMovesAnswer names p (start p) 0
 
 -- of a log: the moves from the end of its run on, or the line of the first fault of its whole lines
 abbrev pub AreMovesOfLog : NameBook → Option ℕ → PlannedShop → List ℕ → Answer → Type 0
-AreMovesOfLog names at = IsLogTold (AreMovesTold names) at
+AreMovesOfLog names at = IsLogAnswer (IsMovesAnswer names) at

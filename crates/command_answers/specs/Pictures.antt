@@ -22,9 +22,9 @@ use Rattle.plan_explain.specs.FirstLines.{cycle_line}
 use Rattle.plan_schedule.specs.declared.picture_visits.DrawnRun.{DrawnRun}
 use Rattle.plan_schedule.specs.DrawnVisits.{IsDrawnRun}
 use Rattle.run_log.specs.declared.audit_result.Audit.{Audit}
-use Rattle.run_log.specs.Audits.{IsAudit, TellRun}
+use Rattle.run_log.specs.Audits.{IsAudit, ParseAsRun}
 use Rattle.run_gantt.specs.DrawnVisits.{drawn_visits}
-use Rattle.run_gantt.specs.LeavingsTold.{leavings_told}
+use Rattle.run_gantt.specs.LeavingsSoFar.{leavings_so_far}
 use Rattle.command_answers.specs.declared.answer.Answer.{Answer}
 use Rattle.command_answers.specs.declared.command_fault.CommandFault.{CommandFault}
 use Rattle.command_answers.specs.declared.pictures.Drawn.{Drawn}
@@ -59,7 +59,7 @@ log_sheet p run = record { machines = machines p; last = run.last; head = Log ru
 pub record IsLogPicture (names : NameBook) (p : PlannedShop) (log picture : List ℕ) : Type 0 where
   pub run : Audit
   pub is : IsAudit p (lines_of log) run
-  pub drawn : IsPicture names (log_sheet p run) (drawn_visits p run.entries.items) (late_leavings p (leavings_told (jobs p) run.entries.items)) picture
+  pub drawn : IsPicture names (log_sheet p run) (drawn_visits p run.entries.items) (late_leavings p (leavings_so_far (jobs p) run.entries.items)) picture
 
 -- what comes of a log: its picture, or the line of its first fault
 abbrev pub IsLogDrawn : NameBook → PlannedShop → List ℕ → Drawn → Type 0
@@ -122,7 +122,7 @@ IsCellDrawn at names p c entries drawn =
 
 -- what comes of a log whose whole lines tell a run of the plan: the run that goes on from the cell at its end
 pub record IsRestOfLogDrawn (at : Option ℕ) (names : NameBook) (p : PlannedShop) (log : List ℕ) (drawn : Drawn) : Type 0 where
-  pub run : TellRun p (ended_lines log)
+  pub run : ParseAsRun p (ended_lines log)
   pub is : IsCellDrawn at names p (ends_in p (events_of run.0)) run.0 drawn
 
 -- what comes of a log: so, or the line of the first fault of its whole lines

@@ -7,7 +7,7 @@ use Rattle.plan_text.specs.declared.plan_fault.PlanFault.TheVariants.{Memory as 
 use Rattle.plan_text.specs.Documents.{IsPlanText, IsFirstPlanFault}
 use Rattle.command_answers.specs.declared.command_fault.CommandFault.{CommandFault}
 use Rattle.command_answers.specs.declared.command_fault.CommandFault.TheVariants.{Instance, Plan, Memory}
-use Rattle.command_answers.specs.Instances.{Tells, IsRightInstanceFault}
+use Rattle.command_answers.specs.Instances.{ParsesAs, IsRightInstanceFault}
 
 -- the fault of the reader of plans as a command's
 abbrev pub plan_command_fault : PlanFault → CommandFault
@@ -28,24 +28,24 @@ IsPlanRefusal (Err Memory) fault = Unit {0}
 IsPlanRefusal (Err other) fault = ⊥
 
 -- the shop and the plan that the two texts tell
-pub record TellBoth (instance : List ℕ) (name : Option (List ℕ)) (text : List ℕ) (p : PlannedShop) : Type 0 where
+pub record BothParse (instance : List ℕ) (name : Option (List ℕ)) (text : List ℕ) (p : PlannedShop) : Type 0 where
   pub description : List ℕ
-  pub shop : Tells instance name description p.shop
+  pub shop : ParsesAs instance name description p.shop
   pub plan : IsPlanText text p.plan
 
 -- the instance tells some shop
-abbrev pub TellsAShop : List ℕ → Option (List ℕ) → Type 0
-TellsAShop instance name = (description : List ℕ) × (shop : JobShop) × Tells instance name description shop
+abbrev pub ParsesAsShop : List ℕ → Option (List ℕ) → Type 0
+ParsesAsShop instance name = (description : List ℕ) × (shop : JobShop) × ParsesAs instance name description shop
 
 -- the fault is the instance's, or, where that tells a shop, the plan text's, or that memory ran out
 abbrev pub IsRightOfBoth : List ℕ → Option (List ℕ) → List ℕ → CommandFault → Type 0
 IsRightOfBoth instance name text (Instance fault) = IsRightInstanceFault instance name (Instance fault)
-IsRightOfBoth instance name text (Plan fault) = TellsAShop instance name × IsRightPlanFault text (Plan fault)
+IsRightOfBoth instance name text (Plan fault) = ParsesAsShop instance name × IsRightPlanFault text (Plan fault)
 IsRightOfBoth instance name text Memory = Unit {0}
 IsRightOfBoth instance name text other = ⊥
 
 -- the answer is one that belongs to the shop and the plan that the two texts tell
 pub record IsOfBoth {A : Type 0} (instance : List ℕ) (name : Option (List ℕ)) (text : List ℕ) (Is : PlannedShop → A → Type 0) (answer : A) : Type 0 where
   pub planned : PlannedShop
-  pub tell : TellBoth instance name text planned
+  pub tell : BothParse instance name text planned
   pub is : Is planned answer

@@ -5,7 +5,7 @@ use Rattle.shop_base.specs.Cell.{Cell}
 use Rattle.shop_base.specs.Run.{ends_in}
 use Rattle.text_lines.specs.Lines.{ended_lines}
 use Rattle.cell_tables.specs.Events.{events_of}
-use Rattle.run_log.specs.Audits.{TellRun}
+use Rattle.run_log.specs.Audits.{ParseAsRun}
 use Rattle.plan_verifier.specs.declared.verdict.Judged.{Judged}
 use Rattle.plan_verifier.specs.declared.verdict.Judged.TheVariants.{Accepted, Refused}
 use Rattle.people_names.specs.NameBooks.{NameBook}
@@ -14,8 +14,8 @@ use Rattle.plan_explain.specs.RestFirstLines.{IsRestFirstLine}
 use Rattle.plan_explain.specs.RestExplained.{IsRestExplained}
 use Rattle.plan_schedule.specs.RestScheduled.{IsRestScheduled}
 use Rattle.command_answers.specs.declared.answer.Answer.{Answer}
-use Rattle.command_answers.specs.declared.rests.PlanTelling.{PlanTelling}
-use Rattle.command_answers.specs.declared.rests.PlanTelling.TheVariants.{Verdict, Reasons, Moments}
+use Rattle.command_answers.specs.declared.rests.PlanAnswer.{PlanAnswer}
+use Rattle.command_answers.specs.declared.rests.PlanAnswer.TheVariants.{Verdict, Reasons, Moments}
 use Rattle.command_answers.specs.LogLines.{IsLogRefused}
 
 -- the status of a verdict on the rest
@@ -24,22 +24,22 @@ rest_status (Accepted times) = 0
 rest_status (Refused why) = 1
 
 -- the job whose chain is asked for, if there is one
-abbrev pub job_asked : PlanTelling → Option ℕ
+abbrev pub job_asked : PlanAnswer → Option ℕ
 job_asked Verdict = None
 job_asked (Reasons told) = told
 job_asked Moments = None
 
 -- the text of a verdict on the rest: its first line, its explanation or its schedule
-abbrev pub IsTextOf : NameBook → PlanTelling → PlannedShop → Cell → ℕ → Judged → List ℕ → Type 0
+abbrev pub IsTextOf : NameBook → PlanAnswer → PlannedShop → Cell → ℕ → Judged → List ℕ → Type 0
 IsTextOf names Verdict p c t verdict text = IsRestFirstLine p c t verdict text
 IsTextOf names (Reasons told) p c t verdict text = IsRestExplained names told p c t verdict text
 IsTextOf names Moments p c t verdict text = IsRestScheduled names p c t verdict text
 
 -- what is told of the rest from a cell c and a present moment t on: the text of the verdict on it, with its status
-pub record IsRestTold (names : NameBook) (telling : PlanTelling) (p : PlannedShop) (c : Cell) (t : ℕ) (answer : Answer) : Type 0 where
+pub record AnswersRest (names : NameBook) (wanted : PlanAnswer) (p : PlannedShop) (c : Cell) (t : ℕ) (answer : Answer) : Type 0 where
   pub verdict : Judged
   pub judged : IsRestJudged p c t verdict
-  pub text : IsTextOf names telling p c t verdict answer.text.items
+  pub text : IsTextOf names wanted p c t verdict answer.text.items
   pub status : answer.status ≡ rest_status verdict
 
 -- `log past L`
@@ -55,19 +55,19 @@ abbrev pub present_at : Option ℕ → Cell → ℕ
 present_at at c = unwrap_or at c.last
 
 -- what is told from a cell on: that the present moment is past, or else this from there
-abbrev pub IsCellTold : (PlannedShop → Cell → ℕ → Answer → Type 0) → Option ℕ → PlannedShop → Cell → Answer → Type 0
-IsCellTold IsTold at p c answer =
-    ((present_at at c < c.last) × IsPastLine c.last answer) ⊎ ((c.last ≤ present_at at c) × IsTold p c (present_at at c) answer)
+abbrev pub IsCellAnswer : (PlannedShop → Cell → ℕ → Answer → Type 0) → Option ℕ → PlannedShop → Cell → Answer → Type 0
+IsCellAnswer AnswersAt at p c answer =
+    ((present_at at c < c.last) × IsPastLine c.last answer) ⊎ ((c.last ≤ present_at at c) × AnswersAt p c (present_at at c) answer)
 
 -- what is told of a log whose whole lines tell a run of the plan: that of the cell at its end
-pub record IsRestOfLog (IsTold : PlannedShop → Cell → ℕ → Answer → Type 0) (at : Option ℕ) (p : PlannedShop) (log : List ℕ) (answer : Answer) : Type 0 where
-  pub run : TellRun p (ended_lines log)
-  pub told : IsCellTold IsTold at p (ends_in p (events_of run.0)) answer
+pub record IsRestOfLog (AnswersAt : PlannedShop → Cell → ℕ → Answer → Type 0) (at : Option ℕ) (p : PlannedShop) (log : List ℕ) (answer : Answer) : Type 0 where
+  pub run : ParseAsRun p (ended_lines log)
+  pub told : IsCellAnswer AnswersAt at p (ends_in p (events_of run.0)) answer
 
 -- what is told of a log: so, or the line of the first fault of its whole lines
-abbrev pub IsLogTold : (PlannedShop → Cell → ℕ → Answer → Type 0) → Option ℕ → PlannedShop → List ℕ → Answer → Type 0
-IsLogTold IsTold at p log answer = IsRestOfLog IsTold at p log answer ⊎ IsLogRefused p (ended_lines log) answer
+abbrev pub IsLogAnswer : (PlannedShop → Cell → ℕ → Answer → Type 0) → Option ℕ → PlannedShop → List ℕ → Answer → Type 0
+IsLogAnswer AnswersAt at p log answer = IsRestOfLog AnswersAt at p log answer ⊎ IsLogRefused p (ended_lines log) answer
 
 -- so of the rest
-abbrev pub IsRestLine : NameBook → PlanTelling → Option ℕ → PlannedShop → List ℕ → Answer → Type 0
-IsRestLine names telling = IsLogTold (IsRestTold names telling)
+abbrev pub IsRestLine : NameBook → PlanAnswer → Option ℕ → PlannedShop → List ℕ → Answer → Type 0
+IsRestLine names wanted = IsLogAnswer (AnswersRest names wanted)

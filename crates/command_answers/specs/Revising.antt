@@ -9,7 +9,7 @@ use Rattle.alt_graph.specs.Evidence.{IsCycle}
 use Rattle.alt_graph.specs.Solved.{HasCycle}
 use Rattle.text_lines.specs.Lines.{ended_lines}
 use Rattle.cell_tables.specs.Events.{events_of}
-use Rattle.run_log.specs.Audits.{TellRun}
+use Rattle.run_log.specs.Audits.{ParseAsRun}
 use Rattle.orlib_read.specs.Instance.{IsInstance}
 use Rattle.orlib_read.specs.Lines.{instance_lines}
 use Rattle.orlib_read.specs.declared.not_written.NotWritten.{NotWritten}
@@ -54,12 +54,12 @@ printable_part [] = []
 printable_part (b ∷ bytes) = if is_printable b then b ∷ printable_part bytes else []
 
 -- the word of a change: the option, a blank and its value, up to the first byte that isn't printable
-abbrev pub word_told : Change → List ℕ → List ℕ
-word_told change value = flag_of change ++ printable_part value
+abbrev pub change_word : Change → List ℕ → List ℕ
+change_word change value = flag_of change ++ printable_part value
 
 -- `change refused WORD NAME`
 abbrev pub change_refused_line : Change → List ℕ → ChangeFault → List ℕ
-change_refused_line change value fault = codes "change refused " ++ word_told change value ++ codes " " ++ fault_name fault ++ codes "\n"
+change_refused_line change value fault = codes "change refused " ++ change_word change value ++ codes " " ++ fault_name fault ++ codes "\n"
 
 -- the fault of a command where no instance is written
 abbrev pub unwritten_fault : NotWritten → CommandFault
@@ -128,14 +128,14 @@ module _ (prints : Revised) (description : List ℕ) (changes : List Change) (va
   IsChanged outcome = IsRevisedText outcome ⊎ IsOrMemory IsChangeRefused outcome
 
   -- the line of a cycle of the plan
-  pub record IsCycleTold (answer : Answer) : Type 0 where
+  pub record IsCycleAnswer (answer : Answer) : Type 0 where
     pub nodes : List Node
     pub cycle : IsCycle p nodes
     pub line : IsCycleLine nodes answer
 
   -- what is answered from the cell and the present moment on: a plan with a cycle is refused, else the changes are made
   abbrev pub IsRevisedRest : Result Answer CommandFault → Type 0
-  IsRevisedRest outcome = IsOrMemory IsCycleTold outcome ⊎ ((HasCycle p → ⊥) × IsChanged outcome)
+  IsRevisedRest outcome = IsOrMemory IsCycleAnswer outcome ⊎ ((HasCycle p → ⊥) × IsChanged outcome)
 
 module _ (prints : Revised) (description : List ℕ) (at : Option ℕ) (changes : List Change) (values : List (List ℕ)) (p : PlannedShop) where
   -- what is answered from a cell on: that the present moment is past, or what is changed from there
@@ -146,7 +146,7 @@ module _ (prints : Revised) (description : List ℕ) (at : Option ℕ) (changes 
 
   -- what is answered of a log whose whole lines tell a run of the plan
   pub record IsRevisedRun (log : List ℕ) (outcome : Result Answer CommandFault) : Type 0 where
-    pub run : TellRun p (ended_lines log)
+    pub run : ParseAsRun p (ended_lines log)
     pub revised : IsRevisedFrom (ends_in p (events_of run.0)) outcome
 
   -- what is answered of a log: so, or the line of the first fault of its whole lines

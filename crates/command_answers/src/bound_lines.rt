@@ -98,16 +98,16 @@ fn put_budget(line: &mut Line, names: &Names, bound: Moment, budget: Moment)
 {
     if budget < bound {
         line.put_text(b" never");
-        put_told(line, names, budget);
-    } else if names.tells_budget(budget) {
-        put_told(line, names, budget);
+        put_budget_words(line, names, budget);
+    } else if names.prints_budget(budget) {
+        put_budget_words(line, names, budget);
     } else {
         line.put_text(b" no budget");
     }
 }
 
 /// Writes a budget.
-fn put_told(line: &mut Line, names: &Names, budget: Moment)
+fn put_budget_words(line: &mut Line, names: &Names, budget: Moment)
     requires { length line.old ≤ 7 }
     ensures written { line.new ≡ codes " budget " ++ (moment_word names.now budget ++ line.old) }
     ensures length { length line.new ≤ LONGEST_MOMENT + 8 + length line.old }

@@ -3,7 +3,7 @@
 ghost use Rattle.std.specs.Prelude.{◌≡◌, IfOk, None};
 ghost use Rattle.std.specs.Option.{option_copied};
 ghost use Rattle.plan_decide.specs.Pasts.{whole_case};
-ghost use Rattle.command_answers.specs.Deciding.{AsksForJob, CanBeTold, IsDecidedAnswer, IsDecisionAnswer, IsLineRefused, IsUndecidedAnswer, decide_command_fault, out_of_range_line};
+ghost use Rattle.command_answers.specs.Deciding.{AsksForJob, IsAnswerable, IsDecidedAnswer, IsDecisionAnswer, IsLineRefused, IsUndecidedAnswer, decide_command_fault, out_of_range_line};
 ghost use Rattle.command_answers.specs.DecisionLines.{never_lines, within_line};
 ghost use Rattle.command_answers.specs.Documents.{IsHeadedAnswer};
 ghost use Rattle.command_answers.specs.Commands.{RunsDecide, WithSoundNames};
@@ -14,7 +14,7 @@ use crate::both::{Both, Pair, read_both, serially};
 use crate::command_fault::Unanswered;
 use crate::decision_lines::{push_never_lines, push_within_line};
 use crate::lines::{bad_numbers_answer, document_answer, headed_answer, line_answer};
-use crate::logs::fault_told;
+use crate::logs::log_fault_answer;
 use crate::naming::names_of;
 use crate::rests::past_answer;
 use crate::texts::Texts;
@@ -123,7 +123,7 @@ fn never_answer(alloc: Global, names: &Names, excluded: &[Excluded]) -> Result<A
 /// Why nothing is decided: the line of a job that isn't of the shop, of the log's first fault or of a moment that is past, or
 /// that memory ran out.
 pub(crate) fn undecided_answer(alloc: Global, aim: Aim, fault: DecideFault) -> Answered
-    requires { CanBeTold aim fault }
+    requires { IsAnswerable aim fault }
     ensures { IsUndecidedAnswer aim fault result }
 {
     match Unanswered::from(fault).0 {
@@ -134,13 +134,13 @@ pub(crate) fn undecided_answer(alloc: Global, aim: Aim, fault: DecideFault) -> A
 
 /// The line that says why nothing is decided.
 fn refused_answer(alloc: Global, aim: Aim, fault: DecideFault) -> Answered
-    requires told { CanBeTold aim fault }
+    requires told { IsAnswerable aim fault }
     requires memory { decide_command_fault fault ≡ None }
     ensures { IsUndecidedAnswer aim fault result }
 {
     match fault {
         DecideFault::JobOutOfRange => Ok(out_of_range_answer(alloc, aim)?),
-        DecideFault::Log(fault) => fault_told(alloc, fault),
+        DecideFault::Log(fault) => log_fault_answer(alloc, fault),
         DecideFault::Past { last } => Ok(past_answer(alloc, last)?),
         DecideFault::MomentTooLarge => unreachable!(),
         DecideFault::Memory => unreachable!(),

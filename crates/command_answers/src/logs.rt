@@ -2,7 +2,7 @@
 
 ghost use Rattle.std.specs.Prelude.{◌≡◌, IfOk};
 ghost use Rattle.std.specs.Option.{option_copied};
-ghost use Rattle.command_answers.specs.LogLines.{IsRunTold, IsLogLine, IsFaultTold, kept_line, end_words};
+ghost use Rattle.command_answers.specs.LogLines.{IsRunAnswer, IsLogLine, IsLogFaultAnswer, kept_line, end_words};
 ghost use Rattle.command_answers.specs.Steps.{IsOrMemory};
 ghost use Rattle.command_answers.specs.Commands.{RunsLog};
 
@@ -21,7 +21,7 @@ use std::alloc::{AllocError, Global};
 
 /// What is answered for a log that records a run.
 #[derive(Clone, Copy, Debug, PartialEq, Eq)]
-pub enum Telling {
+pub enum LogAnswer {
     /// Its numbers, as `audit` does.
     Numbers,
     /// Its Gantt text, as `gantt` does.
@@ -36,43 +36,43 @@ pub fn log_answer<T: Texts>(
     pair: &Pair<'_>,
     names: Option<&str>,
     log: &str,
-    telling: Telling,
+    wanted: LogAnswer,
 ) -> Answered
-    ensures { RunsLog T.gives telling pair.now (option_copied names.entry) log.now texts.old result texts.new }
+    ensures { RunsLog T.gives wanted pair.now (option_copied names.entry) log.now texts.old result texts.new }
 {
     match read_both(alloc, texts, pair)?.shaped() {
         Ok(shaped) => {
             let names = names_of(alloc, texts, names, &shaped)?;
             let text = texts.text(alloc, log)?;
-            audited(alloc, &names, &shaped, &text, telling)
+            audited(alloc, &names, &shaped, &text, wanted)
         }
         Err(fault) => Ok(not_shaped_answer(alloc, fault)?),
     }
 }
 
 /// What is answered for a log that is audited against a plan.
-fn audited(alloc: Global, names: &Names, shaped: &Shaped, log: &[u8], telling: Telling) -> Answered
-    ensures { IsOrMemory (IsLogLine names.now telling shaped.now log.now) result }
+fn audited(alloc: Global, names: &Names, shaped: &Shaped, log: &[u8], wanted: LogAnswer) -> Answered
+    ensures { IsOrMemory (IsLogLine names.now wanted shaped.now log.now) result }
 {
     match audit(alloc, shaped, log) {
-        Ok(found) => Ok(run_told(alloc, names, shaped, &found, telling)?),
-        Err(fault) => fault_told(alloc, fault),
+        Ok(found) => Ok(answer_run(alloc, names, shaped, &found, wanted)?),
+        Err(fault) => log_fault_answer(alloc, fault),
     }
 }
 
 /// What is answered for the run of a log.
-fn run_told(
+fn answer_run(
     alloc: Global,
     names: &Names,
     shaped: &Shaped,
     run: &Audit,
-    telling: Telling,
+    wanted: LogAnswer,
 ) -> Result<Answer, AllocError>
-    ensures { IfOk result (IsRunTold names.now telling shaped.now run.now) }
+    ensures { IfOk result (IsRunAnswer names.now wanted shaped.now run.now) }
 {
-    match telling {
-        Telling::Numbers => kept_answer(alloc, run),
-        Telling::Drawing => {
+    match wanted {
+        LogAnswer::Numbers => kept_answer(alloc, run),
+        LogAnswer::Drawing => {
             let text = gantt_for(alloc, names, shaped, run.entries.as_slice())?.into_bytes();
             Ok(Answer { text, status: GOOD })
         }
@@ -102,8 +102,8 @@ fn end_words(complete: bool) -> &'static str
 }
 
 /// The line of a log that records no run.
-pub fn fault_told(alloc: Global, fault: AuditFault) -> Answered
-    ensures { IsFaultTold fault result }
+pub fn log_fault_answer(alloc: Global, fault: AuditFault) -> Answered
+    ensures { IsLogFaultAnswer fault result }
 {
     match Unanswered::from(fault).0 {
         Some(fault) => Err(fault),

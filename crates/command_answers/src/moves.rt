@@ -6,15 +6,15 @@ ghost use Rattle.shop_base.specs.declared.limits.TheConstants.{MAX_MOMENT};
 ghost use Rattle.shop_base.specs.Cell.{start};
 ghost use Rattle.shop_base.specs.Report.{IsNextMoment};
 ghost use Rattle.command_answers.specs.declared.command_fault.CommandFault.TheVariants.{Memory};
-ghost use Rattle.command_answers.specs.Moves.{AreLinesBelow, AreMovesOfLog, AreMovesTold};
-ghost use Rattle.command_answers.specs.Rests.{IsCellTold};
+ghost use Rattle.command_answers.specs.Moves.{AreLinesBelow, AreMovesOfLog, IsMovesAnswer};
+ghost use Rattle.command_answers.specs.Rests.{IsCellAnswer};
 ghost use Rattle.command_answers.specs.Steps.{IsOrMemory};
 ghost use Rattle.command_answers.specs.Commands.{RunsMoves, RunsRestMoves};
 
 use crate::answer::{Answer, Answered, Outcome};
 use crate::both::{Pair, read_both};
 use crate::command_fault::{CommandFault, Unanswered};
-use crate::logs::fault_told;
+use crate::logs::log_fault_answer;
 use crate::naming::names_of;
 use crate::rests::{past_answer, present_at, rest_status};
 use crate::shapes::not_shaped_answer;
@@ -72,7 +72,7 @@ pub fn rest_moves_answer<T: Texts>(
 
 /// The moves from the start on.
 fn plan_moves(alloc: Global, names: &Names, shaped: Shaped) -> Answered
-    ensures { IsOrMemory (AreMovesTold names.now shaped (start shaped) 0) result }
+    ensures { IsOrMemory (IsMovesAnswer names.now shaped (start shaped) 0) result }
 {
     match WorkCell::start(alloc, shaped) {
         Ok(cell) => cell_moves(alloc, names, cell, 0),
@@ -93,14 +93,14 @@ fn log_moves(
 {
     match run_of_log(alloc, shaped, log) {
         Ok(run) => moves_at(alloc, names, run.cell, at),
-        Err(fault) => fault_told(alloc, fault),
+        Err(fault) => log_fault_answer(alloc, fault),
     }
 }
 
 /// The moves from a cell on, if the present moment isn't before its last one.
 fn moves_at(alloc: Global, names: &Names, cell: WorkCell<Shaped>, at: Option<Moment>) -> Answered
     requires { IfSome at (λ present. present ≤ MAX_MOMENT) }
-    ensures { IsOrMemory (IsCellTold (AreMovesTold names.now) at cell.plan cell.cell) result }
+    ensures { IsOrMemory (IsCellAnswer (IsMovesAnswer names.now) at cell.plan cell.cell) result }
 {
     // Called for its clause alone: the cell is sound.
     let _plan = cell.shaped();
@@ -115,7 +115,7 @@ fn moves_at(alloc: Global, names: &Names, cell: WorkCell<Shaped>, at: Option<Mom
 /// The moves from a cell and a present moment on.
 fn cell_moves(alloc: Global, names: &Names, cell: WorkCell<Shaped>, present: Moment) -> Answered
     requires { IsNextMoment cell.cell present }
-    ensures { IsOrMemory (AreMovesTold names.now cell.plan cell.cell present) result }
+    ensures { IsOrMemory (IsMovesAnswer names.now cell.plan cell.cell present) result }
 {
     let verdict = verify_after(alloc, &cell, present)?;
     let mut text = first_line_after(alloc, &cell, verdict.seen())?;

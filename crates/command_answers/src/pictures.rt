@@ -9,7 +9,7 @@ ghost use Rattle.plan_verifier.specs.Rest.{AreOrderedAhead};
 ghost use Rattle.run_picture.specs.Late.{late_leavings};
 ghost use Rattle.run_picture.specs.PictureText.{IsPicture};
 ghost use Rattle.run_gantt.specs.DrawnVisits.{drawn_visits};
-ghost use Rattle.run_gantt.specs.LeavingsTold.{leavings_told};
+ghost use Rattle.run_gantt.specs.LeavingsSoFar.{leavings_so_far};
 ghost use Rattle.plan_verifier.specs.RestVerdicts.{IsReasonAhead};
 ghost use Rattle.plan_verifier.specs.declared.verdict.Judged.TheVariants.{Refused};
 ghost use Rattle.plan_explain.specs.FirstLines.{cycle_line};
@@ -19,7 +19,7 @@ ghost use Rattle.command_answers.specs.Pictures.{DrawsLog, DrawsRest, DrawsSched
 
 use crate::answer::{Answer, GOOD, Outcome, REFUSED};
 use crate::both::{Pair, read_both};
-use crate::logs::fault_told;
+use crate::logs::log_fault_answer;
 use crate::naming::names_of;
 use crate::rests::{past_answer, present_at};
 use crate::shapes::not_shaped_answer;
@@ -80,7 +80,7 @@ fn log_drawn(alloc: Global, names: Names, shaped: &Shaped, log: &[u8]) -> Outcom
             let status = GOOD;
             Ok(Drawn::Picture { picture, status })
         }
-        Err(fault) => Ok(Drawn::Line(fault_told(alloc, fault)?)),
+        Err(fault) => Ok(Drawn::Line(log_fault_answer(alloc, fault)?)),
     }
 }
 
@@ -92,11 +92,11 @@ fn audit_picture(
     found: &Audit,
 ) -> Result<Picture, AllocError>
     ensures { let run = found.now in let p = shaped.now in IfOk result
-        (IsPicture names (log_sheet p run) (drawn_visits p run.entries.items) (late_leavings p (leavings_told (jobs p) run.entries.items))) }
+        (IsPicture names (log_sheet p run) (drawn_visits p run.entries.items) (late_leavings p (leavings_so_far (jobs p) run.entries.items))) }
 {
     let entries = found.entries.as_slice();
     let visits = run_gantt::drawn_visits(alloc, shaped, entries)?;
-    let leavings = run_gantt::leavings_told(alloc, shaped, entries)?;
+    let leavings = run_gantt::leavings_so_far(alloc, shaped, entries)?;
     let late = late_leavings(alloc, shaped, &leavings)?;
     Ok(Picture::new(names, log_sheet(shaped, found), visits, late))
 }
@@ -181,7 +181,7 @@ fn rest_of_log(
 {
     match run_of_log(alloc, shaped, log) {
         Ok(run) => Ok(cell_drawn(alloc, names, &run.cell, at, &run.entries)?),
-        Err(fault) => Ok(Drawn::Line(fault_told(alloc, fault)?)),
+        Err(fault) => Ok(Drawn::Line(log_fault_answer(alloc, fault)?)),
     }
 }
 

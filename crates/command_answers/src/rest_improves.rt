@@ -12,7 +12,7 @@ use crate::both::{Both, Pair, read_both};
 use crate::command_fault::Unanswered;
 use crate::improves::with_orders;
 use crate::lines::{document_answer, line_answer};
-use crate::logs::fault_told;
+use crate::logs::log_fault_answer;
 use crate::rests::past_answer;
 use crate::shapes::not_shaped_answer;
 use crate::texts::Texts;
@@ -133,7 +133,7 @@ fn refused_answer(alloc: Global, fault: ImproveFault) -> Answered
 {
     match fault {
         ImproveFault::TooManyRounds => Ok(line_answer(alloc, b"too many rounds\n", REFUSED)?),
-        ImproveFault::Log(fault) => fault_told(alloc, fault),
+        ImproveFault::Log(fault) => log_fault_answer(alloc, fault),
         ImproveFault::Past { last } => Ok(past_answer(alloc, last)?),
         ImproveFault::MomentTooLarge => unreachable!(),
         ImproveFault::Memory => unreachable!(),

@@ -5,7 +5,7 @@ ghost use Rattle.std.specs.Option.{option_copied};
 ghost use Rattle.shop_base.specs.Plan.{jobs};
 ghost use Rattle.shop_base.specs.declared.limits.TheConstants.{MAX_MOMENT};
 ghost use Rattle.shop_base.specs.Report.{IsNextMoment};
-ghost use Rattle.command_answers.specs.Rests.{IsRestLine, IsCellTold, IsPastLine, IsRestTold, IsTextOf, job_asked, rest_status};
+ghost use Rattle.command_answers.specs.Rests.{IsRestLine, IsCellAnswer, IsPastLine, AnswersRest, IsTextOf, job_asked, rest_status};
 ghost use Rattle.command_answers.specs.Steps.{IsOrMemory};
 ghost use Rattle.command_answers.specs.Commands.{IfThere, RunsRest, WithNamesAndLog};
 ghost use Rattle.plan_explain.specs.RestVerdicts.{IsRestJudged};
@@ -15,7 +15,7 @@ use crate::answer::{Answer, Answered, GOOD, REFUSED};
 use crate::asked_job::{absent_job, no_job_answer};
 use crate::both::{Pair, read_both};
 use crate::lines::push_fact;
-use crate::logs::fault_told;
+use crate::logs::log_fault_answer;
 use crate::naming::names_of;
 use crate::shapes::not_shaped_answer;
 use crate::texts::Texts;
@@ -30,7 +30,7 @@ use std::alloc::{AllocError, Global};
 
 /// What is answered for a plan, or for the rest of a run of it.
 #[derive(Clone, Copy, Debug, PartialEq, Eq)]
-pub enum PlanTelling {
+pub enum PlanAnswer {
     /// The verdict, as `check` does.
     Verdict,
     /// Why it is so, as `explain` does, with the chain of the job that is asked for, if one is.
@@ -39,14 +39,14 @@ pub enum PlanTelling {
     Moments,
 }
 
-impl PlanTelling {
+impl PlanAnswer {
     /// The job whose chain is asked for, if there is one.
     pub(crate) fn job_asked(self) -> Option<JobNo>
         ensures { result ≡ job_asked self }
     {
         match self {
-            PlanTelling::Reasons(job) => job,
-            PlanTelling::Verdict | PlanTelling::Moments => None,
+            PlanAnswer::Reasons(job) => job,
+            PlanAnswer::Verdict | PlanAnswer::Moments => None,
         }
     }
 }
@@ -62,13 +62,13 @@ pub fn rest_answer<T: Texts>(
     names: Option<&str>,
     log: &str,
     at: Option<Moment>,
-    telling: PlanTelling,
+    wanted: PlanAnswer,
 ) -> Answered
     requires { IfSome at (λ present. present ≤ MAX_MOMENT) }
-    ensures { RunsRest T.gives telling at pair.now (option_copied names.entry) log.now texts.old result texts.new }
+    ensures { RunsRest T.gives wanted at pair.now (option_copied names.entry) log.now texts.old result texts.new }
 {
     match read_both(alloc, texts, pair)?.shaped() {
-        Ok(shaped) => shaped_rest(alloc, texts, shaped, names, log, at, telling),
+        Ok(shaped) => shaped_rest(alloc, texts, shaped, names, log, at, wanted),
         Err(fault) => Ok(not_shaped_answer(alloc, fault)?),
     }
 }
@@ -81,35 +81,35 @@ fn shaped_rest<T: Texts>(
     names: Option<&str>,
     log: &str,
     at: Option<Moment>,
-    telling: PlanTelling,
+    wanted: PlanAnswer,
 ) -> Answered
     requires { IfSome at (λ present. present ≤ MAX_MOMENT) }
-    ensures { IfThere T.gives (job_asked telling) shaped (WithNamesAndLog T.gives (option_copied names.entry) log.now shaped (λ book. IsRestLine book telling at shaped)) texts.old result texts.new }
+    ensures { IfThere T.gives (job_asked wanted) shaped (WithNamesAndLog T.gives (option_copied names.entry) log.now shaped (λ book. IsRestLine book wanted at shaped)) texts.old result texts.new }
 {
-    if let Some(absent) = absent_job(&shaped, telling.job_asked()) {
+    if let Some(absent) = absent_job(&shaped, wanted.job_asked()) {
         return Ok(no_job_answer(alloc, absent)?);
     }
     let names = names_of(alloc, texts, names, &shaped)?;
     let text = texts.text(alloc, log)?;
-    log_told(alloc, &names, shaped, &text, at, telling)
+    answer_rest_of_log(alloc, &names, shaped, &text, at, wanted)
 }
 
 /// What is answered for the rest of the run in a log.
-fn log_told(
+fn answer_rest_of_log(
     alloc: Global,
     names: &Names,
     shaped: Shaped,
     log: &[u8],
     at: Option<Moment>,
-    telling: PlanTelling,
+    wanted: PlanAnswer,
 ) -> Answered
     requires present { IfSome at (λ present. present ≤ MAX_MOMENT) }
-    requires job { IfSome (job_asked telling) (λ j. j < jobs shaped) }
-    ensures { IsOrMemory (IsRestLine names.now telling at shaped log.now) result }
+    requires job { IfSome (job_asked wanted) (λ j. j < jobs shaped) }
+    ensures { IsOrMemory (IsRestLine names.now wanted at shaped log.now) result }
 {
     match run_of_log(alloc, shaped, log) {
-        Ok(run) => Ok(cell_told(alloc, names, &run.cell, at, telling)?),
-        Err(fault) => fault_told(alloc, fault),
+        Ok(run) => Ok(cell_told(alloc, names, &run.cell, at, wanted)?),
+        Err(fault) => log_fault_answer(alloc, fault),
     }
 }
 
@@ -119,11 +119,11 @@ fn cell_told(
     names: &Names,
     cell: &WorkCell<Shaped>,
     at: Option<Moment>,
-    telling: PlanTelling,
+    wanted: PlanAnswer,
 ) -> Result<Answer, AllocError>
     requires present { IfSome at (λ present. present ≤ MAX_MOMENT) }
-    requires job { IfSome (job_asked telling) (λ j. j < jobs cell.now.plan) }
-    ensures { IfOk result (IsCellTold (IsRestTold names.now telling) at cell.now.plan cell.now.cell) }
+    requires job { IfSome (job_asked wanted) (λ j. j < jobs cell.now.plan) }
+    ensures { IfOk result (IsCellAnswer (AnswersRest names.now wanted) at cell.now.plan cell.now.cell) }
 {
     // Called for its clause alone: the cell is sound.
     let _plan = cell.shaped();
@@ -132,7 +132,7 @@ fn cell_told(
     if present < last {
         return past_answer(alloc, last);
     }
-    rest_told(alloc, names, cell, present, telling)
+    answer_rest(alloc, names, cell, present, wanted)
 }
 
 /// The present moment: the one that is given, or the last one.
@@ -156,19 +156,19 @@ pub fn past_answer(alloc: Global, last: Moment) -> Result<Answer, AllocError>
 }
 
 /// What is answered for the rest from a cell and a present moment on: the text of the verdict on it, with its status.
-pub fn rest_told<P: Planned>(
+pub fn answer_rest<P: Planned>(
     alloc: Global,
     names: &Names,
     cell: &WorkCell<P>,
     present: Moment,
-    telling: PlanTelling,
+    wanted: PlanAnswer,
 ) -> Result<Answer, AllocError>
     requires present { IsNextMoment cell.now.cell present }
-    requires job { IfSome (job_asked telling) (λ j. j < jobs cell.now.plan) }
-    ensures { IfOk result (IsRestTold names.now telling cell.now.plan cell.now.cell present) }
+    requires job { IfSome (job_asked wanted) (λ j. j < jobs cell.now.plan) }
+    ensures { IfOk result (AnswersRest names.now wanted cell.now.plan cell.now.cell present) }
 {
     let verdict = verify_after(alloc, cell, present)?;
-    let text = verdict_text(alloc, names, cell, present, verdict.seen(), telling)?;
+    let text = verdict_text(alloc, names, cell, present, verdict.seen(), wanted)?;
     let status = rest_status(&verdict);
     Ok(Answer { text, status })
 }
@@ -180,18 +180,18 @@ fn verdict_text<P: Planned>(
     cell: &WorkCell<P>,
     present: Moment,
     verdict: Seen<'_>,
-    telling: PlanTelling,
+    wanted: PlanAnswer,
 ) -> Result<Vec<u8>, AllocError>
     requires present { IsNextMoment cell.now.cell present }
-    requires job { IfSome (job_asked telling) (λ j. j < jobs cell.now.plan) }
+    requires job { IfSome (job_asked wanted) (λ j. j < jobs cell.now.plan) }
     requires judged { IsRestJudged cell.now.plan cell.now.cell present (lent verdict) }
     ensures { let p = cell.now.plan in
-        IfOk result (λ text. IsTextOf names.now telling p cell.now.cell present (lent verdict.entry) text.items) }
+        IfOk result (λ text. IsTextOf names.now wanted p cell.now.cell present (lent verdict.entry) text.items) }
 {
-    match telling {
-        PlanTelling::Verdict => first_line_after(alloc, cell, verdict),
-        PlanTelling::Reasons(job) => explain_after(alloc, names, job, cell, present, verdict),
-        PlanTelling::Moments => schedule_after(alloc, names, cell, present, verdict),
+    match wanted {
+        PlanAnswer::Verdict => first_line_after(alloc, cell, verdict),
+        PlanAnswer::Reasons(job) => explain_after(alloc, names, job, cell, present, verdict),
+        PlanAnswer::Moments => schedule_after(alloc, names, cell, present, verdict),
     }
 }
 

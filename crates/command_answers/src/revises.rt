@@ -11,7 +11,7 @@ use crate::answer::{Answer, Answered, GOOD, REFUSED};
 use crate::both::{Both, Pair};
 use crate::command_fault::{CommandFault, Unrevised};
 use crate::lines::document_answer;
-use crate::logs::fault_told;
+use crate::logs::log_fault_answer;
 use crate::readings::{instance, plan};
 use crate::rest_improves::cycle_answer;
 use crate::rests::{past_answer, present_at};
@@ -100,7 +100,7 @@ fn log_revised(
 {
     match run_of_log(alloc, shaped, log) {
         Ok(run) => cell_revised(alloc, &run.cell, description, wanted),
-        Err(fault) => fault_told(alloc, fault),
+        Err(fault) => log_fault_answer(alloc, fault),
     }
 }
 

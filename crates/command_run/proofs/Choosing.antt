@@ -2,13 +2,13 @@
 use Rattle.std.proofs.Common.{◌≡◌, ℕ, List, Option, None, Some, IfSome, Result, sym, subst}
 use Rattle.command_words.specs.Choice.{IsChoiceOf, found_in}
 use Rattle.command_words.specs.declared.words.Chosen.{Chosen}
-use Rattle.cell_drive.specs.declared.manner.Manner.{Manner}
+use Rattle.cell_drive.specs.declared.protocol.Protocol.{Protocol}
 use Rattle.command_answers.specs.Commands.{PairOfFiles}
 use Rattle.command_answers.specs.declared.answer.Answer.{Answer}
 use Rattle.command_answers.specs.declared.command_fault.CommandFault.{CommandFault}
 use Rattle.command_run.specs.Streams.{Devices, Streams}
-use Rattle.command_run.specs.Logs.{IsToldOfLog, LogEnd, step_of}
-use Rattle.command_run.specs.Program.{IsToldOfChosen, IsToldOfWords, NoLog, RunsChosen, RunsCommand, RunsLoggedDrive, kept_log_in, manner_in, pair_in}
+use Rattle.command_run.specs.Logs.{IsHistoryOfLog, LogEnd, step_of}
+use Rattle.command_run.specs.Program.{IsHistoryOfChosen, IsHistoryOfWords, NoLog, RunsChosen, RunsCommand, RunsLoggedDrive, kept_log_in, manner_in, pair_in}
 
 module _ {W : Type 0} (gives : W → List ℕ → Result (List ℕ) CommandFault → W → Type 0) where
   pub unlogged : (chosen : Chosen) (before after : Devices W) (outcome : Result Answer CommandFault) (mid : Streams) → kept_log_in chosen ≡ None
@@ -16,20 +16,20 @@ module _ {W : Type 0} (gives : W → List ℕ → Result (List ℕ) CommandFault
   unlogged chosen before after outcome mid none runs same =
       subst (λ (log : Option (List ℕ)). RunsChosen gives log chosen before outcome mid after None) (sym none) (runs, same)
 
-  pub logged : (chosen : Chosen) (before after : Devices W) (outcome : Result Answer CommandFault) (mid : Streams) (end : Option LogEnd) (path : List ℕ) (pair : PairOfFiles) (manner : Manner) → kept_log_in chosen ≡ Some path
-      → pair ≡ pair_in chosen → manner ≡ manner_in chosen → RunsLoggedDrive gives before.folder after.folder path chosen.start manner chosen.at pair before.texts (step_of before.streams outcome mid end) after.texts
+  pub logged : (chosen : Chosen) (before after : Devices W) (outcome : Result Answer CommandFault) (mid : Streams) (end : Option LogEnd) (path : List ℕ) (pair : PairOfFiles) (protocol : Protocol) → kept_log_in chosen ≡ Some path
+      → pair ≡ pair_in chosen → protocol ≡ manner_in chosen → RunsLoggedDrive gives before.folder after.folder path chosen.start protocol chosen.at pair before.texts (step_of before.streams outcome mid end) after.texts
       → RunsChosen gives (kept_log_in chosen) chosen before outcome mid after end
-  logged chosen before after outcome mid end path pair manner keeps same_pair same_manner runs =
+  logged chosen before after outcome mid end path pair protocol keeps same_pair same_manner runs =
       subst (λ (log : Option (List ℕ)). RunsChosen gives log chosen before outcome mid after end) (sym keeps)
-      (subst (λ (m : Manner). RunsLoggedDrive gives before.folder after.folder path chosen.start m chosen.at (pair_in chosen) before.texts (step_of before.streams outcome mid end) after.texts) same_manner
-      (subst (λ (q : PairOfFiles). RunsLoggedDrive gives before.folder after.folder path chosen.start manner chosen.at q before.texts (step_of before.streams outcome mid end) after.texts) same_pair runs))
+      (subst (λ (m : Protocol). RunsLoggedDrive gives before.folder after.folder path chosen.start m chosen.at (pair_in chosen) before.texts (step_of before.streams outcome mid end) after.texts) same_manner
+      (subst (λ (q : PairOfFiles). RunsLoggedDrive gives before.folder after.folder path chosen.start protocol chosen.at q before.texts (step_of before.streams outcome mid end) after.texts) same_pair runs))
 
-  pub told_of_path : (chosen : Chosen) (before : Devices W) (path : List ℕ) (told : Option (List ℕ × List ℕ)) → kept_log_in chosen ≡ Some path → IfSome told (IsToldOfChosen gives chosen before)
-      → IfSome told (IsToldOfLog gives before.folder (pair_in chosen) path (manner_in chosen) chosen.at before.texts before.streams.output.taken)
-  told_of_path chosen before path None keeps is = tt
-  told_of_path chosen before path (Some t) keeps is = is path keeps
+  pub history_of_path : (chosen : Chosen) (before : Devices W) (path : List ℕ) (told : Option (List ℕ × List ℕ)) → kept_log_in chosen ≡ Some path → IfSome told (IsHistoryOfChosen gives chosen before)
+      → IfSome told (IsHistoryOfLog gives before.folder (pair_in chosen) path (manner_in chosen) chosen.at before.texts before.streams.output.written)
+  history_of_path chosen before path None keeps is = tt
+  history_of_path chosen before path (Some t) keeps is = is path keeps
 
-  pub told_of_chosen : (words : List (List ℕ)) (chosen : Chosen) (before : Devices W) (told : Option (List ℕ × List ℕ)) → IsChoiceOf words (found_in words) chosen → IfSome told (IsToldOfWords gives words before)
-      → IfSome told (IsToldOfChosen gives chosen before)
-  told_of_chosen words chosen before None choice is = tt
-  told_of_chosen words chosen before (Some t) choice is = is chosen choice
+  pub history_of_chosen : (words : List (List ℕ)) (chosen : Chosen) (before : Devices W) (told : Option (List ℕ × List ℕ)) → IsChoiceOf words (found_in words) chosen → IfSome told (IsHistoryOfWords gives words before)
+      → IfSome told (IsHistoryOfChosen gives chosen before)
+  history_of_chosen words chosen before None choice is = tt
+  history_of_chosen words chosen before (Some t) choice is = is chosen choice

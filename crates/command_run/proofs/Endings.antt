@@ -1,7 +1,7 @@
 -- How each run of the program ends.
 use Rattle.std.proofs.Common.{◌≡◌, ℕ, ◌≤◌, ◌==◌, ◌&&◌, if◌then◌else◌, List, [], Bool, true, false, Option, None, Some, Result, Ok, Err, option_map, string_bytes, inl, inr, ◌⊎◌, ap, sym, ◌∙◌, subst, arith, refl}
 use Rattle.std.proofs.lemmas.Bool.{and_parts, cases_Bool, eqb-true}
-use Rattle.cell_drive.specs.declared.manner.Manner.{Manner}
+use Rattle.cell_drive.specs.declared.protocol.Protocol.{Protocol}
 use Rattle.shop_base.specs.declared.shape_fault.ShapeFault.{ShapeFault}
 use Rattle.shop_base.specs.Plan.{PlannedShop}
 use Rattle.cell_drive.specs.declared.begin.DriveEnd.{DriveEnd}
@@ -13,18 +13,18 @@ use Rattle.byte_streams.specs.Streams.{IsStreamed}
 use Rattle.plan_verifier.specs.Accepted.{VerifiedPlan}
 use Rattle.cell_drive.specs.OneRun.{IsStreamedFrom}
 use Rattle.cell_drive.specs.Session.{SessionAnswer, SessionCloses, session_start}
-use Rattle.cell_drive.specs.StatedCells.{StatedHubAnswer, StatedHubCloses, stated_hub_start}
+use Rattle.cell_drive.specs.ProtocolCells.{HubAnswer, HubCloses, hub_of_plans}
 use Rattle.plan_verifier.specs.declared.verdict.Verdict.TheVariants.{Accepted, Refused}
 use Rattle.cell_drive.specs.declared.resume_fault.ResumeFault.{ResumeFault}
-use Rattle.cell_drive.specs.TakenUp.{TakenUp}
+use Rattle.cell_drive.specs.Recovered.{Recovered}
 use Rattle.cell_drive.specs.Resuming.{session_from}
-use Rattle.cell_drive.specs.InManner.{IsResumeIn}
+use Rattle.cell_drive.specs.InProtocol.{IsResumeIn}
 use Rattle.command_words.specs.declared.words.Chosen.{Chosen}
 use Rattle.command_words.specs.declared.words.CommandName.{CommandName}
 use Rattle.command_words.specs.declared.words.CommandName.TheVariants.{Input as NoWords, Facts, Shape, Check, Explain, Schedule, Bounds, Margin, Plan as Search, Improve, Decide, Revise, Drive, Resume, Hub, Digest, Audit, Gantt}
 use Rattle.command_words.specs.declared.words.WordsFault.{WordsFault}
 use Rattle.command_words.specs.declared.words.WordsFault.TheVariants.{Usage, Memory as NoWordsMemory}
-use Rattle.command_words.specs.Choice.{IsChoiceOf, TellsOneOf, reasons_in, found_in}
+use Rattle.command_words.specs.Choice.{IsChoiceOf, NamesOneOf, reasons_in, found_in}
 use Rattle.command_answers.specs.declared.answer.Answer.{Answer}
 use Rattle.command_answers.specs.declared.cells.Cells.{Cells}
 use Rattle.command_answers.specs.declared.cells.Cells.TheVariants.{Accepted as AllAccepted, Line}
@@ -44,12 +44,12 @@ use Rattle.command_run.specs.Pictures.{Draws, DrawsTimetable, IsPictureOut, Runs
 use Rattle.command_run.specs.declared.pictures.Timetable.{Timetable}
 use Rattle.command_run.specs.declared.pictures.Timetable.TheVariants.{Moments, Moves, Picture as DrawnForm}
 use Rattle.command_run.specs.Drives.{Drives, IsDriveIn}
-use Rattle.command_run.specs.Resumes.{IsTaking, ResumesTaken, ResumesText, Resumes}
+use Rattle.command_run.specs.Resumes.{IsRecovery, ResumesRecovered, ResumesText, Resumes}
 use Rattle.command_run.specs.Hubs.{AreDrivesIn, DrivesAll}
-use Rattle.command_run.specs.Ending.{Ends, EndsBy, EndsAside, IsPrinted, IsTold, IsToldAfter, IsOfText, IsLineOut, WasTold}
+use Rattle.command_run.specs.Ending.{Ends, EndsBy, EndsAside, IsPrinted, IsFaultPrinted, IsPrintedAfter, IsOfText, IsLineOut, WasPrinted}
 use Rattle.command_run.specs.Logs.{LogEnd, is_driven, step_of}
 use Rattle.command_run.specs.Program.{AreWordsRead, RunsCommand, RunsChosen, Follows, starts_again, status_by, draws_in, file_at, form_in, kept_log_in, log_in, manner_in, name_in, names_in, pair_in, plans_in}
-use Rattle.command_run.specs.Laws.{IsOutcomeOfWords, IsFailureOf, EndsAsTold, HoldsNothing, WereDriven, WereRefused, IsUnanswered, Ran, RanCommand, WroteNoMore}
+use Rattle.command_run.specs.Laws.{IsOutcomeOfWords, IsFailureOf, EndsOnTime, HoldsNothing, WereDriven, WereRefused, IsUnanswered, Ran, RanCommand, WroteNoMore}
 use Rattle.command_run.proofs.LowStatuses.{IsLow, low}
 use Rattle.command_run.proofs.Keepers.{keeper}
 use Rattle.command_run.proofs.LoggedEndings.{logged_shown, logged_written, low_logged}
@@ -91,27 +91,27 @@ low_own own status (inl same) low = same
 low_own own status (inr (five, six)) low = absurd (omega (arith, five, low))
 
 -- the fault was told, which failed, or out of memory in its place
-pub record IsFailureTold (outcome : Result Answer CommandFault) (output : Output) (before after : Errors) (status : ℕ) : Type 0 where
+pub record IsFailurePrinted (outcome : Result Answer CommandFault) (output : Output) (before after : Errors) (status : ℕ) : Type 0 where
   pub high : 2 ≤ status
   pub fault : CommandFault
   pub failed : IsFailureOf outcome output fault
   pub told : IsLineOut fault before after status
 
 abbrev EndsWell : Result Answer CommandFault → Output → Errors → Errors → ℕ → Type 0
-EndsWell outcome output before after status = IsFailureTold outcome output before after status ⊎ ((status ≤ 1) × (after ≡ before))
+EndsWell outcome output before after status = IsFailurePrinted outcome output before after status ⊎ ((status ≤ 1) × (after ≡ before))
 
-pub fault_ends : (fault : CommandFault) (output : Output) (before after : Errors) (status : ℕ) → IsTold fault before after status → IsFailureTold (Err fault) output before after status
+pub fault_ends : (fault : CommandFault) (output : Output) (before after : Errors) (status : ℕ) → IsFaultPrinted fault before after status → IsFailurePrinted (Err fault) output before after status
 fault_ends fault output before after status (inl out) = record { high = at_least_two fault status out.own; fault = fault; failed = inl refl; told = out }
 fault_ends fault output before after status (inr (text, out)) = record { high = at_least_two Memory status out.own; fault = Memory; failed = inr (text, refl); told = out }
 
 unprinted_ends : (answer : Answer) (fault : CommandFault) (output_before output_after : Output) (before after : Errors) (status : ℕ)
-    → IsPrinted answer output_before output_after (Err fault) → IsTold fault before after status → IsFailureTold (Ok answer) output_after before after status
+    → IsPrinted answer output_before output_after (Err fault) → IsFaultPrinted fault before after status → IsFailurePrinted (Ok answer) output_after before after status
 unprinted_ends answer fault output_before output_after before after status is (inl out) =
     record { high = at_least_two fault status out.own; fault = fault; failed = (is.0, is.2); told = out }
 unprinted_ends answer fault output_before output_after before after status is (inr (text, out)) = absurd (subst IsOfText is.0 text)
 
 printed_ends : (answer : Answer) (printed : Result ℕ CommandFault) (output_before output_after : Output) (before after : Errors) (status : ℕ) → answer.status ≤ 1
-    → IsPrinted answer output_before output_after printed → IsToldAfter printed before after status → EndsWell (Ok answer) output_after before after status
+    → IsPrinted answer output_before output_after printed → IsPrintedAfter printed before after status → EndsWell (Ok answer) output_after before after status
 printed_ends answer (Ok shown) output_before output_after before after status low is told =
     inr (subst (λ n. n ≤ 1) (sym (told.1 ∙ is.0)) low, told.0)
 printed_ends answer (Err fault) output_before output_after before after status low is told =
@@ -127,7 +127,7 @@ outcome_ends (Err fault) output_before output_after before after status low ends
 abbrev EndsWellBy : Bool → Result Answer CommandFault → Output → Errors → Errors → ℕ → Type 0
 EndsWellBy drawing outcome output before after status =
     EndsWell outcome output before after status
-    ⊎ ((status ≤ 1) × ((answer : Answer) × (outcome ≡ Ok answer) × (drawing ≡ true) × WasTold answer.text.items before after × (status ≡ answer.status)))
+    ⊎ ((status ≤ 1) × ((answer : Answer) × (outcome ≡ Ok answer) × (drawing ≡ true) × WasPrinted answer.text.items before after × (status ≡ answer.status)))
 
 aside_ends : (outcome : Result Answer CommandFault) (output_before output_after : Output) (before after : Errors) (status : ℕ) → IsLow outcome
     → EndsAside outcome output_before output_after before after status → EndsWellBy true outcome output_after before after status
@@ -161,15 +161,15 @@ module _ {W : Type 0} (gives : W → List ℕ → Result (List ℕ) CommandFault
       inr (inr (inr (inl (refl, record { cells = cells.items; loaded = Ok (AllAccepted cells); later = later; loads = loads; accepted = refl; end = is.end; are = is.are }))))
 
   module _ (p : PlannedShop) (mid : W) (shapes : Shapes gives (pair_in chosen) texts (Ok (Ok p)) mid) (later : W) (outcome : Result Answer CommandFault) where
-    taken_written : (text : List ℕ) (taken : Result TakenUp ResumeFault) → Asks gives (file_at chosen 2) mid (Ok text) later → IsTaking p chosen.at text taken
-        → ResumesTaken (manner_in chosen) taken before after outcome → WereDriven gives Resume chosen texts before after
-    taken_written text (Ok t) asks takes is =
+    recovered_written : (text : List ℕ) (taken : Result Recovered ResumeFault) → Asks gives (file_at chosen 2) mid (Ok text) later → IsRecovery p chosen.at text taken
+        → ResumesRecovered (manner_in chosen) taken before after outcome → WereDriven gives Resume chosen texts before after
+    recovered_written text (Ok t) asks takes is =
         inr (inr (inl (refl, record { plan = p; mid = mid; shapes = shapes; text = text; later = later; asks = asks; taken = t; takes = takes; end = is.end; is = is.is })))
-    taken_written text (Err fault) asks takes is = kept Resume is.1
+    recovered_written text (Err fault) asks takes is = kept Resume is.1
 
     text_written : (text : Result (List ℕ) CommandFault) → Asks gives (file_at chosen 2) mid text later
         → ResumesText (manner_in chosen) chosen.at p text before after outcome → WereDriven gives Resume chosen texts before after
-    text_written (Ok text) asks is = taken_written text is.0 asks is.1 is.2
+    text_written (Ok text) asks is = recovered_written text is.0 asks is.1 is.2
     text_written (Err fault) asks is = kept Resume is.1
 
   resumes_written : (shaped : Result (Result PlannedShop ShapeFault) CommandFault) (mid later : W) (outcome : Result Answer CommandFault) → Shapes gives (pair_in chosen) texts shaped mid
@@ -242,16 +242,16 @@ streamed_from_shown answers closes start last before after (Err NotWritten) is n
 streamed_from_shown answers closes start last before after (Err TooLong) is none = streamed_shown answers closes start last before after (Err TooLong) is
 streamed_from_shown answers closes start last before after (Err WantOfMemory) is none = inl (ap (λ (s : Streams). s.output.pending) is ∙ none)
 
-resume_shown : (manner : Manner) (t : TakenUp) (before after : Streams) (end : Result RestEnd DriveFault) → IsResumeIn manner t before after end → before.output.pending ≡ [] → HoldsNothing after.output
-resume_shown manner t before after end (inl cut) none = inr cut.1
-resume_shown manner t before after end (inr on) none =
-    streamed_shown SessionAnswer SessionCloses (session_from manner t) on.end (record { input = before.input; output = on.middle }) after end on.streamed
+resume_shown : (protocol : Protocol) (t : Recovered) (before after : Streams) (end : Result RestEnd DriveFault) → IsResumeIn protocol t before after end → before.output.pending ≡ [] → HoldsNothing after.output
+resume_shown protocol t before after end (inl cut) none = inr cut.1
+resume_shown protocol t before after end (inr on) none =
+    streamed_shown SessionAnswer SessionCloses (session_from protocol t) on.end (record { input = before.input; output = on.middle }) after end on.streamed
 
-drive_shown : (manner : Manner) (v : VerifiedPlan) (before after : Streams) (end : Result DriveEnd DriveFault) → IsDriveIn manner v before after end → before.output.pending ≡ [] → HoldsNothing after.output
-drive_shown manner v before after end is none = streamed_from_shown SessionAnswer SessionCloses (session_start manner v) is.end before after end is.streamed none
+drive_shown : (protocol : Protocol) (v : VerifiedPlan) (before after : Streams) (end : Result DriveEnd DriveFault) → IsDriveIn protocol v before after end → before.output.pending ≡ [] → HoldsNothing after.output
+drive_shown protocol v before after end is none = streamed_from_shown SessionAnswer SessionCloses (session_start protocol v) is.end before after end is.streamed none
 
-hub_shown : (manner : Manner) (cells : List VerifiedPlan) (before after : Streams) (end : Result HubEnd DriveFault) → AreDrivesIn manner cells before after end → before.output.pending ≡ [] → HoldsNothing after.output
-hub_shown manner cells before after end is none = streamed_from_shown StatedHubAnswer StatedHubCloses (stated_hub_start manner cells) is.end before after end is.streamed none
+hub_shown : (protocol : Protocol) (cells : List VerifiedPlan) (before after : Streams) (end : Result HubEnd DriveFault) → AreDrivesIn protocol cells before after end → before.output.pending ≡ [] → HoldsNothing after.output
+hub_shown protocol cells before after end is none = streamed_from_shown HubAnswer HubCloses (hub_of_plans protocol cells) is.end before after end is.streamed none
 
 picture_shown : (picture : List ℕ) (status : ℕ) (before after : Output) (outcome : Result Answer CommandFault) → IsPictureOut picture status before after outcome → HoldsNothing after
 picture_shown picture status before after (Ok answer) out = inl out.4
@@ -273,35 +273,35 @@ printed_shown : (answer : Answer) (printed : Result ℕ CommandFault) (before af
 printed_shown answer (Ok status) before after is = inl is.3
 printed_shown answer (Err fault) before after is = inr is.2
 
-ended_shown : (outcome : Result Answer CommandFault) (before after : Output) (told_before told_after : Errors) (status : ℕ) → HoldsNothing before
-    → Ends outcome before after told_before told_after status → HoldsNothing after
-ended_shown (Ok answer) before after told_before told_after status shown ends = printed_shown answer ends.printed before after ends.is
-ended_shown (Err fault) before after told_before told_after status shown ends = subst HoldsNothing (sym ends.0) shown
+ended_shown : (outcome : Result Answer CommandFault) (before after : Output) (printed_before printed_after : Errors) (status : ℕ) → HoldsNothing before
+    → Ends outcome before after printed_before printed_after status → HoldsNothing after
+ended_shown (Ok answer) before after printed_before printed_after status shown ends = printed_shown answer ends.printed before after ends.is
+ended_shown (Err fault) before after printed_before printed_after status shown ends = subst HoldsNothing (sym ends.0) shown
 
-aside_shown : (drawing : Bool) (outcome : Result Answer CommandFault) (before after : Output) (told_before told_after : Errors) (status : ℕ) → HoldsNothing before
-    → EndsBy drawing outcome before after told_before told_after status → HoldsNothing after
-aside_shown false outcome before after told_before told_after status shown ends = ended_shown outcome before after told_before told_after status shown ends
-aside_shown true (Ok answer) before after told_before told_after status shown ends = subst HoldsNothing (sym ends.0) shown
-aside_shown true (Err fault) before after told_before told_after status shown ends = subst HoldsNothing (sym ends.0) shown
+aside_shown : (drawing : Bool) (outcome : Result Answer CommandFault) (before after : Output) (printed_before printed_after : Errors) (status : ℕ) → HoldsNothing before
+    → EndsBy drawing outcome before after printed_before printed_after status → HoldsNothing after
+aside_shown false outcome before after printed_before printed_after status shown ends = ended_shown outcome before after printed_before printed_after status shown ends
+aside_shown true (Ok answer) before after printed_before printed_after status shown ends = subst HoldsNothing (sym ends.0) shown
+aside_shown true (Err fault) before after printed_before printed_after status shown ends = subst HoldsNothing (sym ends.0) shown
 
 -- ---- what isn't answered
 
-printed_no_more : (answer : Answer) (printed : Result ℕ CommandFault) (before after : Output) (told_before told_after : Errors) (status : ℕ) → answer.status ≤ 1 → 2 ≤ status
-    → IsPrinted answer before after printed → IsToldAfter printed told_before told_after status → IsUnanswered (Ok answer) before after
-printed_no_more answer (Ok shown) before after told_before told_after status low high is told = absurd (omega (arith, low, high, told.1, is.0))
-printed_no_more answer (Err fault) before after told_before told_after status low high is told = (is.2, is.1)
+printed_no_more : (answer : Answer) (printed : Result ℕ CommandFault) (before after : Output) (printed_before printed_after : Errors) (status : ℕ) → answer.status ≤ 1 → 2 ≤ status
+    → IsPrinted answer before after printed → IsPrintedAfter printed printed_before printed_after status → IsUnanswered (Ok answer) before after
+printed_no_more answer (Ok shown) before after printed_before printed_after status low high is told = absurd (omega (arith, low, high, told.1, is.0))
+printed_no_more answer (Err fault) before after printed_before printed_after status low high is told = (is.2, is.1)
 
-ended_no_more : (outcome : Result Answer CommandFault) (before after : Output) (told_before told_after : Errors) (status : ℕ) → IsLow outcome → 2 ≤ status
-    → Ends outcome before after told_before told_after status → IsUnanswered outcome before after
-ended_no_more (Ok answer) before after told_before told_after status low high ends =
-    printed_no_more answer ends.printed before after told_before told_after status low high ends.is ends.told
-ended_no_more (Err fault) before after told_before told_after status low high ends = ends.0
+ended_no_more : (outcome : Result Answer CommandFault) (before after : Output) (printed_before printed_after : Errors) (status : ℕ) → IsLow outcome → 2 ≤ status
+    → Ends outcome before after printed_before printed_after status → IsUnanswered outcome before after
+ended_no_more (Ok answer) before after printed_before printed_after status low high ends =
+    printed_no_more answer ends.printed before after printed_before printed_after status low high ends.is ends.told
+ended_no_more (Err fault) before after printed_before printed_after status low high ends = ends.0
 
-aside_no_more : (drawing : Bool) (outcome : Result Answer CommandFault) (before after : Output) (told_before told_after : Errors) (status : ℕ) → IsLow outcome → 2 ≤ status
-    → EndsBy drawing outcome before after told_before told_after status → IsUnanswered outcome before after
-aside_no_more false outcome before after told_before told_after status low high ends = ended_no_more outcome before after told_before told_after status low high ends
-aside_no_more true (Ok answer) before after told_before told_after status low high ends = absurd (omega (arith, low, high, ends.2))
-aside_no_more true (Err fault) before after told_before told_after status low high ends = ends.0
+aside_no_more : (drawing : Bool) (outcome : Result Answer CommandFault) (before after : Output) (printed_before printed_after : Errors) (status : ℕ) → IsLow outcome → 2 ≤ status
+    → EndsBy drawing outcome before after printed_before printed_after status → IsUnanswered outcome before after
+aside_no_more false outcome before after printed_before printed_after status low high ends = ended_no_more outcome before after printed_before printed_after status low high ends
+aside_no_more true (Ok answer) before after printed_before printed_after status low high ends = absurd (omega (arith, low, high, ends.2))
+aside_no_more true (Err fault) before after printed_before printed_after status low high ends = ends.0
 
 -- ---- each run of the program
 
@@ -328,22 +328,22 @@ module _ {W : Type 0} (gives : W → List ℕ → Result (List ℕ) CommandFault
       inl (record { chosen = chosen; taken = taken; is = is; runs = runs; driven = chosen_written gives chosen before after outcome mid end (kept_log_in chosen) refl runs })
 
   -- words that choose no command
-  chose_none : (fault : WordsFault) → TellsOneOf (reasons_in words) fault → (outcome : Result Answer CommandFault) → IsOutcomeOfWords fault outcome → Ran gives words before outcome before.streams after end
+  chose_none : (fault : WordsFault) → NamesOneOf (reasons_in words) fault → (outcome : Result Answer CommandFault) → IsOutcomeOfWords fault outcome → Ran gives words before outcome before.streams after end
   chose_none fault refused outcome is = inr (record { fault = fault; refused = refused; is = is; same = refl })
 
   -- what was told at the end of what ran
-  ends_told : (outcome : Result Answer CommandFault) (mid : Streams) (own : ℕ) → IsOwnOr own status → Ran gives words before outcome mid after end
-      → EndsWell outcome after.streams.output before.errors after.errors own → EndsAsTold gives words before status after end
-  ends_told outcome mid own rel ran (inl failure) =
+  ends_printed : (outcome : Result Answer CommandFault) (mid : Streams) (own : ℕ) → IsOwnOr own status → Ran gives words before outcome mid after end
+      → EndsWell outcome after.streams.output before.errors after.errors own → EndsOnTime gives words before status after end
+  ends_printed outcome mid own rel ran (inl failure) =
       inl (status_high own status rel failure.high, inr (record { outcome = outcome; mid = mid; ran = ran; fault = failure.fault; failed = failure.failed; own = own; told = failure.told; status_is = rel }))
-  ends_told outcome mid own rel ran (inr good) = inr (subst (λ (n : ℕ). n ≤ 1) (sym (low_own own status rel good.0)) good.0, inl good.1)
+  ends_printed outcome mid own rel ran (inr good) = inr (subst (λ (n : ℕ). n ≤ 1) (sym (low_own own status rel good.0)) good.0, inl good.1)
 
   -- of a command
-  command_told : (chosen : Chosen) (taken : reasons_in words ≡ []) (is : IsChoiceOf words (found_in words) chosen) (outcome : Result Answer CommandFault) (mid : Streams) (own : ℕ) → IsOwnOr own status
+  command_printed : (chosen : Chosen) (taken : reasons_in words ≡ []) (is : IsChoiceOf words (found_in words) chosen) (outcome : Result Answer CommandFault) (mid : Streams) (own : ℕ) → IsOwnOr own status
       → RunsChosen gives (kept_log_in chosen) chosen before outcome mid after end
-      → EndsWellBy (draws_in chosen) outcome after.streams.output before.errors after.errors own → EndsAsTold gives words before status after end
-  command_told chosen taken is outcome mid own rel runs (inl well) = ends_told outcome mid own rel (ran chosen taken is outcome mid runs) well
-  command_told chosen taken is outcome mid own rel runs (inr (low, (answer, same, draws, told, answered))) =
+      → EndsWellBy (draws_in chosen) outcome after.streams.output before.errors after.errors own → EndsOnTime gives words before status after end
+  command_printed chosen taken is outcome mid own rel runs (inl well) = ends_printed outcome mid own rel (ran chosen taken is outcome mid runs) well
+  command_printed chosen taken is outcome mid own rel runs (inr (low, (answer, same, draws, told, answered))) =
       let run : RunsChosen gives (kept_log_in chosen) chosen before (Ok answer) mid after end =
       subst (λ (o : Result Answer CommandFault). RunsChosen gives (kept_log_in chosen) chosen before o mid after end) same runs in
       let here : RanCommand gives words before (Ok answer) mid after end = record {
@@ -356,17 +356,17 @@ module _ {W : Type 0} (gives : W → List ℕ → Result (List ℕ) CommandFault
       let status_is = low_own own status rel low in
       inr (subst (λ (n : ℕ). n ≤ 1) (sym status_is) low, inr (record { answer = answer; mid = mid; ran = here; draws = draws; told = told; own = status_is ∙ answered }))
 
-  pub follows_ends : (read : Result Chosen WordsFault) → AreWordsRead words read → Follows gives read before status after end → EndsAsTold gives words before status after end
+  pub follows_ends : (read : Result Chosen WordsFault) → AreWordsRead words read → Follows gives read before status after end → EndsOnTime gives words before status after end
   follows_ends (Ok chosen) are is =
-      command_told chosen are.taken are.chosen is.outcome is.mid is.own (own_or (kept_log_in chosen) end is.outcome is.own status is.status_is) is.runs
+      command_printed chosen are.taken are.chosen is.outcome is.mid is.own (own_or (kept_log_in chosen) end is.outcome is.own status is.status_is) is.runs
       (by_ends (draws_in chosen) is.outcome is.mid.output after.streams.output before.errors after.errors is.own (chosen_low gives chosen before after is.outcome is.mid end (kept_log_in chosen) is.runs) is.ends)
   follows_ends (Err (Usage true text)) are is =
-      ends_told (Ok is.help) before.streams status (inl refl) (chose_none (Usage true text) are.refused (Ok is.help) (is.help, refl, is.text_is.0))
+      ends_printed (Ok is.help) before.streams status (inl refl) (chose_none (Usage true text) are.refused (Ok is.help) (is.help, refl, is.text_is.0))
       (outcome_ends (Ok is.help) before.streams.output after.streams.output before.errors after.errors status (omega (arith, is.text_is.1)) is.ends)
   follows_ends (Err (Usage false text)) are is =
       inl (omega (arith, is.1), inl (record { fault = Usage false text; refused = are.refused; told = (is.1, is.0); same = is.3 }))
   follows_ends (Err NoWordsMemory) are is =
-      ends_told (Err Memory) before.streams status (inl refl) (chose_none NoWordsMemory are.refused (Err Memory) refl)
+      ends_printed (Err Memory) before.streams status (inl refl) (chose_none NoWordsMemory are.refused (Err Memory) refl)
       (outcome_ends (Err Memory) before.streams.output after.streams.output before.errors after.errors status tt is.0)
 
   pub follows_shown : (read : Result Chosen WordsFault) → before.streams.output.pending ≡ [] → Follows gives read before status after end → HoldsNothing after.streams.output

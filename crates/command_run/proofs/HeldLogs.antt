@@ -7,7 +7,7 @@ use Rattle.byte_streams.specs.declared.drive_fault.DriveFault.{DriveFault}
 use Rattle.cell_drive.specs.declared.begin.DriveEnd.{DriveEnd}
 use Rattle.cell_drive.specs.declared.resume.RestEnd.{RestEnd}
 use Rattle.cell_tables.specs.declared.entry.Entry.{Entry}
-use Rattle.event_lines.specs.LogLines.{LinesTell}
+use Rattle.event_lines.specs.LogLines.{LinesParse}
 use Rattle.event_lines.specs.RunDigits.{plan_line}
 use Rattle.plan_digest.proofs.SixteenDigits.{digits_are}
 use Rattle.run_journal.specs.declared.file_fault.FileFault.{FileFault}
@@ -17,31 +17,31 @@ use Rattle.run_journal.specs.LogFiles.{IsReadFault, Leaves}
 use Rattle.run_journal.specs.Logged.{Held, StayInStep}
 use Rattle.run_journal.specs.Openings.{IsFound, IsOfLog, IsUnmade, IsUnnamed}
 use Rattle.run_journal.specs.WholeLines.{whole_lines}
-use Rattle.run_journal.proofs.NamedLogs.{logs_before, plan_tells, whole_plan}
-use Rattle.logged_drive.specs.CrashLaw.{IsTakenUpAfter}
+use Rattle.run_journal.proofs.NamedLogs.{logs_before, plan_parses, whole_plan}
+use Rattle.logged_drive.specs.CrashLaw.{IsRecoveredAfter}
 use Rattle.logged_drive.specs.LoggedRuns.{IsAllInLog, KeepsShown}
 use Rattle.command_answers.specs.declared.answer.Answer.{Answer}
 use Rattle.command_answers.specs.declared.command_fault.CommandFault.{CommandFault}
 use Rattle.command_run.specs.Drives.{end_of_drive}
 use Rattle.command_run.specs.Resumes.{end_of_rest}
-use Rattle.command_run.specs.Logs.{Found, IsEmptyLog, IsFoundLog, IsHeldAfter, IsLoggedAnswer, IsNewLogFault, IsToldOfNew, KeepsInLog, LogEnd, Unlined, Unread, WithLog, digits_in, is_driven, left_if}
+use Rattle.command_run.specs.Logs.{Found, IsEmptyLog, IsFoundLog, IsHeldAfter, IsLoggedAnswer, IsNewLogFault, IsHistoryOfNew, KeepsInLog, LogEnd, Unlined, Unread, WithLog, digits_in, is_driven, left_if}
 
 -- where none is
-pub none_held : {D : Type 0} (seen : D → Option (List ℕ)) (may_leave : D → List ℕ → Type 0) (fault : D → Option FileFault) (written : D → Bool) (told : Option (List ℕ × List ℕ)) (taken : Option (List ℕ)) (good : Type 0) (done : Option LogEnd → Type 0)
-    → done None → WithLog seen may_leave fault written told taken good None done
-none_held seen may_leave fault written told taken good done is = record { end = None; is = is; held = tt }
+pub none_held : {D : Type 0} (seen : D → Option (List ℕ)) (crash_states : D → List ℕ → Type 0) (fault : D → Option FileFault) (written : D → Bool) (told : Option (List ℕ × List ℕ)) (taken : Option (List ℕ)) (good : Type 0) (done : Option LogEnd → Type 0)
+    → done None → WithLog seen crash_states fault written told taken good None done
+none_held seen crash_states fault written told taken good done is = record { end = None; is = is; held = tt }
 
 -- what was done is something else, too
-pub held_as : {D : Type 0} (seen : D → Option (List ℕ)) (may_leave : D → List ℕ → Type 0) (fault : D → Option FileFault) (written : D → Bool) (told : Option (List ℕ × List ℕ)) (taken : Option (List ℕ)) (good : Type 0) (log : Option D)
-    (one other : Option LogEnd → Type 0) → ((end : Option LogEnd) → one end → other end) → WithLog seen may_leave fault written told taken good log one → WithLog seen may_leave fault written told taken good log other
-held_as seen may_leave fault written told taken good log one other becomes done = record { end = done.end; is = becomes done.end done.is; held = done.held }
+pub held_as : {D : Type 0} (seen : D → Option (List ℕ)) (crash_states : D → List ℕ → Type 0) (fault : D → Option FileFault) (written : D → Bool) (told : Option (List ℕ × List ℕ)) (taken : Option (List ℕ)) (good : Type 0) (log : Option D)
+    (one other : Option LogEnd → Type 0) → ((end : Option LogEnd) → one end → other end) → WithLog seen crash_states fault written told taken good log one → WithLog seen crash_states fault written told taken good log other
+held_as seen crash_states fault written told taken good log one other becomes done = record { end = done.end; is = becomes done.end done.is; held = done.held }
 
 -- all that is said of a log with which a cell was driven
-module _ (seen : Option (List ℕ)) (may_leave : List ℕ → Type 0) (taken : Option (List ℕ)) (good : Type 0) (p : PlannedShop) (events : List Entry) (held : Held) where
-  pub keeps_in_log : (told : Option (List ℕ × List ℕ)) → StayInStep told seen may_leave held → IfSome told (λ t. KeepsShown t.0 t.1 may_leave taken)
-      → IfSome told (λ t. IsTakenUpAfter p events t.1 may_leave taken) → (good → IfSome told (λ t. IsAllInLog t.0 t.1 seen may_leave taken)) → IfSome told (KeepsInLog seen may_leave taken good p events held)
+module _ (seen : Option (List ℕ)) (crash_states : List ℕ → Type 0) (taken : Option (List ℕ)) (good : Type 0) (p : PlannedShop) (events : List Entry) (held : Held) where
+  pub keeps_in_log : (told : Option (List ℕ × List ℕ)) → StayInStep told seen crash_states held → IfSome told (λ t. KeepsShown t.0 t.1 crash_states taken)
+      → IfSome told (λ t. IsRecoveredAfter p events t.1 crash_states taken) → (good → IfSome told (λ t. IsAllInLog t.0 t.1 seen crash_states taken)) → IfSome told (KeepsInLog seen crash_states taken good p events held)
   keeps_in_log None steps crash up all = tt
-  keeps_in_log (Some t) steps crash up all = record { in_step = steps; crash = crash; taken_up = up; in_log = all }
+  keeps_in_log (Some t) steps crash up all = record { in_step = steps; crash = crash; recoverable = up; in_log = all }
 
 -- at a good end what is said of each end of the input
 at_good_end : {X : Type 0} (log_failed : Bool) (done : Result Bool DriveFault) (outcome : Result Answer CommandFault) → IsLoggedAnswer log_failed done outcome → IfOk done (λ _. X) → IsOk outcome → X
@@ -61,64 +61,64 @@ pub line_whole : (p : PlannedShop) (told : Option (List ℕ × List ℕ)) → If
 line_whole p None line = tt
 line_whole p (Some t) line = subst (λ (l : List ℕ). whole_lines l ≡ l) (sym line) (whole_plan (digits_in p))
 
-pub line_untold : (p : PlannedShop) (told : Option (List ℕ × List ℕ)) → IfSome told (λ t. t.0 ≡ plan_line (digits_in p)) → IfSome told (λ t. LinesTell p (ended_lines t.0) [])
-line_untold p None line = tt
-line_untold p (Some t) line = subst (λ (l : List ℕ). LinesTell p (ended_lines l) []) (sym line) (plan_tells p (digits_in p) (digits_are p.shop p.plan))
+pub line_unprinted : (p : PlannedShop) (told : Option (List ℕ × List ℕ)) → IfSome told (λ t. t.0 ≡ plan_line (digits_in p)) → IfSome told (λ t. LinesParse p (ended_lines t.0) [])
+line_unprinted p None line = tt
+line_unprinted p (Some t) line = subst (λ (l : List ℕ). LinesParse p (ended_lines l) []) (sym line) (plan_parses p (digits_in p) (digits_are p.shop p.plan))
 
 -- from what is told to something else
-pub told_as : {P Q : List ℕ × List ℕ → Type 0} (told : Option (List ℕ × List ℕ)) → ((t : List ℕ × List ℕ) → P t → Q t) → IfSome told P → IfSome told Q
-told_as None becomes is = tt
-told_as (Some t) becomes is = becomes t is
+pub known_as : {P Q : List ℕ × List ℕ → Type 0} (told : Option (List ℕ × List ℕ)) → ((t : List ℕ × List ℕ) → P t → Q t) → IfSome told P → IfSome told Q
+known_as None becomes is = tt
+known_as (Some t) becomes is = becomes t is
 
-pub told_both : {P Q R : List ℕ × List ℕ → Type 0} (told : Option (List ℕ × List ℕ)) → ((t : List ℕ × List ℕ) → P t → Q t → R t) → IfSome told P → IfSome told Q → IfSome told R
-told_both None becomes one other = tt
-told_both (Some t) becomes one other = becomes t one other
+pub known_both : {P Q R : List ℕ × List ℕ → Type 0} (told : Option (List ℕ × List ℕ)) → ((t : List ℕ × List ℕ) → P t → Q t → R t) → IfSome told P → IfSome told Q → IfSome told R
+known_both None becomes one other = tt
+known_both (Some t) becomes one other = becomes t one other
 
-pub at_told : {X : Type 0} (o : Option X) (x : X) (P : X → Type 0) → o ≡ Some x → IfSome o P → P x
-at_told o x P is holds = subst (λ o. IfSome o P) is holds
+pub at_known : {X : Type 0} (o : Option X) (x : X) (P : X → Type 0) → o ≡ Some x → IfSome o P → P x
+at_known o x P is holds = subst (λ o. IfSome o P) is holds
 
 -- one that was opened and has no bytes is left so
 pub undriven : (there : Bool) → false ≡ is_driven (left_if there)
 undriven true = refl
 undriven false = refl
 
-pub left_held : {D : Type 0} (seen : D → Option (List ℕ)) (may_leave : D → List ℕ → Type 0) (fault : D → Option FileFault) (written : D → Bool) (folder : Folder) (p : PlannedShop) (told : Option (List ℕ × List ℕ)) (start taken : Option (List ℕ)) (good : Type 0)
-    (opened : Option D) → IfSome opened (λ log. IsEmptyLog (seen log) (may_leave log) (fault log) (written log) folder) → IfSome told (IsToldOfNew folder p start)
-    → IsHeldAfter seen may_leave fault written told taken good opened (left_if (is_some opened))
-left_held seen may_leave fault written folder p told start taken good None empty is_new = tt
-left_held seen may_leave fault written folder p told start taken good (Some log) empty is_new =
-    (empty.ready.unfailed, empty.unwritten, told_as told (λ t is. (at_told folder.logs is.logs (λ _. seen log ≡ Some []) is.there empty.told, empty.ready.settled)) is_new)
+pub left_held : {D : Type 0} (seen : D → Option (List ℕ)) (crash_states : D → List ℕ → Type 0) (fault : D → Option FileFault) (written : D → Bool) (folder : Folder) (p : PlannedShop) (told : Option (List ℕ × List ℕ)) (start taken : Option (List ℕ)) (good : Type 0)
+    (opened : Option D) → IfSome opened (λ log. IsEmptyLog (seen log) (crash_states log) (fault log) (written log) folder) → IfSome told (IsHistoryOfNew folder p start)
+    → IsHeldAfter seen crash_states fault written told taken good opened (left_if (is_some opened))
+left_held seen crash_states fault written folder p told start taken good None empty is_new = tt
+left_held seen crash_states fault written folder p told start taken good (Some log) empty is_new =
+    (empty.ready.unfailed, empty.unwritten, known_as told (λ t is. (at_known folder.logs is.logs (λ _. seen log ≡ Some []) is.there empty.told, empty.ready.durable)) is_new)
 
 -- so is one that was found, with its bytes
 pub undriven_found : (there : Option (List ℕ)) → false ≡ is_driven (option_map Found there)
 undriven_found None = refl
 undriven_found (Some bytes) = refl
 
-pub found_held : {D : Type 0} (seen : D → Option (List ℕ)) (may_leave : D → List ℕ → Type 0) (fault : D → Option FileFault) (written : D → Bool) (folder : Folder) (told : Option (List ℕ × List ℕ)) (taken : Option (List ℕ))
-    (good : Type 0) (found : Option (D × List ℕ)) → IfSome found (λ there. IsFoundLog (seen there.0) (may_leave there.0) (fault there.0) (written there.0) folder there.1)
+pub found_held : {D : Type 0} (seen : D → Option (List ℕ)) (crash_states : D → List ℕ → Type 0) (fault : D → Option FileFault) (written : D → Bool) (folder : Folder) (told : Option (List ℕ × List ℕ)) (taken : Option (List ℕ))
+    (good : Type 0) (found : Option (D × List ℕ)) → IfSome found (λ there. IsFoundLog (seen there.0) (crash_states there.0) (fault there.0) (written there.0) folder there.1)
     → IfSome told (λ t. (logs : List NamedLog) × (folder.logs ≡ Some logs))
-    → IsHeldAfter seen may_leave fault written told taken good (option_map (λ there. there.0) found) (option_map Found (option_map (λ there. there.1) found))
-found_held seen may_leave fault written folder told taken good None is logs = tt
-found_held seen may_leave fault written folder told taken good (Some there) is logs =
-    (is.ready.unfailed, is.unwritten, told_as told (λ t has. (at_told folder.logs has.0 (λ _. seen there.0 ≡ Some there.1) has.1 is.told, is.ready.settled)) logs)
+    → IsHeldAfter seen crash_states fault written told taken good (option_map (λ there. there.0) found) (option_map Found (option_map (λ there. there.1) found))
+found_held seen crash_states fault written folder told taken good None is logs = tt
+found_held seen crash_states fault written folder told taken good (Some there) is logs =
+    (is.ready.unfailed, is.unwritten, known_as told (λ t has. (at_known folder.logs has.0 (λ _. seen there.0 ≡ Some there.1) has.1 is.told, is.ready.durable)) logs)
 
 -- where a new log can't be had
-module _ {D : Type 0} (seen : D → Option (List ℕ)) (may_leave : D → List ℕ → Type 0) (fault : D → Option FileFault) (written : D → Bool) (folder after : Folder) (path : List ℕ) (p : PlannedShop) (there : Bool) (told : Option (List ℕ × List ℕ)) (start taken : Option (List ℕ)) (good : Type 0) (why : FileFault)
-    (is_new : IfSome told (IsToldOfNew folder p start)) where
+module _ {D : Type 0} (seen : D → Option (List ℕ)) (crash_states : D → List ℕ → Type 0) (fault : D → Option FileFault) (written : D → Bool) (folder after : Folder) (path : List ℕ) (p : PlannedShop) (there : Bool) (told : Option (List ℕ × List ℕ)) (start taken : Option (List ℕ)) (good : Type 0) (why : FileFault)
+    (is_new : IfSome told (IsHistoryOfNew folder p start)) where
   pub record LacksHeld (log : Option D) : Type 0 where
     pub end : Option LogEnd
     pub driven : false ≡ is_driven end
     pub why_is : IsNewLogFault folder after path p there why end
-    pub held : IsHeldAfter seen may_leave fault written told taken good log end
+    pub held : IsHeldAfter seen crash_states fault written told taken good log end
 
-  pub lacks_held : (log : Option D) → MatchOption log (IsUnmade there path folder after why) (λ l. IsUnnamed path (digits_in p) (with_log there path folder) after (seen l) (may_leave l) (fault l) why)
+  pub lacks_held : (log : Option D) → MatchOption log (IsUnmade there path folder after why) (λ l. IsUnnamed path (digits_in p) (with_log there path folder) after (seen l) (crash_states l) (fault l) why)
       → IfSome log (λ l. fault l ≡ None → written l ≡ false) → LacksHeld log
   lacks_held None is unwritten = record { end = None; driven = refl; why_is = inl (is, refl); held = tt }
   lacks_held (Some log) (inl is) unwritten = record {
     end = Some (Found []);
     driven = refl;
     why_is = inr (inl (is.is, is.own, refl));
-    held = (is.unfailed, unwritten is.unfailed, told_as told (λ t new. (at_told folder.logs new.logs (λ _. seen log ≡ Some []) new.there (logs_before there path folder (seen log ≡ Some []) is.empty), is.settled)) is_new);
+    held = (is.unfailed, unwritten is.unfailed, known_as told (λ t new. (at_known folder.logs new.logs (λ _. seen log ≡ Some []) new.there (logs_before there path folder (seen log ≡ Some []) is.empty), is.durable)) is_new);
   }
   lacks_held (Some log) (inr is) unwritten = record {
     end = Some (Unlined p);
@@ -127,18 +127,18 @@ module _ {D : Type 0} (seen : D → Option (List ℕ)) (may_leave : D → List �
     held = (
       is.is.1,
       tt,
-      told_as told (λ t new.
-          at_told folder.logs new.logs (λ _. Leaves (may_leave log) 0 (plan_line (digits_in p))) new.there (logs_before there path folder (Leaves (may_leave log) 0 (plan_line (digits_in p))) is.crash)) is_new,
+      known_as told (λ t new.
+          at_known folder.logs new.logs (λ _. Leaves (crash_states log) 0 (plan_line (digits_in p))) new.there (logs_before there path folder (Leaves (crash_states log) 0 (plan_line (digits_in p))) is.crash)) is_new,
     );
   }
 
 -- where one can't be opened or read
-module _ {D : Type 0} (seen : D → Option (List ℕ)) (may_leave : D → List ℕ → Type 0) (fault : D → Option FileFault) (written : D → Bool) (folder after : Folder) (told : Option (List ℕ × List ℕ)) (taken : Option (List ℕ)) (good : Type 0) (why : FileFault) where
+module _ {D : Type 0} (seen : D → Option (List ℕ)) (crash_states : D → List ℕ → Type 0) (fault : D → Option FileFault) (written : D → Bool) (folder after : Folder) (told : Option (List ℕ × List ℕ)) (taken : Option (List ℕ)) (good : Type 0) (why : FileFault) where
   pub record UnopenedHeld (log : Option D) : Type 0 where
     pub end : Option LogEnd
     pub driven : false ≡ is_driven end
     pub why_is : (IsOpenFault why × (after ≡ with_fault why folder) × (end ≡ None)) ⊎ (((why ≡ Log) ⊎ IsReadFault why) × (after ≡ handed folder) × (end ≡ Some (Unread why)))
-    pub held : IsHeldAfter seen may_leave fault written told taken good log end
+    pub held : IsHeldAfter seen crash_states fault written told taken good log end
 
   pub unopened_held : (path : List ℕ) (log : Option D) → MatchOption log (IsOpenFault why × (after ≡ with_fault why folder)) (λ l. IsOfLog (fault l) why × (after ≡ handed folder))
       → IfSome log (λ l. IsFound folder path (seen l) (written l)) → UnopenedHeld log

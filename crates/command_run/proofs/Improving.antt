@@ -4,8 +4,8 @@ use Rattle.std.proofs.lemmas.Option.{slice_get_within}
 use Rattle.shop_base.specs.Plan.{PlannedShop}
 use Rattle.plan_seek.specs.Orders.{Proposal}
 use Rattle.plan_improve.specs.Settings.{Setting, Left, whole_plan}
-use Rattle.plan_improve.specs.Runs.{Asked, EndsAfter, AfterSome, nobody, one_more, AfterRound, AfterRounds, no_round, round_more, RoundsTold, Rounds}
-use Rattle.plan_improve.specs.Watching.{Told as Telling}
+use Rattle.plan_improve.specs.Runs.{Asked, EndsAfter, AfterSome, nobody, one_more, AfterRound, AfterRounds, no_round, round_more, ReportedRounds, Rounds}
+use Rattle.plan_improve.specs.Watching.{Progress as LogAnswer}
 use Rattle.command_answers.specs.declared.answer.Answer.{Answer}
 use Rattle.command_answers.specs.declared.command_fault.CommandFault.{CommandFault}
 use Rattle.command_answers.specs.declared.command_fault.CommandFault.TheVariants.{Instance, Plan, Names, Read, Write, InputTooLong, Log, LogInUse, Memory}
@@ -64,16 +64,16 @@ module _ (s : Setting) {B : Type 0} (may : B → PlannedShop → Left → ℕ �
   round_all_more : (round : ℕ) (p q : PlannedShop) → AfterRound s may improvers round p q → AfterRound s MayImprove (tt ∷ []) round p q
   round_all_more round p q is = record { asked = is.asked; after = some_more round p is.asked q is.after; ends = subst (λ k. EndsAfter s k is.asked q) alone is.ends }
 
-  rounds_more : (p : PlannedShop) (n : ℕ) (told : List Telling) (r : PlannedShop) → AfterRounds s may improvers p n told r → AfterRounds s MayImprove (tt ∷ []) p n told r
+  rounds_more : (p : PlannedShop) (n : ℕ) (told : List LogAnswer) (r : PlannedShop) → AfterRounds s may improvers p n told r → AfterRounds s MayImprove (tt ∷ []) p n told r
   rounds_more p n told r no_round = no_round
   rounds_more p n told r (round_more m before q z cost at_least run is bound unmet last) =
       round_more m before q z cost at_least (rounds_more p m before q run) is bound unmet (round_all_more m q z last)
 
-  told_more : (rounds : ℕ) (told : List Telling) (p q : PlannedShop) → RoundsTold s may improvers rounds told p q → RoundsTold s MayImprove (tt ∷ []) rounds told p q
-  told_more rounds told p q is = record { asked = is.asked; after = rounds_more p is.asked told q is.after; ends = is.ends }
+  asked_more : (rounds : ℕ) (told : List LogAnswer) (p q : PlannedShop) → ReportedRounds s may improvers rounds told p q → ReportedRounds s MayImprove (tt ∷ []) rounds told p q
+  asked_more rounds told p q is = record { asked = is.asked; after = rounds_more p is.asked told q is.after; ends = is.ends }
 
   pub all_more : (rounds : ℕ) (p q : PlannedShop) → Rounds s may improvers rounds p q → Rounds s MayImprove (tt ∷ []) rounds p q
-  all_more rounds p q found = (found.0, told_more rounds found.0 p q found.1)
+  all_more rounds p q found = (found.0, asked_more rounds found.0 p q found.1)
 
 -- a search by one improver
 pub improves : {W B : Type 0} (may : B → PlannedShop → Left → ℕ → Proposal → Type 0) (improvers : List B) → length improvers ≡ 1 → (gives : W → List ℕ → Result (List ℕ) CommandFault → W → Type 0)

@@ -39,7 +39,7 @@ keepers_files chosen path within keeps =
     omega (arith, two)
 
 -- and which draws nothing
-pub kept_ends : (chosen : Chosen) (path : List ℕ) (outcome : Result Answer CommandFault) (before after : Output) (told_before told_after : Errors) (status : ℕ) → kept_log_in chosen ≡ Some path
-    → Ends outcome before after told_before told_after status → EndsBy (draws_in chosen) outcome before after told_before told_after status
-kept_ends chosen path outcome before after told_before told_after status keeps ends =
-    subst (λ (name : CommandName). EndsBy (draws name chosen.svg) outcome before after told_before told_after status) (sym (keeper chosen.name (option_map string_bytes chosen.log) path keeps)) ends
+pub kept_ends : (chosen : Chosen) (path : List ℕ) (outcome : Result Answer CommandFault) (before after : Output) (printed_before printed_after : Errors) (status : ℕ) → kept_log_in chosen ≡ Some path
+    → Ends outcome before after printed_before printed_after status → EndsBy (draws_in chosen) outcome before after printed_before printed_after status
+kept_ends chosen path outcome before after printed_before printed_after status keeps ends =
+    subst (λ (name : CommandName). EndsBy (draws name chosen.svg) outcome before after printed_before printed_after status) (sym (keeper chosen.name (option_map string_bytes chosen.log) path keeps)) ends

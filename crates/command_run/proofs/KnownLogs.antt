@@ -9,36 +9,36 @@ use Rattle.text_lines.specs.declared.limits.TheConstants.{MAX_INPUT}
 use Rattle.text_lines.specs.Lines.{ended_lines}
 use Rattle.text_lines.proofs.NextLines.{lines_of-le}
 use Rattle.byte_streams.specs.declared.drive_fault.DriveFault.TheVariants.{Write as NotWritten}
-use Rattle.byte_streams.specs.Lent.{Output, taker}
-use Rattle.cell_drive.specs.declared.manner.Manner.{Manner}
-use Rattle.cell_drive.specs.TakenUp.{TakenUp, IsTakenUp, plan_of, told_in as events_in}
-use Rattle.cell_drive.specs.InManner.{IsGoneOnIn, IsToldAgainIn}
+use Rattle.byte_streams.specs.Lent.{Output, output_sink}
+use Rattle.cell_drive.specs.declared.protocol.Protocol.{Protocol}
+use Rattle.cell_drive.specs.Recovered.{Recovered, IsRecovered, plan_of, replayed_events as events_in}
+use Rattle.cell_drive.specs.InProtocol.{IsGoneOnIn, IsReplayedIn}
 use Rattle.event_lines.specs.declared.run_digits.RunDigits.{RunDigits}
 use Rattle.plan_digest.proofs.SixteenDigits.{digits_are}
 use Rattle.run_journal.specs.declared.file_fault.FileFault.{FileFault}
 use Rattle.run_journal.specs.Folders.{Folder, held, handed_if}
-use Rattle.run_journal.specs.LogFiles.{IsSettled}
+use Rattle.run_journal.specs.LogFiles.{IsDurable}
 use Rattle.run_journal.specs.LogRuns.{IsNamedFor}
-use Rattle.run_journal.proofs.NamedLogs.{named_tells, named_whole, whole_again}
+use Rattle.run_journal.proofs.NamedLogs.{named_parses, named_whole, whole_again}
 use Rattle.run_journal.specs.WholeLines.{before_any, whole_lines}
-use Rattle.logged_drive.specs.declared.taken_log.TakeUpFault.{TakeUpFault}
-use Rattle.logged_drive.specs.declared.taken_log.TakeUpFault.TheVariants.{Resume, NoTornEnd, File}
-use Rattle.logged_drive.specs.TakenLogs.{IsTakeUpFault}
+use Rattle.logged_drive.specs.declared.recovered_log.RecoverFault.{RecoverFault}
+use Rattle.logged_drive.specs.declared.recovered_log.RecoverFault.TheVariants.{Resume, NoTornEnd, File}
+use Rattle.logged_drive.specs.RecoveredLogs.{IsRecoverFault}
 use Rattle.command_words.specs.declared.words.log_start.LogStart.{LogStart}
 use Rattle.command_run.specs.Resumes.{end_of_rest}
-use Rattle.command_run.specs.Logs.{Begins, DrivesFitting, DrivesFound, DrivesWithLog, HasFewLines, IsEmptyLog, IsFoundLog, IsTakenFromLog, IsToldOf, IsToldOfFound, IsToldOfNew, IsToldOfOld, IsToldOfPath, Step, TakesUp, digits_in}
-use Rattle.command_run.proofs.HeldLogs.{at_told}
+use Rattle.command_run.specs.Logs.{Begins, DrivesFitting, DrivesFound, DrivesWithLog, HasFewLines, IsEmptyLog, IsFoundLog, IsRecoveredFromLog, IsHistoryOf, IsHistoryOfFound, IsHistoryOfNew, IsHistoryOfOld, IsHistoryOfPath, Step, RecoversRun, digits_in}
+use Rattle.command_run.proofs.HeldLogs.{at_known}
 
 -- ---- what is told again
 
-pub never_shown : (manner : Manner) (t run : TakenUp) (before mid after : Output) → IsToldAgainIn manner t (taker before) (taker mid) (Ok run) → Keeps mid.taken after.taken → after.failed ≡ true
-    → IsToldAgainIn {T = TakenUp} manner t (taker before) (taker after) (Err NotWritten)
-never_shown manner t run before mid after is kept failed = (failed, ([], record { out = _; took = Appends-kept _ _ _ _ is.0 kept; whole = append-nil _ }))
+pub never_shown : (protocol : Protocol) (t run : Recovered) (before mid after : Output) → IsReplayedIn protocol t (output_sink before) (output_sink mid) (Ok run) → Keeps mid.written after.written → after.failed ≡ true
+    → IsReplayedIn {T = Recovered} protocol t (output_sink before) (output_sink after) (Err NotWritten)
+never_shown protocol t run before mid after is kept failed = (failed, ([], record { out = _; took = Appends-kept _ _ _ _ is.0 kept; whole = append-nil _ }))
 
 -- what goes on is what was taken up
-pub same_run : (manner : Manner) (t run : TakenUp) (step : Step) → run ≡ t → DrivesWithLog (plan_of run) (events_in run) (IsGoneOnIn manner run) end_of_rest step
-    → DrivesWithLog (plan_of t) (events_in t) (IsGoneOnIn manner t) end_of_rest step
-same_run manner t run step same is = subst (λ (x : TakenUp). DrivesWithLog (plan_of x) (events_in x) (IsGoneOnIn manner x) end_of_rest step) same is
+pub same_run : (protocol : Protocol) (t run : Recovered) (step : Step) → run ≡ t → DrivesWithLog (plan_of run) (events_in run) (IsGoneOnIn protocol run) end_of_rest step
+    → DrivesWithLog (plan_of t) (events_in t) (IsGoneOnIn protocol t) end_of_rest step
+same_run protocol t run step same is = subst (λ (x : Recovered). DrivesWithLog (plan_of x) (events_in x) (IsGoneOnIn protocol x) end_of_rest step) same is
 
 -- ---- the whole lines of a log
 
@@ -55,21 +55,21 @@ whole_length : (bytes : List ℕ) → length (whole_lines bytes) ≤ length byte
 whole_length [] = omega arith
 whole_length (byte ∷ bytes) = with_byte_length (byte == 10) byte (whole_lines bytes) (length bytes) (whole_length bytes)
 
-module _ (p : PlannedShop) (manner : Manner) (at : Option ℕ) (text : List ℕ) (taken : Option (List ℕ)) where
-  pub old_taken : (told : Option (List ℕ × List ℕ)) → IfSome told (IsToldOfOld p manner at text taken) → (t : TakenUp) → IsTakenUp p (ended_lines (whole_lines text)) at t → IfSome told (λ b. IsTakenFromLog t b.0)
-  old_taken None is t up = tt
-  old_taken (Some b) is t up =
+module _ (p : PlannedShop) (protocol : Protocol) (at : Option ℕ) (text : List ℕ) (taken : Option (List ℕ)) where
+  pub old_recovered : (told : Option (List ℕ × List ℕ)) → IfSome told (IsHistoryOfOld p protocol at text taken) → (t : Recovered) → IsRecovered p (ended_lines (whole_lines text)) at t → IfSome told (λ b. IsRecoveredFromLog t b.0)
+  old_recovered None is t up = tt
+  old_recovered (Some b) is t up =
       let lines = whole_lines text in
       let whole = whole_again text in
-      let again : IsTakenUp p (ended_lines b.0) at t = record {
+      let again : IsRecovered p (ended_lines b.0) at t = record {
         told = up.told;
-        tells = named_tells p (digits_in p) lines b.0 up.told (digits_are p.shop p.plan) whole is.log up.tells;
+        tells = named_parses p (digits_in p) lines b.0 up.told (digits_are p.shop p.plan) whole is.log up.tells;
         is_run = up.is_run;
-        taken_from = up.taken_from;
+        recovered_from = up.recovered_from;
       } in (
         named_whole (digits_in p) lines b.0 whole is.log,
         at,
-        subst (λ (q : PlannedShop). IsTakenUp q (ended_lines b.0) at t) (sym up.taken_from.planned) again,
+        subst (λ (q : PlannedShop). IsRecovered q (ended_lines b.0) at t) (sym up.recovered_from.planned) again,
       )
 
 -- two logs that are named for the same digits have the same bytes
@@ -80,14 +80,14 @@ named_same digits lines one other (inr is) (inl also) = absurd (is.0 also.0)
 named_same digits lines one other (inr is) (inr also) = is.1 ∙ sym also.1
 
 -- what the log has once it is taken up is what is told of it
-pub old_named : (p : PlannedShop) (manner : Manner) (at : Option ℕ) (text : List ℕ) (taken seen now : Option (List ℕ)) (told : Option (List ℕ × List ℕ))
-    → IfSome told (λ b. (seen ≡ Some text) × IsToldOfOld p manner at text taken b) → IfSome seen (λ file. (base : List ℕ) × IsNamedFor (digits_in p) (whole_lines file) base × (now ≡ Some base)) → IfSome told (λ b. now ≡ Some b.0)
-old_named p manner at text taken seen now None is named = tt
-old_named p manner at text taken seen now (Some b) is named =
+pub old_named : (p : PlannedShop) (protocol : Protocol) (at : Option ℕ) (text : List ℕ) (taken seen now : Option (List ℕ)) (told : Option (List ℕ × List ℕ))
+    → IfSome told (λ b. (seen ≡ Some text) × IsHistoryOfOld p protocol at text taken b) → IfSome seen (λ file. (base : List ℕ) × IsNamedFor (digits_in p) (whole_lines file) base × (now ≡ Some base)) → IfSome told (λ b. now ≡ Some b.0)
+old_named p protocol at text taken seen now None is named = tt
+old_named p protocol at text taken seen now (Some b) is named =
     let has = subst (λ (s : Option (List ℕ)). IfSome s (λ file. (base : List ℕ) × IsNamedFor (digits_in p) (whole_lines file) base × (now ≡ Some base))) is.0 named in
     has.2 ∙ ap Some (named_same (digits_in p) (whole_lines text) has.0 b.0 has.1 is.1.log)
 
-pub few_lines : (p : PlannedShop) (at : Option ℕ) (text : List ℕ) (fault : TakeUpFault) → length text ≤ MAX_INPUT → IsTakeUpFault p text at fault → HasFewLines fault
+pub few_lines : (p : PlannedShop) (at : Option ℕ) (text : List ℕ) (fault : RecoverFault) → length text ≤ MAX_INPUT → IsRecoverFault p text at fault → HasFewLines fault
 few_lines p at text (Resume fault) few is = tt
 few_lines p at text (NoTornEnd lines) few is = (let count = lines_of-le (whole_lines text) in let whole = whole_length text in omega (arith, is.2, count, whole, few))
 few_lines p at text (File fault) few is = tt
@@ -99,38 +99,38 @@ logs_handed : (there : Bool) (folder : Folder) → (handed_if there folder).logs
 logs_handed true folder = refl
 logs_handed false folder = refl
 
-module _ (folder folder_after : Folder) (path : List ℕ) (manner : Manner) (at : Option ℕ) (p : PlannedShop) (step : Step) where
-  pub empty_begins : (text : List ℕ) → text ≡ [] → Begins folder folder_after path manner p true step → DrivesFitting folder folder_after path manner at p (Some text) step
-  empty_begins text empty is = subst (λ (xs : List ℕ). DrivesFitting folder folder_after path manner at p (Some xs) step) (sym empty) is
+module _ (folder folder_after : Folder) (path : List ℕ) (protocol : Protocol) (at : Option ℕ) (p : PlannedShop) (step : Step) where
+  pub empty_begins : (text : List ℕ) → text ≡ [] → Begins folder folder_after path protocol p true step → DrivesFitting folder folder_after path protocol at p (Some text) step
+  empty_begins text empty is = subst (λ (xs : List ℕ). DrivesFitting folder folder_after path protocol at p (Some xs) step) (sym empty) is
 
-  pub bytes_taken : (text : List ℕ) → (text ≡ [] → ⊥) → TakesUp p manner at text step → folder_after ≡ folder → DrivesFitting folder folder_after path manner at p (Some text) step
-  bytes_taken [] some is same = absurd (some refl)
-  bytes_taken (byte ∷ bytes) some is same = (is, same)
+  pub bytes_written : (text : List ℕ) → (text ≡ [] → ⊥) → RecoversRun p protocol at text step → folder_after ≡ folder → DrivesFitting folder folder_after path protocol at p (Some text) step
+  bytes_written [] some is same = absurd (some refl)
+  bytes_written (byte ∷ bytes) some is same = (is, same)
 
-module _ (folder : Folder) (p : PlannedShop) (manner : Manner) (at : Option ℕ) (taken : Option (List ℕ)) (t : List ℕ × List ℕ) where
-  pub new_told : (text : List ℕ) → text ≡ [] → IsToldOf folder p manner at (Some text) taken t → IsToldOfNew folder p taken t
-  new_told text empty is = subst (λ (xs : List ℕ). IsToldOf folder p manner at (Some xs) taken t) empty is
+module _ (folder : Folder) (p : PlannedShop) (protocol : Protocol) (at : Option ℕ) (taken : Option (List ℕ)) (t : List ℕ × List ℕ) where
+  pub new_known : (text : List ℕ) → text ≡ [] → IsHistoryOf folder p protocol at (Some text) taken t → IsHistoryOfNew folder p taken t
+  new_known text empty is = subst (λ (xs : List ℕ). IsHistoryOf folder p protocol at (Some xs) taken t) empty is
 
-  pub old_told : (text : List ℕ) → (text ≡ [] → ⊥) → IsToldOf folder p manner at (Some text) taken t → IsToldOfOld p manner at text taken t
-  old_told [] some is = absurd (some refl)
-  old_told (byte ∷ bytes) some is = is
+  pub old_known : (text : List ℕ) → (text ≡ [] → ⊥) → IsHistoryOf folder p protocol at (Some text) taken t → IsHistoryOfOld p protocol at text taken t
+  old_known [] some is = absurd (some refl)
+  old_known (byte ∷ bytes) some is = is
 
-  told_in : (mid : Folder) (there : Option (List ℕ)) → mid.logs ≡ folder.logs → IsToldOf folder p manner at there taken t → IsToldOf mid p manner at there taken t
-  told_in mid None same is = record { logs = is.logs; there = same ∙ is.there; log = is.log; output = is.output }
-  told_in mid (Some []) same is = record { logs = is.logs; there = same ∙ is.there; log = is.log; output = is.output }
-  told_in mid (Some (byte ∷ bytes)) same is = is
+  replayed_events : (mid : Folder) (there : Option (List ℕ)) → mid.logs ≡ folder.logs → IsHistoryOf folder p protocol at there taken t → IsHistoryOf mid p protocol at there taken t
+  replayed_events mid None same is = record { logs = is.logs; there = same ∙ is.there; log = is.log; output = is.output }
+  replayed_events mid (Some []) same is = record { logs = is.logs; there = same ∙ is.there; log = is.log; output = is.output }
+  replayed_events mid (Some (byte ∷ bytes)) same is = is
 
 -- so is what was found by the path
-pub path_told : {D : Type 0} (folder mid : Folder) (path : List ℕ) (p : PlannedShop) (manner : Manner) (at : Option ℕ) (taken : Option (List ℕ)) (found : Option (D × List ℕ)) → mid ≡ handed_if (is_some found) folder
-    → IfSome folder.logs (λ logs. option_map (λ there. there.1) found ≡ held logs path) → (t : List ℕ × List ℕ) → IsToldOfPath folder path p manner at taken t
-    → IsToldOfFound mid p manner at (option_map (λ there. there.1) found) taken t
-path_told folder mid path p manner at taken found opened there t is =
+pub path_known : {D : Type 0} (folder mid : Folder) (path : List ℕ) (p : PlannedShop) (protocol : Protocol) (at : Option ℕ) (taken : Option (List ℕ)) (found : Option (D × List ℕ)) → mid ≡ handed_if (is_some found) folder
+    → IfSome folder.logs (λ logs. option_map (λ there. there.1) found ≡ held logs path) → (t : List ℕ × List ℕ) → IsHistoryOfPath folder path p protocol at taken t
+    → IsHistoryOfFound mid p protocol at (option_map (λ there. there.1) found) taken t
+path_known folder mid path p protocol at taken found opened there t is =
     let same : mid.logs ≡ folder.logs = ap (λ (f : Folder). f.logs) opened ∙ logs_handed (is_some found) folder in
-    let here = at_told folder.logs is.logs (λ logs. option_map (λ there. there.1) found ≡ held logs path) is.there there in
+    let here = at_known folder.logs is.logs (λ logs. option_map (λ there. there.1) found ≡ held logs path) is.there there in
     record {
       logs = is.logs;
       in_folder = same ∙ is.there;
-      is = told_in folder p manner at taken t mid (option_map (λ there. there.1) found) same (subst (λ (o : Option (List ℕ)). IsToldOf folder p manner at o taken t) (sym here) is.is);
+      is = replayed_events folder p protocol at taken t mid (option_map (λ there. there.1) found) same (subst (λ (o : Option (List ℕ)). IsHistoryOf folder p protocol at o taken t) (sym here) is.is);
     }
 
 -- ---- the log that was found
@@ -139,8 +139,8 @@ read_empty : (seen : Option (List ℕ)) (text : List ℕ) → text ≡ [] → If
 read_empty None text empty read = tt
 read_empty (Some file) text empty read = sym read ∙ empty
 
-module _ (seen : Option (List ℕ)) (may_leave : List ℕ → Type 0) (fault : Option FileFault) (written : Bool) (folder : Folder) where
-  pub empty_found : (text : List ℕ) → text ≡ [] → IsFoundLog seen may_leave fault written folder text → IsEmptyLog seen may_leave fault written folder
+module _ (seen : Option (List ℕ)) (crash_states : List ℕ → Type 0) (fault : Option FileFault) (written : Bool) (folder : Folder) where
+  pub empty_found : (text : List ℕ) → text ≡ [] → IsFoundLog seen crash_states fault written folder text → IsEmptyLog seen crash_states fault written folder
   empty_found text empty is = record {
     ready = is.ready;
     unwritten = is.unwritten;
@@ -148,13 +148,13 @@ module _ (seen : Option (List ℕ)) (may_leave : List ℕ → Type 0) (fault : O
     told = subst (λ (xs : List ℕ). IfSome folder.logs (λ _. seen ≡ Some xs)) empty is.told;
   }
 
-pub opened_found : {D : Type 0} (seen : D → Option (List ℕ)) (may_leave : D → List ℕ → Type 0) (fault : D → Option FileFault) (written : D → Bool) (folder mid : Folder) (found : Option (D × List ℕ)) → mid ≡ handed_if (is_some found) folder
-    → IfSome found (λ there. IfSome (seen there.0) (λ file. there.1 ≡ file)) → IfSome found (λ there. length there.1 ≤ MAX_INPUT) → IfSome found (λ there. IsSettled (seen there.0) (may_leave there.0))
+pub opened_found : {D : Type 0} (seen : D → Option (List ℕ)) (crash_states : D → List ℕ → Type 0) (fault : D → Option FileFault) (written : D → Bool) (folder mid : Folder) (found : Option (D × List ℕ)) → mid ≡ handed_if (is_some found) folder
+    → IfSome found (λ there. IfSome (seen there.0) (λ file. there.1 ≡ file)) → IfSome found (λ there. length there.1 ≤ MAX_INPUT) → IfSome found (λ there. IsDurable (seen there.0) (crash_states there.0))
     → IfSome found (λ there. fault there.0 ≡ None) → IfSome found (λ there. written there.0 ≡ false)
-    → IfSome found (λ there. IfSome folder.logs (λ _. seen there.0 ≡ Some there.1)) → IfSome found (λ there. IsFoundLog (seen there.0) (may_leave there.0) (fault there.0) (written there.0) mid there.1)
-opened_found seen may_leave fault written folder mid None opened read within settled unfailed unwritten told = tt
-opened_found seen may_leave fault written folder mid (Some there) opened read within settled unfailed unwritten told = record {
-  ready = record { settled = settled; unfailed = unfailed };
+    → IfSome found (λ there. IfSome folder.logs (λ _. seen there.0 ≡ Some there.1)) → IfSome found (λ there. IsFoundLog (seen there.0) (crash_states there.0) (fault there.0) (written there.0) mid there.1)
+opened_found seen crash_states fault written folder mid None opened read within durable unfailed unwritten told = tt
+opened_found seen crash_states fault written folder mid (Some there) opened read within durable unfailed unwritten told = record {
+  ready = record { durable = durable; unfailed = unfailed };
   unwritten = unwritten;
   read = read;
   within = within;
@@ -162,8 +162,8 @@ opened_found seen may_leave fault written folder mid (Some there) opened read wi
 }
 
 -- the folder in which it was opened
-pub found_in_folder : {D : Type 0} (folder mid after : Folder) (path : List ℕ) (start : LogStart) (manner : Manner) (at : Option ℕ) (p : PlannedShop) (step : Step) (found : Option (D × List ℕ)) → mid ≡ handed_if (is_some found) folder
-    → DrivesFound mid after path start manner at p (option_map (λ there. there.1) found) step
-    → DrivesFound (handed_if (is_some (option_map (λ there. there.1) found)) folder) after path start manner at p (option_map (λ there. there.1) found) step
-found_in_folder folder mid after path start manner at p step None opened drives = subst (λ (f : Folder). DrivesFound f after path start manner at p None step) opened drives
-found_in_folder folder mid after path start manner at p step (Some there) opened drives = subst (λ (f : Folder). DrivesFound f after path start manner at p (Some there.1) step) opened drives
+pub found_in_folder : {D : Type 0} (folder mid after : Folder) (path : List ℕ) (start : LogStart) (protocol : Protocol) (at : Option ℕ) (p : PlannedShop) (step : Step) (found : Option (D × List ℕ)) → mid ≡ handed_if (is_some found) folder
+    → DrivesFound mid after path start protocol at p (option_map (λ there. there.1) found) step
+    → DrivesFound (handed_if (is_some (option_map (λ there. there.1) found)) folder) after path start protocol at p (option_map (λ there. there.1) found) step
+found_in_folder folder mid after path start protocol at p step None opened drives = subst (λ (f : Folder). DrivesFound f after path start protocol at p None step) opened drives
+found_in_folder folder mid after path start protocol at p step (Some there) opened drives = subst (λ (f : Folder). DrivesFound f after path start protocol at p (Some there.1) step) opened drives

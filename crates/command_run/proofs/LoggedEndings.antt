@@ -7,12 +7,12 @@ use Rattle.plan_verifier.specs.declared.verdict.Verdict.TheVariants.{Accepted, R
 use Rattle.byte_streams.specs.declared.drive_fault.DriveFault.{DriveFault}
 use Rattle.byte_streams.specs.declared.drive_fault.DriveFault.TheVariants.{Read as NotRead, Write as NotWritten, InputTooLong as TooLong, Memory as WantOfMemory}
 use Rattle.run_log.specs.declared.audit_fault.AuditFault.TheVariants.{BadLine}
-use Rattle.cell_drive.specs.declared.manner.Manner.{Manner}
-use Rattle.cell_drive.specs.TakenUp.{TakenUp}
+use Rattle.cell_drive.specs.declared.protocol.Protocol.{Protocol}
+use Rattle.cell_drive.specs.Recovered.{Recovered}
 use Rattle.run_journal.specs.declared.file_fault.FileFault.{FileFault}
 use Rattle.run_journal.specs.Folders.{Folder, handed_if}
-use Rattle.logged_drive.specs.declared.taken_log.TakeUpFault.{TakeUpFault}
-use Rattle.logged_drive.specs.declared.taken_log.TakeUpFault.TheVariants.{Resume, NoTornEnd, File}
+use Rattle.logged_drive.specs.declared.recovered_log.RecoverFault.{RecoverFault}
+use Rattle.logged_drive.specs.declared.recovered_log.RecoverFault.TheVariants.{Resume, NoTornEnd, File}
 use Rattle.command_answers.specs.declared.answer.Answer.{Answer}
 use Rattle.command_answers.specs.declared.command_fault.CommandFault.{CommandFault}
 use Rattle.command_answers.specs.declared.loading.Loaded.TheVariants.{NotShaped, Judged}
@@ -24,9 +24,9 @@ use Rattle.command_run.specs.Resumes.{end_of_rest}
 use Rattle.command_words.specs.declared.words.log_start.LogStart.{LogStart}
 use Rattle.command_run.specs.declared.misfits.Misfit.{Misfit}
 use Rattle.command_run.specs.Misfits.{IsMisfitLine}
-use Rattle.command_run.specs.Logs.{Begins, BeginsBy, DrivesAs, DrivesFitting, DrivesNothing, DrivesOpened, DrivesShaped, GoesOnAfter, GoesOnTaken, IsLoggedAnswer, IsLogUntakenTold, IsVerdict, LogEnd, Driven, Untaken, Left, Found, Unread, Unlined, Step, TakesLog, TellsAgain, left_if, step_of}
+use Rattle.command_run.specs.Logs.{Begins, BeginsBy, DrivesAs, DrivesFitting, DrivesNothing, DrivesOpened, DrivesShaped, GoesOnAfter, ContinuesRecovered, IsLoggedAnswer, IsLogFaultPrinted, IsVerdict, LogEnd, Driven, NotRecovered, Left, Found, Unread, Unlined, Step, RecoversLog, ReplaysEvents, left_if, step_of}
 use Rattle.command_run.specs.Laws.{DroveWithLog, HoldsNothing}
-use Rattle.command_run.proofs.LowStatuses.{IsLow, low_end, low_line_of, low_log_fault, low_or, low_untaken}
+use Rattle.command_run.proofs.LowStatuses.{IsLow, low_end, low_line_of, low_log_fault, low_or, low_unrecovered}
 
 -- ---- the answer is a good one, or one that refuses
 
@@ -34,45 +34,45 @@ low_logged_end : (log_failed : Bool) (done : Result Bool DriveFault) (outcome : 
 low_logged_end log_failed (Ok done) outcome is = low_end (Ok done) outcome is
 low_logged_end log_failed (Err fault) outcome is = subst IsLow (sym is) tt
 
-low_log_untaken : (fault : TakeUpFault) (outcome : Result Answer CommandFault) → IsLogUntakenTold fault outcome → IsLow outcome
-low_log_untaken (Resume fault) outcome is = low_untaken fault outcome is
-low_log_untaken (NoTornEnd lines) outcome is = low_log_fault (BadLine (suc lines)) outcome is
-low_log_untaken (File fault) outcome is = subst IsLow (sym is) tt
+low_log_unrecovered : (fault : RecoverFault) (outcome : Result Answer CommandFault) → IsLogFaultPrinted fault outcome → IsLow outcome
+low_log_unrecovered (Resume fault) outcome is = low_unrecovered fault outcome is
+low_log_unrecovered (NoTornEnd lines) outcome is = low_log_fault (BadLine (suc lines)) outcome is
+low_log_unrecovered (File fault) outcome is = subst IsLow (sym is) tt
 
-module _ (folder folder_after : Folder) (path : List ℕ) (manner : Manner) (at : Option ℕ) where
-  low_begun : (there : Bool) (verdict : Verdict) (step : Step) → BeginsBy folder folder_after path manner there verdict step → IsLow step.outcome
+module _ (folder folder_after : Folder) (path : List ℕ) (protocol : Protocol) (at : Option ℕ) where
+  low_begun : (there : Bool) (verdict : Verdict) (step : Step) → BeginsBy folder folder_after path protocol there verdict step → IsLow step.outcome
   low_begun there (Refused back why) step is = low_or (IsLineOf (Judged (Refused back why))) step.outcome (low_line_of (Judged (Refused back why))) is.0
   low_begun there (Accepted v) step (inl wanting) = subst IsLow (sym wanting.0) tt
   low_begun there (Accepted v) step (inr (inl lacks)) = subst IsLow (sym lacks.is) tt
   low_begun there (Accepted v) step (inr (inr run)) = low_logged_end run.drove.log_failed (end_of_drive run.drove.end) step.outcome run.drove.answer
 
-  low_begins : (p : PlannedShop) (there : Bool) (step : Step) → Begins folder folder_after path manner p there step → IsLow step.outcome
+  low_begins : (p : PlannedShop) (there : Bool) (step : Step) → Begins folder folder_after path protocol p there step → IsLow step.outcome
   low_begins p there step (inl (verdict, is, by)) = low_begun there verdict step by
   low_begins p there step (inr wanting) = subst IsLow (sym wanting.0) tt
 
-  low_after : (t : TakenUp) (mid : Output) (told : Result TakenUp DriveFault) (step : Step) → GoesOnAfter manner t mid told step → IsLow step.outcome
+  low_after : (t : Recovered) (mid : Output) (told : Result Recovered DriveFault) (step : Step) → GoesOnAfter protocol t mid told step → IsLow step.outcome
   low_after t mid (Ok done) step run = low_logged_end run.log_failed (end_of_rest run.end) step.outcome run.answer
   low_after t mid (Err fault) step is = subst IsLow (sym is.0) tt
 
-  low_taken_up : (p : PlannedShop) (text : List ℕ) (taken : Result TakenUp TakeUpFault) (step : Step) → GoesOnTaken p manner text taken step → IsLow step.outcome
-  low_taken_up p text (Ok t) step on = low_after t on.mid on.told step on.goes_on
-  low_taken_up p text (Err fault) step is = low_log_untaken fault step.outcome is.0
+  low_recovered_run : (p : PlannedShop) (text : List ℕ) (taken : Result Recovered RecoverFault) (step : Step) → ContinuesRecovered p protocol text taken step → IsLow step.outcome
+  low_recovered_run p text (Ok t) step on = low_after t on.mid on.told step on.goes_on
+  low_recovered_run p text (Err fault) step is = low_log_unrecovered fault step.outcome is.0
 
-  low_fitting : (p : PlannedShop) (there : Option (List ℕ)) (step : Step) → DrivesFitting folder folder_after path manner at p there step → IsLow step.outcome
+  low_fitting : (p : PlannedShop) (there : Option (List ℕ)) (step : Step) → DrivesFitting folder folder_after path protocol at p there step → IsLow step.outcome
   low_fitting p None step is = low_begins p false step is
   low_fitting p (Some []) step is = low_begins p true step is
-  low_fitting p (Some (byte ∷ bytes)) step is = low_taken_up p (byte ∷ bytes) is.0.taken step is.0.goes_on
+  low_fitting p (Some (byte ∷ bytes)) step is = low_recovered_run p (byte ∷ bytes) is.0.taken step is.0.goes_on
 
-  low_as : (misfit : Option Misfit) (p : PlannedShop) (there : Option (List ℕ)) (step : Step) → DrivesAs folder folder_after path misfit manner at p there step → IsLow step.outcome
+  low_as : (misfit : Option Misfit) (p : PlannedShop) (there : Option (List ℕ)) (step : Step) → DrivesAs folder folder_after path misfit protocol at p there step → IsLow step.outcome
   low_as (Some misfit) p there step is = low_or (IsMisfitLine misfit) step.outcome (λ answer line. omega (arith, line.1)) is.0
   low_as None p there step is = low_fitting p there step is
 
-module _ (folder folder_after : Folder) (path : List ℕ) (start : LogStart) (manner : Manner) (at : Option ℕ) where
-  low_opened : (p : PlannedShop) (opened : Result (Option (List ℕ)) FileFault) (step : Step) → DrivesOpened folder folder_after path start manner at p opened step → IsLow step.outcome
+module _ (folder folder_after : Folder) (path : List ℕ) (start : LogStart) (protocol : Protocol) (at : Option ℕ) where
+  low_opened : (p : PlannedShop) (opened : Result (Option (List ℕ)) FileFault) (step : Step) → DrivesOpened folder folder_after path start protocol at p opened step → IsLow step.outcome
   low_opened p (Err fault) step is = subst IsLow (sym is.0) tt
-  low_opened p (Ok there) step is = low_as (handed_if (is_some there) folder) folder_after path manner at is.misfit p there step is.drives
+  low_opened p (Ok there) step is = low_as (handed_if (is_some there) folder) folder_after path protocol at is.misfit p there step is.drives
 
-  pub low_logged : (shaped : Result (Result PlannedShop ShapeFault) CommandFault) (step : Step) → DrivesShaped folder folder_after path start manner at shaped step → IsLow step.outcome
+  pub low_logged : (shaped : Result (Result PlannedShop ShapeFault) CommandFault) (step : Step) → DrivesShaped folder folder_after path start protocol at shaped step → IsLow step.outcome
   low_logged (Err fault) step is = subst IsLow (sym is.0) tt
   low_logged (Ok (Err fault)) step is = low_or (IsLineOf (NotShaped fault)) step.outcome (low_line_of (NotShaped fault)) is.0
   low_logged (Ok (Ok p)) step (inl is) = low_opened p is.opened step is.drives
@@ -80,49 +80,49 @@ module _ (folder folder_after : Folder) (path : List ℕ) (start : LogStart) (ma
 
 -- ---- what is written
 
-module _ {W : Type 0} (gives : W → List ℕ → Result (List ℕ) CommandFault → W → Type 0) (pair : PairOfFiles) (manner : Manner) (texts later : W) (before after : Streams)
+module _ {W : Type 0} (gives : W → List ℕ → Result (List ℕ) CommandFault → W → Type 0) (pair : PairOfFiles) (protocol : Protocol) (texts later : W) (before after : Streams)
     (outcome : Result Answer CommandFault) (end : Option LogEnd) where
   -- nothing, or what the cell answered
   abbrev Written : Type 0
-  Written = (after.output ≡ before.output) ⊎ DroveWithLog gives manner pair texts before after
+  Written = (after.output ≡ before.output) ⊎ DroveWithLog gives protocol pair texts before after
 
   unwritten : after ≡ before → Written
   unwritten same = inl (ap (λ (s : Streams). s.output) same)
 
   module _ (p : PlannedShop) (shapes : Shapes gives pair texts (Ok (Ok p)) later) where
     begun : (folder folder_after : Folder) (path : List ℕ) (there : Bool) (verdict : Verdict) → IsVerdict p verdict
-        → BeginsBy folder folder_after path manner there verdict (step_of before outcome after end) → Written
+        → BeginsBy folder folder_after path protocol there verdict (step_of before outcome after end) → Written
     begun folder folder_after path there (Refused back why) is by = unwritten by.1.same
     begun folder folder_after path there (Accepted v) is (inl wanting) = unwritten wanting.1.same
     begun folder folder_after path there (Accepted v) is (inr (inl lacks)) = unwritten lacks.same
     begun folder folder_after path there (Accepted v) is (inr (inr run)) =
         inr (record { plan = p; later = later; shapes = shapes; outcome = outcome; log = end; is = inl (v, is.accepted.0, run.drove) })
 
-    begins : (folder folder_after : Folder) (path : List ℕ) (there : Bool) → Begins folder folder_after path manner p there (step_of before outcome after end) → Written
+    begins : (folder folder_after : Folder) (path : List ℕ) (there : Bool) → Begins folder folder_after path protocol p there (step_of before outcome after end) → Written
     begins folder folder_after path there (inl (verdict, is, by)) = begun folder folder_after path there verdict is by
     begins folder folder_after path there (inr wanting) = unwritten wanting.1.same
 
-    taken_up : (at : Option ℕ) (text : List ℕ) (taken : Result TakenUp TakeUpFault) → TakesLog p at text taken → GoesOnTaken p manner text taken (step_of before outcome after end) → Written
-    taken_up at text (Ok t) takes on =
-        inr (record { plan = p; later = later; shapes = shapes; outcome = outcome; log = end; is = inr (t, takes.is.taken_from.planned, on) })
-    taken_up at text (Err fault) takes is = unwritten is.1.same
+    recoverable : (at : Option ℕ) (text : List ℕ) (taken : Result Recovered RecoverFault) → RecoversLog p at text taken → ContinuesRecovered p protocol text taken (step_of before outcome after end) → Written
+    recoverable at text (Ok t) takes on =
+        inr (record { plan = p; later = later; shapes = shapes; outcome = outcome; log = end; is = inr (t, takes.is.recovered_from.planned, on) })
+    recoverable at text (Err fault) takes is = unwritten is.1.same
 
-    fitting : (folder folder_after : Folder) (path : List ℕ) (at : Option ℕ) (there : Option (List ℕ)) → DrivesFitting folder folder_after path manner at p there (step_of before outcome after end) → Written
+    fitting : (folder folder_after : Folder) (path : List ℕ) (at : Option ℕ) (there : Option (List ℕ)) → DrivesFitting folder folder_after path protocol at p there (step_of before outcome after end) → Written
     fitting folder folder_after path at None is = begins folder folder_after path false is
     fitting folder folder_after path at (Some []) is = begins folder folder_after path true is
-    fitting folder folder_after path at (Some (byte ∷ bytes)) is = taken_up at (byte ∷ bytes) is.0.taken is.0.takes is.0.goes_on
+    fitting folder folder_after path at (Some (byte ∷ bytes)) is = recoverable at (byte ∷ bytes) is.0.taken is.0.takes is.0.goes_on
 
-    as_asked : (folder folder_after : Folder) (path : List ℕ) (at : Option ℕ) (misfit : Option Misfit) (there : Option (List ℕ)) → DrivesAs folder folder_after path misfit manner at p there (step_of before outcome after end) → Written
+    as_asked : (folder folder_after : Folder) (path : List ℕ) (at : Option ℕ) (misfit : Option Misfit) (there : Option (List ℕ)) → DrivesAs folder folder_after path misfit protocol at p there (step_of before outcome after end) → Written
     as_asked folder folder_after path at (Some misfit) there is = unwritten is.1.same
     as_asked folder folder_after path at None there is = fitting folder folder_after path at there is
 
     opened_written : (folder folder_after : Folder) (path : List ℕ) (start : LogStart) (at : Option ℕ) (opened : Result (Option (List ℕ)) FileFault)
-        → DrivesOpened folder folder_after path start manner at p opened (step_of before outcome after end) → Written
+        → DrivesOpened folder folder_after path start protocol at p opened (step_of before outcome after end) → Written
     opened_written folder folder_after path start at (Err fault) is = unwritten is.1
     opened_written folder folder_after path start at (Ok there) is = as_asked (handed_if (is_some there) folder) folder_after path at is.misfit there is.drives
 
   pub logged_written : (folder folder_after : Folder) (path : List ℕ) (start : LogStart) (at : Option ℕ) (shaped : Result (Result PlannedShop ShapeFault) CommandFault) → Shapes gives pair texts shaped later
-      → DrivesShaped folder folder_after path start manner at shaped (step_of before outcome after end) → Written
+      → DrivesShaped folder folder_after path start protocol at shaped (step_of before outcome after end) → Written
   logged_written folder folder_after path start at (Err fault) shapes is = unwritten is.1.same
   logged_written folder folder_after path start at (Ok (Err fault)) shapes is = unwritten is.1.same
   logged_written folder folder_after path start at (Ok (Ok p)) shapes (inl is) = opened_written p shapes folder folder_after path start at is.opened is.drives
@@ -130,23 +130,23 @@ module _ {W : Type 0} (gives : W → List ℕ → Result (List ℕ) CommandFault
 
 -- ---- what is shown
 
-telling_shown : (manner : Manner) (t : TakenUp) (before mid : Output) (fault : DriveFault) → TellsAgain manner t before mid (Err fault) → HoldsNothing mid
-telling_shown manner t before mid NotWritten tells = inr tells.is.0
-telling_shown manner t before mid WantOfMemory tells = absurd tells.is
-telling_shown manner t before mid NotRead tells = absurd tells.is
-telling_shown manner t before mid TooLong tells = absurd tells.is
+plan_answer_shown : (protocol : Protocol) (t : Recovered) (before mid : Output) (fault : DriveFault) → ReplaysEvents protocol t before mid (Err fault) → HoldsNothing mid
+plan_answer_shown protocol t before mid NotWritten tells = inr tells.is.0
+plan_answer_shown protocol t before mid WantOfMemory tells = absurd tells.is
+plan_answer_shown protocol t before mid NotRead tells = absurd tells.is
+plan_answer_shown protocol t before mid TooLong tells = absurd tells.is
 
-gone_on_shown : (manner : Manner) (t : TakenUp) (mid : Output) (told : Result TakenUp DriveFault) (step : Step) → TellsAgain manner t step.before.output mid told → GoesOnAfter manner t mid told step
+gone_on_shown : (protocol : Protocol) (t : Recovered) (mid : Output) (told : Result Recovered DriveFault) (step : Step) → ReplaysEvents protocol t step.before.output mid told → GoesOnAfter protocol t mid told step
     → HoldsNothing step.after.output
-gone_on_shown manner t mid (Ok done) step tells run = run.shows.shown
-gone_on_shown manner t mid (Err fault) step tells is =
-    subst (λ (s : Streams). HoldsNothing s.output) (sym is.1) (telling_shown manner t step.before.output mid fault tells)
+gone_on_shown protocol t mid (Ok done) step tells run = run.shows.shown
+gone_on_shown protocol t mid (Err fault) step tells is =
+    subst (λ (s : Streams). HoldsNothing s.output) (sym is.1) (plan_answer_shown protocol t step.before.output mid fault tells)
 
-pub logged_shown : {W : Type 0} (gives : W → List ℕ → Result (List ℕ) CommandFault → W → Type 0) (manner : Manner) (pair : PairOfFiles) (texts : W) (before after : Streams)
-    (drove : DroveWithLog gives manner pair texts before after) → before.output.pending ≡ [] → HoldsNothing after.output
-logged_shown gives manner pair texts before after drove none = elim drove.is [
+pub logged_shown : {W : Type 0} (gives : W → List ℕ → Result (List ℕ) CommandFault → W → Type 0) (protocol : Protocol) (pair : PairOfFiles) (texts : W) (before after : Streams)
+    (drove : DroveWithLog gives protocol pair texts before after) → before.output.pending ≡ [] → HoldsNothing after.output
+logged_shown gives protocol pair texts before after drove none = elim drove.is [
   | inl (v, same, run) ↦ run.shows.shown
-  | inr (t, same, on) ↦ gone_on_shown manner t on.mid on.told (step_of before drove.outcome after drove.log) on.tells on.goes_on
+  | inr (t, same, on) ↦ gone_on_shown protocol t on.mid on.told (step_of before drove.outcome after drove.log) on.tells on.goes_on
 ]
 
 -- ---- what is answered where a cell was driven with the log
@@ -159,7 +159,7 @@ IsSilent outcome = IfOk outcome (λ answer. answer.text.items ≡ [])
 abbrev pub IsDriven : Option LogEnd → Type 0
 IsDriven None = ⊥
 IsDriven (Some (Driven p told held)) = Unit {0}
-IsDriven (Some (Untaken p text fault)) = ⊥
+IsDriven (Some (NotRecovered p text fault)) = ⊥
 IsDriven (Some Left) = ⊥
 IsDriven (Some (Found bytes)) = ⊥
 IsDriven (Some (Unread fault)) = ⊥
@@ -187,37 +187,37 @@ found_undriven (Some bytes) driven = driven
 nothing_driven : (log : Option LogEnd) (step : Step) → (IsDriven log → ⊥) → DrivesNothing log step → IsDriven step.log → IsSilent step.outcome
 nothing_driven log step isnt none = never_driven step.log log step.outcome none.is isnt
 
-module _ (folder folder_after : Folder) (path : List ℕ) (manner : Manner) (at : Option ℕ) where
-  silent_begins : (p : PlannedShop) (there : Bool) (step : Step) → Begins folder folder_after path manner p there step → IsDriven step.log → IsSilent step.outcome
+module _ (folder folder_after : Folder) (path : List ℕ) (protocol : Protocol) (at : Option ℕ) where
+  silent_begins : (p : PlannedShop) (there : Bool) (step : Step) → Begins folder folder_after path protocol p there step → IsDriven step.log → IsSilent step.outcome
   silent_begins p there step (inl (Refused back why, is, by)) = nothing_driven (left_if there) step (left_undriven there) by.1
   silent_begins p there step (inl (Accepted v, is, inl wanting)) = nothing_driven (left_if there) step (left_undriven there) wanting.1
   silent_begins p there step (inl (Accepted v, is, inr (inl lacks))) = λ driven. silent_fault _ step.outcome lacks.is
   silent_begins p there step (inl (Accepted v, is, inr (inr run))) = λ driven. silent_end run.drove.log_failed (end_of_drive run.drove.end) step.outcome run.drove.answer
   silent_begins p there step (inr wanting) = nothing_driven (left_if there) step (left_undriven there) wanting.1
 
-  silent_after : (t : TakenUp) (mid : Output) (told : Result TakenUp DriveFault) (step : Step) → GoesOnAfter manner t mid told step → IsSilent step.outcome
+  silent_after : (t : Recovered) (mid : Output) (told : Result Recovered DriveFault) (step : Step) → GoesOnAfter protocol t mid told step → IsSilent step.outcome
   silent_after t mid (Ok done) step run = silent_end run.log_failed (end_of_rest run.end) step.outcome run.answer
   silent_after t mid (Err fault) step is = silent_fault _ step.outcome is.0
 
-  silent_taken_up : (p : PlannedShop) (text : List ℕ) (taken : Result TakenUp TakeUpFault) (step : Step) → GoesOnTaken p manner text taken step → IsDriven step.log → IsSilent step.outcome
-  silent_taken_up p text (Ok t) step on = λ driven. silent_after t on.mid on.told step on.goes_on
-  silent_taken_up p text (Err fault) step is = nothing_driven (Some (Untaken p text fault)) step (λ bad. bad) is.1
+  silent_recovered : (p : PlannedShop) (text : List ℕ) (taken : Result Recovered RecoverFault) (step : Step) → ContinuesRecovered p protocol text taken step → IsDriven step.log → IsSilent step.outcome
+  silent_recovered p text (Ok t) step on = λ driven. silent_after t on.mid on.told step on.goes_on
+  silent_recovered p text (Err fault) step is = nothing_driven (Some (NotRecovered p text fault)) step (λ bad. bad) is.1
 
-  silent_fitting : (p : PlannedShop) (there : Option (List ℕ)) (step : Step) → DrivesFitting folder folder_after path manner at p there step → IsDriven step.log → IsSilent step.outcome
+  silent_fitting : (p : PlannedShop) (there : Option (List ℕ)) (step : Step) → DrivesFitting folder folder_after path protocol at p there step → IsDriven step.log → IsSilent step.outcome
   silent_fitting p None step is = silent_begins p false step is
   silent_fitting p (Some []) step is = silent_begins p true step is
-  silent_fitting p (Some (byte ∷ bytes)) step is = silent_taken_up p (byte ∷ bytes) is.0.taken step is.0.goes_on
+  silent_fitting p (Some (byte ∷ bytes)) step is = silent_recovered p (byte ∷ bytes) is.0.taken step is.0.goes_on
 
-  silent_as : (misfit : Option Misfit) (p : PlannedShop) (there : Option (List ℕ)) (step : Step) → DrivesAs folder folder_after path misfit manner at p there step → IsDriven step.log → IsSilent step.outcome
+  silent_as : (misfit : Option Misfit) (p : PlannedShop) (there : Option (List ℕ)) (step : Step) → DrivesAs folder folder_after path misfit protocol at p there step → IsDriven step.log → IsSilent step.outcome
   silent_as (Some misfit) p there step is = nothing_driven (option_map Found there) step (found_undriven there) is.1
   silent_as None p there step is = silent_fitting p there step is
 
-module _ (folder folder_after : Folder) (path : List ℕ) (start : LogStart) (manner : Manner) (at : Option ℕ) where
-  silent_opened : (p : PlannedShop) (opened : Result (Option (List ℕ)) FileFault) (step : Step) → DrivesOpened folder folder_after path start manner at p opened step → IsDriven step.log → IsSilent step.outcome
+module _ (folder folder_after : Folder) (path : List ℕ) (start : LogStart) (protocol : Protocol) (at : Option ℕ) where
+  silent_opened : (p : PlannedShop) (opened : Result (Option (List ℕ)) FileFault) (step : Step) → DrivesOpened folder folder_after path start protocol at p opened step → IsDriven step.log → IsSilent step.outcome
   silent_opened p (Err fault) step is = λ driven. silent_fault _ step.outcome is.0
-  silent_opened p (Ok there) step is = silent_as (handed_if (is_some there) folder) folder_after path manner at is.misfit p there step is.drives
+  silent_opened p (Ok there) step is = silent_as (handed_if (is_some there) folder) folder_after path protocol at is.misfit p there step is.drives
 
-  pub silent_logged : (shaped : Result (Result PlannedShop ShapeFault) CommandFault) (step : Step) → DrivesShaped folder folder_after path start manner at shaped step → IsDriven step.log → IsSilent step.outcome
+  pub silent_logged : (shaped : Result (Result PlannedShop ShapeFault) CommandFault) (step : Step) → DrivesShaped folder folder_after path start protocol at shaped step → IsDriven step.log → IsSilent step.outcome
   silent_logged (Err fault) step is = nothing_driven None step (λ bad. bad) is.1
   silent_logged (Ok (Err fault)) step is = nothing_driven None step (λ bad. bad) is.1
   silent_logged (Ok (Ok p)) step (inl is) = silent_opened p is.opened step is.drives

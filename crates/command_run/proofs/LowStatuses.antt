@@ -31,10 +31,10 @@ use Rattle.command_answers.specs.Documents.{IsDocumentAnswer}
 use Rattle.command_answers.specs.Revising.{IsInstanceAnswer, IsPrinted, IsReviseAnswer, IsRevisedFrom}
 use Rattle.command_run.specs.Revisions.{Revises, printed_for, values_asked}
 use Rattle.byte_streams.specs.declared.drive_fault.DriveFault.{DriveFault}
-use Rattle.cell_drive.specs.declared.manner.Manner.{Manner}
+use Rattle.cell_drive.specs.declared.protocol.Protocol.{Protocol}
 use Rattle.cell_drive.specs.declared.resume_fault.ResumeFault.{ResumeFault}
 use Rattle.cell_drive.specs.declared.resume_fault.ResumeFault.TheVariants.{Log, Past, Refused as RefusedRun, Memory as NoMemoryToResume}
-use Rattle.cell_drive.specs.TakenUp.{TakenUp}
+use Rattle.cell_drive.specs.Recovered.{Recovered}
 use Rattle.run_log.specs.declared.audit_fault.AuditFault.{AuditFault}
 use Rattle.run_log.specs.declared.audit_fault.AuditFault.TheVariants.{BadLine, NotExpected, Backwards, NotReady, Occupied, OutOfOrder, WrongPlace, NotClean, Memory as NoMemoryToAudit}
 use Rattle.command_words.specs.declared.words.Chosen.{Chosen}
@@ -61,11 +61,11 @@ use Rattle.command_answers.specs.Deciding.{IsDecisionAnswer, IsDecisionText}
 use Rattle.command_answers.specs.DecidingRests.{IsUnfitLine, IsRestDecisionText, IsRestDecisionAnswer}
 use Rattle.command_answers.specs.Improving.{IsStatusOf, IsBestAnswer, IsImproveAnswer, ordered}
 use Rattle.command_answers.specs.Search.{IsSearchLine, IsSearchAnswer, IsNoPlanLine}
-use Rattle.command_answers.specs.declared.logs.Telling.{Telling}
-use Rattle.command_answers.specs.declared.logs.Telling.TheVariants.{Numbers, Drawing}
-use Rattle.command_answers.specs.LogLines.{IsFaultLine, IsFaultTold, IsLogLine, IsLogRefused}
-use Rattle.command_answers.specs.declared.rests.PlanTelling.{PlanTelling}
-use Rattle.command_answers.specs.declared.rests.PlanTelling.TheVariants.{Verdict as OfVerdict, Reasons, Moments}
+use Rattle.command_answers.specs.declared.logs.LogAnswer.{LogAnswer}
+use Rattle.command_answers.specs.declared.logs.LogAnswer.TheVariants.{Numbers, Drawing}
+use Rattle.command_answers.specs.LogLines.{IsFaultLine, IsLogFaultAnswer, IsLogLine, IsLogRefused}
+use Rattle.command_answers.specs.declared.rests.PlanAnswer.{PlanAnswer}
+use Rattle.command_answers.specs.declared.rests.PlanAnswer.TheVariants.{Verdict as OfVerdict, Reasons, Moments}
 use Rattle.command_answers.specs.Rests.{IsPastLine, IsRestLine, job_asked}
 use Rattle.command_answers.specs.declared.pictures.Drawn.{Drawn}
 use Rattle.command_answers.specs.declared.pictures.Drawn.TheVariants.{Picture, Line as LineDrawn}
@@ -77,18 +77,18 @@ use Rattle.command_answers.specs.Margins.{IsMarginAnswer}
 use Rattle.command_answers.specs.Moves.{AreMovesOfLog, AreMovesOfPlan}
 use Rattle.command_answers.proofs.RestAnswers.{low_log_moves, low_moves, low_rest}
 use Rattle.command_run.specs.Streams.{Streams, Output}
-use Rattle.command_run.specs.Pictures.{Draws, DrawsTimetable, IsPictureOut, RunsTimetable, RunsDrawing, TellsMoves}
+use Rattle.command_run.specs.Pictures.{Draws, DrawsTimetable, IsPictureOut, RunsTimetable, RunsDrawing, AnswersMoves}
 use Rattle.command_run.specs.declared.pictures.Timetable.{Timetable}
 use Rattle.command_run.specs.declared.pictures.Timetable.TheVariants.{Moments as ByMoments, Moves as ByMoves, Picture as AsPicture}
 use Rattle.command_run.specs.Drives.{IsEnded, IsEndAnswer, Drives, status_at, end_of_drive}
-use Rattle.command_run.specs.Resumes.{IsUntakenTold, ResumesTaken, ResumesText, Resumes, end_of_rest}
+use Rattle.command_run.specs.Resumes.{IsUnrecoveredAnswer, ResumesRecovered, ResumesText, Resumes, end_of_rest}
 use Rattle.command_run.specs.Hubs.{DrivesAll, end_of_hub}
 use Rattle.command_run.specs.Planners.{search_by_two, SeeksPlan}
 use Rattle.text_lines.specs.Lines.{ended_lines}
 use Rattle.command_answers.specs.ImprovingRests.{RestAsked, IsRestAnswer}
 use Rattle.command_run.specs.Choosers.{Decides}
 use Rattle.command_run.specs.Improvers.{AsksOne, AsksOneForRest, ImprovesPlan, ImprovesRest, Improves}
-use Rattle.command_run.specs.Tellings.{RunsTelling}
+use Rattle.command_run.specs.Tellings.{RunsPlanAnswer}
 use Rattle.command_run.specs.Program.{RunsCommand, aim_in, file_at, form_in, log_in, names_in, manner_in, name_in, pair_in, plans_in}
 
 -- the answer's status is 0 or 1
@@ -163,9 +163,9 @@ low_sought : (s : PlanSearch) (rounds : ℕ) (outcome : Result Answer CommandFau
 low_sought s rounds (Ok answer) is = low_search s rounds answer is
 low_sought s rounds (Err fault) is = tt
 
-low_log : (names : NameBook) (telling : Telling) (p : PlannedShop) (log : List ℕ) (answer : Answer) → IsLogLine names telling p log answer → answer.status ≤ 1
-low_log names telling p log answer (inl kept) = zero_low answer.status kept.told.1
-low_log names telling p log answer (inr refused) = one_low answer.status refused.line.1
+low_log : (names : NameBook) (wanted : LogAnswer) (p : PlannedShop) (log : List ℕ) (answer : Answer) → IsLogLine names wanted p log answer → answer.status ≤ 1
+low_log names wanted p log answer (inl kept) = zero_low answer.status kept.told.1
+low_log names wanted p log answer (inr refused) = one_low answer.status refused.line.1
 
 low_verdict : (verdict : Verdict) (status : ℕ) → status ≡ verdict_status verdict → status ≤ 1
 low_verdict (Accepted v) status is = zero_low status is
@@ -331,16 +331,16 @@ pub low_end : (done : Result Bool DriveFault) (outcome : Result Answer CommandFa
 low_end (Ok done) outcome is = low_ended done outcome is
 low_end (Err fault) outcome is = subst IsLow (sym is) tt
 
-low_drives : (manner : Manner) (loaded : Result Loaded CommandFault) (before after : Streams) (outcome : Result Answer CommandFault) → Drives manner loaded before after outcome → IsLow outcome
-low_drives manner (Err fault) before after outcome is = subst IsLow (sym is.0) tt
-low_drives manner (Ok (NotShaped fault)) before after outcome is = low_or (IsLineOf (NotShaped fault)) outcome (low_line_of (NotShaped fault)) is.0
-low_drives manner (Ok (Judged (Refused back why))) before after outcome is =
+low_drives : (protocol : Protocol) (loaded : Result Loaded CommandFault) (before after : Streams) (outcome : Result Answer CommandFault) → Drives protocol loaded before after outcome → IsLow outcome
+low_drives protocol (Err fault) before after outcome is = subst IsLow (sym is.0) tt
+low_drives protocol (Ok (NotShaped fault)) before after outcome is = low_or (IsLineOf (NotShaped fault)) outcome (low_line_of (NotShaped fault)) is.0
+low_drives protocol (Ok (Judged (Refused back why))) before after outcome is =
     low_or (IsLineOf (Judged (Refused back why))) outcome (low_line_of (Judged (Refused back why))) is.0
-low_drives manner (Ok (Judged (Accepted v))) before after outcome is = low_end (end_of_drive is.end) outcome is.answer
+low_drives protocol (Ok (Judged (Accepted v))) before after outcome is = low_end (end_of_drive is.end) outcome is.answer
 
 -- ---- taking up
 
-pub low_log_fault : (fault : AuditFault) (outcome : Result Answer CommandFault) → IsFaultTold fault outcome → IsLow outcome
+pub low_log_fault : (fault : AuditFault) (outcome : Result Answer CommandFault) → IsLogFaultAnswer fault outcome → IsLow outcome
 low_log_fault NoMemoryToAudit outcome is = subst IsLow (sym is) tt
 low_log_fault (BadLine line) outcome is = low_or (IsFaultLine (BadLine line)) outcome (λ answer line. one_low answer.status line.1) is
 low_log_fault (NotExpected line) outcome is = low_or (IsFaultLine (NotExpected line)) outcome (λ answer line. one_low answer.status line.1) is
@@ -351,19 +351,19 @@ low_log_fault (NotClean line) outcome is = low_or (IsFaultLine (NotClean line)) 
 low_log_fault (OutOfOrder line) outcome is = low_or (IsFaultLine (OutOfOrder line)) outcome (λ answer line. one_low answer.status line.1) is
 low_log_fault (WrongPlace line) outcome is = low_or (IsFaultLine (WrongPlace line)) outcome (λ answer line. one_low answer.status line.1) is
 
-pub low_untaken : (fault : ResumeFault) (outcome : Result Answer CommandFault) → IsUntakenTold fault outcome → IsLow outcome
-low_untaken NoMemoryToResume outcome is = subst IsLow (sym is) tt
-low_untaken (Log fault) outcome is = low_log_fault fault outcome is
-low_untaken (Past last) outcome is = low_or (IsPastLine last) outcome (λ answer line. one_low answer.status line.1) is
-low_untaken (RefusedRun back why) outcome is = low_or (IsLineOf (Judged (Refused back why))) outcome (low_line_of (Judged (Refused back why))) is
+pub low_unrecovered : (fault : ResumeFault) (outcome : Result Answer CommandFault) → IsUnrecoveredAnswer fault outcome → IsLow outcome
+low_unrecovered NoMemoryToResume outcome is = subst IsLow (sym is) tt
+low_unrecovered (Log fault) outcome is = low_log_fault fault outcome is
+low_unrecovered (Past last) outcome is = low_or (IsPastLine last) outcome (λ answer line. one_low answer.status line.1) is
+low_unrecovered (RefusedRun back why) outcome is = low_or (IsLineOf (Judged (Refused back why))) outcome (low_line_of (Judged (Refused back why))) is
 
-low_taken : (manner : Manner) (taken : Result TakenUp ResumeFault) (before after : Streams) (outcome : Result Answer CommandFault) → ResumesTaken manner taken before after outcome → IsLow outcome
-low_taken manner (Ok t) before after outcome is = low_end (end_of_rest is.end) outcome is.answer
-low_taken manner (Err fault) before after outcome is = low_untaken fault outcome is.0
+low_recovered : (protocol : Protocol) (taken : Result Recovered ResumeFault) (before after : Streams) (outcome : Result Answer CommandFault) → ResumesRecovered protocol taken before after outcome → IsLow outcome
+low_recovered protocol (Ok t) before after outcome is = low_end (end_of_rest is.end) outcome is.answer
+low_recovered protocol (Err fault) before after outcome is = low_unrecovered fault outcome is.0
 
-low_text : (manner : Manner) (at : Option ℕ) (p : PlannedShop) (text : Result (List ℕ) CommandFault) (before after : Streams) (outcome : Result Answer CommandFault) → ResumesText manner at p text before after outcome → IsLow outcome
-low_text manner at p (Ok text) before after outcome is = low_taken manner is.0 before after outcome is.2
-low_text manner at p (Err fault) before after outcome is = subst IsLow (sym is.0) tt
+low_text : (protocol : Protocol) (at : Option ℕ) (p : PlannedShop) (text : Result (List ℕ) CommandFault) (before after : Streams) (outcome : Result Answer CommandFault) → ResumesText protocol at p text before after outcome → IsLow outcome
+low_text protocol at p (Ok text) before after outcome is = low_recovered protocol is.0 before after outcome is.2
+low_text protocol at p (Err fault) before after outcome is = subst IsLow (sym is.0) tt
 
 -- the line of a plan of a hub
 abbrev IsLowLine : Result Cells CommandFault → Type 0
@@ -395,10 +395,10 @@ low_loaded gives text name cells (path ∷ paths) before outcome after is =
     held IsLowLine _ _ before outcome after low_line_failed
     (λ loaded mid on. low_after_plan cells (λ more. LoadsEach gives text name more paths) (accepted_in loaded) mid outcome after (λ more later. low_loaded gives text name more paths mid outcome after later) on) is
 
-low_drives_all : (manner : Manner) (loaded : Result Cells CommandFault) (before after : Streams) (outcome : Result Answer CommandFault) → IsLowLine loaded → DrivesAll manner loaded before after outcome → IsLow outcome
-low_drives_all manner (Err fault) before after outcome low is = subst IsLow (sym is.0) tt
-low_drives_all manner (Ok (Line answer)) before after outcome low is = subst IsLow (sym is.0) low
-low_drives_all manner (Ok (AllAccepted cells)) before after outcome low is = low_end (end_of_hub is.end) outcome is.answer
+low_drives_all : (protocol : Protocol) (loaded : Result Cells CommandFault) (before after : Streams) (outcome : Result Answer CommandFault) → IsLowLine loaded → DrivesAll protocol loaded before after outcome → IsLow outcome
+low_drives_all protocol (Err fault) before after outcome low is = subst IsLow (sym is.0) tt
+low_drives_all protocol (Ok (Line answer)) before after outcome low is = subst IsLow (sym is.0) low
+low_drives_all protocol (Ok (AllAccepted cells)) before after outcome low is = low_end (end_of_hub is.end) outcome is.answer
 
 -- ---- the commands
 
@@ -455,25 +455,25 @@ module _ {W : Type 0} (gives : W → List ℕ → Result (List ℕ) CommandFault
       (λ p mid on. low_if_shaped (WithNamesAndLog gives names log p (λ book. Is book p)) p mid outcome after
       (low_names_and_log (λ book. Is book p) (λ book. each book p) names log p mid outcome after) on) run
 
-  low_telling : (telling : PlanTelling) (at : Option ℕ) (pair : PairOfFiles) (names log : Option (List ℕ)) (texts : W) (outcome : Result Answer CommandFault) (after : W)
-      → RunsTelling gives telling at pair names log texts outcome after → IsLow outcome
-  low_telling telling at pair names (Some log) texts outcome after run =
-      low_both pair (λ p. IfShaped gives p (IfThere gives (job_asked telling) p (WithNamesAndLog gives names log p (λ book. IsRestLine book telling at p)))) texts outcome after
-      (λ p mid on. low_if_shaped (IfThere gives (job_asked telling) p (WithNamesAndLog gives names log p (λ book. IsRestLine book telling at p))) p mid outcome after
-      (low_if_there (job_asked telling) (WithNamesAndLog gives names log p (λ book. IsRestLine book telling at p)) p mid outcome after
-      (low_names_and_log (λ book. IsRestLine book telling at p) (λ book. low_rest book telling at p) names log p mid outcome after)) on) run
-  low_telling OfVerdict at pair names None texts outcome after run =
+  low_answer_by : (wanted : PlanAnswer) (at : Option ℕ) (pair : PairOfFiles) (names log : Option (List ℕ)) (texts : W) (outcome : Result Answer CommandFault) (after : W)
+      → RunsPlanAnswer gives wanted at pair names log texts outcome after → IsLow outcome
+  low_answer_by wanted at pair names (Some log) texts outcome after run =
+      low_both pair (λ p. IfShaped gives p (IfThere gives (job_asked wanted) p (WithNamesAndLog gives names log p (λ book. IsRestLine book wanted at p)))) texts outcome after
+      (λ p mid on. low_if_shaped (IfThere gives (job_asked wanted) p (WithNamesAndLog gives names log p (λ book. IsRestLine book wanted at p))) p mid outcome after
+      (low_if_there (job_asked wanted) (WithNamesAndLog gives names log p (λ book. IsRestLine book wanted at p)) p mid outcome after
+      (low_names_and_log (λ book. IsRestLine book wanted at p) (λ book. low_rest book wanted at p) names log p mid outcome after)) on) run
+  low_answer_by OfVerdict at pair names None texts outcome after run =
       low_both pair (λ p. Told (IsOrMemory (IsCheckLine p))) texts outcome after (λ p mid on. low_or (IsCheckLine p) outcome (low_check p) on.0) run
-  low_telling (Reasons told) at pair names None texts outcome after run =
+  low_answer_by (Reasons told) at pair names None texts outcome after run =
       low_both pair (λ p. IfShaped gives p (IfThere gives told p (WithNames gives names p (λ book. IsOrMemory (IsPlanExplained book told p))))) texts outcome after
       (λ p mid on. low_if_shaped (IfThere gives told p (WithNames gives names p (λ book. IsOrMemory (IsPlanExplained book told p)))) p mid outcome after
       (low_if_there told (WithNames gives names p (λ book. IsOrMemory (IsPlanExplained book told p))) p mid outcome after
       (low_with_names (λ book. IsOrMemory (IsPlanExplained book told p)) (λ book said. low_or (IsPlanExplained book told p) said (low_explained book told p)) names p mid outcome after)) on) run
-  low_telling Moments at pair names None texts outcome after run = low_named IsPlanScheduled low_scheduled pair names texts outcome after run
+  low_answer_by Moments at pair names None texts outcome after run = low_named IsPlanScheduled low_scheduled pair names texts outcome after run
 
-  low_moves_told : (at : Option ℕ) (pair : PairOfFiles) (names log : Option (List ℕ)) (texts : W) (outcome : Result Answer CommandFault) (after : W) → TellsMoves gives at pair names log texts outcome after → IsLow outcome
-  low_moves_told at pair names None texts outcome after run = low_named AreMovesOfPlan (λ book p. low_moves book p (start p) 0) pair names texts outcome after run
-  low_moves_told at pair names (Some log) texts outcome after run =
+  low_moves_answered : (at : Option ℕ) (pair : PairOfFiles) (names log : Option (List ℕ)) (texts : W) (outcome : Result Answer CommandFault) (after : W) → AnswersMoves gives at pair names log texts outcome after → IsLow outcome
+  low_moves_answered at pair names None texts outcome after run = low_named AreMovesOfPlan (λ book p. low_moves book p (start p) 0) pair names texts outcome after run
+  low_moves_answered at pair names (Some log) texts outcome after run =
       low_named_and_logged (λ book p. AreMovesOfLog book at p) (λ book p. low_log_moves book at p) pair names log texts outcome after run
 
   low_drawable : (next : W → Result Drawn CommandFault → W → Type 0) (p : PlannedShop) (mid : W) (drawn : Result Drawn CommandFault) (after : W)
@@ -511,8 +511,8 @@ module _ {W : Type 0} (gives : W → List ℕ → Result (List ℕ) CommandFault
 
   low_timetable : (form : Timetable) (at : Option ℕ) (pair : PairOfFiles) (names log : Option (List ℕ)) (texts : W) (before : Streams) (outcome : Result Answer CommandFault) (texts_after : W) (after : Streams)
       → RunsTimetable gives form at pair names log texts before outcome texts_after after → IsLow outcome
-  low_timetable ByMoments at pair names log texts before outcome texts_after after run = low_telling Moments at pair names log texts outcome texts_after run.0
-  low_timetable ByMoves at pair names log texts before outcome texts_after after run = low_moves_told at pair names log texts outcome texts_after run.0
+  low_timetable ByMoments at pair names log texts before outcome texts_after after run = low_answer_by Moments at pair names log texts outcome texts_after run.0
+  low_timetable ByMoves at pair names log texts before outcome texts_after after run = low_moves_answered at pair names log texts outcome texts_after run.0
   low_timetable AsPicture at pair names log texts before outcome texts_after after run =
       low_draws run.drawn before after outcome (low_timetable_picture at pair names log texts run.drawn texts_after run.came) run.draws
 
@@ -582,12 +582,12 @@ module _ {W : Type 0} (gives : W → List ℕ → Result (List ℕ) CommandFault
   low_all_decided aim at pair names (Some log) texts outcome after run =
       low_both pair (λ p. WithRestDecision gives aim at names log (ordered p)) texts outcome after (λ p mid on. low_with_decision aim at names log (ordered p) mid outcome after on) run
 
-  low_resumes : (manner : Manner) (at : Option ℕ) (log : List ℕ) (shaped : Result (Result PlannedShop ShapeFault) CommandFault) (texts : W) (before : Streams) (outcome : Result Answer CommandFault) (texts_after : W) (after : Streams)
-      → Resumes gives manner at log shaped texts before outcome texts_after after → IsLow outcome
-  low_resumes manner at log (Err fault) texts before outcome texts_after after is = subst IsLow (sym is.0) tt
-  low_resumes manner at log (Ok (Err fault)) texts before outcome texts_after after is =
+  low_resumes : (protocol : Protocol) (at : Option ℕ) (log : List ℕ) (shaped : Result (Result PlannedShop ShapeFault) CommandFault) (texts : W) (before : Streams) (outcome : Result Answer CommandFault) (texts_after : W) (after : Streams)
+      → Resumes gives protocol at log shaped texts before outcome texts_after after → IsLow outcome
+  low_resumes protocol at log (Err fault) texts before outcome texts_after after is = subst IsLow (sym is.0) tt
+  low_resumes protocol at log (Ok (Err fault)) texts before outcome texts_after after is =
       low_or (IsLineOf (NotShaped fault)) outcome (low_line_of (NotShaped fault)) is.0
-  low_resumes manner at log (Ok (Ok p)) texts before outcome texts_after after is = low_text manner at p is.text before after outcome is.resumes
+  low_resumes protocol at log (Ok (Ok p)) texts before outcome texts_after after is = low_text protocol at p is.text before after outcome is.resumes
 
   -- an answer of any command is a good one, or one that refuses
   pub low : (name : CommandName) (chosen : Chosen) (texts : W) (before : Streams) (outcome : Result Answer CommandFault) (texts_after : W) (after : Streams)
@@ -599,9 +599,9 @@ module _ {W : Type 0} (gives : W → List ℕ → Result (List ℕ) CommandFault
   low Shape chosen texts before outcome texts_after after run =
       low_both (pair_in chosen) (λ p. Told (IsOrMemory (IsShapeLine p))) texts outcome texts_after (λ p mid on. low_or (IsShapeLine p) outcome (low_shape p) on.0) run.0
   low Check chosen texts before outcome texts_after after run =
-      low_telling OfVerdict chosen.at (pair_in chosen) (names_in chosen) (log_in chosen) texts outcome texts_after run.0
+      low_answer_by OfVerdict chosen.at (pair_in chosen) (names_in chosen) (log_in chosen) texts outcome texts_after run.0
   low Explain chosen texts before outcome texts_after after run =
-      low_telling (Reasons chosen.job) chosen.at (pair_in chosen) (names_in chosen) (log_in chosen) texts outcome texts_after run.0
+      low_answer_by (Reasons chosen.job) chosen.at (pair_in chosen) (names_in chosen) (log_in chosen) texts outcome texts_after run.0
   low Schedule chosen texts before outcome texts_after after run = low_timetable (form_in chosen) chosen.at (pair_in chosen) (names_in chosen) (log_in chosen) texts before outcome texts_after after run
   low Bounds chosen texts before outcome texts_after after run =
       low_both (pair_in chosen) (λ p. WithSoundNames gives (λ book. IsOrMemory (AreBoundLines book (times_of p) p.plan.budget)) (names_in chosen) p) texts outcome texts_after

@@ -5,8 +5,8 @@ use Rattle.plan_verifier.specs.Accepted.{VerifiedPlan}
 use Rattle.cell_drive.specs.declared.begin.DriveEnd.{DriveEnd}
 use Rattle.byte_streams.specs.declared.drive_fault.DriveFault.{DriveFault}
 use Rattle.byte_streams.specs.declared.drive_fault.DriveFault.TheVariants.{Read as NotRead, Write as NotWritten, InputTooLong as TooLong, Memory as WantOfMemory}
-use Rattle.cell_drive.specs.declared.manner.Manner.{Manner}
-pub use Rattle.cell_drive.specs.InManner.{IsDriveIn}
+use Rattle.cell_drive.specs.declared.protocol.Protocol.{Protocol}
+pub use Rattle.cell_drive.specs.InProtocol.{IsDriveIn}
 use Rattle.command_answers.specs.declared.answer.Answer.{Answer}
 use Rattle.command_answers.specs.declared.command_fault.CommandFault.{CommandFault}
 use Rattle.command_answers.specs.declared.command_fault.CommandFault.TheVariants.{Read, Write, InputTooLong, Memory}
@@ -43,18 +43,18 @@ end_of_drive (Ok end) = Ok end.done
 end_of_drive (Err fault) = Err fault
 
 -- the cell was driven in this manner, and the status says whether its run has ended
-pub record DrivesCell (manner : Manner) (v : VerifiedPlan) (before after : Streams) (outcome : Result Answer CommandFault) : Type 0 where
+pub record DrivesCell (protocol : Protocol) (v : VerifiedPlan) (before after : Streams) (outcome : Result Answer CommandFault) : Type 0 where
   pub end : Result DriveEnd DriveFault
-  pub is : IsDriveIn manner v before after end
+  pub is : IsDriveIn protocol v before after end
   pub answer : IsEndAnswer (end_of_drive end) outcome
 
 -- the line of a plan that isn't accepted, unless memory ran out
-abbrev pub IsLineTold : Loaded → Result Answer CommandFault → Type 0
-IsLineTold loaded = IsOrMemory (IsLineOf loaded)
+abbrev pub IsLineAnswer : Loaded → Result Answer CommandFault → Type 0
+IsLineAnswer loaded = IsOrMemory (IsLineOf loaded)
 
 -- what follows what is to be said of the plan: an accepted one drives the cell in this manner; any other is answered by its line, with no byte read or written
-abbrev pub Drives : Manner → Result Loaded CommandFault → Streams → Streams → Result Answer CommandFault → Type 0
-Drives manner (Err fault) before after outcome = (outcome ≡ Err fault) × (after ≡ before)
-Drives manner (Ok (NotShaped fault)) before after outcome = IsLineTold (NotShaped fault) outcome × (after ≡ before)
-Drives manner (Ok (Judged (Refused back why))) before after outcome = IsLineTold (Judged (Refused back why)) outcome × (after ≡ before)
-Drives manner (Ok (Judged (Accepted v))) before after outcome = DrivesCell manner v before after outcome
+abbrev pub Drives : Protocol → Result Loaded CommandFault → Streams → Streams → Result Answer CommandFault → Type 0
+Drives protocol (Err fault) before after outcome = (outcome ≡ Err fault) × (after ≡ before)
+Drives protocol (Ok (NotShaped fault)) before after outcome = IsLineAnswer (NotShaped fault) outcome × (after ≡ before)
+Drives protocol (Ok (Judged (Refused back why))) before after outcome = IsLineAnswer (Judged (Refused back why)) outcome × (after ≡ before)
+Drives protocol (Ok (Judged (Accepted v))) before after outcome = DrivesCell protocol v before after outcome

@@ -9,9 +9,9 @@ use Rattle.command_answers.specs.Statuses.{status_of}
 use Rattle.command_run.specs.Streams.{Output, Errors}
 
 -- a line was told whole; or its first bytes were, and a write of the error output has failed
-abbrev pub WasTold : List ℕ → Errors → Errors → Type 0
-WasTold line before after = (Appends before.taken after.taken line × (after.failed ≡ before.failed))
-    ⊎ ((after.failed ≡ true) × TookPart before.taken after.taken line)
+abbrev pub WasPrinted : List ℕ → Errors → Errors → Type 0
+WasPrinted line before after = (Appends before.written after.written line × (after.failed ≡ before.failed))
+    ⊎ ((after.failed ≡ true) × TookPart before.written after.written line)
 
 -- a line with the words of a fault behind what is refused
 abbrev pub IsRefusalLine : List ℕ → List ℕ → Type 0
@@ -47,38 +47,38 @@ IsTextLine other line = Unit {0}
 pub record IsLineOut (fault : CommandFault) (before after : Errors) (status : ℕ) : Type 0 where
   pub line : List ℕ
   pub is : IsErrorLine fault line
-  pub told : WasTold line before after
+  pub told : WasPrinted line before after
   pub own : status ≡ status_of fault
 
 -- the fault was told; or out of memory in its place, where its words take memory
-abbrev pub IsTold : CommandFault → Errors → Errors → ℕ → Type 0
-IsTold fault before after status = IsLineOut fault before after status ⊎ (IsOfText fault × IsLineOut Memory before after status)
+abbrev pub IsFaultPrinted : CommandFault → Errors → Errors → ℕ → Type 0
+IsFaultPrinted fault before after status = IsLineOut fault before after status ⊎ (IsOfText fault × IsLineOut Memory before after status)
 
 -- the answer was printed and shown, or its first bytes up to a write that failed
 abbrev pub IsPrinted : Answer → Output → Output → Result ℕ CommandFault → Type 0
-IsPrinted answer before after (Ok status) = (status ≡ answer.status) × Appends before.taken after.taken answer.text.items × (after.failed ≡ before.failed) × (after.pending ≡ [])
-IsPrinted answer before after (Err fault) = (fault ≡ Write) × TookPart before.taken after.taken answer.text.items × (after.failed ≡ true)
+IsPrinted answer before after (Ok status) = (status ≡ answer.status) × Appends before.written after.written answer.text.items × (after.failed ≡ before.failed) × (after.pending ≡ [])
+IsPrinted answer before after (Err fault) = (fault ≡ Write) × TookPart before.written after.written answer.text.items × (after.failed ≡ true)
 
 -- nothing is told where all is printed
-abbrev pub IsToldAfter : Result ℕ CommandFault → Errors → Errors → ℕ → Type 0
-IsToldAfter (Ok printed) before after status = (after ≡ before) × (status ≡ printed)
-IsToldAfter (Err fault) before after status = IsTold fault before after status
+abbrev pub IsPrintedAfter : Result ℕ CommandFault → Errors → Errors → ℕ → Type 0
+IsPrintedAfter (Ok printed) before after status = (after ≡ before) × (status ≡ printed)
+IsPrintedAfter (Err fault) before after status = IsFaultPrinted fault before after status
 
 -- the answer is printed, and where that fails, this is told
-pub record IsAnswerEnd (answer : Answer) (before after : Output) (told_before told_after : Errors) (status : ℕ) : Type 0 where
+pub record IsAnswerEnd (answer : Answer) (before after : Output) (printed_before printed_after : Errors) (status : ℕ) : Type 0 where
   pub printed : Result ℕ CommandFault
   pub is : IsPrinted answer before after printed
-  pub told : IsToldAfter printed told_before told_after status
+  pub told : IsPrintedAfter printed printed_before printed_after status
 
 -- an answer is printed on the standard output, a fault is told on the standard error, and not the other way round
 abbrev pub Ends : Result Answer CommandFault → Output → Output → Errors → Errors → ℕ → Type 0
-Ends (Ok answer) before after told_before told_after status = IsAnswerEnd answer before after told_before told_after status
-Ends (Err fault) before after told_before told_after status = (after ≡ before) × IsTold fault told_before told_after status
+Ends (Ok answer) before after printed_before printed_after status = IsAnswerEnd answer before after printed_before printed_after status
+Ends (Err fault) before after printed_before printed_after status = (after ≡ before) × IsFaultPrinted fault printed_before printed_after status
 
 -- where a picture is asked for: what is answered in its place is told on the standard error
 abbrev pub EndsAside : Result Answer CommandFault → Output → Output → Errors → Errors → ℕ → Type 0
-EndsAside (Ok answer) before after told_before told_after status = (after ≡ before) × WasTold answer.text.items told_before told_after × (status ≡ answer.status)
-EndsAside (Err fault) before after told_before told_after status = (after ≡ before) × IsTold fault told_before told_after status
+EndsAside (Ok answer) before after printed_before printed_after status = (after ≡ before) × WasPrinted answer.text.items printed_before printed_after × (status ≡ answer.status)
+EndsAside (Err fault) before after printed_before printed_after status = (after ≡ before) × IsFaultPrinted fault printed_before printed_after status
 
 -- how a command ends, by whether a picture is asked for
 abbrev pub EndsBy : Bool → Result Answer CommandFault → Output → Output → Errors → Errors → ℕ → Type 0

@@ -13,18 +13,18 @@ use Rattle.plan_verifier.specs.declared.verdict.Verdict.TheVariants.{Accepted}
 use Rattle.plan_seek.specs.Tasks.{task_in}
 use Rattle.cell_tables.specs.declared.entry.Entry.{Entry}
 use Rattle.cell_tables.specs.Events.{events_of}
-use Rattle.event_lines.specs.LogLines.{LinesTell}
+use Rattle.event_lines.specs.LogLines.{LinesParse}
 use Rattle.byte_streams.specs.Sinks.{TookPart}
 use Rattle.cell_drive.specs.OneRun.{cell_after}
-use Rattle.cell_drive.specs.TakenUp.{TakenUp, plan_of}
-use Rattle.cell_drive.specs.InManner.{IsResumeIn}
-use Rattle.cell_drive.specs.declared.manner.Manner.{Manner}
+use Rattle.cell_drive.specs.Recovered.{Recovered, plan_of}
+use Rattle.cell_drive.specs.InProtocol.{IsResumeIn}
+use Rattle.cell_drive.specs.declared.protocol.Protocol.{Protocol}
 use Rattle.cell_drive.specs.declared.begin.DriveEnd.{DriveEnd}
 use Rattle.cell_drive.specs.declared.resume.RestEnd.{RestEnd}
 use Rattle.cell_drive.specs.declared.hub.HubEnd.{HubEnd}
 use Rattle.byte_streams.specs.declared.drive_fault.DriveFault.{DriveFault}
 use Rattle.command_words.specs.declared.words.CommandName.TheVariants.{Schedule, Drive, Resume, Hub, Gantt}
-use Rattle.command_words.specs.Choice.{word_of, word_found, rows_found, files_in, instance_in, kept_in, reasons_in, found_in, IsChoiceOf, TellsOneOf}
+use Rattle.command_words.specs.Choice.{word_of, word_found, rows_found, files_in, instance_in, kept_in, reasons_in, found_in, IsChoiceOf, NamesOneOf}
 use Rattle.command_words.specs.declared.words.Chosen.{Chosen}
 use Rattle.command_words.specs.declared.words.CommandName.{CommandName}
 use Rattle.command_words.specs.declared.words.WordsFault.{WordsFault}
@@ -32,12 +32,12 @@ use Rattle.command_words.specs.declared.words.WordsFault.TheVariants.{Usage, Mem
 use Rattle.command_answers.specs.declared.answer.Answer.{Answer}
 use Rattle.command_answers.specs.declared.command_fault.CommandFault.{CommandFault}
 use Rattle.command_answers.specs.declared.command_fault.CommandFault.TheVariants.{Instance, Read, Memory, Write}
-use Rattle.command_answers.specs.declared.logs.Telling.{Telling}
+use Rattle.command_answers.specs.declared.logs.LogAnswer.{LogAnswer}
 use Rattle.command_answers.specs.declared.pictures.Drawn.{Drawn}
 use Rattle.command_answers.specs.declared.pictures.Drawn.TheVariants.{Picture}
 use Rattle.command_answers.specs.Texts.{Asks}
-use Rattle.command_answers.specs.Instances.{Tells, IsFirstInstanceFault}
-use Rattle.command_answers.specs.Plans.{TellBoth}
+use Rattle.command_answers.specs.Instances.{ParsesAs, IsFirstInstanceFault}
+use Rattle.command_answers.specs.Plans.{BothParse}
 use Rattle.command_answers.specs.Facts.{AreFacts}
 use Rattle.command_answers.specs.Shapes.{IsNotShapedLine, IsShapeLine}
 use Rattle.command_answers.specs.Checks.{IsCheckLine}
@@ -50,7 +50,7 @@ use Rattle.command_answers.specs.Moves.{AreMovesOfLog, AreMovesOfPlan}
 use Rattle.command_answers.specs.LogLines.{IsLogLine}
 use Rattle.command_answers.specs.Search.{IsSearchAnswer}
 use Rattle.command_answers.specs.Improving.{IsImproveAnswer, ordered}
-use Rattle.command_answers.specs.declared.rests.PlanTelling.{PlanTelling}
+use Rattle.command_answers.specs.declared.rests.PlanAnswer.{PlanAnswer}
 use Rattle.command_answers.specs.Rests.{IsRestLine, job_asked}
 use Rattle.command_answers.specs.ImprovingRests.{IsRestAnswer}
 use Rattle.command_answers.specs.Commands.{PairOfFiles, RunsFacts, RunsShape, RunsDigest, RunsCheck, RunsExplain, RunsSchedule, RunsMoves, RunsRestMoves, RunsBounds, RunsMargin, RunsLog, RunsRest, Loads, Shapes}
@@ -65,9 +65,9 @@ use Rattle.command_run.specs.Improvers.{AsksOne, ImprovesPlan, AsksOneForRest, I
 use Rattle.command_run.specs.Pictures.{IsPictureOut, Draws, DrawsTimetable, RunsPicture}
 use Rattle.command_run.specs.Drives.{IsDriveIn, DrivesCell, end_of_drive}
 use Rattle.command_run.specs.Logs.{DrivesWithLog, GoesOnWithLog, LogEnd, step_of}
-use Rattle.command_run.specs.Resumes.{ResumesText, IsTaking}
+use Rattle.command_run.specs.Resumes.{ResumesText, IsRecovery}
 use Rattle.command_run.specs.Hubs.{AreDrivesIn, DrivesCells}
-use Rattle.command_run.specs.Ending.{WasTold, IsLineOut, IsOfText}
+use Rattle.command_run.specs.Ending.{WasPrinted, IsLineOut, IsOfText}
 use Rattle.command_run.specs.Program.{RunsDrive, RunsResume, RunsHub, RunsChosen, RunsProgram, draws_in, file_at, kept_log_in, log_in, manner_in, name_in, names_in, pair_in, plans_in}
 
 -- ---- what is told first where the files don't change
@@ -77,106 +77,106 @@ abbrev pub Shelf : (List ℕ → Result (List ℕ) CommandFault) → List (List 
 Shelf content asked path given later = (given ≡ content path) × (later ≡ asked ++ path ∷ [])
 
 -- the instance's fault was told, unless memory ran out, and no other file was asked for
-abbrev pub IsInstanceTold : {A : Type 0} → List ℕ → OrFault → Result A CommandFault → List (List ℕ) → Type 0
-IsInstanceTold path fault outcome asked = (asked ≡ path ∷ []) × ((outcome ≡ Err (Instance fault)) ⊎ (outcome ≡ Err Memory))
+abbrev pub IsInstanceRefused : {A : Type 0} → List ℕ → OrFault → Result A CommandFault → List (List ℕ) → Type 0
+IsInstanceRefused path fault outcome asked = (asked ≡ path ∷ []) × ((outcome ≡ Err (Instance fault)) ⊎ (outcome ≡ Err Memory))
 
 -- where the text of the instance is refused, its first fault is told and no other file is asked for, when this runs
-abbrev pub TellsInstanceFirst : ((List (List ℕ) → List ℕ → Result (List ℕ) CommandFault → List (List ℕ) → Type 0) → PairOfFiles
+abbrev pub ReadsInstanceFirst : ((List (List ℕ) → List ℕ → Result (List ℕ) CommandFault → List (List ℕ) → Type 0) → PairOfFiles
     → List (List ℕ) → Result Answer CommandFault → List (List ℕ) → Type 0) → Type 0
-TellsInstanceFirst runs = (content : List ℕ → Result (List ℕ) CommandFault) (pair : PairOfFiles) (text : List ℕ) (fault : OrFault) (outcome : Result Answer CommandFault) (asked : List (List ℕ))
-    → content pair.path ≡ Ok text → IsFirstInstanceFault text pair.name fault → runs (Shelf content) pair [] outcome asked → IsInstanceTold pair.path fault outcome asked
+ReadsInstanceFirst runs = (content : List ℕ → Result (List ℕ) CommandFault) (pair : PairOfFiles) (text : List ℕ) (fault : OrFault) (outcome : Result Answer CommandFault) (asked : List (List ℕ))
+    → content pair.path ≡ Ok text → IsFirstInstanceFault text pair.name fault → runs (Shelf content) pair [] outcome asked → IsInstanceRefused pair.path fault outcome asked
 
-abbrev pub FactsTellInstanceFirst : Type 0
-FactsTellInstanceFirst = TellsInstanceFirst (λ gives pair. RunsFacts gives pair.path pair.name)
+abbrev pub FactsReadsInstanceFirst : Type 0
+FactsReadsInstanceFirst = ReadsInstanceFirst (λ gives pair. RunsFacts gives pair.path pair.name)
 
-abbrev pub ShapeTellsInstanceFirst : Type 0
-ShapeTellsInstanceFirst = TellsInstanceFirst (λ gives pair. RunsShape gives pair)
+abbrev pub ShapeReadsInstanceFirst : Type 0
+ShapeReadsInstanceFirst = ReadsInstanceFirst (λ gives pair. RunsShape gives pair)
 
-abbrev pub DigestTellsInstanceFirst : Type 0
-DigestTellsInstanceFirst = TellsInstanceFirst (λ gives pair. RunsDigest gives pair)
+abbrev pub DigestReadsInstanceFirst : Type 0
+DigestReadsInstanceFirst = ReadsInstanceFirst (λ gives pair. RunsDigest gives pair)
 
-abbrev pub CheckTellsInstanceFirst : Type 0
-CheckTellsInstanceFirst = TellsInstanceFirst (λ gives pair. RunsCheck gives pair)
+abbrev pub CheckReadsInstanceFirst : Type 0
+CheckReadsInstanceFirst = ReadsInstanceFirst (λ gives pair. RunsCheck gives pair)
 
-abbrev pub ExplainTellsInstanceFirst : Type 0
-ExplainTellsInstanceFirst = (names : Option (List ℕ)) (told : Option ℕ) → TellsInstanceFirst (λ gives pair. RunsExplain gives pair names told)
+abbrev pub ExplainReadsInstanceFirst : Type 0
+ExplainReadsInstanceFirst = (names : Option (List ℕ)) (told : Option ℕ) → ReadsInstanceFirst (λ gives pair. RunsExplain gives pair names told)
 
-abbrev pub ScheduleTellsInstanceFirst : Type 0
-ScheduleTellsInstanceFirst = (names : Option (List ℕ)) → TellsInstanceFirst (λ gives pair. RunsSchedule gives pair names)
+abbrev pub ScheduleReadsInstanceFirst : Type 0
+ScheduleReadsInstanceFirst = (names : Option (List ℕ)) → ReadsInstanceFirst (λ gives pair. RunsSchedule gives pair names)
 
-abbrev pub BoundsTellInstanceFirst : Type 0
-BoundsTellInstanceFirst = (names : Option (List ℕ)) → TellsInstanceFirst (λ gives pair. RunsBounds gives pair names)
+abbrev pub BoundsReadsInstanceFirst : Type 0
+BoundsReadsInstanceFirst = (names : Option (List ℕ)) → ReadsInstanceFirst (λ gives pair. RunsBounds gives pair names)
 
-abbrev pub MarginTellsInstanceFirst : Type 0
-MarginTellsInstanceFirst = (names : Option (List ℕ)) → TellsInstanceFirst (λ gives pair. RunsMargin gives pair names)
+abbrev pub MarginReadsInstanceFirst : Type 0
+MarginReadsInstanceFirst = (names : Option (List ℕ)) → ReadsInstanceFirst (λ gives pair. RunsMargin gives pair names)
 
-abbrev pub MovesTellInstanceFirst : Type 0
-MovesTellInstanceFirst = (names : Option (List ℕ)) → TellsInstanceFirst (λ gives pair. RunsMoves gives pair names)
+abbrev pub MovesReadsInstanceFirst : Type 0
+MovesReadsInstanceFirst = (names : Option (List ℕ)) → ReadsInstanceFirst (λ gives pair. RunsMoves gives pair names)
 
 -- so it is for `audit` and for `gantt`
-abbrev pub LogTellsInstanceFirst : Type 0
-LogTellsInstanceFirst = (telling : Telling) (names : Option (List ℕ)) (log : List ℕ) → TellsInstanceFirst (λ gives pair. RunsLog gives telling pair names log)
+abbrev pub LogReadsInstanceFirst : Type 0
+LogReadsInstanceFirst = (wanted : LogAnswer) (names : Option (List ℕ)) (log : List ℕ) → ReadsInstanceFirst (λ gives pair. RunsLog gives wanted pair names log)
 
 -- so it is for `check`, `explain` and `schedule` of the rest of a run
-abbrev pub RestTellsInstanceFirst : Type 0
-RestTellsInstanceFirst = (telling : PlanTelling) (at : Option ℕ) (names : Option (List ℕ)) (log : List ℕ) → TellsInstanceFirst (λ gives pair. RunsRest gives telling at pair names log)
+abbrev pub RestReadsInstanceFirst : Type 0
+RestReadsInstanceFirst = (wanted : PlanAnswer) (at : Option ℕ) (names : Option (List ℕ)) (log : List ℕ) → ReadsInstanceFirst (λ gives pair. RunsRest gives wanted at pair names log)
 
-abbrev pub RestMovesTellInstanceFirst : Type 0
-RestMovesTellInstanceFirst = (at : Option ℕ) (names : Option (List ℕ)) (log : List ℕ) → TellsInstanceFirst (λ gives pair. RunsRestMoves gives at pair names log)
+abbrev pub RestMovesReadsInstanceFirst : Type 0
+RestMovesReadsInstanceFirst = (at : Option ℕ) (names : Option (List ℕ)) (log : List ℕ) → ReadsInstanceFirst (λ gives pair. RunsRestMoves gives at pair names log)
 
 -- so it is, unless memory runs out for planners or improvers before any file is asked for
-abbrev pub TellsInstanceFirstOrNothing : ((List (List ℕ) → List ℕ → Result (List ℕ) CommandFault → List (List ℕ) → Type 0) → PairOfFiles
+abbrev pub ReadsInstanceFirstOrNothing : ((List (List ℕ) → List ℕ → Result (List ℕ) CommandFault → List (List ℕ) → Type 0) → PairOfFiles
     → List (List ℕ) → Result Answer CommandFault → List (List ℕ) → Type 0) → Type 0
-TellsInstanceFirstOrNothing runs = (content : List ℕ → Result (List ℕ) CommandFault) (pair : PairOfFiles) (text : List ℕ) (fault : OrFault) (outcome : Result Answer CommandFault) (asked : List (List ℕ))
+ReadsInstanceFirstOrNothing runs = (content : List ℕ → Result (List ℕ) CommandFault) (pair : PairOfFiles) (text : List ℕ) (fault : OrFault) (outcome : Result Answer CommandFault) (asked : List (List ℕ))
     → content pair.path ≡ Ok text → IsFirstInstanceFault text pair.name fault → runs (Shelf content) pair [] outcome asked
-    → IsInstanceTold pair.path fault outcome asked ⊎ ((outcome ≡ Err Memory) × (asked ≡ []))
+    → IsInstanceRefused pair.path fault outcome asked ⊎ ((outcome ≡ Err Memory) × (asked ≡ []))
 
-abbrev pub PlanTellsInstanceFirst : Type 0
-PlanTellsInstanceFirst = (rounds : ℕ) → TellsInstanceFirstOrNothing (λ gives pair. SeeksPlan gives rounds pair)
+abbrev pub PlanReadsInstanceFirst : Type 0
+PlanReadsInstanceFirst = (rounds : ℕ) → ReadsInstanceFirstOrNothing (λ gives pair. SeeksPlan gives rounds pair)
 
-abbrev pub ImproveTellsInstanceFirst : Type 0
-ImproveTellsInstanceFirst = (rounds : ℕ) → TellsInstanceFirstOrNothing (λ gives pair. ImprovesPlan gives rounds pair)
+abbrev pub ImproveReadsInstanceFirst : Type 0
+ImproveReadsInstanceFirst = (rounds : ℕ) → ReadsInstanceFirstOrNothing (λ gives pair. ImprovesPlan gives rounds pair)
 
 -- for the rest of a run too
-abbrev pub ImproveRestTellsInstanceFirst : Type 0
-ImproveRestTellsInstanceFirst = (at : Option ℕ) (rounds : ℕ) (log : List ℕ) → TellsInstanceFirstOrNothing (λ gives pair. ImprovesRest gives at rounds pair log)
+abbrev pub ImproveRestReadsInstanceFirst : Type 0
+ImproveRestReadsInstanceFirst = (at : Option ℕ) (rounds : ℕ) (log : List ℕ) → ReadsInstanceFirstOrNothing (λ gives pair. ImprovesRest gives at rounds pair log)
 
 -- so it is, with no byte read or written
-abbrev pub TellsInstanceFirstUnread : ((List (List ℕ) → List ℕ → Result (List ℕ) CommandFault → List (List ℕ) → Type 0) → PairOfFiles
+abbrev pub ReadsInstanceFirstAlone : ((List (List ℕ) → List ℕ → Result (List ℕ) CommandFault → List (List ℕ) → Type 0) → PairOfFiles
     → List (List ℕ) → Streams → Result Answer CommandFault → List (List ℕ) → Streams → Type 0) → Type 0
-TellsInstanceFirstUnread runs = (before after : Streams) (content : List ℕ → Result (List ℕ) CommandFault) (pair : PairOfFiles) (text : List ℕ) (fault : OrFault) (outcome : Result Answer CommandFault) (asked : List (List ℕ))
+ReadsInstanceFirstAlone runs = (before after : Streams) (content : List ℕ → Result (List ℕ) CommandFault) (pair : PairOfFiles) (text : List ℕ) (fault : OrFault) (outcome : Result Answer CommandFault) (asked : List (List ℕ))
     → content pair.path ≡ Ok text → IsFirstInstanceFault text pair.name fault → runs (Shelf content) pair [] before outcome asked after
-    → IsInstanceTold pair.path fault outcome asked × (after ≡ before)
+    → IsInstanceRefused pair.path fault outcome asked × (after ≡ before)
 
-abbrev pub DriveTellsInstanceFirst : Type 0
-DriveTellsInstanceFirst = (manner : Manner) → TellsInstanceFirstUnread (λ gives pair. RunsDrive gives manner pair)
+abbrev pub DriveReadsInstanceFirst : Type 0
+DriveReadsInstanceFirst = (protocol : Protocol) → ReadsInstanceFirstAlone (λ gives pair. RunsDrive gives protocol pair)
 
-abbrev pub ResumeTellsInstanceFirst : Type 0
-ResumeTellsInstanceFirst = (manner : Manner) (at : Option ℕ) (log : List ℕ) → TellsInstanceFirstUnread (λ gives pair. RunsResume gives manner at pair log)
+abbrev pub ResumeReadsInstanceFirst : Type 0
+ResumeReadsInstanceFirst = (protocol : Protocol) (at : Option ℕ) (log : List ℕ) → ReadsInstanceFirstAlone (λ gives pair. RunsResume gives protocol at pair log)
 
 -- so it is where pictures are asked for
 abbrev pub ScheduleDrawsInstanceFirst : Type 0
-ScheduleDrawsInstanceFirst = (names : Option (List ℕ)) → TellsInstanceFirstUnread (λ gives pair. RunsPicture (DrawsSchedule gives pair names))
+ScheduleDrawsInstanceFirst = (names : Option (List ℕ)) → ReadsInstanceFirstAlone (λ gives pair. RunsPicture (DrawsSchedule gives pair names))
 
 abbrev pub RestDrawsInstanceFirst : Type 0
-RestDrawsInstanceFirst = (at : Option ℕ) (names : Option (List ℕ)) (log : List ℕ) → TellsInstanceFirstUnread (λ gives pair. RunsPicture (DrawsRest gives at pair names log))
+RestDrawsInstanceFirst = (at : Option ℕ) (names : Option (List ℕ)) (log : List ℕ) → ReadsInstanceFirstAlone (λ gives pair. RunsPicture (DrawsRest gives at pair names log))
 
 abbrev pub LogDrawsInstanceFirst : Type 0
-LogDrawsInstanceFirst = (names : Option (List ℕ)) (log : List ℕ) → TellsInstanceFirstUnread (λ gives pair. RunsPicture (DrawsLog gives pair names log))
+LogDrawsInstanceFirst = (names : Option (List ℕ)) (log : List ℕ) → ReadsInstanceFirstAlone (λ gives pair. RunsPicture (DrawsLog gives pair names log))
 
 -- of any number of plans
-abbrev pub HubTellsInstanceFirst : Type 0
-HubTellsInstanceFirst = (manner : Manner) (plans : List (List ℕ)) → TellsInstanceFirstUnread (λ gives pair. RunsHub gives manner pair.path pair.name (pair.plan ∷ plans))
+abbrev pub HubReadsInstanceFirst : Type 0
+HubReadsInstanceFirst = (protocol : Protocol) (plans : List (List ℕ)) → ReadsInstanceFirstAlone (λ gives pair. RunsHub gives protocol pair.path pair.name (pair.plan ∷ plans))
 
 -- ---- what good files are answered by, where they don't change
 
 -- the files of a pair tell this shop and this plan
-pub record TellPlan (content : List ℕ → Result (List ℕ) CommandFault) (pair : PairOfFiles) (p : PlannedShop) : Type 0 where
+pub record ParseAsPlan (content : List ℕ → Result (List ℕ) CommandFault) (pair : PairOfFiles) (p : PlannedShop) : Type 0 where
   pub instance : List ℕ
   pub instance_is : content pair.path ≡ Ok instance
   pub plan : List ℕ
   pub plan_is : content pair.plan ≡ Ok plan
-  pub tell : TellBoth instance pair.name plan p
+  pub tell : BothParse instance pair.name plan p
 
 -- an answer is one of these, for which these files were asked for, in this order; none is given only where memory ran out
 abbrev pub IsAnswered : {A : Type 0} → (A → Type 0) → List (List ℕ) → Result A CommandFault → List (List ℕ) → Type 0
@@ -187,12 +187,12 @@ IsAnswered Is files (Err fault) asked = fault ≡ Memory
 abbrev pub AnswersPlan : ((List (List ℕ) → List ℕ → Result (List ℕ) CommandFault → List (List ℕ) → Type 0) → PairOfFiles
     → List (List ℕ) → Result Answer CommandFault → List (List ℕ) → Type 0) → (PlannedShop → Answer → Type 0) → Type 0
 AnswersPlan runs Is = (content : List ℕ → Result (List ℕ) CommandFault) (pair : PairOfFiles) (p : PlannedShop) (outcome : Result Answer CommandFault) (asked : List (List ℕ))
-    → TellPlan content pair p → runs (Shelf content) pair [] outcome asked → IsAnswered (Is p) (pair.path ∷ pair.plan ∷ []) outcome asked
+    → ParseAsPlan content pair p → runs (Shelf content) pair [] outcome asked → IsAnswered (Is p) (pair.path ∷ pair.plan ∷ []) outcome asked
 
 -- `facts`: the line of the facts of the shop that the file tells
 abbrev pub FactsAnswerShop : Type 0
 FactsAnswerShop = (content : List ℕ → Result (List ℕ) CommandFault) (path text description : List ℕ) (name : Option (List ℕ)) (shop : JobShop) (outcome : Result Answer CommandFault) (asked : List (List ℕ))
-    → content path ≡ Ok text → Tells text name description shop → RunsFacts (Shelf content) path name [] outcome asked → IsAnswered (λ answer. AreFacts answer shop) (path ∷ []) outcome asked
+    → content path ≡ Ok text → ParsesAs text name description shop → RunsFacts (Shelf content) path name [] outcome asked → IsAnswered (λ answer. AreFacts answer shop) (path ∷ []) outcome asked
 
 abbrev pub ShapeAnswersPlan : Type 0
 ShapeAnswersPlan = AnswersPlan (λ gives pair. RunsShape gives pair) IsShapeLine
@@ -221,20 +221,20 @@ MovesAnswerPlan = AnswersPlan (λ gives pair. RunsMoves gives pair None) (λ p a
 
 -- `audit` and `gantt`: where the plan is well shaped, what is told of the log
 abbrev pub LogIsAnswered : Type 0
-LogIsAnswered = (telling : Telling) (content : List ℕ → Result (List ℕ) CommandFault) (pair : PairOfFiles) (log text : List ℕ) (p : PlannedShop) (outcome : Result Answer CommandFault) (asked : List (List ℕ))
-    → TellPlan content pair p → content log ≡ Ok text → IsWellShaped p → RunsLog (Shelf content) telling pair None log [] outcome asked
-    → IsAnswered (IsLogLine no_names telling p text) (pair.path ∷ pair.plan ∷ log ∷ []) outcome asked
+LogIsAnswered = (wanted : LogAnswer) (content : List ℕ → Result (List ℕ) CommandFault) (pair : PairOfFiles) (log text : List ℕ) (p : PlannedShop) (outcome : Result Answer CommandFault) (asked : List (List ℕ))
+    → ParseAsPlan content pair p → content log ≡ Ok text → IsWellShaped p → RunsLog (Shelf content) wanted pair None log [] outcome asked
+    → IsAnswered (IsLogLine no_names wanted p text) (pair.path ∷ pair.plan ∷ log ∷ []) outcome asked
 
 -- `check`, `explain` and `schedule` of the rest of a run: where the plan is well shaped, and no job asked for, what is told of its log
 abbrev pub RestIsAnswered : Type 0
-RestIsAnswered = (telling : PlanTelling) (at : Option ℕ) (content : List ℕ → Result (List ℕ) CommandFault) (pair : PairOfFiles) (log text : List ℕ) (p : PlannedShop) (outcome : Result Answer CommandFault) (asked : List (List ℕ))
-    → TellPlan content pair p → content log ≡ Ok text → IsWellShaped p → job_asked telling ≡ None → RunsRest (Shelf content) telling at pair None log [] outcome asked
-    → IsAnswered (IsRestLine no_names telling at p text) (pair.path ∷ pair.plan ∷ log ∷ []) outcome asked
+RestIsAnswered = (wanted : PlanAnswer) (at : Option ℕ) (content : List ℕ → Result (List ℕ) CommandFault) (pair : PairOfFiles) (log text : List ℕ) (p : PlannedShop) (outcome : Result Answer CommandFault) (asked : List (List ℕ))
+    → ParseAsPlan content pair p → content log ≡ Ok text → IsWellShaped p → job_asked wanted ≡ None → RunsRest (Shelf content) wanted at pair None log [] outcome asked
+    → IsAnswered (IsRestLine no_names wanted at p text) (pair.path ∷ pair.plan ∷ log ∷ []) outcome asked
 
 -- `schedule --moves` of the rest of a run: where the plan is well shaped, the moves ahead by its log
 abbrev pub RestMovesAreAnswered : Type 0
 RestMovesAreAnswered = (at : Option ℕ) (content : List ℕ → Result (List ℕ) CommandFault) (pair : PairOfFiles) (log text : List ℕ) (p : PlannedShop) (outcome : Result Answer CommandFault) (asked : List (List ℕ))
-    → TellPlan content pair p → content log ≡ Ok text → IsWellShaped p → RunsRestMoves (Shelf content) at pair None log [] outcome asked
+    → ParseAsPlan content pair p → content log ≡ Ok text → IsWellShaped p → RunsRestMoves (Shelf content) at pair None log [] outcome asked
     → IsAnswered (AreMovesOfLog no_names at p text) (pair.path ∷ pair.plan ∷ log ∷ []) outcome asked
 
 -- one of these was drawn, for which these files were asked for; nothing is only where memory ran out, with no byte read or written
@@ -245,78 +245,78 @@ IsDrawn Is files before outcome asked after =
 -- `schedule --svg`: what comes of the plan is drawn
 abbrev pub ScheduleIsDrawn : Type 0
 ScheduleIsDrawn = (before after : Streams) (content : List ℕ → Result (List ℕ) CommandFault) (pair : PairOfFiles) (p : PlannedShop) (outcome : Result Answer CommandFault) (asked : List (List ℕ))
-    → TellPlan content pair p → RunsPicture (DrawsSchedule (Shelf content) pair None) [] before outcome asked after
+    → ParseAsPlan content pair p → RunsPicture (DrawsSchedule (Shelf content) pair None) [] before outcome asked after
     → IsDrawn (IsAnyPlanDrawn p) (pair.path ∷ pair.plan ∷ []) before outcome asked after
 
 -- `schedule --svg` of the rest of a run: where the plan is well shaped, what comes of the log is drawn
 abbrev pub RestIsDrawn : Type 0
 RestIsDrawn = (at : Option ℕ) (before after : Streams) (content : List ℕ → Result (List ℕ) CommandFault) (pair : PairOfFiles) (log text : List ℕ) (p : PlannedShop) (outcome : Result Answer CommandFault) (asked : List (List ℕ))
-    → TellPlan content pair p → content log ≡ Ok text → IsWellShaped p → RunsPicture (DrawsRest (Shelf content) at pair None log) [] before outcome asked after
+    → ParseAsPlan content pair p → content log ≡ Ok text → IsWellShaped p → RunsPicture (DrawsRest (Shelf content) at pair None log) [] before outcome asked after
     → IsDrawn (IsRestDrawing at no_names p text) (pair.path ∷ pair.plan ∷ log ∷ []) before outcome asked after
 
 -- `gantt --svg`: where the plan is well shaped, what comes of the log is drawn
 abbrev pub LogIsDrawn : Type 0
 LogIsDrawn = (before after : Streams) (content : List ℕ → Result (List ℕ) CommandFault) (pair : PairOfFiles) (log text : List ℕ) (p : PlannedShop) (outcome : Result Answer CommandFault) (asked : List (List ℕ))
-    → TellPlan content pair p → content log ≡ Ok text → IsWellShaped p → RunsPicture (DrawsLog (Shelf content) pair None log) [] before outcome asked after
+    → ParseAsPlan content pair p → content log ≡ Ok text → IsWellShaped p → RunsPicture (DrawsLog (Shelf content) pair None log) [] before outcome asked after
     → IsDrawn (IsLogDrawn no_names p text) (pair.path ∷ pair.plan ∷ log ∷ []) before outcome asked after
 
 -- `plan`: what the search allows for the numbers of this plan, with exactly these files asked for, unless memory runs out before
 abbrev pub PlanAnswersPlan : Type 0
 PlanAnswersPlan = (rounds : ℕ) (content : List ℕ → Result (List ℕ) CommandFault) (pair : PairOfFiles) (p : PlannedShop) (outcome : Result Answer CommandFault) (asked : List (List ℕ))
-    → TellPlan content pair p → SeeksPlan (Shelf content) rounds pair [] outcome asked
+    → ParseAsPlan content pair p → SeeksPlan (Shelf content) rounds pair [] outcome asked
     → (IsSearchAnswer (search_by_two (task_in p)) rounds outcome × (asked ≡ pair.path ∷ pair.plan ∷ [])) ⊎ (outcome ≡ Err Memory)
 
 -- `improve`: what the search from this plan comes to, with exactly these files asked for, unless memory runs out before
 abbrev pub ImproveAnswersPlan : Type 0
 ImproveAnswersPlan = (rounds : ℕ) (content : List ℕ → Result (List ℕ) CommandFault) (pair : PairOfFiles) (p : PlannedShop) (outcome : Result Answer CommandFault) (asked : List (List ℕ))
-    → TellPlan content pair p → ImprovesPlan (Shelf content) rounds pair [] outcome asked
+    → ParseAsPlan content pair p → ImprovesPlan (Shelf content) rounds pair [] outcome asked
     → (IsImproveAnswer (AsksOne rounds) rounds (ordered p) outcome × (asked ≡ pair.path ∷ pair.plan ∷ [])) ⊎ (outcome ≡ Err Memory)
 
 -- `improve` of the rest of a run: where the plan is well shaped, what the search from it comes to for the rest of this log, with exactly these files asked for, unless memory runs out before
 abbrev pub ImproveAnswersRest : Type 0
 ImproveAnswersRest = (at : Option ℕ) (rounds : ℕ) (content : List ℕ → Result (List ℕ) CommandFault) (pair : PairOfFiles) (log text : List ℕ) (p : PlannedShop) (outcome : Result Answer CommandFault) (asked : List (List ℕ))
-    → TellPlan content pair p → content log ≡ Ok text → IsWellShaped (ordered p) → ImprovesRest (Shelf content) at rounds pair log [] outcome asked
+    → ParseAsPlan content pair p → content log ≡ Ok text → IsWellShaped (ordered p) → ImprovesRest (Shelf content) at rounds pair log [] outcome asked
     → (IsRestAnswer (AsksOneForRest rounds) at rounds (ended_lines text) (ordered p) outcome × (asked ≡ pair.path ∷ pair.plan ∷ log ∷ [])) ⊎ (outcome ≡ Err Memory)
 
 -- `drive`: where the plan is accepted, its cell is driven, with exactly these files asked for, unless memory runs out before, with no byte read or written
 abbrev pub DriveDrivesPlan : Type 0
-DriveDrivesPlan = (manner : Manner) (before after : Streams) (content : List ℕ → Result (List ℕ) CommandFault) (pair : PairOfFiles) (p : PlannedShop) (outcome : Result Answer CommandFault) (asked : List (List ℕ))
-    → TellPlan content pair p → IsWellShaped p → IsAcceptable p → RunsDrive (Shelf content) manner pair [] before outcome asked after
-    → ((asked ≡ pair.path ∷ pair.plan ∷ []) × ((v : VerifiedPlan) × (v.planned ≡ p) × DrivesCell manner v before after outcome)) ⊎ ((outcome ≡ Err Memory) × (after ≡ before))
+DriveDrivesPlan = (protocol : Protocol) (before after : Streams) (content : List ℕ → Result (List ℕ) CommandFault) (pair : PairOfFiles) (p : PlannedShop) (outcome : Result Answer CommandFault) (asked : List (List ℕ))
+    → ParseAsPlan content pair p → IsWellShaped p → IsAcceptable p → RunsDrive (Shelf content) protocol pair [] before outcome asked after
+    → ((asked ≡ pair.path ∷ pair.plan ∷ []) × ((v : VerifiedPlan) × (v.planned ≡ p) × DrivesCell protocol v before after outcome)) ⊎ ((outcome ≡ Err Memory) × (after ≡ before))
 
 -- `resume`: where the plan is well shaped, its log is asked for and taken up, and driven on if it can be, unless memory runs out before, with no byte read or written
 abbrev pub ResumeGoesOn : Type 0
-ResumeGoesOn = (manner : Manner) (at : Option ℕ) (before after : Streams) (content : List ℕ → Result (List ℕ) CommandFault) (pair : PairOfFiles) (log text : List ℕ) (p : PlannedShop) (outcome : Result Answer CommandFault) (asked : List (List ℕ))
-    → TellPlan content pair p → IsWellShaped p → content log ≡ Ok text → RunsResume (Shelf content) manner at pair log [] before outcome asked after
-    → ((asked ≡ pair.path ∷ pair.plan ∷ log ∷ []) × ResumesText manner at p (Ok text) before after outcome) ⊎ ((outcome ≡ Err Memory) × (after ≡ before))
+ResumeGoesOn = (protocol : Protocol) (at : Option ℕ) (before after : Streams) (content : List ℕ → Result (List ℕ) CommandFault) (pair : PairOfFiles) (log text : List ℕ) (p : PlannedShop) (outcome : Result Answer CommandFault) (asked : List (List ℕ))
+    → ParseAsPlan content pair p → IsWellShaped p → content log ≡ Ok text → RunsResume (Shelf content) protocol at pair log [] before outcome asked after
+    → ((asked ≡ pair.path ∷ pair.plan ∷ log ∷ []) × ResumesText protocol at p (Ok text) before after outcome) ⊎ ((outcome ≡ Err Memory) × (after ≡ before))
 
 -- the file of this path tells this plan for the instance of this text
-pub record TellsPlanOf (content : List ℕ → Result (List ℕ) CommandFault) (instance : List ℕ) (name : Option (List ℕ)) (path : List ℕ) (p : PlannedShop) : Type 0 where
+pub record ParsesAsPlanOf (content : List ℕ → Result (List ℕ) CommandFault) (instance : List ℕ) (name : Option (List ℕ)) (path : List ℕ) (p : PlannedShop) : Type 0 where
   pub plan : List ℕ
   pub plan_is : content path ≡ Ok plan
-  pub tell : TellBoth instance name plan p
+  pub tell : BothParse instance name plan p
 
 -- and the plan is accepted
-pub record TellsAcceptedPlan (content : List ℕ → Result (List ℕ) CommandFault) (instance : List ℕ) (name : Option (List ℕ)) (path : List ℕ) (p : PlannedShop) : Type 0 where
-  pub told : TellsPlanOf content instance name path p
+pub record ParsesAsAcceptedPlan (content : List ℕ → Result (List ℕ) CommandFault) (instance : List ℕ) (name : Option (List ℕ)) (path : List ℕ) (p : PlannedShop) : Type 0 where
+  pub told : ParsesAsPlanOf content instance name path p
   pub well_shaped : IsWellShaped p
   pub acceptable : IsAcceptable p
 
 -- the files of these paths tell these plans, one each
-abbrev pub TellAcceptedPlans : (List ℕ → Result (List ℕ) CommandFault) → List ℕ → Option (List ℕ) → List (List ℕ) → List PlannedShop → Type 0
-TellAcceptedPlans content instance name [] [] = Unit {0}
-TellAcceptedPlans content instance name (path ∷ paths) (p ∷ plans) = TellsAcceptedPlan content instance name path p × TellAcceptedPlans content instance name paths plans
-TellAcceptedPlans content instance name paths plans = ⊥
+abbrev pub ParseAsAcceptedPlans : (List ℕ → Result (List ℕ) CommandFault) → List ℕ → Option (List ℕ) → List (List ℕ) → List PlannedShop → Type 0
+ParseAsAcceptedPlans content instance name [] [] = Unit {0}
+ParseAsAcceptedPlans content instance name (path ∷ paths) (p ∷ plans) = ParsesAsAcceptedPlan content instance name path p × ParseAsAcceptedPlans content instance name paths plans
+ParseAsAcceptedPlans content instance name paths plans = ⊥
 
 -- the cells of these plans were driven
-abbrev pub DrivesPlans : Manner → List PlannedShop → Streams → Streams → Result Answer CommandFault → Type 0
-DrivesPlans manner plans before after outcome = (cells : List VerifiedPlan) × (map (λ (v : VerifiedPlan). v.planned) cells ≡ plans) × DrivesCells manner cells before after outcome
+abbrev pub DrivesPlans : Protocol → List PlannedShop → Streams → Streams → Result Answer CommandFault → Type 0
+DrivesPlans protocol plans before after outcome = (cells : List VerifiedPlan) × (map (λ (v : VerifiedPlan). v.planned) cells ≡ plans) × DrivesCells protocol cells before after outcome
 
 -- `hub`: where all plans are accepted, their cells are driven, with exactly these files asked for, unless memory runs out before, with no byte read or written
 abbrev pub HubDrivesPlans : Type 0
-HubDrivesPlans = (manner : Manner) (before after : Streams) (content : List ℕ → Result (List ℕ) CommandFault) (path instance : List ℕ) (name : Option (List ℕ)) (files : List (List ℕ)) (plans : List PlannedShop) (outcome : Result Answer CommandFault) (asked : List (List ℕ))
-    → content path ≡ Ok instance → TellAcceptedPlans content instance name files plans → RunsHub (Shelf content) manner path name files [] before outcome asked after
-    → ((asked ≡ path ∷ files) × DrivesPlans manner plans before after outcome) ⊎ ((outcome ≡ Err Memory) × (after ≡ before))
+HubDrivesPlans = (protocol : Protocol) (before after : Streams) (content : List ℕ → Result (List ℕ) CommandFault) (path instance : List ℕ) (name : Option (List ℕ)) (files : List (List ℕ)) (plans : List PlannedShop) (outcome : Result Answer CommandFault) (asked : List (List ℕ))
+    → content path ≡ Ok instance → ParseAsAcceptedPlans content instance name files plans → RunsHub (Shelf content) protocol path name files [] before outcome asked after
+    → ((asked ≡ path ∷ files) × DrivesPlans protocol plans before after outcome) ⊎ ((outcome ≡ Err Memory) × (after ≡ before))
 
 -- the whole input was read, and is answered by the line of the shop's facts; no answer is given only where a read failed or memory ran out
 abbrev pub IsInputAnswered : JobShop → Result Answer CommandFault → Input → Type 0
@@ -328,7 +328,7 @@ IsInputAnswered shop (Err other) after = ⊥
 -- the command without words: an input that tells a shop, of no more bytes than the limit, is answered by the facts
 abbrev pub InputAnswersShop : Type 0
 InputAnswersShop = (before after : Input) (text description : List ℕ) (shop : JobShop) (outcome : Result Answer CommandFault)
-    → before.left ≡ Some text → length text ≤ MAX_INPUT → Tells text None description shop → RunsInput before outcome after → IsInputAnswered shop outcome after
+    → before.left ≡ Some text → length text ≤ MAX_INPUT → ParsesAs text None description shop → RunsInput before outcome after → IsInputAnswered shop outcome after
 
 -- ---- plans that aren't accepted, in files that don't change
 
@@ -336,16 +336,16 @@ InputAnswersShop = (before after : Input) (text description : List ℕ) (shop : 
 abbrev pub AnswersByCheck : ((List (List ℕ) → List ℕ → Result (List ℕ) CommandFault → List (List ℕ) → Type 0) → PairOfFiles
     → List (List ℕ) → Streams → Result Answer CommandFault → List (List ℕ) → Streams → Type 0) → Type 0
 AnswersByCheck runs = (before after : Streams) (content : List ℕ → Result (List ℕ) CommandFault) (pair : PairOfFiles) (p : PlannedShop) (outcome : Result Answer CommandFault) (asked : List (List ℕ))
-    → TellPlan content pair p → (IsWellShaped p → IsAcceptable p → ⊥) → runs (Shelf content) pair [] before outcome asked after
+    → ParseAsPlan content pair p → (IsWellShaped p → IsAcceptable p → ⊥) → runs (Shelf content) pair [] before outcome asked after
     → IsAnswered (IsCheckLine p) (pair.path ∷ pair.plan ∷ []) outcome asked × (after ≡ before)
 
 abbrev pub DriveAnswersByCheck : Type 0
-DriveAnswersByCheck = (manner : Manner) → AnswersByCheck (λ gives pair. RunsDrive gives manner pair)
+DriveAnswersByCheck = (protocol : Protocol) → AnswersByCheck (λ gives pair. RunsDrive gives protocol pair)
 
 -- a plan that isn't well shaped is answered so by `resume`
 abbrev pub ResumeAnswersUnshaped : Type 0
-ResumeAnswersUnshaped = (manner : Manner) (at : Option ℕ) (log : List ℕ) (before after : Streams) (content : List ℕ → Result (List ℕ) CommandFault) (pair : PairOfFiles) (p : PlannedShop) (outcome : Result Answer CommandFault) (asked : List (List ℕ))
-    → TellPlan content pair p → (IsWellShaped p → ⊥) → RunsResume (Shelf content) manner at pair log [] before outcome asked after
+ResumeAnswersUnshaped = (protocol : Protocol) (at : Option ℕ) (log : List ℕ) (before after : Streams) (content : List ℕ → Result (List ℕ) CommandFault) (pair : PairOfFiles) (p : PlannedShop) (outcome : Result Answer CommandFault) (asked : List (List ℕ))
+    → ParseAsPlan content pair p → (IsWellShaped p → ⊥) → RunsResume (Shelf content) protocol at pair log [] before outcome asked after
     → IsAnswered (IsCheckLine p) (pair.path ∷ pair.plan ∷ []) outcome asked × (after ≡ before)
 
 -- by it the run of these lines can't go on: the plan has a cycle; or they tell no events, and it isn't accepted
@@ -354,9 +354,9 @@ IsNoPlanFor p told = (HasNoCycle p → ⊥) ⊎ ((told ≡ []) × (IsAcceptable 
 
 -- and such a plan is answered by the line of `check`, once its log has been asked for, where that tells a run, with no byte read or written
 abbrev pub ResumeAnswersByCheck : Type 0
-ResumeAnswersByCheck = (manner : Manner) (at : Option ℕ) (before after : Streams) (content : List ℕ → Result (List ℕ) CommandFault) (pair : PairOfFiles) (log text : List ℕ) (p : PlannedShop) (told : List Entry) (outcome : Result Answer CommandFault) (asked : List (List ℕ))
-    → TellPlan content pair p → IsWellShaped p → content log ≡ Ok text → LinesTell p (ended_lines text) told → IsRun p (events_of told) → (cell_after p told).last ≤ unwrap_or at (cell_after p told).last
-    → IsNoPlanFor p told → RunsResume (Shelf content) manner at pair log [] before outcome asked after
+ResumeAnswersByCheck = (protocol : Protocol) (at : Option ℕ) (before after : Streams) (content : List ℕ → Result (List ℕ) CommandFault) (pair : PairOfFiles) (log text : List ℕ) (p : PlannedShop) (told : List Entry) (outcome : Result Answer CommandFault) (asked : List (List ℕ))
+    → ParseAsPlan content pair p → IsWellShaped p → content log ≡ Ok text → LinesParse p (ended_lines text) told → IsRun p (events_of told) → (cell_after p told).last ≤ unwrap_or at (cell_after p told).last
+    → IsNoPlanFor p told → RunsResume (Shelf content) protocol at pair log [] before outcome asked after
     → IsAnswered (IsCheckLine p) (pair.path ∷ pair.plan ∷ log ∷ []) outcome asked × (after ≡ before)
 
 -- the line of `check` for a plan, behind the plan's number
@@ -368,10 +368,10 @@ pub record IsNumberedLine (number : ℕ) (p : PlannedShop) (answer : Answer) : T
 
 -- `hub`: the first plan that isn't accepted is answered by its number and the line of `check`, with no further file asked for and no byte read or written
 abbrev pub HubAnswersByCheck : Type 0
-HubAnswersByCheck = (manner : Manner) (before after : Streams) (content : List ℕ → Result (List ℕ) CommandFault) (path instance : List ℕ) (name : Option (List ℕ)) (files : List (List ℕ)) (plans : List PlannedShop)
+HubAnswersByCheck = (protocol : Protocol) (before after : Streams) (content : List ℕ → Result (List ℕ) CommandFault) (path instance : List ℕ) (name : Option (List ℕ)) (files : List (List ℕ)) (plans : List PlannedShop)
     (file : List ℕ) (p : PlannedShop) (others : List (List ℕ)) (outcome : Result Answer CommandFault) (asked : List (List ℕ))
-    → content path ≡ Ok instance → TellAcceptedPlans content instance name files plans → TellsPlanOf content instance name file p → (IsWellShaped p → IsAcceptable p → ⊥)
-    → RunsHub (Shelf content) manner path name (files ++ file ∷ others) [] before outcome asked after
+    → content path ≡ Ok instance → ParseAsAcceptedPlans content instance name files plans → ParsesAsPlanOf content instance name file p → (IsWellShaped p → IsAcceptable p → ⊥)
+    → RunsHub (Shelf content) protocol path name (files ++ file ∷ others) [] before outcome asked after
     → IsAnswered (IsNumberedLine (length files) p) (path ∷ (files ++ file ∷ [])) outcome asked × (after ≡ before)
 
 -- ---- that a driven cell writes the same
@@ -394,8 +394,8 @@ pub record RunsWell (content : List ℕ → Result (List ℕ) CommandFault) (wor
   pub unasked : before.texts ≡ []
   pub given : before.streams.input.left ≡ Some input
   pub start : List ℕ
-  pub empty : before.streams.output.taken ≡ Some start
-  pub wrote : after.streams.output.taken ≡ Some (start ++ written)
+  pub empty : before.streams.output.written ≡ Some start
+  pub wrote : after.streams.output.written ≡ Some (start ++ written)
   pub was_read : after.streams.input.failed ≡ false
   pub was_written : after.streams.output.failed ≡ false
   pub no_want : status ≢ 4
@@ -403,7 +403,7 @@ pub record RunsWell (content : List ℕ → Result (List ℕ) CommandFault) (wor
 -- `drive` with an accepted plan writes the same, and ends with the same status, whenever it is run on the same words, files and input, of no more bytes than the limit
 abbrev pub DriveWritesTheSame : Type 0
 DriveWritesTheSame = (content : List ℕ → Result (List ℕ) CommandFault) (words : List (List ℕ)) (pair : PairOfFiles) (p : PlannedShop) (input : List ℕ) (status other_status : ℕ) (written other : List ℕ)
-    → AskForDrive words pair → TellPlan content pair p → IsWellShaped p → IsAcceptable p → length input ≤ MAX_INPUT
+    → AskForDrive words pair → ParseAsPlan content pair p → IsWellShaped p → IsAcceptable p → length input ≤ MAX_INPUT
     → RunsWell content words input status written → RunsWell content words input other_status other → (other_status ≡ status) × (other ≡ written)
 
 -- ---- how the program ends
@@ -414,7 +414,7 @@ HoldsNothing output = (output.pending ≡ []) ⊎ (output.failed ≡ true)
 
 -- the first bytes of an answer were written, and then a write failed; of a fault nothing was written
 abbrev pub IsUnanswered : Result Answer CommandFault → Output → Output → Type 0
-IsUnanswered (Ok answer) before after = (after.failed ≡ true) × TookPart before.taken after.taken answer.text.items
+IsUnanswered (Ok answer) before after = (after.failed ≡ true) × TookPart before.written after.written answer.text.items
 IsUnanswered (Err fault) before after = after ≡ before
 
 -- what is told of an outcome: its fault, or out of memory for the words of a refused text; of an answer, that a write of it failed
@@ -429,66 +429,66 @@ IsOutcomeOfWords (Usage false text) outcome = ⊥
 IsOutcomeOfWords WordsMemory outcome = outcome ≡ Err Memory
 
 -- what is wrong with the words was told, with status 2
-abbrev pub IsUsageTold : WordsFault → Errors → Errors → ℕ → Type 0
-IsUsageTold (Usage true text) before after status = ⊥
-IsUsageTold (Usage false text) before after status = (status ≡ 2) × WasTold (string_bytes text) before after
-IsUsageTold WordsMemory before after status = ⊥
+abbrev pub IsUsagePrinted : WordsFault → Errors → Errors → ℕ → Type 0
+IsUsagePrinted (Usage true text) before after status = ⊥
+IsUsagePrinted (Usage false text) before after status = (status ≡ 2) × WasPrinted (string_bytes text) before after
+IsUsagePrinted WordsMemory before after status = ⊥
 
 -- the words choose no command, and come to this outcome
 pub record ChoseNone (words : List (List ℕ)) (before : Streams) (outcome : Result Answer CommandFault) (after : Streams) : Type 0 where
   pub fault : WordsFault
-  pub refused : TellsOneOf (reasons_in words) fault
+  pub refused : NamesOneOf (reasons_in words) fault
   pub is : IsOutcomeOfWords fault outcome
   pub same : after ≡ before
 
 -- the words were refused, and what is wrong with them was told
 pub record WereRefused {W : Type 0} (words : List (List ℕ)) (before : Devices W) (status : ℕ) (after : Devices W) : Type 0 where
   pub fault : WordsFault
-  pub refused : TellsOneOf (reasons_in words) fault
-  pub told : IsUsageTold fault before.errors after.errors status
+  pub refused : NamesOneOf (reasons_in words) fault
+  pub told : IsUsagePrinted fault before.errors after.errors status
   pub same : after.streams ≡ before.streams
 
 module _ {W : Type 0} (gives : W → List ℕ → Result (List ℕ) CommandFault → W → Type 0) where
   -- the plan is accepted, and its cell was driven to this end or up to this fault
-  pub record DroveCell (manner : Manner) (pair : PairOfFiles) (texts : W) (before after : Streams) : Type 0 where
+  pub record DroveCell (protocol : Protocol) (pair : PairOfFiles) (texts : W) (before after : Streams) : Type 0 where
     pub cell : VerifiedPlan
     pub later : W
     pub loads : Loads gives pair texts (Ok (Judged (Accepted cell))) later
     pub end : Result DriveEnd DriveFault
-    pub is : IsDriveIn manner cell before after end
+    pub is : IsDriveIn protocol cell before after end
 
   -- the plan is well shaped, and its cell was driven with a log: from its start, as it is accepted, or from where the log leads
-  pub record DroveWithLog (manner : Manner) (pair : PairOfFiles) (texts : W) (before after : Streams) : Type 0 where
+  pub record DroveWithLog (protocol : Protocol) (pair : PairOfFiles) (texts : W) (before after : Streams) : Type 0 where
     pub plan : PlannedShop
     pub later : W
     pub shapes : Shapes gives pair texts (Ok (Ok plan)) later
     pub outcome : Result Answer CommandFault
     pub log : Option LogEnd
-    pub is : ((v : VerifiedPlan) × (v.planned ≡ plan) × DrivesWithLog v.planned [] (IsDriveIn manner v) end_of_drive (step_of before outcome after log))
-        ⊎ ((t : TakenUp) × (plan_of t ≡ plan) × GoesOnWithLog manner t (step_of before outcome after log))
+    pub is : ((v : VerifiedPlan) × (v.planned ≡ plan) × DrivesWithLog v.planned [] (IsDriveIn protocol v) end_of_drive (step_of before outcome after log))
+        ⊎ ((t : Recovered) × (plan_of t ≡ plan) × GoesOnWithLog protocol t (step_of before outcome after log))
 
   -- the plan is well shaped, its run was taken up from the log, and driven on in this manner to this end or up to this fault
-  pub record DroveOn (manner : Manner) (at : Option ℕ) (pair : PairOfFiles) (log : List ℕ) (texts : W) (before after : Streams) : Type 0 where
+  pub record DroveOn (protocol : Protocol) (at : Option ℕ) (pair : PairOfFiles) (log : List ℕ) (texts : W) (before after : Streams) : Type 0 where
     pub plan : PlannedShop
     pub mid : W
     pub shapes : Shapes gives pair texts (Ok (Ok plan)) mid
     pub text : List ℕ
     pub later : W
     pub asks : Asks gives log mid (Ok text) later
-    pub taken : TakenUp
-    pub takes : IsTaking plan at text (Ok taken)
+    pub taken : Recovered
+    pub takes : IsRecovery plan at text (Ok taken)
     pub end : Result RestEnd DriveFault
-    pub is : IsResumeIn manner taken before after end
+    pub is : IsResumeIn protocol taken before after end
 
   -- all plans are accepted, and their cells were driven to this end or up to this fault
-  pub record DroveCells (manner : Manner) (path : List ℕ) (name : Option (List ℕ)) (plans : List (List ℕ)) (texts : W) (before after : Streams) : Type 0 where
+  pub record DroveCells (protocol : Protocol) (path : List ℕ) (name : Option (List ℕ)) (plans : List (List ℕ)) (texts : W) (before after : Streams) : Type 0 where
     pub cells : List VerifiedPlan
     pub loaded : Result Cells CommandFault
     pub later : W
     pub loads : LoadsCells gives path name plans texts loaded later
     pub accepted : AreAccepted cells loaded
     pub end : Result HubEnd DriveFault
-    pub are : AreDrivesIn manner cells before after end
+    pub are : AreDrivesIn protocol cells before after end
 
   -- a picture was written, or its first bytes up to a write that failed
   pub record DrewPicture (comes : W → Result Drawn CommandFault → W → Type 0) (texts : W) (before after : Streams) : Type 0 where
@@ -521,7 +521,7 @@ module _ {W : Type 0} (gives : W → List ℕ → Result (List ℕ) CommandFault
   Ran words before outcome mid after log = RanCommand words before outcome mid after log ⊎ ChoseNone words before.streams outcome mid
 
   -- what failed was told by its own line with its status, or by `drive` with a log with 6 in place of 5
-  pub record WasFailureTold (words : List (List ℕ)) (before : Devices W) (status : ℕ) (after : Devices W) (log : Option LogEnd) : Type 0 where
+  pub record WasFailurePrinted (words : List (List ℕ)) (before : Devices W) (status : ℕ) (after : Devices W) (log : Option LogEnd) : Type 0 where
     pub outcome : Result Answer CommandFault
     pub mid : Streams
     pub ran : Ran words before outcome mid after log
@@ -532,12 +532,12 @@ module _ {W : Type 0} (gives : W → List ℕ → Result (List ℕ) CommandFault
     pub status_is : (status ≡ own) ⊎ ((own ≡ 5) × (status ≡ 6))
 
   -- a command that draws said on the standard error what is answered in place of a picture: nothing, where there is one
-  pub record WasToldAside (words : List (List ℕ)) (before : Devices W) (status : ℕ) (after : Devices W) (log : Option LogEnd) : Type 0 where
+  pub record WasPrintedAside (words : List (List ℕ)) (before : Devices W) (status : ℕ) (after : Devices W) (log : Option LogEnd) : Type 0 where
     pub answer : Answer
     pub mid : Streams
     pub ran : RanCommand words before (Ok answer) mid after log
     pub draws : draws_in ran.chosen ≡ true
-    pub told : WasTold answer.text.items before.errors after.errors
+    pub told : WasPrinted answer.text.items before.errors after.errors
     pub own : status ≡ answer.status
 
   -- nothing was written but what driven cells answered, or a picture, and after it at most the first bytes of an answer whose write failed
@@ -548,13 +548,13 @@ module _ {W : Type 0} (gives : W → List ℕ → Result (List ℕ) CommandFault
     pub unanswered : IsUnanswered outcome mid.output after.streams.output
 
   -- the status is 2 or more, and what failed was told; or it is 0 or 1, and nothing was told but what is answered in place of a picture
-  abbrev pub EndsAsTold : List (List ℕ) → Devices W → ℕ → Devices W → Option LogEnd → Type 0
-  EndsAsTold words before status after log =
-      ((2 ≤ status) × (WereRefused words before status after ⊎ WasFailureTold words before status after log)) ⊎ ((status ≤ 1) × ((after.errors ≡ before.errors) ⊎ WasToldAside words before status after log))
+  abbrev pub EndsOnTime : List (List ℕ) → Devices W → ℕ → Devices W → Option LogEnd → Type 0
+  EndsOnTime words before status after log =
+      ((2 ≤ status) × (WereRefused words before status after ⊎ WasFailurePrinted words before status after log)) ⊎ ((status ≤ 1) × ((after.errors ≡ before.errors) ⊎ WasPrintedAside words before status after log))
 
   -- in each run of the program what fails is told on the error output with its status, and nothing else is told but what is answered in place of a picture
-  abbrev pub WhatFailsIsTold : Type 0
-  WhatFailsIsTold = (words : List (List ℕ)) (before : Devices W) (status : ℕ) (after : Devices W) (log : Option LogEnd) → RunsProgram gives words before status after log → EndsAsTold words before status after log
+  abbrev pub FaultsArePrinted : Type 0
+  FaultsArePrinted = (words : List (List ℕ)) (before : Devices W) (status : ℕ) (after : Devices W) (log : Option LogEnd) → RunsProgram gives words before status after log → EndsOnTime words before status after log
 
   -- at the end of each run of the program nothing is held back, unless a write of the output has failed
   abbrev pub NothingIsHeldBack : Type 0

@@ -11,31 +11,31 @@ use Rattle.plan_verifier.specs.Accepted.{VerifiedPlan, IsAcceptable}
 use Rattle.plan_verifier.specs.Verdicts.{OnAccepted, OnRefused, IsReason}
 use Rattle.byte_streams.specs.declared.drive_fault.DriveFault.{DriveFault}
 use Rattle.byte_streams.specs.declared.drive_fault.DriveFault.TheVariants.{Read as NotReadOn, Write as NotWritten, InputTooLong as InputTooLongToDrive, Memory as NoMemoryToDrive}
-use Rattle.byte_streams.specs.Lent.{taker}
+use Rattle.byte_streams.specs.Lent.{output_sink}
 use Rattle.cell_tables.specs.declared.entry.Entry.{Entry}
 use Rattle.event_lines.specs.RunDigits.{plan_line}
 use Rattle.event_lines.specs.declared.run_digits.RunDigits.{RunDigits}
 use Rattle.run_log.specs.declared.audit_fault.AuditFault.TheVariants.{BadLine}
-use Rattle.cell_drive.specs.declared.manner.Manner.{Manner}
+use Rattle.cell_drive.specs.declared.protocol.Protocol.{Protocol}
 use Rattle.cell_drive.specs.declared.resume.RestEnd.{RestEnd}
-use Rattle.cell_drive.specs.TakenUp.{TakenUp, IsTakenUp, CanBeTakenUp, plan_of, told_in}
-use Rattle.cell_drive.specs.Retold.{retold_text}
-use Rattle.cell_drive.specs.InManner.{IsDriveIn, IsGoneOnIn, IsToldAgainIn}
+use Rattle.cell_drive.specs.Recovered.{Recovered, IsRecovered, IsRecoverable, plan_of, replayed_events}
+use Rattle.cell_drive.specs.Replay.{replay_text}
+use Rattle.cell_drive.specs.InProtocol.{IsDriveIn, IsGoneOnIn, IsReplayedIn}
 use Rattle.run_journal.specs.declared.file_fault.FileFault.{FileFault}
 use Rattle.run_journal.specs.declared.file_fault.FileFault.TheVariants.{Log as NotLogged, InUse, Read as NotRead, TooLong, Memory as NoMemoryForLog}
 use Rattle.run_journal.specs.declared.log_run.LogRun.{LogRun}
 use Rattle.run_journal.specs.Folders.{Folder, NamedLog, IsDiskFault, IsOpenFault, handed, handed_if, held, with_fault, with_log, with_name}
-use Rattle.run_journal.specs.LogFiles.{IsReadFault, IsSettled, Leaves}
+use Rattle.run_journal.specs.LogFiles.{IsReadFault, IsDurable, Leaves}
 use Rattle.run_journal.specs.Logged.{AreInStep, Held, fault_if}
 use Rattle.run_journal.specs.LogRuns.{IsNamedFor, IsNamedOrNot, IsRunOf}
 use Rattle.run_journal.specs.Openings.{IsUnmade}
 use Rattle.run_journal.specs.TornEnds.{is_torn}
 use Rattle.run_journal.specs.WholeLines.{torn_end, whole_lines}
-use Rattle.logged_drive.specs.declared.taken_log.TakeUpFault.{TakeUpFault}
-use Rattle.logged_drive.specs.declared.taken_log.TakeUpFault.TheVariants.{Resume, NoTornEnd, File}
-use Rattle.logged_drive.specs.CrashLaw.{IsTakenUpAfter}
+use Rattle.logged_drive.specs.declared.recovered_log.RecoverFault.{RecoverFault}
+use Rattle.logged_drive.specs.declared.recovered_log.RecoverFault.TheVariants.{Resume, NoTornEnd, File}
+use Rattle.logged_drive.specs.CrashLaw.{IsRecoveredAfter}
 use Rattle.logged_drive.specs.LoggedRuns.{IsAllInLog, KeepsShown, ShowsRun}
-use Rattle.logged_drive.specs.TakenLogs.{IsOfDevice, IsOfText, IsOnlyTakeUpFault, IsTakeUpFault, file_fault}
+use Rattle.logged_drive.specs.RecoveredLogs.{IsOfDevice, IsOfText, IsOnlyRecoverFault, IsRecoverFault, file_fault}
 use Rattle.plan_digest.specs.Digits.{digits_of}
 use Rattle.command_words.specs.declared.words.log_start.LogStart.{LogStart}
 use Rattle.command_answers.specs.declared.answer.Answer.{Answer}
@@ -43,11 +43,11 @@ use Rattle.command_answers.specs.declared.command_fault.CommandFault.{CommandFau
 use Rattle.command_answers.specs.declared.command_fault.CommandFault.TheVariants.{Read, Write, InputTooLong, Log, LogInUse, Memory}
 use Rattle.command_answers.specs.declared.loading.Loaded.TheVariants.{NotShaped, Judged}
 use Rattle.command_answers.specs.Commands.{PairOfFiles, Shapes}
-use Rattle.command_answers.specs.LogLines.{IsFaultTold}
+use Rattle.command_answers.specs.LogLines.{IsLogFaultAnswer}
 use Rattle.command_run.specs.Streams.{Streams, Output}
-use Rattle.command_run.specs.Drives.{IsEnded, IsLineTold, drive_command_fault, end_of_drive}
-use Rattle.command_run.specs.Misfits.{IsMisfit, IsMisfitTold}
-use Rattle.command_run.specs.Resumes.{IsUntakenTold, end_of_rest}
+use Rattle.command_run.specs.Drives.{IsEnded, IsLineAnswer, drive_command_fault, end_of_drive}
+use Rattle.command_run.specs.Misfits.{IsMisfit, IsMisfitAnswer}
+use Rattle.command_run.specs.Resumes.{IsUnrecoveredAnswer, end_of_rest}
 use Rattle.command_run.specs.declared.misfits.Misfit.{Misfit}
 
 -- ---- faults
@@ -73,13 +73,13 @@ IsLoggedAnswer log_failed (Ok done) outcome = IsEnded done outcome
 IsLoggedAnswer log_failed (Err fault) outcome = outcome ≡ Err (logged_command_fault log_failed fault)
 
 -- what is told of a log that isn't taken up: as by `resume`; of an end that no crash leaves, that the line behind the whole ones is bad; or the fault of the log
-abbrev pub IsLogUntakenTold : TakeUpFault → Result Answer CommandFault → Type 0
-IsLogUntakenTold (Resume fault) outcome = IsUntakenTold fault outcome
-IsLogUntakenTold (NoTornEnd lines) outcome = IsFaultTold (BadLine (suc lines)) outcome
-IsLogUntakenTold (File fault) outcome = outcome ≡ Err (log_command_fault fault)
+abbrev pub IsLogFaultPrinted : RecoverFault → Result Answer CommandFault → Type 0
+IsLogFaultPrinted (Resume fault) outcome = IsUnrecoveredAnswer fault outcome
+IsLogFaultPrinted (NoTornEnd lines) outcome = IsLogFaultAnswer (BadLine (suc lines)) outcome
+IsLogFaultPrinted (File fault) outcome = outcome ≡ Err (log_command_fault fault)
 
 -- the lines of which such an end is behind are no more than a log may have bytes
-abbrev pub HasFewLines : TakeUpFault → Type 0
+abbrev pub HasFewLines : RecoverFault → Type 0
 HasFewLines (Resume fault) = Unit {0}
 HasFewLines (NoTornEnd lines) = lines ≤ MAX_INPUT
 HasFewLines (File fault) = Unit {0}
@@ -94,7 +94,7 @@ digits_in p = digits_of p.shop p.plan
 -- or it was left with what is told of it, or with the bytes that were found; or it couldn't be synced or read, for this reason, and was left as it was found; or a new one couldn't be given the line of the plan
 pub data LogEnd : Type 0 where
   Driven : PlannedShop → List Entry → Held → LogEnd
-  Untaken : PlannedShop → List ℕ → TakeUpFault → LogEnd
+  NotRecovered : PlannedShop → List ℕ → RecoverFault → LogEnd
   Left : LogEnd
   Found : List ℕ → LogEnd
   Unread : FileFault → LogEnd
@@ -125,7 +125,7 @@ pub record DrivesWithLog {T : Type 0} (p : PlannedShop) (told : List Entry) (dri
   pub end : Result T DriveFault
   pub log_failed : Bool
   pub held : Held
-  pub shows : ShowsRun drives step.before.input step.before.output.taken end log_failed step.after.input step.after.output held
+  pub shows : ShowsRun drives step.before.input step.before.output.written end log_failed step.after.input step.after.output held
   pub output_failed : end ≡ Err NotWritten → log_failed ≡ false → step.after.output.failed ≡ true
   pub memory : end ≢ Err NoMemoryToDrive
   pub answer : IsLoggedAnswer log_failed (ends end) step.outcome
@@ -153,8 +153,8 @@ module _ (folder folder_after : Folder) (path : List ℕ) where
     pub why : IsNewLogFault p there fault step.log
 
   -- the log is there with its name on the disk, made if there was none, and the cell was driven with it
-  pub record BeginsRun (manner : Manner) (there : Bool) (v : VerifiedPlan) (step : Step) : Type 0 where
-    pub drove : DrivesWithLog v.planned [] (IsDriveIn manner v) end_of_drive step
+  pub record BeginsRun (protocol : Protocol) (there : Bool) (v : VerifiedPlan) (step : Step) : Type 0 where
+    pub drove : DrivesWithLog v.planned [] (IsDriveIn protocol v) end_of_drive step
     pub made : folder_after ≡ with_name path (with_log there path folder)
 
   -- memory ran out before any log was made or written
@@ -162,32 +162,32 @@ module _ (folder folder_after : Folder) (path : List ℕ) where
   LacksMemory there step = (step.outcome ≡ Err Memory) × DrivesNothing (left_if there) step × (folder_after ≡ folder)
 
   -- an accepted plan has its cell driven, unless memory runs out before
-  abbrev pub BeginsAccepted : Manner → Bool → VerifiedPlan → Step → Type 0
-  BeginsAccepted manner there v step = LacksMemory there step ⊎ LacksLog v.planned there step ⊎ BeginsRun manner there v step
+  abbrev pub BeginsAccepted : Protocol → Bool → VerifiedPlan → Step → Type 0
+  BeginsAccepted protocol there v step = LacksMemory there step ⊎ LacksLog v.planned there step ⊎ BeginsRun protocol there v step
 
   -- any other is answered by its line, and no log is made
-  abbrev pub BeginsBy : Manner → Bool → Verdict → Step → Type 0
-  BeginsBy manner there (Refused back why) step = IsLineTold (Judged (Refused back why)) step.outcome × DrivesNothing (left_if there) step × (folder_after ≡ folder)
-  BeginsBy manner there (Accepted v) step = BeginsAccepted manner there v step
+  abbrev pub BeginsBy : Protocol → Bool → Verdict → Step → Type 0
+  BeginsBy protocol there (Refused back why) step = IsLineAnswer (Judged (Refused back why)) step.outcome × DrivesNothing (left_if there) step × (folder_after ≡ folder)
+  BeginsBy protocol there (Accepted v) step = BeginsAccepted protocol there v step
 
   -- the plan is judged, and then a new run begins by it, unless memory runs out before
-  abbrev pub Begins : Manner → PlannedShop → Bool → Step → Type 0
-  Begins manner p there step =
-      ((verdict : Verdict) × IsVerdict p verdict × BeginsBy manner there verdict step) ⊎ LacksMemory there step
+  abbrev pub Begins : Protocol → PlannedShop → Bool → Step → Type 0
+  Begins protocol p there step =
+      ((verdict : Verdict) × IsVerdict p verdict × BeginsBy protocol there verdict step) ⊎ LacksMemory there step
 
 -- ---- a log with bytes
 
 -- the log with these bytes is taken up by the plan, at the moment that is given or else at its last one, and its torn end was cut off; or this is why it isn't
-pub record TakesLog (p : PlannedShop) (at : Option ℕ) (text : List ℕ) (taken : Result TakenUp TakeUpFault) : Type 0 where
-  pub is : IfOk taken (IsTakenUp p (ended_lines (whole_lines text)) at)
+pub record RecoversLog (p : PlannedShop) (at : Option ℕ) (text : List ℕ) (taken : Result Recovered RecoverFault) : Type 0 where
+  pub is : IfOk taken (IsRecovered p (ended_lines (whole_lines text)) at)
   pub torn : OnOk taken (is_torn (torn_end text) ≡ true)
-  pub fault : IfErr taken (IsTakeUpFault p text at)
-  pub only_fault : IfErr taken (IsOnlyTakeUpFault p (ended_lines (whole_lines text)))
-  pub only : CanBeTakenUp p (ended_lines (whole_lines text)) at → is_torn (torn_end text) ≡ true → IfErr taken IsOfDevice
+  pub fault : IfErr taken (IsRecoverFault p text at)
+  pub only_fault : IfErr taken (IsOnlyRecoverFault p (ended_lines (whole_lines text)))
+  pub only : IsRecoverable p (ended_lines (whole_lines text)) at → is_torn (torn_end text) ≡ true → IfErr taken IsOfDevice
 
 -- the events in the log were told again, and shown; or that failed
-pub record TellsAgain (manner : Manner) (t : TakenUp) (before after : Output) (told : Result TakenUp DriveFault) : Type 0 where
-  pub is : IsToldAgainIn manner t (taker before) (taker after) told
+pub record ReplaysEvents (protocol : Protocol) (t : Recovered) (before after : Output) (told : Result Recovered DriveFault) : Type 0 where
+  pub is : IsReplayedIn protocol t (output_sink before) (output_sink after) told
   pub same : IfOk told (λ run. run ≡ t)
   pub shown : OnOk told (after.pending ≡ [])
 
@@ -200,27 +200,27 @@ abbrev pub from_output : Output → Step → Step
 from_output mid step = record step { before = with_output step.before mid }
 
 -- then the run goes on with the log; or the telling has failed, with no byte read, and the log is left
-abbrev pub GoesOnAfter : Manner → TakenUp → Output → Result TakenUp DriveFault → Step → Type 0
-GoesOnAfter manner t mid (Ok done) step = DrivesWithLog (plan_of t) (told_in t) (IsGoneOnIn manner t) end_of_rest (from_output mid step)
-GoesOnAfter manner t mid (Err fault) step = (step.outcome ≡ Err (drive_command_fault fault)) × (step.after ≡ with_output step.before mid) × (step.log ≡ Some Left)
+abbrev pub GoesOnAfter : Protocol → Recovered → Output → Result Recovered DriveFault → Step → Type 0
+GoesOnAfter protocol t mid (Ok done) step = DrivesWithLog (plan_of t) (replayed_events t) (IsGoneOnIn protocol t) end_of_rest (from_output mid step)
+GoesOnAfter protocol t mid (Err fault) step = (step.outcome ≡ Err (drive_command_fault fault)) × (step.after ≡ with_output step.before mid) × (step.log ≡ Some Left)
 
 -- so a run that was taken up goes on
-pub record GoesOnWithLog (manner : Manner) (t : TakenUp) (step : Step) : Type 0 where
-  pub told : Result TakenUp DriveFault
+pub record GoesOnWithLog (protocol : Protocol) (t : Recovered) (step : Step) : Type 0 where
+  pub told : Result Recovered DriveFault
   pub mid : Output
-  pub tells : TellsAgain manner t step.before.output mid told
-  pub goes_on : GoesOnAfter manner t mid told step
+  pub tells : ReplaysEvents protocol t step.before.output mid told
+  pub goes_on : GoesOnAfter protocol t mid told step
 
 -- what follows the taking up of a log with these bytes: the run goes on with it; of one that isn't taken up the fault is told, with no byte read or written, and it is held
-abbrev pub GoesOnTaken : PlannedShop → Manner → List ℕ → Result TakenUp TakeUpFault → Step → Type 0
-GoesOnTaken p manner text (Ok t) step = GoesOnWithLog manner t step
-GoesOnTaken p manner text (Err fault) step = IsLogUntakenTold fault step.outcome × DrivesNothing (Some (Untaken p text fault)) step
+abbrev pub ContinuesRecovered : PlannedShop → Protocol → List ℕ → Result Recovered RecoverFault → Step → Type 0
+ContinuesRecovered p protocol text (Ok t) step = GoesOnWithLog protocol t step
+ContinuesRecovered p protocol text (Err fault) step = IsLogFaultPrinted fault step.outcome × DrivesNothing (Some (NotRecovered p text fault)) step
 
 -- the log with these bytes is taken up, and the run goes on
-pub record TakesUp (p : PlannedShop) (manner : Manner) (at : Option ℕ) (text : List ℕ) (step : Step) : Type 0 where
-  pub taken : Result TakenUp TakeUpFault
-  pub takes : TakesLog p at text taken
-  pub goes_on : GoesOnTaken p manner text taken step
+pub record RecoversRun (p : PlannedShop) (protocol : Protocol) (at : Option ℕ) (text : List ℕ) (step : Step) : Type 0 where
+  pub taken : Result Recovered RecoverFault
+  pub takes : RecoversLog p at text taken
+  pub goes_on : ContinuesRecovered p protocol text taken step
 
 -- ---- any log
 
@@ -230,25 +230,25 @@ bytes_in there = unwrap_or there []
 
 module _ (folder folder_after : Folder) (path : List ℕ) where
   -- a log that isn't there, or has no bytes, begins a run; any other is taken up
-  abbrev pub DrivesFitting : Manner → Option ℕ → PlannedShop → Option (List ℕ) → Step → Type 0
-  DrivesFitting manner at p None step = Begins folder folder_after path manner p false step
-  DrivesFitting manner at p (Some []) step = Begins folder folder_after path manner p true step
-  DrivesFitting manner at p (Some (byte ∷ bytes)) step = TakesUp p manner at (byte ∷ bytes) step × (folder_after ≡ folder)
+  abbrev pub DrivesFitting : Protocol → Option ℕ → PlannedShop → Option (List ℕ) → Step → Type 0
+  DrivesFitting protocol at p None step = Begins folder folder_after path protocol p false step
+  DrivesFitting protocol at p (Some []) step = Begins folder folder_after path protocol p true step
+  DrivesFitting protocol at p (Some (byte ∷ bytes)) step = RecoversRun p protocol at (byte ∷ bytes) step × (folder_after ≡ folder)
 
   -- a log that isn't as the words ask is answered by a line, and is left as it was found
-  abbrev pub DrivesAs : Option Misfit → Manner → Option ℕ → PlannedShop → Option (List ℕ) → Step → Type 0
-  DrivesAs (Some misfit) manner at p there step = IsMisfitTold misfit step.outcome × DrivesNothing (option_map Found there) step × (folder_after ≡ folder)
-  DrivesAs None manner at p there step = DrivesFitting manner at p there step
+  abbrev pub DrivesAs : Option Misfit → Protocol → Option ℕ → PlannedShop → Option (List ℕ) → Step → Type 0
+  DrivesAs (Some misfit) protocol at p there step = IsMisfitAnswer misfit step.outcome × DrivesNothing (option_map Found there) step × (folder_after ≡ folder)
+  DrivesAs None protocol at p there step = DrivesFitting protocol at p there step
 
   -- what was found is driven, if it is as the words ask, by its whole lines
-  pub record DrivesFound (start : LogStart) (manner : Manner) (at : Option ℕ) (p : PlannedShop) (there : Option (List ℕ)) (step : Step) : Type 0 where
+  pub record DrivesFound (start : LogStart) (protocol : Protocol) (at : Option ℕ) (p : PlannedShop) (there : Option (List ℕ)) (step : Step) : Type 0 where
     pub run : LogRun
     pub tells : IsRunOf (lines_of (whole_lines (bytes_in there))) run
     pub misfit : Option Misfit
     pub is_misfit : SomeIfAny misfit (IsMisfit start run (digits_in p))
-    pub drives : DrivesAs misfit manner at p there step
+    pub drives : DrivesAs misfit protocol at p there step
 
-module _ (folder folder_after : Folder) (path : List ℕ) (start : LogStart) (manner : Manner) (at : Option ℕ) (p : PlannedShop) where
+module _ (folder folder_after : Folder) (path : List ℕ) (start : LogStart) (protocol : Protocol) (at : Option ℕ) (p : PlannedShop) where
   -- the folder tells that no log could be opened, or locked; or the log that it couldn't be synced or read
   abbrev pub IsOpeningFault : FileFault → Option LogEnd → Type 0
   IsOpeningFault fault log = (IsOpenFault fault × (folder_after ≡ with_fault fault folder) × (log ≡ None))
@@ -257,7 +257,7 @@ module _ (folder folder_after : Folder) (path : List ℕ) (start : LogStart) (ma
   -- what was found by the path is driven; a log that can't be opened, locked or read ends all
   abbrev pub DrivesOpened : Result (Option (List ℕ)) FileFault → Step → Type 0
   DrivesOpened (Err fault) step = (step.outcome ≡ Err (log_command_fault fault)) × (step.after ≡ step.before) × IsOpeningFault fault step.log
-  DrivesOpened (Ok there) step = DrivesFound (handed_if (is_some there) folder) folder_after path start manner at p there step
+  DrivesOpened (Ok there) step = DrivesFound (handed_if (is_some there) folder) folder_after path start protocol at p there step
 
   -- the log of the path is opened
   pub record OpensLog (step : Step) : Type 0 where
@@ -270,40 +270,40 @@ module _ (folder folder_after : Folder) (path : List ℕ) (start : LogStart) (ma
   DrivesByLog step = OpensLog step ⊎ ((step.outcome ≡ Err Memory) × DrivesNothing None step × (folder_after ≡ folder))
 
 -- what follows the plan: a well-shaped one has its log opened; any other is answered by its first fault, and no log is opened
-abbrev pub DrivesShaped : Folder → Folder → List ℕ → LogStart → Manner → Option ℕ → Result (Result PlannedShop ShapeFault) CommandFault → Step → Type 0
-DrivesShaped folder folder_after path start manner at (Err fault) step = (step.outcome ≡ Err fault) × DrivesNothing None step × (folder_after ≡ folder)
-DrivesShaped folder folder_after path start manner at (Ok (Err fault)) step = IsLineTold (NotShaped fault) step.outcome × DrivesNothing None step × (folder_after ≡ folder)
-DrivesShaped folder folder_after path start manner at (Ok (Ok p)) step = DrivesByLog folder folder_after path start manner at p step
+abbrev pub DrivesShaped : Folder → Folder → List ℕ → LogStart → Protocol → Option ℕ → Result (Result PlannedShop ShapeFault) CommandFault → Step → Type 0
+DrivesShaped folder folder_after path start protocol at (Err fault) step = (step.outcome ≡ Err fault) × DrivesNothing None step × (folder_after ≡ folder)
+DrivesShaped folder folder_after path start protocol at (Ok (Err fault)) step = IsLineAnswer (NotShaped fault) step.outcome × DrivesNothing None step × (folder_after ≡ folder)
+DrivesShaped folder folder_after path start protocol at (Ok (Ok p)) step = DrivesByLog folder folder_after path start protocol at p step
 
 -- ---- what the log has
 
 -- Of a run of the plan, behind these events, up to what its writer held: the log is in step with the output. What a crash leaves of it has, behind what was told of it before, all that was shown
 -- behind what was told of the output, and the run is taken up from that. At a good end it has all of it.
-pub record KeepsInLog (seen : Option (List ℕ)) (may_leave : List ℕ → Type 0) (taken : Option (List ℕ)) (good : Type 0) (p : PlannedShop) (before : List Entry) (held : Held) (told : List ℕ × List ℕ) : Type 0 where
-  pub in_step : AreInStep told.0 told.1 seen may_leave held.taken held.pending held.failed
-  pub crash : KeepsShown told.0 told.1 may_leave taken
-  pub taken_up : IsTakenUpAfter p before told.1 may_leave taken
-  pub in_log : good → IsAllInLog told.0 told.1 seen may_leave taken
+pub record KeepsInLog (seen : Option (List ℕ)) (crash_states : List ℕ → Type 0) (taken : Option (List ℕ)) (good : Type 0) (p : PlannedShop) (before : List Entry) (held : Held) (told : List ℕ × List ℕ) : Type 0 where
+  pub in_step : AreInStep told.0 told.1 seen crash_states held.written held.pending held.failed
+  pub crash : KeepsShown told.0 told.1 crash_states taken
+  pub recoverable : IsRecoveredAfter p before told.1 crash_states taken
+  pub in_log : good → IsAllInLog told.0 told.1 seen crash_states taken
 
 -- a log with these bytes that wasn't taken up by the plan has them still, unless it couldn't be cut or written; what a crash leaves of it has the same whole lines, with the plan's or without, and of a torn end a torn end again
-pub record IsAsItWas (seen : Option (List ℕ)) (may_leave : List ℕ → Type 0) (p : PlannedShop) (text : List ℕ) (fault : TakeUpFault) : Type 0 where
-  pub untouched : IsOfText fault → (seen ≡ Some text) × IsSettled seen may_leave
-  pub crash : (left : List ℕ) → may_leave left → IsNamedOrNot (digits_in p) (whole_lines text) (whole_lines left)
-  pub torn_again : is_torn (torn_end text) ≡ true → (left : List ℕ) → may_leave left → is_torn (torn_end left) ≡ true
+pub record IsAsItWas (seen : Option (List ℕ)) (crash_states : List ℕ → Type 0) (p : PlannedShop) (text : List ℕ) (fault : RecoverFault) : Type 0 where
+  pub untouched : IsOfText fault → (seen ≡ Some text) × IsDurable seen crash_states
+  pub crash : (left : List ℕ) → crash_states left → IsNamedOrNot (digits_in p) (whole_lines text) (whole_lines left)
+  pub torn_again : is_torn (torn_end text) ≡ true → (left : List ℕ) → crash_states left → is_torn (torn_end left) ≡ true
 
 -- so by what became of it
 abbrev pub IsLogAfter : Option (List ℕ) → (List ℕ → Type 0) → Option (List ℕ) → Type 0 → LogEnd → List ℕ × List ℕ → Type 0
-IsLogAfter seen may_leave taken good (Driven p before held) told = KeepsInLog seen may_leave taken good p before held told
-IsLogAfter seen may_leave taken good (Untaken p text fault) told = IsAsItWas seen may_leave p text fault
-IsLogAfter seen may_leave taken good Left told = (seen ≡ Some told.0) × IsSettled seen may_leave
-IsLogAfter seen may_leave taken good (Found bytes) told = (seen ≡ Some bytes) × IsSettled seen may_leave
-IsLogAfter seen may_leave taken good (Unread fault) told = Unit {0}
-IsLogAfter seen may_leave taken good (Unlined p) told = Leaves may_leave 0 (plan_line (digits_in p))
+IsLogAfter seen crash_states taken good (Driven p before held) told = KeepsInLog seen crash_states taken good p before held told
+IsLogAfter seen crash_states taken good (NotRecovered p text fault) told = IsAsItWas seen crash_states p text fault
+IsLogAfter seen crash_states taken good Left told = (seen ≡ Some told.0) × IsDurable seen crash_states
+IsLogAfter seen crash_states taken good (Found bytes) told = (seen ≡ Some bytes) × IsDurable seen crash_states
+IsLogAfter seen crash_states taken good (Unread fault) told = Unit {0}
+IsLogAfter seen crash_states taken good (Unlined p) told = Leaves crash_states 0 (plan_line (digits_in p))
 
 -- the fault that the log itself tells, by what became of it
 abbrev pub fault_of : LogEnd → Option FileFault
 fault_of (Driven p before held) = fault_if held.log_failed
-fault_of (Untaken p text fault) = file_fault fault
+fault_of (NotRecovered p text fault) = file_fault fault
 fault_of Left = None
 fault_of (Found bytes) = None
 fault_of (Unread fault) = Some fault
@@ -313,22 +313,22 @@ fault_of (Unlined p) = Some NotLogged
 abbrev pub IsUntouched : Bool → LogEnd → Type 0
 IsUntouched written (Unread fault) = written ≡ false
 IsUntouched written (Found bytes) = written ≡ false
-IsUntouched written (Untaken p text fault) = IsOfText fault → written ≡ false
+IsUntouched written (NotRecovered p text fault) = IsOfText fault → written ≡ false
 IsUntouched written other = Unit {0}
 
 -- so it is with the log that is held, if one is: it tells just this fault, and where it is told what there was before, it has this
 abbrev pub IsHeldAfter : {D : Type 0} → (D → Option (List ℕ)) → (D → List ℕ → Type 0) → (D → Option FileFault) → (D → Bool) → Option (List ℕ × List ℕ) → Option (List ℕ) → Type 0 → Option D → Option LogEnd → Type 0
-IsHeldAfter seen may_leave fault written told taken good None None = Unit {0}
-IsHeldAfter seen may_leave fault written told taken good None (Some end) = ⊥
-IsHeldAfter seen may_leave fault written told taken good (Some log) None = ⊥
-IsHeldAfter seen may_leave fault written told taken good (Some log) (Some end) = (fault log ≡ fault_of end) × IsUntouched (written log) end × IfSome told (IsLogAfter (seen log) (may_leave log) taken good end)
+IsHeldAfter seen crash_states fault written told taken good None None = Unit {0}
+IsHeldAfter seen crash_states fault written told taken good None (Some end) = ⊥
+IsHeldAfter seen crash_states fault written told taken good (Some log) None = ⊥
+IsHeldAfter seen crash_states fault written told taken good (Some log) (Some end) = (fault log ≡ fault_of end) × IsUntouched (written log) end × IfSome told (IsLogAfter (seen log) (crash_states log) taken good end)
 
 -- something was done with a log, and the log that is held after it, if one is, is as is said of it
-pub record WithLog {D : Type 0} (seen : D → Option (List ℕ)) (may_leave : D → List ℕ → Type 0) (fault : D → Option FileFault) (written : D → Bool) (told : Option (List ℕ × List ℕ)) (taken : Option (List ℕ)) (good : Type 0)
+pub record WithLog {D : Type 0} (seen : D → Option (List ℕ)) (crash_states : D → List ℕ → Type 0) (fault : D → Option FileFault) (written : D → Bool) (told : Option (List ℕ × List ℕ)) (taken : Option (List ℕ)) (good : Type 0)
     (log : Option D) (done : Option LogEnd → Type 0) : Type 0 where
   pub end : Option LogEnd
   pub is : done end
-  pub held : IsHeldAfter seen may_leave fault written told taken good log end
+  pub held : IsHeldAfter seen crash_states fault written told taken good log end
 
 -- whether a cell was driven with it
 abbrev pub is_driven : Option LogEnd → Bool
@@ -337,74 +337,74 @@ is_driven other = false
 
 -- a step was made with a log, and it is known whether a cell was driven
 abbrev pub StepsWith : {D : Type 0} → (D → Option (List ℕ)) → (D → List ℕ → Type 0) → (D → Option FileFault) → (D → Bool) → Option (List ℕ × List ℕ) → Streams → Result Answer CommandFault → Streams → Bool → Option D → (Step → Type 0) → Type 0
-StepsWith seen may_leave fault written told before outcome after driven log makes = WithLog seen may_leave fault written told after.output.taken (IsOk outcome) log
+StepsWith seen crash_states fault written told before outcome after driven log makes = WithLog seen crash_states fault written told after.output.written (IsOk outcome) log
     (λ end. (driven ≡ is_driven end) × makes (step_of before outcome after end))
 
 -- ---- what a log is before a run
 
 -- it is on the disk, and no call of it has failed
-pub record IsReady (seen : Option (List ℕ)) (may_leave : List ℕ → Type 0) (fault : Option FileFault) : Type 0 where
-  pub settled : IsSettled seen may_leave
+pub record IsReady (seen : Option (List ℕ)) (crash_states : List ℕ → Type 0) (fault : Option FileFault) : Type 0 where
+  pub durable : IsDurable seen crash_states
   pub unfailed : fault ≡ None
 
 -- and it has no bytes, which is told where the logs are, and none was written
-pub record IsEmptyLog (seen : Option (List ℕ)) (may_leave : List ℕ → Type 0) (fault : Option FileFault) (written : Bool) (folder : Folder) : Type 0 where
-  pub ready : IsReady seen may_leave fault
+pub record IsEmptyLog (seen : Option (List ℕ)) (crash_states : List ℕ → Type 0) (fault : Option FileFault) (written : Bool) (folder : Folder) : Type 0 where
+  pub ready : IsReady seen crash_states fault
   pub unwritten : written ≡ false
   pub empty : IfSome seen (λ file. file ≡ [])
   pub told : IfSome folder.logs (λ _. seen ≡ Some [])
 
 -- a log that was opened and read, and not written, with these bytes, which are told where the logs are
-pub record IsFoundLog (seen : Option (List ℕ)) (may_leave : List ℕ → Type 0) (fault : Option FileFault) (written : Bool) (folder : Folder) (text : List ℕ) : Type 0 where
-  pub ready : IsReady seen may_leave fault
+pub record IsFoundLog (seen : Option (List ℕ)) (crash_states : List ℕ → Type 0) (fault : Option FileFault) (written : Bool) (folder : Folder) (text : List ℕ) : Type 0 where
+  pub ready : IsReady seen crash_states fault
   pub unwritten : written ≡ false
   pub read : IfSome seen (λ file. text ≡ file)
   pub within : length text ≤ MAX_INPUT
   pub told : IfSome folder.logs (λ _. seen ≡ Some text)
 
 -- the run was taken up from the whole lines that the log has
-abbrev pub IsTakenFromLog : TakenUp → List ℕ → Type 0
-IsTakenFromLog t base = (whole_lines base ≡ base) × (at : Option ℕ) × IsTakenUp (plan_of t) (ended_lines base) at t
+abbrev pub IsRecoveredFromLog : Recovered → List ℕ → Type 0
+IsRecoveredFromLog t base = (whole_lines base ≡ base) × (at : Option ℕ) × IsRecovered (plan_of t) (ended_lines base) at t
 
 -- ---- what the log holds before
 
 -- behind what the output has taken stands this text
-pub record IsToldBehind (taken : Option (List ℕ)) (text told : List ℕ) : Type 0 where
+pub record IsWrittenBehind (taken : Option (List ℕ)) (text told : List ℕ) : Type 0 where
   pub start : List ℕ
   pub was : taken ≡ Some start
   pub is : told ≡ start ++ text
 
 -- what is told of a new log by this plan, in a folder that is told: the line of the plan; and of what the output has taken
-pub record IsToldOfNew (folder : Folder) (p : PlannedShop) (taken : Option (List ℕ)) (told : List ℕ × List ℕ) : Type 0 where
+pub record IsHistoryOfNew (folder : Folder) (p : PlannedShop) (taken : Option (List ℕ)) (told : List ℕ × List ℕ) : Type 0 where
   pub logs : List NamedLog
   pub there : folder.logs ≡ Some logs
   pub log : told.0 ≡ plan_line (digits_in p)
   pub output : taken ≡ Some told.1
 
 -- what is told of the whole lines of a log, with the line of the plan behind them unless it is their last one; and of what the output has taken once the events in it are told again
-pub record IsToldOfOld (p : PlannedShop) (manner : Manner) (at : Option ℕ) (bytes : List ℕ) (taken : Option (List ℕ)) (told : List ℕ × List ℕ) : Type 0 where
+pub record IsHistoryOfOld (p : PlannedShop) (protocol : Protocol) (at : Option ℕ) (bytes : List ℕ) (taken : Option (List ℕ)) (told : List ℕ × List ℕ) : Type 0 where
   pub log : IsNamedFor (digits_in p) (whole_lines bytes) told.0
-  pub output : (t : TakenUp) → IsTakenUp p (ended_lines (whole_lines bytes)) at t → IsToldBehind taken (retold_text manner t) told.1
+  pub output : (t : Recovered) → IsRecovered p (ended_lines (whole_lines bytes)) at t → IsWrittenBehind taken (replay_text protocol t) told.1
 
 -- so of any log
-abbrev pub IsToldOf : Folder → PlannedShop → Manner → Option ℕ → Option (List ℕ) → Option (List ℕ) → List ℕ × List ℕ → Type 0
-IsToldOf folder p manner at None taken told = IsToldOfNew folder p taken told
-IsToldOf folder p manner at (Some []) taken told = IsToldOfNew folder p taken told
-IsToldOf folder p manner at (Some (byte ∷ bytes)) taken told = IsToldOfOld p manner at (byte ∷ bytes) taken told
+abbrev pub IsHistoryOf : Folder → PlannedShop → Protocol → Option ℕ → Option (List ℕ) → Option (List ℕ) → List ℕ × List ℕ → Type 0
+IsHistoryOf folder p protocol at None taken told = IsHistoryOfNew folder p taken told
+IsHistoryOf folder p protocol at (Some []) taken told = IsHistoryOfNew folder p taken told
+IsHistoryOf folder p protocol at (Some (byte ∷ bytes)) taken told = IsHistoryOfOld p protocol at (byte ∷ bytes) taken told
 
 -- so of one that was found, in a folder that is told
-pub record IsToldOfFound (folder : Folder) (p : PlannedShop) (manner : Manner) (at : Option ℕ) (there taken : Option (List ℕ)) (told : List ℕ × List ℕ) : Type 0 where
+pub record IsHistoryOfFound (folder : Folder) (p : PlannedShop) (protocol : Protocol) (at : Option ℕ) (there taken : Option (List ℕ)) (told : List ℕ × List ℕ) : Type 0 where
   pub logs : List NamedLog
   pub in_folder : folder.logs ≡ Some logs
-  pub is : IsToldOf folder p manner at there taken told
+  pub is : IsHistoryOf folder p protocol at there taken told
 
 -- so of the log of this path, in a folder that is told
-pub record IsToldOfPath (folder : Folder) (path : List ℕ) (p : PlannedShop) (manner : Manner) (at : Option ℕ) (taken : Option (List ℕ)) (told : List ℕ × List ℕ) : Type 0 where
+pub record IsHistoryOfPath (folder : Folder) (path : List ℕ) (p : PlannedShop) (protocol : Protocol) (at : Option ℕ) (taken : Option (List ℕ)) (told : List ℕ × List ℕ) : Type 0 where
   pub logs : List NamedLog
   pub there : folder.logs ≡ Some logs
-  pub is : IsToldOf folder p manner at (held logs path) taken told
+  pub is : IsHistoryOf folder p protocol at (held logs path) taken told
 
 -- by each plan that the files tell
-abbrev pub IsToldOfLog : {W : Type 0} → (W → List ℕ → Result (List ℕ) CommandFault → W → Type 0) → Folder → PairOfFiles → List ℕ → Manner → Option ℕ
+abbrev pub IsHistoryOfLog : {W : Type 0} → (W → List ℕ → Result (List ℕ) CommandFault → W → Type 0) → Folder → PairOfFiles → List ℕ → Protocol → Option ℕ
     → W → Option (List ℕ) → List ℕ × List ℕ → Type 0
-IsToldOfLog {W} gives folder pair path manner at texts taken told = (p : PlannedShop) (mid : W) → Shapes gives pair texts (Ok (Ok p)) mid → IsToldOfPath folder path p manner at taken told
+IsHistoryOfLog {W} gives folder pair path protocol at texts taken told = (p : PlannedShop) (mid : W) → Shapes gives pair texts (Ok (Ok p)) mid → IsHistoryOfPath folder path p protocol at taken told

@@ -36,5 +36,5 @@ abbrev pub IsMisfitLine : Misfit → Answer → Type 0
 IsMisfitLine misfit answer = (answer.text.items ≡ misfit_line misfit) × (answer.status ≡ 1)
 
 -- it is the answer, unless memory ran out
-abbrev pub IsMisfitTold : Misfit → Result Answer CommandFault → Type 0
-IsMisfitTold misfit = IsOrMemory (IsMisfitLine misfit)
+abbrev pub IsMisfitAnswer : Misfit → Result Answer CommandFault → Type 0
+IsMisfitAnswer misfit = IsOrMemory (IsMisfitLine misfit)

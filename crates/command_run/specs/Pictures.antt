@@ -5,22 +5,22 @@ use Rattle.byte_streams.specs.Sinks.{TookPart}
 use Rattle.command_answers.specs.declared.answer.Answer.{Answer}
 use Rattle.command_answers.specs.declared.command_fault.CommandFault.{CommandFault}
 use Rattle.command_answers.specs.declared.command_fault.CommandFault.TheVariants.{Write}
-use Rattle.command_answers.specs.declared.logs.Telling.TheVariants.{Drawing}
+use Rattle.command_answers.specs.declared.logs.LogAnswer.TheVariants.{Drawing}
 use Rattle.command_answers.specs.declared.pictures.Drawn.{Drawn}
 use Rattle.command_answers.specs.declared.pictures.Drawn.TheVariants.{Picture, Line}
-use Rattle.command_answers.specs.declared.rests.PlanTelling.TheVariants.{Moments}
+use Rattle.command_answers.specs.declared.rests.PlanAnswer.TheVariants.{Moments}
 use Rattle.command_answers.specs.Commands.{PairOfFiles, RunsLog, RunsMoves, RunsRestMoves}
 use Rattle.command_answers.specs.Pictures.{DrawsLog, DrawsRest, DrawsSchedule}
 use Rattle.command_run.specs.Streams.{Streams, Output}
-use Rattle.command_run.specs.Tellings.{RunsTelling}
+use Rattle.command_run.specs.Tellings.{RunsPlanAnswer}
 use Rattle.command_run.specs.declared.pictures.Timetable.{Timetable}
 use Rattle.command_run.specs.declared.pictures.Timetable.TheVariants.{Moments as ByMoments, Moves as ByMoves, Picture as AsPicture}
 
 -- the picture was written and shown, so that no more is answered, with this status; or its first bytes were, up to a write that failed
 abbrev pub IsPictureOut : List ℕ → ℕ → Output → Output → Result Answer CommandFault → Type 0
 IsPictureOut picture status before after (Ok answer) =
-    (answer.text.items ≡ []) × (answer.status ≡ status) × Appends before.taken after.taken picture × (after.failed ≡ before.failed) × (after.pending ≡ [])
-IsPictureOut picture status before after (Err fault) = (fault ≡ Write) × TookPart before.taken after.taken picture × (after.failed ≡ true)
+    (answer.text.items ≡ []) × (answer.status ≡ status) × Appends before.written after.written picture × (after.failed ≡ before.failed) × (after.pending ≡ [])
+IsPictureOut picture status before after (Err fault) = (fault ≡ Write) × TookPart before.written after.written picture × (after.failed ≡ true)
 
 -- what follows what came to be drawn: a picture is written; a line is answered, and a fault is told, with no byte read or written
 abbrev pub Draws : Result Drawn CommandFault → Streams → Streams → Result Answer CommandFault → Type 0
@@ -41,14 +41,14 @@ module _ {W : Type 0} (gives : W → List ℕ → Result (List ℕ) CommandFault
   DrawsTimetable at pair names (Some log) = DrawsRest gives at pair names log
 
   -- the moves of the plan are told, or those ahead in the run in a log, if there is one
-  abbrev pub TellsMoves : Option ℕ → PairOfFiles → Option (List ℕ) → Option (List ℕ) → W → Result Answer CommandFault → W → Type 0
-  TellsMoves at pair names None = RunsMoves gives pair names
-  TellsMoves at pair names (Some log) = RunsRestMoves gives at pair names log
+  abbrev pub AnswersMoves : Option ℕ → PairOfFiles → Option (List ℕ) → Option (List ℕ) → W → Result Answer CommandFault → W → Type 0
+  AnswersMoves at pair names None = RunsMoves gives pair names
+  AnswersMoves at pair names (Some log) = RunsRestMoves gives at pair names log
 
   -- `schedule`: the schedule of the plan is told, or that of the rest of the run in a log; or with `--moves` the moves are, or with `--svg` it is drawn
   abbrev pub RunsTimetable : Timetable → Option ℕ → PairOfFiles → Option (List ℕ) → Option (List ℕ) → W → Streams → Result Answer CommandFault → W → Streams → Type 0
-  RunsTimetable ByMoments at pair names log texts before outcome texts_after after = RunsTelling gives Moments at pair names log texts outcome texts_after × (after ≡ before)
-  RunsTimetable ByMoves at pair names log texts before outcome texts_after after = TellsMoves at pair names log texts outcome texts_after × (after ≡ before)
+  RunsTimetable ByMoments at pair names log texts before outcome texts_after after = RunsPlanAnswer gives Moments at pair names log texts outcome texts_after × (after ≡ before)
+  RunsTimetable ByMoves at pair names log texts before outcome texts_after after = AnswersMoves at pair names log texts outcome texts_after × (after ≡ before)
   RunsTimetable AsPicture at pair names log texts before outcome texts_after after = RunsPicture (DrawsTimetable at pair names log) texts before outcome texts_after after
 
   -- `gantt`: the log is drawn in text, or with `--svg` as a picture

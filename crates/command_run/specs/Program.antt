@@ -3,7 +3,7 @@ use Rattle.std.specs.Prelude.{◌≡◌, ℕ, ◌==◌, ◌&&◌, if◌then◌el
 use Rattle.std.specs.String.{string_bytes}
 use Rattle.shop_base.specs.declared.shape_fault.ShapeFault.{ShapeFault}
 use Rattle.shop_base.specs.Plan.{PlannedShop}
-use Rattle.cell_drive.specs.declared.manner.Manner.{Manner}
+use Rattle.cell_drive.specs.declared.protocol.Protocol.{Protocol}
 use Rattle.run_journal.specs.Folders.{Folder}
 use Rattle.plan_decide.specs.declared.aim.Aim.{Aim}
 use Rattle.plan_decide.specs.declared.aim.Aim.TheVariants.{Promises, Least}
@@ -16,19 +16,19 @@ use Rattle.command_words.specs.declared.words.Lines.TheVariants.{One, Two}
 use Rattle.command_words.specs.declared.words.log_start.LogStart.{LogStart}
 use Rattle.command_words.specs.declared.words.WordsFault.{WordsFault}
 use Rattle.command_words.specs.declared.words.WordsFault.TheVariants.{Usage, Memory}
-use Rattle.command_words.specs.Choice.{IsChoiceOf, IsWithin, TellsOneOf, reasons_in, found_in}
+use Rattle.command_words.specs.Choice.{IsChoiceOf, IsWithin, NamesOneOf, reasons_in, found_in}
 use Rattle.command_answers.specs.declared.answer.Answer.{Answer}
 use Rattle.command_answers.specs.declared.cells.Cells.{Cells}
 use Rattle.command_answers.specs.declared.command_fault.CommandFault.{CommandFault}
 use Rattle.command_answers.specs.declared.command_fault.CommandFault.TheVariants.{Read, Write, InputTooLong, LogInUse, Memory as Wanting}
 use Rattle.command_answers.specs.declared.loading.Loaded.{Loaded}
-use Rattle.command_answers.specs.declared.logs.Telling.TheVariants.{Numbers}
-use Rattle.command_answers.specs.declared.rests.PlanTelling.TheVariants.{Verdict, Reasons}
+use Rattle.command_answers.specs.declared.logs.LogAnswer.TheVariants.{Numbers}
+use Rattle.command_answers.specs.declared.rests.PlanAnswer.TheVariants.{Verdict, Reasons}
 use Rattle.command_answers.specs.Commands.{PairOfFiles, RunsFacts, RunsShape, RunsDigest, RunsBounds, RunsMargin, RunsLog, Loads, Shapes}
 use Rattle.command_answers.specs.Cells.{LoadsCells}
 use Rattle.command_run.specs.Streams.{Streams, Devices}
 use Rattle.command_run.specs.Inputs.{RunsInput}
-use Rattle.command_run.specs.Tellings.{RunsTelling}
+use Rattle.command_run.specs.Tellings.{RunsPlanAnswer}
 use Rattle.command_run.specs.Pictures.{RunsTimetable, RunsDrawing}
 use Rattle.command_run.specs.declared.pictures.Timetable.{Timetable}
 use Rattle.command_run.specs.declared.pictures.Timetable.TheVariants.{Moments, Moves, Picture}
@@ -38,16 +38,16 @@ use Rattle.command_run.specs.Choosers.{Decides}
 use Rattle.command_run.specs.Drives.{Drives}
 use Rattle.command_run.specs.Resumes.{Resumes}
 use Rattle.command_run.specs.Revisions.{Revises}
-use Rattle.command_run.specs.Logs.{DrivesShaped, IsToldOfLog, LogEnd, Step, is_driven, step_of}
+use Rattle.command_run.specs.Logs.{DrivesShaped, IsHistoryOfLog, LogEnd, Step, is_driven, step_of}
 use Rattle.command_run.specs.Hubs.{DrivesAll}
-use Rattle.command_run.specs.Ending.{Ends, EndsBy, IsAnswerEnd, WasTold}
+use Rattle.command_run.specs.Ending.{Ends, EndsBy, IsAnswerEnd, WasPrinted}
 
 -- what the words of the command line are read as
 pub record AreWordsRead (words : List (List ℕ)) (read : Result Chosen WordsFault) : Type 0 where
   pub chosen : IfOk read (IsChoiceOf words (found_in words))
   pub within : IfOk read IsWithin
   pub taken : IfOk read (λ _. reasons_in words ≡ [])
-  pub refused : IfErr read (TellsOneOf (reasons_in words))
+  pub refused : IfErr read (NamesOneOf (reasons_in words))
 
 -- the file at a place of the command line
 abbrev pub file_at : Chosen → ℕ → List ℕ
@@ -120,8 +120,8 @@ is_second (Some One) = false
 is_second (Some Two) = true
 
 -- the manner in which cells are driven: a leap counts from the present moment at the earliest, if one is given
-abbrev pub manner_in : Chosen → Manner
-manner_in chosen = record { tells = is_second chosen.lines; longest = chosen.leap; from = unwrap_or chosen.at 0 }
+abbrev pub manner_in : Chosen → Protocol
+manner_in chosen = record { version_2 = is_second chosen.lines; max_gap = chosen.leap; from = unwrap_or chosen.at 0 }
 
 -- the files of the instance and of the first plan
 abbrev pub pair_in : Chosen → PairOfFiles
@@ -147,29 +147,29 @@ NoLog before after log = (after.folder ≡ before.folder) × (log ≡ None)
 
 module _ {W : Type 0} (gives : W → List ℕ → Result (List ℕ) CommandFault → W → Type 0) where
   -- the plan is loaded, and then the input is read
-  pub record RunsDrive (manner : Manner) (pair : PairOfFiles) (texts : W) (before : Streams) (outcome : Result Answer CommandFault) (texts_after : W) (after : Streams) : Type 0 where
+  pub record RunsDrive (protocol : Protocol) (pair : PairOfFiles) (texts : W) (before : Streams) (outcome : Result Answer CommandFault) (texts_after : W) (after : Streams) : Type 0 where
     pub loaded : Result Loaded CommandFault
     pub loads : Loads gives pair texts loaded texts_after
-    pub drives : Drives manner loaded before after outcome
+    pub drives : Drives protocol loaded before after outcome
 
   -- the plan is read, its log opened, and then the cell is driven with that
-  pub record RunsLoggedDrive (folder folder_after : Folder) (path : List ℕ) (start : LogStart) (manner : Manner) (at : Option ℕ) (pair : PairOfFiles) (texts : W) (step : Step) (texts_after : W) : Type 0 where
+  pub record RunsLoggedDrive (folder folder_after : Folder) (path : List ℕ) (start : LogStart) (protocol : Protocol) (at : Option ℕ) (pair : PairOfFiles) (texts : W) (step : Step) (texts_after : W) : Type 0 where
     pub shaped : Result (Result PlannedShop ShapeFault) CommandFault
     pub shapes : Shapes gives pair texts shaped texts_after
-    pub drives : DrivesShaped folder folder_after path start manner at shaped step
+    pub drives : DrivesShaped folder folder_after path start protocol at shaped step
 
   -- the plan is read, then its log taken up at a moment, and then the input is read
-  pub record RunsResume (manner : Manner) (at : Option ℕ) (pair : PairOfFiles) (log : List ℕ) (texts : W) (before : Streams) (outcome : Result Answer CommandFault) (texts_after : W) (after : Streams) : Type 0 where
+  pub record RunsResume (protocol : Protocol) (at : Option ℕ) (pair : PairOfFiles) (log : List ℕ) (texts : W) (before : Streams) (outcome : Result Answer CommandFault) (texts_after : W) (after : Streams) : Type 0 where
     pub shaped : Result (Result PlannedShop ShapeFault) CommandFault
     pub texts_mid : W
     pub shapes : Shapes gives pair texts shaped texts_mid
-    pub resumes : Resumes gives manner at log shaped texts_mid before outcome texts_after after
+    pub resumes : Resumes gives protocol at log shaped texts_mid before outcome texts_after after
 
   -- all plans are loaded, and then the input is read
-  pub record RunsHub (manner : Manner) (path : List ℕ) (name : Option (List ℕ)) (plans : List (List ℕ)) (texts : W) (before : Streams) (outcome : Result Answer CommandFault) (texts_after : W) (after : Streams) : Type 0 where
+  pub record RunsHub (protocol : Protocol) (path : List ℕ) (name : Option (List ℕ)) (plans : List (List ℕ)) (texts : W) (before : Streams) (outcome : Result Answer CommandFault) (texts_after : W) (after : Streams) : Type 0 where
     pub loaded : Result Cells CommandFault
     pub loads : LoadsCells gives path name plans texts loaded texts_after
-    pub drives : DrivesAll manner loaded before after outcome
+    pub drives : DrivesAll protocol loaded before after outcome
 
   -- what each command does
   abbrev pub RunsCommand : CommandName → Chosen → W → Streams → Result Answer CommandFault → W → Streams → Type 0
@@ -180,9 +180,9 @@ module _ {W : Type 0} (gives : W → List ℕ → Result (List ℕ) CommandFault
   RunsCommand Shape chosen texts before outcome texts_after after =
       RunsShape gives (pair_in chosen) texts outcome texts_after × (after ≡ before)
   RunsCommand Check chosen texts before outcome texts_after after =
-      RunsTelling gives Verdict chosen.at (pair_in chosen) (names_in chosen) (log_in chosen) texts outcome texts_after × (after ≡ before)
+      RunsPlanAnswer gives Verdict chosen.at (pair_in chosen) (names_in chosen) (log_in chosen) texts outcome texts_after × (after ≡ before)
   RunsCommand Explain chosen texts before outcome texts_after after =
-      RunsTelling gives (Reasons chosen.job) chosen.at (pair_in chosen) (names_in chosen) (log_in chosen) texts outcome texts_after × (after ≡ before)
+      RunsPlanAnswer gives (Reasons chosen.job) chosen.at (pair_in chosen) (names_in chosen) (log_in chosen) texts outcome texts_after × (after ≡ before)
   RunsCommand Schedule chosen texts before outcome texts_after after =
       RunsTimetable gives (form_in chosen) chosen.at (pair_in chosen) (names_in chosen) (log_in chosen) texts before outcome texts_after after
   RunsCommand Bounds chosen texts before outcome texts_after after =
@@ -240,7 +240,7 @@ module _ {W : Type 0} (gives : W → List ℕ → Result (List ℕ) CommandFault
   Follows (Ok chosen) before status after log = Commands chosen before status after log
   Follows (Err (Usage true text)) before status after log = Helps (string_bytes text) before status after log
   Follows (Err (Usage false text)) before status after log =
-      WasTold (string_bytes text) before.errors after.errors × (status ≡ 2) × (after.texts ≡ before.texts) × (after.streams ≡ before.streams) × NoLog before after log
+      WasPrinted (string_bytes text) before.errors after.errors × (status ≡ 2) × (after.texts ≡ before.texts) × (after.streams ≡ before.streams) × NoLog before after log
   Follows (Err Memory) before status after log =
       Ends (Err Wanting) before.streams.output after.streams.output before.errors after.errors status
       × (after.texts ≡ before.texts) × (after.streams.input ≡ before.streams.input) × NoLog before after log
@@ -252,10 +252,10 @@ module _ {W : Type 0} (gives : W → List ℕ → Result (List ℕ) CommandFault
     pub follows : Follows read before status after log
 
 -- what is told of the log that the command keeps, if it keeps one, and of what the output has taken once the events in that are told again
-abbrev pub IsToldOfChosen : {W : Type 0} → (W → List ℕ → Result (List ℕ) CommandFault → W → Type 0) → Chosen → Devices W → List ℕ × List ℕ → Type 0
-IsToldOfChosen gives chosen before told = (path : List ℕ) → kept_log_in chosen ≡ Some path
-    → IsToldOfLog gives before.folder (pair_in chosen) path (manner_in chosen) chosen.at before.texts before.streams.output.taken told
+abbrev pub IsHistoryOfChosen : {W : Type 0} → (W → List ℕ → Result (List ℕ) CommandFault → W → Type 0) → Chosen → Devices W → List ℕ × List ℕ → Type 0
+IsHistoryOfChosen gives chosen before told = (path : List ℕ) → kept_log_in chosen ≡ Some path
+    → IsHistoryOfLog gives before.folder (pair_in chosen) path (manner_in chosen) chosen.at before.texts before.streams.output.written told
 
 -- what is told of the log that the words ask for, and of what the output has taken once the events in that are told again
-abbrev pub IsToldOfWords : {W : Type 0} → (W → List ℕ → Result (List ℕ) CommandFault → W → Type 0) → List (List ℕ) → Devices W → List ℕ × List ℕ → Type 0
-IsToldOfWords gives words before told = (chosen : Chosen) → IsChoiceOf words (found_in words) chosen → IsToldOfChosen gives chosen before told
+abbrev pub IsHistoryOfWords : {W : Type 0} → (W → List ℕ → Result (List ℕ) CommandFault → W → Type 0) → List (List ℕ) → Devices W → List ℕ × List ℕ → Type 0
+IsHistoryOfWords gives words before told = (chosen : Chosen) → IsChoiceOf words (found_in words) chosen → IsHistoryOfChosen gives chosen before told

@@ -5,37 +5,37 @@ use Rattle.shop_base.specs.Plan.{PlannedShop}
 use Rattle.text_lines.specs.Lines.{ended_lines}
 use Rattle.plan_verifier.specs.declared.verdict.Verdict.TheVariants.{Refused as RefusedPlan}
 use Rattle.byte_streams.specs.declared.drive_fault.DriveFault.{DriveFault}
-use Rattle.cell_drive.specs.declared.manner.Manner.{Manner}
+use Rattle.cell_drive.specs.declared.protocol.Protocol.{Protocol}
 use Rattle.cell_drive.specs.declared.resume.RestEnd.{RestEnd}
 use Rattle.cell_drive.specs.declared.resume_fault.ResumeFault.{ResumeFault}
 use Rattle.cell_drive.specs.declared.resume_fault.ResumeFault.TheVariants.{Log, Past, Refused, Memory as WantOfMemory}
-use Rattle.cell_drive.specs.TakenUp.{TakenUp, IsTakenUp, CanBeTakenUp}
+use Rattle.cell_drive.specs.Recovered.{Recovered, IsRecovered, IsRecoverable}
 use Rattle.cell_drive.specs.ResumeFaults.{IsResumeFault, IsOnlyLogFault}
-use Rattle.cell_drive.specs.InManner.{IsResumeIn}
+use Rattle.cell_drive.specs.InProtocol.{IsResumeIn}
 use Rattle.command_answers.specs.declared.answer.Answer.{Answer}
 use Rattle.command_answers.specs.declared.command_fault.CommandFault.{CommandFault}
 use Rattle.command_answers.specs.declared.command_fault.CommandFault.TheVariants.{Memory}
 use Rattle.command_answers.specs.declared.loading.Loaded.TheVariants.{NotShaped, Judged}
 use Rattle.command_answers.specs.Steps.{IsOrMemory}
 use Rattle.command_answers.specs.Texts.{Asks}
-use Rattle.command_answers.specs.LogLines.{IsFaultTold}
+use Rattle.command_answers.specs.LogLines.{IsLogFaultAnswer}
 use Rattle.command_answers.specs.Rests.{IsPastLine}
 use Rattle.command_run.specs.Streams.{Streams}
-use Rattle.command_run.specs.Drives.{IsEndAnswer, IsLineTold}
+use Rattle.command_run.specs.Drives.{IsEndAnswer, IsLineAnswer}
 
 -- the text is a log that is taken up by the plan, at the moment that is given or else at its last one, with all that is told of it; or this is its fault, which is want of memory alone where it can be taken up
-pub record IsTaking (p : PlannedShop) (at : Option ℕ) (text : List ℕ) (taken : Result TakenUp ResumeFault) : Type 0 where
-  pub is : IfOk taken (IsTakenUp p (ended_lines text) at)
+pub record IsRecovery (p : PlannedShop) (at : Option ℕ) (text : List ℕ) (taken : Result Recovered ResumeFault) : Type 0 where
+  pub is : IfOk taken (IsRecovered p (ended_lines text) at)
   pub fault : IfErr taken (IsResumeFault p (ended_lines text) at)
   pub only : IfErr taken (IsOnlyLogFault p (ended_lines text))
-  pub can : CanBeTakenUp p (ended_lines text) at → IfErr taken (λ fault. fault ≡ WantOfMemory)
+  pub can : IsRecoverable p (ended_lines text) at → IfErr taken (λ fault. fault ≡ WantOfMemory)
 
 -- out of memory is a fault of the command; else the first fault of the log is answered by its line, a moment that is past by that, and a plan that is refused by the line of `check`, unless memory runs out
-abbrev pub IsUntakenTold : ResumeFault → Result Answer CommandFault → Type 0
-IsUntakenTold WantOfMemory outcome = outcome ≡ Err Memory
-IsUntakenTold (Log fault) outcome = IsFaultTold fault outcome
-IsUntakenTold (Past last) outcome = IsOrMemory (IsPastLine last) outcome
-IsUntakenTold (Refused back why) outcome = IsLineTold (Judged (RefusedPlan back why)) outcome
+abbrev pub IsUnrecoveredAnswer : ResumeFault → Result Answer CommandFault → Type 0
+IsUnrecoveredAnswer WantOfMemory outcome = outcome ≡ Err Memory
+IsUnrecoveredAnswer (Log fault) outcome = IsLogFaultAnswer fault outcome
+IsUnrecoveredAnswer (Past last) outcome = IsOrMemory (IsPastLine last) outcome
+IsUnrecoveredAnswer (Refused back why) outcome = IsLineAnswer (Judged (RefusedPlan back why)) outcome
 
 -- whether the run has ended
 abbrev pub end_of_rest : Result RestEnd DriveFault → Result Bool DriveFault
@@ -43,30 +43,30 @@ end_of_rest (Ok end) = Ok end.done
 end_of_rest (Err fault) = Err fault
 
 -- what was taken up was driven on in this manner, and the status says whether its run has ended
-pub record ResumesOn (manner : Manner) (t : TakenUp) (before after : Streams) (outcome : Result Answer CommandFault) : Type 0 where
+pub record ResumesOn (protocol : Protocol) (t : Recovered) (before after : Streams) (outcome : Result Answer CommandFault) : Type 0 where
   pub end : Result RestEnd DriveFault
-  pub is : IsResumeIn manner t before after end
+  pub is : IsResumeIn protocol t before after end
   pub answer : IsEndAnswer (end_of_rest end) outcome
 
 -- what follows taking up: it is driven on in this manner; of a log that isn't taken up the fault is told, with no byte read or written
-abbrev pub ResumesTaken : Manner → Result TakenUp ResumeFault → Streams → Streams → Result Answer CommandFault → Type 0
-ResumesTaken manner (Ok t) before after outcome = ResumesOn manner t before after outcome
-ResumesTaken manner (Err fault) before after outcome = IsUntakenTold fault outcome × (after ≡ before)
+abbrev pub ResumesRecovered : Protocol → Result Recovered ResumeFault → Streams → Streams → Result Answer CommandFault → Type 0
+ResumesRecovered protocol (Ok t) before after outcome = ResumesOn protocol t before after outcome
+ResumesRecovered protocol (Err fault) before after outcome = IsUnrecoveredAnswer fault outcome × (after ≡ before)
 
 -- the text of the log that came is taken up, and then driven on
-abbrev pub ResumesText : Manner → Option ℕ → PlannedShop → Result (List ℕ) CommandFault → Streams → Streams → Result Answer CommandFault → Type 0
-ResumesText manner at p (Ok text) before after outcome = (taken : Result TakenUp ResumeFault) × IsTaking p at text taken × ResumesTaken manner taken before after outcome
-ResumesText manner at p (Err fault) before after outcome = (outcome ≡ Err fault) × (after ≡ before)
+abbrev pub ResumesText : Protocol → Option ℕ → PlannedShop → Result (List ℕ) CommandFault → Streams → Streams → Result Answer CommandFault → Type 0
+ResumesText protocol at p (Ok text) before after outcome = (taken : Result Recovered ResumeFault) × IsRecovery p at text taken × ResumesRecovered protocol taken before after outcome
+ResumesText protocol at p (Err fault) before after outcome = (outcome ≡ Err fault) × (after ≡ before)
 
-module _ {W : Type 0} (gives : W → List ℕ → Result (List ℕ) CommandFault → W → Type 0) (manner : Manner) (at : Option ℕ) (log : List ℕ) where
+module _ {W : Type 0} (gives : W → List ℕ → Result (List ℕ) CommandFault → W → Type 0) (protocol : Protocol) (at : Option ℕ) (log : List ℕ) where
   -- the log is asked for, once the plan is known to be well shaped
   pub record ResumesLog (p : PlannedShop) (texts : W) (before : Streams) (outcome : Result Answer CommandFault) (texts_after : W) (after : Streams) : Type 0 where
     pub text : Result (List ℕ) CommandFault
     pub asks : Asks gives log texts text texts_after
-    pub resumes : ResumesText manner at p text before after outcome
+    pub resumes : ResumesText protocol at p text before after outcome
 
   -- what follows the plan: a well-shaped one has its log asked for; any other is answered by its first fault, with no file asked for and no byte read or written
   abbrev pub Resumes : Result (Result PlannedShop ShapeFault) CommandFault → W → Streams → Result Answer CommandFault → W → Streams → Type 0
   Resumes (Err fault) texts before outcome texts_after after = (outcome ≡ Err fault) × (after ≡ before) × (texts_after ≡ texts)
-  Resumes (Ok (Err fault)) texts before outcome texts_after after = IsLineTold (NotShaped fault) outcome × (after ≡ before) × (texts_after ≡ texts)
+  Resumes (Ok (Err fault)) texts before outcome texts_after after = IsLineAnswer (NotShaped fault) outcome × (after ≡ before) × (texts_after ≡ texts)
   Resumes (Ok (Ok p)) texts before outcome texts_after after = ResumesLog p texts before outcome texts_after after

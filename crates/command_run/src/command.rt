@@ -7,7 +7,7 @@ ghost use Rattle.shop_base.specs.declared.limits.TheConstants.{MAX_MOMENT};
 ghost use Rattle.command_words.specs.Choice.{IsWithin};
 ghost use Rattle.command_run.specs.Choosers.{Decides};
 ghost use Rattle.command_run.specs.Improvers.{Improves};
-ghost use Rattle.command_run.specs.Tellings.{RunsTelling};
+ghost use Rattle.command_run.specs.Tellings.{RunsPlanAnswer};
 ghost use Rattle.command_run.specs.Program.{RunsCommand, aim_in, file_at, is_second, kept_log_in, form_in, log_in, names_in, manner_in, name_in, overall_aim, pair_in};
 
 use crate::choosers::decided_answer;
@@ -20,10 +20,10 @@ use crate::pictures::{Timetable, drawing_answer, timetable_answer};
 use crate::planners::seek_answer;
 use crate::resumes::resume_answer;
 use crate::revisions::revision_answer;
-use crate::tellings::telling_answer;
-use cell_drive::{Manner, Outlet, Source};
+use crate::tellings::plan_answer;
+use cell_drive::{BufferedSink, Protocol, Source};
 use command_answers::{
-    Answered, Pair, PlanTelling, Telling, Texts, bounds_answer, digest_answer, facts_answer,
+    Answered, LogAnswer, Pair, PlanAnswer, Texts, bounds_answer, digest_answer, facts_answer,
     log_answer, margin_answer, shape_answer,
 };
 use command_words::{Chosen, CommandName, Lines};
@@ -86,14 +86,14 @@ pub(crate) fn pair(chosen: &Chosen) -> Pair<'_>
 }
 
 /// What is answered for the plan, or for the rest of a run of it.
-fn told<T: Texts>(alloc: Global, chosen: &Chosen, texts: &mut T, telling: PlanTelling) -> Answered
+fn told<T: Texts>(alloc: Global, chosen: &Chosen, texts: &mut T, wanted: PlanAnswer) -> Answered
     requires files { 1 < length chosen.now.files.items }
     requires at { IfSome chosen.now.at (λ present. present ≤ MAX_MOMENT) }
-    ensures { RunsTelling T.gives telling chosen.now.at (pair_in chosen.now) (names_in chosen.now) (log_in chosen.now) texts.old result texts.new }
+    ensures { RunsPlanAnswer T.gives wanted chosen.now.at (pair_in chosen.now) (names_in chosen.now) (log_in chosen.now) texts.old result texts.new }
 {
     let pair = pair(chosen);
     let (names, log) = (names(chosen), rest_log(chosen));
-    telling_answer(alloc, texts, &pair, names, log, chosen.at, telling)
+    plan_answer(alloc, texts, &pair, names, log, chosen.at, wanted)
 }
 
 /// Whether this is version 2.
@@ -117,12 +117,12 @@ fn present(at: Option<Moment>) -> Moment
 }
 
 /// The manner in which cells are driven. A leap counts from the present moment at the earliest, if one is given.
-pub(crate) fn manner(chosen: &Chosen) -> Manner
+pub(crate) fn protocol(chosen: &Chosen) -> Protocol
     ensures { result ≡ manner_in chosen.now }
 {
-    Manner {
-        tells: is_second(chosen.lines),
-        longest: chosen.leap,
+    Protocol {
+        version_2: is_second(chosen.lines),
+        max_gap: chosen.leap,
         from: present(chosen.at),
     }
 }
@@ -217,7 +217,7 @@ pub(crate) fn kept_log(chosen: &Chosen) -> Option<&str>
 }
 
 /// Runs the command that was chosen, without a log of its own.
-pub(crate) fn command<T: Texts, R: Source, W: Outlet, S: Screen>(
+pub(crate) fn command<T: Texts, R: Source, W: BufferedSink, S: Screen>(
     alloc: Global,
     chosen: &Chosen,
     texts: &mut T,
@@ -232,8 +232,8 @@ pub(crate) fn command<T: Texts, R: Source, W: Outlet, S: Screen>(
         CommandName::Input => input_answer(alloc, streams),
         CommandName::Facts => facts_answer(alloc, texts, file(chosen, 0), name(chosen)),
         CommandName::Shape => shape_answer(alloc, texts, &pair(chosen)),
-        CommandName::Check => told(alloc, chosen, texts, PlanTelling::Verdict),
-        CommandName::Explain => told(alloc, chosen, texts, PlanTelling::Reasons(chosen.job)),
+        CommandName::Check => told(alloc, chosen, texts, PlanAnswer::Verdict),
+        CommandName::Explain => told(alloc, chosen, texts, PlanAnswer::Reasons(chosen.job)),
         CommandName::Schedule => {
             let (pair, names, log) = (pair(chosen), names(chosen), rest_log(chosen));
             timetable_answer(
@@ -257,11 +257,21 @@ pub(crate) fn command<T: Texts, R: Source, W: Outlet, S: Screen>(
             let changes = chosen.changes.as_slice();
             revision_answer(alloc, texts, &pair, log, chosen.at, changes, chosen.file)
         }
-        CommandName::Drive => { drive_answer(alloc, texts, &pair(chosen), manner(chosen), streams) }
+        CommandName::Drive => {
+            drive_answer(alloc, texts, &pair(chosen), protocol(chosen), streams)
+        }
         CommandName::Resume => {
             let log = file(chosen, 2);
-            let manner = manner(chosen);
-            resume_answer(alloc, texts, &pair(chosen), log, chosen.at, manner, streams)
+            let protocol = protocol(chosen);
+            resume_answer(
+                alloc,
+                texts,
+                &pair(chosen),
+                log,
+                chosen.at,
+                protocol,
+                streams,
+            )
         }
         CommandName::Hub => {
             let plans = &chosen.files.as_slice()[1..];
@@ -271,14 +281,14 @@ pub(crate) fn command<T: Texts, R: Source, W: Outlet, S: Screen>(
                 file(chosen, 0),
                 name(chosen),
                 plans,
-                manner(chosen),
+                protocol(chosen),
                 streams,
             )
         }
         CommandName::Digest => digest_answer(alloc, texts, &pair(chosen)),
         CommandName::Audit => {
             let log = file(chosen, 2);
-            log_answer(alloc, texts, &pair(chosen), None, log, Telling::Numbers)
+            log_answer(alloc, texts, &pair(chosen), None, log, LogAnswer::Numbers)
         }
         CommandName::Gantt => {
             let log = file(chosen, 2);

@@ -5,7 +5,7 @@ ghost use Rattle.command_run.specs.Drives.{IsEndAnswer, drive_command_fault, sta
 ghost use Rattle.command_run.specs.Program.{RunsDrive};
 
 use crate::devices::Streams;
-use cell_drive::{DriveEnd, DriveFault, Manner, Outlet, Source, drive_in};
+use cell_drive::{BufferedSink, DriveEnd, DriveFault, Protocol, Source, drive_in};
 use command_answers::{
     Answer, Answered, CommandFault, GOOD, Pair, REFUSED, Texts, load_files, loaded_answer,
 };
@@ -13,13 +13,13 @@ use std::alloc::Global;
 
 /// A fault of a driven run as one of a command.
 #[derive(Drop)]
-pub(crate) struct Told(pub CommandFault);
+pub(crate) struct CommandFaultOf(pub CommandFault);
 
-impl From<DriveFault> for Told {
+impl From<DriveFault> for CommandFaultOf {
     ghost from_gives = { λ told fault. fault.0 ≡ drive_command_fault told };
 
-    fn from(told: DriveFault) -> Told {
-        Told(match told {
+    fn from(told: DriveFault) -> CommandFaultOf {
+        CommandFaultOf(match told {
             DriveFault::Read => CommandFault::Read,
             DriveFault::Write => CommandFault::Write,
             DriveFault::InputTooLong => CommandFault::InputTooLong,
@@ -29,21 +29,21 @@ impl From<DriveFault> for Told {
 }
 
 /// Loads a plan, and drives its cell to the end of the input if it is accepted; else its line is the answer.
-pub(crate) fn drive_answer<T: Texts, R: Source, W: Outlet>(
+pub(crate) fn drive_answer<T: Texts, R: Source, W: BufferedSink>(
     alloc: Global,
     texts: &mut T,
     pair: &Pair<'_>,
-    manner: Manner,
+    protocol: Protocol,
     streams: &mut Streams<R, W>,
 ) -> Answered
-    ensures { RunsDrive T.gives manner pair.now texts.old streams.old result texts.new streams.new }
+    ensures { RunsDrive T.gives protocol pair.now texts.old streams.old result texts.new streams.new }
 {
     match load_files(alloc, texts, pair)?.accepted() {
         Ok(verified) => {
             let end = drive_in(
                 alloc,
                 verified,
-                manner,
+                protocol,
                 &mut streams.input,
                 &mut streams.output,
             );
@@ -59,7 +59,7 @@ pub(crate) fn end_answer(alloc: Global, end: Result<DriveEnd, DriveFault>) -> An
 {
     match end {
         Ok(end) => Ok(ended(alloc, end.done)),
-        Err(fault) => Err(Told::from(fault).0),
+        Err(fault) => Err(CommandFaultOf::from(fault).0),
     }
 }
 

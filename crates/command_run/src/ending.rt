@@ -2,16 +2,16 @@
 
 ghost use Rattle.std.specs.Prelude.{◌≡◌, IfOk, IfErr};
 ghost use Rattle.command_run.specs.Streams.{Output, errors_of, output_of};
-ghost use Rattle.command_run.specs.Ending.{WasTold, IsRefusalLine, IsErrorLine, IsOfText, IsTextLine, IsTold, IsPrinted, Ends, EndsAside};
+ghost use Rattle.command_run.specs.Ending.{WasPrinted, IsRefusalLine, IsErrorLine, IsOfText, IsTextLine, IsFaultPrinted, IsPrinted, Ends, EndsAside};
 
 use crate::devices::Streams;
-use cell_drive::{Outlet, Source};
+use cell_drive::{BufferedSink, Source};
 use command_answers::{Answer, Answered, CommandFault, Outcome};
 use run_log::{Sink, put_all};
 use std::alloc::{AllocError, Global};
 
 /// Prints the answer or the fault, and returns the status that the program ends with.
-pub(crate) fn end<R: Source, W: Outlet, E: Sink>(
+pub(crate) fn end<R: Source, W: BufferedSink, E: Sink>(
     alloc: Global,
     outcome: Answered,
     streams: &mut Streams<R, W>,
@@ -34,17 +34,17 @@ pub(crate) fn end_aside<E: Sink>(alloc: Global, outcome: Answered, errors: &mut 
     ensures { (output : Output) → EndsAside outcome output output (errors_of E.Sink errors.old) (errors_of E.Sink errors.new) result }
 {
     match outcome {
-        Ok(answer) => tell_line(errors, &answer.text, answer.status),
+        Ok(answer) => print_line(errors, &answer.text, answer.status),
         Err(fault) => tell(alloc, &fault, errors),
     }
 }
 
 /// Prints an answer, and shows it.
-fn print<W: Outlet>(answer: &Answer, output: &mut W) -> Outcome<u8>
+fn print<W: BufferedSink>(answer: &Answer, output: &mut W) -> Outcome<u8>
     ensures { IsPrinted answer.now (output_of W.Sink W.pending output.old) (output_of W.Sink W.pending output.new) result }
 {
     match put_all(output, &answer.text) {
-        Ok(()) => match output.show() {
+        Ok(()) => match output.flush() {
             Ok(()) => Ok(answer.status),
             Err(_) => Err(CommandFault::Write),
         },
@@ -55,13 +55,13 @@ fn print<W: Outlet>(answer: &Answer, output: &mut W) -> Outcome<u8>
 /// Says on the standard error why there is no answer, and returns the status that the program ends with. If that can't
 /// be written, nothing is left to do. If memory runs out for the line of a refused text, it says that instead.
 pub fn tell<E: Sink>(alloc: Global, fault: &CommandFault, errors: &mut E) -> u8
-    ensures { IsTold fault.now (errors_of E.Sink errors.old) (errors_of E.Sink errors.new) result }
+    ensures { IsFaultPrinted fault.now (errors_of E.Sink errors.old) (errors_of E.Sink errors.new) result }
 {
     match text_line(alloc, fault) {
-        Ok(line) => tell_line(errors, error_line(fault, &line), fault.status()),
+        Ok(line) => print_line(errors, error_line(fault, &line), fault.status()),
         Err(error) => {
             let wanting = CommandFault::from(error);
-            tell_line(errors, error_line(&wanting, b""), wanting.status())
+            print_line(errors, error_line(&wanting, b""), wanting.status())
         }
     }
 }
@@ -118,8 +118,8 @@ fn error_line<'a>(fault: &CommandFault, line: &'a [u8]) -> &'a [u8]
 }
 
 /// Writes as much of a line as can be written, and gives the status.
-pub(crate) fn tell_line<E: Sink>(errors: &mut E, line: &[u8], status: u8) -> u8
-    ensures told { WasTold line.now (errors_of E.Sink errors.old) (errors_of E.Sink errors.new) }
+pub(crate) fn print_line<E: Sink>(errors: &mut E, line: &[u8], status: u8) -> u8
+    ensures told { WasPrinted line.now (errors_of E.Sink errors.old) (errors_of E.Sink errors.new) }
     ensures status { result ≡ status }
 {
     let _ = put_all(errors, line);

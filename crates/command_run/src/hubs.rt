@@ -7,49 +7,49 @@ ghost use Rattle.command_run.specs.Hubs.{DrivesCells};
 ghost use Rattle.command_run.specs.Program.{RunsHub};
 
 use crate::devices::Streams;
-use crate::drives::{Told, ended};
-use cell_drive::{Manner, Outlet, Source, drive_hub_in};
+use crate::drives::{CommandFaultOf, ended};
+use cell_drive::{BufferedSink, Protocol, Source, drive_hub_in};
 use command_answers::{Answered, Cells, Texts, load_cells};
 use plan_verifier::Verified;
 use std::alloc::Global;
 
 /// Loads several plans, and drives their cells in this manner if all are accepted; else the line of the first that isn't is answered.
-pub(crate) fn hub_answer<T: Texts, R: Source, W: Outlet>(
+pub(crate) fn hub_answer<T: Texts, R: Source, W: BufferedSink>(
     alloc: Global,
     texts: &mut T,
     path: &str,
     name: Option<&[u8]>,
     plans: &[String],
-    manner: Manner,
+    protocol: Protocol,
     streams: &mut Streams<R, W>,
 ) -> Answered
-    ensures { RunsHub T.gives manner path.now (option_copied name.entry) (map string_bytes plans.now)
+    ensures { RunsHub T.gives protocol path.now (option_copied name.entry) (map string_bytes plans.now)
         texts.old streams.old result texts.new streams.new }
 {
     match load_cells(alloc, texts, path, name, plans) {
-        Ok(Cells::Accepted(cells)) => drive_cells(alloc, cells, manner, streams),
+        Ok(Cells::Accepted(cells)) => drive_cells(alloc, cells, protocol, streams),
         Ok(Cells::Line(answer)) => Ok(answer),
         Err(fault) => Err(fault),
     }
 }
 
 /// Drives the cells of accepted plans to the end of the input.
-fn drive_cells<R: Source, W: Outlet>(
+fn drive_cells<R: Source, W: BufferedSink>(
     alloc: Global,
     cells: Vec<Verified>,
-    manner: Manner,
+    protocol: Protocol,
     streams: &mut Streams<R, W>,
 ) -> Answered
-    ensures { DrivesCells manner cells.items streams.old streams.new result }
+    ensures { DrivesCells protocol cells.items streams.old streams.new result }
 {
     match drive_hub_in(
         alloc,
         cells,
-        manner,
+        protocol,
         &mut streams.input,
         &mut streams.output,
     ) {
         Ok(end) => Ok(ended(alloc, end.all_done)),
-        Err(fault) => Err(Told::from(fault).0),
+        Err(fault) => Err(CommandFaultOf::from(fault).0),
     }
 }

@@ -6,13 +6,13 @@ ghost use Rattle.command_run.specs.Streams.{input_of};
 ghost use Rattle.command_run.specs.Inputs.{IsInputRead, RunsInput};
 
 use crate::devices::Streams;
-use cell_drive::{MAX_PIECE, Outlet, Source, reading_room};
+use cell_drive::{BufferedSink, MAX_PIECE, Source, reading_room};
 use command_answers::{Answered, CommandFault, Outcome, facts_of};
 use std::alloc::Global;
 use text_lines::MAX_INPUT;
 
 /// The facts of the instance in the input.
-pub(crate) fn input_answer<R: Source, W: Outlet>(
+pub(crate) fn input_answer<R: Source, W: BufferedSink>(
     alloc: Global,
     streams: &mut Streams<R, W>,
 ) -> Answered
@@ -26,7 +26,7 @@ pub(crate) fn input_answer<R: Source, W: Outlet>(
 }
 
 /// All bytes that the input gives until its end.
-fn read_pieces<R: Source, W: Outlet>(
+fn read_pieces<R: Source, W: BufferedSink>(
     alloc: Global,
     input: &mut R,
     room: &mut [u8],

@@ -6,37 +6,39 @@ ghost use Rattle.text_lines.specs.declared.limits.TheConstants.{MAX_INPUT};
 ghost use Rattle.text_lines.specs.Lines.{lines_of};
 ghost use Rattle.byte_streams.specs.Lent.{output_of};
 ghost use Rattle.event_lines.specs.RunDigits.{plan_line};
-ghost use Rattle.cell_drive.specs.TakenUp.{plan_of, told_in};
+ghost use Rattle.cell_drive.specs.Recovered.{plan_of, replayed_events};
 ghost use Rattle.run_journal.specs.declared.log_run.LogRun.{LogRun};
-ghost use Rattle.run_journal.specs.Logged.{AreBefore};
+ghost use Rattle.run_journal.specs.Logged.{AreInitial};
 ghost use Rattle.run_journal.specs.LogRuns.{IsNamedFor, IsRunOf};
 ghost use Rattle.run_journal.specs.WholeLines.{whole_lines};
-ghost use Rattle.cell_drive.specs.InManner.{IsDriveIn, IsGoneOnIn, begun_in};
+ghost use Rattle.cell_drive.specs.InProtocol.{IsDriveIn, IsGoneOnIn, begun_in};
 ghost use Rattle.plan_verifier.specs.Seen.{judged};
-ghost use Rattle.command_run.specs.Drives.{IsLineTold, end_of_drive};
+ghost use Rattle.command_run.specs.Drives.{IsLineAnswer, end_of_drive};
 ghost use Rattle.command_run.specs.Resumes.{end_of_rest};
-ghost use Rattle.command_run.specs.Logs.{Begins, BeginsAccepted, BeginsBy, BeginsRun, DrivesByLog, DrivesFitting, DrivesFound, DrivesWithLog, GoesOnWithLog, HasFewLines, IsEmptyLog, IsFoundLog, IsLogUntakenTold, IsLoggedAnswer, IsReady, IsTakenFromLog, IsToldBehind, IsToldOfFound, IsToldOfLog, IsToldOfNew, IsToldOfOld, IsToldOfPath, LacksLog, OpensLog, StepsWith, TakesUp, TellsAgain, bytes_in, digits_in, log_command_fault, logged_command_fault};
-ghost use Rattle.cell_drive.specs.Retold.{retold_text};
+ghost use Rattle.command_run.specs.Logs.{Begins, BeginsAccepted, BeginsBy, BeginsRun, DrivesByLog, DrivesFitting, DrivesFound, DrivesWithLog, GoesOnWithLog, HasFewLines, IsEmptyLog, IsFoundLog, IsLogFaultPrinted, IsLoggedAnswer, IsReady, IsRecoveredFromLog, IsWrittenBehind, IsHistoryOfFound, IsHistoryOfLog, IsHistoryOfNew, IsHistoryOfOld, IsHistoryOfPath, LacksLog, OpensLog, StepsWith, RecoversRun, ReplaysEvents, bytes_in, digits_in, log_command_fault, logged_command_fault};
+ghost use Rattle.cell_drive.specs.Replay.{replay_text};
 ghost use Rattle.command_run.specs.Program.{RunsLoggedDrive};
 
 use crate::devices::Streams;
-use crate::drives::{Told, ended};
+use crate::drives::{CommandFaultOf, ended};
 use crate::misfits::{Misfit, misfit_answer, misfit_of};
-use crate::resumes::untaken_answer;
+use crate::resumes::unrecovered_answer;
 use cell_drive::{
-    Begun, DriveEnd, DriveFault, Manner, Outlet, Replayed, RestEnd, Source, Taken, begin_in,
-    tell_again_in,
+    Begun, BufferedSink, DriveEnd, DriveFault, Protocol, RecoveredRun, Replayed, RestEnd, Source,
+    begin_in, replay_in,
 };
 use command_answers::{
-    Answered, CommandFault, Loaded, Pair, Texts, fault_told, loaded_answer, shape_files,
+    Answered, CommandFault, Loaded, Pair, Texts, loaded_answer, log_fault_answer, shape_files,
 };
 use command_words::LogStart;
 use event_lines::RunDigits;
-use logged_drive::{LoggedEnd, TakeUpFault, TakenLog, drive_logged, go_on_logged, take_up_log};
+use logged_drive::{
+    LoggedEnd, RecoverFault, RecoveredLog, drive_logged, go_on_logged, recover_log,
+};
 use plan_digest::run_digits;
 use plan_verifier::{Verdict, Verified, verify};
 use run_journal::{
-    Before, FileFault, LogFile, LogRun, LogText, Logs, WritingRoom, new_log, open_log,
+    FileFault, InitialState, LogFile, LogRun, LogText, Logs, WritingRoom, new_log, open_log,
 };
 use run_log::AuditFault;
 use shop_base::{Moment, Shaped};
@@ -44,13 +46,13 @@ use std::alloc::{AllocError, Global};
 
 /// A fault of a log as one of a command.
 #[derive(Drop)]
-struct LogTold(CommandFault);
+struct LogFault(CommandFault);
 
-impl From<FileFault> for LogTold {
+impl From<FileFault> for LogFault {
     ghost from_gives = { λ told fault. fault.0 ≡ log_command_fault told };
 
-    fn from(told: FileFault) -> LogTold {
-        LogTold(match told {
+    fn from(told: FileFault) -> LogFault {
+        LogFault(match told {
             FileFault::Log => CommandFault::Log,
             FileFault::InUse => CommandFault::LogInUse,
             FileFault::Read => CommandFault::Read,
@@ -67,11 +69,11 @@ struct LoggedFault {
     log_failed: bool,
 }
 
-impl From<LoggedFault> for LogTold {
+impl From<LoggedFault> for LogFault {
     ghost from_gives = { λ told fault. fault.0 ≡ logged_command_fault told.log_failed told.fault };
 
-    fn from(told: LoggedFault) -> LogTold {
-        LogTold(match told.fault {
+    fn from(told: LoggedFault) -> LogFault {
+        LogFault(match told.fault {
             DriveFault::Read => CommandFault::Read,
             DriveFault::Write => {
                 if told.log_failed {
@@ -88,7 +90,7 @@ impl From<LoggedFault> for LogTold {
 
 /// What `drive` with a log has come to.
 #[derive(Drop)]
-pub(crate) struct LoggedRun<R: Source, W: Outlet, D: Drop> {
+pub(crate) struct LoggedRun<R: Source, W: BufferedSink, D: Drop> {
     pub outcome: Answered,
     pub streams: Streams<R, W>,
     /// Whether a cell was driven, so that what couldn't be read is the input.
@@ -123,33 +125,33 @@ fn logged_end(alloc: Global, done: Result<bool, DriveFault>, log_failed: bool) -
 {
     match done {
         Ok(done) => Ok(ended(alloc, done)),
-        Err(fault) => Err(LogTold::from(LoggedFault { fault, log_failed }).0),
+        Err(fault) => Err(LogFault::from(LoggedFault { fault, log_failed }).0),
     }
 }
 
 /// The line of a plan.
 fn line_answer(alloc: Global, loaded: &Loaded) -> Answered
-    ensures { IsLineTold loaded.now result }
+    ensures { IsLineAnswer loaded.now result }
 {
     Ok(loaded_answer(alloc, loaded)?)
 }
 
 /// What is answered where no run is taken up from a log.
-fn untaken_log_answer(alloc: Global, fault: TakeUpFault) -> Answered
+fn unrecovered_log_answer(alloc: Global, fault: RecoverFault) -> Answered
     requires { HasFewLines fault }
-    ensures { IsLogUntakenTold fault result }
+    ensures { IsLogFaultPrinted fault result }
 {
     match fault {
-        TakeUpFault::Resume(fault) => untaken_answer(alloc, fault),
-        TakeUpFault::NoTornEnd { lines } => {
-            fault_told(alloc, AuditFault::BadLine { line: lines + 1 })
+        RecoverFault::Resume(fault) => unrecovered_answer(alloc, fault),
+        RecoverFault::NoTornEnd { lines } => {
+            log_fault_answer(alloc, AuditFault::BadLine { line: lines + 1 })
         }
-        TakeUpFault::File(fault) => Err(LogTold::from(fault).0),
+        RecoverFault::File(fault) => Err(LogFault::from(fault).0),
     }
 }
 
 /// Drives the cell of an accepted plan with a log that has the line of the plan alone.
-fn drive_with<R: Source, W: Outlet + Drop, D: LogFile + Drop, B: Before>(
+fn drive_with<R: Source, W: BufferedSink + Drop, D: LogFile + Drop, B: InitialState>(
     alloc: Global,
     begun: Begun,
     room: WritingRoom,
@@ -157,12 +159,12 @@ fn drive_with<R: Source, W: Outlet + Drop, D: LogFile + Drop, B: Before>(
     streams: Streams<R, W>,
     before: B,
 ) -> LoggedRun<R, W, D>
-    requires ready { IsReady (D.seen log) (D.may_leave log) (D.fault log) }
-    requires before { AreBefore B.before (D.seen log) streams.output.taken }
+    requires ready { IsReady (D.seen log) (D.crash_states log) (D.fault log) }
+    requires before { AreInitial B.before (D.seen log) streams.output.written }
     requires line { IfSome B.before (λ told. told.0 ≡ plan_line (digits_in begun.verified.planned)) }
     requires shown { streams.output.pending ≡ [] }
-    ensures drove { StepsWith D.seen D.may_leave D.fault D.written B.before streams result.outcome result.streams result.driven result.log
-        (DrivesWithLog begun.verified.planned [] (IsDriveIn begun.manner begun.verified) end_of_drive) }
+    ensures drove { StepsWith D.seen D.crash_states D.fault D.written B.before streams result.outcome result.streams result.driven result.log
+        (DrivesWithLog begun.verified.planned [] (IsDriveIn begun.protocol begun.verified) end_of_drive) }
 {
     let Streams { mut input, output } = streams;
     let LoggedEnd {
@@ -181,21 +183,21 @@ fn drive_with<R: Source, W: Outlet + Drop, D: LogFile + Drop, B: Before>(
 }
 
 /// Goes on with a run that was taken up from a log, whose events were told again.
-fn go_on_with<R: Source, W: Outlet + Drop, D: LogFile + Drop, B: Before>(
+fn go_on_with<R: Source, W: BufferedSink + Drop, D: LogFile + Drop, B: InitialState>(
     alloc: Global,
     run: Replayed,
     room: WritingRoom,
-    manner: Manner,
+    protocol: Protocol,
     log: D,
     streams: Streams<R, W>,
     before: B,
 ) -> LoggedRun<R, W, D>
-    requires ready { IsReady (D.seen log) (D.may_leave log) (D.fault log) }
-    requires before { AreBefore B.before (D.seen log) streams.output.taken }
-    requires taken_up { IfSome B.before (λ told. IsTakenFromLog run told.0) }
+    requires ready { IsReady (D.seen log) (D.crash_states log) (D.fault log) }
+    requires before { AreInitial B.before (D.seen log) streams.output.written }
+    requires recoverable { IfSome B.before (λ told. IsRecoveredFromLog run told.0) }
     requires shown { streams.output.pending ≡ [] }
-    ensures went_on { StepsWith D.seen D.may_leave D.fault D.written B.before streams result.outcome result.streams result.driven result.log
-        (DrivesWithLog (plan_of run) (told_in run) (IsGoneOnIn manner run) end_of_rest) }
+    ensures went_on { StepsWith D.seen D.crash_states D.fault D.written B.before streams result.outcome result.streams result.driven result.log
+        (DrivesWithLog (plan_of run) (replayed_events run) (IsGoneOnIn protocol run) end_of_rest) }
 {
     let Streams { mut input, output } = streams;
     let LoggedEnd {
@@ -203,7 +205,7 @@ fn go_on_with<R: Source, W: Outlet + Drop, D: LogFile + Drop, B: Before>(
         log_failed,
         log,
         output,
-    } = go_on_logged(run, room, manner, &mut input, log, output, before);
+    } = go_on_logged(run, room, protocol, &mut input, log, output, before);
     let outcome = logged_end(alloc, is_rest_done(end), log_failed);
     LoggedRun {
         outcome,
@@ -213,16 +215,16 @@ fn go_on_with<R: Source, W: Outlet + Drop, D: LogFile + Drop, B: Before>(
     }
 }
 
-/// Tells the events of a run that was taken up again, and shows them.
-fn show_again<W: Outlet>(
-    taken: Taken,
-    manner: Manner,
+/// ParsesAs the events of a run that was taken up again, and shows them.
+fn show_again<W: BufferedSink>(
+    taken: RecoveredRun,
+    protocol: Protocol,
     output: &mut W,
 ) -> Result<Replayed, DriveFault>
-    ensures { TellsAgain manner taken (output_of W.Sink W.pending output.old) (output_of W.Sink W.pending output.new) result }
+    ensures { ReplaysEvents protocol taken (output_of W.Sink W.pending output.old) (output_of W.Sink W.pending output.new) result }
 {
-    match tell_again_in(taken, manner, output) {
-        Ok(run) => match output.show() {
+    match replay_in(taken, protocol, output) {
+        Ok(run) => match output.flush() {
             Ok(()) => Ok(run),
             Err(_) => Err(DriveFault::Write),
         },
@@ -230,36 +232,39 @@ fn show_again<W: Outlet>(
     }
 }
 
-/// Tells the events of a run that was taken up again, and goes on with it.
-fn tell_and_go_on<R: Source, W: Outlet + Drop, D: LogFile + Drop, B: Before>(
+/// ParsesAs the events of a run that was taken up again, and goes on with it.
+fn replay_and_continue<R: Source, W: BufferedSink + Drop, D: LogFile + Drop, B: InitialState>(
     alloc: Global,
-    taken_log: TakenLog,
-    manner: Manner,
+    recovered_log: RecoveredLog,
+    protocol: Protocol,
     log: D,
     streams: Streams<R, W>,
     before: B,
 ) -> LoggedRun<R, W, D>
-    requires ready { IsReady (D.seen log) (D.may_leave log) (D.fault log) }
+    requires ready { IsReady (D.seen log) (D.crash_states log) (D.fault log) }
     requires seen { IfSome B.before (λ told. D.seen log ≡ Some told.0) }
-    requires taken_up { IfSome B.before (λ told. IsTakenFromLog taken_log.taken told.0) }
-    requires output { IfSome B.before (λ told. IsToldBehind streams.output.taken (retold_text manner taken_log.taken) told.1) }
-    ensures went_on { StepsWith D.seen D.may_leave D.fault D.written B.before streams result.outcome result.streams result.driven result.log
-        (GoesOnWithLog manner taken_log.taken) }
+    requires recoverable { IfSome B.before (λ told. IsRecoveredFromLog recovered_log.recovered told.0) }
+    requires output { IfSome B.before (λ told. IsWrittenBehind streams.output.written (replay_text protocol recovered_log.recovered) told.1) }
+    ensures went_on { StepsWith D.seen D.crash_states D.fault D.written B.before streams result.outcome result.streams result.driven result.log
+        (GoesOnWithLog protocol recovered_log.recovered) }
 {
-    let TakenLog { taken, room } = taken_log;
+    let RecoveredLog {
+        recovered: taken,
+        room,
+    } = recovered_log;
     let Streams { input, mut output } = streams;
-    match show_again(taken, manner, &mut output) {
+    match show_again(taken, protocol, &mut output) {
         Ok(run) => go_on_with(
             alloc,
             run,
             room,
-            manner,
+            protocol,
             log,
             Streams { input, output },
             before,
         ),
         Err(fault) => LoggedRun {
-            outcome: Err(Told::from(fault).0),
+            outcome: Err(CommandFaultOf::from(fault).0),
             streams: Streams { input, output },
             driven: false,
             log: Some(log),
@@ -269,10 +274,10 @@ fn tell_and_go_on<R: Source, W: Outlet + Drop, D: LogFile + Drop, B: Before>(
 
 /// Takes up the run in a log that has bytes by the plan with these digits, and goes on with it; why it isn't taken up is the
 /// answer.
-fn take_up_with<R: Source, W: Outlet + Drop, D: LogFile + Drop, B: Before>(
+fn take_up_with<R: Source, W: BufferedSink + Drop, D: LogFile + Drop, B: InitialState>(
     alloc: Global,
     shaped: Shaped,
-    manner: Manner,
+    protocol: Protocol,
     at: Option<Moment>,
     log: D,
     text: &LogText,
@@ -282,18 +287,25 @@ fn take_up_with<R: Source, W: Outlet + Drop, D: LogFile + Drop, B: Before>(
 ) -> LoggedRun<R, W, D>
     requires digits { digits.now ≡ digits_in shaped }
     requires at_most { IfSome at (λ present. present ≤ MAX_MOMENT) }
-    requires ready { IsReady (D.seen log) (D.may_leave log) (D.fault log) }
+    requires ready { IsReady (D.seen log) (D.crash_states log) (D.fault log) }
     requires unwritten { D.written log ≡ false }
     requires read { IfSome (D.seen log) (λ file. text.now ≡ file) }
     requires within { length text.now ≤ MAX_INPUT }
-    requires told { IfSome B.before (λ told. (D.seen log ≡ Some text.now) × IsToldOfOld shaped manner at text.now streams.output.taken told) }
-    ensures took_up { StepsWith D.seen D.may_leave D.fault D.written B.before streams result.outcome result.streams result.driven result.log (TakesUp shaped manner at text.now) }
+    requires told { IfSome B.before (λ told. (D.seen log ≡ Some text.now) × IsHistoryOfOld shaped protocol at text.now streams.output.written told) }
+    ensures took_up { StepsWith D.seen D.crash_states D.fault D.written B.before streams result.outcome result.streams result.driven result.log (RecoversRun shaped protocol at text.now) }
 {
     let mut log = log;
-    match take_up_log(alloc, shaped, &mut log, text, at, digits) {
-        Ok(taken_log) => tell_and_go_on(alloc, taken_log, manner, log, streams, before),
+    match recover_log(alloc, shaped, &mut log, text, at, digits) {
+        Ok(recovered_log) => replay_and_continue(
+            alloc,
+            recovered_log,
+            protocol,
+            log,
+            streams,
+            before,
+        ),
         Err(fault) => LoggedRun {
-            outcome: untaken_log_answer(alloc, fault),
+            outcome: unrecovered_log_answer(alloc, fault),
             streams,
             driven: false,
             log: Some(log),
@@ -303,7 +315,7 @@ fn take_up_with<R: Source, W: Outlet + Drop, D: LogFile + Drop, B: Before>(
 
 /// Drives the cell of an accepted plan with the log of this path, which has no bytes, and gets the line of the plan: the one
 /// that was opened, or one that is made.
-fn drive_new<R: Source, W: Outlet + Drop, L: Logs, B: Before>(
+fn drive_new<R: Source, W: BufferedSink + Drop, L: Logs, B: InitialState>(
     alloc: Global,
     begun: Begun,
     room: WritingRoom,
@@ -315,17 +327,17 @@ fn drive_new<R: Source, W: Outlet + Drop, L: Logs, B: Before>(
     before: B,
 ) -> LoggedRun<R, W, L::Log>
     requires digits { digits.now ≡ digits_in begun.verified.planned }
-    requires empty { IfSome opened (λ log. IsEmptyLog (L.Log.seen log) (L.Log.may_leave log) (L.Log.fault log) (L.Log.written log) (L.folder logs.old)) }
+    requires empty { IfSome opened (λ log. IsEmptyLog (L.Log.seen log) (L.Log.crash_states log) (L.Log.fault log) (L.Log.written log) (L.folder logs.old)) }
     requires shown { streams.output.pending ≡ [] }
-    requires told { IfSome B.before (IsToldOfNew (L.folder logs.old) begun.verified.planned streams.output.taken) }
-    ensures drove { StepsWith L.Log.seen L.Log.may_leave L.Log.fault L.Log.written B.before streams result.outcome result.streams result.driven result.log
+    requires told { IfSome B.before (IsHistoryOfNew (L.folder logs.old) begun.verified.planned streams.output.written) }
+    ensures drove { StepsWith L.Log.seen L.Log.crash_states L.Log.fault L.Log.written B.before streams result.outcome result.streams result.driven result.log
         (λ step. LacksLog (L.folder logs.old) (L.folder logs.new) path.now begun.verified.planned (is_some opened) step
-        ⊎ BeginsRun (L.folder logs.old) (L.folder logs.new) path.now begun.manner (is_some opened) begun.verified step) }
+        ⊎ BeginsRun (L.folder logs.old) (L.folder logs.new) path.now begun.protocol (is_some opened) begun.verified step) }
 {
     match new_log(logs, path, opened, digits) {
         Ok(log) => drive_with(alloc, begun, room, log, streams, before),
         Err(back) => LoggedRun {
-            outcome: Err(LogTold::from(back.fault).0),
+            outcome: Err(LogFault::from(back.fault).0),
             streams,
             driven: false,
             log: back.log,
@@ -337,21 +349,21 @@ fn drive_new<R: Source, W: Outlet + Drop, L: Logs, B: Before>(
 fn begun_with_room(
     alloc: Global,
     verified: Verified,
-    manner: Manner,
+    protocol: Protocol,
 ) -> Result<(Begun, WritingRoom), AllocError>
-    ensures { IfOk result (λ both. both.0 ≡ begun_in manner verified) }
+    ensures { IfOk result (λ both. both.0 ≡ begun_in protocol verified) }
 {
-    let begun = begin_in(alloc, verified, manner)?;
+    let begun = begin_in(alloc, verified, protocol)?;
     let room = WritingRoom::new(alloc)?;
     Ok((begun, room))
 }
 
 /// Begins a run by an accepted plan with the log of this path, which has no bytes, once all its memory is had.
-fn begin_accepted<R: Source, W: Outlet + Drop, L: Logs, B: Before>(
+fn begin_accepted<R: Source, W: BufferedSink + Drop, L: Logs, B: InitialState>(
     alloc: Global,
     verified: Verified,
     digits: &RunDigits,
-    manner: Manner,
+    protocol: Protocol,
     path: &str,
     opened: Option<L::Log>,
     streams: Streams<R, W>,
@@ -359,13 +371,13 @@ fn begin_accepted<R: Source, W: Outlet + Drop, L: Logs, B: Before>(
     before: B,
 ) -> LoggedRun<R, W, L::Log>
     requires digits { digits.now ≡ digits_in verified.planned }
-    requires empty { IfSome opened (λ log. IsEmptyLog (L.Log.seen log) (L.Log.may_leave log) (L.Log.fault log) (L.Log.written log) (L.folder logs.old)) }
+    requires empty { IfSome opened (λ log. IsEmptyLog (L.Log.seen log) (L.Log.crash_states log) (L.Log.fault log) (L.Log.written log) (L.folder logs.old)) }
     requires shown { streams.output.pending ≡ [] }
-    requires told { IfSome B.before (IsToldOfNew (L.folder logs.old) verified.planned streams.output.taken) }
-    ensures began { StepsWith L.Log.seen L.Log.may_leave L.Log.fault L.Log.written B.before streams result.outcome result.streams result.driven result.log
-        (BeginsAccepted (L.folder logs.old) (L.folder logs.new) path.now manner (is_some opened) verified) }
+    requires told { IfSome B.before (IsHistoryOfNew (L.folder logs.old) verified.planned streams.output.written) }
+    ensures began { StepsWith L.Log.seen L.Log.crash_states L.Log.fault L.Log.written B.before streams result.outcome result.streams result.driven result.log
+        (BeginsAccepted (L.folder logs.old) (L.folder logs.new) path.now protocol (is_some opened) verified) }
 {
-    match begun_with_room(alloc, verified, manner) {
+    match begun_with_room(alloc, verified, protocol) {
         Ok((begun, room)) => drive_new(
             alloc, begun, room, digits, path, opened, streams, logs, before,
         ),
@@ -380,11 +392,11 @@ fn begin_accepted<R: Source, W: Outlet + Drop, L: Logs, B: Before>(
 
 /// Begins a run by a plan that was judged, with the log of this path, which has no bytes: if the plan is accepted; else its
 /// line is the answer, and no log is made.
-fn begin_by<R: Source, W: Outlet + Drop, L: Logs, B: Before>(
+fn begin_by<R: Source, W: BufferedSink + Drop, L: Logs, B: InitialState>(
     alloc: Global,
     verdict: Verdict,
     digits: &RunDigits,
-    manner: Manner,
+    protocol: Protocol,
     path: &str,
     opened: Option<L::Log>,
     streams: Streams<R, W>,
@@ -392,16 +404,16 @@ fn begin_by<R: Source, W: Outlet + Drop, L: Logs, B: Before>(
     before: B,
 ) -> LoggedRun<R, W, L::Log>
     requires digits { digits.now ≡ digits_in (judged verdict) }
-    requires empty { IfSome opened (λ log. IsEmptyLog (L.Log.seen log) (L.Log.may_leave log) (L.Log.fault log) (L.Log.written log) (L.folder logs.old)) }
+    requires empty { IfSome opened (λ log. IsEmptyLog (L.Log.seen log) (L.Log.crash_states log) (L.Log.fault log) (L.Log.written log) (L.folder logs.old)) }
     requires shown { streams.output.pending ≡ [] }
-    requires told { IfSome B.before (IsToldOfNew (L.folder logs.old) (judged verdict) streams.output.taken) }
-    ensures began { StepsWith L.Log.seen L.Log.may_leave L.Log.fault L.Log.written B.before streams result.outcome result.streams result.driven result.log
-        (BeginsBy (L.folder logs.old) (L.folder logs.new) path.now manner (is_some opened) verdict) }
+    requires told { IfSome B.before (IsHistoryOfNew (L.folder logs.old) (judged verdict) streams.output.written) }
+    ensures began { StepsWith L.Log.seen L.Log.crash_states L.Log.fault L.Log.written B.before streams result.outcome result.streams result.driven result.log
+        (BeginsBy (L.folder logs.old) (L.folder logs.new) path.now protocol (is_some opened) verdict) }
 {
     match verdict {
         Verdict::Accepted(verified) => {
             begin_accepted(
-                alloc, verified, digits, manner, path, opened, streams, logs, before,
+                alloc, verified, digits, protocol, path, opened, streams, logs, before,
             )
         }
         Verdict::Refused(shaped, why) => {
@@ -417,11 +429,11 @@ fn begin_by<R: Source, W: Outlet + Drop, L: Logs, B: Before>(
 }
 
 /// Judges a plan, and begins a run by it with the log of this path, which has no bytes.
-fn begin<R: Source, W: Outlet + Drop, L: Logs, B: Before>(
+fn begin<R: Source, W: BufferedSink + Drop, L: Logs, B: InitialState>(
     alloc: Global,
     shaped: Shaped,
     digits: &RunDigits,
-    manner: Manner,
+    protocol: Protocol,
     path: &str,
     opened: Option<L::Log>,
     streams: Streams<R, W>,
@@ -429,15 +441,15 @@ fn begin<R: Source, W: Outlet + Drop, L: Logs, B: Before>(
     before: B,
 ) -> LoggedRun<R, W, L::Log>
     requires digits { digits.now ≡ digits_in shaped }
-    requires empty { IfSome opened (λ log. IsEmptyLog (L.Log.seen log) (L.Log.may_leave log) (L.Log.fault log) (L.Log.written log) (L.folder logs.old)) }
+    requires empty { IfSome opened (λ log. IsEmptyLog (L.Log.seen log) (L.Log.crash_states log) (L.Log.fault log) (L.Log.written log) (L.folder logs.old)) }
     requires shown { streams.output.pending ≡ [] }
-    requires told { IfSome B.before (IsToldOfNew (L.folder logs.old) shaped streams.output.taken) }
-    ensures began { StepsWith L.Log.seen L.Log.may_leave L.Log.fault L.Log.written B.before streams result.outcome result.streams result.driven result.log
-        (Begins (L.folder logs.old) (L.folder logs.new) path.now manner shaped (is_some opened)) }
+    requires told { IfSome B.before (IsHistoryOfNew (L.folder logs.old) shaped streams.output.written) }
+    ensures began { StepsWith L.Log.seen L.Log.crash_states L.Log.fault L.Log.written B.before streams result.outcome result.streams result.driven result.log
+        (Begins (L.folder logs.old) (L.folder logs.new) path.now protocol shaped (is_some opened)) }
 {
     match verify(alloc, shaped) {
         Ok(verdict) => begin_by(
-            alloc, verdict, digits, manner, path, opened, streams, logs, before,
+            alloc, verdict, digits, protocol, path, opened, streams, logs, before,
         ),
         Err((error, _)) => LoggedRun {
             outcome: Err(CommandFault::from(error)),
@@ -473,12 +485,12 @@ fn log_found<D: LogFile + Drop>(found: FoundLog<D>) -> Option<D>
 
 /// Drives the cell of a plan with the log that was found by this path: from its start where there is none or it has no bytes,
 /// else from what the log tells. Why it isn't as the words ask is answered before.
-fn drive_found<R: Source, W: Outlet + Drop, L: Logs, B: Before>(
+fn drive_found<R: Source, W: BufferedSink + Drop, L: Logs, B: InitialState>(
     alloc: Global,
     shaped: Shaped,
     digits: &RunDigits,
     start: LogStart,
-    manner: Manner,
+    protocol: Protocol,
     at: Option<Moment>,
     path: &str,
     found: FoundLog<L::Log>,
@@ -489,10 +501,10 @@ fn drive_found<R: Source, W: Outlet + Drop, L: Logs, B: Before>(
     requires digits { digits.now ≡ digits_in shaped }
     requires at_most { IfSome at (λ present. present ≤ MAX_MOMENT) }
     requires shown { streams.output.pending ≡ [] }
-    requires found { IfSome found (λ there. IsFoundLog (L.Log.seen there.0) (L.Log.may_leave there.0) (L.Log.fault there.0) (L.Log.written there.0) (L.folder logs.old) there.1) }
-    requires told { IfSome B.before (IsToldOfFound (L.folder logs.old) shaped manner at (option_map (λ there. there.1) found) streams.output.taken) }
-    ensures drove { StepsWith L.Log.seen L.Log.may_leave L.Log.fault L.Log.written B.before streams result.outcome result.streams result.driven result.log
-        (DrivesFound (L.folder logs.old) (L.folder logs.new) path.now start manner at shaped (option_map (λ there. there.1) found)) }
+    requires found { IfSome found (λ there. IsFoundLog (L.Log.seen there.0) (L.Log.crash_states there.0) (L.Log.fault there.0) (L.Log.written there.0) (L.folder logs.old) there.1) }
+    requires told { IfSome B.before (IsHistoryOfFound (L.folder logs.old) shaped protocol at (option_map (λ there. there.1) found) streams.output.written) }
+    ensures drove { StepsWith L.Log.seen L.Log.crash_states L.Log.fault L.Log.written B.before streams result.outcome result.streams result.driven result.log
+        (DrivesFound (L.folder logs.old) (L.folder logs.new) path.now start protocol at shaped (option_map (λ there. there.1) found)) }
 {
     match misfit_of(start, run_found(&found), digits) {
         Some(misfit) => LoggedRun {
@@ -502,17 +514,17 @@ fn drive_found<R: Source, W: Outlet + Drop, L: Logs, B: Before>(
             log: log_found(found),
         },
         None => drive_fitting(
-            alloc, shaped, digits, manner, at, path, found, streams, logs, before,
+            alloc, shaped, digits, protocol, at, path, found, streams, logs, before,
         ),
     }
 }
 
 /// The same of one that is as the words ask.
-fn drive_fitting<R: Source, W: Outlet + Drop, L: Logs, B: Before>(
+fn drive_fitting<R: Source, W: BufferedSink + Drop, L: Logs, B: InitialState>(
     alloc: Global,
     shaped: Shaped,
     digits: &RunDigits,
-    manner: Manner,
+    protocol: Protocol,
     at: Option<Moment>,
     path: &str,
     found: FoundLog<L::Log>,
@@ -523,27 +535,27 @@ fn drive_fitting<R: Source, W: Outlet + Drop, L: Logs, B: Before>(
     requires digits { digits.now ≡ digits_in shaped }
     requires at_most { IfSome at (λ present. present ≤ MAX_MOMENT) }
     requires shown { streams.output.pending ≡ [] }
-    requires found { IfSome found (λ there. IsFoundLog (L.Log.seen there.0) (L.Log.may_leave there.0) (L.Log.fault there.0) (L.Log.written there.0) (L.folder logs.old) there.1) }
-    requires told { IfSome B.before (IsToldOfFound (L.folder logs.old) shaped manner at (option_map (λ there. there.1) found) streams.output.taken) }
-    ensures drove { StepsWith L.Log.seen L.Log.may_leave L.Log.fault L.Log.written B.before streams result.outcome result.streams result.driven result.log
-        (DrivesFitting (L.folder logs.old) (L.folder logs.new) path.now manner at shaped (option_map (λ there. there.1) found)) }
+    requires found { IfSome found (λ there. IsFoundLog (L.Log.seen there.0) (L.Log.crash_states there.0) (L.Log.fault there.0) (L.Log.written there.0) (L.folder logs.old) there.1) }
+    requires told { IfSome B.before (IsHistoryOfFound (L.folder logs.old) shaped protocol at (option_map (λ there. there.1) found) streams.output.written) }
+    ensures drove { StepsWith L.Log.seen L.Log.crash_states L.Log.fault L.Log.written B.before streams result.outcome result.streams result.driven result.log
+        (DrivesFitting (L.folder logs.old) (L.folder logs.new) path.now protocol at shaped (option_map (λ there. there.1) found)) }
 {
     match found {
         None => begin(
-            alloc, shaped, digits, manner, path, None, streams, logs, before,
+            alloc, shaped, digits, protocol, path, None, streams, logs, before,
         ),
         Some((log, text)) => drive_there(
-            alloc, shaped, digits, manner, at, path, log, text, streams, logs, before,
+            alloc, shaped, digits, protocol, at, path, log, text, streams, logs, before,
         ),
     }
 }
 
 /// The same of one that is there.
-fn drive_there<R: Source, W: Outlet + Drop, L: Logs, B: Before>(
+fn drive_there<R: Source, W: BufferedSink + Drop, L: Logs, B: InitialState>(
     alloc: Global,
     shaped: Shaped,
     digits: &RunDigits,
-    manner: Manner,
+    protocol: Protocol,
     at: Option<Moment>,
     path: &str,
     log: L::Log,
@@ -555,29 +567,29 @@ fn drive_there<R: Source, W: Outlet + Drop, L: Logs, B: Before>(
     requires digits { digits.now ≡ digits_in shaped }
     requires at_most { IfSome at (λ present. present ≤ MAX_MOMENT) }
     requires shown { streams.output.pending ≡ [] }
-    requires found { IsFoundLog (L.Log.seen log) (L.Log.may_leave log) (L.Log.fault log) (L.Log.written log) (L.folder logs.old) text }
-    requires told { IfSome B.before (IsToldOfFound (L.folder logs.old) shaped manner at (Some text) streams.output.taken) }
-    ensures drove { StepsWith L.Log.seen L.Log.may_leave L.Log.fault L.Log.written B.before streams result.outcome result.streams result.driven result.log
-        (DrivesFitting (L.folder logs.old) (L.folder logs.new) path.now manner at shaped (Some text)) }
+    requires found { IsFoundLog (L.Log.seen log) (L.Log.crash_states log) (L.Log.fault log) (L.Log.written log) (L.folder logs.old) text }
+    requires told { IfSome B.before (IsHistoryOfFound (L.folder logs.old) shaped protocol at (Some text) streams.output.written) }
+    ensures drove { StepsWith L.Log.seen L.Log.crash_states L.Log.fault L.Log.written B.before streams result.outcome result.streams result.driven result.log
+        (DrivesFitting (L.folder logs.old) (L.folder logs.new) path.now protocol at shaped (Some text)) }
 {
     if text.is_empty() {
         let opened = Some(log);
         return begin(
-            alloc, shaped, digits, manner, path, opened, streams, logs, before,
+            alloc, shaped, digits, protocol, path, opened, streams, logs, before,
         );
     }
     take_up_with(
-        alloc, shaped, manner, at, log, &text, digits, streams, before,
+        alloc, shaped, protocol, at, log, &text, digits, streams, before,
     )
 }
 
 /// Opens the log of this path, and drives the cell of a plan, which has these digits, with it.
-fn open_and_drive<R: Source, W: Outlet + Drop, L: Logs, B: Before>(
+fn open_and_drive<R: Source, W: BufferedSink + Drop, L: Logs, B: InitialState>(
     alloc: Global,
     shaped: Shaped,
     digits: &RunDigits,
     start: LogStart,
-    manner: Manner,
+    protocol: Protocol,
     at: Option<Moment>,
     path: &str,
     streams: Streams<R, W>,
@@ -587,16 +599,16 @@ fn open_and_drive<R: Source, W: Outlet + Drop, L: Logs, B: Before>(
     requires digits { digits.now ≡ digits_in shaped }
     requires at_most { IfSome at (λ present. present ≤ MAX_MOMENT) }
     requires shown { streams.output.pending ≡ [] }
-    requires told { IfSome B.before (IsToldOfPath (L.folder logs.old) path.now shaped manner at streams.output.taken) }
-    ensures drove { StepsWith L.Log.seen L.Log.may_leave L.Log.fault L.Log.written B.before streams result.outcome result.streams result.driven result.log
-        (OpensLog (L.folder logs.old) (L.folder logs.new) path.now start manner at shaped) }
+    requires told { IfSome B.before (IsHistoryOfPath (L.folder logs.old) path.now shaped protocol at streams.output.written) }
+    ensures drove { StepsWith L.Log.seen L.Log.crash_states L.Log.fault L.Log.written B.before streams result.outcome result.streams result.driven result.log
+        (OpensLog (L.folder logs.old) (L.folder logs.new) path.now start protocol at shaped) }
 {
     match open_log(alloc, logs, path) {
         Ok(found) => drive_found(
-            alloc, shaped, digits, start, manner, at, path, found, streams, logs, before,
+            alloc, shaped, digits, start, protocol, at, path, found, streams, logs, before,
         ),
         Err(back) => LoggedRun {
-            outcome: Err(LogTold::from(back.fault).0),
+            outcome: Err(LogFault::from(back.fault).0),
             streams,
             driven: false,
             log: back.log,
@@ -605,11 +617,11 @@ fn open_and_drive<R: Source, W: Outlet + Drop, L: Logs, B: Before>(
 }
 
 /// Opens the log of this path, and drives the cell of a plan with it, by the digits of the plan.
-fn drive_by_log<R: Source, W: Outlet + Drop, L: Logs, B: Before>(
+fn drive_by_log<R: Source, W: BufferedSink + Drop, L: Logs, B: InitialState>(
     alloc: Global,
     shaped: Shaped,
     start: LogStart,
-    manner: Manner,
+    protocol: Protocol,
     at: Option<Moment>,
     path: &str,
     streams: Streams<R, W>,
@@ -618,13 +630,13 @@ fn drive_by_log<R: Source, W: Outlet + Drop, L: Logs, B: Before>(
 ) -> LoggedRun<R, W, L::Log>
     requires at_most { IfSome at (λ present. present ≤ MAX_MOMENT) }
     requires shown { streams.output.pending ≡ [] }
-    requires told { IfSome B.before (IsToldOfPath (L.folder logs.old) path.now shaped manner at streams.output.taken) }
-    ensures drove { StepsWith L.Log.seen L.Log.may_leave L.Log.fault L.Log.written B.before streams result.outcome result.streams result.driven result.log
-        (DrivesByLog (L.folder logs.old) (L.folder logs.new) path.now start manner at shaped) }
+    requires told { IfSome B.before (IsHistoryOfPath (L.folder logs.old) path.now shaped protocol at streams.output.written) }
+    ensures drove { StepsWith L.Log.seen L.Log.crash_states L.Log.fault L.Log.written B.before streams result.outcome result.streams result.driven result.log
+        (DrivesByLog (L.folder logs.old) (L.folder logs.new) path.now start protocol at shaped) }
 {
     match run_digits(alloc, shaped.shop(), shaped.plan()) {
         Ok(digits) => open_and_drive(
-            alloc, shaped, &digits, start, manner, at, path, streams, logs, before,
+            alloc, shaped, &digits, start, protocol, at, path, streams, logs, before,
         ),
         Err(error) => LoggedRun {
             outcome: Err(CommandFault::from(error)),
@@ -637,12 +649,12 @@ fn drive_by_log<R: Source, W: Outlet + Drop, L: Logs, B: Before>(
 
 /// Reads a plan, and if it is well shaped drives its cell with the log of this path, to the end of the input; else its first
 /// fault is the answer, and no log is opened.
-pub(crate) fn logged_answer<T: Texts, R: Source, W: Outlet + Drop, L: Logs, B: Before>(
+pub(crate) fn logged_answer<T: Texts, R: Source, W: BufferedSink + Drop, L: Logs, B: InitialState>(
     alloc: Global,
     texts: &mut T,
     pair: &Pair<'_>,
     start: LogStart,
-    manner: Manner,
+    protocol: Protocol,
     at: Option<Moment>,
     path: &str,
     streams: Streams<R, W>,
@@ -651,13 +663,13 @@ pub(crate) fn logged_answer<T: Texts, R: Source, W: Outlet + Drop, L: Logs, B: B
 ) -> LoggedRun<R, W, L::Log>
     requires at_most { IfSome at (λ present. present ≤ MAX_MOMENT) }
     requires shown { streams.output.pending ≡ [] }
-    requires told { IfSome B.before (IsToldOfLog T.gives (L.folder logs.old) pair.now path.now manner at texts.old streams.output.taken) }
-    ensures runs { StepsWith L.Log.seen L.Log.may_leave L.Log.fault L.Log.written B.before streams result.outcome result.streams result.driven result.log
-        (λ step. RunsLoggedDrive T.gives (L.folder logs.old) (L.folder logs.new) path.now start manner at pair.now texts.old step texts.new) }
+    requires told { IfSome B.before (IsHistoryOfLog T.gives (L.folder logs.old) pair.now path.now protocol at texts.old streams.output.written) }
+    ensures runs { StepsWith L.Log.seen L.Log.crash_states L.Log.fault L.Log.written B.before streams result.outcome result.streams result.driven result.log
+        (λ step. RunsLoggedDrive T.gives (L.folder logs.old) (L.folder logs.new) path.now start protocol at pair.now texts.old step texts.new) }
 {
     match shape_files(alloc, texts, pair) {
         Ok(Ok(shaped)) => drive_by_log(
-            alloc, shaped, start, manner, at, path, streams, logs, before,
+            alloc, shaped, start, protocol, at, path, streams, logs, before,
         ),
         Ok(Err(fault)) => LoggedRun {
             outcome: line_answer(alloc, &Loaded::NotShaped(fault)),

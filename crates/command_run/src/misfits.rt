@@ -3,7 +3,7 @@
 ghost use Rattle.std.specs.Prelude.{◌≡◌, ◌↔◌, IfOk, IsTrue};
 ghost use Rattle.text_lines.specs.Searches.{SomeIfAny};
 ghost use Rattle.run_journal.specs.declared.log_run.LogRun.{LogRun};
-ghost use Rattle.command_run.specs.Misfits.{GoesOn, IsMisfit, IsMisfitLine, IsMisfitTold, KeepsPlan};
+ghost use Rattle.command_run.specs.Misfits.{GoesOn, IsMisfit, IsMisfitLine, IsMisfitAnswer, KeepsPlan};
 
 use command_answers::{Answer, Answered, REFUSED};
 use command_words::LogStart;
@@ -87,7 +87,7 @@ fn keeps_plan(start: LogStart) -> bool
 
 /// What is answered in place of driving.
 pub(crate) fn misfit_answer(alloc: Global, misfit: Misfit) -> Answered
-    ensures { IsMisfitTold misfit result }
+    ensures { IsMisfitAnswer misfit result }
 {
     Ok(misfit_line(alloc, misfit)?)
 }

@@ -4,13 +4,13 @@ ghost use Rattle.std.specs.Prelude.{◌≤◌, IfSome};
 ghost use Rattle.std.specs.Option.{option_copied};
 ghost use Rattle.shop_base.specs.declared.limits.TheConstants.{MAX_MOMENT};
 ghost use Rattle.command_run.specs.Streams.{output_of};
-ghost use Rattle.command_run.specs.Pictures.{Draws, DrawsTimetable, IsPictureOut, RunsDrawing, RunsTimetable, TellsMoves};
+ghost use Rattle.command_run.specs.Pictures.{Draws, DrawsTimetable, IsPictureOut, RunsDrawing, RunsTimetable, AnswersMoves};
 
 use crate::devices::Streams;
-use crate::tellings::telling_answer;
-use cell_drive::{Outlet, Source};
+use crate::tellings::plan_answer;
+use cell_drive::{BufferedSink, Source};
 use command_answers::{
-    Answer, Answered, CommandFault, Drawn, Outcome, Pair, PlanTelling, Telling, Texts, log_answer,
+    Answer, Answered, CommandFault, Drawn, LogAnswer, Outcome, Pair, PlanAnswer, Texts, log_answer,
     log_picture, moves_answer, rest_moves_answer, rest_picture, schedule_picture,
 };
 use run_picture::Picture;
@@ -29,7 +29,7 @@ pub(crate) enum Timetable {
 }
 
 /// The schedule of a plan, or of the rest of the run in a log, in this form.
-pub(crate) fn timetable_answer<T: Texts, R: Source, W: Outlet>(
+pub(crate) fn timetable_answer<T: Texts, R: Source, W: BufferedSink>(
     alloc: Global,
     texts: &mut T,
     pair: &Pair<'_>,
@@ -44,9 +44,9 @@ pub(crate) fn timetable_answer<T: Texts, R: Source, W: Outlet>(
 {
     match form {
         Timetable::Moments => {
-            telling_answer(alloc, texts, pair, names, log, at, PlanTelling::Moments)
+            plan_answer(alloc, texts, pair, names, log, at, PlanAnswer::Moments)
         }
-        Timetable::Moves => moves_told(alloc, texts, pair, names, log, at),
+        Timetable::Moves => answer_moves(alloc, texts, pair, names, log, at),
         Timetable::Picture => {
             let drawn = timetable_drawn(alloc, texts, pair, names, log, at);
             drawn_answer(alloc, drawn, streams)
@@ -55,7 +55,7 @@ pub(crate) fn timetable_answer<T: Texts, R: Source, W: Outlet>(
 }
 
 /// The moves of a plan, or those ahead in the run in a log.
-fn moves_told<T: Texts>(
+fn answer_moves<T: Texts>(
     alloc: Global,
     texts: &mut T,
     pair: &Pair<'_>,
@@ -64,7 +64,7 @@ fn moves_told<T: Texts>(
     at: Option<Moment>,
 ) -> Answered
     requires { IfSome at (λ present. present ≤ MAX_MOMENT) }
-    ensures { TellsMoves T.gives at pair.now (option_copied names.entry) (option_copied log.entry) texts.old result texts.new }
+    ensures { AnswersMoves T.gives at pair.now (option_copied names.entry) (option_copied log.entry) texts.old result texts.new }
 {
     match log {
         Some(log) => rest_moves_answer(alloc, texts, pair, names, log, at),
@@ -91,7 +91,7 @@ fn timetable_drawn<T: Texts>(
 }
 
 /// The drawing of a log: in text, or as a picture.
-pub(crate) fn drawing_answer<T: Texts, R: Source, W: Outlet>(
+pub(crate) fn drawing_answer<T: Texts, R: Source, W: BufferedSink>(
     alloc: Global,
     texts: &mut T,
     pair: &Pair<'_>,
@@ -106,12 +106,12 @@ pub(crate) fn drawing_answer<T: Texts, R: Source, W: Outlet>(
         let drawn = log_picture(alloc, texts, pair, names, log);
         drawn_answer(alloc, drawn, streams)
     } else {
-        log_answer(alloc, texts, pair, names, log, Telling::Drawing)
+        log_answer(alloc, texts, pair, names, log, LogAnswer::Drawing)
     }
 }
 
 /// Draws a picture. A line in its place is what is answered.
-fn drawn_answer<R: Source, W: Outlet>(
+fn drawn_answer<R: Source, W: BufferedSink>(
     alloc: Global,
     drawn: Outcome<Drawn>,
     streams: &mut Streams<R, W>,
@@ -128,11 +128,16 @@ fn drawn_answer<R: Source, W: Outlet>(
 }
 
 /// Writes a picture, and shows it. The command ends with this status.
-fn put_picture<W: Outlet>(alloc: Global, picture: &Picture, status: u8, output: &mut W) -> Answered
+fn put_picture<W: BufferedSink>(
+    alloc: Global,
+    picture: &Picture,
+    status: u8,
+    output: &mut W,
+) -> Answered
     ensures { IsPictureOut picture.now status (output_of W.Sink W.pending output.old) (output_of W.Sink W.pending output.new) result }
 {
     match picture.put(output) {
-        Ok(()) => match output.show() {
+        Ok(()) => match output.flush() {
             Ok(()) => {
                 let text = Vec::new(alloc);
                 Ok(Answer { text, status })

@@ -5,33 +5,41 @@ ghost use Rattle.command_words.specs.Choice.{IsWithin};
 ghost use Rattle.command_run.specs.Logs.{WithLog};
 ghost use Rattle.command_run.specs.Streams.{errors_of};
 ghost use Rattle.command_run.specs.Ending.{EndsBy};
-ghost use Rattle.command_run.specs.Program.{Commands, Follows, IsToldOfChosen, IsToldOfWords, RunsProgram, draws_in, kept_log_in, starts_again};
+ghost use Rattle.command_run.specs.Program.{Commands, Follows, IsHistoryOfChosen, IsHistoryOfWords, RunsProgram, draws_in, kept_log_in, starts_again};
 
-use crate::command::{command, kept_log, manner, pair};
+use crate::command::{command, kept_log, pair, protocol};
 use crate::devices::{Devices, Screen, Streams};
-use crate::ending::{end, end_aside, tell_line};
+use crate::ending::{end, end_aside, print_line};
 use crate::logs::{LoggedRun, logged_answer};
 use crate::unchosen::Unchosen;
-use cell_drive::{Outlet, Source};
+use cell_drive::{BufferedSink, Source};
 use command_answers::{Answered, CommandFault, Texts};
 use command_words::{Chosen, CommandName, WordsFault, read_words};
-use run_journal::{Before, Logs};
+use run_journal::{InitialState, Logs};
 use run_log::Sink;
 use std::alloc::Global;
 
 /// Runs the program on the words of a command line, the program's name first. It gives the status that it ends with, the
 /// devices, and the log that it opened or made, if it did. What is known of that log stands for a type.
-pub fn run<T: Texts, R: Source, W: Outlet + Drop, E: Sink, S: Screen, L: Logs, B: Before>(
+pub fn run<
+    T: Texts,
+    R: Source,
+    W: BufferedSink + Drop,
+    E: Sink,
+    S: Screen,
+    L: Logs,
+    B: InitialState,
+>(
     alloc: Global,
     words: &[&str],
     devices: Devices<T, R, W, E, S, L>,
     before: B,
 ) -> (u8, Devices<T, R, W, E, S, L>, Option<L::Log>)
     requires shown { devices.streams.output.pending ≡ [] }
-    requires told { IfSome B.before (IsToldOfWords T.gives (map (λ word. word.now) words.now) devices) }
+    requires told { IfSome B.before (IsHistoryOfWords T.gives (map (λ word. word.now) words.now) devices) }
 
     // What a crash leaves of the log has all that was shown. Where the status is 0 or 1, the log has it on the disk.
-    ensures runs { WithLog L.Log.seen L.Log.may_leave L.Log.fault L.Log.written B.before result.1.streams.output.taken (result.0 ≤ 1) result.2
+    ensures runs { WithLog L.Log.seen L.Log.crash_states L.Log.fault L.Log.written B.before result.1.streams.output.written (result.0 ≤ 1) result.2
         (RunsProgram T.gives (map (λ word. word.now) words.now) devices result.0 result.1) }
 {
     let mut devices = devices;
@@ -45,7 +53,15 @@ pub fn run<T: Texts, R: Source, W: Outlet + Drop, E: Sink, S: Screen, L: Logs, B
 }
 
 /// Runs the command that was chosen, and prints its answer, or says why there is none.
-fn follow<T: Texts, R: Source, W: Outlet + Drop, E: Sink, S: Screen, L: Logs, B: Before>(
+fn follow<
+    T: Texts,
+    R: Source,
+    W: BufferedSink + Drop,
+    E: Sink,
+    S: Screen,
+    L: Logs,
+    B: InitialState,
+>(
     alloc: Global,
     chosen: &Chosen,
     devices: Devices<T, R, W, E, S, L>,
@@ -53,8 +69,8 @@ fn follow<T: Texts, R: Source, W: Outlet + Drop, E: Sink, S: Screen, L: Logs, B:
 ) -> (u8, Devices<T, R, W, E, S, L>, Option<L::Log>)
     requires within { IsWithin chosen.now }
     requires shown { devices.streams.output.pending ≡ [] }
-    requires told { IfSome B.before (IsToldOfChosen T.gives chosen.now devices) }
-    ensures runs { WithLog L.Log.seen L.Log.may_leave L.Log.fault L.Log.written B.before result.1.streams.output.taken (result.0 ≤ 1) result.2
+    requires told { IfSome B.before (IsHistoryOfChosen T.gives chosen.now devices) }
+    ensures runs { WithLog L.Log.seen L.Log.crash_states L.Log.fault L.Log.written B.before result.1.streams.output.written (result.0 ≤ 1) result.2
         (Commands T.gives chosen.now devices result.0 result.1) }
 {
     match kept_log(chosen) {
@@ -68,7 +84,7 @@ fn follow<T: Texts, R: Source, W: Outlet + Drop, E: Sink, S: Screen, L: Logs, B:
 }
 
 /// Drives a cell with the log of this path, and ends as any command does.
-fn drive_logged<T: Texts, R: Source, W: Outlet + Drop, E: Sink, S, L: Logs, B: Before>(
+fn drive_logged<T: Texts, R: Source, W: BufferedSink + Drop, E: Sink, S, L: Logs, B: InitialState>(
     alloc: Global,
     chosen: &Chosen,
     path: &str,
@@ -78,8 +94,8 @@ fn drive_logged<T: Texts, R: Source, W: Outlet + Drop, E: Sink, S, L: Logs, B: B
     requires within { IsWithin chosen.now }
     requires kept { kept_log_in chosen.now ≡ Some path.now }
     requires shown { devices.streams.output.pending ≡ [] }
-    requires told { IfSome B.before (IsToldOfChosen T.gives chosen.now devices) }
-    ensures runs { WithLog L.Log.seen L.Log.may_leave L.Log.fault L.Log.written B.before result.1.streams.output.taken (result.0 ≤ 1) result.2
+    requires told { IfSome B.before (IsHistoryOfChosen T.gives chosen.now devices) }
+    ensures runs { WithLog L.Log.seen L.Log.crash_states L.Log.fault L.Log.written B.before result.1.streams.output.written (result.0 ≤ 1) result.2
         (Commands T.gives chosen.now devices result.0 result.1) }
 {
     let Devices {
@@ -89,7 +105,7 @@ fn drive_logged<T: Texts, R: Source, W: Outlet + Drop, E: Sink, S, L: Logs, B: B
         screen,
         mut logs,
     } = devices;
-    let (pair, manner, at) = (pair(chosen), manner(chosen), chosen.at);
+    let (pair, protocol, at) = (pair(chosen), protocol(chosen), chosen.at);
     let LoggedRun {
         outcome,
         mut streams,
@@ -100,7 +116,7 @@ fn drive_logged<T: Texts, R: Source, W: Outlet + Drop, E: Sink, S, L: Logs, B: B
         &mut texts,
         &pair,
         chosen.start,
-        manner,
+        protocol,
         at,
         path,
         streams,
@@ -141,7 +157,7 @@ fn status_with_log(own: u8, again: bool) -> u8
 }
 
 /// Runs the command that was chosen, which keeps no log, and ends.
-fn unlogged<T: Texts, R: Source, W: Outlet, E: Sink, S: Screen, L: Logs>(
+fn unlogged<T: Texts, R: Source, W: BufferedSink, E: Sink, S: Screen, L: Logs>(
     alloc: Global,
     chosen: &Chosen,
     devices: &mut Devices<T, R, W, E, S, L>,
@@ -163,7 +179,7 @@ fn unlogged<T: Texts, R: Source, W: Outlet, E: Sink, S: Screen, L: Logs>(
 }
 
 /// Prints the answer of the command that was chosen, or tells it where it stands in place of a picture.
-fn end_chosen<R: Source, W: Outlet, E: Sink>(
+fn end_chosen<R: Source, W: BufferedSink, E: Sink>(
     alloc: Global,
     chosen: &Chosen,
     outcome: Answered,
@@ -190,7 +206,7 @@ fn draws(chosen: &Chosen) -> bool
 }
 
 /// What follows words that choose no command.
-fn unchosen<T: Texts, R: Source, W: Outlet, E: Sink, S, L: Logs>(
+fn unchosen<T: Texts, R: Source, W: BufferedSink, E: Sink, S, L: Logs>(
     alloc: Global,
     fault: WordsFault,
     devices: &mut Devices<T, R, W, E, S, L>,
@@ -206,6 +222,6 @@ fn unchosen<T: Texts, R: Source, W: Outlet, E: Sink, S, L: Logs>(
     } = devices;
     match Unchosen::from(fault) {
         Unchosen::Ends(outcome) => end(alloc, outcome, streams, errors),
-        Unchosen::Usage(text) => tell_line(errors, text.as_bytes(), 2),
+        Unchosen::Usage(text) => print_line(errors, text.as_bytes(), 2),
     }
 }

@@ -10,7 +10,7 @@ use text_lines::LineText;
 /// The bytes of the longest line: two numbers of 10 digits, three of 20, and the words before them.
 const ROOM: usize = 119;
 
-/// Tells each round on a screen.
+/// ParsesAs each round on a screen.
 #[derive(Drop)]
 pub(crate) struct Progress<'a, S> {
     pub screen: &'a mut S,
@@ -19,7 +19,7 @@ pub(crate) struct Progress<'a, S> {
 }
 
 impl<S: Screen> Watch for Progress<'_, S> {
-    ghost told = { λ _. None };
+    ghost reported = { λ _. None };
 
     fn round(&mut self, round: u32, late: Moment, makespan: Moment, at_least: Moment) {
         let mut line: LineText<ROOM> = LineText::empty();

@@ -3,16 +3,17 @@
 ghost use Rattle.std.specs.Prelude.{◌≤◌, IfSome};
 ghost use Rattle.shop_base.specs.declared.limits.TheConstants.{MAX_MOMENT};
 ghost use Rattle.command_run.specs.Drives.{IsEndAnswer};
-ghost use Rattle.command_run.specs.Resumes.{IsTaking, IsUntakenTold, ResumesLog, end_of_rest};
+ghost use Rattle.command_run.specs.Resumes.{IsRecovery, IsUnrecoveredAnswer, ResumesLog, end_of_rest};
 ghost use Rattle.command_run.specs.Program.{RunsResume};
 
 use crate::devices::Streams;
-use crate::drives::{Told, ended};
+use crate::drives::{CommandFaultOf, ended};
 use cell_drive::{
-    DriveFault, Manner, Outlet, RestEnd, ResumeFault, Source, Taken, resume_in, take_up,
+    BufferedSink, DriveFault, Protocol, RecoveredRun, RestEnd, ResumeFault, Source, resume_in,
+    take_up,
 };
 use command_answers::{
-    Answered, CommandFault, Loaded, Pair, Texts, fault_told, loaded_answer, past_answer,
+    Answered, CommandFault, Loaded, Pair, Texts, loaded_answer, log_fault_answer, past_answer,
     shape_files,
 };
 use plan_verifier::Verdict;
@@ -22,67 +23,67 @@ use std::marker::Model;
 
 /// Reads a plan, and if it is well shaped takes up its run from the log, at a moment, and drives it on in this manner; else
 /// its first fault is the answer.
-pub(crate) fn resume_answer<T: Texts, R: Source, W: Outlet>(
+pub(crate) fn resume_answer<T: Texts, R: Source, W: BufferedSink>(
     alloc: Global,
     texts: &mut T,
     pair: &Pair<'_>,
     log: &str,
     at: Option<Moment>,
-    manner: Manner,
+    protocol: Protocol,
     streams: &mut Streams<R, W>,
 ) -> Answered
     requires { IfSome at (λ present. present ≤ MAX_MOMENT) }
-    ensures { RunsResume T.gives manner at pair.now log.now texts.old streams.old result texts.new streams.new }
+    ensures { RunsResume T.gives protocol at pair.now log.now texts.old streams.old result texts.new streams.new }
 {
     match shape_files(alloc, texts, pair)? {
-        Ok(shaped) => resume_log(alloc, texts, shaped, log, at, manner, streams),
+        Ok(shaped) => resume_log(alloc, texts, shaped, log, at, protocol, streams),
         Err(fault) => Ok(loaded_answer(alloc, &Loaded::NotShaped(fault))?),
     }
 }
 
 /// Asks for the log of a plan, takes up its run, and drives that on in this manner to the end of the input; why it isn't taken up is an
 /// answer.
-fn resume_log<T: Texts, R: Source, W: Outlet>(
+fn resume_log<T: Texts, R: Source, W: BufferedSink>(
     alloc: Global,
     texts: &mut T,
     shaped: Shaped,
     log: &str,
     at: Option<Moment>,
-    manner: Manner,
+    protocol: Protocol,
     streams: &mut Streams<R, W>,
 ) -> Answered
     requires { IfSome at (λ present. present ≤ MAX_MOMENT) }
-    ensures { ResumesLog T.gives manner at log.now shaped texts.old streams.old result texts.new streams.new }
+    ensures { ResumesLog T.gives protocol at log.now shaped texts.old streams.old result texts.new streams.new }
 {
     let text = texts.text(alloc, log)?;
-    match taken_up(alloc, shaped, text, at) {
+    match recoverable(alloc, shaped, text, at) {
         Ok(taken) => {
-            let end = resume_in(taken, manner, &mut streams.input, &mut streams.output);
+            let end = resume_in(taken, protocol, &mut streams.input, &mut streams.output);
             rest_answer(alloc, end)
         }
-        Err(fault) => untaken_answer(alloc, fault),
+        Err(fault) => unrecovered_answer(alloc, fault),
     }
 }
 
 /// Takes up the run that the text records, and gives the text back.
-fn taken_up(
+fn recoverable(
     alloc: Global,
     shaped: Shaped,
     text: Vec<u8>,
     at: Option<Moment>,
-) -> Result<Taken, ResumeFault>
+) -> Result<RecoveredRun, ResumeFault>
     requires { IfSome at (λ present. present ≤ MAX_MOMENT) }
-    ensures { IsTaking shaped at text.items result }
+    ensures { IsRecovery shaped at text.items result }
 {
     take_up(alloc, shaped, &text, at)
 }
 
 /// What is answered where a run isn't taken up: the line of the log's first fault, of a moment that is past, or of the plan.
-pub(crate) fn untaken_answer(alloc: Global, fault: ResumeFault) -> Answered
-    ensures { IsUntakenTold fault result }
+pub(crate) fn unrecovered_answer(alloc: Global, fault: ResumeFault) -> Answered
+    ensures { IsUnrecoveredAnswer fault result }
 {
     match fault {
-        ResumeFault::Log(fault) => fault_told(alloc, fault),
+        ResumeFault::Log(fault) => log_fault_answer(alloc, fault),
         ResumeFault::Past { last } => Ok(past_answer(alloc, last)?),
         ResumeFault::Refused(shaped, why) => {
             let refused = Loaded::Judged(Verdict::Refused(shaped, why));
@@ -98,7 +99,7 @@ fn rest_answer(alloc: Global, end: Result<RestEnd, DriveFault>) -> Answered
 {
     match end {
         Ok(end) => Ok(ended(alloc, end.done)),
-        Err(fault) => Err(Told::from(fault).0),
+        Err(fault) => Err(CommandFaultOf::from(fault).0),
     }
 }
 

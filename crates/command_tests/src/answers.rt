@@ -4,7 +4,7 @@
 use super::shelf::{PAIR, Shelf};
 use super::texts::{IN_TIME, TWO};
 use command_answers::{
-    Answer, CommandFault, Telling, check, check_answer, explain, explain_answer, facts_answer,
+    Answer, CommandFault, LogAnswer, check, check_answer, explain, explain_answer, facts_answer,
     log_answer, plan_answer, shape_answer,
 };
 use plan_seek::{GreedyProposer, Proposer, ShiftProposer};
@@ -65,9 +65,9 @@ fn each_command_answers_over_a_shelf(rt: HostRuntime) {
     let checked = check(alloc, TWO, None, IN_TIME);
     assert!(rt; tells(checked, b"accepted makespan 10 leaves 5 10\n", 0));
     assert!(rt; tells(explain(alloc, TWO, None, IN_TIME), EXPLAINED, 0));
-    let numbers = log_answer(alloc, &mut shelf, &PAIR, None, "log", Telling::Numbers);
+    let numbers = log_answer(alloc, &mut shelf, &PAIR, None, "log", LogAnswer::Numbers);
     assert!(rt; tells(numbers, b"log kept reports 6 orders 6 last 9 complete\n", 0));
-    let drawing = log_answer(alloc, &mut shelf, &PAIR, None, "log", Telling::Drawing);
+    let drawing = log_answer(alloc, &mut shelf, &PAIR, None, "log", LogAnswer::Drawing);
     assert!(rt; tells(drawing, DRAWN, 0));
 }
 

@@ -47,12 +47,12 @@ rises last [] = true
 rises last (n ∷ ns) = nat_lt last n && rises n ns
 
 -- the moment that a word is
-abbrev pub moment_told : Text → Option ℕ
-moment_told word = if is_moment word then Some (value_of word) else None
+abbrev pub moment_read : Text → Option ℕ
+moment_read word = if is_moment word then Some (value_of word) else None
 
 -- the moment that is the value at a place, if there is one
 abbrev pub moment_at : List Text → ℕ → Option ℕ
-moment_at values place = option_and_then moment_told (slice_get values place)
+moment_at values place = option_and_then moment_read (slice_get values place)
 
 -- the moment that goes with the n-th added job, by uses of which the first is at this place
 abbrev pub moment_from : ℕ → List ℕ → List Text → ℕ → Option ℕ

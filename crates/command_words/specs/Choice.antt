@@ -319,14 +319,14 @@ IsFaultOf kind Memory = kind ≡ OutOfMemory
 IsFaultOf kind (Usage help text) = (kind ≢ OutOfMemory) × (help ≡ asks_for_help kind)
 
 -- the fault is out of memory, or tells of this reason
-abbrev pub TellsReason : ErrorKind → WordsFault → Type 0
-TellsReason kind Memory = Unit {0}
-TellsReason kind (Usage help text) = (kind ≢ OutOfMemory) × (help ≡ asks_for_help kind)
+abbrev pub NamesReason : ErrorKind → WordsFault → Type 0
+NamesReason kind Memory = Unit {0}
+NamesReason kind (Usage help text) = (kind ≢ OutOfMemory) × (help ≡ asks_for_help kind)
 
 -- the fault is out of memory, or tells of one of these reasons
-abbrev pub TellsOneOf : Kinds → WordsFault → Type 0
-TellsOneOf kinds Memory = Unit {0}
-TellsOneOf kinds (Usage help text) =
+abbrev pub NamesOneOf : Kinds → WordsFault → Type 0
+NamesOneOf kinds Memory = Unit {0}
+NamesOneOf kinds (Usage help text) =
     (kind : ErrorKind) × IsAmong kind kinds × (help ≡ asks_for_help kind)
 
 -- a text for a number: none, or a number from the least to the most, as it is read

@@ -7,7 +7,7 @@ ghost use Rattle.clap.specs.Words.{first_of, found_of, kind_of, one_of, rows_of,
 ghost use Rattle.command_words.specs.declared.words.CommandName.{CommandName};
 ghost use Rattle.command_words.specs.CommandLine.{most_rounds, greatest_seed, most_choices, latest_moment};
 ghost use Rattle.command_words.specs.Given.{is_moment, is_number, values_of};
-ghost use Rattle.command_words.specs.Choice.{FitsBetween, IsChoiceOf, IsFit, IsWithin, TellsOneOf, TellsReason, are_both, at_in, choices_in, decision_misfit, are_both_set, files_in, first_given, found_in, is_set, job_in, job_misfit, kept_in, leap_in, leap_misfit, lines_in, lines_misfit, log_given, misfit_in, misfit_of, misfits_of, moves_in, moves_misfit, number_misfit, reasons_in, rounds_in, seed_in, texts_of, version_of, word_of};
+ghost use Rattle.command_words.specs.Choice.{FitsBetween, IsChoiceOf, IsFit, IsWithin, NamesOneOf, NamesReason, are_both, at_in, choices_in, decision_misfit, are_both_set, files_in, first_given, found_in, is_set, job_in, job_misfit, kept_in, leap_in, leap_misfit, lines_in, lines_misfit, log_given, misfit_in, misfit_of, misfits_of, moves_in, moves_misfit, number_misfit, reasons_in, rounds_in, seed_in, texts_of, version_of, word_of};
 
 mod changes;
 mod command_line;
@@ -192,7 +192,7 @@ pub fn read_words(alloc: Global, words: &[&str]) -> Result<Chosen, WordsFault>
     ensures chosen { let given = map (λ word. word.now) words.now in IfOk result (IsChoiceOf given (found_in given)) }
     ensures within { IfOk result IsWithin }
     ensures taken { IfOk result (λ _. reasons_in (map (λ word. word.now) words.now) ≡ []) }
-    ensures refused { IfErr result (TellsOneOf (reasons_in (map (λ word. word.now) words.now))) }
+    ensures refused { IfErr result (NamesOneOf (reasons_in (map (λ word. word.now) words.now))) }
 {
     let program = command_line::whole(alloc)?;
     match program.try_get_matches_from(words) {
@@ -203,7 +203,7 @@ pub fn read_words(alloc: Global, words: &[&str]) -> Result<Chosen, WordsFault>
 
 /// What `clap` refuses, as a fault.
 fn fault_of(alloc: Global, error: &clap::Error) -> WordsFault
-    ensures { TellsReason (kind_of error.now) result }
+    ensures { NamesReason (kind_of error.now) result }
 {
     let kind = error.kind();
     match error.to_string(alloc) {
@@ -218,7 +218,7 @@ fn chosen_by(alloc: Global, words: &[&str], matches: &ArgMatches<'_>) -> Result<
     ensures holds { IfOk result (IsChoiceOf (map (λ word. word.now) words.now) (subcommand_rows_of matches.now)) }
     ensures within { IfOk result IsWithin }
     ensures fits { IfOk result (λ _. misfit_in (map (λ word. word.now) words.now) (subcommand_rows_of matches.now) ≡ []) }
-    ensures refused { IfErr result (TellsOneOf (misfit_in (map (λ word. word.now) words.now) (subcommand_rows_of matches.now))) }
+    ensures refused { IfErr result (NamesOneOf (misfit_in (map (λ word. word.now) words.now) (subcommand_rows_of matches.now))) }
 {
     match matches.subcommand() {
         Some((word, matches)) => chosen_of(alloc, words, word, matches),
@@ -257,7 +257,7 @@ fn chosen_of(
     ensures holds { IfOk result (IsChoiceOf (map (λ given. given.now) words.now) (Some (word.now, rows_of (found_of matches.now)))) }
     ensures within { IfOk result IsWithin }
     ensures fits { IfOk result (λ _. misfit_in (map (λ given. given.now) words.now) (Some (word.now, rows_of (found_of matches.now))) ≡ []) }
-    ensures refused { IfErr result (TellsOneOf (misfit_in (map (λ given. given.now) words.now) (Some (word.now, rows_of (found_of matches.now))))) }
+    ensures refused { IfErr result (NamesOneOf (misfit_in (map (λ given. given.now) words.now) (Some (word.now, rows_of (found_of matches.now))))) }
 {
     Ok(Chosen {
         name: name_of(word),
@@ -437,7 +437,7 @@ fn rest_at(
     ensures exact { IfOk result (λ at. at ≡ at_in (rows_of (found_of matches.now))) }
     ensures early { IfOk result (λ at. IfSome at (λ n. n ≤ latest_moment)) }
     ensures fits { IfOk result (λ _. misfits_of (rows_of (found_of matches.now)) ≡ []) }
-    ensures refused { IfErr result (TellsOneOf (misfits_of (rows_of (found_of matches.now)))) }
+    ensures refused { IfErr result (NamesOneOf (misfits_of (rows_of (found_of matches.now)))) }
 {
     let Some(word) = matches.get_str("at") else {
         return Ok(None);
@@ -467,7 +467,7 @@ fn moment_of(word: &str) -> Option<u64>
 
 /// The fault of a moment without a log.
 fn no_log(alloc: Global, command: &str) -> WordsFault
-    ensures { TellsReason ErrorKind.MissingRequiredArgument result }
+    ensures { NamesReason ErrorKind.MissingRequiredArgument result }
 {
     let option = if command == "drive" {
         "--log"
@@ -484,7 +484,7 @@ fn no_log(alloc: Global, command: &str) -> WordsFault
 
 /// The fault of a word that isn't a moment.
 fn no_moment(alloc: Global, word: &str) -> WordsFault
-    ensures { TellsReason ErrorKind.ValueValidation result }
+    ensures { NamesReason ErrorKind.ValueValidation result }
 {
     let parts = [
         "invalid value '",
@@ -505,7 +505,7 @@ fn version_of(number: u64) -> Lines
 fn lines_of(alloc: Global, matches: &ArgMatches<'_>) -> Result<Option<Lines>, WordsFault>
     ensures exact { IfOk result (λ version. version ≡ lines_in (rows_of (found_of matches.now))) }
     ensures fits { IfOk result (λ _. lines_misfit (rows_of (found_of matches.now)) ≡ []) }
-    ensures refused { IfErr result (TellsOneOf (lines_misfit (rows_of (found_of matches.now)))) }
+    ensures refused { IfErr result (NamesOneOf (lines_misfit (rows_of (found_of matches.now)))) }
 {
     let form = NumberForm {
         digits: 1,
@@ -525,7 +525,7 @@ fn leap_of(alloc: Global, matches: &ArgMatches<'_>) -> Result<Option<u64>, Words
     ensures exact { IfOk result (λ longest. longest ≡ leap_in (rows_of (found_of matches.now))) }
     ensures early { IfOk result (λ longest. IfSome longest (λ n. n ≤ latest_moment)) }
     ensures fits { IfOk result (λ _. leap_misfit (rows_of (found_of matches.now)) ≡ []) }
-    ensures refused { IfErr result (TellsOneOf (leap_misfit (rows_of (found_of matches.now)))) }
+    ensures refused { IfErr result (NamesOneOf (leap_misfit (rows_of (found_of matches.now)))) }
 {
     let form = NumberForm {
         digits: MOST_DIGITS,
@@ -540,7 +540,7 @@ fn leap_of(alloc: Global, matches: &ArgMatches<'_>) -> Result<Option<u64>, Words
 fn job_of(alloc: Global, matches: &ArgMatches<'_>) -> Result<Option<u32>, WordsFault>
     ensures exact { IfOk result (λ job. job ≡ job_in (rows_of (found_of matches.now))) }
     ensures fits { IfOk result (λ _. decision_misfit (rows_of (found_of matches.now)) ≡ []) }
-    ensures refused { IfErr result (TellsOneOf (decision_misfit (rows_of (found_of matches.now)))) }
+    ensures refused { IfErr result (NamesOneOf (decision_misfit (rows_of (found_of matches.now)))) }
 {
     if are_both(matches, "job", "least") {
         return Err(no_both(alloc, "--least", "--job <J>"));
@@ -552,7 +552,7 @@ fn job_of(alloc: Global, matches: &ArgMatches<'_>) -> Result<Option<u32>, WordsF
 fn job_given(alloc: Global, matches: &ArgMatches<'_>) -> Result<Option<u32>, WordsFault>
     ensures exact { IfOk result (λ job. job ≡ job_in (rows_of (found_of matches.now))) }
     ensures fits { IfOk result (λ _. job_misfit (rows_of (found_of matches.now)) ≡ []) }
-    ensures refused { IfErr result (TellsOneOf (job_misfit (rows_of (found_of matches.now)))) }
+    ensures refused { IfErr result (NamesOneOf (job_misfit (rows_of (found_of matches.now)))) }
 {
     let form = NumberForm {
         digits: 9,
@@ -571,7 +571,7 @@ fn job_given(alloc: Global, matches: &ArgMatches<'_>) -> Result<Option<u32>, Wor
 fn moves_of(alloc: Global, matches: &ArgMatches<'_>) -> Result<bool, WordsFault>
     ensures exact { IfOk result (λ moves. moves ≡ moves_in (rows_of (found_of matches.now))) }
     ensures fits { IfOk result (λ _. moves_misfit (rows_of (found_of matches.now)) ≡ []) }
-    ensures refused { IfErr result (TellsOneOf (moves_misfit (rows_of (found_of matches.now)))) }
+    ensures refused { IfErr result (NamesOneOf (moves_misfit (rows_of (found_of matches.now)))) }
 {
     if are_both_set(matches, "svg", "moves") {
         return Err(no_both(alloc, "--svg", "--moves"));
@@ -581,7 +581,7 @@ fn moves_of(alloc: Global, matches: &ArgMatches<'_>) -> Result<bool, WordsFault>
 
 /// The fault of two arguments that don't go together.
 fn no_both(alloc: Global, one: &str, other: &str) -> WordsFault
-    ensures { TellsReason ErrorKind.ArgumentConflict result }
+    ensures { NamesReason ErrorKind.ArgumentConflict result }
 {
     let parts = ["the argument '", one, "' cannot be used with '", other, "'"];
     misfit(alloc, ErrorKind::ArgumentConflict, parts.as_slice())
@@ -599,16 +599,16 @@ fn number_given(
     ensures exact { IfOk result (λ number. number ≡ option_map value_of (first_of name.now (rows_of (found_of matches.now)))) }
     ensures small { IfOk result (λ number. IfSome number (λ n. n ≤ form.most)) }
     ensures fits { IfOk result (λ _. number_misfit form.digits form.least form.most (first_of name.now (rows_of (found_of matches.now))) ≡ []) }
-    ensures refused { IfErr result (TellsOneOf (number_misfit form.digits form.least form.most (first_of name.now (rows_of (found_of matches.now))))) }
+    ensures refused { IfErr result (NamesOneOf (number_misfit form.digits form.least form.most (first_of name.now (rows_of (found_of matches.now))))) }
 {
     match matches.get_str(name) {
-        Some(word) => number_told(alloc, word, form, wanted),
+        Some(word) => number_read(alloc, word, form, wanted),
         None => Ok(None),
     }
 }
 
 /// The number that the word is. It has to be one of this form.
-fn number_told(
+fn number_read(
     alloc: Global,
     word: &str,
     form: NumberForm,
@@ -618,7 +618,7 @@ fn number_told(
     ensures exact { IfOk result (λ number. number ≡ Some (value_of word.now)) }
     ensures small { IfOk result (λ number. IfSome number (λ n. n ≤ form.most)) }
     ensures fits { IfOk result (λ _. number_misfit form.digits form.least form.most (Some word.now) ≡ []) }
-    ensures refused { IfErr result (TellsOneOf (number_misfit form.digits form.least form.most (Some word.now))) }
+    ensures refused { IfErr result (NamesOneOf (number_misfit form.digits form.least form.most (Some word.now))) }
 {
     match number_in_form(word, form) {
         Some(number) => Ok(Some(number)),
@@ -646,7 +646,7 @@ fn number_in_form(word: &str, form: NumberForm) -> Option<u64>
 
 /// The fault of a word that isn't such a number.
 fn no_number(alloc: Global, word: &str, wanted: &str) -> WordsFault
-    ensures { TellsReason ErrorKind.ValueValidation result }
+    ensures { NamesReason ErrorKind.ValueValidation result }
 {
     misfit(
         alloc,
@@ -657,7 +657,7 @@ fn no_number(alloc: Global, word: &str, wanted: &str) -> WordsFault
 
 /// The fault of a moment that doesn't fit, with what is said of it.
 fn misfit(alloc: Global, kind: ErrorKind, parts: &[&str]) -> WordsFault
-    ensures { TellsReason kind result }
+    ensures { NamesReason kind result }
 {
     match error_text(alloc, parts) {
         Ok(text) => WordsFault::from(Refusal { kind, text }),

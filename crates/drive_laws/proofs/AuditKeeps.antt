@@ -15,16 +15,16 @@ use Rattle.run_log.specs.declared.audit_fault.AuditFault.{AuditFault}
 use Rattle.run_log.specs.declared.audit_fault.AuditFault.TheVariants.{Memory}
 use Rattle.cell_tables.specs.Events.{events_of}
 use Rattle.run_log.specs.Log.{Noted}
-use Rattle.event_lines.specs.LogLines.{LinesTell}
-use Rattle.run_log.specs.Audits.{IsAudit, TellRun}
+use Rattle.event_lines.specs.LogLines.{LinesParse}
+use Rattle.run_log.specs.Audits.{IsAudit, ParseAsRun}
 use Rattle.event_lines.proofs.Readings.{one_reading}
 use Rattle.byte_streams.specs.Lent.{Streams}
 use Rattle.cell_drive.specs.OneRun.{cell_after, IsSoFar}
 use Rattle.cell_drive.specs.Session.{seen}
 use Rattle.cell_drive.specs.AuditLaw.{IsLogOf, IsFoundAgain}
-use Rattle.cell_drive.specs.StatedLaw.{AnAuditKeepsWhatWasDriven}
+use Rattle.cell_drive.specs.ProtocolLaw.{AnAuditKeepsWhatWasDriven}
 use Rattle.cell_drive.proofs.Sessions.{driven_text}
-use Rattle.cell_drive.proofs.StatedTold.{an_answer_text_is_a_log}
+use Rattle.cell_drive.proofs.ProtocolParses.{an_answer_text_is_a_log}
 
 same_answer : {A : Type 0} (x y : Bool) → ((x ≡ true) ↔ A) → (IsTrue y ↔ A) → x ≡ y
 same_answer true true one other = refl
@@ -34,7 +34,7 @@ same_answer false true one other = absurd (false≢true (one.1 (other.0 refl)))
 
 -- the lines tell one list of entries
 found_again : (p : PlannedShop) (entries : List Entry) (done : Bool) (last left : ℕ) (text : List ℕ) (audit : Audit)
-    → LinesTell p (lines_of text) entries → IsSoFar p entries done last left → IsAudit p (lines_of text) audit
+    → LinesParse p (lines_of text) entries → IsSoFar p entries done last left → IsAudit p (lines_of text) audit
     → IsFoundAgain p entries done last left audit
 found_again p entries done last left text audit tells so_far is_audit =
     let told : audit.entries.items ≡ entries = one_reading p (lines_of text) audit.entries.items entries is_audit.tells tells in
@@ -50,7 +50,7 @@ found_again p entries done last left text audit tells so_far is_audit =
     }
 
 pub found_where : (p : PlannedShop) (entries : List Entry) (done : Bool) (last left : ℕ) (text : List ℕ) (outcome : Result Audit AuditFault)
-    → LinesTell p (lines_of text) entries → IsSoFar p entries done last left
+    → LinesParse p (lines_of text) entries → IsSoFar p entries done last left
     → IfOk outcome (IsAudit p (lines_of text)) → IfErr outcome (λ fault. fault ≡ Memory)
     → MatchResult outcome (IsFoundAgain p entries done last left) (λ fault. fault ≡ Memory)
 found_where p entries done last left text (Ok audit) tells so_far kept only = found_again p entries done last left text audit tells so_far kept
@@ -62,21 +62,21 @@ appended before after start text out from to wrote = subst (λ o. Appends o (Som
 
 -- what was written is a log of the cell that came to this
 pub found_of : (p : PlannedShop) (entries noted : List Entry) (cell : Cell) (done : Bool) (last left : ℕ) (before after : Streams) (start text whole : List ℕ) (outcome : Result Audit AuditFault)
-    → Appends before.output.taken after.output.taken whole → IsLogOf p whole (record { cell = cell; entries = noted }) → noted ≡ entries → IsSoFar p entries done last left
-    → before.output.taken ≡ Some start → after.output.taken ≡ Some (start ++ text)
-    → IfOk outcome (IsAudit p (lines_of text)) → (TellRun p (lines_of text) → IfErr outcome (λ fault. fault ≡ Memory))
+    → Appends before.output.written after.output.written whole → IsLogOf p whole (record { cell = cell; entries = noted }) → noted ≡ entries → IsSoFar p entries done last left
+    → before.output.written ≡ Some start → after.output.written ≡ Some (start ++ text)
+    → IfOk outcome (IsAudit p (lines_of text)) → (ParseAsRun p (lines_of text) → IfErr outcome (λ fault. fault ≡ Memory))
     → MatchResult outcome (IsFoundAgain p entries done last left) (λ fault. fault ≡ Memory)
 found_of p entries noted cell done last left before after start text whole outcome written log same_entries so_far from to kept only =
-    let same : whole ≡ text = append_cancel_left start whole text (sym (appended before.output.taken after.output.taken start text whole from to written)) in
+    let same : whole ≡ text = append_cancel_left start whole text (sym (appended before.output.written after.output.written start text whole from to written)) in
     let is_log : IsLogOf p text (record { cell = cell; entries = noted }) = subst (λ (t : List ℕ). IsLogOf p t (record { cell = cell; entries = noted })) same log in
-    let tells : LinesTell p (lines_of text) entries = subst (LinesTell p (lines_of text)) same_entries is_log.tells in
+    let tells : LinesParse p (lines_of text) entries = subst (LinesParse p (lines_of text)) same_entries is_log.tells in
     let run : IsRun p (events_of entries) = subst (λ (es : List Entry). IsRun p (events_of es)) same_entries is_log.run in
     found_where p entries done last left text outcome tells so_far kept (only (entries, tells, run))
 
 pub an_audit_keeps_what_was_driven : AnAuditKeepsWhatWasDriven
-an_audit_keeps_what_was_driven v manner end before after start text outcome shaped is from to kept only =
+an_audit_keeps_what_was_driven v protocol end before after start text outcome shaped is from to kept only =
     let all = is.streamed.comes_to in
     let came_to = is.came_to in
     found_of v.planned end.log.entries is.end.log.entries is.end.control.cell end.done end.last end.left before after start text (all.text ++ all.closing) outcome all.written
-    (an_answer_text_is_a_log v.planned manner is.streamed.input (all.text ++ all.closing) (seen is.end) shaped (driven_text v manner end before after is))
+    (an_answer_text_is_a_log v.planned protocol is.streamed.input (all.text ++ all.closing) (seen is.end) shaped (driven_text v protocol end before after is))
     (ap (λ (l : Noted). l.entries) (sym came_to.log)) came_to.so_far from to kept only

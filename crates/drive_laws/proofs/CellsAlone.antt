@@ -52,7 +52,7 @@ other_not_on k line on is_line differ words other same is =
 stays : (p : PlannedShop) (prefix : List ℕ) (c : Cell) (number : ℕ) (report : Report) → IsOnCourse p c → (text : List ℕ) (events : List Entry) (next : Cell) → ReportAnswer p prefix c number report text events next → IsOnCourse p next
 stays p prefix c number report on text events next (inl is) = subst (IsOnCourse p) (sym is.next_is) on
 stays p prefix c number report on text events next (inr is) =
-    subst (IsOnCourse p) (sym is.next_is) (record { shaped = on.shaped; sound = after_step-sound p c report is.movers on.shaped on.sound is.step; rest = is.step.rest })
+    subst (IsOnCourse p) (sym is.next_is) (record { shaped = on.shaped; sound = after_step-sound p c report is.movers on.shaped on.sound is.step; rest = is.step.quiescent })
 
 keeps_in : (o : Option PlannedCell) (cells : List PlannedCell) (number : ℕ) (on : OnCell) (text : List ℕ) (end : List PlannedCell) → AreInRun cells → ((c : PlannedCell) → o ≡ Some c → IsInRun c)
     → IsAnsweredIn o cells number on text end → AreInRun end

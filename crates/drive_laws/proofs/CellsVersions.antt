@@ -14,12 +14,12 @@ use Rattle.shop_base.specs.Cell.{Cell}
 use Rattle.shop_base.specs.declared.report.Report as reports
 use Rattle.cell_drive.specs.Refusals.{refusal_word, refusal_detail}
 use Rattle.cell_drive.specs.ManyCells.{PlannedCell}
-use Rattle.cell_drive.specs.Stated.{RequestAnswer, taken_lines, tells_end, told_overdue}
-use Rattle.cell_drive.specs.StatedCells.{AsksOf, CellsStated, CellsTell, IsToldIn, OfCell}
+use Rattle.cell_drive.specs.ProtocolText.{RequestAnswer, acceptance_lines, prints_end, printed_overdue}
+use Rattle.cell_drive.specs.ProtocolCells.{AsksOf, ProtocolCellsAnswer, CellsReply, IsReplyIn, OfCell}
 use Rattle.drive_laws.specs.VersionsLaw.{in_version}
-use Rattle.drive_laws.specs.CellsVersionsLaw.{AsksInVersion1, AskInVersion1, IsPlainCellsText, nothing_more, refused, refused_by, taken_by, Version2OnlyAddsForCells}
+use Rattle.drive_laws.specs.CellsVersionsLaw.{AsksInVersion1, AskInVersion1, IsPlainCellsText, nothing_more, refused, refused_by, accepted_by, Version2OnlyAddsForCells}
 
-module _ (longest : Option ℕ) (from : ℕ) where
+module _ (max_gap : Option ℕ) (from : ℕ) where
   -- how texts go on behind both
   abbrev GoPlainlyOn : List ℕ → List ℕ → Type 0
   GoPlainlyOn text other = (more others : List ℕ) → IsPlainCellsText more others → IsPlainCellsText (text ++ more) (other ++ others)
@@ -27,25 +27,25 @@ module _ (longest : Option ℕ) (from : ℕ) where
   -- what version 1 answers to a report in place of a text
   record PlainAnswer (c : PlannedCell) (cell number : ℕ) (report : reports.Report) (text : List ℕ) (events : List Entry) (next : Cell) : Type 0 where
     other : List ℕ
-    answer : RequestAnswer c.plan.planned (in_version false longest from) (cell_prefix cell) c.cell number (ClaimRequest (Report report)) other events next
+    answer : RequestAnswer c.plan.planned (in_version false max_gap from) (cell_prefix cell) c.cell number (ClaimRequest (Report report)) other events next
     plain : GoPlainlyOn text other
 
   plain_answer : (c : PlannedCell) (cell number : ℕ) (report : reports.Report) (text : List ℕ) (events : List Entry) (next : Cell)
-      → RequestAnswer c.plan.planned (in_version true longest from) (cell_prefix cell) c.cell number (ClaimRequest (Report report)) text events next → PlainAnswer c cell number report text events next
+      → RequestAnswer c.plan.planned (in_version true max_gap from) (cell_prefix cell) c.cell number (ClaimRequest (Report report)) text events next → PlainAnswer c cell number report text events next
   plain_answer c cell number report text events next (inl is) = record {
     other = refused_line number (refusal_word is.refusal);
     answer = inl (record { refusal = is.refusal; first = is.first; text_is = refl; events_are = is.events_are; next_is = is.next_is });
     plain = λ more others rest. subst (λ (t : List ℕ). IsPlainCellsText (t ++ more) (refused_line number (refusal_word is.refusal) ++ others)) (sym is.text_is)
-        (refused_by cell number (refusal_word is.refusal) (refusal_detail (in_version true longest from) c.plan.planned c.cell report is.refusal) more others rest);
+        (refused_by cell number (refusal_word is.refusal) (refusal_detail (in_version true max_gap from) c.plan.planned c.cell report is.refusal) more others rest);
   }
   plain_answer c cell number report text events next (inr is) =
       let p = c.plan.planned in
       let orders = step_orders p c.cell report is.movers in
       record {
-        other = taken_lines (cell_prefix cell) report is.late None orders false;
-        answer = inr (record { taken = is.taken; movers = is.movers; step = is.step; late = is.late; late_is = is.late_is; text_is = refl; events_are = is.events_are; next_is = is.next_is });
-        plain = λ more others rest. subst (λ (t : List ℕ). IsPlainCellsText (t ++ more) (taken_lines (cell_prefix cell) report is.late None orders false ++ others)) (sym is.text_is)
-            (taken_by cell report is.late (told_overdue (in_version true longest from) p c.cell report) orders (tells_end (in_version true longest from) p next) more others rest);
+        other = acceptance_lines (cell_prefix cell) report is.late None orders false;
+        answer = inr (record { accepted = is.accepted; movers = is.movers; step = is.step; late = is.late; late_is = is.late_is; text_is = refl; events_are = is.events_are; next_is = is.next_is });
+        plain = λ more others rest. subst (λ (t : List ℕ). IsPlainCellsText (t ++ more) (acceptance_lines (cell_prefix cell) report is.late None orders false ++ others)) (sym is.text_is)
+            (accepted_by cell report is.late (printed_overdue (in_version true max_gap from) p c.cell report) orders (prints_end (in_version true max_gap from) p next) more others rest);
       }
 
   same_refusal : (number : ℕ) (name text : List ℕ) → text ≡ refused_line number name → GoPlainlyOn text (refused_line number name)
@@ -55,22 +55,22 @@ module _ (longest : Option ℕ) (from : ℕ) where
   -- so to a line
   record PlainLine (start : List PlannedCell) (number : ℕ) (line : Option (List ℕ)) (text : List ℕ) (end : List PlannedCell) : Type 0 where
     other : List ℕ
-    answers : CellsStated (in_version false longest from) start number line other end
+    answers : ProtocolCellsAnswer (in_version false max_gap from) start number line other end
     plain : GoPlainlyOn text other
 
-  plain_told : (o : Option PlannedCell) (cells : List PlannedCell) (number cell : ℕ) (report : reports.Report) (text : List ℕ) (end : List PlannedCell)
-      → IsToldIn (in_version true longest from) o cells number (record { cell = cell; request = ClaimRequest (Report report) }) text end
-      → (other : List ℕ) × IsToldIn (in_version false longest from) o cells number (record { cell = cell; request = ClaimRequest (Report report) }) other end × GoPlainlyOn text other
-  plain_told None cells number cell report text end is =
+  plain_replayed : (o : Option PlannedCell) (cells : List PlannedCell) (number cell : ℕ) (report : reports.Report) (text : List ℕ) (end : List PlannedCell)
+      → IsReplyIn (in_version true max_gap from) o cells number (record { cell = cell; request = ClaimRequest (Report report) }) text end
+      → (other : List ℕ) × IsReplyIn (in_version false max_gap from) o cells number (record { cell = cell; request = ClaimRequest (Report report) }) other end × GoPlainlyOn text other
+  plain_replayed None cells number cell report text end is =
       (refused_line number (codes "NoSuchCell"), record { text_is = refl; end_is = is.end_is }, same_refusal number (codes "NoSuchCell") text is.text_is)
-  plain_told (Some c) cells number cell report text end is =
+  plain_replayed (Some c) cells number cell report text end is =
       let one = plain_answer c cell number report text is.events is.next is.answer in
       (one.other, record { events = is.events; next = is.next; answer = one.answer; end_is = is.end_is }, one.plain)
 
   plain_report : (start : List PlannedCell) (number b : ℕ) (line : List ℕ) (cell : ℕ) (report : reports.Report) (text : List ℕ) (end : List PlannedCell) → IsCellRequest (b ∷ line) cell (ClaimRequest (Report report))
-      → CellsTell (in_version true longest from) start number (record { cell = cell; request = ClaimRequest (Report report) }) text end → PlainLine start number (Some (b ∷ line)) text end
+      → CellsReply (in_version true max_gap from) start number (record { cell = cell; request = ClaimRequest (Report report) }) text end → PlainLine start number (Some (b ∷ line)) text end
   plain_report start number b line cell report text end asked is =
-      let one = plain_told (slice_get start cell) start number cell report text end is in
+      let one = plain_replayed (slice_get start cell) start number cell report text end is in
       record {
         other = one.0;
         answers = inr (record { what = record { cell = cell; request = ClaimRequest (Report report) }; asked = asked; answer = one.1 });
@@ -78,10 +78,10 @@ module _ (longest : Option ℕ) (from : ℕ) where
       }
 
   plain_request : (start : List PlannedCell) (number b : ℕ) (line : List ℕ) (of : OfCell) (text : List ℕ) (end : List PlannedCell) (report : reports.Report) → of.request ≡ ClaimRequest (Report report)
-      → IsCellRequest (b ∷ line) of.cell of.request → CellsTell (in_version true longest from) start number of text end → PlainLine start number (Some (b ∷ line)) text end
+      → IsCellRequest (b ∷ line) of.cell of.request → CellsReply (in_version true max_gap from) start number of text end → PlainLine start number (Some (b ∷ line)) text end
   plain_request start number b line of text end report same asked is =
       plain_report start number b line of.cell report text end (subst (λ (r : Request). IsCellRequest (b ∷ line) of.cell r) same asked)
-      (subst (λ (r : Request). CellsTell (in_version true longest from) start number (record { cell = of.cell; request = r }) text end) same is)
+      (subst (λ (r : Request). CellsReply (in_version true max_gap from) start number (record { cell = of.cell; request = r }) text end) same is)
 
   nothing_asked : (line : List ℕ) → ((of : OfCell) → AsksOf true line of → ⊥) → (of : OfCell) → AsksOf false line of → ⊥
   nothing_asked line none of asked = by of.cell of.request asked
@@ -92,7 +92,7 @@ module _ (longest : Option ℕ) (from : ℕ) where
       by cell Status is = is
 
   plain_line : (start : List PlannedCell) (number : ℕ) (line : Option (List ℕ)) (text : List ℕ) (end : List PlannedCell) → AsksInVersion1 line
-      → CellsStated (in_version true longest from) start number line text end → PlainLine start number line text end
+      → ProtocolCellsAnswer (in_version true max_gap from) start number line text end → PlainLine start number line text end
   plain_line start number None text end of is = record {
     other = refused_line number (codes "LongLine");
     answers = record { text_is = refl; end_is = is.end_is };
@@ -112,8 +112,8 @@ module _ (longest : Option ℕ) (from : ℕ) where
       let report = of (b ∷ line) is.what.cell is.what.request refl is.asked in
       plain_request start number b line is.what text end report.0 report.1 is.asked is.answer
 
-  plain_lines : (lines : List (Option (List ℕ))) (number : ℕ) (text : List ℕ) (start end : List PlannedCell) → AskInVersion1 lines → AnswerAll (CellsStated (in_version true longest from)) start number lines text end
-      → (other : List ℕ) × AnswerAll (CellsStated (in_version false longest from)) start number lines other end × IsPlainCellsText text other
+  plain_lines : (lines : List (Option (List ℕ))) (number : ℕ) (text : List ℕ) (start end : List PlannedCell) → AskInVersion1 lines → AnswerAll (ProtocolCellsAnswer (in_version true max_gap from)) start number lines text end
+      → (other : List ℕ) × AnswerAll (ProtocolCellsAnswer (in_version false max_gap from)) start number lines other end × IsPlainCellsText text other
   plain_lines [] number text start end of all = ([], (refl, all.1), subst (λ (t : List ℕ). IsPlainCellsText t []) (sym all.0) nothing_more)
   plain_lines (line ∷ lines) number text start end of all =
       let one = plain_line start number line all.0 all.2 of.0 all.3 in
@@ -121,4 +121,4 @@ module _ (longest : Option ℕ) (from : ℕ) where
       (one.other ++ rest.0, (one.other, rest.0, all.2, one.answers, rest.1, refl), subst (λ (t : List ℕ). IsPlainCellsText t (one.other ++ rest.0)) (sym all.5) (one.plain all.1 rest.0 rest.2))
 
 pub version_2_only_adds_for_cells : Version2OnlyAddsForCells
-version_2_only_adds_for_cells longest from number lines text start end of all = plain_lines longest from lines number text start end of all
+version_2_only_adds_for_cells max_gap from number lines text start end of all = plain_lines max_gap from lines number text start end of all

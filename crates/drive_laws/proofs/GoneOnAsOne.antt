@@ -17,16 +17,16 @@ use Rattle.event_lines.proofs.Readings.{one_reading}
 use Rattle.cell_drive.specs.AnswerText.{DrivenCell}
 use Rattle.cell_drive.specs.CutLogs.{reported}
 use Rattle.cell_drive.specs.OneRun.{cell_after, IsRunOf}
-use Rattle.cell_drive.specs.TakenUp.{plan_of, told_in, cell_told, TakenUp}
+use Rattle.cell_drive.specs.Recovered.{plan_of, replayed_events, replayed_cell, Recovered}
 use Rattle.cell_drive.specs.Resuming.{driven_so_far}
-use Rattle.cell_drive.proofs.CutLogs.{AreLed, leads_join, run_of_leads, stated_answers_lead}
+use Rattle.cell_drive.proofs.CutLogs.{AreLed, leads_join, run_of_leads, protocol_answers_lead}
 use Rattle.cell_drive.proofs.CutRuns.{cut_of_run}
 use Rattle.cell_drive.proofs.OwnRuns.{own_run, run_of_own, due_events}
 use Rattle.cell_drive.proofs.Parts.{entries_moved}
 use Rattle.cell_drive.proofs.PromisesKept.{stays_as_promised}
-use Rattle.drive_laws.specs.AsOneLaw.{IsTakenUpByItsPlan, ItIsTakenUpAsOne, ItIsOneSoFar, ADrivenRunGoesOnAsOne, ItStaysAsPromised, TheFirstEventsHaveTheirOrders, WhatWasResumedHasItsOrders}
-use Rattle.drive_laws.proofs.Resumes.{taken_to_rest, what_was_resumed_is_taken_up}
-use Rattle.drive_laws.proofs.SettledCuts.{cut_settles, it_is_taken_up_with_its_orders}
+use Rattle.drive_laws.specs.AsOneLaw.{IsRecoveredByItsPlan, ItIsRecoveredAsOne, ItIsOneSoFar, ADrivenRunGoesOnAsOne, ItStaysAsPromised, TheFirstEventsHaveTheirOrders, WhatWasResumedHasItsOrders}
+use Rattle.drive_laws.proofs.Resumes.{recovered_to_rest, what_was_resumed_is_recovered}
+use Rattle.drive_laws.proofs.SettledCuts.{cut_settles, it_is_recovered_with_its_orders}
 
 -- events to which a controlled run leads on, behind its own
 run_behind : (p : PlannedShop) (entries more : List Entry) (reports : List Report) (end : Cell) → IsWellShaped p → IsRunOf p entries → Leads p (cell_after p entries) reports (events_of more) end → IsRunOf p (entries ++ more)
@@ -39,18 +39,18 @@ run_so_far : (p : PlannedShop) (entries : List Entry) (end : DrivenCell) → IsW
 run_so_far p entries end shaped run led = subst (IsRunOf p) (sym led.entries) (run_behind p entries led.more led.reports end.cell shaped run led.leads)
 
 pub it_is_one_so_far : ItIsOneSoFar
-it_is_one_so_far p manner entries number lines text end shaped run all = run_so_far p entries end shaped run (stated_answers_lead p manner lines (driven_so_far p entries) end number text all)
+it_is_one_so_far p protocol entries number lines text end shaped run all = run_so_far p entries end shaped run (protocol_answers_lead p protocol lines (driven_so_far p entries) end number text all)
 
 -- ---- taken up
 
-module _ (p : PlannedShop) (taken : TakenUp) (is : IsTakenUpByItsPlan p taken) where
+module _ (p : PlannedShop) (recovered : Recovered) (is : IsRecoveredByItsPlan p recovered) where
   shaped_there : IsWellShaped p
-  shaped_there = (taken_to_rest p is.lines None taken is.up).0
+  shaped_there = (recovered_to_rest p is.lines None recovered is.up).0
 
-  entries_there : taken.log.entries ≡ is.told ++ map OrderEntry is.due
+  entries_there : recovered.log.entries ≡ is.told ++ map OrderEntry is.due
   entries_there =
-      let with_orders = it_is_taken_up_with_its_orders p is.lines is.told is.due taken shaped_there is.log is.up in
-      is.up.taken_from.run.due ∙ ap₂ (λ (es : List Entry) (os : List MoveOrder). es ++ map OrderEntry os) with_orders.0 with_orders.1
+      let with_orders = it_is_recovered_with_its_orders p is.lines is.told is.due recovered shaped_there is.log is.up in
+      is.up.recovered_from.run.due ∙ ap₂ (λ (es : List Entry) (os : List MoveOrder). es ++ map OrderEntry os) with_orders.0 with_orders.1
 
   -- its log and the orders that were due
   abbrev whole : List Entry
@@ -59,52 +59,52 @@ module _ (p : PlannedShop) (taken : TakenUp) (is : IsTakenUpByItsPlan p taken) w
   one_there : IsRunOf p whole
   one_there = run_of_own p whole is.log.run
 
-  abbrev told_cell : Cell
-  told_cell = cell_after p is.told
+  abbrev replayed_end : Cell
+  replayed_end = cell_after p is.told
 
   -- it settles by these orders
-  settled_there : (js : List ℕ) → Settles p told_cell told_cell.last js → orders_for p told_cell told_cell.last js ≡ is.due
+  settled_there : (js : List ℕ) → Settles p replayed_end replayed_end.last js → orders_for p replayed_end replayed_end.last js ≡ is.due
   settled_there js settles =
       let reports : List Report = reported (events_of whole) in
       let leads : Leads p (start p) reports (events_of is.told ++ moved is.due) (cell_after p whole) =
       subst (λ es. Leads p (start p) reports es (cell_after p whole)) (due_events is.told is.due) is.log.run in
-      cut_settles p shaped_there (length (events_of is.told)) (start p) (cell_after p whole) reports (events_of is.told) is.due js (omega arith) (start-sound p shaped_there) (start_at_rest p) leads told_cell refl settles
+      cut_settles p shaped_there (length (events_of is.told)) (start p) (cell_after p whole) reports (events_of is.told) is.due js (omega arith) (start-sound p shaped_there) (start_at_rest p) leads replayed_end refl settles
 
   -- as one with what goes on from there
-  gone_on : (reports : List Report) (events : List Event) (end : Cell) → GoesOnTo p told_cell told_cell.last reports events end → (later : List Entry) → events_of later ≡ events → IsRunOf p (is.told ++ later)
+  gone_on : (reports : List Report) (events : List Event) (end : Cell) → GoesOnTo p replayed_end replayed_end.last reports events end → (later : List Entry) → events_of later ≡ events → IsRunOf p (is.told ++ later)
   gone_on _ _ _ (settled js reports events end settles leads) later same =
       let orders = settled_there js settles in
-      let there : cell_after p whole ≡ after_moves p told_cell told_cell.last js =
+      let there : cell_after p whole ≡ after_moves p replayed_end replayed_end.last js =
       ap (after_all p (start p)) (due_events is.told is.due) ∙ after_all_join p (start p) (events_of is.told) (moved is.due)
-      ∙ ap (λ (os : List MoveOrder). after_all p told_cell (moved os)) (sym orders) ∙ after_all-moves p told_cell told_cell.last js in
+      ∙ ap (λ (os : List MoveOrder). after_all p replayed_end (moved os)) (sym orders) ∙ after_all-moves p replayed_end replayed_end.last js in
       let (rest, split, behind) = entries_moved later is.due events (same ∙ ap (λ (os : List MoveOrder). moved os ++ events) orders) in
       let leads_on : Leads p (cell_after p whole) reports (events_of rest) end =
       subst (λ (c : Cell). Leads p c reports (events_of rest) end) (sym there)
-      (subst (λ es. Leads p (after_moves p told_cell told_cell.last js) reports es end) (sym behind) leads) in
+      (subst (λ es. Leads p (after_moves p replayed_end replayed_end.last js) reports es end) (sym behind) leads) in
       subst (IsRunOf p) (append_assoc is.told (map OrderEntry is.due) rest ∙ ap (λ (es : List Entry). is.told ++ es) (sym split))
       (run_behind p whole rest reports end shaped_there one_there leads_on)
 
-pub it_is_taken_up_as_one : ItIsTakenUpAsOne
-it_is_taken_up_as_one p taken is = subst (IsRunOf p) (sym (entries_there p taken is)) (one_there p taken is)
+pub it_is_recovered_as_one : ItIsRecoveredAsOne
+it_is_recovered_as_one p recovered is = subst (IsRunOf p) (sym (entries_there p recovered is)) (one_there p recovered is)
 
 pub a_driven_run_goes_on_as_one : ADrivenRunGoesOnAsOne
-a_driven_run_goes_on_as_one p taken end is on =
-    let from = is.up.taken_from in
-    let began = taken.control.began in
-    let last : Cell = cell_after (plan_of taken) end.log.entries in
+a_driven_run_goes_on_as_one p recovered end is on =
+    let from = is.up.recovered_from in
+    let began = recovered.control.began in
+    let last : Cell = cell_after (plan_of recovered) end.log.entries in
     let same : is.up.told ≡ is.told = one_reading p is.lines is.up.told is.told is.up.tells is.log.tells in
-    let told : told_in taken ≡ is.told = from.told_is ∙ same in
-    let here : cell_told taken ≡ cell_after p is.told = ap (λ (q : PlannedShop). cell_after q (told_in taken)) from.planned ∙ ap (cell_after p) told in
+    let told : replayed_events recovered ≡ is.told = from.replayed_is ∙ same in
+    let here : replayed_cell recovered ≡ cell_after p is.told = ap (λ (q : PlannedShop). cell_after q (replayed_events recovered)) from.planned ∙ ap (cell_after p) told in
     let now : began ≡ (cell_after p is.told).last = from.began ∙ ap (λ (es : List Entry). (cell_after p es).last) same in
     let goes_on : GoesOnTo p (cell_after p is.told) (cell_after p is.told).last on.reports (events_of on.later) last =
     subst (λ t. GoesOnTo p (cell_after p is.told) t on.reports (events_of on.later) last) now
     (subst (λ (c : Cell). GoesOnTo p c began on.reports (events_of on.later) last) here
-    (subst (λ (q : PlannedShop). GoesOnTo q (cell_told taken) began on.reports (events_of on.later) last) from.planned on.goes_on)) in
-    subst (IsRunOf p) (sym (on.whole ∙ ap (λ (es : List Entry). es ++ on.later) told)) (gone_on p taken is on.reports (events_of on.later) last goes_on on.later refl)
+    (subst (λ (q : PlannedShop). GoesOnTo q (replayed_cell recovered) began on.reports (events_of on.later) last) from.planned on.goes_on)) in
+    subst (IsRunOf p) (sym (on.whole ∙ ap (λ (es : List Entry). es ++ on.later) told)) (gone_on p recovered is on.reports (events_of on.later) last goes_on on.later refl)
 
 pub it_stays_as_promised : ItStaysAsPromised
-it_stays_as_promised v taken end verified is on =
-    let run = a_driven_run_goes_on_as_one v.planned taken end is on in
+it_stays_as_promised v recovered end verified is on =
+    let run = a_driven_run_goes_on_as_one v.planned recovered end is on in
     stays_as_promised v run.0 (events_of end.log.entries) (cell_after v.planned end.log.entries) verified run.1
 
 -- ---- cut again
@@ -130,9 +130,9 @@ the_first_events_have_their_orders p log entries shaped run from =
     }
 
 pub what_was_resumed_has_its_orders : WhatWasResumedHasItsOrders
-what_was_resumed_has_its_orders p manner taken lines answers closing cut lost end is are closes whole =
-    let entries = taken.log.entries in
-    let (shaped, run) = taken_to_rest p is.lines None taken is.up in
+what_was_resumed_has_its_orders p protocol recovered lines answers closing cut lost end is are closes whole =
+    let entries = recovered.log.entries in
+    let (shaped, run) = recovered_to_rest p is.lines None recovered is.up in
     the_first_events_have_their_orders p cut end.entries shaped
-    (run_so_far p entries end shaped (it_is_taken_up_as_one p taken is) (stated_answers_lead p manner lines (driven_so_far p entries) end 1 answers are))
-    (what_was_resumed_is_taken_up p manner entries taken.late lines answers closing cut lost end shaped run is.up.taken_from.run.within are closes whole)
+    (run_so_far p entries end shaped (it_is_recovered_as_one p recovered is) (protocol_answers_lead p protocol lines (driven_so_far p entries) end 1 answers are))
+    (what_was_resumed_is_recovered p protocol entries recovered.late lines answers closing cut lost end shaped run is.up.recovered_from.run.within are closes whole)

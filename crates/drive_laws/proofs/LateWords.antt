@@ -14,7 +14,7 @@ use Rattle.cell_tables.specs.Standings.{job_standing, machine_standing, outside_
 use Rattle.event_lines.specs.declared.details.Overdue.{Overdue}
 use Rattle.cell_drive.specs.Refusals.{standing_of}
 use Rattle.cell_drive.specs.States.{one_more, with_one, with_those, with_jobs, own_first}
-use Rattle.cell_drive.specs.StatedLaw.{ALateReportFindsSomethingOverdue}
+use Rattle.cell_drive.specs.ProtocolLaw.{ALateReportFindsSomethingOverdue}
 
 module _ (t : ℕ) where
   one_none : (is : Bool) (found : Option Overdue) (standing : Standing) → cond is (one_more found standing) found ≡ None → (found ≡ None) × (is ≡ false)

@@ -1,7 +1,7 @@
 -- The proofs of each law that has several clauses.
 use Rattle.cell_drive.proofs.CutLogs.{a_cut_log_has_its_orders}
 use Rattle.cell_drive.proofs.OneText.{one_answer_text, one_text_for_lines}
-use Rattle.cell_drive.proofs.RetoldLines.{retold_as_ever}
+use Rattle.cell_drive.proofs.ReplayLines.{plain_replay}
 use Rattle.cell_drive.proofs.Sessions.{a_session_answers_so}
 use Rattle.drive_laws.proofs.LeftOut.{only_clean_machines_are_left_out, only_gone_jobs_are_left_out}
 use Rattle.drive_laws.proofs.OrderedRightly.{nothing_is_ordered_wrongly}
@@ -9,11 +9,11 @@ use Rattle.drive_laws.proofs.PlainCells.{plainly_as_ever_for_cells}
 use Rattle.drive_laws.proofs.Plainly.{plainly_as_ever}
 use Rattle.drive_laws.proofs.Resumes.{what_was_driven_has_its_orders}
 use Rattle.drive_laws.proofs.SentTruly.{a_driven_cell_orders_rightly, a_run_that_goes_on_orders_rightly, each_cell_orders_rightly}
-use Rattle.drive_laws.proofs.SettledCuts.{it_can_be_taken_up, it_is_taken_up_with_its_orders}
+use Rattle.drive_laws.proofs.SettledCuts.{it_is_recoverable, it_is_recovered_with_its_orders}
 use Rattle.drive_laws.proofs.ShortLines.{late_lines_are_short, refusals_are_short, state_lines_are_short}
 use Rattle.drive_laws.proofs.ShortNumbers.{details_are_short, line_numbers_are_short, overdue_is_short, standings_are_short}
 
-pub ruleset of_a_cut_log_has_its_orders = (a_cut_log_has_its_orders, what_was_driven_has_its_orders, it_can_be_taken_up, it_is_taken_up_with_its_orders)
+pub ruleset of_a_cut_log_has_its_orders = (a_cut_log_has_its_orders, what_was_driven_has_its_orders, it_is_recoverable, it_is_recovered_with_its_orders)
 
 pub ruleset of_a_state_leaves_nothing_out = (only_gone_jobs_are_left_out, only_clean_machines_are_left_out)
 
@@ -23,4 +23,4 @@ pub ruleset of_nothing_is_ordered_wrongly = (nothing_is_ordered_wrongly, a_drive
 
 pub ruleset of_one_answer_text = (one_answer_text, one_text_for_lines, a_session_answers_so)
 
-pub ruleset of_plainly_as_ever = (plainly_as_ever, plainly_as_ever_for_cells, retold_as_ever)
+pub ruleset of_plainly_as_ever = (plainly_as_ever, plainly_as_ever_for_cells, plain_replay)

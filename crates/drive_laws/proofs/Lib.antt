@@ -1,14 +1,14 @@
 pub mod AuditKeeps
 pub mod CellsAlone
 pub mod SettledCuts
-pub mod OneTaking
+pub mod Recoveries
 pub mod AnsweredAgain
-pub mod ToldAsStated
+pub mod ReplayInProtocol
 pub mod LeftOut
 pub mod ShortLines
 pub mod Plainly
 pub mod Versions
-pub mod TakenOnce
+pub mod AcceptedOnce
 pub mod Resumes
 pub mod OrderedRightly
 pub mod SentTruly
@@ -16,7 +16,7 @@ pub mod OnlyAdds
 pub mod ResumedOnce
 pub mod LateWords
 pub mod PlainCells
-pub mod StatedAlone
+pub mod ProtocolAlone
 pub mod CellsVersions
 pub mod BegunByLast
 pub mod NoLeap

@@ -10,19 +10,19 @@ use Rattle.shop_base.proofs.Keeping.{run-sound}
 use Rattle.shop_base.proofs.Visits.{visits_job}
 use Rattle.cell_tables.specs.Events.{events_of}
 use Rattle.event_lines.specs.Requests.{claimed}
-use Rattle.cell_drive.specs.declared.manner.Manner.{Manner}
-use Rattle.cell_drive.specs.Manners.{leap_base, leaps, is_too_long}
+use Rattle.cell_drive.specs.declared.protocol.Protocol.{Protocol}
+use Rattle.cell_drive.specs.Protocols.{leap_base, leaps, is_too_long}
 use Rattle.cell_drive.specs.OneRun.{cell_after}
 use Rattle.drive_laws.specs.LeapLaw.{HasNoLongerTime, NoPunctualReportLeaps}
 use Rattle.drive_laws.proofs.BegunByLast.{AreBegunByLast, begun_in_run}
 use Rattle.cell_drive.proofs.Refusing.{can_report}
 
 -- whatever goes on is due so soon after the last moment
-due_soon : (p : PlannedShop) (c : Cell) (longest : ℕ) → IsSound p c → AreBegunByLast c → HasNoLongerTime p longest → (a : Activity) (due : ℕ) → GoesOn p c a due → due ≤ c.last + longest
-due_soon p c longest sound begun short (Arrival j) due is = omega (arith, is.is_due, short.releases j (outside_in_shop p c j sound is.outside))
-due_soon p c longest sound begun short (Operation j m) due (k, is) =
+due_soon : (p : PlannedShop) (c : Cell) (max_gap : ℕ) → IsSound p c → AreBegunByLast c → HasNoLongerTime p max_gap → (a : Activity) (due : ℕ) → GoesOn p c a due → due ≤ c.last + max_gap
+due_soon p c max_gap sound begun short (Arrival j) due is = omega (arith, is.is_due, short.releases j (outside_in_shop p c j sound is.outside))
+due_soon p c max_gap sound begun short (Operation j m) due (k, is) =
     omega (arith, is.is_due, sound.begun j, short.nominals j k (visits_job p j k m is.on.visits) is.on.visits.within)
-due_soon p c longest sound begun short (Cleaning m) due (s, is) =
+due_soon p c max_gap sound begun short (Cleaning m) due (s, is) =
     omega (arith, is.is_due, begun m s is.is_cleaned, short.cleanings m (cleaned_in_shop p c m s sound is.is_cleaned))
 
 -- a leap counts from the last moment or a later one
@@ -30,16 +30,16 @@ counted_from : (last from : ℕ) (is : Bool) → nat_lt last from ≡ is → las
 counted_from last from true is = omega (arith, ltb-true last from is)
 counted_from last from false is = omega arith
 
-no_leap : (manner : Manner) (longest last at : ℕ) → manner.longest ≡ Some longest → at ≤ last + longest → leaps manner last at ≡ false
-no_leap manner longest last at is soon =
-    let base = leap_base manner last in
-    let from : last ≤ base = counted_from last manner.from (nat_lt last manner.from) refl in
-    ap (λ (o : Option ℕ). is_too_long o (at - base)) is ∙ le-ltb longest (at - base) (omega (arith, from, soon))
+no_leap : (protocol : Protocol) (max_gap last at : ℕ) → protocol.max_gap ≡ Some max_gap → at ≤ last + max_gap → leaps protocol last at ≡ false
+no_leap protocol max_gap last at is soon =
+    let base = leap_base protocol last in
+    let from : last ≤ base = counted_from last protocol.from (nat_lt last protocol.from) refl in
+    ap (λ (o : Option ℕ). is_too_long o (at - base)) is ∙ le-ltb max_gap (at - base) (omega (arith, from, soon))
 
 pub no_punctual_report_leaps : NoPunctualReportLeaps
-no_punctual_report_leaps p manner longest entries claim shaped is short run can punctual =
+no_punctual_report_leaps p protocol max_gap entries claim shaped is short run can punctual =
     let c = cell_after p entries in
     let r = claimed claim in
     let going = (can_report p c claim can).going in
-    let soon = due_soon p c longest (run-sound p (events_of entries) shaped run) (begun_in_run p shaped (events_of entries) run) short (ended r) going.0 going.1 in
-    (can, no_leap manner longest c.last (at r) is (omega (arith, soon, punctual (ended r) going.0 going.1)))
+    let soon = due_soon p c max_gap (run-sound p (events_of entries) shaped run) (begun_in_run p shaped (events_of entries) run) short (ended r) going.0 going.1 in
+    (can, no_leap protocol max_gap c.last (at r) is (omega (arith, soon, punctual (ended r) going.0 going.1)))

@@ -12,7 +12,7 @@ use Rattle.shop_base.specs.Report.{ended, at, CanReport, after_end, after_report
 use Rattle.shop_base.specs.Move.{spot_after, source, CanObey, after_move}
 use Rattle.shop_base.specs.Run.{Event, Reported, Moved, CanHappen, AreEvents, after, after_all}
 use Rattle.shop_base.specs.Sound.{IsSound}
-use Rattle.shop_base.specs.AgainLaw.{HasLeft}
+use Rattle.shop_base.specs.AtMostOnceLaw.{HasLeft}
 use Rattle.shop_base.proofs.Changes.{IsMoved, after_move-moved, with_ready-readied, with_clean-tidied, moves_within}
 use Rattle.shop_base.proofs.Keeping.{after_report-like, after-sound, after_all-sound, start-sound, target_free}
 use Rattle.shop_base.proofs.CellFacts.{source_on, source_outside, after_report-last}
@@ -21,10 +21,10 @@ use Rattle.shop_base.proofs.LowerBounds.{events_split}
 use Rattle.shop_base.proofs.InShop.{outside_in_shop}
 use Rattle.shop_base.proofs.Visits.{visits_job, visits_once, visits-stands}
 use Rattle.cell_tables.specs.Readings.{IsCleanedAfter}
-use Rattle.cell_control.specs.OnceLaw.{NamedEnd, Arrived, Finished, Cleaned, Tells}
+use Rattle.cell_control.specs.OnceLaw.{NamedEnd, Arrived, Finished, Cleaned, ReportsEnd}
 use Rattle.cell_control.proofs.Seats.{on_source}
 use Rattle.run_log.proofs.PossibleEntries.{obeyed_target}
-use Rattle.drive_laws.specs.FloorLaw.{Floor, HasEndedBy, end_at, IsRight, TellsTruth, TellTruth, NothingIsOrderedWrongly}
+use Rattle.drive_laws.specs.FloorLaw.{Floor, HasEndedBy, end_at, IsRight, IsTrueReport, AreTrue, NothingIsOrderedWrongly}
 
 -- where the next move of a job begins depends on how many it has made
 same_source : (p : PlannedShop) (c new : Cell) (j : ℕ) → made new j ≡ made c j → source p new j ≡ source p c j
@@ -63,19 +63,19 @@ module _ (floor : Floor) (p : PlannedShop) (shaped : IsWellShaped p) where
   ended_own c (Cleaning m) due t j sound goes idle now = absurd (false≢true (sym idle ∙ now))
 
   -- which is what a report of it tells
-  own_told : (c : Cell) (r : Report) (what : NamedEnd) (j : ℕ) → Tells p c r what → IsOwn c j (ended r) → what ≡ end_at j (source p c j)
-  own_told c r (Arrived i) j tells (inl (is, out)) = let same : i ≡ j = cc in ap Arrived same ∙ ap (end_at j) (sym out)
-  own_told c r (Arrived i) j tells (inr (m, is, at)) = absurd (cc)
-  own_told c r (Finished i n) j tells (inl (is, out)) = absurd (cc)
-  own_told c r (Finished i n) j tells (inr (m, is, at)) = let same : Finished i n ≡ Finished j m = cc in same ∙ ap (end_at j) (sym at)
-  own_told c r (Cleaned n i) j (tells, cleaned) (inl (is, out)) = absurd (cc)
-  own_told c r (Cleaned n i) j (tells, cleaned) (inr (m, is, at)) = absurd (cc)
+  own_replayed : (c : Cell) (r : Report) (what : NamedEnd) (j : ℕ) → ReportsEnd p c r what → IsOwn c j (ended r) → what ≡ end_at j (source p c j)
+  own_replayed c r (Arrived i) j tells (inl (is, out)) = let same : i ≡ j = cc in ap Arrived same ∙ ap (end_at j) (sym out)
+  own_replayed c r (Arrived i) j tells (inr (m, is, at)) = absurd (cc)
+  own_replayed c r (Finished i n) j tells (inl (is, out)) = absurd (cc)
+  own_replayed c r (Finished i n) j tells (inr (m, is, at)) = let same : Finished i n ≡ Finished j m = cc in same ∙ ap (end_at j) (sym at)
+  own_replayed c r (Cleaned n i) j (tells, cleaned) (inl (is, out)) = absurd (cc)
+  own_replayed c r (Cleaned n i) j (tells, cleaned) (inr (m, is, at)) = absurd (cc)
 
   -- of each ready job it has ended
   abbrev IsKnown : Cell → Type 0
   IsKnown c = (j : ℕ) → ready c j ≡ true → HasEndedBy floor (end_at j (source p c j)) c.last
 
-  known_report : (c : Cell) (r : Report) → IsSound p c → CanReport p c r → TellsTruth floor p c r → IsKnown c → IsKnown (after_report c r)
+  known_report : (c : Cell) (r : Report) → IsSound p c → CanReport p c r → IsTrueReport floor p c r → IsKnown c → IsKnown (after_report c r)
   known_report c r sound can (what, tells, by) known j now =
       let new = after_report c r in
       let same : source p new j ≡ source p c j = same_source p c new j ((after_report-like p c r sound can).made_same j) in
@@ -85,7 +85,7 @@ module _ (floor : Floor) (p : PlannedShop) (shaped : IsWellShaped p) where
       go : (ready c j ≡ true) ⊎ (ready c j ≡ false) → HasEndedBy floor (end_at j (source p c j)) (at r)
       go (inl was) = later_by (end_at j (source p c j)) c.last (at r) can.moment.in_order (known j was)
       go (inr idle) =
-          subst (λ e. HasEndedBy floor e (at r)) (own_told c r what j tells (ended_own c (ended r) can.going.0 (at r) j sound can.going.1 idle now)) by
+          subst (λ e. HasEndedBy floor e (at r)) (own_replayed c r what j tells (ended_own c (ended r) can.going.0 (at r) j sound can.going.1 idle now)) by
 
   known_move : (c : Cell) (o : MoveOrder) → IsSound p c → CanObey p c o → IsKnown c → IsKnown (after_move p c o.job o.at)
   known_move c o sound can known j now = go (cases_eq j o.job)
@@ -104,7 +104,7 @@ module _ (floor : Floor) (p : PlannedShop) (shaped : IsWellShaped p) where
           subst (λ s. HasEndedBy floor (end_at j s) new.last) (sym same)
           (later_by (end_at j (source p c j)) c.last new.last can.can.moment.in_order (known j (sym (ap (λ (x : JobState). x.ready) was) ∙ now)))
 
-  known_events : (c : Cell) (es : List Event) → IsSound p c → AreEvents p c es → TellTruth floor p c es → IsKnown c → IsKnown (after_all p c es)
+  known_events : (c : Cell) (es : List Event) → IsSound p c → AreEvents p c es → AreTrue floor p c es → IsKnown c → IsKnown (after_all p c es)
   known_events c [] sound events truth known = known
   known_events c (Reported r ∷ es) sound events truth known =
       known_events (after_report c r) es (after-sound p c (Reported r) shaped sound events.0) events.1 truth.1 (known_report c r sound events.0 truth.0 known)
@@ -118,14 +118,14 @@ module _ (floor : Floor) (p : PlannedShop) (shaped : IsWellShaped p) where
     abbrev IsCleanedSince : Cell → Type 0
     IsCleanedSince c = IsCleanedAfter p c m j ⊎ HasEndedBy floor (Cleaned m j) c.last
 
-    cleaned_report : (c : Cell) (r : Report) → IsSound p c → CanReport p c r → TellsTruth floor p c r → IsCleanedSince c → IsCleanedSince (after_report c r)
+    cleaned_report : (c : Cell) (r : Report) → IsSound p c → CanReport p c r → IsTrueReport floor p c r → IsCleanedSince c → IsCleanedSince (after_report c r)
     cleaned_report c r sound can truth (inr by) = inr (later_by (Cleaned m j) c.last (after_report c r).last (last_grows c (Reported r) can) by)
     cleaned_report c r sound can (what, tells, by) (inl was) = go what tells by
       where
         of : Activity → Type 0
         of a = IsCleanedSince (after_end c a (at r))
 
-        go : (e : NamedEnd) → Tells p c r e → HasEndedBy floor e (at r) → of (ended r)
+        go : (e : NamedEnd) → ReportsEnd p c r e → HasEndedBy floor e (at r) → of (ended r)
         go (Arrived i) is by = subst of (sym is) (inl (record { from = was.from; is_cleaned = was.is_cleaned; last_in = was.last_in }))
         go (Finished i n) is by = subst of (sym is) (inl (record { from = was.from; is_cleaned = was.is_cleaned; last_in = was.last_in }))
         go (Cleaned n i) (is, other) by = subst of (sym is) (elim (cases_eq m n) [
@@ -156,7 +156,7 @@ module _ (floor : Floor) (p : PlannedShop) (shaped : IsWellShaped p) where
         off : Visits p o.job (made c o.job) m → ⊥
         off visits = let none = (target_free p c o.job o.at m can.can visits).1 in let some = was.is_cleaned in cc
 
-    cleaned_events : (c : Cell) (es : List Event) → IsSound p c → AreEvents p c es → TellTruth floor p c es → IsCleanedSince c → IsCleanedSince (after_all p c es)
+    cleaned_events : (c : Cell) (es : List Event) → IsSound p c → AreEvents p c es → AreTrue floor p c es → IsCleanedSince c → IsCleanedSince (after_all p c es)
     cleaned_events c [] sound events truth was = was
     cleaned_events c (Reported r ∷ es) sound events truth was =
         cleaned_events (after_report c r) es (after-sound p c (Reported r) shaped sound events.0) events.1 truth.1 (cleaned_report c r sound events.0 truth.0 was)
@@ -213,7 +213,7 @@ module _ (floor : Floor) (p : PlannedShop) (shaped : IsWellShaped p) where
 
   -- ---- an order, and an earlier one
 
-  truth_split : (c : Cell) (es fs : List Event) → TellTruth floor p c (es ++ fs) → TellTruth floor p c es × TellTruth floor p (after_all p c es) fs
+  truth_split : (c : Cell) (es fs : List Event) → AreTrue floor p c (es ++ fs) → AreTrue floor p c es × AreTrue floor p (after_all p c es) fs
   truth_split c [] fs truth = (tt, truth)
   truth_split c (Reported r ∷ es) fs truth = let (front, back) = truth_split (after_report c r) es fs truth.1 in ((truth.0, front), back)
   truth_split c (Moved o ∷ es) fs truth = truth_split (after_move p c o.job o.at) es fs truth
@@ -251,7 +251,7 @@ module _ (floor : Floor) (p : PlannedShop) (shaped : IsWellShaped p) where
           | inr left ↦ left
         ]
 
-    comes_clean : TellTruth floor p (start p) (before ++ Moved earlier ∷ between) → earlier.source ≡ At m → 0 < clean p m → HasEndedBy floor (Cleaned m earlier.job) o.at
+    comes_clean : AreTrue floor p (start p) (before ++ Moved earlier ∷ between) → earlier.source ≡ At m → 0 < clean p m → HasEndedBy floor (Cleaned m earlier.job) o.at
     comes_clean truth from timed =
         elim (cleaned_events m earlier.job next between next_sound parts.1.1 (truth_split (start p) before (Moved earlier ∷ between) truth).1
         (inl (cleaning_begins c earlier m sound parts.1.0.0 from timed))) [
@@ -259,14 +259,14 @@ module _ (floor : Floor) (p : PlannedShop) (shaped : IsWellShaped p) where
           | inr by ↦ later_by (Cleaned m earlier.job) end.last o.at there.can.moment.in_order by
         ]
 
-  right_behind : (before later : List Event) (o : MoveOrder) → AreEvents p (start p) (before ++ Moved o ∷ later) → TellTruth floor p (start p) (before ++ Moved o ∷ later) → IsRight floor p before o
+  right_behind : (before later : List Event) (o : MoveOrder) → AreEvents p (start p) (before ++ Moved o ∷ later) → AreTrue floor p (start p) (before ++ Moved o ∷ later) → IsRight floor p before o
   right_behind before later o events truth = record {
     own = subst (λ s. HasEndedBy floor (end_at o.job s) o.at) (sym (ap (λ (q : MoveOrder). q.source) can.is_move))
         (later_by (end_at o.job (source p c o.job)) c.last o.at can.can.moment.in_order (known o.job can.can.is_ready));
     free = λ m first between earlier is to came. comes_free first between earlier o m (subst (AreEvents p (start p)) is parts.0) (subst (λ es. CanObey p (after_all p (start p) es) o) is can) to came;
     cleaned = λ m first between earlier is to from timed.
         comes_clean first between earlier o m (subst (AreEvents p (start p)) is parts.0) (subst (λ es. CanObey p (after_all p (start p) es) o) is can) to
-        (subst (TellTruth floor p (start p)) is truths.0) from timed;
+        (subst (AreTrue floor p (start p)) is truths.0) from timed;
   }
     where
       c : Cell
@@ -275,7 +275,7 @@ module _ (floor : Floor) (p : PlannedShop) (shaped : IsWellShaped p) where
       parts : AreEvents p (start p) before × AreEvents p c (Moved o ∷ later)
       parts = events_split p (start p) before (Moved o ∷ later) events
 
-      truths : TellTruth floor p (start p) before × TellTruth floor p c (Moved o ∷ later)
+      truths : AreTrue floor p (start p) before × AreTrue floor p c (Moved o ∷ later)
       truths = truth_split (start p) before (Moved o ∷ later) truth
 
       can : CanObey p c o
@@ -285,4 +285,4 @@ module _ (floor : Floor) (p : PlannedShop) (shaped : IsWellShaped p) where
       known = known_events (start p) before (start-sound p shaped) parts.0 truths.0 (λ j now. absurd (false≢true (sym (start_not_ready p j) ∙ now)))
 
 pub nothing_is_ordered_wrongly : NothingIsOrderedWrongly
-nothing_is_ordered_wrongly floor p es shaped run truth before later o is = right_behind floor p shaped before later o (subst (AreEvents p (start p)) is run) (subst (TellTruth floor p (start p)) is truth)
+nothing_is_ordered_wrongly floor p es shaped run truth before later o is = right_behind floor p shaped before later o (subst (AreEvents p (start p)) is run) (subst (AreTrue floor p (start p)) is truth)

@@ -6,19 +6,19 @@ use Rattle.event_lines.specs.SentLines.{cell_prefix}
 use Rattle.event_lines.specs.declared.requests.Claim.TheVariants.{Report, CleanAfter}
 use Rattle.event_lines.specs.declared.requests.Request.{Request}
 use Rattle.event_lines.specs.declared.requests.Request.TheVariants.{Claim as ClaimRequest, Status}
-use Rattle.cell_drive.specs.Manners.{plain_from}
+use Rattle.cell_drive.specs.Protocols.{plain_from}
 use Rattle.cell_drive.specs.LineAnswers.{IsAsked}
 use Rattle.cell_drive.specs.ManyCells.{PlannedCell, IsOnCell, IsAnsweredIn, CellsReport, CellsAnswer}
-use Rattle.cell_drive.specs.StatedCells.{AsksCell, IsToldIn, CellsTell, CellsStated}
-use Rattle.cell_drive.specs.StatedCellsLaw.{PlainlyAsEverForCells}
+use Rattle.cell_drive.specs.ProtocolCells.{AsksCell, IsReplyIn, CellsReply, ProtocolCellsAnswer}
+use Rattle.cell_drive.specs.ProtocolCellsLaw.{PlainlyAsEverForCells}
 use Rattle.drive_laws.proofs.Plainly.{plain_report}
 
 module _ (from : ℕ) where
-  plain_told : (o : Option PlannedCell) (cells : List PlannedCell) (number cell : ℕ) (report : reports.Report) (text : List ℕ) (end : List PlannedCell)
-      → IsToldIn (plain_from from) o cells number (record { cell = cell; request = ClaimRequest (Report report) }) text end
+  plain_replayed : (o : Option PlannedCell) (cells : List PlannedCell) (number cell : ℕ) (report : reports.Report) (text : List ℕ) (end : List PlannedCell)
+      → IsReplyIn (plain_from from) o cells number (record { cell = cell; request = ClaimRequest (Report report) }) text end
       → IsAnsweredIn o cells number (record { cell = cell; report = report }) text end
-  plain_told None cells number cell report text end is = is
-  plain_told (Some c) cells number cell report text end is = record {
+  plain_replayed None cells number cell report text end is = is
+  plain_replayed (Some c) cells number cell report text end is = record {
     events = is.events;
     next = is.next;
     answer = plain_report c.plan.planned from (cell_prefix cell) c.cell number report text is.events is.next is.answer;
@@ -26,17 +26,17 @@ module _ (from : ℕ) where
   }
 
   plain_asked : (start : List PlannedCell) (number : ℕ) (line : List ℕ) (cell : ℕ) (request : Request) (text : List ℕ) (end : List PlannedCell) → AsksCell false line cell request
-      → CellsTell (plain_from from) start number (record { cell = cell; request = request }) text end → IsAsked IsOnCell CellsReport line start number text end
+      → CellsReply (plain_from from) start number (record { cell = cell; request = request }) text end → IsAsked IsOnCell CellsReport line start number text end
   plain_asked start number line cell (ClaimRequest (Report report)) text end asked is = record {
     what = record { cell = cell; report = report };
     asked = asked;
-    answer = plain_told (slice_get start cell) start number cell report text end is;
+    answer = plain_replayed (slice_get start cell) start number cell report text end is;
   }
   plain_asked start number line cell (ClaimRequest (CleanAfter machine job at)) text end asked is = absurd asked
   plain_asked start number line cell Status text end asked is = absurd asked
 
   plain_line : (start : List PlannedCell) (number : ℕ) (line : Option (List ℕ)) (text : List ℕ) (end : List PlannedCell)
-      → CellsStated (plain_from from) start number line text end → CellsAnswer start number line text end
+      → ProtocolCellsAnswer (plain_from from) start number line text end → CellsAnswer start number line text end
   plain_line start number None text end is = is
   plain_line start number (Some []) text end is = is
   plain_line start number (Some (b ∷ line)) text end (inl is) = inl ((λ on asked. is.0 (record { cell = on.cell; request = ClaimRequest (Report on.report) }) asked), is.1)

@@ -19,12 +19,12 @@ use Rattle.event_lines.specs.declared.requests.Request.{Request}
 use Rattle.event_lines.specs.declared.requests.Request.TheVariants.{Claim as ClaimRequest, Status}
 use Rattle.cell_drive.specs.declared.refusals.Refusal.{Refusal}
 use Rattle.cell_drive.specs.declared.refusals.Refusal.TheVariants.{Reason}
-use Rattle.cell_drive.specs.Manners.{plain_from}
+use Rattle.cell_drive.specs.Protocols.{plain_from}
 use Rattle.cell_drive.specs.Refusals.{IsRefusal, refusal_word, is_before_leap}
 use Rattle.cell_drive.specs.LineAnswers.{IsAsked, ReportAnswer}
 use Rattle.cell_drive.specs.AnswerText.{DrivenCell, CellReports, CellAnswers}
-use Rattle.cell_drive.specs.Stated.{AsksFor, CellRequests, RequestAnswer, StatedAnswers}
-use Rattle.cell_drive.specs.StatedLaw.{PlainlyAsEver}
+use Rattle.cell_drive.specs.ProtocolText.{AsksFor, CellRequests, RequestAnswer, ProtocolAnswers}
+use Rattle.cell_drive.specs.ProtocolLaw.{PlainlyAsEver}
 
 either_way : (before : Bool) (reason : ReportFault) → cond before (Reason reason) (Reason reason) ≡ Reason reason
 either_way true reason = refl
@@ -71,7 +71,7 @@ module _ (p : PlannedShop) (from : ℕ) where
   plain_request before number line Status text end asked is = absurd asked
 
   pub plain_line : (before : DrivenCell) (number : ℕ) (line : Option (List ℕ)) (text : List ℕ) (end : DrivenCell)
-      → StatedAnswers p (plain_from from) before number line text end → CellAnswers p before number line text end
+      → ProtocolAnswers p (plain_from from) before number line text end → CellAnswers p before number line text end
   plain_line before number None text end is = is
   plain_line before number (Some []) text end is = is
   plain_line before number (Some (b ∷ line)) text end (inl is) = inl ((λ report asked. is.0 (ClaimRequest (Report report)) asked), is.1)

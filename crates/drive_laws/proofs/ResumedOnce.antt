@@ -11,11 +11,11 @@ use Rattle.event_lines.specs.Requests.{claimed}
 use Rattle.cell_drive.specs.Refusals.{CanClaim}
 use Rattle.cell_drive.specs.OneRun.{cell_after}
 use Rattle.cell_drive.specs.Resuming.{driven_so_far}
-use Rattle.cell_drive.specs.StatedLaw.{NothingOfARunIsClaimedAgain}
-use Rattle.drive_laws.specs.ResumedLaw.{NothingOfALogIsTakenAgain}
+use Rattle.cell_drive.specs.ProtocolLaw.{NothingOfARunIsClaimedAgain}
+use Rattle.drive_laws.specs.ResumedLaw.{NothingOfALogIsAcceptedAgain}
 use Rattle.cell_drive.proofs.Refusing.{can_report}
 use Rattle.drive_laws.proofs.Resumes.{rests_on_course}
-use Rattle.drive_laws.proofs.TakenOnce.{tells_named, told}
+use Rattle.drive_laws.proofs.AcceptedOnce.{ends_named, told}
 
 pub nothing_of_a_run_is_claimed_again : NothingOfARunIsClaimedAgain
 nothing_of_a_run_is_claimed_again p before after report again ended shaped run tells names can =
@@ -23,13 +23,13 @@ nothing_of_a_run_is_claimed_again p before after report again ended shaped run t
     let can_then : CanClaim p (after_all p (start p) (events_of before ++ Reported report ∷ events_of after)) again =
     subst (λ (es : List Event). CanClaim p (after_all p (start p) es) again) whole can in
     once p (events_of before) (events_of after) report (claimed again) ended shaped (subst (IsRun p) whole run) tells
-    (tells_named p (after_all p (start p) (events_of before ++ Reported report ∷ events_of after)) again ended names can_then)
+    (ends_named p (after_all p (start p) (events_of before ++ Reported report ∷ events_of after)) again ended names can_then)
     (can_report p (after_all p (start p) (events_of before ++ Reported report ∷ events_of after)) again can_then)
 
-pub nothing_of_a_log_is_taken_again : NothingOfALogIsTakenAgain
-nothing_of_a_log_is_taken_again p manner before after report lines number text end again ended shaped run tells answered names can =
+pub nothing_of_a_log_is_accepted_again : NothingOfALogIsAcceptedAgain
+nothing_of_a_log_is_accepted_again p protocol before after report lines number text end again ended shaped run tells answered names can =
     let entries = before ++ ReportEntry report ∷ after in
-    let further = told p manner shaped lines (driven_so_far p entries) end number text (rests_on_course p entries shaped run) answered in
+    let further = told p protocol shaped lines (driven_so_far p entries) end number text (rests_on_course p entries shaped run) answered in
     let all = before ++ ReportEntry report ∷ (after ++ further.more) in
     let parts : entries ++ further.more ≡ all = append_assoc before (ReportEntry report ∷ after) further.more in
     let joined : events_of entries ++ events_of further.more ≡ events_of all = sym (events-join entries further.more) ∙ ap events_of parts in

@@ -18,19 +18,19 @@ use Rattle.event_lines.specs.declared.requests.Claim.{Claim}
 use Rattle.event_lines.specs.declared.requests.Request.{Request}
 use Rattle.event_lines.specs.declared.requests.Request.TheVariants.{Claim as ClaimRequest, Status}
 use Rattle.event_lines.proofs.Readings.{some_line}
-use Rattle.cell_drive.specs.declared.manner.Manner.{Manner}
+use Rattle.cell_drive.specs.declared.protocol.Protocol.{Protocol}
 use Rattle.cell_drive.specs.declared.refusals.Refusal.{Refusal}
 use Rattle.cell_drive.specs.declared.refusals.Refusal.TheVariants.{Reason, Leap}
 use Rattle.cell_drive.specs.AnswerText.{DrivenCell, CellReports, CellAnswers}
 use Rattle.cell_drive.specs.LineAnswers.{accepted_lines}
 use Rattle.cell_drive.specs.Refusals.{refusal_word, refusal_detail}
-use Rattle.cell_drive.specs.Stated.{IsClaimTaken, RequestAnswer, StatedAnswers, told_overdue, tells_end}
-use Rattle.cell_drive.specs.StatedCellsLaw.{SeesLines, none_left, asked, passed_over}
+use Rattle.cell_drive.specs.ProtocolText.{IsClaimAccepted, RequestAnswer, ProtocolAnswers, printed_overdue, prints_end}
+use Rattle.cell_drive.specs.ProtocolCellsLaw.{SeesLines, none_left, asked, passed_over}
 use Rattle.cell_drive.proofs.LineAnswers.{asked_line}
 use Rattle.cell_drive.proofs.ReadBack.{name_spaceless}
 use Rattle.cell_drive.proofs.Replied.{no_prefix}
 use Rattle.drive_laws.specs.AnswerLaw.{AreReportLines}
-use Rattle.drive_laws.specs.SameReportsLaw.{KeepsReports, nothing_more, refused, state, taken, TheSameReportsAreAnsweredSo, TheSameReportsOfACell}
+use Rattle.drive_laws.specs.SameReportsLaw.{KeepsReports, nothing_more, refused, state, accepted, TheSameReportsAreAnsweredSo, TheSameReportsOfACell}
 
 word_spaceless : (refusal : Refusal) → IsSpaceless (refusal_word refusal)
 word_spaceless (Reason reason) = name_spaceless reason
@@ -41,7 +41,7 @@ reports_behind : (orders : List MoveOrder) (later : List Entry) (reports : List 
 reports_behind [] later reports are = are
 reports_behind (o ∷ orders) later reports are = reports_behind orders later reports are
 
-module _ (p : PlannedShop) (manner : Manner) where
+module _ (p : PlannedShop) (protocol : Protocol) where
   -- version 1 answers the lines by a text that is so
   abbrev AnswersBy : (List ℕ → Type 0) → DrivenCell → ℕ → List (Option (List ℕ)) → DrivenCell → Type 0
   AnswersBy is_so before number reports end = (other : List ℕ) × AnswerAll (CellAnswers p) before number reports other end × is_so other
@@ -49,9 +49,9 @@ module _ (p : PlannedShop) (manner : Manner) where
   abbrev driven_to : Cell → List Entry → DrivenCell
   driven_to c entries = record { cell = c; entries = entries }
 
-  -- ---- a claim that is taken
+  -- ---- a claim that is accepted
 
-  module _ (prefix : List ℕ) (before next : DrivenCell) (claim : Claim) (text : List ℕ) (events : List Entry) (is : IsClaimTaken p manner prefix before.cell claim text events next.cell) (entries : next.entries ≡ before.entries ++ events) where
+  module _ (prefix : List ℕ) (before next : DrivenCell) (claim : Claim) (text : List ℕ) (events : List Entry) (is : IsClaimAccepted p protocol prefix before.cell claim text events next.cell) (entries : next.entries ≡ before.entries ++ events) where
     abbrev orders_then : List MoveOrder
     orders_then = step_orders p before.cell (claimed claim) is.movers
 
@@ -86,7 +86,7 @@ module _ (p : PlannedShop) (manner : Manner) where
     entries : end.entries ≡ before.entries ++ more
     same : (number : ℕ) (reports : List (Option (List ℕ))) → AreReportLines reports more → AnswersBy (KeepsReports p text) before number reports end
 
-  -- nothing is taken
+  -- nothing is accepted
   passed : (before next end : DrivenCell) (text rest : List ℕ) → next ≡ before → ((other : List ℕ) → KeepsReports p rest other → KeepsReports p (text ++ rest) other) → HasTheSame next end rest → HasTheSame before end (text ++ rest)
   passed before next end text rest unmoved keeps on =
       let here : HasTheSame before end rest = subst (λ (d : DrivenCell). HasTheSame d end rest) unmoved on in
@@ -100,12 +100,12 @@ module _ (p : PlannedShop) (manner : Manner) where
   no_events before next events none cell entries =
       ap₂ (λ (c : Cell) (es : List Entry). let d : DrivenCell = record { cell = c; entries = es } in d) cell (entries ∙ ap (λ (es : List Entry). before.entries ++ es) none ∙ append-nil before.entries)
 
-  request_passed : (before next end : DrivenCell) (number : ℕ) (request : Request) (text : List ℕ) (events : List Entry) (rest : List ℕ) → RequestAnswer p manner [] before.cell number request text events next.cell
+  request_passed : (before next end : DrivenCell) (number : ℕ) (request : Request) (text : List ℕ) (events : List Entry) (rest : List ℕ) → RequestAnswer p protocol [] before.cell number request text events next.cell
       → next.entries ≡ before.entries ++ events → HasTheSame next end rest → HasTheSame before end (text ++ rest)
   request_passed before next end number (ClaimRequest claim) text events rest (inl is) entries on =
       let name = refusal_word is.refusal in
-      let detail = refusal_detail manner p before.cell (claimed claim) is.refusal in
-      let text_is : text ≡ refused_detail_line number name detail = is.text_is ∙ ap (λ (prefix : List ℕ). prefix ++ refused_detail_line number name detail) (no_prefix manner) in
+      let detail = refusal_detail protocol p before.cell (claimed claim) is.refusal in
+      let text_is : text ≡ refused_detail_line number name detail = is.text_is ∙ ap (λ (prefix : List ℕ). prefix ++ refused_detail_line number name detail) (no_prefix protocol) in
       passed before next end text rest (no_events before next events is.events_are is.next_is entries)
       (λ other keeps. subst (λ (t : List ℕ). KeepsReports p (t ++ rest) other) (sym text_is) (refused number name detail rest other (word_spaceless is.refusal) keeps)) on
   request_passed before next end number (ClaimRequest claim) text events rest (inr is) entries on = record {
@@ -113,7 +113,7 @@ module _ (p : PlannedShop) (manner : Manner) where
     entries = on.entries ∙ ap (λ (es : List Entry). es ++ on.more) entries ∙ append_assoc before.entries events on.more;
     same = λ first reports are. report_first [] before next claim text events is entries end on.more first reports (KeepsReports p (text ++ rest)) (KeepsReports p rest) are (on.same (first + 1))
         (λ others keeps. subst (λ (t : List ℕ). KeepsReports p (t ++ rest) (own_text [] before next claim text events is entries ++ others)) (sym is.text_is)
-        (taken (claimed claim) is.late (told_overdue manner p before.cell (claimed claim)) (step_orders p before.cell (claimed claim) is.movers) (tells_end manner p next.cell) rest others keeps));
+        (accepted (claimed claim) is.late (printed_overdue protocol p before.cell (claimed claim)) (step_orders p before.cell (claimed claim) is.movers) (prints_end protocol p next.cell) rest others keeps));
   }
   request_passed before next end number Status text events rest is entries on =
       passed before next end text rest (no_events before next events is.events_are is.next_is entries)
@@ -123,14 +123,14 @@ module _ (p : PlannedShop) (manner : Manner) where
   refusal_passed before next end number name text rest spaceless unmoved text_is on =
       passed before next end text rest unmoved (λ other keeps. subst (λ (t : List ℕ). KeepsReports p (t ++ rest) other) (sym text_is) (refused number name Nothing rest other spaceless keeps)) on
 
-  line_passed : (before next end : DrivenCell) (number : ℕ) (line : Option (List ℕ)) (text rest : List ℕ) → StatedAnswers p manner before number line text next → HasTheSame next end rest → HasTheSame before end (text ++ rest)
+  line_passed : (before next end : DrivenCell) (number : ℕ) (line : Option (List ℕ)) (text rest : List ℕ) → ProtocolAnswers p protocol before number line text next → HasTheSame next end rest → HasTheSame before end (text ++ rest)
   line_passed before next end number None text rest is on = refusal_passed before next end number (codes "LongLine") text rest refl is.end_is is.text_is on
   line_passed before next end number (Some []) text rest is on =
       passed before next end text rest is.end_is (λ other keeps. subst (λ (t : List ℕ). KeepsReports p (t ++ rest) other) (sym is.text_is) keeps) on
   line_passed before next end number (Some (b ∷ line)) text rest (inl is) on = refusal_passed before next end number (codes "BadLine") text rest refl is.1.end_is is.1.text_is on
   line_passed before next end number (Some (b ∷ line)) text rest (inr is) on = request_passed before next end number is.what text is.answer.more rest is.answer.answer is.answer.entries on
 
-  lines_passed : (lines : List (Option (List ℕ))) (before end : DrivenCell) (number : ℕ) (text : List ℕ) → AnswerAll (StatedAnswers p manner) before number lines text end → HasTheSame before end text
+  lines_passed : (lines : List (Option (List ℕ))) (before end : DrivenCell) (number : ℕ) (text : List ℕ) → AnswerAll (ProtocolAnswers p protocol) before number lines text end → HasTheSame before end text
   lines_passed [] before end number text all = record {
     more = [];
     entries = ap (λ (d : DrivenCell). d.entries) all.1 ∙ sym (append-nil before.entries);
@@ -154,7 +154,7 @@ module _ (p : PlannedShop) (manner : Manner) where
     none_taken c next end events more none unmoved on =
         subst (λ (es : List Entry). GoesTheSame c (es ++ more) end) (sym none) (subst (λ (x : Cell). GoesTheSame x more end) unmoved on)
 
-    request_goes : (c next end : Cell) (number : ℕ) (request : Request) (text : List ℕ) (events more : List Entry) → RequestAnswer p manner (cell_prefix k) c number request text events next → GoesTheSame next more end
+    request_goes : (c next end : Cell) (number : ℕ) (request : Request) (text : List ℕ) (events more : List Entry) → RequestAnswer p protocol (cell_prefix k) c number request text events next → GoesTheSame next more end
         → GoesTheSame c (events ++ more) end
     request_goes c next end number (ClaimRequest claim) text events more (inl is) on = none_taken c next end events more is.events_are is.next_is on
     request_goes c next end number (ClaimRequest claim) text events more (inr is) on = λ before first reports are.
@@ -163,7 +163,7 @@ module _ (p : PlannedShop) (manner : Manner) where
         (λ others so. tt)
     request_goes c next end number Status text events more is on = none_taken c next end events more is.events_are is.next_is on
 
-    sees_goes : (number : ℕ) (c : Cell) (lines : List (Option (List ℕ))) (events : List Entry) (end : Cell) → SeesLines p manner k number c lines events end → GoesTheSame c events end
+    sees_goes : (number : ℕ) (c : Cell) (lines : List (Option (List ℕ))) (events : List Entry) (end : Cell) → SeesLines p protocol k number c lines events end → GoesTheSame c events end
     sees_goes _ c _ _ _ (none_left number same) = λ before first reports are.
         subst (λ (ls : List (Option (List ℕ))). AnswersBy any_text (driven_to c before) first ls (driven_to c (before ++ []))) (sym are) ([], (refl, ap (driven_to c) (append-nil before)), tt)
     sees_goes _ _ _ _ end (asked number words lines c next last request text events more asks answer rest) =
@@ -171,12 +171,12 @@ module _ (p : PlannedShop) (manner : Manner) where
     sees_goes _ _ _ events end (passed_over number line lines c last more not_of rest) = sees_goes (number + 1) c lines events end rest
 
 pub the_same_reports_are_answered_so : TheSameReportsAreAnsweredSo
-the_same_reports_are_answered_so p manner number first lines reports text start end more all entries are =
-    let on = lines_passed p manner lines start end number text all in
+the_same_reports_are_answered_so p protocol number first lines reports text start end more all entries are =
+    let on = lines_passed p protocol lines start end number text all in
     let events : on.more ≡ more = append_cancel_left start.entries on.more more (sym on.entries ∙ entries) in
     on.same first reports (subst (AreReportLines reports) (sym events) are)
 
 pub the_same_reports_of_a_cell : TheSameReportsOfACell
-the_same_reports_of_a_cell p manner cell number lines reports events end sees are =
-    let on = sees_goes p manner cell number (start p) lines events end sees [] 1 reports are in
+the_same_reports_of_a_cell p protocol cell number lines reports events end sees are =
+    let on = sees_goes p protocol cell number (start p) lines events end sees [] 1 reports are in
     (on.0, on.1)

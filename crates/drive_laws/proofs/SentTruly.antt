@@ -16,33 +16,33 @@ use Rattle.event_lines.specs.declared.requests.Request.{Request}
 use Rattle.event_lines.specs.declared.requests.Request.TheVariants.{Claim as ClaimRequest, Status}
 use Rattle.event_lines.specs.Requests.{claimed}
 use Rattle.event_lines.specs.SentLines.{cell_prefix}
-use Rattle.cell_drive.specs.declared.manner.Manner.{Manner}
+use Rattle.cell_drive.specs.declared.protocol.Protocol.{Protocol}
 use Rattle.cell_drive.specs.AnswerText.{DrivenCell, undriven}
 use Rattle.cell_drive.specs.OneRun.{cell_after}
 use Rattle.cell_drive.specs.Resuming.{driven_so_far}
-use Rattle.cell_drive.specs.Stated.{AsksFor, RequestAnswer, StatedAnswers, IsClaimTaken}
-use Rattle.cell_drive.specs.StatedCells.{AsksCell}
-use Rattle.cell_drive.specs.StatedCellsLaw.{SeesLines, none_left, asked, passed_over}
+use Rattle.cell_drive.specs.ProtocolText.{AsksFor, RequestAnswer, ProtocolAnswers, IsClaimAccepted}
+use Rattle.cell_drive.specs.ProtocolCells.{AsksCell}
+use Rattle.cell_drive.specs.ProtocolCellsLaw.{SeesLines, none_left, asked, passed_over}
 use Rattle.cell_drive.proofs.Parts.{events-orders}
-use Rattle.drive_laws.specs.FloorLaw.{Floor, TellTruth, AreRight, IsTruthful, SayTruth, SaysTruth, ADrivenCellOrdersRightly, ARunThatGoesOnOrdersRightly, EachCellOrdersRightly}
-use Rattle.drive_laws.proofs.TakenOnce.{tells_named}
+use Rattle.drive_laws.specs.FloorLaw.{Floor, AreTrue, AreRight, IsTruthful, SayTruth, SaysTruth, ADrivenCellOrdersRightly, ARunThatGoesOnOrdersRightly, EachCellOrdersRightly}
+use Rattle.drive_laws.proofs.AcceptedOnce.{ends_named}
 use Rattle.drive_laws.proofs.OrderedRightly.{nothing_is_ordered_wrongly}
 
 module _ (floor : Floor) (p : PlannedShop) where
   -- events that lead from one cell to another, and whose reports tell what has ended
   record GoTruly (c : Cell) (es : List Event) (end : Cell) : Type 0 where
     happen : AreEvents p c es
-    tell : TellTruth floor p c es
+    tell : AreTrue floor p c es
     leads : end ≡ after_all p c es
 
-  tell_join : (c : Cell) (es fs : List Event) → TellTruth floor p c es → TellTruth floor p (after_all p c es) fs → TellTruth floor p c (es ++ fs)
-  tell_join c [] fs front back = back
-  tell_join c (Reported r ∷ es) fs front back = (front.0, tell_join (after p c (Reported r)) es fs front.1 back)
-  tell_join c (Moved o ∷ es) fs front back = tell_join (after p c (Moved o)) es fs front back
+  join_true : (c : Cell) (es fs : List Event) → AreTrue floor p c es → AreTrue floor p (after_all p c es) fs → AreTrue floor p c (es ++ fs)
+  join_true c [] fs front back = back
+  join_true c (Reported r ∷ es) fs front back = (front.0, join_true (after p c (Reported r)) es fs front.1 back)
+  join_true c (Moved o ∷ es) fs front back = join_true (after p c (Moved o)) es fs front back
 
-  moves_tell : (c : Cell) (os : List MoveOrder) → TellTruth floor p c (moved os)
-  moves_tell c [] = tt
-  moves_tell c (o ∷ os) = moves_tell (after p c (Moved o)) os
+  moves_are_true : (c : Cell) (os : List MoveOrder) → AreTrue floor p c (moved os)
+  moves_are_true c [] = tt
+  moves_are_true c (o ∷ os) = moves_are_true (after p c (Moved o)) os
 
   nothing_goes : (c end : Cell) (events : List Entry) → events ≡ [] → end ≡ c → GoTruly c (events_of events) end
   nothing_goes c end events none same = subst (λ (es : List Entry). GoTruly c (events_of es) end) (sym none) (record { happen = tt; tell = tt; leads = same })
@@ -52,15 +52,15 @@ module _ (floor : Floor) (p : PlannedShop) where
       let es = events_of events in
       let fs = events_of more in
       let happen : AreEvents p (after_all p c es) fs = subst (λ (d : Cell). AreEvents p d fs) first.leads then_go.happen in
-      let tell : TellTruth floor p (after_all p c es) fs = subst (λ (d : Cell). TellTruth floor p d fs) first.leads then_go.tell in
+      let tell : AreTrue floor p (after_all p c es) fs = subst (λ (d : Cell). AreTrue floor p d fs) first.leads then_go.tell in
       subst (λ (all : List Event). GoTruly c all end) (sym (events-join events more)) (record {
         happen = events_join p c es fs first.happen happen;
-        tell = tell_join c es fs first.tell tell;
+        tell = join_true c es fs first.tell tell;
         leads = then_go.leads ∙ ap (λ (d : Cell). after_all p d fs) first.leads ∙ sym (after_all_join p c es fs);
       })
 
-  module _ (manner : Manner) where
-    claim_goes : (prefix : List ℕ) (c next : Cell) (claim : Claim) (text : List ℕ) (events : List Entry) → IsClaimTaken p manner prefix c claim text events next → IsTruthful floor claim
+  module _ (protocol : Protocol) where
+    claim_goes : (prefix : List ℕ) (c next : Cell) (claim : Claim) (text : List ℕ) (events : List Entry) → IsClaimAccepted p protocol prefix c claim text events next → IsTruthful floor claim
         → GoTruly c (events_of events) next
     claim_goes prefix c next claim text events is truthful =
         let r = claimed claim in
@@ -68,11 +68,11 @@ module _ (floor : Floor) (p : PlannedShop) where
         let whole : events_of events ≡ Reported r ∷ moved os = ap events_of is.events_are ∙ ap (λ (es : List Event). Reported r ∷ es) (events-orders os) in
         subst (λ (es : List Event). GoTruly c es next) (sym whole) (record {
           happen = (is.step.can, moves-events p (after_report c r) (at r) is.movers is.step.moves);
-          tell = ((truthful.0, tells_named p c claim truthful.0 truthful.1 is.taken.0, truthful.2), moves_tell (after p c (Reported r)) os);
+          tell = ((truthful.0, ends_named p c claim truthful.0 truthful.1 is.accepted.0, truthful.2), moves_are_true (after p c (Reported r)) os);
           leads = is.next_is ∙ sym (after_all-moves p (after_report c r) (at r) is.movers);
         })
 
-    request_goes : (prefix : List ℕ) (c next : Cell) (number : ℕ) (request : Request) (text : List ℕ) (events : List Entry) → RequestAnswer p manner prefix c number request text events next
+    request_goes : (prefix : List ℕ) (c next : Cell) (number : ℕ) (request : Request) (text : List ℕ) (events : List Entry) → RequestAnswer p protocol prefix c number request text events next
         → ((claim : Claim) → request ≡ ClaimRequest claim → IsTruthful floor claim) → GoTruly c (events_of events) next
     request_goes prefix c next number (ClaimRequest claim) text events (inl is) truthful = nothing_goes c next events is.events_are is.next_is
     request_goes prefix c next number (ClaimRequest claim) text events (inr is) truthful = claim_goes prefix c next claim text events is (truthful claim refl)
@@ -92,18 +92,18 @@ module _ (floor : Floor) (p : PlannedShop) where
       entries = ap (λ (d : DrivenCell). d.entries) same ∙ sym (append-nil before.entries);
     }
 
-    line_goes : (before end : DrivenCell) (number : ℕ) (line : Option (List ℕ)) (text : List ℕ) → StatedAnswers p manner before number line text end → SaysTruth floor (AsksFor manner.tells) line → GoesTruly before end
+    line_goes : (before end : DrivenCell) (number : ℕ) (line : Option (List ℕ)) (text : List ℕ) → ProtocolAnswers p protocol before number line text end → SaysTruth floor (AsksFor protocol.version_2) line → GoesTruly before end
     line_goes before end number None text is says = stays before end is.end_is
     line_goes before end number (Some []) text is says = stays before end is.end_is
     line_goes before end number (Some (b ∷ line)) text (inl is) says = stays before end is.1.end_is
     line_goes before end number (Some (b ∷ line)) text (inr is) says = record {
       more = is.answer.more;
       go = request_goes [] before.cell end.cell number is.what text is.answer.more is.answer.answer
-          (λ claim same. says (b ∷ line) claim refl (subst (AsksFor manner.tells (b ∷ line)) same is.asked));
+          (λ claim same. says (b ∷ line) claim refl (subst (AsksFor protocol.version_2 (b ∷ line)) same is.asked));
       entries = is.answer.entries;
     }
 
-    lines_go : (lines : List (Option (List ℕ))) (before end : DrivenCell) (number : ℕ) (text : List ℕ) → AnswerAll (StatedAnswers p manner) before number lines text end → SayTruth floor (AsksFor manner.tells) lines
+    lines_go : (lines : List (Option (List ℕ))) (before end : DrivenCell) (number : ℕ) (text : List ℕ) → AnswerAll (ProtocolAnswers p protocol) before number lines text end → SayTruth floor (AsksFor protocol.version_2) lines
         → GoesTruly before end
     lines_go [] before end number text all say = stays before end all.1
     lines_go (line ∷ lines) before end number text all say =
@@ -117,12 +117,12 @@ module _ (floor : Floor) (p : PlannedShop) where
 
     -- ---- those that a cell of several sees
 
-    sees_go : (cell number : ℕ) (c : Cell) (lines : List (Option (List ℕ))) (events : List Entry) (end : Cell) → SeesLines p manner cell number c lines events end
-        → SayTruth floor (λ words. AsksCell manner.tells words cell) lines → GoTruly c (events_of events) end
+    sees_go : (cell number : ℕ) (c : Cell) (lines : List (Option (List ℕ))) (events : List Entry) (end : Cell) → SeesLines p protocol cell number c lines events end
+        → SayTruth floor (λ words. AsksCell protocol.version_2 words cell) lines → GoTruly c (events_of events) end
     sees_go cell _ c _ _ _ (none_left number same) say = nothing_goes c c [] refl refl
     sees_go cell _ _ _ _ end (asked number words lines c next last request text events more asks answer rest) say =
         go_join c next end events more
-        (request_goes (cell_prefix cell) c next number request text events answer (λ claim same. say.0 words claim refl (subst (AsksCell manner.tells words cell) same asks)))
+        (request_goes (cell_prefix cell) c next number request text events answer (λ claim same. say.0 words claim refl (subst (AsksCell protocol.version_2 words cell) same asks)))
         (sees_go cell (number + 1) next lines more end rest say.1)
     sees_go cell _ _ _ events end (passed_over number line lines c last more not_of rest) say = sees_go cell (number + 1) c lines events end rest say.1
 
@@ -130,17 +130,17 @@ module _ (floor : Floor) (p : PlannedShop) where
   right events end shaped go = nothing_is_ordered_wrongly floor p (events_of events) shaped go.happen go.tell
 
 pub a_driven_cell_orders_rightly : ADrivenCellOrdersRightly
-a_driven_cell_orders_rightly floor p manner lines text end shaped answered say =
-    let goes = lines_go floor p manner lines (undriven p) end 1 text answered say in
+a_driven_cell_orders_rightly floor p protocol lines text end shaped answered say =
+    let goes = lines_go floor p protocol lines (undriven p) end 1 text answered say in
     subst (λ (es : List Entry). AreRight floor p (events_of es)) (sym goes.entries) (right floor p goes.more end.cell shaped goes.go)
 
 pub a_run_that_goes_on_orders_rightly : ARunThatGoesOnOrdersRightly
-a_run_that_goes_on_orders_rightly floor p manner entries lines number text end shaped run truth answered say =
+a_run_that_goes_on_orders_rightly floor p protocol entries lines number text end shaped run truth answered say =
     let so_far : GoTruly floor p (start p) (events_of entries) (cell_after p entries) = record { happen = run; tell = truth; leads = refl } in
-    let goes = lines_go floor p manner lines (driven_so_far p entries) end number text answered say in
+    let goes = lines_go floor p protocol lines (driven_so_far p entries) end number text answered say in
     subst (λ (es : List Entry). AreRight floor p (events_of es)) (sym goes.entries)
     (right floor p (entries ++ goes.more) end.cell shaped (go_join floor p (start p) (cell_after p entries) end.cell entries goes.more so_far goes.go))
 
 pub each_cell_orders_rightly : EachCellOrdersRightly
-each_cell_orders_rightly floor p manner cell number lines events end shaped sees say =
-    right floor p events end shaped (sees_go floor p manner cell number (start p) lines events end sees say)
+each_cell_orders_rightly floor p protocol cell number lines events end shaped sees say =
+    right floor p events end shaped (sees_go floor p protocol cell number (start p) lines events end sees say)

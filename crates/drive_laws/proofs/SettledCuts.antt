@@ -22,8 +22,8 @@ use Rattle.cell_tables.specs.Events.{events_of}
 use Rattle.event_lines.proofs.Readings.{one_reading}
 use Rattle.cell_drive.specs.OneRun.{cell_after}
 use Rattle.cell_drive.specs.CutLogs.{reported, IsCutLog}
-use Rattle.cell_drive.specs.CutLaw.{ItCanBeTakenUp, ItIsTakenUpWithItsOrders}
-use Rattle.cell_drive.specs.TakenUp.{plan_of, told_in}
+use Rattle.cell_drive.specs.CutLaw.{ItIsRecoverable, ItIsRecoveredWithItsOrders}
+use Rattle.cell_drive.specs.Recovered.{plan_of, replayed_events}
 use Rattle.cell_drive.proofs.Parts.{append_parts, moved_alone, moved_none, moved_no_report}
 use Rattle.cell_drive.proofs.OwnRuns.{due_events, front_events}
 use Rattle.cell_drive.proofs.CutRuns.{FirstStep, first_step, begins}
@@ -118,7 +118,7 @@ module _ (p : PlannedShop) where
         found : FirstStep p c (e ∷ (a ++ moved due)) end → Again → orders_for p d d.last js ≡ due
         found first again = elim (append_parts a (moved due) os first.rest tails) [
           | inl (b, longer, events) ↦
-              again next first.later b (omega (arith, few, ap length longer, length-append os b)) (after_step-sound p c first.report first.jobs shaped sound first.step) first.step.rest
+              again next first.later b (omega (arith, few, ap length longer, length-append os b)) (after_step-sound p c first.report first.jobs shaped sound first.step) first.step.quiescent
               (subst (λ es. Leads p next first.later es end) events first.leads) (there ∙ ap (after_all p ended) longer ∙ after_all_join p ended os b
               ∙ ap (λ (x : Cell). after_all p x b) (after_all-moves p ended (at first.report) first.jobs))
           | inr (b, shorter, events) ↦ within c first.report first.jobs js a b due sound rest first.step shorter (only b events) d there settles
@@ -156,8 +156,8 @@ pub run_of_cut : (p : PlannedShop) (told : List Entry) (due : List MoveOrder) (l
 run_of_cut p told due lines shaped log =
     front_events p (start p) (events_of told) (moved due) (subst (IsRun p) (due_events told due) (controlled_to_run p _ _ _ shaped log.run).0)
 
-pub it_can_be_taken_up : ItCanBeTakenUp
-it_can_be_taken_up p lines told due shaped acceptable log = record {
+pub it_is_recoverable : ItIsRecoverable
+it_is_recoverable p lines told due shaped acceptable log = record {
   told = told;
   tells = log.tells;
   is_run = run_of_cut p told due lines shaped log;
@@ -166,23 +166,23 @@ it_can_be_taken_up p lines told due shaped acceptable log = record {
   accepted = λ none. acceptable;
 }
 
-pub it_is_taken_up_with_its_orders : ItIsTakenUpWithItsOrders
-it_is_taken_up_with_its_orders p lines told due taken shaped log up =
-    let from = up.taken_from in
+pub it_is_recovered_with_its_orders : ItIsRecoveredWithItsOrders
+it_is_recovered_with_its_orders p lines told due recovered shaped log up =
+    let from = up.recovered_from in
     let same : up.told ≡ told = one_reading p lines up.told told up.tells log.tells in
-    let told_is : told_in taken ≡ told = from.told_is ∙ same in
-    let control = taken.control in
-    let here : cell_after (plan_of taken) (told_in taken) ≡ cell_after p told =
-    ap (λ (q : PlannedShop). cell_after q (told_in taken)) from.planned ∙ ap (cell_after p) told_is in
+    let replayed_is : replayed_events recovered ≡ told = from.replayed_is ∙ same in
+    let control = recovered.control in
+    let here : cell_after (plan_of recovered) (replayed_events recovered) ≡ cell_after p told =
+    ap (λ (q : PlannedShop). cell_after q (replayed_events recovered)) from.planned ∙ ap (cell_after p) replayed_is in
     let began : control.began ≡ (cell_after p told).last = from.began ∙ ap (λ (es : List Entry). (cell_after p es).last) same in
     let settled = from.run.begun.settled in
     let settles : Settles p (cell_after p told) (cell_after p told).last settled.movers =
     subst (λ t. Settles p (cell_after p told) t settled.movers) began (subst (λ (c : Cell). Settles p c control.began settled.movers) here
-    (subst (λ (q : PlannedShop). Settles q (cell_after (plan_of taken) (told_in taken)) control.began settled.movers) from.planned settled.settles)) in
+    (subst (λ (q : PlannedShop). Settles q (cell_after (plan_of recovered) (replayed_events recovered)) control.began settled.movers) from.planned settled.settles)) in
     let orders : control.orders ≡ orders_for p (cell_after p told) (cell_after p told).last settled.movers =
-    settled.orders_are ∙ ap (λ (q : PlannedShop). orders_for q (cell_after (plan_of taken) (told_in taken)) control.began settled.movers) from.planned
+    settled.orders_are ∙ ap (λ (q : PlannedShop). orders_for q (cell_after (plan_of recovered) (replayed_events recovered)) control.began settled.movers) from.planned
     ∙ ap (λ (c : Cell). orders_for p c control.began settled.movers) here ∙ ap (λ t. orders_for p (cell_after p told) t settled.movers) began in
     let whole : List Entry = told ++ map OrderEntry due in
     let leads : Leads p (start p) (reported (events_of whole)) (events_of told ++ moved due) (cell_after p whole) =
     subst (λ es. Leads p (start p) (reported (events_of whole)) es (cell_after p whole)) (due_events told due) log.run in
-    (told_is, orders ∙ cut_settles p shaped (length (events_of told)) (start p) (cell_after p whole) (reported (events_of whole)) (events_of told) due settled.movers (omega arith) (start-sound p shaped) (start_at_rest p) leads (cell_after p told) refl settles)
+    (replayed_is, orders ∙ cut_settles p shaped (length (events_of told)) (start p) (cell_after p whole) (reported (events_of whole)) (events_of told) due settled.movers (omega arith) (start-sound p shaped) (start_at_rest p) leads (cell_after p told) refl settles)

@@ -28,11 +28,11 @@ use Rattle.event_lines.specs.declared.details.Overdue.{Overdue}
 use Rattle.event_lines.specs.declared.requests.Claim.{Claim}
 use Rattle.event_lines.specs.declared.requests.Claim.TheVariants.{Report, CleanAfter}
 use Rattle.event_lines.specs.Requests.{claimed}
-use Rattle.cell_drive.specs.declared.manner.Manner.{Manner}
+use Rattle.cell_drive.specs.declared.protocol.Protocol.{Protocol}
 use Rattle.cell_drive.specs.declared.refusals.Refusal.{Refusal}
 use Rattle.cell_drive.specs.declared.refusals.Refusal.TheVariants.{Reason, Leap}
 use Rattle.cell_drive.specs.OneRun.{cell_after}
-use Rattle.cell_drive.specs.Refusals.{IsClaimReason, IsRefusal, standing_of, reason_detail, told_detail}
+use Rattle.cell_drive.specs.Refusals.{IsClaimReason, IsRefusal, standing_of, reason_detail, printed_detail}
 use Rattle.cell_drive.specs.States.{one_more, with_one, with_those, with_jobs, with_machines, own_first, overdue_in}
 use Rattle.drive_laws.specs.ShortLinesLaw.{IsShort, IsMoment, IsShortSpot, IsShortStanding, IsShortDetail, StandingsAreShort, DetailsAreShort, OverdueIsShort, LineNumbersAreShort}
 use Rattle.drive_laws.proofs.BegunByLast.{AreBegunByLast, begun_in_run}
@@ -150,25 +150,25 @@ module _ (p : PlannedShop) (c : Cell) (shaped : IsWellShaped p) (sound : IsSound
   backwards_last (Report report) last is = is.3
   backwards_last (CleanAfter machine job at) last is = is.3
 
-  module _ (manner : Manner) (claim : Claim) where
-    reason_short : (reason : ReportFault) → IsRefusal manner p c claim (Reason reason) → IsShortDetail (reason_detail p c (claimed claim) reason)
+  module _ (protocol : Protocol) (claim : Claim) where
+    reason_short : (reason : ReportFault) → IsRefusal protocol p c claim (Reason reason) → IsShortDetail (reason_detail p c (claimed claim) reason)
     reason_short JobOutOfRange is = tt
     reason_short MachineOutOfRange is = tt
     reason_short MomentTooLarge is = tt
-    reason_short (Backwards last) is = omega (arith, backwards_last claim last (refused_reason p c manner claim (Backwards last) is), sound.last_in_range)
-    reason_short NotExpected is = own_standing_short (claimed claim) (refused_of_shop p c manner claim NotExpected is refl)
-    reason_short WrongKind is = own_standing_short (claimed claim) (refused_of_shop p c manner claim WrongKind is refl)
-    reason_short (WrongMachine actual) is = own_standing_short (claimed claim) (refused_of_shop p c manner claim (WrongMachine actual) is refl)
+    reason_short (Backwards last) is = omega (arith, backwards_last claim last (refused_reason p c protocol claim (Backwards last) is), sound.last_in_range)
+    reason_short NotExpected is = own_standing_short (claimed claim) (refused_of_shop p c protocol claim NotExpected is refl)
+    reason_short WrongKind is = own_standing_short (claimed claim) (refused_of_shop p c protocol claim WrongKind is refl)
+    reason_short (WrongMachine actual) is = own_standing_short (claimed claim) (refused_of_shop p c protocol claim (WrongMachine actual) is refl)
 
-    base_short : (is : Bool) → manner.from ≤ MAX_MOMENT → IsMoment (cond is manner.from c.last)
+    base_short : (is : Bool) → protocol.from ≤ MAX_MOMENT → IsMoment (cond is protocol.from c.last)
     base_short true from = omega (arith, from)
     base_short false from = omega (arith, sound.last_in_range)
 
-    refusal_short : (refusal : Refusal) → manner.from ≤ MAX_MOMENT → IsRefusal manner p c claim refusal → IsShortDetail (told_detail manner p c (claimed claim) refusal)
+    refusal_short : (refusal : Refusal) → protocol.from ≤ MAX_MOMENT → IsRefusal protocol p c claim refusal → IsShortDetail (printed_detail protocol p c (claimed claim) refusal)
     refusal_short (Reason reason) from is = reason_short reason is
-    refusal_short Leap from is = base_short (nat_lt c.last manner.from) from
+    refusal_short Leap from is = base_short (nat_lt c.last protocol.from) from
 
-    detail_short : (tells : Bool) (detail : Detail) → IsShortDetail detail → IsShortDetail (cond tells detail Nothing)
+    detail_short : (version_2 : Bool) (detail : Detail) → IsShortDetail detail → IsShortDetail (cond version_2 detail Nothing)
     detail_short true detail is = is
     detail_short false detail is = tt
 
@@ -182,11 +182,11 @@ standings_are_short p es shaped run =
     (jobs_short p c shaped sound begun, machines_short p c shaped sound begun)
 
 pub details_are_short : DetailsAreShort
-details_are_short p manner es claim refusal shaped run from is =
+details_are_short p protocol es claim refusal shaped run from is =
     let c = cell_after p es in
     let sound = run-sound p (events_of es) shaped run in
     let begun = begun_in_run p shaped (events_of es) run in
-    detail_short p c shaped sound begun manner claim manner.tells (told_detail manner p c (claimed claim) refusal) (refusal_short p c shaped sound begun manner claim refusal from is)
+    detail_short p c shaped sound begun protocol claim protocol.version_2 (printed_detail protocol p c (claimed claim) refusal) (refusal_short p c shaped sound begun protocol claim refusal from is)
 
 found_is : (found : Option Overdue) (overdue : Overdue) → found ≡ Some overdue → IsShortFound 1000 found → IsShortStanding overdue.first × IsShort overdue.others
 found_is found overdue same short = subst (IsShortFound 1000) same short

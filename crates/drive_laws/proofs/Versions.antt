@@ -13,14 +13,14 @@ use Rattle.event_lines.specs.declared.requests.Request.TheVariants.{Claim as Cla
 use Rattle.event_lines.specs.Requests.{IsRequestLine}
 use Rattle.cell_drive.specs.Refusals.{refusal_word, refusal_detail}
 use Rattle.cell_drive.specs.AnswerText.{DrivenCell}
-use Rattle.cell_drive.specs.Stated.{AsksFor, CellRequests, RequestAnswer, StatedAnswers, taken_lines, tells_end, told_overdue}
-use Rattle.drive_laws.specs.VersionsLaw.{IsOfVersion1, AreOfVersion1, IsPlainText, nothing_more, refused, taken, in_version, Version2OnlyAdds}
+use Rattle.cell_drive.specs.ProtocolText.{AsksFor, CellRequests, RequestAnswer, ProtocolAnswers, acceptance_lines, prints_end, printed_overdue}
+use Rattle.drive_laws.specs.VersionsLaw.{IsOfVersion1, AreOfVersion1, IsPlainText, nothing_more, refused, accepted, in_version, Version2OnlyAdds}
 
-module _ (p : PlannedShop) (longest : Option ℕ) (from : ℕ) where
+module _ (p : PlannedShop) (max_gap : Option ℕ) (from : ℕ) where
   -- what version 1 answers to a line in place of a text, and how further texts go on behind both
   record PlainLine (start : DrivenCell) (number : ℕ) (line : Option (List ℕ)) (text : List ℕ) (end : DrivenCell) : Type 0 where
     other : List ℕ
-    answers : StatedAnswers p (in_version false longest from) start number line other end
+    answers : ProtocolAnswers p (in_version false max_gap from) start number line other end
     plain : (more others : List ℕ) → IsPlainText more others → IsPlainText (text ++ more) (other ++ others)
 
   same_refusal : (number : ℕ) (name text : List ℕ) → text ≡ refused_line number name → (more others : List ℕ) → IsPlainText more others → IsPlainText (text ++ more) (refused_line number name ++ others)
@@ -28,10 +28,10 @@ module _ (p : PlannedShop) (longest : Option ℕ) (from : ℕ) where
       subst (λ (t : List ℕ). IsPlainText (t ++ more) (refused_line number name ++ others)) (sym is) (refused number name Nothing more others plain)
 
   plain_report : (start : DrivenCell) (number : ℕ) (b : ℕ) (line : List ℕ) (report : reports.Report) (text : List ℕ) (end : DrivenCell) → IsReportLine (b ∷ line) report
-      → CellRequests p (in_version true longest from) start number (ClaimRequest (Report report)) text end → PlainLine start number (Some (b ∷ line)) text end
+      → CellRequests p (in_version true max_gap from) start number (ClaimRequest (Report report)) text end → PlainLine start number (Some (b ∷ line)) text end
   plain_report start number b line report text end asked is = by is.answer
     where
-      by : RequestAnswer p (in_version true longest from) [] start.cell number (ClaimRequest (Report report)) text is.more end.cell → PlainLine start number (Some (b ∷ line)) text end
+      by : RequestAnswer p (in_version true max_gap from) [] start.cell number (ClaimRequest (Report report)) text is.more end.cell → PlainLine start number (Some (b ∷ line)) text end
       by (inl refusal) = record {
         other = refused_line number (refusal_word refusal.refusal);
         answers = inr (record {
@@ -44,32 +44,32 @@ module _ (p : PlannedShop) (longest : Option ℕ) (from : ℕ) where
           };
         });
         plain = λ more others rest. subst (λ (t : List ℕ). IsPlainText (t ++ more) (refused_line number (refusal_word refusal.refusal) ++ others)) (sym refusal.text_is)
-            (refused number (refusal_word refusal.refusal) (refusal_detail (in_version true longest from) p start.cell report refusal.refusal) more others rest);
+            (refused number (refusal_word refusal.refusal) (refusal_detail (in_version true max_gap from) p start.cell report refusal.refusal) more others rest);
       }
       by (inr done) =
           let orders = step_orders p start.cell report done.movers in
-          let overdue = told_overdue (in_version true longest from) p start.cell report in
-          let ended = tells_end (in_version true longest from) p end.cell in
+          let overdue = printed_overdue (in_version true max_gap from) p start.cell report in
+          let ended = prints_end (in_version true max_gap from) p end.cell in
           record {
-            other = taken_lines [] report done.late None orders false;
+            other = acceptance_lines [] report done.late None orders false;
             answers = inr (record {
               what = ClaimRequest (Report report);
               asked = asked;
               answer = record {
                 more = is.more;
-                answer = inr (record { taken = done.taken; movers = done.movers; step = done.step; late = done.late; late_is = done.late_is; text_is = refl; events_are = done.events_are; next_is = done.next_is });
+                answer = inr (record { accepted = done.accepted; movers = done.movers; step = done.step; late = done.late; late_is = done.late_is; text_is = refl; events_are = done.events_are; next_is = done.next_is });
                 entries = is.entries;
               };
             });
-            plain = λ more others rest. subst (λ (t : List ℕ). IsPlainText (t ++ more) (taken_lines [] report done.late None orders false ++ others)) (sym done.text_is)
-                (taken report done.late overdue orders ended more others rest);
+            plain = λ more others rest. subst (λ (t : List ℕ). IsPlainText (t ++ more) (acceptance_lines [] report done.late None orders false ++ others)) (sym done.text_is)
+                (accepted report done.late overdue orders ended more others rest);
           }
 
   plain_request : (start : DrivenCell) (number : ℕ) (b : ℕ) (line : List ℕ) (request : Request) (text : List ℕ) (end : DrivenCell) (report : reports.Report) → request ≡ ClaimRequest (Report report)
-      → IsRequestLine (b ∷ line) request → CellRequests p (in_version true longest from) start number request text end → PlainLine start number (Some (b ∷ line)) text end
+      → IsRequestLine (b ∷ line) request → CellRequests p (in_version true max_gap from) start number request text end → PlainLine start number (Some (b ∷ line)) text end
   plain_request start number b line request text end report same asked is =
       plain_report start number b line report text end (subst (λ (r : Request). IsRequestLine (b ∷ line) r) same asked)
-      (subst (λ (r : Request). CellRequests p (in_version true longest from) start number r text end) same is)
+      (subst (λ (r : Request). CellRequests p (in_version true max_gap from) start number r text end) same is)
 
   nothing_asked : (line : List ℕ) → ((request : Request) → AsksFor true line request → ⊥) → (request : Request) → AsksFor false line request → ⊥
   nothing_asked line none (ClaimRequest (Report report)) asked = none (ClaimRequest (Report report)) asked
@@ -77,7 +77,7 @@ module _ (p : PlannedShop) (longest : Option ℕ) (from : ℕ) where
   nothing_asked line none Status asked = asked
 
   plain_line : (start : DrivenCell) (number : ℕ) (line : Option (List ℕ)) (text : List ℕ) (end : DrivenCell) → IsOfVersion1 line
-      → StatedAnswers p (in_version true longest from) start number line text end → PlainLine start number line text end
+      → ProtocolAnswers p (in_version true max_gap from) start number line text end → PlainLine start number line text end
   plain_line start number None text end of is = record {
     other = refused_line number (codes "LongLine");
     answers = record { text_is = refl; end_is = is.end_is };
@@ -97,8 +97,8 @@ module _ (p : PlannedShop) (longest : Option ℕ) (from : ℕ) where
       let report = of (b ∷ line) is.what refl is.asked in
       plain_request start number b line is.what text end report.0 report.1 is.asked is.answer
 
-  plain_lines : (lines : List (Option (List ℕ))) (number : ℕ) (text : List ℕ) (start end : DrivenCell) → AreOfVersion1 lines → AnswerAll (StatedAnswers p (in_version true longest from)) start number lines text end
-      → (other : List ℕ) × AnswerAll (StatedAnswers p (in_version false longest from)) start number lines other end × IsPlainText text other
+  plain_lines : (lines : List (Option (List ℕ))) (number : ℕ) (text : List ℕ) (start end : DrivenCell) → AreOfVersion1 lines → AnswerAll (ProtocolAnswers p (in_version true max_gap from)) start number lines text end
+      → (other : List ℕ) × AnswerAll (ProtocolAnswers p (in_version false max_gap from)) start number lines other end × IsPlainText text other
   plain_lines [] number text start end of all = ([], (refl, all.1), subst (λ (t : List ℕ). IsPlainText t []) (sym all.0) nothing_more)
   plain_lines (line ∷ lines) number text start end of all =
       let one = plain_line start number line all.0 all.2 of.0 all.3 in
@@ -106,4 +106,4 @@ module _ (p : PlannedShop) (longest : Option ℕ) (from : ℕ) where
       (one.other ++ rest.0, (one.other, rest.0, all.2, one.answers, rest.1, refl), subst (λ (t : List ℕ). IsPlainText t (one.other ++ rest.0)) (sym all.5) (one.plain all.1 rest.0 rest.2))
 
 pub version_2_only_adds : Version2OnlyAdds
-version_2_only_adds p longest from number lines text start end of all = plain_lines p longest from lines number text start end of all
+version_2_only_adds p max_gap from number lines text start end of all = plain_lines p max_gap from lines number text start end of all

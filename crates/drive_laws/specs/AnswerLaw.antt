@@ -11,15 +11,15 @@ use Rattle.event_lines.specs.SentLines.{IsReportLine}
 use Rattle.event_lines.specs.declared.requests.Claim.{Claim}
 use Rattle.event_lines.specs.declared.requests.Request.TheVariants.{Claim as ClaimRequest}
 use Rattle.event_lines.specs.Requests.{claimed}
-use Rattle.cell_drive.specs.declared.manner.Manner.{Manner}
+use Rattle.cell_drive.specs.declared.protocol.Protocol.{Protocol}
 use Rattle.cell_drive.specs.AnswerText.{AreAnswersTo}
 use Rattle.cell_drive.specs.CutLogs.{IsCutLogOf}
 use Rattle.cell_drive.specs.LateEvents.{AreLate}
 use Rattle.cell_drive.specs.OneRun.{cell_after}
-use Rattle.cell_drive.specs.Refusals.{IsTaken}
-use Rattle.cell_drive.specs.Retold.{retold_lines}
-use Rattle.cell_drive.specs.Stated.{AsksFor, AreStatedTo, tells_end, end_part}
-use Rattle.cell_drive.specs.ToldLines.{told_lines}
+use Rattle.cell_drive.specs.Refusals.{IsAdmissible}
+use Rattle.cell_drive.specs.Replay.{replay_lines}
+use Rattle.cell_drive.specs.ProtocolText.{AsksFor, AreProtocolAnswers, prints_end, end_part}
+use Rattle.cell_drive.specs.PlainLines.{plain_lines}
 use Rattle.cell_drive.specs.Resuming.{driven_so_far}
 
 -- the lines of an input are the reports among these events, one after another, and nothing else
@@ -29,25 +29,25 @@ AreReportLines lines (ReportEntry report ∷ entries) = (line : List ℕ) × (re
 AreReportLines lines (OrderEntry order ∷ entries) = AreReportLines lines entries
 
 -- what is told once more of a log of a controlled run and the orders that are due, without the mark between them, is what `drive` answers to the reports of the log
-abbrev pub ToldAsAnswered : Type 0
-ToldAsAnswered = (p : PlannedShop) (log : List (List ℕ)) (entries : List Entry) (late : List Bool) (lines : List (Option (List ℕ)))
+abbrev pub ReplayAsAnswered : Type 0
+ReplayAsAnswered = (p : PlannedShop) (log : List (List ℕ)) (entries : List Entry) (late : List Bool) (lines : List (Option (List ℕ)))
     → IsCutLogOf p log entries (length late) → AreLate p (start p) (take (length late) entries) late → AreReportLines lines entries
-    → AreAnswersTo p lines (told_lines (take (length late) entries) late ++ entry_lines (drop (length late) entries)) (driven_so_far p entries)
+    → AreAnswersTo p lines (plain_lines (take (length late) entries) late ++ entry_lines (drop (length late) entries)) (driven_so_far p entries)
 
 -- the lines of an input claim the reports among these events, one after another and nothing else, each so that it is taken in a manner, from this cell on
-abbrev pub AreClaimLines : PlannedShop → Manner → Cell → List (Option (List ℕ)) → List Entry → Type 0
-AreClaimLines p manner c lines [] = lines ≡ []
-AreClaimLines p manner c lines (ReportEntry report ∷ entries) =
-    (line : List ℕ) × (claim : Claim) × (rest : List (Option (List ℕ))) × AsksFor manner.tells line (ClaimRequest claim) × (claimed claim ≡ report) × IsTaken manner p c claim
-    × AreClaimLines p manner (after p c (event_of (ReportEntry report))) rest entries × (lines ≡ Some line ∷ rest)
-AreClaimLines p manner c lines (OrderEntry order ∷ entries) = AreClaimLines p manner (after p c (event_of (OrderEntry order))) lines entries
+abbrev pub AreClaimLines : PlannedShop → Protocol → Cell → List (Option (List ℕ)) → List Entry → Type 0
+AreClaimLines p protocol c lines [] = lines ≡ []
+AreClaimLines p protocol c lines (ReportEntry report ∷ entries) =
+    (line : List ℕ) × (claim : Claim) × (rest : List (Option (List ℕ))) × AsksFor protocol.version_2 line (ClaimRequest claim) × (claimed claim ≡ report) × IsAdmissible protocol p c claim
+    × AreClaimLines p protocol (after p c (event_of (ReportEntry report))) rest entries × (lines ≡ Some line ∷ rest)
+AreClaimLines p protocol c lines (OrderEntry order ∷ entries) = AreClaimLines p protocol (after p c (event_of (OrderEntry order))) lines entries
 
 -- `done T`, where these events have ended the run, and that is told at once
-abbrev pub end_told : PlannedShop → Manner → List Entry → List ℕ
-end_told p manner entries = end_part [] (cell_after p entries).last (tells_end manner p (cell_after p entries))
+abbrev pub end_behind_log : PlannedShop → Protocol → List Entry → List ℕ
+end_behind_log p protocol entries = end_part [] (cell_after p entries).last (prints_end protocol p (cell_after p entries))
 
 -- so it is in each manner, with `done T` at once behind it where that is answered
-abbrev pub ToldAsStated : Type 0
-ToldAsStated = (p : PlannedShop) (manner : Manner) (log : List (List ℕ)) (entries : List Entry) (late : List Bool) (lines : List (Option (List ℕ))) → IsWellShaped p
-    → IsCutLogOf p log entries (length late) → AreLate p (start p) (take (length late) entries) late → AreClaimLines p manner (start p) lines entries
-    → AreStatedTo p manner lines (retold_lines p manner (start p) (take (length late) entries) late ++ (entry_lines (drop (length late) entries) ++ end_told p manner entries)) (driven_so_far p entries)
+abbrev pub ReplayInProtocol : Type 0
+ReplayInProtocol = (p : PlannedShop) (protocol : Protocol) (log : List (List ℕ)) (entries : List Entry) (late : List Bool) (lines : List (Option (List ℕ))) → IsWellShaped p
+    → IsCutLogOf p log entries (length late) → AreLate p (start p) (take (length late) entries) late → AreClaimLines p protocol (start p) lines entries
+    → AreProtocolAnswers p protocol lines (replay_lines p protocol (start p) (take (length late) entries) late ++ (entry_lines (drop (length late) entries) ++ end_behind_log p protocol entries)) (driven_so_far p entries)

@@ -5,51 +5,51 @@ use Rattle.shop_base.specs.Plan.{PlannedShop, IsWellShaped}
 use Rattle.plan_verifier.specs.Accepted.{VerifiedPlan, IsVerified}
 use Rattle.cell_tables.specs.declared.entry.Entry.{Entry}
 use Rattle.byte_streams.specs.Answering.{AnswerAll}
-use Rattle.cell_drive.specs.declared.manner.Manner.{Manner}
+use Rattle.cell_drive.specs.declared.protocol.Protocol.{Protocol}
 use Rattle.cell_drive.specs.declared.resume.RestEnd.{RestEnd}
 use Rattle.cell_drive.specs.AnswerText.{DrivenCell, CellCloses}
 use Rattle.cell_drive.specs.OneRun.{IsRunOf, NeverWentWrong}
 use Rattle.cell_drive.specs.CutLogs.{IsCutLog}
-use Rattle.cell_drive.specs.CutLaw.{IsTakenUpFrom, IsCutFrom}
-use Rattle.cell_drive.specs.TakenUp.{TakenUp, IsTakenUp}
+use Rattle.cell_drive.specs.CutLaw.{IsRunPrefix, IsCutFrom}
+use Rattle.cell_drive.specs.Recovered.{Recovered, IsRecovered}
 use Rattle.cell_drive.specs.Resuming.{again_text, driven_so_far, GoesOnFrom}
-use Rattle.cell_drive.specs.Stated.{StatedAnswers}
+use Rattle.cell_drive.specs.ProtocolText.{ProtocolAnswers}
 
 -- a run was taken up by its own plan: from the log of a controlled run of that, which may be cut, and without a moment
-pub record IsTakenUpByItsPlan (p : PlannedShop) (taken : TakenUp) : Type 0 where
+pub record IsRecoveredByItsPlan (p : PlannedShop) (recovered : Recovered) : Type 0 where
   pub lines : List (List ℕ)
   pub told : List Entry
   pub due : List MoveOrder
   pub log : IsCutLog p lines told due
-  pub up : IsTakenUp p lines None taken
+  pub up : IsRecovered p lines None recovered
 
 -- ---- one run
 
 -- the events of its log and the orders that are due are one controlled run
-abbrev pub ItIsTakenUpAsOne : Type 0
-ItIsTakenUpAsOne = (p : PlannedShop) (taken : TakenUp) → IsTakenUpByItsPlan p taken → IsRunOf p taken.log.entries
+abbrev pub ItIsRecoveredAsOne : Type 0
+ItIsRecoveredAsOne = (p : PlannedShop) (recovered : Recovered) → IsRecoveredByItsPlan p recovered → IsRunOf p recovered.log.entries
 
 -- behind a controlled run all that is answered, in any manner, makes it longer
 abbrev pub ItIsOneSoFar : Type 0
-ItIsOneSoFar = (p : PlannedShop) (manner : Manner) (entries : List Entry) (number : ℕ) (lines : List (Option (List ℕ))) (text : List ℕ) (end : DrivenCell) → IsWellShaped p → IsRunOf p entries
-    → AnswerAll (StatedAnswers p manner) (driven_so_far p entries) number lines text end → IsRunOf p end.entries
+ItIsOneSoFar = (p : PlannedShop) (protocol : Protocol) (entries : List Entry) (number : ℕ) (lines : List (Option (List ℕ))) (text : List ℕ) (end : DrivenCell) → IsWellShaped p → IsRunOf p entries
+    → AnswerAll (ProtocolAnswers p protocol) (driven_so_far p entries) number lines text end → IsRunOf p end.entries
 
 -- so where driving on succeeded, all events of the log are one controlled run: those from before, the orders that were due, and those that came since
 abbrev pub ADrivenRunGoesOnAsOne : Type 0
-ADrivenRunGoesOnAsOne = (p : PlannedShop) (taken : TakenUp) (end : RestEnd) → IsTakenUpByItsPlan p taken → GoesOnFrom taken end → IsRunOf p end.log.entries
+ADrivenRunGoesOnAsOne = (p : PlannedShop) (recovered : Recovered) (end : RestEnd) → IsRecoveredByItsPlan p recovered → GoesOnFrom recovered end → IsRunOf p end.log.entries
 
 -- and by an accepted plan all stayed as that promises, as if the run had never been cut
 abbrev pub ItStaysAsPromised : Type 0
-ItStaysAsPromised = (v : VerifiedPlan) (taken : TakenUp) (end : RestEnd) → IsVerified v → IsTakenUpByItsPlan v.planned taken → GoesOnFrom taken end → NeverWentWrong v end.log.entries
+ItStaysAsPromised = (v : VerifiedPlan) (recovered : Recovered) (end : RestEnd) → IsVerified v → IsRecoveredByItsPlan v.planned recovered → GoesOnFrom recovered end → NeverWentWrong v end.log.entries
 
 -- ---- its log, cut again
 
 -- where lines tell the first events of a controlled run, the orders that are due are the next
 abbrev pub TheFirstEventsHaveTheirOrders : Type 0
-TheFirstEventsHaveTheirOrders = (p : PlannedShop) (log : List ℕ) (entries : List Entry) → IsWellShaped p → IsRunOf p entries → IsTakenUpFrom p log entries → IsCutFrom p log entries
+TheFirstEventsHaveTheirOrders = (p : PlannedShop) (log : List ℕ) (entries : List Entry) → IsWellShaped p → IsRunOf p entries → IsRunPrefix p log entries → IsCutFrom p log entries
 
 -- so it is with what `resume` writes then, cut at any byte: with the events once more, and the answers and the closing line behind them
 abbrev pub WhatWasResumedHasItsOrders : Type 0
-WhatWasResumedHasItsOrders = (p : PlannedShop) (manner : Manner) (taken : TakenUp) (lines : List (Option (List ℕ))) (answers closing cut lost : List ℕ) (end : DrivenCell) → IsTakenUpByItsPlan p taken
-    → AnswerAll (StatedAnswers p manner) (driven_so_far p taken.log.entries) 1 lines answers end
-    → (closing ≡ []) ⊎ CellCloses p end closing → again_text p manner taken.log.entries taken.late ++ (answers ++ closing) ≡ cut ++ lost → IsCutFrom p cut end.entries
+WhatWasResumedHasItsOrders = (p : PlannedShop) (protocol : Protocol) (recovered : Recovered) (lines : List (Option (List ℕ))) (answers closing cut lost : List ℕ) (end : DrivenCell) → IsRecoveredByItsPlan p recovered
+    → AnswerAll (ProtocolAnswers p protocol) (driven_so_far p recovered.log.entries) 1 lines answers end
+    → (closing ≡ []) ⊎ CellCloses p end closing → again_text p protocol recovered.log.entries recovered.late ++ (answers ++ closing) ≡ cut ++ lost → IsCutFrom p cut end.entries

@@ -13,8 +13,8 @@ use Rattle.event_lines.specs.declared.requests.Claim.TheVariants.{Report}
 use Rattle.event_lines.specs.declared.requests.Request.{Request}
 use Rattle.event_lines.specs.declared.requests.Request.TheVariants.{Claim as ClaimRequest}
 use Rattle.cell_drive.specs.ManyCells.{PlannedCell}
-use Rattle.cell_drive.specs.Stated.{taken_lines}
-use Rattle.cell_drive.specs.StatedCells.{CellsStated}
+use Rattle.cell_drive.specs.ProtocolText.{acceptance_lines}
+use Rattle.cell_drive.specs.ProtocolCells.{ProtocolCellsAnswer}
 use Rattle.drive_laws.specs.VersionsLaw.{in_version}
 
 -- the line asks of no cell what version 1 doesn't have: neither `status` nor `clean M J T`
@@ -31,11 +31,11 @@ pub data IsPlainCellsText : List ℕ → List ℕ → Type 0 where
   refused : (number : ℕ) (name text other : List ℕ) → IsPlainCellsText text other → IsPlainCellsText (refused_line number name ++ text) (refused_line number name ++ other)
   refused_by : (cell number : ℕ) (name : List ℕ) (detail : Detail) (text other : List ℕ) → IsPlainCellsText text other
       → IsPlainCellsText ((cell_prefix cell ++ refused_detail_line number name detail) ++ text) (refused_line number name ++ other)
-  taken_by : (cell : ℕ) (report : reports.Report) (late : Bool) (overdue : Option Overdue) (orders : List MoveOrder) (ended : Bool) (text other : List ℕ) → IsPlainCellsText text other
-      → IsPlainCellsText (taken_lines (cell_prefix cell) report late overdue orders ended ++ text) (taken_lines (cell_prefix cell) report late None orders false ++ other)
+  accepted_by : (cell : ℕ) (report : reports.Report) (late : Bool) (overdue : Option Overdue) (orders : List MoveOrder) (ended : Bool) (text other : List ℕ) → IsPlainCellsText text other
+      → IsPlainCellsText (acceptance_lines (cell_prefix cell) report late overdue orders ended ++ text) (acceptance_lines (cell_prefix cell) report late None orders false ++ other)
 
 -- lines that version 1 has are answered in both versions, with the same reports and orders, and the answers of version 1 are those of version 2 without what it adds
 abbrev pub Version2OnlyAddsForCells : Type 0
-Version2OnlyAddsForCells = (longest : Option ℕ) (from number : ℕ) (lines : List (Option (List ℕ))) (text : List ℕ) (start end : List PlannedCell) → AskInVersion1 lines
-    → AnswerAll (CellsStated (in_version true longest from)) start number lines text end
-    → (other : List ℕ) × AnswerAll (CellsStated (in_version false longest from)) start number lines other end × IsPlainCellsText text other
+Version2OnlyAddsForCells = (max_gap : Option ℕ) (from number : ℕ) (lines : List (Option (List ℕ))) (text : List ℕ) (start end : List PlannedCell) → AskInVersion1 lines
+    → AnswerAll (ProtocolCellsAnswer (in_version true max_gap from)) start number lines text end
+    → (other : List ℕ) × AnswerAll (ProtocolCellsAnswer (in_version false max_gap from)) start number lines other end × IsPlainCellsText text other

@@ -8,21 +8,21 @@ use Rattle.shop_base.specs.Plan.{PlannedShop, clean, IsWellShaped}
 use Rattle.shop_base.specs.Cell.{Cell, start}
 use Rattle.shop_base.specs.Report.{at}
 use Rattle.shop_base.specs.Run.{Event, Reported, Moved, after, IsRun}
-use Rattle.shop_base.specs.AgainLaw.{HasLeft}
+use Rattle.shop_base.specs.AtMostOnceLaw.{HasLeft}
 use Rattle.cell_tables.specs.declared.entry.Entry.{Entry}
 use Rattle.cell_tables.specs.Events.{events_of}
-use Rattle.cell_control.specs.OnceLaw.{NamedEnd, Arrived, Finished, Cleaned, Tells}
+use Rattle.cell_control.specs.OnceLaw.{NamedEnd, Arrived, Finished, Cleaned, ReportsEnd}
 use Rattle.byte_streams.specs.Answering.{AnswerAll}
 use Rattle.event_lines.specs.declared.requests.Claim.{Claim}
 use Rattle.event_lines.specs.declared.requests.Request.{Request}
 use Rattle.event_lines.specs.declared.requests.Request.TheVariants.{Claim as ClaimRequest}
 use Rattle.event_lines.specs.Requests.{claimed}
-use Rattle.cell_drive.specs.declared.manner.Manner.{Manner}
+use Rattle.cell_drive.specs.declared.protocol.Protocol.{Protocol}
 use Rattle.cell_drive.specs.AnswerText.{DrivenCell}
-use Rattle.cell_drive.specs.Stated.{AsksFor, AreStatedTo, StatedAnswers}
-use Rattle.cell_drive.specs.StatedCells.{AsksCell}
-use Rattle.cell_drive.specs.StatedCellsLaw.{SeesLines}
-use Rattle.cell_drive.specs.StatedLaw.{named}
+use Rattle.cell_drive.specs.ProtocolText.{AsksFor, AreProtocolAnswers, ProtocolAnswers}
+use Rattle.cell_drive.specs.ProtocolCells.{AsksCell}
+use Rattle.cell_drive.specs.ProtocolCellsLaw.{SeesLines}
+use Rattle.cell_drive.specs.ProtocolLaw.{named}
 use Rattle.cell_drive.specs.Resuming.{driven_so_far}
 
 -- what has ended so far on a floor, in one run: each arrival, each operation and each cleaning after a job, and at which moment
@@ -54,18 +54,18 @@ AreRight floor p es = (before later : List Event) (o : MoveOrder) → es ≡ bef
 -- ---- what is reported
 
 -- the report tells what has ended by its moment
-abbrev pub TellsTruth : Floor → PlannedShop → Cell → Report → Type 0
-TellsTruth floor p c r = (ended : NamedEnd) × Tells p c r ended × HasEndedBy floor ended (at r)
+abbrev pub IsTrueReport : Floor → PlannedShop → Cell → Report → Type 0
+IsTrueReport floor p c r = (ended : NamedEnd) × ReportsEnd p c r ended × HasEndedBy floor ended (at r)
 
 -- so does each report among these events, from this cell on
-abbrev pub TellTruth : Floor → PlannedShop → Cell → List Event → Type 0
-TellTruth floor p c [] = Unit {0}
-TellTruth floor p c (Reported r ∷ es) = TellsTruth floor p c r × TellTruth floor p (after p c (Reported r)) es
-TellTruth floor p c (Moved o ∷ es) = TellTruth floor p (after p c (Moved o)) es
+abbrev pub AreTrue : Floor → PlannedShop → Cell → List Event → Type 0
+AreTrue floor p c [] = Unit {0}
+AreTrue floor p c (Reported r ∷ es) = IsTrueReport floor p c r × AreTrue floor p (after p c (Reported r)) es
+AreTrue floor p c (Moved o ∷ es) = AreTrue floor p (after p c (Moved o)) es
 
 -- in any run whose reports do, each order is right
 abbrev pub NothingIsOrderedWrongly : Type 0
-NothingIsOrderedWrongly = (floor : Floor) (p : PlannedShop) (es : List Event) → IsWellShaped p → IsRun p es → TellTruth floor p (start p) es → AreRight floor p es
+NothingIsOrderedWrongly = (floor : Floor) (p : PlannedShop) (es : List Event) → IsWellShaped p → IsRun p es → AreTrue floor p (start p) es → AreRight floor p es
 
 -- ---- what is sent
 
@@ -84,16 +84,16 @@ SayTruth floor asks (line ∷ lines) = SaysTruth floor asks line × SayTruth flo
 
 -- each order that answers such lines is right
 abbrev pub ADrivenCellOrdersRightly : Type 0
-ADrivenCellOrdersRightly = (floor : Floor) (p : PlannedShop) (manner : Manner) (lines : List (Option (List ℕ))) (text : List ℕ) (end : DrivenCell) → IsWellShaped p
-    → AreStatedTo p manner lines text end → SayTruth floor (AsksFor manner.tells) lines → AreRight floor p (events_of end.entries)
+ADrivenCellOrdersRightly = (floor : Floor) (p : PlannedShop) (protocol : Protocol) (lines : List (Option (List ℕ))) (text : List ℕ) (end : DrivenCell) → IsWellShaped p
+    → AreProtocolAnswers p protocol lines text end → SayTruth floor (AsksFor protocol.version_2) lines → AreRight floor p (events_of end.entries)
 
 -- also behind the events of a log, whose reports tell the truth
 abbrev pub ARunThatGoesOnOrdersRightly : Type 0
-ARunThatGoesOnOrdersRightly = (floor : Floor) (p : PlannedShop) (manner : Manner) (entries : List Entry) (lines : List (Option (List ℕ))) (number : ℕ) (text : List ℕ) (end : DrivenCell) → IsWellShaped p
-    → IsRun p (events_of entries) → TellTruth floor p (start p) (events_of entries) → AnswerAll (StatedAnswers p manner) (driven_so_far p entries) number lines text end
-    → SayTruth floor (AsksFor manner.tells) lines → AreRight floor p (events_of end.entries)
+ARunThatGoesOnOrdersRightly = (floor : Floor) (p : PlannedShop) (protocol : Protocol) (entries : List Entry) (lines : List (Option (List ℕ))) (number : ℕ) (text : List ℕ) (end : DrivenCell) → IsWellShaped p
+    → IsRun p (events_of entries) → AreTrue floor p (start p) (events_of entries) → AnswerAll (ProtocolAnswers p protocol) (driven_so_far p entries) number lines text end
+    → SayTruth floor (AsksFor protocol.version_2) lines → AreRight floor p (events_of end.entries)
 
 -- and in each cell of several, of whose lines those are such that ask something of it
 abbrev pub EachCellOrdersRightly : Type 0
-EachCellOrdersRightly = (floor : Floor) (p : PlannedShop) (manner : Manner) (cell number : ℕ) (lines : List (Option (List ℕ))) (events : List Entry) (end : Cell) → IsWellShaped p
-    → SeesLines p manner cell number (start p) lines events end → SayTruth floor (λ words. AsksCell manner.tells words cell) lines → AreRight floor p (events_of events)
+EachCellOrdersRightly = (floor : Floor) (p : PlannedShop) (protocol : Protocol) (cell number : ℕ) (lines : List (Option (List ℕ))) (events : List Entry) (end : Cell) → IsWellShaped p
+    → SeesLines p protocol cell number (start p) lines events end → SayTruth floor (λ words. AsksCell protocol.version_2 words cell) lines → AreRight floor p (events_of events)

@@ -7,17 +7,17 @@ use Rattle.cell_tables.specs.declared.entry.Entry.{Entry}
 use Rattle.cell_tables.specs.Events.{events_of}
 use Rattle.event_lines.specs.declared.requests.Claim.{Claim}
 use Rattle.event_lines.specs.Requests.{claimed}
-use Rattle.cell_drive.specs.declared.manner.Manner.{Manner}
+use Rattle.cell_drive.specs.declared.protocol.Protocol.{Protocol}
 use Rattle.cell_drive.specs.OneRun.{cell_after}
-use Rattle.cell_drive.specs.Refusals.{CanClaim, IsTaken}
+use Rattle.cell_drive.specs.Refusals.{CanClaim, IsAdmissible}
 
 -- no release, no nominal time and no cleaning time of the plan is longer than this
-pub record HasNoLongerTime (p : PlannedShop) (longest : ℕ) : Type 0 where
-  pub releases : (j : ℕ) → j < jobs p → release p j ≤ longest
-  pub nominals : (j k : ℕ) → j < jobs p → k < steps p j → nominal p j k ≤ longest
-  pub cleanings : (m : ℕ) → m < machines p → clean p m ≤ longest
+pub record HasNoLongerTime (p : PlannedShop) (max_gap : ℕ) : Type 0 where
+  pub releases : (j : ℕ) → j < jobs p → release p j ≤ max_gap
+  pub nominals : (j k : ℕ) → j < jobs p → k < steps p j → nominal p j k ≤ max_gap
+  pub cleanings : (m : ℕ) → m < machines p → clean p m ≤ max_gap
 
 -- at the end of any run a claim that is possible and punctual is then taken
 abbrev pub NoPunctualReportLeaps : Type 0
-NoPunctualReportLeaps = (p : PlannedShop) (manner : Manner) (longest : ℕ) (entries : List Entry) (claim : Claim) → IsWellShaped p → manner.longest ≡ Some longest → HasNoLongerTime p longest
-    → IsRun p (events_of entries) → CanClaim p (cell_after p entries) claim → IsPunctual p (cell_after p entries) (claimed claim) → IsTaken manner p (cell_after p entries) claim
+NoPunctualReportLeaps = (p : PlannedShop) (protocol : Protocol) (max_gap : ℕ) (entries : List Entry) (claim : Claim) → IsWellShaped p → protocol.max_gap ≡ Some max_gap → HasNoLongerTime p max_gap
+    → IsRun p (events_of entries) → CanClaim p (cell_after p entries) claim → IsPunctual p (cell_after p entries) (claimed claim) → IsAdmissible protocol p (cell_after p entries) claim

@@ -1,7 +1,7 @@
 -- Reached by public clauses: to be read and believed.
 pub mod CellsAlone
 pub mod AnswerLaw
-pub mod TakingUpLaw
+pub mod RecoveryLaw
 pub mod FloorLaw
 pub mod StatesLaw
 pub mod LeapLaw

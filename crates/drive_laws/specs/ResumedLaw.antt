@@ -4,27 +4,27 @@ use Rattle.shop_base.specs.declared.report.Report.{Report}
 use Rattle.shop_base.specs.Plan.{PlannedShop, IsWellShaped}
 use Rattle.cell_tables.specs.declared.entry.Entry.{Entry}
 use Rattle.cell_tables.specs.declared.entry.Entry.TheVariants.{Report as ReportEntry}
-use Rattle.cell_control.specs.OnceLaw.{NamedEnd, Tells}
+use Rattle.cell_control.specs.OnceLaw.{NamedEnd, ReportsEnd}
 use Rattle.byte_streams.specs.Answering.{AnswerAll}
 use Rattle.event_lines.specs.declared.requests.Claim.{Claim}
 use Rattle.cell_drive.specs.Refusals.{CanClaim}
 use Rattle.cell_drive.specs.AnswerText.{DrivenCell}
 use Rattle.cell_drive.specs.OneRun.{cell_after}
-use Rattle.cell_drive.specs.Stated.{StatedAnswers}
-use Rattle.cell_drive.specs.StatedLaw.{named}
+use Rattle.cell_drive.specs.ProtocolText.{ProtocolAnswers}
+use Rattle.cell_drive.specs.ProtocolLaw.{named}
 use Rattle.drive_laws.specs.VersionsLaw.{AreOfVersion1, IsPlainText, in_version}
-use Rattle.cell_drive.specs.declared.manner.Manner.{Manner}
+use Rattle.cell_drive.specs.declared.protocol.Protocol.{Protocol}
 use Rattle.cell_drive.specs.Resuming.{again_text, driven_so_far, IsRunToRest}
 
 -- so it is while lines are answered behind a run to rest in which it was reported
-abbrev pub NothingOfALogIsTakenAgain : Type 0
-NothingOfALogIsTakenAgain = (p : PlannedShop) (manner : Manner) (before after : List Entry) (report : Report) (lines : List (Option (List ℕ))) (number : ℕ) (text : List ℕ) (end : DrivenCell) (again : Claim) (ended : NamedEnd)
-    → IsWellShaped p → IsRunToRest p (before ++ ReportEntry report ∷ after) → Tells p (cell_after p before) report ended
-    → AnswerAll (StatedAnswers p manner) (driven_so_far p (before ++ ReportEntry report ∷ after)) number lines text end → named again ≡ Some ended → CanClaim p end.cell again → ⊥
+abbrev pub NothingOfALogIsAcceptedAgain : Type 0
+NothingOfALogIsAcceptedAgain = (p : PlannedShop) (protocol : Protocol) (before after : List Entry) (report : Report) (lines : List (Option (List ℕ))) (number : ℕ) (text : List ℕ) (end : DrivenCell) (again : Claim) (ended : NamedEnd)
+    → IsWellShaped p → IsRunToRest p (before ++ ReportEntry report ∷ after) → ReportsEnd p (cell_after p before) report ended
+    → AnswerAll (ProtocolAnswers p protocol) (driven_so_far p (before ++ ReportEntry report ∷ after)) number lines text end → named again ≡ Some ended → CanClaim p end.cell again → ⊥
 
 -- where the lines are those that version 1 has, what is written in version 1 is what is written in version 2 without what that adds, from the events that are told again on
 abbrev pub ResumingOnlyAdds : Type 0
-ResumingOnlyAdds = (p : PlannedShop) (longest : Option ℕ) (from : ℕ) (entries : List Entry) (late : List Bool) (lines : List (Option (List ℕ))) (text : List ℕ) (end : DrivenCell) → AreOfVersion1 lines
-    → AnswerAll (StatedAnswers p (in_version true longest from)) (driven_so_far p entries) 1 lines text end
-    → (other : List ℕ) × AnswerAll (StatedAnswers p (in_version false longest from)) (driven_so_far p entries) 1 lines other end
-    × IsPlainText (again_text p (in_version true longest from) entries late ++ text) (again_text p (in_version false longest from) entries late ++ other)
+ResumingOnlyAdds = (p : PlannedShop) (max_gap : Option ℕ) (from : ℕ) (entries : List Entry) (late : List Bool) (lines : List (Option (List ℕ))) (text : List ℕ) (end : DrivenCell) → AreOfVersion1 lines
+    → AnswerAll (ProtocolAnswers p (in_version true max_gap from)) (driven_so_far p entries) 1 lines text end
+    → (other : List ℕ) × AnswerAll (ProtocolAnswers p (in_version false max_gap from)) (driven_so_far p entries) 1 lines other end
+    × IsPlainText (again_text p (in_version true max_gap from) entries late ++ text) (again_text p (in_version false max_gap from) entries late ++ other)

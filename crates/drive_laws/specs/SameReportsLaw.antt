@@ -12,12 +12,12 @@ use Rattle.event_lines.specs.ReadBack.{IsSpaceless}
 use Rattle.event_lines.specs.StandingLines.{refused_detail_line}
 use Rattle.event_lines.specs.declared.details.Detail.{Detail}
 use Rattle.event_lines.specs.declared.details.Overdue.{Overdue}
-use Rattle.cell_drive.specs.declared.manner.Manner.{Manner}
+use Rattle.cell_drive.specs.declared.protocol.Protocol.{Protocol}
 use Rattle.cell_drive.specs.AnswerText.{DrivenCell, CellAnswers, AreAnswersTo}
 use Rattle.cell_drive.specs.LineAnswers.{accepted_lines}
 use Rattle.cell_drive.specs.States.{state_text}
-use Rattle.cell_drive.specs.Stated.{StatedAnswers, taken_lines}
-use Rattle.cell_drive.specs.StatedCellsLaw.{SeesLines}
+use Rattle.cell_drive.specs.ProtocolText.{ProtocolAnswers, acceptance_lines}
+use Rattle.cell_drive.specs.ProtocolCellsLaw.{SeesLines}
 use Rattle.drive_laws.specs.AnswerLaw.{AreReportLines}
 
 -- a text of answers, and the same without refusals and states, without what stands behind the moment of a late report, and without an end that is told at once
@@ -25,19 +25,19 @@ pub data KeepsReports (p : PlannedShop) : List ℕ → List ℕ → Type 0 where
   nothing_more : KeepsReports p [] []
   refused : (number : ℕ) (name : List ℕ) (detail : Detail) (text other : List ℕ) → IsSpaceless name → KeepsReports p text other → KeepsReports p (refused_detail_line number name detail ++ text) other
   state : (c : Cell) (text other : List ℕ) → KeepsReports p text other → KeepsReports p (state_text [] p c ++ text) other
-  taken : (report : Report) (late : Bool) (overdue : Option Overdue) (orders : List MoveOrder) (ended : Bool) (text other : List ℕ) → KeepsReports p text other
-      → KeepsReports p (taken_lines [] report late overdue orders ended ++ text) (accepted_lines [] report late orders ++ other)
+  accepted : (report : Report) (late : Bool) (overdue : Option Overdue) (orders : List MoveOrder) (ended : Bool) (text other : List ℕ) → KeepsReports p text other
+      → KeepsReports p (acceptance_lines [] report late overdue orders ended ++ text) (accepted_lines [] report late orders ++ other)
 
 -- let lines be answered in a manner, and let others be just the reports that were accepted. To these version 1 answers the same lines of reports and orders, and comes to the same cell, with the same events
 abbrev pub TheSameReportsAreAnsweredSo : Type 0
-TheSameReportsAreAnsweredSo = (p : PlannedShop) (manner : Manner) (number first : ℕ) (lines reports : List (Option (List ℕ))) (text : List ℕ) (start end : DrivenCell) (more : List Entry)
-    → AnswerAll (StatedAnswers p manner) start number lines text end → end.entries ≡ start.entries ++ more → AreReportLines reports more
+TheSameReportsAreAnsweredSo = (p : PlannedShop) (protocol : Protocol) (number first : ℕ) (lines reports : List (Option (List ℕ))) (text : List ℕ) (start end : DrivenCell) (more : List Entry)
+    → AnswerAll (ProtocolAnswers p protocol) start number lines text end → end.entries ≡ start.entries ++ more → AreReportLines reports more
     → (other : List ℕ) × AnswerAll (CellAnswers p) start first reports other end × KeepsReports p text other
 
 -- so it comes to the same cell as each of several does, with the same events
 abbrev pub TheSameReportsOfACell : Type 0
-TheSameReportsOfACell = (p : PlannedShop) (manner : Manner) (cell number : ℕ) (lines reports : List (Option (List ℕ))) (events : List Entry) (end : Cell)
-    → SeesLines p manner cell number (start p) lines events end → AreReportLines reports events
+TheSameReportsOfACell = (p : PlannedShop) (protocol : Protocol) (cell number : ℕ) (lines reports : List (Option (List ℕ))) (events : List Entry) (end : Cell)
+    → SeesLines p protocol cell number (start p) lines events end → AreReportLines reports events
     → (other : List ℕ) × AreAnswersTo p reports other (record { cell = end; entries = events })
 
 -- and such lines are there for the reports of any run, behind any of its events

@@ -12,7 +12,7 @@ use Rattle.cell_tables.specs.Events.{events_of}
 use Rattle.cell_tables.specs.Standings.{job_standing, machine_standing}
 use Rattle.event_lines.specs.declared.requests.Claim.{Claim}
 use Rattle.event_lines.specs.Requests.{claimed}
-use Rattle.cell_drive.specs.declared.manner.Manner.{Manner}
+use Rattle.cell_drive.specs.declared.protocol.Protocol.{Protocol}
 use Rattle.cell_drive.specs.OneRun.{cell_after}
 use Rattle.cell_drive.specs.States.{overdue_in}
 use Rattle.shop_base.specs.declared.move_order.Spot.{Spot}
@@ -75,8 +75,8 @@ StandingsAreShort = (p : PlannedShop) (entries : List Entry) → IsWellShaped p 
 
 -- and those that are told of a refusal
 abbrev pub DetailsAreShort : Type 0
-DetailsAreShort = (p : PlannedShop) (manner : Manner) (entries : List Entry) (claim : Claim) (refusal : Refusal) → IsWellShaped p → IsRun p (events_of entries) → manner.from ≤ MAX_MOMENT
-    → IsRefusal manner p (cell_after p entries) claim refusal → IsShortDetail (refusal_detail manner p (cell_after p entries) (claimed claim) refusal)
+DetailsAreShort = (p : PlannedShop) (protocol : Protocol) (entries : List Entry) (claim : Claim) (refusal : Refusal) → IsWellShaped p → IsRun p (events_of entries) → protocol.from ≤ MAX_MOMENT
+    → IsRefusal protocol p (cell_after p entries) claim refusal → IsShortDetail (refusal_detail protocol p (cell_after p entries) (claimed claim) refusal)
 
 -- and those that are told to be overdue as a report comes
 abbrev pub OverdueIsShort : Type 0

@@ -13,9 +13,9 @@ use Rattle.event_lines.specs.declared.requests.Claim.TheVariants.{Report}
 use Rattle.event_lines.specs.declared.requests.Request.{Request}
 use Rattle.event_lines.specs.declared.requests.Request.TheVariants.{Claim as ClaimRequest}
 use Rattle.event_lines.specs.Requests.{IsRequestLine}
-use Rattle.cell_drive.specs.declared.manner.Manner.{Manner}
+use Rattle.cell_drive.specs.declared.protocol.Protocol.{Protocol}
 use Rattle.cell_drive.specs.AnswerText.{DrivenCell}
-use Rattle.cell_drive.specs.Stated.{StatedAnswers, taken_lines}
+use Rattle.cell_drive.specs.ProtocolText.{ProtocolAnswers, acceptance_lines}
 
 -- the line asks for nothing that version 1 doesn't have: neither `status` nor `clean M J T`
 abbrev pub IsOfVersion1 : Option (List ℕ) → Type 0
@@ -29,17 +29,17 @@ AreOfVersion1 (line ∷ lines) = IsOfVersion1 line × AreOfVersion1 lines
 pub data IsPlainText : List ℕ → List ℕ → Type 0 where
   nothing_more : IsPlainText [] []
   refused : (number : ℕ) (name : List ℕ) (detail : Detail) (text other : List ℕ) → IsPlainText text other → IsPlainText (refused_detail_line number name detail ++ text) (refused_line number name ++ other)
-  taken : (report : reports.Report) (late : Bool) (overdue : Option Overdue) (orders : List MoveOrder) (ended : Bool) (text other : List ℕ) → IsPlainText text other
-      → IsPlainText (taken_lines [] report late overdue orders ended ++ text) (taken_lines [] report late None orders false ++ other)
+  accepted : (report : reports.Report) (late : Bool) (overdue : Option Overdue) (orders : List MoveOrder) (ended : Bool) (text other : List ℕ) → IsPlainText text other
+      → IsPlainText (acceptance_lines [] report late overdue orders ended ++ text) (acceptance_lines [] report late None orders false ++ other)
   ordered : (order : MoveOrder) (text other : List ℕ) → IsPlainText text other → IsPlainText (order_line order ++ text) (order_line order ++ other)
   empty_line : (text other : List ℕ) → IsPlainText text other → IsPlainText (10 ∷ text) (10 ∷ other)
 
 -- in this version of the lines, with the longest time that may pass, from a moment on
-abbrev pub in_version : Bool → Option ℕ → ℕ → Manner
-in_version tells longest from = record { tells = tells; longest = longest; from = from }
+abbrev pub in_version : Bool → Option ℕ → ℕ → Protocol
+in_version version_2 max_gap from = record { version_2 = version_2; max_gap = max_gap; from = from }
 
 -- lines that version 1 has are answered in both versions, with the same reports and orders, and the answers of version 1 are those of version 2 without what it adds
 abbrev pub Version2OnlyAdds : Type 0
-Version2OnlyAdds = (p : PlannedShop) (longest : Option ℕ) (from number : ℕ) (lines : List (Option (List ℕ))) (text : List ℕ) (start end : DrivenCell) → AreOfVersion1 lines
-    → AnswerAll (StatedAnswers p (in_version true longest from)) start number lines text end
-    → (other : List ℕ) × AnswerAll (StatedAnswers p (in_version false longest from)) start number lines other end × IsPlainText text other
+Version2OnlyAdds = (p : PlannedShop) (max_gap : Option ℕ) (from number : ℕ) (lines : List (Option (List ℕ))) (text : List ℕ) (start end : DrivenCell) → AreOfVersion1 lines
+    → AnswerAll (ProtocolAnswers p (in_version true max_gap from)) start number lines text end
+    → (other : List ℕ) × AnswerAll (ProtocolAnswers p (in_version false max_gap from)) start number lines other end × IsPlainText text other

@@ -4,21 +4,21 @@
 // Nothing is done here: a function's contract is the law, so a check of this crate proves it.
 
 ghost use Rattle.cell_drive.specs.AuditLaw.{AnAnswerTextIsALog};
-ghost use Rattle.cell_drive.specs.CutLaw.{ACutLogIsTakenUp, WhatWasDrivenIsTakenUp, WhatWasResumedIsTakenUp, WhatWasResumedCanBeTakenUp, ACutLogHasItsOrders, WhatWasDrivenHasItsOrders, ItCanBeTakenUp, ItIsTakenUpWithItsOrders};
+ghost use Rattle.cell_drive.specs.CutLaw.{ACutLogIsRecovered, WhatWasDrivenIsRecovered, WhatWasResumedIsRecovered, WhatWasResumedIsRecoverable, ACutLogHasItsOrders, WhatWasDrivenHasItsOrders, ItIsRecoverable, ItIsRecoveredWithItsOrders};
 ghost use Rattle.cell_drive.specs.Resuming.{AResumedTextIsALog, AnAuditKeepsWhatWasResumed, OneResumedText, WhatWasResumedIsSuchAText, WhatWasResumedGoesOn};
-ghost use Rattle.cell_drive.specs.StatedCellsLaw.{OneStatedCellsText, OneStatedCellsTextForLines, EachStatedCellIsAlone, PlainlyAsEverForCells};
-ghost use Rattle.cell_drive.specs.StatedLaw.{OneAnswerText, OneTextForLines, ASessionAnswersSo, AnAuditKeepsWhatWasDriven, PlainlyAsEver, RetoldAsEver, NothingIsTakenTwice, NothingOfARunIsClaimedAgain, ALateReportFindsSomethingOverdue};
-ghost use Rattle.drive_laws.specs.AnswerLaw.{ToldAsAnswered, ToldAsStated};
-ghost use Rattle.drive_laws.specs.AsOneLaw.{ItIsTakenUpAsOne, ItIsOneSoFar, ADrivenRunGoesOnAsOne, ItStaysAsPromised, TheFirstEventsHaveTheirOrders, WhatWasResumedHasItsOrders};
+ghost use Rattle.cell_drive.specs.ProtocolCellsLaw.{OneCellsText, OneCellsTextForLines, EachProtocolCellIsAlone, PlainlyAsEverForCells};
+ghost use Rattle.cell_drive.specs.ProtocolLaw.{OneAnswerText, OneTextForLines, ASessionAnswersSo, AnAuditKeepsWhatWasDriven, PlainlyAsEver, PlainReplay, NothingIsAcceptedTwice, NothingOfARunIsClaimedAgain, ALateReportFindsSomethingOverdue};
+ghost use Rattle.drive_laws.specs.AnswerLaw.{ReplayAsAnswered, ReplayInProtocol};
+ghost use Rattle.drive_laws.specs.AsOneLaw.{ItIsRecoveredAsOne, ItIsOneSoFar, ADrivenRunGoesOnAsOne, ItStaysAsPromised, TheFirstEventsHaveTheirOrders, WhatWasResumedHasItsOrders};
 ghost use Rattle.drive_laws.specs.CellsAlone.{EachCellIsAsAlone};
 ghost use Rattle.drive_laws.specs.CellsVersionsLaw.{Version2OnlyAddsForCells};
 ghost use Rattle.drive_laws.specs.FloorLaw.{NothingIsOrderedWrongly, ADrivenCellOrdersRightly, ARunThatGoesOnOrdersRightly, EachCellOrdersRightly};
 ghost use Rattle.drive_laws.specs.LeapLaw.{NoPunctualReportLeaps};
-ghost use Rattle.drive_laws.specs.ResumedLaw.{NothingOfALogIsTakenAgain, ResumingOnlyAdds};
+ghost use Rattle.drive_laws.specs.ResumedLaw.{NothingOfALogIsAcceptedAgain, ResumingOnlyAdds};
 ghost use Rattle.drive_laws.specs.SameReportsLaw.{TheSameReportsAreAnsweredSo, TheSameReportsOfACell, EachReportHasALine};
 ghost use Rattle.drive_laws.specs.ShortLinesLaw.{StateLinesAreShort, RefusalsAreShort, LateLinesAreShort, StandingsAreShort, DetailsAreShort, OverdueIsShort, LineNumbersAreShort};
 ghost use Rattle.drive_laws.specs.StatesLaw.{OnlyGoneJobsAreLeftOut, OnlyCleanMachinesAreLeftOut};
-ghost use Rattle.drive_laws.specs.TakingUpLaw.{OneTakingUp, OneTextFromALog, ALogWithoutEventsIsDriven};
+ghost use Rattle.drive_laws.specs.RecoveryLaw.{OneRecovery, OneTextFromALog, ALogWithoutEventsIsDriven};
 ghost use Rattle.drive_laws.specs.VersionsLaw.{Version2OnlyAdds};
 
 pub use byte_streams::laws::the_limits_of_an_input_in_numbers;
@@ -36,8 +36,8 @@ pub fn one_answer_text()
 /// The same of an input of several cells, each of an accepted plan, in each manner: one text at most, which leads to one
 /// list of what the cells hold.
 pub fn one_answer_text_of_cells()
-    ensures whole { OneStatedCellsText }
-    ensures lines { OneStatedCellsTextForLines }
+    ensures whole { OneCellsText }
+    ensures lines { OneCellsTextForLines }
 {}
 
 /// Let cells by accepted plans answer any lines. Each of them is then as with a controller alone that was made of its
@@ -64,11 +64,11 @@ pub fn an_audit_keeps_what_was_driven()
 /// Cut the log of a run after any number of bytes. The ended lines of what is left tell the first events of that run. So
 /// it is with what a cell has written in any manner, from the start of its run or from where that was taken up; and what was
 /// taken up can be taken up again by the same plan, wherever the line of its first event is out, or the plan is an accepted one.
-pub fn a_cut_log_is_taken_up()
-    ensures log { ACutLogIsTakenUp }
-    ensures driven { WhatWasDrivenIsTakenUp }
-    ensures resumed { WhatWasResumedIsTakenUp }
-    ensures again { WhatWasResumedCanBeTakenUp }
+pub fn a_cut_log_is_recovered()
+    ensures log { ACutLogIsRecovered }
+    ensures driven { WhatWasDrivenIsRecovered }
+    ensures resumed { WhatWasResumedIsRecovered }
+    ensures again { WhatWasResumedIsRecoverable }
 {}
 
 /// Cut the log of a controlled run after any number of bytes, as one that `drive` writes in any manner. The events of its
@@ -78,17 +78,17 @@ pub fn a_cut_log_is_taken_up()
 pub fn a_cut_log_has_its_orders()
     ensures log { ACutLogHasItsOrders }
     ensures driven { WhatWasDrivenHasItsOrders }
-    ensures can { ItCanBeTakenUp }
-    ensures orders { ItIsTakenUpWithItsOrders }
+    ensures can { ItIsRecoverable }
+    ensures orders { ItIsRecoveredWithItsOrders }
 {}
 
 /// Let a log be that of a controlled run, and let the lines of an input be the reports of that run, one after another. The events that
 /// are written again, and then the orders that are due, are what `drive` answers to those lines. The mark between
-/// them isn't. So it is in each manner in which those lines are taken, where a cleaning may be reported by its job; but `done T`, which
+/// them isn't. So it is in each manner in which those lines are recovered, where a cleaning may be reported by its job; but `done T`, which
 /// the manner may ask for at once behind the last order of a run, isn't written again.
-pub fn told_as_answered()
-    ensures plain { ToldAsAnswered }
-    ensures stated { ToldAsStated }
+pub fn replay_as_answered()
+    ensures plain { ReplayAsAnswered }
+    ensures stated { ReplayInProtocol }
 {}
 
 /// For a well-shaped plan, and in each manner, an input has one text that answers it after what was taken up, which leads to
@@ -100,8 +100,8 @@ pub fn one_resumed_text()
 
 /// A log is taken up in one way: by a plan, and at a present moment, as one cell with one list of events, of which the same are
 /// told as late. So an input has one text that answers it from there, in each manner.
-pub fn one_taking_up()
-    ensures one { OneTakingUp }
+pub fn one_recovery()
+    ensures one { OneRecovery }
     ensures text { OneTextFromALog }
 {}
 
@@ -134,7 +134,7 @@ pub fn what_was_resumed_goes_on()
 pub fn a_driven_run_goes_on_as_one()
     ensures run { ADrivenRunGoesOnAsOne }
     ensures promised { ItStaysAsPromised }
-    ensures taken { ItIsTakenUpAsOne }
+    ensures recovered { ItIsRecoveredAsOne }
     ensures so_far { ItIsOneSoFar }
     ensures resumed { WhatWasResumedHasItsOrders }
     ensures first { TheFirstEventsHaveTheirOrders }
@@ -143,9 +143,9 @@ pub fn a_driven_run_goes_on_as_one()
 /// Let cells by accepted plans answer any lines in a manner. Each of them answers what the lines ask of it as it would
 /// alone, whatever they ask of the others: these events are the controlled run of some reports, through which all stays
 /// as the plan promises, and which has ended exactly where as many reports were accepted as the stated number.
-#[tactic(auto, using(crate::proofs::StatedAlone::stated_alone))]
-pub fn each_stated_cell_is_alone()
-    ensures { EachStatedCellIsAlone }
+#[tactic(auto, using(crate::proofs::ProtocolAlone::protocol_alone))]
+pub fn each_protocol_cell_is_alone()
+    ensures { EachProtocolCellIsAlone }
 {}
 
 /// In version 1 of the lines, and with no moment that leaps, each line is answered as `drive` answers it, and by several cells
@@ -154,7 +154,7 @@ pub fn each_stated_cell_is_alone()
 pub fn plainly_as_ever()
     ensures answered { PlainlyAsEver }
     ensures cells { PlainlyAsEverForCells }
-    ensures retold { RetoldAsEver }
+    ensures replayed_part { PlainReplay }
 {}
 
 /// Lines among which there is neither `status` nor `clean M J T` lead in both versions to the same cell, with the same
@@ -176,10 +176,10 @@ pub fn version_2_only_adds()
 /// However often the lines of an arrival, of a finish or of a cleaning after a job are sent to a driven cell, and with
 /// whatever moments, it takes one of them at most. Once there is such a report in a run, it takes none: so in the run of each cell
 /// of a hub, and in one that was taken up from a log.
-pub fn nothing_is_taken_twice()
-    ensures driven { NothingIsTakenTwice }
+pub fn nothing_is_accepted_twice()
+    ensures driven { NothingIsAcceptedTwice }
     ensures run { NothingOfARunIsClaimedAgain }
-    ensures resumed { NothingOfALogIsTakenAgain }
+    ensures resumed { NothingOfALogIsAcceptedAgain }
 {}
 
 /// Let what has ended so far on a floor be given, in one run: each arrival, each operation, and each cleaning after a job, and at

@@ -68,6 +68,6 @@ pub no_line-report : (line : List ℕ) → starts_with nat_eq line (codes "o") �
 no_line-report line first none = no_line line none (λ rest is. let other : starts_with nat_eq line (codes "o") ≡ true = ap (λ l. starts_with nat_eq l (codes "o")) is in cc)
 
 -- a line that tells an entry isn't passed over
-pub told-not_passed : (line : List ℕ) (entry : Entry) → IsEntryLine line entry → is_passed_over line ≡ false
-told-not_passed line (ReportEntry report) found = let first = text_before line (codes "report") (moment (at report)) (end_words report) found in ap is_passed_over first.1
-told-not_passed line (OrderEntry order) found = let first = text_before line (codes "order") (moment order.at) (move_numbers order) found in ap is_passed_over first.1
+pub parsed-not_passed : (line : List ℕ) (entry : Entry) → IsEntryLine line entry → is_passed_over line ≡ false
+parsed-not_passed line (ReportEntry report) found = let first = text_before line (codes "report") (moment (at report)) (end_words report) found in ap is_passed_over first.1
+parsed-not_passed line (OrderEntry order) found = let first = text_before line (codes "order") (moment order.at) (move_numbers order) found in ap is_passed_over first.1

@@ -10,9 +10,9 @@ use Rattle.text_lines.specs.Numbers.{IsNumeral}
 use Rattle.cell_tables.specs.declared.entry.Entry.{Entry}
 use Rattle.cell_tables.specs.declared.entry.Entry.TheVariants.{Report as ReportEntry, Order as OrderEntry}
 use Rattle.event_lines.specs.Words.{Word, Text, Number, short, spaced_words, IsRead, AreRead}
-use Rattle.event_lines.specs.EventLines.{spot_word, told_words, order_words}
+use Rattle.event_lines.specs.EventLines.{spot_word, logged_words, order_words}
 use Rattle.event_lines.specs.SentLines.{sent_words, IsReportLine}
-use Rattle.event_lines.specs.LogLines.{LineTells, LinesTell}
+use Rattle.event_lines.specs.LogLines.{LineParses, LinesParse}
 use Rattle.event_lines.specs.declared.requests.Request.{Request}
 use Rattle.event_lines.specs.declared.requests.Request.TheVariants.{Claim as ClaimRequest, Status}
 use Rattle.event_lines.specs.declared.requests.Claim.{Claim}
@@ -50,16 +50,16 @@ all_both (bytes ∷ line) (v ∷ vs) (w ∷ ws) is also = (both bytes v w is.0 a
 
 -- ---- reports
 
-same_told : (one other : Report) → AllBoth (told_words one) (told_words other) → other ≡ one
-same_told (Arrive job at) (Arrive job' at') (_, (t, (_, (j, _)))) = ap₂ (λ x y. Arrive x y) j t
-same_told (Arrive job at) (Finish job' machine' at') (_, (_, (name, _))) = absurd (unlike 102 97 _ _ refl name)
-same_told (Arrive job at) (Clean machine' at') (_, (_, (name, _))) = absurd (unlike 99 97 _ _ refl name)
-same_told (Finish job machine at) (Arrive job' at') (_, (_, (name, _))) = absurd (unlike 97 102 _ _ refl name)
-same_told (Finish job machine at) (Finish job' machine' at') (_, (t, (_, (j, (m, _))))) = cc (t, j, m)
-same_told (Finish job machine at) (Clean machine' at') (_, (_, (name, _))) = absurd (unlike 99 102 _ _ refl name)
-same_told (Clean machine at) (Arrive job' at') (_, (_, (name, _))) = absurd (unlike 97 99 _ _ refl name)
-same_told (Clean machine at) (Finish job' machine' at') (_, (_, (name, _))) = absurd (unlike 102 99 _ _ refl name)
-same_told (Clean machine at) (Clean machine' at') (_, (t, (_, (m, _)))) = ap₂ (λ x y. Clean x y) m t
+same_parsed : (one other : Report) → AllBoth (logged_words one) (logged_words other) → other ≡ one
+same_parsed (Arrive job at) (Arrive job' at') (_, (t, (_, (j, _)))) = ap₂ (λ x y. Arrive x y) j t
+same_parsed (Arrive job at) (Finish job' machine' at') (_, (_, (name, _))) = absurd (unlike 102 97 _ _ refl name)
+same_parsed (Arrive job at) (Clean machine' at') (_, (_, (name, _))) = absurd (unlike 99 97 _ _ refl name)
+same_parsed (Finish job machine at) (Arrive job' at') (_, (_, (name, _))) = absurd (unlike 97 102 _ _ refl name)
+same_parsed (Finish job machine at) (Finish job' machine' at') (_, (t, (_, (j, (m, _))))) = cc (t, j, m)
+same_parsed (Finish job machine at) (Clean machine' at') (_, (_, (name, _))) = absurd (unlike 99 102 _ _ refl name)
+same_parsed (Clean machine at) (Arrive job' at') (_, (_, (name, _))) = absurd (unlike 97 99 _ _ refl name)
+same_parsed (Clean machine at) (Finish job' machine' at') (_, (_, (name, _))) = absurd (unlike 102 99 _ _ refl name)
+same_parsed (Clean machine at) (Clean machine' at') (_, (t, (_, (m, _)))) = ap₂ (λ x y. Clean x y) m t
 
 same_sent : (one other : Report) → AllBoth (sent_words one) (sent_words other) → other ≡ one
 same_sent (Arrive job at) (Arrive job' at') (_, (j, (t, _))) = ap₂ (λ x y. Arrive x y) j t
@@ -159,38 +159,38 @@ same_order one other (_, (at, (job, (source, (target, _))))) =
 -- ---- entries
 
 pub one_entry : OneEntry
-one_entry line (ReportEntry r) (ReportEntry s) is also = ap ReportEntry (same_told r s (all_both (spaced_words line) (told_words r) (told_words s) is also))
-one_entry line (ReportEntry r) (OrderEntry o) is also = let same = all_both (spaced_words line) (told_words r) (order_words o) is also in absurd (unlike 111 114 _ _ refl same.0)
-one_entry line (OrderEntry o) (ReportEntry r) is also = let same = all_both (spaced_words line) (order_words o) (told_words r) is also in absurd (unlike 114 111 _ _ refl same.0)
+one_entry line (ReportEntry r) (ReportEntry s) is also = ap ReportEntry (same_parsed r s (all_both (spaced_words line) (logged_words r) (logged_words s) is also))
+one_entry line (ReportEntry r) (OrderEntry o) is also = let same = all_both (spaced_words line) (logged_words r) (order_words o) is also in absurd (unlike 111 114 _ _ refl same.0)
+one_entry line (OrderEntry o) (ReportEntry r) is also = let same = all_both (spaced_words line) (order_words o) (logged_words r) is also in absurd (unlike 114 111 _ _ refl same.0)
 one_entry line (OrderEntry o) (OrderEntry q) is also = ap OrderEntry (same_order o q (all_both (spaced_words line) (order_words o) (order_words q) is also))
 
 -- a line tells one list of entries
-pub one_telling : (p : PlannedShop) (line : List ℕ) (a b : List Entry) → LineTells p line a → LineTells p line b → a ≡ b
-one_telling p line [] [] h k = refl
-one_telling p line [] (e ∷ []) h k = let other = k.0 in absurd (cc)
-one_telling p line [] (e ∷ f ∷ es) h k = absurd k
-one_telling p line (e ∷ []) [] h k = let other = h.0 in absurd (cc)
-one_telling p line (e ∷ []) (f ∷ []) h k = ap (λ x. x ∷ []) (one_entry line f e k.1 h.1)
-one_telling p line (e ∷ []) (f ∷ g ∷ es) h k = absurd k
-one_telling p line (e ∷ f ∷ es) b h k = absurd h
+pub one_parse : (p : PlannedShop) (line : List ℕ) (a b : List Entry) → LineParses p line a → LineParses p line b → a ≡ b
+one_parse p line [] [] h k = refl
+one_parse p line [] (e ∷ []) h k = let other = k.0 in absurd (cc)
+one_parse p line [] (e ∷ f ∷ es) h k = absurd k
+one_parse p line (e ∷ []) [] h k = let other = h.0 in absurd (cc)
+one_parse p line (e ∷ []) (f ∷ []) h k = ap (λ x. x ∷ []) (one_entry line f e k.1 h.1)
+one_parse p line (e ∷ []) (f ∷ g ∷ es) h k = absurd k
+one_parse p line (e ∷ f ∷ es) b h k = absurd h
 
 -- so do lines
-pub one_reading : (p : PlannedShop) (lines : List (List ℕ)) (a b : List Entry) → LinesTell p lines a → LinesTell p lines b → a ≡ b
+pub one_reading : (p : PlannedShop) (lines : List (List ℕ)) (a b : List Entry) → LinesParse p lines a → LinesParse p lines b → a ≡ b
 one_reading p [] a b h k = h ∙ sym k
 one_reading p (line ∷ lines) a b h k =
-    h.4 ∙ ap₂ (λ x y. x ++ y) (one_telling p line h.0 k.0 h.2 k.2) (one_reading p lines h.1 k.1 h.3 k.3) ∙ sym k.4
+    h.4 ∙ ap₂ (λ x y. x ++ y) (one_parse p line h.0 k.0 h.2 k.2) (one_reading p lines h.1 k.1 h.3 k.3) ∙ sym k.4
 
 -- one more line behind others
-pub tell-more : (p : PlannedShop) (lines : List (List ℕ)) (line : List ℕ) (told own : List Entry) → LinesTell p lines told → LineTells p line own
-    → LinesTell p (lines ++ line ∷ []) (told ++ own)
-tell-more p [] line told own tells more = (own, [], more, refl, ap (λ es. es ++ own) tells ∙ sym (append-nil own))
-tell-more p (first ∷ lines) line told own tells more =
-    (tells.0, tells.1 ++ own, tells.2, tell-more p lines line tells.1 own tells.3 more, ap (λ es. es ++ own) tells.4 ∙ append_assoc tells.0 tells.1 own)
+pub parse-more : (p : PlannedShop) (lines : List (List ℕ)) (line : List ℕ) (all own : List Entry) → LinesParse p lines all → LineParses p line own
+    → LinesParse p (lines ++ line ∷ []) (all ++ own)
+parse-more p [] line all own tells more = (own, [], more, refl, ap (λ es. es ++ own) tells ∙ sym (append-nil own))
+parse-more p (first ∷ lines) line all own tells more =
+    (tells.0, tells.1 ++ own, tells.2, parse-more p lines line tells.1 own tells.3 more, ap (λ es. es ++ own) tells.4 ∙ append_assoc tells.0 tells.1 own)
 
 -- what lines tell, in two parts
-pub tell-parts : (p : PlannedShop) (before after : List (List ℕ)) (told : List Entry) → LinesTell p (before ++ after) told
-    → (a : List Entry) × (b : List Entry) × LinesTell p before a × LinesTell p after b × (told ≡ a ++ b)
-tell-parts p [] after told tells = ([], told, refl, tells, refl)
-tell-parts p (line ∷ before) after told tells =
-    let (a, b, first, second, split) = tell-parts p before after tells.1 tells.3 in
+pub parse-parts : (p : PlannedShop) (before after : List (List ℕ)) (all : List Entry) → LinesParse p (before ++ after) all
+    → (a : List Entry) × (b : List Entry) × LinesParse p before a × LinesParse p after b × (all ≡ a ++ b)
+parse-parts p [] after all tells = ([], all, refl, tells, refl)
+parse-parts p (line ∷ before) after all tells =
+    let (a, b, first, second, split) = parse-parts p before after tells.1 tells.3 in
     (tells.0 ++ a, b, (tells.0, a, tells.2, first, refl), second, tells.4 ∙ ap (λ es. tells.0 ++ es) split ∙ sym (append_assoc tells.0 a b))

@@ -12,15 +12,15 @@ use Rattle.cell_tables.specs.Moving.{IsSpotOf}
 use Rattle.cell_tables.specs.declared.entry.Entry.{Entry}
 use Rattle.cell_tables.specs.declared.entry.Entry.TheVariants.{Report as ReportEntry, Order as OrderEntry}
 use Rattle.event_lines.specs.Words.{Word, Text, short, moment, written, words_before, line_of}
-use Rattle.event_lines.specs.EventLines.{end_words, spot_word, told_words, move_words, order_words, entry_words}
+use Rattle.event_lines.specs.EventLines.{end_words, spot_word, logged_words, move_words, order_words, entry_words}
 use Rattle.cell_tables.specs.declared.standing.Standing.{Standing}
 use Rattle.cell_tables.specs.declared.standing.Standing.TheVariants.{Awaited, Outside, Worked, Done, Gone, Cleaned, Clean as CleanMachine}
 use Rattle.event_lines.specs.declared.details.Detail.{Detail}
 use Rattle.event_lines.specs.declared.details.Detail.TheVariants.{Nothing, Last, Stands}
 use Rattle.event_lines.specs.AnswerLines.{late_words, refused_words, done_words, unfinished_words, is_passed_over}
 use Rattle.event_lines.specs.StandingLines.{standing_words, detail_words, others_words, unfinished_standing_words, refused_detail_words, late_overdue_words}
-use Rattle.event_lines.specs.LogLines.{IsEntryOf, LineTells, LinesTell}
-use Rattle.event_lines.specs.ReadBack.{IsSpaceless, IsFitting, AreFitting, TellsFirst, WrittenEntriesAreTold, OtherAnswersTellNone}
+use Rattle.event_lines.specs.LogLines.{IsEntryOf, LineParses, LinesParse}
+use Rattle.event_lines.specs.ReadBack.{IsSpaceless, IsFitting, AreFitting, ParsesFirst, WrittenEntriesParse, OtherAnswersParseNone}
 use Rattle.event_lines.proofs.WrittenWords.{AreSpaceless, decimal_spaceless, all_spaceless, line_first, read_back}
 
 -- ---- words of how it stands
@@ -64,29 +64,29 @@ both_spaceless [] other first second = second
 both_spaceless (word ∷ one) other first second = (first.0, both_spaceless one other first.1 second)
 
 module _ (p : PlannedShop) where
-  pub tells_none : TellsFirst p [] []
-  tells_none rest later tells = tells
+  pub parses_none : ParsesFirst p [] []
+  parses_none rest later tells = tells
 
-  pub tells_both : (first second : List ℕ) (own more : List Entry) → TellsFirst p first own → TellsFirst p second more → TellsFirst p (first ++ second) (own ++ more)
-  tells_both first second own more one other rest later tells =
-      subst (λ (text : List ℕ). LinesTell p (lines_of text) ((own ++ more) ++ later)) (sym (append_assoc first second rest))
-      (subst (λ (told : List Entry). LinesTell p (lines_of (first ++ (second ++ rest))) told) (sym (append_assoc own more later))
+  pub parses_both : (first second : List ℕ) (own more : List Entry) → ParsesFirst p first own → ParsesFirst p second more → ParsesFirst p (first ++ second) (own ++ more)
+  parses_both first second own more one other rest later tells =
+      subst (λ (text : List ℕ). LinesParse p (lines_of text) ((own ++ more) ++ later)) (sym (append_assoc first second rest))
+      (subst (λ (told : List Entry). LinesParse p (lines_of (first ++ (second ++ rest))) told) (sym (append_assoc own more later))
       (one (second ++ rest) (more ++ later) (other rest later tells)))
 
-  tells_line : (words : List Word) (own : List Entry) → AreSpaceless words → LineTells p (words_before words []) own → TellsFirst p (line_of words) own
-  tells_line words own are tells rest later after =
-      subst (λ (lines : List (List ℕ)). LinesTell p lines (own ++ later)) (sym (line_first words rest are)) (own, later, tells, after, refl)
+  parses_line : (words : List Word) (own : List Entry) → AreSpaceless words → LineParses p (words_before words []) own → ParsesFirst p (line_of words) own
+  parses_line words own are tells rest later after =
+      subst (λ (lines : List (List ℕ)). LinesParse p lines (own ++ later)) (sym (line_first words rest are)) (own, later, tells, after, refl)
 
-  pub others_tell_none : OtherAnswersTellNone p
-  others_tell_none = record {
-    late = λ at. tells_line (late_words at) [] (refl, (decimal_spaceless at, tt)) refl;
-    refused = λ number name is. tells_line (refused_words number name) [] (refl, (decimal_spaceless number, (is, tt))) refl;
-    done = λ at. tells_line (done_words at) [] (refl, (decimal_spaceless at, tt)) refl;
-    unfinished = λ left. tells_line (unfinished_words left) [] (refl, (decimal_spaceless left, tt)) refl;
-    stands = λ standing. tells_line (unfinished_standing_words standing) [] (refl, standing_spaceless standing) (passed standing);
-    refused_for = λ number name detail is. tells_line (refused_detail_words number name detail) [] (refl, (decimal_spaceless number, (is, detail_spaceless detail))) refl;
+  pub others_parse_none : OtherAnswersParseNone p
+  others_parse_none = record {
+    late = λ at. parses_line (late_words at) [] (refl, (decimal_spaceless at, tt)) refl;
+    refused = λ number name is. parses_line (refused_words number name) [] (refl, (decimal_spaceless number, (is, tt))) refl;
+    done = λ at. parses_line (done_words at) [] (refl, (decimal_spaceless at, tt)) refl;
+    unfinished = λ left. parses_line (unfinished_words left) [] (refl, (decimal_spaceless left, tt)) refl;
+    stands = λ standing. parses_line (unfinished_standing_words standing) [] (refl, standing_spaceless standing) (passed standing);
+    refused_for = λ number name detail is. parses_line (refused_detail_words number name detail) [] (refl, (decimal_spaceless number, (is, detail_spaceless detail))) refl;
     late_for = λ at overdue.
-        tells_line (late_overdue_words at overdue) []
+        parses_line (late_overdue_words at overdue) []
         (refl, (decimal_spaceless at, both_spaceless (standing_words overdue.first) (others_words overdue.others) (standing_spaceless overdue.first) (others_spaceless overdue.others)))
         refl;
   }
@@ -107,19 +107,19 @@ module _ (p : PlannedShop) where
     spot_fits Out of_shop = refl
     spot_fits (At m) of_shop = machine_fits m of_shop
 
-    report_fits : (report : Report) → IsEntryOf p (ReportEntry report) → AreFitting (told_words report)
+    report_fits : (report : Report) → IsEntryOf p (ReportEntry report) → AreFitting (logged_words report)
     report_fits (Arrive job at) of_shop = (refl, (moment_fits at of_shop.1, (refl, (job_fits job of_shop.0, tt))))
     report_fits (Finish job machine at) of_shop = (refl, (moment_fits at of_shop.1, (refl, (job_fits job of_shop.0.0, (machine_fits machine of_shop.0.1, tt)))))
     report_fits (Clean machine at) of_shop = (refl, (moment_fits at of_shop.1, (refl, (machine_fits machine of_shop.0, tt))))
 
-    tells_fitting : (entry : Entry) → AreFitting (entry_words entry) → IsEntryOf p entry → TellsFirst p (line_of (entry_words entry)) (entry ∷ [])
-    tells_fitting (ReportEntry report) fit of_shop = tells_line (told_words report) (ReportEntry report ∷ []) (all_spaceless (told_words report) fit) (refl, read_back (Text (codes "report")) (moment (at report) ∷ end_words report) fit, of_shop)
-    tells_fitting (OrderEntry o) fit of_shop = tells_line (order_words o) (OrderEntry o ∷ []) (all_spaceless (order_words o) fit) (refl, read_back (Text (codes "order")) (move_words o) fit, of_shop)
+    parses_fitting : (entry : Entry) → AreFitting (entry_words entry) → IsEntryOf p entry → ParsesFirst p (line_of (entry_words entry)) (entry ∷ [])
+    parses_fitting (ReportEntry report) fit of_shop = parses_line (logged_words report) (ReportEntry report ∷ []) (all_spaceless (logged_words report) fit) (refl, read_back (Text (codes "report")) (moment (at report) ∷ end_words report) fit, of_shop)
+    parses_fitting (OrderEntry o) fit of_shop = parses_line (order_words o) (OrderEntry o ∷ []) (all_spaceless (order_words o) fit) (refl, read_back (Text (codes "order")) (move_words o) fit, of_shop)
 
-    pub tells_entry : (entry : Entry) → IsEntryOf p entry → TellsFirst p (line_of (entry_words entry)) (entry ∷ [])
-    tells_entry (ReportEntry report) of_shop = tells_fitting (ReportEntry report) (report_fits report of_shop) of_shop
-    tells_entry (OrderEntry o) of_shop = tells_fitting (OrderEntry o)
+    pub parses_entry : (entry : Entry) → IsEntryOf p entry → ParsesFirst p (line_of (entry_words entry)) (entry ∷ [])
+    parses_entry (ReportEntry report) of_shop = parses_fitting (ReportEntry report) (report_fits report of_shop) of_shop
+    parses_entry (OrderEntry o) of_shop = parses_fitting (OrderEntry o)
         (refl, (moment_fits o.at of_shop.3, (job_fits o.job of_shop.0, (spot_fits o.source of_shop.1, (spot_fits o.target of_shop.2, tt))))) of_shop
 
-pub written_entries_are_told : WrittenEntriesAreTold
-written_entries_are_told p entry shaped of_shop = tells_entry p shaped entry of_shop
+pub written_entries_parse : WrittenEntriesParse
+written_entries_parse p entry shaped of_shop = parses_entry p shaped entry of_shop

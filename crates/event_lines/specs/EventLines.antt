@@ -28,8 +28,8 @@ abbrev pub end_words : Report → List Word
 end_words report = Text (end_name report) ∷ end_numbers report
 
 -- `report T arrive J`, `report T finish J M` or `report T clean M`
-abbrev pub told_words : Report → List Word
-told_words report = Text (codes "report") ∷ moment (at report) ∷ end_words report
+abbrev pub logged_words : Report → List Word
+logged_words report = Text (codes "report") ∷ moment (at report) ∷ end_words report
 
 -- a machine's number, or `out` for outside the cell
 abbrev pub spot_word : Spot → Word
@@ -49,12 +49,12 @@ abbrev pub order_words : MoveOrder → List Word
 order_words o = Text (codes "order") ∷ move_words o
 
 abbrev pub entry_words : Entry → List Word
-entry_words (ReportEntry report) = told_words report
+entry_words (ReportEntry report) = logged_words report
 entry_words (OrderEntry order) = order_words order
 
 -- the line of a report, of an order, and of either
 abbrev pub report_line : Report → List ℕ
-report_line report = line_of (told_words report)
+report_line report = line_of (logged_words report)
 
 abbrev pub order_line : MoveOrder → List ℕ
 order_line order = line_of (order_words order)

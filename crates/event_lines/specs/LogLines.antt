@@ -23,16 +23,16 @@ IsEntryOf p (ReportEntry report) = AreEndsOf p report × (at report ≤ MAX_MOME
 IsEntryOf p (OrderEntry order) = (order.job < jobs p) × IsSpotOf p order.source × IsSpotOf p order.target × (order.at ≤ MAX_MOMENT)
 
 -- the line is that of no entry of the shop
-abbrev pub TellsNoEntry : PlannedShop → List ℕ → Type 0
-TellsNoEntry p line = (entry : Entry) → IsEntryLine line entry → IsEntryOf p entry → ⊥
+abbrev pub ParsesNoEntry : PlannedShop → List ℕ → Type 0
+ParsesNoEntry p line = (entry : Entry) → IsEntryLine line entry → IsEntryOf p entry → ⊥
 
 -- these are the entries that a line tells: none where it is passed over, else one, of the shop
-abbrev pub LineTells : PlannedShop → List ℕ → List Entry → Type 0
-LineTells p line [] = is_passed_over line ≡ true
-LineTells p line (entry ∷ []) = (is_passed_over line ≡ false) × IsEntryLine line entry × IsEntryOf p entry
-LineTells p line (entry ∷ next ∷ entries) = ⊥
+abbrev pub LineParses : PlannedShop → List ℕ → List Entry → Type 0
+LineParses p line [] = is_passed_over line ≡ true
+LineParses p line (entry ∷ []) = (is_passed_over line ≡ false) × IsEntryLine line entry × IsEntryOf p entry
+LineParses p line (entry ∷ next ∷ entries) = ⊥
 
 -- and these the entries that lines tell, in order
-abbrev pub LinesTell : PlannedShop → List (List ℕ) → List Entry → Type 0
-LinesTell p [] entries = entries ≡ []
-LinesTell p (line ∷ lines) entries = (own : List Entry) × (rest : List Entry) × LineTells p line own × LinesTell p lines rest × (entries ≡ own ++ rest)
+abbrev pub LinesParse : PlannedShop → List (List ℕ) → List Entry → Type 0
+LinesParse p [] entries = entries ≡ []
+LinesParse p (line ∷ lines) entries = (own : List Entry) × (rest : List Entry) × LineParses p line own × LinesParse p lines rest × (entries ≡ own ++ rest)

@@ -15,7 +15,7 @@ use Rattle.event_lines.specs.declared.details.Overdue.{Overdue}
 use Rattle.event_lines.specs.declared.requests.Request.{Request}
 use Rattle.event_lines.specs.Requests.{IsRequestLine, IsCellRequest}
 use Rattle.event_lines.specs.StandingLines.{unfinished_standing_line, refused_detail_line, late_overdue_line}
-use Rattle.event_lines.specs.LogLines.{IsEntryOf, LinesTell}
+use Rattle.event_lines.specs.LogLines.{IsEntryOf, LinesParse}
 
 -- the bytes have no space, nor any other byte below it
 abbrev pub IsSpaceless : List ℕ → Type 0
@@ -46,22 +46,22 @@ abbrev pub NumberedLinesAreLines : Type 0
 NumberedLinesAreLines = (cell : ℕ) (word : Word) (words : List Word) → cell_prefix cell ++ line_of (word ∷ words) ≡ line_of (short cell ∷ word ∷ words)
 
 -- the text tells these entries, before whatever the lines behind it tell
-abbrev pub TellsFirst : PlannedShop → List ℕ → List Entry → Type 0
-TellsFirst p text own = (rest : List ℕ) (later : List Entry) → LinesTell p (lines_of rest) later → LinesTell p (lines_of (text ++ rest)) (own ++ later)
+abbrev pub ParsesFirst : PlannedShop → List ℕ → List Entry → Type 0
+ParsesFirst p text own = (rest : List ℕ) (later : List Entry) → LinesParse p (lines_of rest) later → LinesParse p (lines_of (text ++ rest)) (own ++ later)
 
 -- the line of an entry of the shop tells that entry
-abbrev pub WrittenEntriesAreTold : Type 0
-WrittenEntriesAreTold = (p : PlannedShop) (entry : Entry) → IsWellShaped p → IsEntryOf p entry → TellsFirst p (entry_line entry) (entry ∷ [])
+abbrev pub WrittenEntriesParse : Type 0
+WrittenEntriesParse = (p : PlannedShop) (entry : Entry) → IsWellShaped p → IsEntryOf p entry → ParsesFirst p (entry_line entry) (entry ∷ [])
 
 -- each other answer tells none
-pub record OtherAnswersTellNone (p : PlannedShop) : Type 0 where
-  pub late : (at : ℕ) → TellsFirst p (late_line at) []
-  pub refused : (number : ℕ) (name : List ℕ) → IsSpaceless name → TellsFirst p (refused_line number name) []
-  pub done : (at : ℕ) → TellsFirst p (done_line at) []
-  pub unfinished : (left : ℕ) → TellsFirst p (unfinished_line left) []
-  pub stands : (standing : Standing) → TellsFirst p (unfinished_standing_line standing) []
-  pub refused_for : (number : ℕ) (name : List ℕ) (detail : Detail) → IsSpaceless name → TellsFirst p (refused_detail_line number name detail) []
-  pub late_for : (at : ℕ) (overdue : Overdue) → TellsFirst p (late_overdue_line at overdue) []
+pub record OtherAnswersParseNone (p : PlannedShop) : Type 0 where
+  pub late : (at : ℕ) → ParsesFirst p (late_line at) []
+  pub refused : (number : ℕ) (name : List ℕ) → IsSpaceless name → ParsesFirst p (refused_line number name) []
+  pub done : (at : ℕ) → ParsesFirst p (done_line at) []
+  pub unfinished : (left : ℕ) → ParsesFirst p (unfinished_line left) []
+  pub stands : (standing : Standing) → ParsesFirst p (unfinished_standing_line standing) []
+  pub refused_for : (number : ℕ) (name : List ℕ) (detail : Detail) → IsSpaceless name → ParsesFirst p (refused_detail_line number name detail) []
+  pub late_for : (at : ℕ) (overdue : Overdue) → ParsesFirst p (late_overdue_line at overdue) []
 
 -- a line is one entry at most, as it is told
 abbrev pub OneEntry : Type 0

@@ -5,10 +5,10 @@ ghost use Rattle.text_lines.specs.Searches.{SomeIfAny};
 ghost use Rattle.cell_tables.specs.Moving.{IsSpotOf};
 ghost use Rattle.event_lines.specs.Words.{words_before};
 ghost use Rattle.event_lines.specs.EventLines.{entry_words, entry_line, IsEntryLine};
-ghost use Rattle.event_lines.specs.LogLines.{AreEndsOf, IsEntryOf, TellsNoEntry, LineTells};
+ghost use Rattle.event_lines.specs.LogLines.{AreEndsOf, IsEntryOf, ParsesNoEntry, LineParses};
 
+use crate::logged_reports::{logged_report_of, put_report_words};
 use crate::orders::{move_order_of, put_order_words};
-use crate::told_reports::{put_report_words, told_report_of};
 use cell_tables::Entry;
 use shop_base::limits::MAX_MOMENT;
 use shop_base::{MoveOrder, Report, Shaped, Spot};
@@ -47,7 +47,7 @@ pub fn entry_of(line: &[u8]) -> Option<Entry>
         let order = move_order_of(after_prefix(line, b"order ")?)?;
         return Some(Entry::Order(order));
     }
-    let report = told_report_of(after_prefix(line, b"report ")?)?;
+    let report = logged_report_of(after_prefix(line, b"report ")?)?;
     Some(Entry::Report(report))
 }
 
@@ -95,8 +95,8 @@ fn is_entry_of(shaped: &Shaped, entry: Entry) -> bool
 
 /// The entry of the shop in this line; no such line is passed over. Each line of a log is read by this.
 #[inline(always)]
-pub fn told_entry(shaped: &Shaped, line: &[u8]) -> Option<Entry>
-    ensures { MatchOption result (TellsNoEntry shaped.now line.now) (λ entry. LineTells shaped.now line.now (entry ∷ [])) }
+pub fn entry_in(shaped: &Shaped, line: &[u8]) -> Option<Entry>
+    ensures { MatchOption result (ParsesNoEntry shaped.now line.now) (λ entry. LineParses shaped.now line.now (entry ∷ [])) }
 {
     let entry = entry_of(line)?;
     if is_entry_of(shaped, entry) {

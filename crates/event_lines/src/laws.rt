@@ -3,7 +3,7 @@
 // Nothing is done here: a function's contract is the law, so a check of this crate proves it.
 
 ghost use Rattle.shop_base.specs.Plan.{PlannedShop};
-ghost use Rattle.event_lines.specs.ReadBack.{WhatIsWrittenIsRead, NumberedLinesAreLines, WrittenEntriesAreTold, OtherAnswersTellNone};
+ghost use Rattle.event_lines.specs.ReadBack.{WhatIsWrittenIsRead, NumberedLinesAreLines, WrittenEntriesParse, OtherAnswersParseNone};
 ghost use Rattle.event_lines.specs.ReadBack.{OneEntry, OneReport, OneCellReport, OneRequest, OneCellRequest};
 
 /// A line is written with words: texts of bytes above 32, and numbers below 2^64 with no more digits than they may
@@ -13,14 +13,14 @@ ghost use Rattle.event_lines.specs.ReadBack.{OneEntry, OneReport, OneCellReport,
 pub fn what_is_written_is_read()
     ensures words { WhatIsWrittenIsRead }
     ensures numbered { NumberedLinesAreLines }
-    ensures told { WrittenEntriesAreTold }
-    ensures passed_over { (p : PlannedShop) → OtherAnswersTellNone p }
+    ensures parsed { WrittenEntriesParse }
+    ensures passed_over { (p : PlannedShop) → OtherAnswersParseNone p }
 {}
 
 /// A line gives one event at most. As a line that is sent, it is one report at most, and with a cell's number one
 /// report on one cell; requests likewise.
 pub fn a_line_has_one_reading()
-    ensures told { OneEntry }
+    ensures parsed { OneEntry }
     ensures sent { OneReport }
     ensures on_cells { OneCellReport }
     ensures requested { OneRequest }

@@ -12,11 +12,11 @@ mod details;
 mod entries;
 pub mod laws;
 mod line_text;
+mod logged_reports;
 mod orders;
 mod requests;
 mod run_digits;
 mod sent_reports;
-mod told_reports;
 mod words;
 
 pub use answers::{
@@ -26,10 +26,10 @@ pub use cell_numbers::{cell_prefix, cell_report_of};
 pub use details::{
     Detail, DetailText, Overdue, late_overdue_line, put_unfinished_standing, refused_detail_line,
 };
-pub use entries::{entry_of, put_entry_line, told_entry};
+pub use entries::{entry_in, entry_of, put_entry_line};
 pub use line_text::LineText;
+pub use logged_reports::put_report;
 pub use orders::put_order;
 pub use requests::{Claim, Request, cell_request_of, request_of};
 pub use run_digits::{RunDigits, digits_of_line, plan_line, put_digits};
 pub use sent_reports::report_of;
-pub use told_reports::put_report;

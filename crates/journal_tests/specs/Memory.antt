@@ -14,7 +14,7 @@ pub record InMemory : Type 0 where
   pub written : Bool
 
 -- what a crash may leave
-pub record MayLeave (file : InMemory) (left : List ℕ) : Type 0 where
+pub record CrashStates (file : InMemory) (left : List ℕ) : Type 0 where
   pub synced : file.synced ≡ true → left ≡ file.seen
   pub unsynced : file.synced ≡ false → IsLeft file.least file.most left
 

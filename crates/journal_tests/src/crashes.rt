@@ -1,8 +1,8 @@
 //! Runs over a file that fails at each of its calls, and what each crash leaves of it.
 
 use super::MemoryLog;
-use byte_streams::{Gathered, Outlet, put_all};
-use run_journal::{LogFile, LogText, Logged, Untold, WritingRoom, cut_end, read_log};
+use byte_streams::{Buffered, BufferedSink, put_all};
+use run_journal::{LogFile, LogText, Logged, UnknownHistory, WritingRoom, cut_end, read_log};
 use std::alloc::Global;
 use std::test::Fail;
 
@@ -38,11 +38,11 @@ fn run(alloc: Global, held: &[u8], calls: usize, torn: usize) -> Result<(MemoryL
     let Ok(()) = cut_end(&mut log, &text) else {
         return Ok((log, 0));
     };
-    let outlet = Gathered::new(alloc, 16, Vec::new(alloc))?;
-    let mut logged = Logged::new(WritingRoom::new(alloc)?, log, outlet, Untold);
+    let output = Buffered::new(alloc, 16, Vec::new(alloc))?;
+    let mut logged = Logged::new(WritingRoom::new(alloc)?, log, output, UnknownHistory);
     let mut shown = 0_usize;
     for (bytes, events) in PARTS {
-        if put_all(&mut logged, bytes).is_ok() && logged.show().is_ok() {
+        if put_all(&mut logged, bytes).is_ok() && logged.flush().is_ok() {
             shown = shown.saturating_add(*events);
         }
     }
@@ -111,16 +111,16 @@ fn a_whole_run_is_in_the_log(rt: HostRuntime) -> Result<(), Fail> {
 fn many_answers_are_synced_at_once(rt: HostRuntime) -> Result<(), Fail> {
     let alloc = rt.alloc();
     let log = MemoryLog::new(Vec::new(alloc), 40, 0);
-    let outlet = Gathered::new(alloc, 16, Vec::new(alloc))?;
-    let mut logged = Logged::new(WritingRoom::new(alloc)?, log, outlet, Untold);
+    let output = Buffered::new(alloc, 16, Vec::new(alloc))?;
+    let mut logged = Logged::new(WritingRoom::new(alloc)?, log, output, UnknownHistory);
     for _ in 0..1000 {
         put_all(&mut logged, b"report 1000000000 finish 100 50\n")?;
         put_all(&mut logged, b"order 1000000000 100 50 51\n")?;
         put_all(&mut logged, b"order 1000000000 101 49 50\n")?;
     }
-    logged.show()?;
-    let (log, outlet) = logged.into_parts();
-    assert_eq!(rt; outlet.into_inner().len(), 86_000);
+    logged.flush()?;
+    let (log, output) = logged.into_parts();
+    assert_eq!(rt; output.into_inner().len(), 86_000);
     assert_eq!(rt; log.bounds(), (86_000, 86_000));
     assert_eq!(rt; log.calls_left(), 36);
     Ok(())
@@ -130,14 +130,14 @@ fn many_answers_are_synced_at_once(rt: HostRuntime) -> Result<(), Fail> {
 fn an_answer_that_adds_nothing_is_not_synced(rt: HostRuntime) -> Result<(), Fail> {
     let alloc = rt.alloc();
     let log = MemoryLog::new(Vec::new(alloc), 2, 0);
-    let outlet = Gathered::new(alloc, 16, Vec::new(alloc))?;
-    let mut logged = Logged::new(WritingRoom::new(alloc)?, log, outlet, Untold);
+    let output = Buffered::new(alloc, 16, Vec::new(alloc))?;
+    let mut logged = Logged::new(WritingRoom::new(alloc)?, log, output, UnknownHistory);
     for _ in 0..3 {
         put_all(&mut logged, b"refused 1 BadLine\n")?;
-        logged.show()?;
+        logged.flush()?;
     }
-    let (log, outlet) = logged.into_parts();
-    assert_eq!(rt; outlet.into_inner().len(), 54);
+    let (log, output) = logged.into_parts();
+    assert_eq!(rt; output.into_inner().len(), 54);
     assert_eq!(rt; log.calls_left(), 2);
     Ok(())
 }

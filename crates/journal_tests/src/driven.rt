@@ -1,11 +1,11 @@
 //! A cell that is driven with a log in memory, of which each call fails in turn.
 
 use super::MemoryLog;
-use super::two_jobs::{FIRST, LATER, PLAIN, REPORTS, TELLING, accepted, joined};
-use byte_streams::{DriveFault, FromRead, Gathered};
-use cell_drive::{DriveEnd, Manner, begin_in};
+use super::two_jobs::{FIRST, LATER, PLAIN, REPORTS, V2_MANNER, accepted, joined};
+use byte_streams::{Buffered, DriveFault, FromRead};
+use cell_drive::{DriveEnd, Protocol, begin_in};
 use logged_drive::{LoggedEnd, drive_logged};
-use run_journal::{LogFile, LogText, Untold, WritingRoom};
+use run_journal::{LogFile, LogText, UnknownHistory, WritingRoom};
 use std::alloc::Global;
 use std::test::Fail;
 
@@ -19,14 +19,14 @@ pub(super) const DONE: &[u8] = b"done 9\n";
 const ASKING: &[u8] =
     b"arrive 0 0\narrive 1 0\nstatus\nfinish 0 0 5\nfinish 0 1 200\nfinish 0 1 7\nfinish 1 1 11\nfinish 1 0 12\n";
 
-const STATED: &[u8] = b"report 0 arrive 0\norder 0 0 out 0\nreport 0 arrive 1\n\
+const V2_LINES: &[u8] = b"report 0 arrive 0\norder 0 0 out 0\nreport 0 arrive 1\n\
 unfinished job 0 on machine 0 since 0 due 3\nunfinished job 1 waits outside for machine 1\nunfinished 4\n\
 report 5 finish 0 0\nlate 5 job 0 on machine 0 since 0 due 3\norder 5 0 0 1\nrefused 5 Leap last 5\n\
 report 7 finish 0 1\norder 7 0 1 out\norder 7 1 out 1\nreport 11 finish 1 1\norder 11 1 1 0\n\
 report 12 finish 1 0\norder 12 1 0 out\ndone 12\ndone 12\n";
 
 /// What a log gets of that.
-const STATED_EVENTS: &[u8] = b"report 0 arrive 0\norder 0 0 out 0\nreport 0 arrive 1\n\
+const V2_EVENTS: &[u8] = b"report 0 arrive 0\norder 0 0 out 0\nreport 0 arrive 1\n\
 report 5 finish 0 0\nlate 5 job 0 on machine 0 since 0 due 3\norder 5 0 0 1\n\
 report 7 finish 0 1\norder 7 0 1 out\norder 7 1 out 1\nreport 11 finish 1 1\norder 11 1 1 0\n\
 report 12 finish 1 0\norder 12 1 0 out\n";
@@ -34,16 +34,16 @@ report 12 finish 1 0\norder 12 1 0 out\n";
 /// The run of these lines in this manner, with a log of which so many calls don't fail.
 fn driven(
     alloc: Global,
-    manner: Manner,
+    protocol: Protocol,
     lines: &[u8],
     calls: usize,
-) -> Result<LoggedEnd<DriveEnd, Gathered<Vec<u8>>, MemoryLog>, Fail> {
+) -> Result<LoggedEnd<DriveEnd, Buffered<Vec<u8>>, MemoryLog>, Fail> {
     let mut reader = FromRead::new(lines);
     let log = MemoryLog::new(Vec::new(alloc), calls, 5);
-    let output = Gathered::new(alloc, 16, Vec::new(alloc))?;
-    let begun = begin_in(alloc, accepted(alloc)?, manner)?;
+    let output = Buffered::new(alloc, 16, Vec::new(alloc))?;
+    let begun = begin_in(alloc, accepted(alloc)?, protocol)?;
     let room = WritingRoom::new(alloc)?;
-    Ok(drive_logged(begun, room, &mut reader, log, output, Untold))
+    Ok(drive_logged(begun, room, &mut reader, log, output, UnknownHistory))
 }
 
 #[test]
@@ -62,11 +62,11 @@ fn a_log_has_the_events_of_a_run(rt: HostRuntime) -> Result<(), Fail> {
 
 #[test]
 fn a_log_has_no_states_and_no_refusals(rt: HostRuntime) -> Result<(), Fail> {
-    let mut run = driven(rt.alloc(), TELLING, ASKING, 9)?;
+    let mut run = driven(rt.alloc(), V2_MANNER, ASKING, 9)?;
     assert!(rt; run.end.is_ok());
     let log = run.log.read(rt.alloc(), 1000)?;
-    assert_eq!(rt; log.as_slice(), STATED_EVENTS);
-    assert_eq!(rt; run.output.into_inner().as_slice(), STATED);
+    assert_eq!(rt; log.as_slice(), V2_EVENTS);
+    assert_eq!(rt; run.output.into_inner().as_slice(), V2_LINES);
     Ok(())
 }
 

@@ -16,7 +16,7 @@ mod driven;
 #[cfg(test)]
 mod folders;
 #[cfg(test)]
-mod taken_up;
+mod recoverable;
 #[cfg(test)]
 mod told_runs;
 #[cfg(test)]

@@ -117,11 +117,11 @@ impl MemoryLog {
 
 impl LogFile for MemoryLog {
     ghost use Rattle.std.specs.Prelude.{Some};
-    ghost use Rattle.journal_tests.specs.Memory.{MayLeave};
+    ghost use Rattle.journal_tests.specs.Memory.{CrashStates};
 
     ghost seen = { λ m. Some m.seen };
 
-    ghost may_leave = { MayLeave };
+    ghost crash_states = { CrashStates };
 
     ghost fault = { λ m. m.fault };
 

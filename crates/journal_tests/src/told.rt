@@ -1,17 +1,17 @@
 //! Runs with a log and an output whose bytes are told, so that what is said of these is asked for, and used.
 
 ghost use Rattle.std.specs.Prelude.{◌≡◌, [], None, Some, true, false, IfOk};
-ghost use Rattle.run_journal.specs.LogFiles.{IsSettled};
+ghost use Rattle.run_journal.specs.LogFiles.{IsDurable};
 ghost use Rattle.logged_drive.specs.LoggedRuns.{IsAllInLog, KeepsShown};
-ghost use Rattle.journal_tests.specs.Memory.{MayLeave};
+ghost use Rattle.journal_tests.specs.Memory.{CrashStates};
 ghost use Rattle.journal_tests.specs.Told.{HasWhatIsShown};
 
 use crate::memory_log::MemoryLog;
-use byte_streams::{FromRead, Gathered, IntoSink, Outlet, Sink};
-use cell_drive::{Begun, DriveEnd, Manner, Replayed, RestEnd, begin_in, take_up, tell_again_in};
+use byte_streams::{Buffered, BufferedSink, FromRead, IntoSink, Sink};
+use cell_drive::{Begun, DriveEnd, Protocol, Replayed, RestEnd, begin_in, replay_in, take_up};
 use logged_drive::{LoggedEnd, drive_logged, go_on_logged};
 use plan_verifier::Verified;
-use run_journal::{Before, FileFault, LogFile, WritingRoom, read_log};
+use run_journal::{FileFault, InitialState, LogFile, WritingRoom, read_log};
 use shop_base::Shaped;
 use std::alloc::Global;
 
@@ -19,7 +19,7 @@ use std::alloc::Global;
 #[derive(Drop)]
 struct NothingYet;
 
-impl Before for NothingYet {
+impl InitialState for NothingYet {
     ghost use Rattle.std.specs.Prelude.{[], Some};
 
     ghost before = { Some ([], []) };
@@ -31,13 +31,13 @@ fn drive_from_nothing(
     room: WritingRoom,
     lines: &[u8],
     log: MemoryLog,
-    output: Gathered<Vec<u8>>,
-) -> LoggedEnd<DriveEnd, Gathered<Vec<u8>>, MemoryLog>
+    output: Buffered<Vec<u8>>,
+) -> LoggedEnd<DriveEnd, Buffered<Vec<u8>>, MemoryLog>
     requires log { (log.seen ≡ []) × (log.synced ≡ true) × (log.fault ≡ None) }
-    requires output { ⟦<Gathered<Vec<u8>> as Sink>⟧.taken output ≡ Some [] }
-    requires shown { ⟦<Gathered<Vec<u8>> as Outlet>⟧.pending output ≡ [] }
-    ensures crash { KeepsShown [] [] (MayLeave result.log) (⟦<Gathered<Vec<u8>> as Sink>⟧.taken result.output) }
-    ensures in_log { IfOk result.end (λ _. IsAllInLog [] [] (Some result.log.seen) (MayLeave result.log) (⟦<Gathered<Vec<u8>> as Sink>⟧.taken result.output)) }
+    requires output { ⟦<Buffered<Vec<u8>> as Sink>⟧.written output ≡ Some [] }
+    requires shown { ⟦<Buffered<Vec<u8>> as BufferedSink>⟧.pending output ≡ [] }
+    ensures crash { KeepsShown [] [] (CrashStates result.log) (⟦<Buffered<Vec<u8>> as Sink>⟧.written result.output) }
+    ensures in_log { IfOk result.end (λ _. IsAllInLog [] [] (Some result.log.seen) (CrashStates result.log) (⟦<Buffered<Vec<u8>> as Sink>⟧.written result.output)) }
 {
     let mut reader = FromRead::new(lines);
     drive_logged(begun, room, &mut reader, log, output, NothingYet)
@@ -47,32 +47,32 @@ fn drive_from_nothing(
 fn go_on_from_nothing(
     run: Replayed,
     room: WritingRoom,
-    manner: Manner,
+    protocol: Protocol,
     lines: &[u8],
     log: MemoryLog,
-    output: Gathered<Vec<u8>>,
-) -> LoggedEnd<RestEnd, Gathered<Vec<u8>>, MemoryLog>
-    requires log { (log.seen ≡ []) × IsSettled (Some log.seen) (MayLeave log) × (log.fault ≡ None) }
-    requires output { ⟦<Gathered<Vec<u8>> as Sink>⟧.taken output ≡ Some [] }
-    requires shown { ⟦<Gathered<Vec<u8>> as Outlet>⟧.pending output ≡ [] }
-    ensures crash { KeepsShown [] [] (MayLeave result.log) (⟦<Gathered<Vec<u8>> as Sink>⟧.taken result.output) }
-    ensures in_log { IfOk result.end (λ _. IsAllInLog [] [] (Some result.log.seen) (MayLeave result.log) (⟦<Gathered<Vec<u8>> as Sink>⟧.taken result.output)) }
+    output: Buffered<Vec<u8>>,
+) -> LoggedEnd<RestEnd, Buffered<Vec<u8>>, MemoryLog>
+    requires log { (log.seen ≡ []) × IsDurable (Some log.seen) (CrashStates log) × (log.fault ≡ None) }
+    requires output { ⟦<Buffered<Vec<u8>> as Sink>⟧.written output ≡ Some [] }
+    requires shown { ⟦<Buffered<Vec<u8>> as BufferedSink>⟧.pending output ≡ [] }
+    ensures crash { KeepsShown [] [] (CrashStates result.log) (⟦<Buffered<Vec<u8>> as Sink>⟧.written result.output) }
+    ensures in_log { IfOk result.end (λ _. IsAllInLog [] [] (Some result.log.seen) (CrashStates result.log) (⟦<Buffered<Vec<u8>> as Sink>⟧.written result.output)) }
 {
     let mut reader = FromRead::new(lines);
-    go_on_logged(run, room, manner, &mut reader, log, output, NothingYet)
+    go_on_logged(run, room, protocol, &mut reader, log, output, NothingYet)
 }
 
 /// What the log and the output have, once all is shown.
 fn both_at_end(
     alloc: Global,
     log: MemoryLog,
-    output: Gathered<Vec<u8>>,
+    output: Buffered<Vec<u8>>,
 ) -> Result<(Vec<u8>, Vec<u8>), FileFault>
-    requires { IsAllInLog [] [] (Some log.seen) (MayLeave log) (⟦<Gathered<Vec<u8>> as Sink>⟧.taken output) }
+    requires { IsAllInLog [] [] (Some log.seen) (CrashStates log) (⟦<Buffered<Vec<u8>> as Sink>⟧.written output) }
     ensures { IfOk result (λ both. HasWhatIsShown [] [] both.0.items both.1.items) }
 {
     let (mut log, mut output) = (log, output);
-    if output.show().is_err() {
+    if output.flush().is_err() {
         return Err(FileFault::Log);
     }
     let bytes = log.read(alloc, 1000)?;
@@ -83,19 +83,19 @@ fn both_at_end(
 pub fn driven_from_nothing(
     alloc: Global,
     verified: Verified,
-    manner: Manner,
+    protocol: Protocol,
     lines: &[u8],
 ) -> Result<(Vec<u8>, Vec<u8>), FileFault>
     ensures { IfOk result (λ both. HasWhatIsShown [] [] both.0.items both.1.items) }
 {
     let log = MemoryLog::new(Vec::new(alloc), 1000, 0);
-    let Ok(output) = Gathered::new(alloc, 16, Vec::new(alloc)) else {
+    let Ok(output) = Buffered::new(alloc, 16, Vec::new(alloc)) else {
         return Err(FileFault::Memory);
     };
     let Ok(room) = WritingRoom::new(alloc) else {
         return Err(FileFault::Memory);
     };
-    let Ok(begun) = begin_in(alloc, verified, manner) else {
+    let Ok(begun) = begin_in(alloc, verified, protocol) else {
         return Err(FileFault::Memory);
     };
     let run = drive_from_nothing(begun, room, lines, log, output);
@@ -109,7 +109,7 @@ pub fn driven_from_nothing(
 pub fn gone_on_from_nothing(
     alloc: Global,
     shaped: Shaped,
-    manner: Manner,
+    protocol: Protocol,
     lines: &[u8],
 ) -> Result<(Vec<u8>, Vec<u8>), FileFault>
     ensures { IfOk result (λ both. HasWhatIsShown [] [] both.0.items both.1.items) }
@@ -119,17 +119,17 @@ pub fn gone_on_from_nothing(
     let Ok(taken) = take_up(alloc, shaped, text.lines(), None) else {
         return Err(FileFault::Log);
     };
-    let Ok(output) = Gathered::new(alloc, 16, Vec::new(alloc)) else {
+    let Ok(output) = Buffered::new(alloc, 16, Vec::new(alloc)) else {
         return Err(FileFault::Memory);
     };
     let Ok(room) = WritingRoom::new(alloc) else {
         return Err(FileFault::Memory);
     };
     // There is nothing to be told again.
-    let Ok(taken) = tell_again_in(taken, manner, &mut IntoSink::new(Vec::new(alloc))) else {
+    let Ok(taken) = replay_in(taken, protocol, &mut IntoSink::new(Vec::new(alloc))) else {
         return Err(FileFault::Log);
     };
-    let run = go_on_from_nothing(taken, room, manner, lines, log, output);
+    let run = go_on_from_nothing(taken, room, protocol, lines, log, output);
     match run.end {
         Ok(_) => both_at_end(alloc, run.log, run.output),
         Err(_) => Err(FileFault::Log),

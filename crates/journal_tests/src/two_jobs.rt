@@ -1,6 +1,6 @@
 //! Two jobs that cross on two machines, and their run.
 
-use cell_drive::Manner;
+use cell_drive::Protocol;
 use event_lines::RunDigits;
 use orlib_read::read_instance;
 use plan_text::read_plan;
@@ -37,16 +37,16 @@ pub(super) const LATER: &[u8] =
     b"report 2 finish 0 0\norder 2 0 0 1\nreport 4 finish 0 1\norder 4 0 1 out\norder 4 1 out 1\nreport 8 finish 1 1\norder 8 1 1 0\nreport 9 finish 1 0\norder 9 1 0 out\n";
 
 /// Version 1 of the lines.
-pub(super) const PLAIN: Manner = Manner {
-    tells: false,
-    longest: None,
+pub(super) const PLAIN: Protocol = Protocol {
+    version_2: false,
+    max_gap: None,
     from: 0,
 };
 
 /// Version 2, in which no report comes more than 100 after the last one.
-pub(super) const TELLING: Manner = Manner {
-    tells: true,
-    longest: Some(100),
+pub(super) const V2_MANNER: Protocol = Protocol {
+    version_2: true,
+    max_gap: Some(100),
     from: 0,
 };
 

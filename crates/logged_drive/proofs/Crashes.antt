@@ -17,28 +17,28 @@ use Rattle.cell_tables.specs.declared.entry.Entry.TheVariants.{Order as OrderEnt
 use Rattle.cell_tables.specs.Events.{events_of}
 use Rattle.run_log.proofs.Audits.{events-join}
 use Rattle.event_lines.specs.EventLines.{entry_line, entry_lines, order_lines}
-use Rattle.event_lines.specs.LogLines.{LinesTell}
-use Rattle.event_lines.specs.ReadBack.{TellsFirst}
-use Rattle.event_lines.proofs.Readings.{tell-parts}
-use Rattle.event_lines.proofs.Telling.{tells_both}
-use Rattle.cell_drive.specs.declared.manner.Manner.{Manner}
+use Rattle.event_lines.specs.LogLines.{LinesParse}
+use Rattle.event_lines.specs.ReadBack.{ParsesFirst}
+use Rattle.event_lines.proofs.Readings.{parse-parts}
+use Rattle.event_lines.proofs.Telling.{parses_both}
+use Rattle.cell_drive.specs.declared.protocol.Protocol.{Protocol}
 use Rattle.cell_drive.specs.AnswerText.{DrivenCell, undriven}
-use Rattle.cell_drive.specs.Stated.{StatedAnswers}
-use Rattle.cell_drive.specs.TakenUp.{TakenUp, IsTakenRun, IsTakenUp, plan_of, told_in, cell_told}
+use Rattle.cell_drive.specs.ProtocolText.{ProtocolAnswers}
+use Rattle.cell_drive.specs.Recovered.{Recovered, IsRecoveredRun, IsRecovered, plan_of, replayed_events, replayed_cell}
 use Rattle.cell_drive.specs.Resuming.{due_text, driven_so_far}
 use Rattle.cell_drive.proofs.CutLogs.{closing_part}
-use Rattle.cell_drive.proofs.OneText.{IsOnCourse, start_on_course, stated_lines_keep}
+use Rattle.cell_drive.proofs.OneText.{IsOnCourse, start_on_course, protocol_lines_keep}
 use Rattle.cell_drive.proofs.OwnRuns.{front_events}
-use Rattle.cell_drive.proofs.ReadBack.{AreTold, all_told, tells_moves}
-use Rattle.cell_drive.proofs.StatedTold.{stated_line_told}
+use Rattle.cell_drive.proofs.ReadBack.{AreParsed, all_parsed, parses_moves}
+use Rattle.cell_drive.proofs.ProtocolParses.{protocol_line_parses}
 use Rattle.run_journal.specs.LogFiles.{IsLeft}
 use Rattle.run_journal.specs.WholeLines.{whole_lines}
 use Rattle.run_journal.specs.LoggedLines.{logged}
 use Rattle.run_journal.proofs.Formed.{IsFormed, formed-both, formed-line, left_torn}
 use Rattle.run_journal.proofs.LeftEvents.{left_log, ended_whole}
-use Rattle.logged_drive.specs.CrashLaw.{IsTakenUpAgain, AreAnswered, IsGiven, ADrivenRunIsTakenUp, IsTakenUpOnceMore, ATakenUpRunIsTakenUp}
+use Rattle.logged_drive.specs.CrashLaw.{IsRecoveredAgain, AreAnswered, IsGiven, ADrivenRunIsRecovered, IsRecoveredOnceMore, ARecoveredRunIsRecovered}
 use Rattle.logged_drive.proofs.FormedAnswers.{all_formed, formed_moves, last_formed}
-use Rattle.logged_drive.proofs.FormedStates.{stated_formed}
+use Rattle.logged_drive.proofs.FormedStates.{protocol_formed}
 
 none_in_front : (front back : List Entry) → front ++ back ≡ [] → front ≡ []
 none_in_front [] back none = refl
@@ -46,17 +46,17 @@ none_in_front (entry ∷ front) back none = absurd (cc none)
 
 -- a text tells events behind those of whole lines, with which they are a run; of its first bytes some were shown
 module _ (p : PlannedShop) (base : List ℕ) (told : List Entry) (text shown pending lost left : List ℕ) (all : List Entry) where
-  again : whole_lines base ≡ base → LinesTell p (ended_lines base) told → LinesTell p (lines_of text) all → IsRun p (events_of (told ++ all)) → IsFormed text → text ≡ (shown ++ pending) ++ lost
-      → IsLeft (length (base ++ logged shown)) (base ++ logged (shown ++ pending)) left → HasNoCycle p → (told ≡ [] → IsAcceptable p) → IsTakenUpAgain p told all shown left
-  again whole tells_base tells_text run formed split is acyclic accepted =
+  again : whole_lines base ≡ base → LinesParse p (ended_lines base) told → LinesParse p (lines_of text) all → IsRun p (events_of (told ++ all)) → IsFormed text → text ≡ (shown ++ pending) ++ lost
+      → IsLeft (length (base ++ logged shown)) (base ++ logged (shown ++ pending)) left → HasNoCycle p → (told ≡ [] → IsAcceptable p) → IsRecoveredAgain p told all shown left
+  again whole tells_base parses_text run formed split is acyclic accepted =
       let came = shown ++ pending in
       let (more, lines) = ended-more came lost in
-      let (a, b, first, second, parts) = tell-parts p (ended_lines came) more all (subst (λ (ls : List (List ℕ)). LinesTell p ls all) (ap lines_of split ∙ lines) tells_text) in
+      let (a, b, first, second, parts) = parse-parts p (ended_lines came) more all (subst (λ (ls : List (List ℕ)). LinesParse p ls all) (ap lines_of split ∙ lines) parses_text) in
       let log = left_log p base shown pending left told a whole is tells_base first in
       let all_is : all ≡ log.kept ++ (log.lost ++ b) = parts ∙ ap (λ (es : List Entry). es ++ b) log.came_so ∙ append_assoc log.kept log.lost b in
       let both : told ++ all ≡ (told ++ log.kept) ++ (log.lost ++ b) = ap (λ (es : List Entry). told ++ es) all_is ∙ sym (append_assoc told log.kept (log.lost ++ b)) in
       let events : events_of (told ++ all) ≡ events_of (told ++ log.kept) ++ events_of (log.lost ++ b) = ap events_of both ∙ events-join (told ++ log.kept) (log.lost ++ b) in
-      let tells = subst (λ (ls : List (List ℕ)). LinesTell p ls (told ++ log.kept)) (sym (ended_whole left)) log.tells in
+      let tells = subst (λ (ls : List (List ℕ)). LinesParse p ls (told ++ log.kept)) (sym (ended_whole left)) log.tells in
       record {
         kept = log.kept;
         lost = log.lost ++ b;
@@ -76,70 +76,70 @@ module _ (p : PlannedShop) (base : List ℕ) (told : List Entry) (text shown pen
 
 -- ---- what was answered
 
-module _ (p : PlannedShop) (shaped : IsWellShaped p) (manner : Manner) where
-  answered_told : (before end : DrivenCell) (lines : List (Option (List ℕ))) (text : List ℕ) → IsOnCourse p before.cell → AreAnswered p manner before lines text end → AreTold p shaped before text end
-  answered_told before end lines text on all = all_told p shaped (StatedAnswers p manner) (stated_lines_keep p manner) (stated_line_told p shaped manner) lines before end 1 text on all
+module _ (p : PlannedShop) (shaped : IsWellShaped p) (protocol : Protocol) where
+  answered_parse : (before end : DrivenCell) (lines : List (Option (List ℕ))) (text : List ℕ) → IsOnCourse p before.cell → AreAnswered p protocol before lines text end → AreParsed p shaped before text end
+  answered_parse before end lines text on all = all_parsed p shaped (ProtocolAnswers p protocol) (protocol_lines_keep p protocol) (protocol_line_parses p shaped protocol) lines before end 1 text on all
 
-  answered_formed : (before end : DrivenCell) (lines : List (Option (List ℕ))) (text : List ℕ) → IsOnCourse p before.cell → AreAnswered p manner before lines text end → IsFormed text
-  answered_formed before end lines text on all = all_formed p shaped (StatedAnswers p manner) (stated_lines_keep p manner) (stated_formed p shaped manner) lines before end 1 text on all
+  answered_formed : (before end : DrivenCell) (lines : List (Option (List ℕ))) (text : List ℕ) → IsOnCourse p before.cell → AreAnswered p protocol before lines text end → IsFormed text
+  answered_formed before end lines text on all = all_formed p shaped (ProtocolAnswers p protocol) (protocol_lines_keep p protocol) (protocol_formed p shaped protocol) lines before end 1 text on all
 
-whole_text : (p : PlannedShop) (text : List ℕ) (entries : List Entry) → TellsFirst p text entries → LinesTell p (lines_of text) entries
+whole_text : (p : PlannedShop) (text : List ℕ) (entries : List Entry) → ParsesFirst p text entries → LinesParse p (lines_of text) entries
 whole_text p text entries tells =
-    subst (λ (t : List ℕ). LinesTell p (lines_of t) entries) (append-nil text) (subst (λ (es : List Entry). LinesTell p (lines_of (text ++ [])) es) (append-nil entries) (tells [] [] refl))
+    subst (λ (t : List ℕ). LinesParse p (lines_of t) entries) (append-nil text) (subst (λ (es : List Entry). LinesParse p (lines_of (text ++ [])) es) (append-nil entries) (tells [] [] refl))
 
-pub driven_run : ADrivenRunIsTakenUp
-driven_run p manner base lines answers closing shown pending left end shaped acceptable whole none are given is =
+pub driven_run : ADrivenRunIsRecovered
+driven_run p protocol base lines answers closing shown pending left end shaped acceptable whole none are given is =
     let on = start_on_course p shaped in
-    let told = answered_told p shaped manner (undriven p) end lines answers on are in
+    let told = answered_parse p shaped protocol (undriven p) end lines answers on are in
     let text = answers ++ closing in
-    let tells : TellsFirst p text (told.more ++ []) = tells_both p answers closing told.more [] told.tells (closing_part p end closing given.closes) in
+    let tells : ParsesFirst p text (told.more ++ []) = parses_both p answers closing told.more [] told.tells (closing_part p end closing given.closes) in
     let entries : told.more ++ [] ≡ end.entries = append-nil told.more ∙ sym told.entries in
     again p base [] text shown pending given.lost left end.entries whole none
-    (subst (λ (es : List Entry). LinesTell p (lines_of text) es) entries (whole_text p text (told.more ++ []) tells))
+    (subst (λ (es : List Entry). LinesParse p (lines_of text) es) entries (whole_text p text (told.more ++ []) tells))
     (subst (λ (es : List Entry). IsRun p (events_of es)) (sym told.entries) told.events)
-    (formed-both answers closing (answered_formed p shaped manner (undriven p) end lines answers on are) (last_formed p shaped end closing given.closes))
+    (formed-both answers closing (answered_formed p shaped protocol (undriven p) end lines answers on are) (last_formed p shaped end closing given.closes))
     given.given is acceptable.acyclic (λ none. acceptable)
 
 -- ---- a run that was taken up
 
-empty_line : (p : PlannedShop) → TellsFirst p (10 ∷ []) []
+empty_line : (p : PlannedShop) → ParsesFirst p (10 ∷ []) []
 empty_line p rest later tells = ([], later, refl, tells, refl)
 
 lines_of_orders : (orders : List MoveOrder) → entry_lines (map OrderEntry orders) ≡ order_lines orders
 lines_of_orders [] = refl
 lines_of_orders (o ∷ orders) = ap (λ (l : List ℕ). entry_line (OrderEntry o) ++ l) (lines_of_orders orders)
 
-module _ (taken : TakenUp) (run : IsTakenRun taken) where
+module _ (recovered : Recovered) (run : IsRecoveredRun recovered) where
   abbrev p : PlannedShop
-  p = plan_of taken
+  p = plan_of recovered
 
   abbrev orders : List MoveOrder
-  orders = taken.control.orders
+  orders = recovered.control.orders
 
   abbrev noted : List Entry
-  noted = taken.log.entries
+  noted = recovered.log.entries
 
-  due_is : due_text taken ≡ (10 ∷ []) ++ order_lines orders
+  due_is : due_text recovered ≡ (10 ∷ []) ++ order_lines orders
   due_is =
-      let parts : told_in taken ++ drop (length taken.late) noted ≡ told_in taken ++ map OrderEntry orders = take-append-drop (length taken.late) noted ∙ run.due in
-      ap (λ (es : List Entry). 10 ∷ entry_lines es) (append_cancel_left (told_in taken) (drop (length taken.late) noted) (map OrderEntry orders) parts) ∙ ap (λ (l : List ℕ). 10 ∷ l) (lines_of_orders orders)
+      let parts : replayed_events recovered ++ drop (length recovered.late) noted ≡ replayed_events recovered ++ map OrderEntry orders = take-append-drop (length recovered.late) noted ∙ run.due in
+      ap (λ (es : List Entry). 10 ∷ entry_lines es) (append_cancel_left (replayed_events recovered) (drop (length recovered.late) noted) (map OrderEntry orders) parts) ∙ ap (λ (l : List ℕ). 10 ∷ l) (lines_of_orders orders)
 
-  told_sound : IsRun p (events_of (told_in taken)) → IsSound p (cell_told taken)
-  told_sound is_run = run-sound p (events_of (told_in taken)) run.kept.shaped is_run
+  replayed_sound : IsRun p (events_of (replayed_events recovered)) → IsSound p (replayed_cell recovered)
+  replayed_sound is_run = run-sound p (events_of (replayed_events recovered)) run.kept.shaped is_run
 
-  orders_tell : IsRun p (events_of (told_in taken)) → TellsFirst p (due_text taken) (map OrderEntry orders)
-  orders_tell is_run =
+  orders_parse : IsRun p (events_of (replayed_events recovered)) → ParsesFirst p (due_text recovered) (map OrderEntry orders)
+  orders_parse is_run =
       let settled = run.begun.settled in
-      let t = taken.control.began in
-      let tells = tells_moves p run.kept.shaped (cell_told taken) t settled.movers (told_sound is_run) settled.settles.moves in
-      let lines = subst (λ (os : List MoveOrder). TellsFirst p (order_lines os) (map OrderEntry os)) (sym settled.orders_are) tells in
-      subst (λ (l : List ℕ). TellsFirst p l (map OrderEntry orders)) (sym due_is) (tells_both p (10 ∷ []) (order_lines orders) [] (map OrderEntry orders) (empty_line p) lines)
+      let t = recovered.control.began in
+      let tells = parses_moves p run.kept.shaped (replayed_cell recovered) t settled.movers (replayed_sound is_run) settled.settles.moves in
+      let lines = subst (λ (os : List MoveOrder). ParsesFirst p (order_lines os) (map OrderEntry os)) (sym settled.orders_are) tells in
+      subst (λ (l : List ℕ). ParsesFirst p l (map OrderEntry orders)) (sym due_is) (parses_both p (10 ∷ []) (order_lines orders) [] (map OrderEntry orders) (empty_line p) lines)
 
-  orders_formed : IsRun p (events_of (told_in taken)) → IsFormed (due_text taken)
+  orders_formed : IsRun p (events_of (replayed_events recovered)) → IsFormed (due_text recovered)
   orders_formed is_run =
       let settled = run.begun.settled in
-      let t = taken.control.began in
-      let lines = subst (λ (os : List MoveOrder). IsFormed (order_lines os)) (sym settled.orders_are) (formed_moves p run.kept.shaped (cell_told taken) t settled.movers (told_sound is_run) settled.settles.moves) in
+      let t = recovered.control.began in
+      let lines = subst (λ (os : List MoveOrder). IsFormed (order_lines os)) (sym settled.orders_are) (formed_moves p run.kept.shaped (replayed_cell recovered) t settled.movers (replayed_sound is_run) settled.settles.moves) in
       subst IsFormed (sym due_is) (formed-both (10 ∷ []) (order_lines orders) (formed-line [] tt (λ is. refl)) lines)
 
   on_course : IsOnCourse p (driven_so_far p noted).cell
@@ -149,41 +149,41 @@ module _ (taken : TakenUp) (run : IsTakenRun taken) where
     rest = subst (IsAtRest p) run.kept.told.cell run.kept.control.at_rest;
   }
 
-  taken_again : (manner : Manner) (base : List ℕ) (at : Option ℕ) (lines : List (Option (List ℕ))) (answers closing shown pending left : List ℕ) (end : DrivenCell)
-      → whole_lines base ≡ base → IsTakenUp p (ended_lines base) at taken → AreAnswered p manner (driven_so_far p noted) lines answers end → IsGiven p (due_text taken ++ answers) shown pending closing end
-      → IsLeft (length (base ++ logged shown)) (base ++ logged (shown ++ pending)) left → IsTakenUpOnceMore p taken shown left end
-  taken_again manner base at lines answers closing shown pending left end whole up are given is =
-      let from = up.taken_from in
+  recovers_again : (protocol : Protocol) (base : List ℕ) (at : Option ℕ) (lines : List (Option (List ℕ))) (answers closing shown pending left : List ℕ) (end : DrivenCell)
+      → whole_lines base ≡ base → IsRecovered p (ended_lines base) at recovered → AreAnswered p protocol (driven_so_far p noted) lines answers end → IsGiven p (due_text recovered ++ answers) shown pending closing end
+      → IsLeft (length (base ++ logged shown)) (base ++ logged (shown ++ pending)) left → IsRecoveredOnceMore p recovered shown left end
+  recovers_again protocol base at lines answers closing shown pending left end whole up are given is =
+      let from = up.recovered_from in
       let shaped = run.kept.shaped in
-      let is_run = subst (λ (es : List Entry). IsRun p (events_of es)) (sym from.told_is) up.is_run in
-      let on = answered_told p shaped manner (driven_so_far p noted) end lines answers on_course are in
+      let is_run = subst (λ (es : List Entry). IsRun p (events_of es)) (sym from.replayed_is) up.is_run in
+      let on = answered_parse p shaped protocol (driven_so_far p noted) end lines answers on_course are in
       let came = map OrderEntry orders ++ on.more in
-      let all : end.entries ≡ told_in taken ++ came = on.entries ∙ ap (λ (es : List Entry). es ++ on.more) run.due ∙ append_assoc (told_in taken) (map OrderEntry orders) on.more in
+      let all : end.entries ≡ replayed_events recovered ++ came = on.entries ∙ ap (λ (es : List Entry). es ++ on.more) run.due ∙ append_assoc (replayed_events recovered) (map OrderEntry orders) on.more in
       let joined : events_of end.entries ≡ events_of noted ++ events_of on.more = ap events_of on.entries ∙ events-join noted on.more in
       let run_all : IsRun p (events_of end.entries) = subst (IsRun p) (sym joined) (events_join p (start p) (events_of noted) (events_of on.more) run.kept.told.run on.events) in
-      let text = (due_text taken ++ answers) ++ closing in
-      let tells : TellsFirst p text (came ++ []) =
-      tells_both p (due_text taken ++ answers) closing came [] (tells_both p (due_text taken) answers (map OrderEntry orders) on.more (orders_tell is_run) on.tells) (closing_part p end closing given.closes) in
+      let text = (due_text recovered ++ answers) ++ closing in
+      let tells : ParsesFirst p text (came ++ []) =
+      parses_both p (due_text recovered ++ answers) closing came [] (parses_both p (due_text recovered) answers (map OrderEntry orders) on.more (orders_parse is_run) on.tells) (closing_part p end closing given.closes) in
       let ranks = run.kept.control.ranks in
       record {
         came = came;
         whole = all;
-        again = again p base (told_in taken) text shown pending given.lost left came whole
-            (subst (λ (es : List Entry). LinesTell p (ended_lines base) es) (sym from.told_is) up.tells)
-            (subst (λ (es : List Entry). LinesTell p (lines_of text) es) (append-nil came) (whole_text p text (came ++ []) tells))
+        again = again p base (replayed_events recovered) text shown pending given.lost left came whole
+            (subst (λ (es : List Entry). LinesParse p (ended_lines base) es) (sym from.replayed_is) up.tells)
+            (subst (λ (es : List Entry). LinesParse p (lines_of text) es) (append-nil came) (whole_text p text (came ++ []) tells))
             (subst (λ (es : List Entry). IsRun p (events_of es)) all run_all)
-            (formed-both (due_text taken ++ answers) closing (formed-both (due_text taken) answers (orders_formed is_run) (answered_formed p shaped manner (driven_so_far p noted) end lines answers on_course are))
+            (formed-both (due_text recovered ++ answers) closing (formed-both (due_text recovered) answers (orders_formed is_run) (answered_formed p shaped protocol (driven_so_far p noted) end lines answers on_course are))
             (last_formed p shaped end closing given.closes))
-            given.given is (λ nodes cycle. ranks_exclude_cycle p _ nodes ranks.rise cycle) (λ none. from.accepted (sym from.told_is ∙ none));
+            given.given is (λ nodes cycle. ranks_exclude_cycle p _ nodes ranks.rise cycle) (λ none. from.accepted (sym from.replayed_is ∙ none));
       }
 
 -- what is so of the plan of a run, is so of the plan that it is
-abbrev TakesAgain : TakenUp → Manner → List ℕ → Option ℕ → List (Option (List ℕ)) → List ℕ → List ℕ → List ℕ → List ℕ → List ℕ → DrivenCell → PlannedShop → Type 0
-TakesAgain taken manner base at lines answers closing shown pending left end p =
-    IsTakenUp p (ended_lines base) at taken → AreAnswered p manner (driven_so_far p taken.log.entries) lines answers end → IsGiven p (due_text taken ++ answers) shown pending closing end
-    → IsTakenUpOnceMore p taken shown left end
+abbrev TakesAgain : Recovered → Protocol → List ℕ → Option ℕ → List (Option (List ℕ)) → List ℕ → List ℕ → List ℕ → List ℕ → List ℕ → DrivenCell → PlannedShop → Type 0
+TakesAgain recovered protocol base at lines answers closing shown pending left end p =
+    IsRecovered p (ended_lines base) at recovered → AreAnswered p protocol (driven_so_far p recovered.log.entries) lines answers end → IsGiven p (due_text recovered ++ answers) shown pending closing end
+    → IsRecoveredOnceMore p recovered shown left end
 
-pub taken_up_run : ATakenUpRunIsTakenUp
-taken_up_run p manner base at taken lines answers closing shown pending left end whole up are given is =
-    subst (TakesAgain taken manner base at lines answers closing shown pending left end) up.taken_from.planned
-    (λ up_so are_so given_so. taken_again taken up.taken_from.run manner base at lines answers closing shown pending left end whole up_so are_so given_so is) up are given
+pub recovered_again_run : ARecoveredRunIsRecovered
+recovered_again_run p protocol base at recovered lines answers closing shown pending left end whole up are given is =
+    subst (TakesAgain recovered protocol base at lines answers closing shown pending left end) up.recovered_from.planned
+    (λ up_so are_so given_so. recovers_again taken up.recovered_from.run protocol base at lines answers closing shown pending left end whole up_so are_so given_so is) up are given

@@ -17,7 +17,7 @@ use Rattle.cell_tables.specs.declared.entry.Entry.{Entry}
 use Rattle.cell_tables.specs.declared.entry.Entry.TheVariants.{Report as ReportEntry, Order as OrderEntry}
 use Rattle.byte_streams.specs.Answering.{AnswerAll}
 use Rattle.event_lines.specs.Words.{short, moment}
-use Rattle.event_lines.specs.EventLines.{spot_word, told_words, entry_words, report_line, order_line, order_lines}
+use Rattle.event_lines.specs.EventLines.{spot_word, logged_words, entry_words, report_line, order_line, order_lines}
 use Rattle.event_lines.specs.AnswerLines.{late_words}
 use Rattle.event_lines.specs.LogLines.{IsEntryOf}
 use Rattle.run_journal.specs.TornEnds.{IsNarrow, AreNarrow}
@@ -44,7 +44,7 @@ module _ (p : PlannedShop) (shaped : IsWellShaped p) where
   spot_fits Out of_shop = refl
   spot_fits (At m) of_shop = machine_fits m of_shop
 
-  report_fits : (report : Report) → IsEntryOf p (ReportEntry report) → AreNarrow (told_words report)
+  report_fits : (report : Report) → IsEntryOf p (ReportEntry report) → AreNarrow (logged_words report)
   report_fits (Arrive job at) of_shop = (refl, (moment_fits at of_shop.1, (refl, (job_fits job of_shop.0, tt))))
   report_fits (Finish job machine at) of_shop = (refl, (moment_fits at of_shop.1, (refl, (job_fits job of_shop.0.0, (machine_fits machine of_shop.0.1, tt)))))
   report_fits (Clean machine at) of_shop = (refl, (moment_fits at of_shop.1, (refl, (machine_fits machine of_shop.0, tt))))

@@ -30,12 +30,12 @@ use Rattle.event_lines.specs.declared.details.Overdue.{Overdue}
 use Rattle.event_lines.specs.declared.requests.Request.{Request}
 use Rattle.event_lines.specs.declared.requests.Request.TheVariants.{Claim as ClaimRequest, Status}
 use Rattle.event_lines.specs.Requests.{claimed}
-use Rattle.cell_drive.specs.declared.manner.Manner.{Manner}
+use Rattle.cell_drive.specs.declared.protocol.Protocol.{Protocol}
 use Rattle.cell_drive.specs.Refusals.{first_refusal, refusal_word, refusal_detail, standing_of}
 use Rattle.cell_drive.specs.States.{is_over, standing_part, texts_from, jobs_text, machines_text, state_text, one_more, with_one, with_those, with_jobs, with_machines, own_first, overdue_in}
 use Rattle.cell_drive.specs.LineAnswers.{closing_line}
 use Rattle.cell_drive.specs.AnswerText.{DrivenCell}
-use Rattle.cell_drive.specs.Stated.{RequestAnswer, StatedAnswers, lateness_part, end_part, told_overdue, tells_end}
+use Rattle.cell_drive.specs.ProtocolText.{RequestAnswer, ProtocolAnswers, lateness_part, end_part, printed_overdue, prints_end}
 use Rattle.cell_drive.proofs.ShopEntries.{report_of_shop}
 use Rattle.cell_drive.proofs.Replied.{no_prefix}
 use Rattle.run_journal.proofs.Formed.{IsFormed, formed-none, formed-both}
@@ -224,7 +224,7 @@ refusal_spaceless false WrongKind = refl
 refusal_spaceless true (WrongMachine actual) = refl
 refusal_spaceless false (WrongMachine actual) = refl
 
-module _ (p : PlannedShop) (shaped : IsWellShaped p) (manner : Manner) where
+module _ (p : PlannedShop) (shaped : IsWellShaped p) (protocol : Protocol) where
   -- ---- what is taken
 
   lateness_formed : (at : ℕ) (late : Bool) (overdue : Option Overdue) → at ≤ MAX_MOMENT → AreFew at (jobs p + machines p) overdue → IsFormed (lateness_part [] at late overdue)
@@ -239,40 +239,40 @@ module _ (p : PlannedShop) (shaped : IsWellShaped p) (manner : Manner) where
   end_formed at true = formed-done at
   end_formed at false = formed-none
 
-  told_few : (c : Cell) (report : Report) → at report ≤ MAX_MOMENT → IsEntryOf p (ReportEntry report) → AreFew (at report) (jobs p + machines p) (told_overdue manner p c report)
-  told_few c report in_range of_shop = told manner.tells
+  printed_few : (c : Cell) (report : Report) → at report ≤ MAX_MOMENT → IsEntryOf p (ReportEntry report) → AreFew (at report) (jobs p + machines p) (printed_overdue protocol p c report)
+  printed_few c report in_range of_shop = told protocol.version_2
     where
       told : (tells : Bool) → AreFew (at report) (jobs p + machines p) (cond tells (overdue_in p c (standing_of p c report) (at report)) None)
       told true = overdue_few p shaped c (at report) in_range (standing_of p c report) (own_fits p shaped c (at report) in_range report of_shop)
       told false = tt
 
   request_formed : (before : DrivenCell) (number : ℕ) (request : Request) (text : List ℕ) (end : DrivenCell) (more : List Entry) → IsSound p before.cell
-      → RequestAnswer p manner [] before.cell number request text more end.cell → IsFormed text
+      → RequestAnswer p protocol [] before.cell number request text more end.cell → IsFormed text
   request_formed before number (ClaimRequest claim) text end more sound (inl is) =
       let spaceless : IsSpaceless (refusal_word is.refusal) = elim is.first [
         | inl (reason, is_first, same) ↦ subst (λ r. IsSpaceless (refusal_word r)) (sym same) (refusal_spaceless _ reason)
         | inr (can, leaps, same) ↦ subst (λ r. IsSpaceless (refusal_word r)) (sym same) refl
       ] in
-      let refused = refused_detail_line number (refusal_word is.refusal) (refusal_detail manner p before.cell (claimed claim) is.refusal) in
-      subst IsFormed (sym (is.text_is ∙ ap (λ (prefix : List ℕ). prefix ++ refused) (no_prefix manner)))
-      (formed-refused_detail number (refusal_word is.refusal) (refusal_detail manner p before.cell (claimed claim) is.refusal) spaceless)
+      let refused = refused_detail_line number (refusal_word is.refusal) (refusal_detail protocol p before.cell (claimed claim) is.refusal) in
+      subst IsFormed (sym (is.text_is ∙ ap (λ (prefix : List ℕ). prefix ++ refused) (no_prefix protocol)))
+      (formed-refused_detail number (refusal_word is.refusal) (refusal_detail protocol p before.cell (claimed claim) is.refusal) spaceless)
   request_formed before number (ClaimRequest claim) text end more sound (inr is) =
       let report = claimed claim in
       let c = before.cell in
       let moment = at report in
       let in_range = is.step.can.moment.in_range in
-      let overdue = told_overdue manner p c report in
+      let overdue = printed_overdue protocol p c report in
       let lateness = lateness_part [] moment is.late overdue in
       let orders = order_lines (step_orders p c report is.movers) in
-      let ending = end_part [] moment (tells_end manner p end.cell) in
+      let ending = end_part [] moment (prints_end protocol p end.cell) in
       subst IsFormed (sym is.text_is)
       (formed-both (report_line report) (lateness ++ (orders ++ ending)) (report_formed p shaped c report is.movers sound is.step)
-      (formed-both lateness (orders ++ ending) (lateness_formed moment is.late overdue in_range (told_few c report in_range (report_of_shop p c report shaped sound is.step.can)))
-      (formed-both orders ending (step_formed p shaped c report is.movers sound is.step) (end_formed moment (tells_end manner p end.cell)))))
+      (formed-both lateness (orders ++ ending) (lateness_formed moment is.late overdue in_range (printed_few c report in_range (report_of_shop p c report shaped sound is.step.can)))
+      (formed-both orders ending (step_formed p shaped c report is.movers sound is.step) (end_formed moment (prints_end protocol p end.cell)))))
   request_formed before number Status text end more sound is = subst IsFormed (sym is.text_is) (state_formed p before.cell)
 
-  pub stated_formed : (before : DrivenCell) (number : ℕ) (line : Option (List ℕ)) (text : List ℕ) (end : DrivenCell) → IsSound p before.cell → StatedAnswers p manner before number line text end → IsFormed text
-  stated_formed before number None text end sound is = subst IsFormed (sym is.text_is) (formed-refused number (codes "LongLine") refl)
-  stated_formed before number (Some []) text end sound is = subst IsFormed (sym is.text_is) formed-none
-  stated_formed before number (Some (b ∷ line)) text end sound (inl is) = subst IsFormed (sym is.1.text_is) (formed-refused number (codes "BadLine") refl)
-  stated_formed before number (Some (b ∷ line)) text end sound (inr is) = request_formed before number is.what text end is.answer.more sound is.answer.answer
+  pub protocol_formed : (before : DrivenCell) (number : ℕ) (line : Option (List ℕ)) (text : List ℕ) (end : DrivenCell) → IsSound p before.cell → ProtocolAnswers p protocol before number line text end → IsFormed text
+  protocol_formed before number None text end sound is = subst IsFormed (sym is.text_is) (formed-refused number (codes "LongLine") refl)
+  protocol_formed before number (Some []) text end sound is = subst IsFormed (sym is.text_is) formed-none
+  protocol_formed before number (Some (b ∷ line)) text end sound (inl is) = subst IsFormed (sym is.1.text_is) (formed-refused number (codes "BadLine") refl)
+  protocol_formed before number (Some (b ∷ line)) text end sound (inr is) = request_formed before number is.what text end is.answer.more sound is.answer.answer

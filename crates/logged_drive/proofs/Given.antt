@@ -10,12 +10,12 @@ use Rattle.byte_streams.specs.Lent.{Streams}
 use Rattle.byte_streams.specs.Lines.{input_lines}
 use Rattle.byte_streams.specs.Answering.{AnswerAll, AreCutOff, IsClosingCut}
 use Rattle.byte_streams.specs.Streams.{ComesTo, IsStreamed, IsCutOff}
-use Rattle.cell_drive.specs.declared.manner.Manner.{Manner}
+use Rattle.cell_drive.specs.declared.protocol.Protocol.{Protocol}
 use Rattle.cell_drive.specs.declared.begin.DriveEnd.{DriveEnd}
 use Rattle.cell_drive.specs.AnswerText.{DrivenCell, undriven, CellCloses}
 use Rattle.cell_drive.specs.Session.{SessionAnswer, SessionCloses, seen, session_start}
 use Rattle.cell_drive.specs.OneRun.{IsStreamedFrom}
-use Rattle.cell_drive.specs.InManner.{IsDriveIn}
+use Rattle.cell_drive.specs.InProtocol.{IsDriveIn}
 use Rattle.cell_drive.proofs.Sessions.{a_session_answers_so, seen_closes}
 use Rattle.logged_drive.specs.CrashLaw as law
 
@@ -64,10 +64,10 @@ module _ {S : Type 0} (answers : S → ℕ → Option (List ℕ) → List ℕ �
   cut_of start end before after lines is =
       let part = is.part.1 in
       record {
-        lines = is.told ++ is.line ∷ [];
+        lines = is.answered ++ is.line ∷ [];
         text = is.text ++ is.cut;
         end = end;
-        are = one_more is.told start is.state end 1 is.text is.cut is.line is.are_answers is.is_answer;
+        are = one_more is.answered start is.state end 1 is.text is.cut is.line is.are_answers is.is_answer;
         closing = [];
         is_closing = inl refl;
         out = is.text ++ part.out;
@@ -92,14 +92,14 @@ module _ {S : Type 0} (answers : S → ℕ → Option (List ℕ) → List ℕ �
         whole = ap (λ (t : List ℕ). is.text ++ t) (sym part.whole) ∙ sym (append_assoc is.text part.out is.part.0);
       }
 
-  cut_stream : (start : S) (input : List ℕ) (end : S) (before after : Streams) → IsCutOff answers closes start input end before after → IsFirstOf answers closes start before.output.taken after.output.taken
-  cut_stream start input end before after (inl (inl is)) = cut_of start end before.output.taken after.output.taken _ is
-  cut_stream start input end before after (inl (inr is)) = all_of start end before.output.taken after.output.taken _ is.text is.are_answers is.written
-  cut_stream start input end before after (inr (ended, within, inl is)) = cut_of start end before.output.taken after.output.taken _ is
-  cut_stream start input end before after (inr (ended, within, inr is)) = closing_of start end before.output.taken after.output.taken _ is
+  cut_stream : (start : S) (input : List ℕ) (end : S) (before after : Streams) → IsCutOff answers closes start input end before after → IsFirstOf answers closes start before.output.written after.output.written
+  cut_stream start input end before after (inl (inl is)) = cut_of start end before.output.written after.output.written _ is
+  cut_stream start input end before after (inl (inr is)) = all_of start end before.output.written after.output.written _ is.text is.are_answers is.written
+  cut_stream start input end before after (inr (ended, within, inl is)) = cut_of start end before.output.written after.output.written _ is
+  cut_stream start input end before after (inr (ended, within, inr is)) = closing_of start end before.output.written after.output.written _ is
 
   stream_of : {T : Type 0} (outcome : Result T DriveFault) (room : ℕ) (start : S) (input : List ℕ) (end : S) (before after : Streams) → ComesTo outcome room answers closes start input end before after
-      → IsFirstOf answers closes start before.output.taken after.output.taken
+      → IsFirstOf answers closes start before.output.written after.output.written
   stream_of (Ok x) room start input end before after is = record {
     lines = input_lines input;
     text = is.text;
@@ -112,19 +112,19 @@ module _ {S : Type 0} (answers : S → ℕ → Option (List ℕ) → List ℕ �
     written = is.written;
     whole = sym (append-nil (is.text ++ is.closing));
   }
-  stream_of (Err Read) room start input end before after is = let all = is.2 in all_of start end before.output.taken after.output.taken _ all.text all.are_answers all.written
+  stream_of (Err Read) room start input end before after is = let all = is.2 in all_of start end before.output.written after.output.written _ all.text all.are_answers all.written
   stream_of (Err Write) room start input end before after is = cut_stream start input end before after is.1
-  stream_of (Err InputTooLong) room start input end before after is = let all = is.2 in all_of start end before.output.taken after.output.taken _ all.text all.are_answers all.written
+  stream_of (Err InputTooLong) room start input end before after is = let all = is.2 in all_of start end before.output.written after.output.written _ all.text all.are_answers all.written
   stream_of (Err Memory) room start input end before after is = absurd is
 
   pub streamed_first : {T : Type 0} (outcome : Result T DriveFault) (room : ℕ) (start end : S) (before after : Streams) → IsStreamed outcome room answers closes start end before after
-      → IsFirstOf answers closes start before.output.taken after.output.taken
+      → IsFirstOf answers closes start before.output.written after.output.written
   streamed_first outcome room start end before after is = stream_of outcome room start is.input end before after is.comes_to
 
   -- or nothing was written
   from_start : {T : Type 0} (outcome : Result T DriveFault) (start end : S) (before after : Streams) → IsStreamedFrom answers closes start outcome end before after
-      → IsFirstOf answers closes start before.output.taken after.output.taken
-  from_start (Err Memory) start end before after is = all_of start start before.output.taken after.output.taken [] [] (refl, refl) (subst (λ (s : Streams). Appends before.output.taken s.output.taken []) (sym is) (Appends-nil before.output.taken))
+      → IsFirstOf answers closes start before.output.written after.output.written
+  from_start (Err Memory) start end before after is = all_of start start before.output.written after.output.written [] [] (refl, refl) (subst (λ (s : Streams). Appends before.output.written s.output.written []) (sym is) (Appends-nil before.output.written))
   from_start (Ok x) start end before after is = streamed_first (Ok x) _ start end before after is
   from_start (Err Read) start end before after is = streamed_first (Err Read) _ start end before after is
   from_start (Err Write) start end before after is = streamed_first (Err Write) _ start end before after is
@@ -133,11 +133,11 @@ module _ {S : Type 0} (answers : S → ℕ → Option (List ℕ) → List ℕ �
 -- ---- of a driven cell
 
 -- the answers are those of a cell, which is driven in a manner
-pub record IsFirstOfCell (p : PlannedShop) (manner : Manner) (start : DrivenCell) (before after : Option (List ℕ)) : Type 0 where
+pub record IsFirstOfCell (p : PlannedShop) (protocol : Protocol) (start : DrivenCell) (before after : Option (List ℕ)) : Type 0 where
   pub lines : List (Option (List ℕ))
   pub text : List ℕ
   pub end : DrivenCell
-  pub are : law.AreAnswered p manner start lines text end
+  pub are : law.AreAnswered p protocol start lines text end
   pub closing : List ℕ
   pub closes : (closing ≡ []) ⊎ CellCloses p end closing
   pub out : List ℕ
@@ -149,11 +149,11 @@ pub closes_too : {P Q R : Type 0} → (Q → R) → P ⊎ Q → P ⊎ R
 closes_too f (inl p) = inl p
 closes_too f (inr q) = inr (f q)
 
-pub driven_first : (manner : Manner) (v : VerifiedPlan) (before after : Streams) (outcome : Result DriveEnd DriveFault) → IsDriveIn manner v before after outcome
-    → IsFirstOfCell v.planned manner (undriven v.planned) before.output.taken after.output.taken
-driven_first manner v before after outcome is =
-    let first = from_start SessionAnswer SessionCloses outcome (session_start manner v) is.end before after is.streamed in
-    let answers = a_session_answers_so (session_start manner v) first.end 1 first.lines first.text first.are in
+pub driven_first : (protocol : Protocol) (v : VerifiedPlan) (before after : Streams) (outcome : Result DriveEnd DriveFault) → IsDriveIn protocol v before after outcome
+    → IsFirstOfCell v.planned protocol (undriven v.planned) before.output.written after.output.written
+driven_first protocol v before after outcome is =
+    let first = from_start SessionAnswer SessionCloses outcome (session_start protocol v) is.end before after is.streamed in
+    let answers = a_session_answers_so (session_start protocol v) first.end 1 first.lines first.text first.are in
     record {
       lines = first.lines;
       text = first.text;

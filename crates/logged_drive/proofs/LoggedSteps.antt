@@ -5,15 +5,15 @@ use Rattle.plan_verifier.specs.Accepted.{VerifiedPlan}
 use Rattle.byte_streams.specs.declared.drive_fault.DriveFault.{DriveFault}
 use Rattle.byte_streams.specs.declared.drive_fault.DriveFault.TheVariants.{Memory, Write}
 use Rattle.byte_streams.specs.Lent.{Input, Output, Streams}
-use Rattle.cell_drive.specs.declared.manner.Manner.{Manner}
+use Rattle.cell_drive.specs.declared.protocol.Protocol.{Protocol}
 use Rattle.cell_drive.specs.declared.begin.DriveEnd.{DriveEnd}
 use Rattle.cell_drive.specs.declared.resume.RestEnd.{RestEnd}
-use Rattle.cell_drive.specs.TakenUp.{TakenUp}
-use Rattle.cell_drive.specs.InManner.{IsDriveIn, IsGoneOnIn}
-use Rattle.run_journal.specs.LogFiles.{IsSettled}
+use Rattle.cell_drive.specs.Recovered.{Recovered}
+use Rattle.cell_drive.specs.InProtocol.{IsDriveIn, IsGoneOnIn}
+use Rattle.run_journal.specs.LogFiles.{IsDurable}
 use Rattle.run_journal.specs.WholeLines.{whole_lines}
 use Rattle.run_journal.specs.LoggedLines.{logged}
-use Rattle.run_journal.specs.Logged.{Held, AreBefore, StayInStep}
+use Rattle.run_journal.specs.Logged.{Held, AreInitial, StayInStep}
 use Rattle.run_journal.specs.Laws.{ACrashKeepsWhatWasShown}
 use Rattle.logged_drive.specs.LoggedRuns.{IsAllInLog, KeepsShown, RunsLogged, nothing_held, output_held}
 
@@ -30,32 +30,32 @@ if_some-both (Some x) f p q = f x p q
 
 -- ---- what a crash leaves
 
-pub keeps_shown : ACrashKeepsWhatWasShown → (before : Option (List ℕ × List ℕ)) (seen : Option (List ℕ)) (may_leave : List ℕ → Type 0) (held : Held) (taken : Option (List ℕ)) → taken ≡ held.taken
-    → IfSome before (λ told. whole_lines told.0 ≡ told.0) → StayInStep before seen may_leave held → IfSome before (λ told. KeepsShown told.0 told.1 may_leave taken)
-keeps_shown law before seen may_leave held taken is whole steps = if_some-both before (λ b base step. record {
+pub keeps_shown : ACrashKeepsWhatWasShown → (before : Option (List ℕ × List ℕ)) (seen : Option (List ℕ)) (crash_states : List ℕ → Type 0) (held : Held) (taken : Option (List ℕ)) → taken ≡ held.written
+    → IfSome before (λ told. whole_lines told.0 ≡ told.0) → StayInStep before seen crash_states held → IfSome before (λ told. KeepsShown told.0 told.1 crash_states taken)
+keeps_shown law before seen crash_states held taken is whole steps = if_some-both before (λ b base step. record {
   shown = step.shown;
   output = is ∙ step.output;
   pending = held.pending;
   crash = λ left leaves. law b.0 step.shown held.pending left base (step.crash left leaves);
 }) whole steps
 
-pub all_in_log : (before : Option (List ℕ × List ℕ)) (seen : Option (List ℕ)) (may_leave : List ℕ → Type 0) (held : Held) (taken : Option (List ℕ)) → taken ≡ held.taken → held.failed ≡ false
-    → IsSettled seen may_leave → StayInStep before seen may_leave held → IfSome before (λ told. IsAllInLog told.0 told.1 seen may_leave taken)
-all_in_log before seen may_leave held taken is unfailed settled steps = if_some-map before (λ b step. record {
+pub all_in_log : (before : Option (List ℕ × List ℕ)) (seen : Option (List ℕ)) (crash_states : List ℕ → Type 0) (held : Held) (taken : Option (List ℕ)) → taken ≡ held.written → held.failed ≡ false
+    → IsDurable seen crash_states → StayInStep before seen crash_states held → IfSome before (λ told. IsAllInLog told.0 told.1 seen crash_states taken)
+all_in_log before seen crash_states held taken is unfailed durable steps = if_some-map before (λ b step. record {
   shown = step.shown;
   output = is ∙ step.output;
   log = step.log unfailed;
-  on_disk = told seen (b.0 ++ logged step.shown) (λ f. (left : List ℕ) → may_leave left → left ≡ f) (step.log unfailed) settled;
+  on_disk = told seen (b.0 ++ logged step.shown) (λ f. (left : List ℕ) → crash_states left → left ≡ f) (step.log unfailed) durable;
 }) steps
 
 -- what the output had taken as the writer began
-pub at_start : (before : Option (List ℕ × List ℕ)) (seen taken same : Option (List ℕ)) → same ≡ taken → AreBefore before seen taken → IfSome before (λ told. same ≡ Some told.1)
+pub at_start : (before : Option (List ℕ × List ℕ)) (seen taken same : Option (List ℕ)) → same ≡ taken → AreInitial before seen taken → IfSome before (λ told. same ≡ Some told.1)
 at_start before seen taken same is are = if_some-map before (λ b both. is ∙ both.1) are
 
 -- ---- a run that went to the end of its input
 
-pub ended : (manner : Manner) (v : VerifiedPlan) (before after : Streams) (end : DriveEnd) → IsDriveIn manner v before after (Ok end) → after.output.failed ≡ before.output.failed
-ended manner v before after end drove = drove.streamed.comes_to.write_unfailed
+pub ended : (protocol : Protocol) (v : VerifiedPlan) (before after : Streams) (end : DriveEnd) → IsDriveIn protocol v before after (Ok end) → after.output.failed ≡ before.output.failed
+ended protocol v before after end drove = drove.streamed.comes_to.write_unfailed
 
 -- what follows of its end, follows where it has one
 pub at_end : {X E : Type 0} {P : Type 0} (r : Result X E) → ((x : X) → r ≡ Ok x → P) → IfOk r (λ _. P)
@@ -63,59 +63,59 @@ at_end (Ok x) f = f x refl
 at_end (Err e) f = tt
 
 -- neither a read nor a write has failed at its end
-pub unfailed_at_end : (manner : Manner) (v : VerifiedPlan) (before after : Streams) (outcome : Result DriveEnd DriveFault) (end : DriveEnd) → outcome ≡ Ok end → IsDriveIn manner v before after outcome
+pub unfailed_at_end : (protocol : Protocol) (v : VerifiedPlan) (before after : Streams) (outcome : Result DriveEnd DriveFault) (end : DriveEnd) → outcome ≡ Ok end → IsDriveIn protocol v before after outcome
     → after.output.failed ≡ before.output.failed
-unfailed_at_end manner v before after outcome end is drove = ended manner v before after end (subst (λ (r : Result DriveEnd DriveFault). IsDriveIn manner v before after r) is drove)
+unfailed_at_end protocol v before after outcome end is drove = ended protocol v before after end (subst (λ (r : Result DriveEnd DriveFault). IsDriveIn protocol v before after r) is drove)
 
 -- a write failed, where that is its fault
-pub write_failed : (manner : Manner) (v : VerifiedPlan) (before after : Streams) (outcome : Result DriveEnd DriveFault) → outcome ≡ Err Write → IsDriveIn manner v before after outcome → after.output.failed ≡ true
-write_failed manner v before after outcome is drove =
-    let failed : IsDriveIn manner v before after (Err Write) = subst (λ (r : Result DriveEnd DriveFault). IsDriveIn manner v before after r) is drove in
+pub write_failed : (protocol : Protocol) (v : VerifiedPlan) (before after : Streams) (outcome : Result DriveEnd DriveFault) → outcome ≡ Err Write → IsDriveIn protocol v before after outcome → after.output.failed ≡ true
+write_failed protocol v before after outcome is drove =
+    let failed : IsDriveIn protocol v before after (Err Write) = subst (λ (r : Result DriveEnd DriveFault). IsDriveIn protocol v before after r) is drove in
     failed.streamed.comes_to.0
 
 -- ---- a writer that begins
 
 module _ {T : Type 0} (drives : Streams → Streams → Result T DriveFault → Type 0) where
-  fresh : (held : Held) → held.pending ≡ [] → held.failed ≡ false → output_held held ≡ output_held (nothing_held held.taken)
+  fresh : (held : Held) → held.pending ≡ [] → held.failed ≡ false → output_held held ≡ output_held (nothing_held held.written)
   fresh held none unfailed =
-      ap (λ (p : List ℕ). record { taken = append_known held.taken p; failed = held.failed; pending = p }) none
-      ∙ ap (λ (f : Bool). record { taken = append_known held.taken []; failed = f; pending = [] }) unfailed
+      ap (λ (p : List ℕ). record { written = append_known held.written p; failed = held.failed; pending = p }) none
+      ∙ ap (λ (f : Bool). record { written = append_known held.written []; failed = f; pending = [] }) unfailed
 
   pub began : (input : Input) (held : Held) (after : Streams) (outcome : Result T DriveFault) → held.pending ≡ [] → held.failed ≡ false
-      → drives (record { input = input; output = output_held held }) after outcome → drives (record { input = input; output = output_held (nothing_held held.taken) }) after outcome
+      → drives (record { input = input; output = output_held held }) after outcome → drives (record { input = input; output = output_held (nothing_held held.written) }) after outcome
   began input held after outcome none unfailed drove = subst (λ (o : Output). drives (record { input = input; output = o }) after outcome) (fresh held none unfailed) drove
 
-  pub retaken : (before : Option (List ℕ × List ℕ)) (input : Input) (taken same : Option (List ℕ)) (outcome : Result T DriveFault) (log_failed : Bool) (input_after : Input) (seen : Option (List ℕ)) (may_leave : List ℕ → Type 0) (output_after : Output)
-      → taken ≡ same → RunsLogged drives before input taken outcome log_failed input_after seen may_leave output_after → RunsLogged drives before input same outcome log_failed input_after seen may_leave output_after
-  retaken before input taken same outcome log_failed input_after seen may_leave output_after is run =
-      subst (λ (t : Option (List ℕ)). RunsLogged drives before input t outcome log_failed input_after seen may_leave output_after) is run
+  pub rewritten : (before : Option (List ℕ × List ℕ)) (input : Input) (taken same : Option (List ℕ)) (outcome : Result T DriveFault) (log_failed : Bool) (input_after : Input) (seen : Option (List ℕ)) (crash_states : List ℕ → Type 0) (output_after : Output)
+      → taken ≡ same → RunsLogged drives before input taken outcome log_failed input_after seen crash_states output_after → RunsLogged drives before input same outcome log_failed input_after seen crash_states output_after
+  rewritten before input taken same outcome log_failed input_after seen crash_states output_after is run =
+      subst (λ (t : Option (List ℕ)). RunsLogged drives before input t outcome log_failed input_after seen crash_states output_after) is run
 
 -- ---- a run that goes on
 
-on-unfailed : (manner : Manner) (taken : TakenUp) (before after : Streams) (end : RestEnd) → IsGoneOnIn manner taken before after (Ok end) → after.output.failed ≡ before.output.failed
-on-unfailed manner taken before after end (inl cut) = (let bad : Ok end ≡ Err Write = cut.0 in absurd (cc bad))
-on-unfailed manner taken before after end (inr on) = on.streamed.comes_to.write_unfailed ∙ on.unfailed
+on-unfailed : (protocol : Protocol) (taken : Recovered) (before after : Streams) (end : RestEnd) → IsGoneOnIn protocol taken before after (Ok end) → after.output.failed ≡ before.output.failed
+on-unfailed protocol taken before after end (inl cut) = (let bad : Ok end ≡ Err Write = cut.0 in absurd (cc bad))
+on-unfailed protocol taken before after end (inr on) = on.streamed.comes_to.write_unfailed ∙ on.unfailed
 
-on-write_failed : (manner : Manner) (taken : TakenUp) (before after : Streams) → IsGoneOnIn manner taken before after (Err Write) → after.output.failed ≡ true
-on-write_failed manner taken before after (inl cut) = cut.1
-on-write_failed manner taken before after (inr on) = on.streamed.comes_to.0
+on-write_failed : (protocol : Protocol) (taken : Recovered) (before after : Streams) → IsGoneOnIn protocol taken before after (Err Write) → after.output.failed ≡ true
+on-write_failed protocol taken before after (inl cut) = cut.1
+on-write_failed protocol taken before after (inr on) = on.streamed.comes_to.0
 
-on-memory : (manner : Manner) (taken : TakenUp) (before after : Streams) → IsGoneOnIn manner taken before after (Err Memory) → ⊥
-on-memory manner taken before after (inl cut) = (let bad : Err Memory ≡ Err Write = cut.0 in cc bad)
-on-memory manner taken before after (inr on) = on.streamed.comes_to
+on-memory : (protocol : Protocol) (taken : Recovered) (before after : Streams) → IsGoneOnIn protocol taken before after (Err Memory) → ⊥
+on-memory protocol taken before after (inl cut) = (let bad : Err Memory ≡ Err Write = cut.0 in cc bad)
+on-memory protocol taken before after (inr on) = on.streamed.comes_to
 
-module _ (manner : Manner) (taken : TakenUp) (before after : Streams) (outcome : Result RestEnd DriveFault) where
-  went : (same : Result RestEnd DriveFault) → outcome ≡ same → IsGoneOnIn manner taken before after outcome → IsGoneOnIn manner taken before after same
-  went same is on = subst (λ (r : Result RestEnd DriveFault). IsGoneOnIn manner taken before after r) is on
+module _ (protocol : Protocol) (taken : Recovered) (before after : Streams) (outcome : Result RestEnd DriveFault) where
+  went : (same : Result RestEnd DriveFault) → outcome ≡ same → IsGoneOnIn protocol taken before after outcome → IsGoneOnIn protocol taken before after same
+  went same is on = subst (λ (r : Result RestEnd DriveFault). IsGoneOnIn protocol taken before after r) is on
 
   -- no write has failed at its end
-  pub unfailed_behind : (end : RestEnd) → outcome ≡ Ok end → IsGoneOnIn manner taken before after outcome → after.output.failed ≡ before.output.failed
-  unfailed_behind end is on = on-unfailed manner taken before after end (went (Ok end) is on)
+  pub unfailed_behind : (end : RestEnd) → outcome ≡ Ok end → IsGoneOnIn protocol taken before after outcome → after.output.failed ≡ before.output.failed
+  unfailed_behind end is on = on-unfailed protocol taken before after end (went (Ok end) is on)
 
   -- one has, where that is its fault
-  pub write_failed_behind : outcome ≡ Err Write → IsGoneOnIn manner taken before after outcome → after.output.failed ≡ true
-  write_failed_behind is on = on-write_failed manner taken before after (went (Err Write) is on)
+  pub write_failed_behind : outcome ≡ Err Write → IsGoneOnIn protocol taken before after outcome → after.output.failed ≡ true
+  write_failed_behind is on = on-write_failed protocol taken before after (went (Err Write) is on)
 
   -- memory doesn't run out in it
-  pub no_memory_behind : outcome ≡ Err Memory → IsGoneOnIn manner taken before after outcome → ⊥
-  no_memory_behind is on = on-memory manner taken before after (went (Err Memory) is on)
+  pub no_memory_behind : outcome ≡ Err Memory → IsGoneOnIn protocol taken before after outcome → ⊥
+  no_memory_behind is on = on-memory protocol taken before after (went (Err Memory) is on)

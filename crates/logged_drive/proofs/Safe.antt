@@ -7,13 +7,13 @@ use Rattle.plan_verifier.specs.Accepted.{VerifiedPlan, IsVerified}
 use Rattle.plan_verifier.proofs.Reasons.{acceptable}
 use Rattle.byte_streams.specs.declared.drive_fault.DriveFault.{DriveFault}
 use Rattle.byte_streams.specs.Lent.{Input, Streams}
-use Rattle.cell_drive.specs.declared.manner.Manner.{Manner}
+use Rattle.cell_drive.specs.declared.protocol.Protocol.{Protocol}
 use Rattle.cell_drive.specs.declared.begin.DriveEnd.{DriveEnd}
-use Rattle.event_lines.specs.LogLines.{LinesTell}
-use Rattle.cell_drive.specs.InManner.{IsDriveIn}
+use Rattle.event_lines.specs.LogLines.{LinesParse}
+use Rattle.cell_drive.specs.InProtocol.{IsDriveIn}
 use Rattle.run_journal.specs.WholeLines.{whole_lines}
 use Rattle.run_journal.specs.Logged.{Held, StayInStep}
-use Rattle.logged_drive.specs.CrashLaw.{IsTakenUpAfter}
+use Rattle.logged_drive.specs.CrashLaw.{IsRecoveredAfter}
 use Rattle.logged_drive.specs.LoggedRuns.{nothing_held, output_held}
 use Rattle.logged_drive.proofs.Given.{driven_first}
 use Rattle.logged_drive.proofs.Crashes.{driven_run}
@@ -26,20 +26,20 @@ is_given taken held start shown pending out taken_is held_is written =
     let both : (start ++ shown) ++ pending ≡ (start ++ []) ++ out = subst (λ (h : Option (List ℕ)). Appends (Some (start ++ [])) (append_known h pending) out) held_is from in
     append_cancel_left start out (shown ++ pending) (ap (λ (l : List ℕ). l ++ out) (sym (append-nil start)) ∙ sym both ∙ append_assoc start shown pending)
 
-module _ (manner : Manner) (v : VerifiedPlan) (verified : IsVerified v) where
-  pub taken_up_after : (before : Option (List ℕ × List ℕ)) (seen : Option (List ℕ)) (may_leave : List ℕ → Type 0) (held : Held) (taken after : Option (List ℕ)) (input input_after : Input)
-      (outcome : Result DriveEnd DriveFault) → after ≡ held.taken → IfSome before (λ told. whole_lines told.0 ≡ told.0) → IfSome before (λ told. taken ≡ Some told.1)
-      → IsDriveIn manner v (record { input = input; output = output_held (nothing_held taken) }) (record { input = input_after; output = output_held held }) outcome
-      → StayInStep before seen may_leave held → IfSome before (λ told. LinesTell v.planned (ended_lines told.0) [] → IsTakenUpAfter v.planned [] told.1 may_leave after)
-  taken_up_after None seen may_leave held taken after input input_after outcome same whole start drove steps = start
-  taken_up_after (Some told) seen may_leave held taken after input input_after outcome same whole start drove step = λ none.
-      let first = driven_first manner v _ _ outcome drove in
-      let out = is_given taken held.taken told.1 step.shown held.pending first.out start step.output first.written in
+module _ (protocol : Protocol) (v : VerifiedPlan) (verified : IsVerified v) where
+  pub recovered_after : (before : Option (List ℕ × List ℕ)) (seen : Option (List ℕ)) (crash_states : List ℕ → Type 0) (held : Held) (taken after : Option (List ℕ)) (input input_after : Input)
+      (outcome : Result DriveEnd DriveFault) → after ≡ held.written → IfSome before (λ told. whole_lines told.0 ≡ told.0) → IfSome before (λ told. taken ≡ Some told.1)
+      → IsDriveIn protocol v (record { input = input; output = output_held (nothing_held taken) }) (record { input = input_after; output = output_held held }) outcome
+      → StayInStep before seen crash_states held → IfSome before (λ told. LinesParse v.planned (ended_lines told.0) [] → IsRecoveredAfter v.planned [] told.1 crash_states after)
+  recovered_after None seen crash_states held taken after input input_after outcome same whole start drove steps = start
+  recovered_after (Some told) seen crash_states held taken after input input_after outcome same whole start drove step = λ none.
+      let first = driven_first protocol v _ _ outcome drove in
+      let out = is_given taken held.written told.1 step.shown held.pending first.out start step.output first.written in
       record {
         shown = step.shown;
         output = same ∙ step.output;
         came = first.end.entries;
-        again = λ left leaves. driven_run v.planned manner told.0 first.lines first.text first.closing step.shown held.pending left first.end verified.schedule.shaped
+        again = λ left leaves. driven_run v.planned protocol told.0 first.lines first.text first.closing step.shown held.pending left first.end verified.schedule.shaped
             (acceptable v.planned v.times verified.ordered verified.budgets) whole none first.are
             (record { closes = first.closes; lost = first.lost; given = first.whole ∙ ap (λ (l : List ℕ). l ++ first.lost) out })
             (step.crash left leaves);

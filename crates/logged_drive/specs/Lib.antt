@@ -1,4 +1,4 @@
 -- Reached by public clauses: to be read and believed.
 pub mod LoggedRuns
-pub mod TakenLogs
+pub mod RecoveredLogs
 pub mod CrashLaw

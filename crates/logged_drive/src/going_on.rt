@@ -4,51 +4,51 @@ ghost use Rattle.std.specs.Prelude.{◌≡◌, ◌≢◌, ℕ, [], Option, None,
 ghost use Rattle.shop_base.specs.Plan.{PlannedShop};
 ghost use Rattle.text_lines.specs.Lines.{ended_lines};
 ghost use Rattle.byte_streams.specs.Lent.{input_of, output_of};
-ghost use Rattle.cell_drive.specs.TakenUp.{IsTakenUp, told_in};
-ghost use Rattle.cell_drive.specs.InManner.{IsGoneOnIn};
-ghost use Rattle.run_journal.specs.LogFiles.{IsSettled};
+ghost use Rattle.cell_drive.specs.Recovered.{IsRecovered, replayed_events};
+ghost use Rattle.cell_drive.specs.InProtocol.{IsGoneOnIn};
+ghost use Rattle.run_journal.specs.LogFiles.{IsDurable};
 ghost use Rattle.run_journal.specs.WholeLines.{whole_lines};
-ghost use Rattle.run_journal.specs.Logged.{AreBefore, fault_if};
-ghost use Rattle.logged_drive.specs.CrashLaw.{IsTakenUpAfter};
+ghost use Rattle.run_journal.specs.Logged.{AreInitial, fault_if};
+ghost use Rattle.logged_drive.specs.CrashLaw.{IsRecoveredAfter};
 ghost use Rattle.logged_drive.specs.LoggedRuns.{IsAllInLog, KeepsShown, RunsLogged};
 
 use crate::logged_run::LoggedEnd;
-use byte_streams::{DriveFault, Outlet, Source};
-use cell_drive::{Manner, Replayed, RestEnd, go_on_in};
+use byte_streams::{BufferedSink, DriveFault, Source};
+use cell_drive::{Protocol, Replayed, RestEnd, go_on_in};
 use run_journal::laws::a_crash_keeps_what_was_shown;
-use run_journal::{Before, LogFile, Logged, WritingRoom};
+use run_journal::{InitialState, LogFile, Logged, WritingRoom};
 
 /// Goes on with a run that was taken up, and whose events were told again, as [`go_on_in`] does, with its log. The mark, the
 /// orders that are due and the answers are put into it as far as a log gets them, and onto the disk, before any of it is shown.
 ///
 /// `Memory` is never answered. The log and the output are given back, whatever comes.
-pub fn go_on_logged<R: Source, W: Outlet + Drop, D: LogFile + Drop, B: Before>(
+pub fn go_on_logged<R: Source, W: BufferedSink + Drop, D: LogFile + Drop, B: InitialState>(
     run: Replayed,
     room: WritingRoom,
-    manner: Manner,
+    protocol: Protocol,
     reader: &mut R,
     log: D,
     output: W,
     before: B,
 ) -> LoggedEnd<RestEnd, W, D>
-    requires settled { IsSettled (D.seen log) (D.may_leave log) }
-    requires before { AreBefore B.before (D.seen log) (W.taken output) }
+    requires durable { IsDurable (D.seen log) (D.crash_states log) }
+    requires before { AreInitial B.before (D.seen log) (W.written output) }
     requires whole { IfSome B.before (λ told. whole_lines told.0 ≡ told.0) }
     requires shown { W.pending output ≡ [] }
     requires unfailed { D.fault log ≡ None }
-    ensures went_on { RunsLogged (IsGoneOnIn manner run) B.before (input_of R.Source reader.old) (W.taken output) result.end result.log_failed
-        (input_of R.Source reader.new) (D.seen result.log) (D.may_leave result.log) (output_of W.Sink W.pending result.output) }
+    ensures went_on { RunsLogged (IsGoneOnIn protocol run) B.before (input_of R.Source reader.old) (W.written output) result.end result.log_failed
+        (input_of R.Source reader.new) (D.seen result.log) (D.crash_states result.log) (output_of W.Sink W.pending result.output) }
 
     // Whatever came of it, a crash leaves all that was shown.
-    ensures crash { IfSome B.before (λ told. KeepsShown told.0 told.1 (D.may_leave result.log) (W.taken result.output)) }
+    ensures crash { IfSome B.before (λ told. KeepsShown told.0 told.1 (D.crash_states result.log) (W.written result.output)) }
 
     // From whatever it leaves of the log by which the run was taken up it is taken up again, with all events that were shown.
-    ensures taken_up { IfSome B.before (λ told. (p : PlannedShop) (at : Option ℕ) → IsTakenUp p (ended_lines told.0) at run
-        → IsTakenUpAfter p (told_in run) told.1 (D.may_leave result.log) (W.taken result.output)) }
+    ensures recoverable { IfSome B.before (λ told. (p : PlannedShop) (at : Option ℕ) → IsRecovered p (ended_lines told.0) at run
+        → IsRecoveredAfter p (replayed_events run) told.1 (D.crash_states result.log) (W.written result.output)) }
 
     // At the end of the input all of it is in the log.
     ensures in_log { IfOk result.end (λ _. IfSome B.before (λ told.
-        IsAllInLog told.0 told.1 (D.seen result.log) (D.may_leave result.log) (W.taken result.output))) }
+        IsAllInLog told.0 told.1 (D.seen result.log) (D.crash_states result.log) (W.written result.output))) }
 
     // Whether it was the log that failed. Where it wasn't, and a write failed, it was the output.
     ensures log_fault { D.fault result.log ≡ fault_if result.log_failed }
@@ -60,7 +60,7 @@ pub fn go_on_logged<R: Source, W: Outlet + Drop, D: LogFile + Drop, B: Before>(
     // Called for its clause alone.
     a_crash_keeps_what_was_shown();
     let mut writer = Logged::new(room, log, output, before);
-    let end = go_on_in(run, manner, reader, &mut writer);
+    let end = go_on_in(run, protocol, reader, &mut writer);
     let log_failed = writer.has_log_failed();
     let (log, output) = writer.into_parts();
     LoggedEnd {

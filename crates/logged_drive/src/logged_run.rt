@@ -3,18 +3,18 @@
 ghost use Rattle.std.specs.Prelude.{◌≡◌, ◌≢◌, [], None, Some, true, false, Err, IfOk, IfSome};
 ghost use Rattle.text_lines.specs.Lines.{ended_lines};
 ghost use Rattle.byte_streams.specs.Lent.{input_of, output_of};
-ghost use Rattle.event_lines.specs.LogLines.{LinesTell};
-ghost use Rattle.cell_drive.specs.InManner.{IsDriveIn};
-ghost use Rattle.run_journal.specs.LogFiles.{IsSettled};
+ghost use Rattle.event_lines.specs.LogLines.{LinesParse};
+ghost use Rattle.cell_drive.specs.InProtocol.{IsDriveIn};
+ghost use Rattle.run_journal.specs.LogFiles.{IsDurable};
 ghost use Rattle.run_journal.specs.WholeLines.{whole_lines};
-ghost use Rattle.run_journal.specs.Logged.{AreBefore, fault_if};
-ghost use Rattle.logged_drive.specs.CrashLaw.{IsTakenUpAfter};
+ghost use Rattle.run_journal.specs.Logged.{AreInitial, fault_if};
+ghost use Rattle.logged_drive.specs.CrashLaw.{IsRecoveredAfter};
 ghost use Rattle.logged_drive.specs.LoggedRuns.{IsAllInLog, KeepsShown, RunsLogged};
 
-use byte_streams::{DriveFault, Outlet, Source};
+use byte_streams::{BufferedSink, DriveFault, Source};
 use cell_drive::{Begun, DriveEnd, drive_begun};
 use run_journal::laws::a_crash_keeps_what_was_shown;
-use run_journal::{Before, LogFile, Logged, WritingRoom};
+use run_journal::{InitialState, LogFile, Logged, WritingRoom};
 
 /// What became of a run with a log.
 #[derive(Drop)]
@@ -33,7 +33,7 @@ pub struct LoggedEnd<T: Drop, W: Drop, D: Drop> {
 /// answers is put into it, and onto the disk, before any of it is shown; once that has failed nothing more is shown.
 ///
 /// `Memory` is never answered. The log and the output are given back, whatever comes.
-pub fn drive_logged<R: Source, W: Outlet + Drop, D: LogFile + Drop, B: Before>(
+pub fn drive_logged<R: Source, W: BufferedSink + Drop, D: LogFile + Drop, B: InitialState>(
     begun: Begun,
     room: WritingRoom,
     reader: &mut R,
@@ -41,23 +41,23 @@ pub fn drive_logged<R: Source, W: Outlet + Drop, D: LogFile + Drop, B: Before>(
     output: W,
     before: B,
 ) -> LoggedEnd<DriveEnd, W, D>
-    requires settled { IsSettled (D.seen log) (D.may_leave log) }
-    requires before { AreBefore B.before (D.seen log) (W.taken output) }
+    requires durable { IsDurable (D.seen log) (D.crash_states log) }
+    requires before { AreInitial B.before (D.seen log) (W.written output) }
     requires whole { IfSome B.before (λ told. whole_lines told.0 ≡ told.0) }
     requires shown { W.pending output ≡ [] }
     requires unfailed { D.fault log ≡ None }
-    ensures drove { RunsLogged (IsDriveIn begun.manner begun.verified) B.before (input_of R.Source reader.old) (W.taken output) result.end result.log_failed
-        (input_of R.Source reader.new) (D.seen result.log) (D.may_leave result.log) (output_of W.Sink W.pending result.output) }
+    ensures drove { RunsLogged (IsDriveIn begun.protocol begun.verified) B.before (input_of R.Source reader.old) (W.written output) result.end result.log_failed
+        (input_of R.Source reader.new) (D.seen result.log) (D.crash_states result.log) (output_of W.Sink W.pending result.output) }
 
     // Whatever came of it, a crash leaves all that was shown.
-    ensures crash { IfSome B.before (λ told. KeepsShown told.0 told.1 (D.may_leave result.log) (W.taken result.output)) }
+    ensures crash { IfSome B.before (λ told. KeepsShown told.0 told.1 (D.crash_states result.log) (W.written result.output)) }
 
     // From whatever it leaves of a log that told no event the run is taken up by the same plan, with all events that were shown.
-    ensures taken_up { IfSome B.before (λ told. LinesTell begun.verified.planned (ended_lines told.0) [] → IsTakenUpAfter begun.verified.planned [] told.1 (D.may_leave result.log) (W.taken result.output)) }
+    ensures recoverable { IfSome B.before (λ told. LinesParse begun.verified.planned (ended_lines told.0) [] → IsRecoveredAfter begun.verified.planned [] told.1 (D.crash_states result.log) (W.written result.output)) }
 
     // At the end of the input all of it is in the log.
     ensures in_log { IfOk result.end (λ _. IfSome B.before (λ told.
-        IsAllInLog told.0 told.1 (D.seen result.log) (D.may_leave result.log) (W.taken result.output))) }
+        IsAllInLog told.0 told.1 (D.seen result.log) (D.crash_states result.log) (W.written result.output))) }
 
     // Whether it was the log that failed. Where it wasn't, and a write failed, it was the output.
     ensures log_fault { D.fault result.log ≡ fault_if result.log_failed }

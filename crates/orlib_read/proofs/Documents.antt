@@ -13,10 +13,10 @@ jobs_more text all routes i within so_far =
     rw (add-one i) (append_assoc text (job_line (get_or routes i [])) (job_lines (drop (suc i) routes)) ∙ ap (λ rest. text ++ rest) (sym front) ∙ so_far)
 
 -- what is read is the same, or the text isn't read so
-pub told : (text description : List ℕ) (shop : JobShop) (read_description : List ℕ) (read_shop : JobShop) (same : Bool) → IsInstance text read_description read_shop
+pub decided : (text description : List ℕ) (shop : JobShop) (read_description : List ℕ) (read_shop : JobShop) (same : Bool) → IsInstance text read_description read_shop
     → ((d : List ℕ) (s : JobShop) → IsInstance text d s → (read_description ≡ d) × (read_shop ≡ s))
     → MatchBool same ((read_description ≡ description) × (read_shop ≡ shop)) ((read_description ≡ description) × (read_shop ≡ shop) → ⊥)
     → MatchBool same (IsInstance text description shop) (IsInstance text description shop → ⊥)
-told text description shop read_description read_shop true found only (one, other) =
+decided text description shop read_description read_shop true found only (one, other) =
     subst (λ (s : JobShop). IsInstance text description s) other (subst (λ (d : List ℕ). IsInstance text d read_shop) one found)
-told text description shop read_description read_shop false found only differ = λ is. differ (only description shop is)
+decided text description shop read_description read_shop false found only differ = λ is. differ (only description shop is)

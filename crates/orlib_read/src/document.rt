@@ -44,7 +44,7 @@ fn is_read_back(
     description: &[u8],
     shop: &Shop,
 ) -> Result<bool, NotWritten>
-    ensures told { let is = IsInstance text.now description.now shop.now in IfOk result (λ same. MatchBool same is (is → ⊥)) }
+    ensures decided { let is = IsInstance text.now description.now shop.now in IfOk result (λ same. MatchBool same is (is → ⊥)) }
     ensures memory { IfErr result (λ fault. fault ≡ NotWritten.Memory) }
 {
     match read_instance(alloc, text) {

@@ -3,7 +3,7 @@ use Rattle.std.specs.Prelude.{ℕ, zero, suc, ◌+◌, ◌/◌, ◌%◌, ◌==�
 use Rattle.shop_base.specs.declared.limits.TheConstants.{MAX_MOMENT}
 use Rattle.people_names.specs.declared.clock.Clock.{Clock}
 use Rattle.people_names.specs.declared.clock.Clock.TheVariants.{Minutes, Seconds}
-use Rattle.people_names.specs.declared.names.TheConstants.{LAST_TOLD_DEADLINE}
+use Rattle.people_names.specs.declared.names.TheConstants.{LAST_PRINTED_DEADLINE}
 use Rattle.people_names.specs.NameBooks.{NameBook}
 
 -- the name of this number, else the number in decimal
@@ -50,9 +50,9 @@ abbrev pub moment_word : NameBook → ℕ → List ℕ
 moment_word names t = moment_by names.clock t
 
 -- whether a budget is told: to people one that nobody gave isn't
-abbrev pub is_budget_told : NameBook → ℕ → Bool
-is_budget_told names budget = not (names.people && (budget == MAX_MOMENT))
+abbrev pub is_budget_printed : NameBook → ℕ → Bool
+is_budget_printed names budget = not (names.people && (budget == MAX_MOMENT))
 
 -- whether a deadline is told: to people one that only comes of such budgets isn't
-abbrev pub is_deadline_told : NameBook → ℕ → Bool
-is_deadline_told names due = not (names.people && nat_lt LAST_TOLD_DEADLINE due)
+abbrev pub is_deadline_printed : NameBook → ℕ → Bool
+is_deadline_printed names due = not (names.people && nat_lt LAST_PRINTED_DEADLINE due)

@@ -2,7 +2,7 @@ ghost use Rattle.std.specs.Prelude.{◌≡◌, ◌+◌, ◌<◌, ◌≤◌, ◌+
 ghost use Rattle.std.specs.List.{All};
 ghost use Rattle.people_names.specs.NameBooks.{no_names};
 ghost use Rattle.people_names.specs.Lists.{AreShort};
-ghost use Rattle.people_names.specs.Words.{word_of, job_word, machine_word, two_digits, hour_and_minute, day_words, minute_words, second_words, moment_by, moment_word, is_budget_told, is_deadline_told};
+ghost use Rattle.people_names.specs.Words.{word_of, job_word, machine_word, two_digits, hour_and_minute, day_words, minute_words, second_words, moment_by, moment_word, is_budget_printed, is_deadline_printed};
 ghost use Rattle.people_names.specs.declared.names.TheConstants.{LONGEST_NAME, LONGEST_MOMENT};
 
 use crate::clock::Clock;
@@ -19,7 +19,7 @@ pub const LONGEST_NAME: usize = 40;
 pub const LONGEST_MOMENT: usize = 29;
 
 /// The last deadline that people are told: later ones only come of promises that nobody gave.
-pub const LAST_TOLD_DEADLINE: Moment = 500_000_000_000;
+pub const LAST_PRINTED_DEADLINE: Moment = 500_000_000_000;
 
 /// What people call jobs and machines, and the clock by which they read moments. Jobs and machines without a name keep
 /// their numbers, and moments without a clock are numbers too.
@@ -113,17 +113,17 @@ impl Names {
     }
 
     /// Whether a line tells this budget: people aren't told one that nobody gave.
-    pub fn tells_budget(&self, budget: Moment) -> bool
-        ensures { result ≡ is_budget_told self.now budget }
+    pub fn prints_budget(&self, budget: Moment) -> bool
+        ensures { result ≡ is_budget_printed self.now budget }
     {
         !(self.people && budget == MAX_MOMENT)
     }
 
     /// Whether a line tells this deadline: people aren't told one that only comes of such budgets.
-    pub fn tells_deadline(&self, due: Moment) -> bool
-        ensures { result ≡ is_deadline_told self.now due }
+    pub fn prints_deadline(&self, due: Moment) -> bool
+        ensures { result ≡ is_deadline_printed self.now due }
     {
-        !(self.people && LAST_TOLD_DEADLINE < due)
+        !(self.people && LAST_PRINTED_DEADLINE < due)
     }
 }
 

@@ -81,7 +81,7 @@ impl Model for KeyText {
 impl KeyText {
     /// What a fault tells of this key.
     pub(crate) fn of(alloc: Global, key: &str) -> Result<KeyText, AllocError>
-        ensures { IfOk result (λ told. told ≡ printable_part key.now) }
+        ensures { IfOk result (λ printed. printed ≡ printable_part key.now) }
     {
         let text = printable_part(alloc, key.as_bytes())?;
         Ok(KeyText { text })

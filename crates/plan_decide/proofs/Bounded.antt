@@ -14,7 +14,7 @@ use Rattle.shop_base.specs.Graph.{node, leaving, job_arc}
 use Rattle.shop_base.specs.Ahead.{next_node, PathAhead, onward}
 use Rattle.shop_base.proofs.Keeping.{run-sound}
 use Rattle.cell_tables.specs.Events.{events_of}
-use Rattle.run_log.specs.Audits.{TellRun}
+use Rattle.run_log.specs.Audits.{ParseAsRun}
 use Rattle.plan_verifier.specs.Accepted.{HasNoCycle}
 use Rattle.plan_verifier.specs.Held.{later_than}
 use Rattle.plan_verifier.proofs.Tables.{later_is}
@@ -57,19 +57,19 @@ same_cell lines p q c d same one other = one_cell lines p (rebudgeted q p.plan.b
       };
     }
 
-pub cell_of_run : (lines : List (List ℕ)) (p q : PlannedShop) (c : Cell) → times_of p ≡ times_of q → IsCellOf lines p c → TellRun q lines → IsCellOf lines q c
-cell_of_run lines p q c same one (told, tells, run) =
-    let other : IsCellOf lines q _ = record { told = told; tells = tells; run = record { run = run; cell = refl } } in
+pub cell_of_run : (lines : List (List ℕ)) (p q : PlannedShop) (c : Cell) → times_of p ≡ times_of q → IsCellOf lines p c → ParseAsRun q lines → IsCellOf lines q c
+cell_of_run lines p q c same one (entries, parse, run) =
+    let other : IsCellOf lines q _ = record { entries = entries; parse = parse; run = record { run = run; cell = refl } } in
     subst (IsCellOf lines q) (sym (same_cell lines p q c _ same one other)) other
 
 -- a plan that keeps what has happened goes on from the cell
-pub goes_on : (lines : List (List ℕ)) (p q : PlannedShop) (c : Cell) (t : ℕ) → times_of p ≡ times_of q → IsCellOf lines p c → IsWellShaped q → TellRun q lines → GoesOnFrom (stage_of p c t) q
+pub goes_on : (lines : List (List ℕ)) (p q : PlannedShop) (c : Cell) (t : ℕ) → times_of p ≡ times_of q → IsCellOf lines p c → IsWellShaped q → ParseAsRun q lines → GoesOnFrom (stage_of p c t) q
 goes_on lines p q c t same one shaped run =
     let is = cell_of_run lines p q c same one run in
-    record { shaped = shaped; same = sym same; run = events_of is.told; is_run = is.run.run; cell = is.run.cell }
+    record { shaped = shaped; same = sym same; run = events_of is.entries; is_run = is.run.run; cell = is.run.cell }
 
 pub sound_in : (lines : List (List ℕ)) (q : PlannedShop) (c : Cell) → IsWellShaped q → IsCellOf lines q c → IsSound q c
-sound_in lines q c shaped is = subst (IsSound q) (sym is.run.cell) (run-sound q (events_of is.told) shaped is.run.run)
+sound_in lines q c shaped is = subst (IsSound q) (sym is.run.cell) (run-sound q (events_of is.entries) shaped is.run.run)
 
 -- a job waits where it isn't gone
 pub waiting_here : (p : PlannedShop) (lines : List (List ℕ)) (c : Cell) (t j : ℕ) → is_waiting (times_of p) (run_to lines c t) j ≡ true → IsGone p c j → ⊥

@@ -18,8 +18,8 @@ use Rattle.cell_tables.specs.Events.{events_of}
 use Rattle.cell_tables.specs.Moving.{IsSpotOf}
 use Rattle.cell_tables.specs.declared.entry.Entry.{Entry}
 use Rattle.cell_tables.specs.declared.entry.Entry.TheVariants.{Report as ReportEntry, Order as OrderEntry}
-use Rattle.event_lines.specs.LogLines.{IsEntryOf, LineTells, LinesTell}
-use Rattle.run_log.specs.Audits.{TellRun}
+use Rattle.event_lines.specs.LogLines.{IsEntryOf, LineParses, LinesParse}
+use Rattle.run_log.specs.Audits.{ParseAsRun}
 use Rattle.alt_graph.specs.Solved.{HasCycle}
 use Rattle.plan_verifier.specs.Accepted.{HasNoCycle, IsGreatest, IsMakespan}
 use Rattle.plan_verifier.specs.Rest.{IsGreatestAhead}
@@ -165,31 +165,31 @@ module _ (p : PlannedShop) (budgets : List ℕ) where
   entry_again (ReportEntry (Clean m at)) is = is
   entry_again (OrderEntry o) is = (is.0, spot_again o.source is.1, spot_again o.target is.2, is.3)
 
-  line_again : (line : List ℕ) (es : List Entry) → LineTells p line es → LineTells (rebudgeted p budgets) line es
+  line_again : (line : List ℕ) (es : List Entry) → LineParses p line es → LineParses (rebudgeted p budgets) line es
   line_again line [] is = is
   line_again line (e ∷ []) is = (is.0, is.1, entry_again e is.2)
   line_again line (e ∷ f ∷ es) is = is
 
-  lines_again : (lines : List (List ℕ)) (es : List Entry) → LinesTell p lines es → LinesTell (rebudgeted p budgets) lines es
+  lines_again : (lines : List (List ℕ)) (es : List Entry) → LinesParse p lines es → LinesParse (rebudgeted p budgets) lines es
   lines_again [] es is = is
   lines_again (line ∷ lines) es is = (is.0, is.1, line_again line is.0 is.2, lines_again lines is.1 is.3, is.4)
 
   -- so lines tell a run of it too, and lead to the same cell
-  pub told_again : (lines : List (List ℕ)) → TellRun p lines → TellRun (rebudgeted p budgets) lines
-  told_again lines (told, tells, run) = (told, lines_again lines told tells, events_again (start p) (events_of told) run)
+  pub run_again : (lines : List (List ℕ)) → ParseAsRun p lines → ParseAsRun (rebudgeted p budgets) lines
+  run_again lines (entries, parse, run) = (entries, lines_again lines entries parse, events_again (start p) (events_of entries) run)
 
   pub cell_again : (lines : List (List ℕ)) (c : Cell) → IsCellOf lines p c → IsCellOf lines (rebudgeted p budgets) c
   cell_again lines c is = record {
-    told = is.told;
-    tells = lines_again lines is.told is.tells;
-    run = record { run = events_again (start p) (events_of is.told) is.run.run; cell = is.run.cell ∙ sym (all_again (start p) (events_of is.told)) };
+    entries = is.entries;
+    parse = lines_again lines is.entries is.parse;
+    run = record { run = events_again (start p) (events_of is.entries) is.run.run; cell = is.run.cell ∙ sym (all_again (start p) (events_of is.entries)) };
   }
 
 -- ---- what is said of a plan, and of one with other budgets
 
 pub keeps_again : (past : Past) (p : PlannedShop) (budgets : List ℕ) → KeepsPast past p → KeepsPast past (rebudgeted p budgets)
 keeps_again nothing p budgets keeps = tt
-keeps_again (run_to lines c present) p budgets keeps = told_again p budgets lines keeps
+keeps_again (run_to lines c present) p budgets keeps = run_again p budgets lines keeps
 
 pub out_again : (past : Past) (p : PlannedShop) (budgets : List ℕ) (j n : ℕ) → IsOutWithin past p j n → IsOutWithin past (rebudgeted p budgets) j n
 out_again nothing p budgets j n is = λ nodes k path. is nodes k (path_as_before p budgets nodes (leaving p j) k path)

@@ -54,23 +54,23 @@ module _ {lines : List (List ℕ)} {at : Option ℕ} {p : PlannedShop} {past : P
   pub kept_after : (decided : Decided PlannedShop) → IsPastOf lines at p past → OnKept (λ plan. IsKept (case_of p past) aim plan) decided → OnKept (λ plan. HoldsAfter lines at p (λ t. IsKept t aim plan)) decided
   kept_after (IsKeptOne plan) is says = record { past = past; is = is; says = says }
   kept_after (IsBestOne plan within) is says = tt
-  kept_after (IsNever told back) is says = tt
+  kept_after (IsNever listed back) is says = tt
   kept_after (IsOpen back) is says = tt
 
   pub best_after : (decided : Decided PlannedShop) → IsPastOf lines at p past → OnBest (λ plan within. IsBest (case_of p past) aim plan within) decided → OnBest (λ plan within. HoldsAfter lines at p (λ t. IsBest t aim plan within)) decided
   best_after (IsKeptOne plan) is says = tt
   best_after (IsBestOne plan within) is says = record { past = past; is = is; says = says }
-  best_after (IsNever told back) is says = tt
+  best_after (IsNever listed back) is says = tt
   best_after (IsOpen back) is says = tt
 
-  pub never_after : (decided : Decided PlannedShop) → IsPastOf lines at p past → OnNever (λ told back. AreExclusions (asked_for (case_of p past) aim) told) decided → OnNever (λ told back. HoldsAfter lines at p (λ t. AreExclusions (asked_for t aim) told)) decided
+  pub never_after : (decided : Decided PlannedShop) → IsPastOf lines at p past → OnNever (λ listed back. AreExclusions (asked_for (case_of p past) aim) listed) decided → OnNever (λ listed back. HoldsAfter lines at p (λ t. AreExclusions (asked_for t aim) listed)) decided
   never_after (IsKeptOne plan) is says = tt
   never_after (IsBestOne plan within) is says = tt
-  never_after (IsNever told back) is says = record { past = past; is = is; says = says }
+  never_after (IsNever listed back) is says = record { past = past; is = is; says = says }
   never_after (IsOpen back) is says = tt
 
   pub open_after : (decided : Decided PlannedShop) → IsPastOf lines at p past → OnOpen (λ back. NoneIsAlone (asked_for (case_of p past) aim)) decided → OnOpen (λ back. HoldsAfter lines at p (λ t. NoneIsAlone (asked_for t aim))) decided
   open_after (IsKeptOne plan) is says = tt
   open_after (IsBestOne plan within) is says = tt
-  open_after (IsNever told back) is says = tt
+  open_after (IsNever listed back) is says = tt
   open_after (IsOpen back) is says = record { past = past; is = is; says = says }

@@ -15,8 +15,8 @@ use Rattle.shop_base.proofs.Bounds.{route_work-le}
 use Rattle.cell_tables.specs.declared.entry.Entry.{Entry}
 use Rattle.cell_tables.specs.Events.{events_of}
 use Rattle.text_lines.specs.Lines.{ended_lines}
-use Rattle.event_lines.specs.LogLines.{LinesTell}
-use Rattle.run_log.specs.Audits.{IsTold}
+use Rattle.event_lines.specs.LogLines.{LinesParse}
+use Rattle.run_log.specs.Audits.{IsReplayed}
 use Rattle.shop_base.specs.Report.{IsNextMoment}
 use Rattle.shop_base.specs.Graph.{leaving, IsNode}
 use Rattle.shop_base.specs.Ahead.{PathAhead}
@@ -33,7 +33,7 @@ use Rattle.plan_limits.specs.Answered.{OnNever}
 use Rattle.plan_improve.specs.RestCosts.{IsCellOf}
 use Rattle.plan_improve.specs.RestKeeping.{IsPresent}
 use Rattle.plan_improve.specs.Improved.{present_of}
-use Rattle.plan_improve.proofs.OneCell.{tells_run}
+use Rattle.plan_improve.proofs.OneCell.{parses_run}
 use Rattle.plan_decide.specs.declared.aim.Objective.{Objective}
 use Rattle.plan_decide.specs.declared.aim.Objective.TheVariants.{Makespan, Leaving}
 use Rattle.plan_decide.specs.declared.kept.Kept.{Kept}
@@ -103,7 +103,7 @@ kept_after lines p q c present kept same is shaped found =
       plan = found.plan;
       accepted = record {
         shaped = shaped;
-        keeps = tells_run lines q found.cell found.run;
+        keeps = parses_run lines q found.cell found.run;
         acceptable = subst (λ (x : Cell). IsAcceptableAhead q x present) cell found.acceptable;
       };
       fits = subst (λ (x : Cell). FitsPast (run_to lines x present) kept) cell found.fits;
@@ -128,18 +128,18 @@ never_if (Ok Open) follows says = tt
 never_if (Err e) follows says = tt
 
 -- what has happened by a log
-nothing_told : (told : List Entry) → length told ≡ 0 → told ≡ []
-nothing_told told none = nil_from_length told none
+no_entries : (entries : List Entry) → length entries ≡ 0 → entries ≡ []
+no_entries entries none = nil_from_length entries none
 
-pub past_set : (happened : Happened) (log : List ℕ) (at : Option ℕ) (p : PlannedShop) (c : Cell) (told : List Entry) (present events : ℕ) → IsPastBy log present events happened
-    → LinesTell p (ended_lines log) told → IsTold p c told → events ≡ length told → IsPresent at c.last present → HasLed happened p c × IsPastOf (ended_lines log) at p (past_in happened c)
-past_set Nothing log at p c told present events (none, zero) tells run count is =
-    let empty : told ≡ [] = nothing_told told (sym count ∙ none) in
+pub past_set : (happened : Happened) (log : List ℕ) (at : Option ℕ) (p : PlannedShop) (c : Cell) (entries : List Entry) (present events : ℕ) → IsPastBy log present events happened
+    → LinesParse p (ended_lines log) entries → IsReplayed p c entries → events ≡ length entries → IsPresent at c.last present → HasLed happened p c × IsPastOf (ended_lines log) at p (past_in happened c)
+past_set Nothing log at p c entries present events (none, zero) parse run count is =
+    let empty : entries ≡ [] = no_entries entries (sym count ∙ none) in
     let begins : c ≡ start p = run.cell ∙ ap (λ (es : List Entry). ends_in p (events_of es)) empty in
     let last : c.last ≡ 0 = ap (λ (x : Cell). x.last) begins in
-    (begins, unbegun (subst (LinesTell p (ended_lines log)) empty tells) (ap (present_of at) (sym last) ∙ sym is.0 ∙ zero))
-past_set (Run text moment) log at p c told present events (same, is_present) tells run count is =
-    let here : IsCellOf (ended_lines log) p c = record { told = told; tells = tells; run = run } in
+    (begins, unbegun (subst (LinesParse p (ended_lines log)) empty parse) (ap (present_of at) (sym last) ∙ sym is.0 ∙ zero))
+past_set (Run text moment) log at p c entries present events (same, is_present) parse run count is =
+    let here : IsCellOf (ended_lines log) p c = record { entries = entries; parse = parse; run = run } in
     let next : IsNextMoment c present = record { in_order = is.1; in_range = is.2 } in (
       (subst (λ (l : List ℕ). IsCellOf (ended_lines l) p c) (sym same) here, subst (IsNextMoment c) (sym is_present) next),
       subst (λ (l : List ℕ). IsPastOf (ended_lines log) at p (run_to (ended_lines l) c moment)) (sym same)

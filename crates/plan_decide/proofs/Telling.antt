@@ -1,4 +1,4 @@
--- What is told of promises that can't be kept, as it is gathered.
+-- What is told of promises that can't be kept, as it is collected.
 use Rattle.std.proofs.Common.{◌≡◌, ℕ, ◌+◌, ◌<◌, ◌≤◌, List, [], ◌∷◌, ◌++◌, length, Contains, arith, refl, sym, ap, subst, inl, inr, le_refl, ◌⊎◌, ◌∙◌}
 use Rattle.std.proofs.lemmas.Bool.{cases_eq}
 use Rattle.std.proofs.lemmas.List.{length_push, nil_from_length}
@@ -11,7 +11,7 @@ use Rattle.plan_decide.specs.Cases.{Case, job_count, budget_in}
 use Rattle.plan_decide.specs.Promises.{IsPromised}
 use Rattle.plan_decide.specs.Excluding.{AreExcluded, IsNeverInTime, IsInDoubt, IsExclusion, ComesBefore, AreExclusions, NoneIsAlone}
 use Rattle.plan_decide.specs.Asking.{IsImpossible}
-use Rattle.plan_decide.specs.Told.{AreTold, AreToldBefore, AreAllAlone, AddsExclusions}
+use Rattle.plan_decide.specs.Told.{AreOrderedExclusions, AreExclusionsBefore, AreAllAlone, AddsExclusions}
 use Rattle.plan_decide.proofs.Limits.{both_excluded}
 use Rattle.plan_decide.proofs.Bounded.{IsRooted, bound_le}
 use Rattle.plan_decide.proofs.Pushing.{pairs_push}
@@ -54,27 +54,27 @@ before_pair (Pair a b) i j k l (inr (is, more)) (inr (same, before)) = inr (omeg
 before_pair (Several js or_fewer) i j k l later before = before
 
 module _ (t : Case) where
-  pub told_none : (next : Excluded) → AreToldBefore t next []
-  told_none next = record {
-    told = record { each = All-nil (IsExclusion t); order = λ i j d one two. absurd (omega (arith, two)) };
+  pub none_before : (next : Excluded) → AreExclusionsBefore t next []
+  none_before next = record {
+    listed = record { each = All-nil (IsExclusion t); order = λ i j d one two. absurd (omega (arith, two)) };
     before = All-nil (λ e. ComesBefore e next);
   }
 
   -- one more is told
-  told_more : (e next : Excluded) (es : List Excluded) → IsExclusion t e → ((other : Excluded) → ComesBefore other e → ComesBefore other next) → ComesBefore e next → AreToldBefore t e es
-      → AreToldBefore t next (es ++ e ∷ [])
-  told_more e next es exclusion later before known = record {
-    told = record { each = All-push (IsExclusion t) es e known.told.each exclusion; order = pairs_push ComesBefore es e known.told.order known.before };
+  one_more_before : (e next : Excluded) (es : List Excluded) → IsExclusion t e → ((other : Excluded) → ComesBefore other e → ComesBefore other next) → ComesBefore e next → AreExclusionsBefore t e es
+      → AreExclusionsBefore t next (es ++ e ∷ [])
+  one_more_before e next es exclusion later before known = record {
+    listed = record { each = All-push (IsExclusion t) es e known.listed.each exclusion; order = pairs_push ComesBefore es e known.listed.order known.before };
     before = All-push (λ other. ComesBefore other next) es e (All-weaker (λ other. ComesBefore other e) (λ other. ComesBefore other next) later es known.before) before;
   }
 
   -- nothing more is
-  told_later : (e next : Excluded) (es : List Excluded) → ((other : Excluded) → ComesBefore other e → ComesBefore other next) → AreToldBefore t e es → AreToldBefore t next es
-  told_later e next es later known = record { told = known.told; before = All-weaker (λ other. ComesBefore other e) (λ other. ComesBefore other next) later es known.before }
+  all_before : (e next : Excluded) (es : List Excluded) → ((other : Excluded) → ComesBefore other e → ComesBefore other next) → AreExclusionsBefore t e es → AreExclusionsBefore t next es
+  all_before e next es later known = record { listed = known.listed; before = All-weaker (λ other. ComesBefore other e) (λ other. ComesBefore other next) later es known.before }
 
   pub alone_more : (n : ℕ) (es more : List Excluded) → more ≡ es ++ Alone n ∷ [] → IsRooted t → IsNeverInTime t n → AreAllAlone t n es → AreAllAlone t (n + 1) more
   alone_more n es more is rooted never known = subst (AreAllAlone t (n + 1)) (sym is) (record {
-    told = told_more (Alone n) (Alone (n + 1)) es (alone_exclusion t n rooted never) (λ e before. before_alone e n before) (omega arith) known.told;
+    listed = one_more_before (Alone n) (Alone (n + 1)) es (alone_exclusion t n rooted never) (λ e before. before_alone e n before) (omega arith) known.listed;
     alone = λ j lt never_there. elim (cases_eq j n) [
       | inl same ↦ subst (λ k. Contains (es ++ Alone n ∷ []) (Alone k)) (sym same) (Contains-push es (Alone n))
       | inr other ↦ Contains-append_left es (Alone n ∷ []) (Alone j) (known.alone j (omega (arith, lt, other)) never_there)
@@ -83,22 +83,22 @@ module _ (t : Case) where
 
   pub alone_passed : (n : ℕ) (es : List Excluded) → (IsNeverInTime t n → ⊥) → AreAllAlone t n es → AreAllAlone t (n + 1) es
   alone_passed n es possible known = record {
-    told = told_later (Alone n) (Alone (n + 1)) es (λ e before. before_alone e n before) known.told;
+    listed = all_before (Alone n) (Alone (n + 1)) es (λ e before. before_alone e n before) known.listed;
     alone = λ j lt never_there. elim (cases_eq j n) [
       | inl same ↦ absurd (possible (subst (IsNeverInTime t) same never_there))
       | inr other ↦ known.alone j (omega (arith, lt, other)) never_there
     ];
   }
 
-  pub pair_more : (i j : ℕ) (es more : List Excluded) → more ≡ es ++ Pair i j ∷ [] → IsExclusion t (Pair i j) → AreToldBefore t (Pair i j) es → AreToldBefore t (Pair i (j + 1)) more
-  pair_more i j es more is exclusion known = subst (AreToldBefore t (Pair i (j + 1))) (sym is)
-      (told_more (Pair i j) (Pair i (j + 1)) es exclusion (λ e before. before_pair e i j i (j + 1) (inr (refl, omega arith)) before) (inr (refl, omega arith)) known)
+  pub pair_more : (i j : ℕ) (es more : List Excluded) → more ≡ es ++ Pair i j ∷ [] → IsExclusion t (Pair i j) → AreExclusionsBefore t (Pair i j) es → AreExclusionsBefore t (Pair i (j + 1)) more
+  pair_more i j es more is exclusion known = subst (AreExclusionsBefore t (Pair i (j + 1))) (sym is)
+      (one_more_before (Pair i j) (Pair i (j + 1)) es exclusion (λ e before. before_pair e i j i (j + 1) (inr (refl, omega arith)) before) (inr (refl, omega arith)) known)
 
-  pub pair_passed : (i j k : ℕ) (es : List Excluded) → j ≤ k → AreToldBefore t (Pair i j) es → AreToldBefore t (Pair i k) es
-  pair_passed i j k es later known = told_later (Pair i j) (Pair i k) es (λ e before. before_pair e i j i k (inr (refl, later)) before) known
+  pub pair_passed : (i j k : ℕ) (es : List Excluded) → j ≤ k → AreExclusionsBefore t (Pair i j) es → AreExclusionsBefore t (Pair i k) es
+  pair_passed i j k es later known = all_before (Pair i j) (Pair i k) es (λ e before. before_pair e i j i k (inr (refl, later)) before) known
 
-  pub row_passed : (i j k : ℕ) (es : List Excluded) → AreToldBefore t (Pair i j) es → AreToldBefore t (Pair (i + 1) k) es
-  row_passed i j k es known = told_later (Pair i j) (Pair (i + 1) k) es (λ e before. before_pair e i j (i + 1) k (inl (omega arith)) before) known
+  pub row_passed : (i j k : ℕ) (es : List Excluded) → AreExclusionsBefore t (Pair i j) es → AreExclusionsBefore t (Pair (i + 1) k) es
+  row_passed i j k es known = all_before (Pair i j) (Pair (i + 1) k) es (λ e before. before_pair e i j (i + 1) k (inl (omega arith)) before) known
 
   -- no job is alone where none is told
   pub none_alone : (n : ℕ) (es : List Excluded) → n ≡ job_count t → length es ≡ 0 → AreAllAlone t n es → NoneIsAlone t

@@ -15,7 +15,7 @@ use Rattle.plan_bounds.specs.Bounds.{ShopTimes, times_of, route_in, job_bound}
 use Rattle.plan_limits.specs.Stages.{bare}
 use Rattle.plan_limits.specs.Limits.{IsOutBy}
 use Rattle.plan_seek.specs.Tasks.{PlanTask}
-use Rattle.run_log.specs.Audits.{TellRun}
+use Rattle.run_log.specs.Audits.{ParseAsRun}
 use Rattle.plan_decide.specs.declared.aim.Objective.{Objective}
 use Rattle.plan_decide.specs.declared.aim.Objective.TheVariants.{Makespan, Leaving}
 
@@ -43,7 +43,7 @@ pub record IsLeavingAhead (p : PlannedShop) (c : Cell) (present j n : ℕ) : Typ
 -- the plan keeps what has happened: the lines tell a run of it too
 abbrev pub KeepsPast : Past → PlannedShop → Type 0
 KeepsPast nothing p = Unit {0}
-KeepsPast (run_to lines c present) p = TellRun p lines
+KeepsPast (run_to lines c present) p = ParseAsRun p lines
 
 -- no path to the leaving of job j is longer than n: no path ahead, where something has happened
 abbrev pub IsOutWithin : Past → PlannedShop → ℕ → ℕ → Type 0

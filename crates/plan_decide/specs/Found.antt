@@ -31,14 +31,14 @@ pub record IsBestFound (t : Case) (aim : Aim) (best : KeptPlan × Within) : Type
 abbrev pub IsFound : Case → Aim → Found → Type 0
 IsFound t aim (Kept plan) = (aim ≡ Promises) × IsAcceptedWith t (plan_of plan) × FitsPast t.past plan
 IsFound t aim (Best plan within) = IsBestFound t aim (plan, within)
-IsFound t aim (Never told) = AreExclusions t told.items
+IsFound t aim (Never listed) = AreExclusions t listed.items
 IsFound t aim Open = NoneIsAlone t
 
 -- what is decided, where its plans are seen as planned shops, and the plan that was given comes back
 pub record IsDecided {K : Type 0} (plan : K → PlannedShop) (t : Case) (aim : Aim) (p : PlannedShop) (decided : Decided K) : Type 0 where
   pub kept : OnKept (λ k. IsKept t aim (plan k)) decided
   pub best : OnBest (λ k within. IsBest t aim (plan k) within) decided
-  pub never : OnNever (λ told back. AreExclusions (asked_for t aim) told) decided
+  pub never : OnNever (λ listed back. AreExclusions (asked_for t aim) listed) decided
   pub left : OnOpen (λ back. NoneIsAlone (asked_for t aim)) decided
-  pub given_back : OnNever (λ told back. back ≡ p) decided
+  pub given_back : OnNever (λ listed back. back ≡ p) decided
   pub left_open : OnOpen (λ back. back ≡ p) decided

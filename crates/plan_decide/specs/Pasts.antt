@@ -4,7 +4,7 @@ use Rattle.shop_base.specs.declared.limits.TheConstants.{MAX_MOMENT}
 use Rattle.shop_base.specs.Plan.{PlannedShop}
 use Rattle.shop_base.specs.Cell.{Cell}
 use Rattle.shop_base.specs.Report.{IsNextMoment}
-use Rattle.event_lines.specs.LogLines.{LinesTell}
+use Rattle.event_lines.specs.LogLines.{LinesParse}
 use Rattle.run_log.specs.declared.audit_fault.AuditFault.{AuditFault}
 use Rattle.run_log.specs.declared.audit_fault.AuditFault.TheVariants.{Memory as WantOfMemory}
 use Rattle.run_log.specs.Audits.{IsFirstBad}
@@ -27,7 +27,7 @@ whole_case p = case_of p nothing
 
 -- what has happened by the lines of a log and a present moment, the one that is given or else the last one: where they tell no event and that moment is 0, nothing; and else their run, to its cell and that moment
 pub data IsPastOf (lines : List (List ℕ)) (at : Option ℕ) (p : PlannedShop) : Past → Type 0 where
-  unbegun : LinesTell p lines [] → present_of at 0 ≡ 0 → IsPastOf lines at p nothing
+  unbegun : LinesParse p lines [] → present_of at 0 ≡ 0 → IsPastOf lines at p nothing
   begun : (c : Cell) → IsCellOf lines p c → IsNextMoment c (present_of at c.last) → IsPastOf lines at p (run_to lines c (present_of at c.last))
 
 -- it is so of what has happened by the lines

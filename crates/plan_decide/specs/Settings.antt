@@ -101,4 +101,4 @@ module _ (lines : List (List ℕ)) (present : ℕ) where
 -- what has happened by a log of so many events, and the present moment
 abbrev pub IsPastBy : List ℕ → ℕ → ℕ → Happened → Type 0
 IsPastBy log present events Nothing = (events ≡ 0) × (present ≡ 0)
-IsPastBy log present events (Run told moment) = (told.now ≡ log) × (moment ≡ present)
+IsPastBy log present events (Run text moment) = (text.now ≡ log) × (moment ≡ present)

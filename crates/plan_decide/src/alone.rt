@@ -40,25 +40,29 @@ pub(crate) fn is_in_doubt(setting: &Setting<'_>, job: JobNo) -> bool
 /// All jobs that are never in time by their bounds, in ascending order.
 pub(crate) fn all_alone(alloc: Global, setting: &Setting<'_>) -> Result<Vec<Excluded>, AllocError>
     requires { IsSet setting.now }
-    ensures { let t = case_in setting.now in IfOk result (λ told. AreAllAlone t (job_count t) told.items) }
+    ensures { let t = case_in setting.now in IfOk result (λ listed. AreAllAlone t (job_count t) listed.items) }
 {
-    let mut told = Vec::new(alloc);
+    let mut listed = Vec::new(alloc);
     for job in 0..setting.cell.job_count() {
-        add_alone(setting, job, &mut told)?;
+        add_alone(setting, job, &mut listed)?;
     }
-    Ok(told)
+    Ok(listed)
 }
 
 /// Adds the job, if it is never in time.
-fn add_alone(setting: &Setting<'_>, job: JobNo, told: &mut Vec<Excluded>) -> Result<(), AllocError>
+fn add_alone(
+    setting: &Setting<'_>,
+    job: JobNo,
+    listed: &mut Vec<Excluded>,
+) -> Result<(), AllocError>
     requires job { job < jobs setting.now.cell.plan }
     requires set { IsSet setting.now }
-    requires known { AreAllAlone (case_in setting.now) job told.old.items }
-    ensures { OnOk result (AreAllAlone (case_in setting.now) (job + 1) told.new.items) }
+    requires known { AreAllAlone (case_in setting.now) job listed.old.items }
+    ensures { OnOk result (AreAllAlone (case_in setting.now) (job + 1) listed.new.items) }
 {
     if !is_never_in_time(setting, job) {
         return Ok(());
     }
-    told.push(Excluded::Alone(job))?;
+    listed.push(Excluded::Alone(job))?;
     Ok(())
 }

@@ -47,7 +47,7 @@ impl<C: Choose, W: Watch> Asker<'_, C, W> {
     }
 
     /// From now on this is known of the objective.
-    pub(crate) fn tell(&mut self, found: Within) {
+    pub(crate) fn report(&mut self, found: Within) {
         self.found = Some(found);
     }
 

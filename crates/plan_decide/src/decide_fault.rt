@@ -38,12 +38,12 @@ impl From<AuditFault> for DecideFault {
     ghost use Rattle.std.specs.Prelude.{◌≡◌};
     ghost use Rattle.plan_decide.specs.Pasts.{log_fault};
 
-    ghost from_gives = { λ told fault. fault ≡ log_fault told };
+    ghost from_gives = { λ audit fault. fault ≡ log_fault audit };
 
-    fn from(told: AuditFault) -> DecideFault {
-        match told {
+    fn from(audit: AuditFault) -> DecideFault {
+        match audit {
             AuditFault::Memory => DecideFault::Memory,
-            _ => DecideFault::Log(told),
+            _ => DecideFault::Log(audit),
         }
     }
 }

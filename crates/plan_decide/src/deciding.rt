@@ -63,9 +63,9 @@ pub fn decide<C: Choose, W: Watch>(
     ensures in_range { OnOk result (IsInRange (whole_case shaped) aim) }
     ensures kept { IfOk result (OnKept (λ verified. IsKept (whole_case shaped) aim verified.planned)) }
     ensures best { IfOk result (OnBest (λ verified within. IsBest (whole_case shaped) aim verified.planned within)) }
-    ensures never { IfOk result (OnNever (λ told back. AreExclusions (asked_for (whole_case shaped) aim) told)) }
+    ensures never { IfOk result (OnNever (λ listed back. AreExclusions (asked_for (whole_case shaped) aim) listed)) }
     ensures open { IfOk result (OnOpen (λ back. NoneIsAlone (asked_for (whole_case shaped) aim))) }
-    ensures given_back { IfOk result (OnNever (λ told back. back ≡ shaped)) }
+    ensures given_back { IfOk result (OnNever (λ listed back. back ≡ shaped)) }
     ensures left_open { IfOk result (OnOpen (λ back. back ≡ shaped)) }
     ensures refused { IfErr result (λ undecided. IsDecideFault (whole_case shaped) aim undecided.fault) }
     ensures handed_back { IfErr result (λ undecided. undecided.shaped ≡ shaped) }
@@ -110,11 +110,11 @@ pub fn decide_after<C: Choose, W: Watch>(
     ensures kept { IfOk result (OnKept (λ plan. HoldsAfter (ended_lines log.now) at shaped (λ t. IsKept t aim plan))) }
     ensures best { IfOk result (OnBest (λ plan within.
         HoldsAfter (ended_lines log.now) at shaped (λ t. IsBest t aim plan within))) }
-    ensures never { IfOk result (OnNever (λ told back.
-        HoldsAfter (ended_lines log.now) at shaped (λ t. AreExclusions (asked_for t aim) told))) }
+    ensures never { IfOk result (OnNever (λ listed back.
+        HoldsAfter (ended_lines log.now) at shaped (λ t. AreExclusions (asked_for t aim) listed))) }
     ensures open { IfOk result (OnOpen (λ back.
         HoldsAfter (ended_lines log.now) at shaped (λ t. NoneIsAlone (asked_for t aim)))) }
-    ensures given_back { IfOk result (OnNever (λ told back. back ≡ shaped)) }
+    ensures given_back { IfOk result (OnNever (λ listed back. back ≡ shaped)) }
     ensures left_open { IfOk result (OnOpen (λ back. back ≡ shaped)) }
     ensures refused { IfErr result (λ undecided.
         IsDecideRestFault (ended_lines log.now) at shaped aim undecided.fault) }
@@ -190,7 +190,7 @@ fn whole_back(found: Found, shaped: Shaped) -> Decided<Verified>
             Some(verified) => Decided::Best(verified, within),
             None => Decided::Open(shaped),
         },
-        Found::Never(told) => Decided::Never(told, shaped),
+        Found::Never(listed) => Decided::Never(listed, shaped),
         Found::Open => Decided::Open(shaped),
     }
 }
@@ -202,7 +202,7 @@ fn rest_back(found: Found, shaped: Shaped) -> Decided<Shaped>
     match found {
         Found::Kept(kept) => Decided::Kept(kept.into_shaped()),
         Found::Best(kept, within) => Decided::Best(kept.into_shaped(), within),
-        Found::Never(told) => Decided::Never(told, shaped),
+        Found::Never(listed) => Decided::Never(listed, shaped),
         Found::Open => Decided::Open(shaped),
     }
 }
@@ -219,7 +219,7 @@ fn find<C: Choose, W: Watch>(
     ensures { IfOk result (IsFound (case_in setting.now) aim) }
 {
     match ask_all(alloc, setting, asker)? {
-        Reply::Never(told) => Ok(Found::Never(told)),
+        Reply::Never(listed) => Ok(Found::Never(listed)),
         Reply::Open => Ok(Found::Open),
         Reply::Orders(order) => match aim {
             Aim::Promises => keep(alloc, setting, order),

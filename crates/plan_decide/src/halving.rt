@@ -186,7 +186,7 @@ pub(crate) fn halve<C: Choose, W: Watch>(
         ended_open: false,
     };
     while halfway.low < halfway.best.value {
-        asker.tell(known(&halfway));
+        asker.report(known(&halfway));
         halfway = halve_once(alloc, setting, asker, objective, halfway)?;
     }
     let within = known(&halfway);

@@ -18,7 +18,7 @@ use crate::setting::{Past, Setting, budgets_of};
 use alt_graph::Times;
 use cell_tables::WorkCell;
 use plan_verifier::{Judged, Verdict, verify, verify_after};
-use run_log::run_if_told;
+use run_log::run_if_replayed;
 use shop_base::{JobNo, Moment, Plan, Planned, Shaped, shape};
 use std::alloc::{AllocError, Global};
 
@@ -104,7 +104,7 @@ fn times_after(
     requires { IsTimely (ended_lines log.now) present shaped.now }
     ensures { IfOk result (λ found. IfSome found (AreTimesAfter (ended_lines log.now) present shaped.now)) }
 {
-    match run_if_told(alloc, shaped, log)? {
+    match run_if_replayed(alloc, shaped, log)? {
         Some(run) => accepted_times(alloc, &run.cell, present),
         None => Ok(None),
     }

@@ -5,7 +5,7 @@ ghost use Rattle.shop_base.specs.Plan.{jobs};
 ghost use Rattle.plan_decide.specs.declared.excluded.Excluded.TheVariants.{Pair};
 ghost use Rattle.plan_decide.specs.Excluding.{IsInDoubt};
 ghost use Rattle.plan_decide.specs.Settings.{IsSet, case_in};
-ghost use Rattle.plan_decide.specs.Told.{AreTold, AreToldBefore, AddsExclusions};
+ghost use Rattle.plan_decide.specs.Told.{AreOrderedExclusions, AreExclusionsBefore, AddsExclusions};
 
 use crate::alone::is_in_doubt;
 use crate::asked::Asked;
@@ -26,18 +26,18 @@ pub(crate) fn add_pairs<C: Choose, W: Watch>(
     alloc: Global,
     setting: &Setting<'_>,
     asker: &mut Asker<'_, C, W>,
-    told: &mut Vec<Excluded>,
+    listed: &mut Vec<Excluded>,
 ) -> Result<(), AllocError>
     requires set { IsSet setting.now }
-    requires told { AreToldBefore (case_in setting.now) (Pair 0 0) told.old.items }
-    ensures told { OnOk result (AreTold (case_in setting.now) told.new.items) }
-    ensures adds { OnOk result (AddsExclusions told.old.items told.new.items) }
+    requires listed { AreExclusionsBefore (case_in setting.now) (Pair 0 0) listed.old.items }
+    ensures listed { OnOk result (AreOrderedExclusions (case_in setting.now) listed.new.items) }
+    ensures adds { OnOk result (AddsExclusions listed.old.items listed.new.items) }
 {
     if doubtful_jobs(setting) > PAIRED_JOBS {
         return Ok(());
     }
     for one in 0..setting.cell.job_count() {
-        add_pairs_of(alloc, setting, asker, one, told)?;
+        add_pairs_of(alloc, setting, asker, one, listed)?;
     }
     Ok(())
 }
@@ -61,20 +61,20 @@ fn add_pairs_of<C: Choose, W: Watch>(
     setting: &Setting<'_>,
     asker: &mut Asker<'_, C, W>,
     one: JobNo,
-    told: &mut Vec<Excluded>,
+    listed: &mut Vec<Excluded>,
 ) -> Result<(), AllocError>
     requires one { one < jobs setting.now.cell.plan }
     requires set { IsSet setting.now }
-    requires told { AreToldBefore (case_in setting.now) (Pair one 0) told.old.items }
-    ensures told { OnOk result (AreToldBefore (case_in setting.now) (Pair (one + 1) 0) told.new.items) }
-    ensures adds { OnOk result (AddsExclusions told.old.items told.new.items) }
+    requires listed { AreExclusionsBefore (case_in setting.now) (Pair one 0) listed.old.items }
+    ensures listed { OnOk result (AreExclusionsBefore (case_in setting.now) (Pair (one + 1) 0) listed.new.items) }
+    ensures adds { OnOk result (AddsExclusions listed.old.items listed.new.items) }
 {
     if !is_in_doubt(setting, one) {
         return Ok(());
     }
     let jobs = setting.cell.job_count();
     for other in one + 1..jobs {
-        add_pair(alloc, setting, asker, one, other, told)?;
+        add_pair(alloc, setting, asker, one, other, listed)?;
     }
     Ok(())
 }
@@ -86,15 +86,15 @@ fn add_pair<C: Choose, W: Watch>(
     asker: &mut Asker<'_, C, W>,
     one: JobNo,
     other: JobNo,
-    told: &mut Vec<Excluded>,
+    listed: &mut Vec<Excluded>,
 ) -> Result<(), AllocError>
     requires other { other < jobs setting.now.cell.plan }
     requires set { IsSet setting.now }
     requires ascending { one < other }
     requires doubt { IsInDoubt (case_in setting.now) one }
-    requires told { AreToldBefore (case_in setting.now) (Pair one other) told.old.items }
-    ensures told { OnOk result (AreToldBefore (case_in setting.now) (Pair one (other + 1)) told.new.items) }
-    ensures adds { OnOk result (AddsExclusions told.old.items told.new.items) }
+    requires listed { AreExclusionsBefore (case_in setting.now) (Pair one other) listed.old.items }
+    ensures listed { OnOk result (AreExclusionsBefore (case_in setting.now) (Pair one (other + 1)) listed.new.items) }
+    ensures adds { OnOk result (AddsExclusions listed.old.items listed.new.items) }
 {
     if !is_in_doubt(setting, other) {
         return Ok(());
@@ -102,6 +102,6 @@ fn add_pair<C: Choose, W: Watch>(
     let Answer::Never = asker.ask(alloc, setting, Asked::Both(one, other))? else {
         return Ok(());
     };
-    told.push(Excluded::Pair(one, other))?;
+    listed.push(Excluded::Pair(one, other))?;
     Ok(())
 }

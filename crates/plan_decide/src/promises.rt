@@ -40,10 +40,10 @@ pub(crate) fn ask_all<C: Choose, W: Watch>(
     requires { IsSet setting.now }
     ensures { IfOk result (IsReply (case_in setting.now)) }
 {
-    let mut told = all_alone(alloc, setting)?;
-    if !told.is_empty() {
-        add_pairs(alloc, setting, asker, &mut told)?;
-        return Ok(Reply::Never(told));
+    let mut listed = all_alone(alloc, setting)?;
+    if !listed.is_empty() {
+        add_pairs(alloc, setting, asker, &mut listed)?;
+        return Ok(Reply::Never(listed));
     }
     let limits = limits_for(alloc, setting, Asked::All)?;
     match asker.ask_limits(alloc, setting, &limits)? {
@@ -64,13 +64,13 @@ fn exclusions<C: Choose, W: Watch>(
     requires promised { ArePromised (case_in setting.now) limits.items }
     requires none { NoPlanKeeps (case_in setting.now) limits.items }
     requires none_alone { NoneIsAlone (case_in setting.now) }
-    ensures { IfOk result (λ told. AreExclusions (case_in setting.now) told.items) }
+    ensures { IfOk result (λ listed. AreExclusions (case_in setting.now) listed.items) }
 {
-    let mut told = Vec::new(alloc);
-    add_pairs(alloc, setting, asker, &mut told)?;
-    if !told.is_empty() {
-        return Ok(told);
+    let mut listed = Vec::new(alloc);
+    add_pairs(alloc, setting, asker, &mut listed)?;
+    if !listed.is_empty() {
+        return Ok(listed);
     }
-    told.push(leave_out(alloc, setting, asker, limits)?)?;
-    Ok(told)
+    listed.push(leave_out(alloc, setting, asker, limits)?)?;
+    Ok(listed)
 }

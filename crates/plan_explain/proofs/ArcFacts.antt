@@ -5,15 +5,15 @@ use Rattle.shop_base.specs.declared.node.Node.{Node}
 use Rattle.shop_base.specs.Plan.{PlannedShop, jobs, release, steps, clean, Stands, IsWellShaped}
 use Rattle.shop_base.specs.Graph.{node, Arc, job_arc, blocking_arc, HasArc, Path, begins, follows}
 use Rattle.shop_base.proofs.Visits.{visits-order}
-use Rattle.plan_explain.specs.Arcs.{time_of, told_arc, told_job_arc, told_blocking_arc}
+use Rattle.plan_explain.specs.Arcs.{time_of, arc_kind, job_arc_kind, blocking_arc_kind}
 use Rattle.plan_explain.specs.Chains.{AreAlong, reached_at, length_from}
 
-pub told_job : (p : PlannedShop) (u v : Node) → u.job ≡ v.job → told_arc p u v ≡ told_job_arc p u
-told_job p u v same = ap (λ yes. if yes then told_job_arc p u else told_blocking_arc p u.job v) (eq-eqb u.job v.job same)
+pub job_arc_kind_same : (p : PlannedShop) (u v : Node) → u.job ≡ v.job → arc_kind p u v ≡ job_arc_kind p u
+job_arc_kind_same p u v same = ap (λ yes. if yes then job_arc_kind p u else blocking_arc_kind p u.job v) (eq-eqb u.job v.job same)
 
-pub told_blocking : (p : PlannedShop) (u v : Node) → u.job ≢ v.job → told_arc p u v ≡ told_blocking_arc p u.job v
-told_blocking p u v differ =
-    ap (λ yes. if yes then told_job_arc p u else told_blocking_arc p u.job v) (false_from_ne_true (u.job == v.job) (λ yes. differ (eqb-true u.job v.job yes)))
+pub blocking_arc_kind_same : (p : PlannedShop) (u v : Node) → u.job ≢ v.job → arc_kind p u v ≡ blocking_arc_kind p u.job v
+blocking_arc_kind_same p u v differ =
+    ap (λ yes. if yes then job_arc_kind p u else blocking_arc_kind p u.job v) (false_from_ne_true (u.job == v.job) (λ yes. differ (eqb-true u.job v.job yes)))
 
 -- no length is less than where it begins
 pub length_grows : (p : PlannedShop) (t : ℕ) (u : Node) (vs : List Node) → t ≤ length_from p t u vs
@@ -34,7 +34,7 @@ module _ (p : PlannedShop) where
   along_more u [] v along arc = (arc, tt)
   along_more u (w ∷ ws) v along arc = (along.0, along_more w ws v along.1 arc)
 
-  pub length_more : (t : ℕ) (u : Node) (us : List Node) (v : Node) → length_from p t u (us ++ v ∷ []) ≡ length_from p t u us + time_of (told_arc p (last_from u us) v)
+  pub length_more : (t : ℕ) (u : Node) (us : List Node) (v : Node) → length_from p t u (us ++ v ∷ []) ≡ length_from p t u us + time_of (arc_kind p (last_from u us) v)
   length_more t u [] v = refl
   length_more t u (w ∷ ws) v = length_more (reached_at p t u w) w ws v
 
@@ -54,10 +54,10 @@ module _ (p : PlannedShop) (shaped : IsWellShaped p) where
   job_step u v same arc = job_within u v arc.0 arc.1 same
 
   -- an arc is as long as is told
-  pub arc_time : (u v : Node) (d : ℕ) → Arc p u v d → time_of (told_arc p u v) ≡ d
-  arc_time _ _ _ (job_arc j k within) = ap time_of (told_job p (node j k) (node j (k + 1)) refl)
+  pub arc_time : (u v : Node) (d : ℕ) → Arc p u v d → time_of (arc_kind p u v) ≡ d
+  arc_time _ _ _ (job_arc j k within) = ap time_of (job_arc_kind_same p (node j k) (node j (k + 1)) refl)
   arc_time _ _ _ (blocking_arc m a i k j l one other) =
-      ap time_of (told_blocking p (node i (k + 1)) (node j l) (apart m a i k j l one other)) ∙ ap (clean p) other.visits.here
+      ap time_of (blocking_arc_kind_same p (node i (k + 1)) (node j l) (apart m a i k j l one other)) ∙ ap (clean p) other.visits.here
 
 -- what a path to v of length n is, from its first node on
 pub record IsLed (p : PlannedShop) (u : Node) (us : List Node) (v : Node) (n : ℕ) : Type 0 where
@@ -77,7 +77,7 @@ module _ (p : PlannedShop) (shaped : IsWellShaped p) where
     inside = led.inside;
     along = along_more p w ws v led.along (subst (λ (x : Node). HasArc p x v) (sym led.ends) (d, arc));
     ends = last_more w ws v;
-    size = omega (arith, length_more p (release p w.job) w ws v, led.size, ap (λ (x : Node). time_of (told_arc p x v)) led.ends, arc_time p shaped u v d arc);
+    size = omega (arith, length_more p (release p w.job) w ws v, led.size, ap (λ (x : Node). time_of (arc_kind p x v)) led.ends, arc_time p shaped u v d arc);
   }
 
   -- a path, from its first node on

@@ -9,20 +9,20 @@ use Rattle.people_names.specs.NameBooks.{NameBook}
 use Rattle.plan_verifier.specs.declared.verdict.Verdict.{Verdict}
 use Rattle.plan_verifier.specs.declared.verdict.Verdict.TheVariants.{Accepted, Refused}
 use Rattle.plan_verifier.proofs.Reasons.{greatest_once, makespan_le}
-use Rattle.plan_explain.specs.FirstLines.{accepted_line, moments_below, TellsAccepted, IsFirstLine}
-use Rattle.plan_explain.specs.declared.arcs.ToldArc.TheVariants.{Blocking}
-use Rattle.plan_explain.specs.Arcs.{told_arc}
+use Rattle.plan_explain.specs.FirstLines.{accepted_line, moments_below, IsAcceptedFirstLine, IsFirstLine}
+use Rattle.plan_explain.specs.declared.arcs.ArcKind.TheVariants.{Blocking}
+use Rattle.plan_explain.specs.Arcs.{arc_kind}
 use Rattle.plan_explain.specs.Cycles.{arc_line, arc_lines, cycle_lines}
 use Rattle.plan_explain.specs.Chains.{reached_at, length_from, release_line, reached_line, reached_lines, chain_lines}
-use Rattle.plan_explain.specs.LineLaws.{AreArcsTold, IsLastLine}
+use Rattle.plan_explain.specs.LineLaws.{AreExactArcs, IsLastLine}
 use Rattle.plan_explain.proofs.Moments.{moments_same}
-use Rattle.plan_explain.proofs.ArcFacts.{told_job, told_blocking, apart, arc_time, last_from, IsLedPath, path_led}
+use Rattle.plan_explain.proofs.ArcFacts.{job_arc_kind_same, blocking_arc_kind_same, apart, arc_time, last_from, IsLedPath, path_led}
 
-pub arcs_told : (p : PlannedShop) → IsWellShaped p → AreArcsTold p
-arcs_told p shaped = record {
-  job = λ j k within. told_job p (node j k) (node j (k + 1)) refl;
+pub exact_arcs : (p : PlannedShop) → IsWellShaped p → AreExactArcs p
+exact_arcs p shaped = record {
+  job = λ j k within. job_arc_kind_same p (node j k) (node j (k + 1)) refl;
   blocking = λ m a i k j l one other.
-      (told_blocking p (node i (k + 1)) (node j l) (apart p shaped m a i k j l one other) ∙ ap (λ n. Blocking n i j (clean p n)) other.visits.here);
+      (blocking_arc_kind_same p (node i (k + 1)) (node j l) (apart p shaped m a i k j l one other) ∙ ap (λ n. Blocking n i j (clean p n)) other.visits.here);
   time = λ u v d arc. arc_time p shaped u v d arc;
 }
 
@@ -32,23 +32,23 @@ module _ (names : NameBook) (p : PlannedShop) where
       reached_lines names p t u (us ++ v ∷ vs) ≡ reached_lines names p t u us ++ reached_lines names p (length_from p t u us) (last_from u us) (v ∷ vs)
   lines_behind t u [] v vs = refl
   lines_behind t u (w ∷ ws) v vs =
-      let line = reached_line names (reached_at p t u w) w (told_arc p u w) in
+      let line = reached_line names (reached_at p t u w) w (arc_kind p u w) in
       ap (λ l. line ++ l) (lines_behind (reached_at p t u w) w ws v vs) ∙ sym (append_assoc line _ _)
 
-  line_told : (shaped : IsWellShaped p) (path nodes : List Node) (u v : Node) (n d : ℕ) → IsLedPath p path u n → Arc p u v d
-      → chain_lines names p (path ++ v ∷ nodes) ≡ chain_lines names p path ++ (reached_line names (n + d) v (told_arc p u v) ++ reached_lines names p (n + d) v nodes)
-  line_told shaped [] nodes u v n d led arc = absurd led
-  line_told shaped (w ∷ ws) nodes u v n d led arc =
+  line_printed : (shaped : IsWellShaped p) (path nodes : List Node) (u v : Node) (n d : ℕ) → IsLedPath p path u n → Arc p u v d
+      → chain_lines names p (path ++ v ∷ nodes) ≡ chain_lines names p path ++ (reached_line names (n + d) v (arc_kind p u v) ++ reached_lines names p (n + d) v nodes)
+  line_printed shaped [] nodes u v n d led arc = absurd led
+  line_printed shaped (w ∷ ws) nodes u v n d led arc =
       let first = release_line names (release p w.job) w in
       ap (λ l. first ++ l) (lines_behind (release p w.job) w ws v nodes)
       ∙ sym (append_assoc first (reached_lines names p (release p w.job) w ws) _)
       ∙ ap (λ k. chain_lines names p (w ∷ ws) ++ reached_lines names p k (last_from w ws) (v ∷ nodes)) led.size
       ∙ ap (λ (x : Node). chain_lines names p (w ∷ ws) ++ reached_lines names p n x (v ∷ nodes)) led.ends
-      ∙ ap (λ k. chain_lines names p (w ∷ ws) ++ (reached_line names (n + k) v (told_arc p u v) ++ reached_lines names p (n + k) v nodes)) (arc_time p shaped u v d arc)
+      ∙ ap (λ k. chain_lines names p (w ∷ ws) ++ (reached_line names (n + k) v (arc_kind p u v) ++ reached_lines names p (n + k) v nodes)) (arc_time p shaped u v d arc)
 
   pub each_line : (path nodes : List Node) (u v : Node) (n d : ℕ) → IsWellShaped p → Path p path u n → Arc p u v d
-      → chain_lines names p (path ++ v ∷ nodes) ≡ chain_lines names p path ++ (reached_line names (n + d) v (told_arc p u v) ++ reached_lines names p (n + d) v nodes)
-  each_line path nodes u v n d shaped is arc = line_told shaped path nodes u v n d (path_led p shaped path u n is) arc
+      → chain_lines names p (path ++ v ∷ nodes) ≡ chain_lines names p path ++ (reached_line names (n + d) v (arc_kind p u v) ++ reached_lines names p (n + d) v nodes)
+  each_line path nodes u v n d shaped is arc = line_printed shaped path nodes u v n d (path_led p shaped path u n is) arc
 
   -- a path ends in its last node
   path_end : (nodes : List Node) (v : Node) (n : ℕ) → Path p nodes v n → EndsIn nodes v
@@ -60,7 +60,7 @@ module _ (names : NameBook) (p : PlannedShop) where
   last_line _ _ _ shaped (follows nodes u v n d path arc) =
       let (front, ends) = path_end nodes u n path in (
         chain_lines names p nodes,
-        reached_line names (n + d) v (told_arc p u v),
+        reached_line names (n + d) v (arc_kind p u v),
         each_line nodes [] u v n d shaped path arc ∙ ap (λ l. chain_lines names p nodes ++ l) (append-nil _),
         inl (front, u, ap (λ (l : List Node). l ++ v ∷ []) ends ∙ append_assoc front (u ∷ []) (v ∷ []), refl),
       )
@@ -82,7 +82,7 @@ module _ (names : NameBook) (p : PlannedShop) where
   cycle_closes first rest cycle = lines_close first rest first cycle.1
 
 -- what an accepted plan is told by is the plan's alone
-accepted_once : (p : PlannedShop) (one other : List ℕ) → TellsAccepted p one → TellsAccepted p other → one ≡ other
+accepted_once : (p : PlannedShop) (one other : List ℕ) → IsAcceptedFirstLine p one → IsAcceptedFirstLine p other → one ≡ other
 accepted_once p one other here there =
     let makespans : here.makespan ≡ there.makespan = omega (arith, makespan_le p here.makespan there.makespan here.is there.is, makespan_le p there.makespan here.makespan there.is here.is) in
     here.words ∙ ap (λ n. accepted_line n (moments_below here.leaves (jobs p))) makespans

@@ -12,7 +12,7 @@ use Rattle.plan_verifier.specs.Verdicts.{OnAccepted}
 use Rattle.plan_verifier.specs.declared.verdict.Verdict.{Verdict}
 use Rattle.plan_verifier.specs.declared.verdict.Verdict.TheVariants.{Accepted, Refused}
 use Rattle.plan_verifier.proofs.Reasons.{verified_greatest, makespan_is}
-use Rattle.plan_explain.specs.FirstLines.{moment_words, moments_below, IsAcceptedText, TellsAccepted, IsFirstLine}
+use Rattle.plan_explain.specs.FirstLines.{moment_words, moments_below, IsAcceptedText, IsAcceptedFirstLine, IsFirstLine}
 use Rattle.plan_explain.specs.RestFirstLines.{IsLineByTimes}
 use Rattle.plan_explain.specs.RestVerdicts.{HasRanks}
 
@@ -38,13 +38,13 @@ moments_same f g zero same = refl
 moments_same f g (suc n) same = ap (λ l. l ++ f n ∷ []) (moments_same f g n (λ j lt. same j (omega arith))) ∙ ap (λ m. moments_below g n ++ m ∷ []) (same n (omega arith))
 
 -- a line that tells the greatest lengths of the paths to the leavings tells the plan's
-pub accepted_told : (p : PlannedShop) (leaves : ℕ → ℕ) (line : List ℕ) → AreLeavings p leaves → IsAcceptedText p leaves line → TellsAccepted p line
-accepted_told p leaves line are (n, last, words) = record { makespan = n; is = makespan_is p leaves n are last; leaves = leaves; leavings = are; words = words }
+pub accepted_line_is : (p : PlannedShop) (leaves : ℕ → ℕ) (line : List ℕ) → AreLeavings p leaves → IsAcceptedText p leaves line → IsAcceptedFirstLine p line
+accepted_line_is p leaves line are (n, last, words) = record { makespan = n; is = makespan_is p leaves n are last; leaves = leaves; leavings = are; words = words }
 
 -- so does that of a verdict, by its earliest moments or its evidence
-pub verdict_told : (verdict : Verdict) (line : List ℕ) → OnAccepted IsVerified verdict → IsLineByTimes (judged verdict) (as_rest verdict) line → IsFirstLine verdict line
-verdict_told (Accepted v) line sound is = accepted_told v.planned (leaves_in v.planned v.times) line (verified_greatest v sound) is
-verdict_told (Refused p why) line sound is = is
+pub first_line_is : (verdict : Verdict) (line : List ℕ) → OnAccepted IsVerified verdict → IsLineByTimes (judged verdict) (as_rest verdict) line → IsFirstLine verdict line
+first_line_is (Accepted v) line sound is = accepted_line_is v.planned (leaves_in v.planned v.times) line (verified_greatest v sound) is
+first_line_is (Refused p why) line sound is = is
 
 pub verdict_ranks : (verdict : Verdict) → OnAccepted IsVerified verdict → HasRanks (judged verdict) (as_rest verdict)
 verdict_ranks (Accepted v) sound = times_ranks v.planned v.times sound.ordered.times

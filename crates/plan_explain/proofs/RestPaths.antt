@@ -12,13 +12,13 @@ use Rattle.alt_graph.specs.Times.{NodeTimes, earliest_of, IsPathFromBy}
 use Rattle.plan_verifier.specs.Rest.{AreOrderedAhead}
 use Rattle.plan_verifier.specs.declared.node_bound.Hold.{Hold}
 use Rattle.plan_verifier.specs.declared.node_bound.NodeBound.{NodeBound}
-use Rattle.plan_verifier.specs.Held.{IsHeldBy, awaited, arrived, worked, done, cleaned, BeginHeldUp, IsToldOf, IsBoundOf}
+use Rattle.plan_verifier.specs.Held.{IsHeldBy, awaited, arrived, worked, done, cleaned, BeginHeldUp, IsHoldBound, IsBoundOf}
 use Rattle.plan_verifier.proofs.Tables.{later_is}
 use Rattle.plan_verifier.proofs.Acceptable.{leaving_node}
 use Rattle.plan_verifier.proofs.GoingOn.{leaving_ahead}
 use Rattle.plan_verifier.proofs.Holding.{hold_up, free_passed}
 use Rattle.plan_verifier.proofs.PathsAhead.{along_greatest}
-use Rattle.plan_explain.specs.Arcs.{time_of, told_arc}
+use Rattle.plan_explain.specs.Arcs.{time_of, arc_kind}
 use Rattle.plan_explain.specs.Chains.{AreAlong, length_from}
 use Rattle.plan_explain.proofs.ArcFacts.{arc_time, last_from, last_more, along_more, length_more}
 use Rattle.plan_explain.specs.RestChains.{IsRestChain}
@@ -49,7 +49,7 @@ module _ (p : PlannedShop) (c : Cell) (t : ℕ) (shaped : IsWellShaped p) where
   }
     where
       longer : (s : ℕ) → length_from p s w (ws ++ v ∷ []) ≡ length_from p s w ws + d
-      longer s = omega (arith, length_more p s w ws v, ap (λ (x : Node). time_of (told_arc p x v)) led.ends, arc_time p shaped u v d arc)
+      longer s = omega (arith, length_more p s w ws v, ap (λ (x : Node). time_of (arc_kind p x v)) led.ends, arc_time p shaped u v d arc)
 
   -- a path ahead, from its first node on
   pub ahead_led : (nodes : List Node) (v : Node) (n : ℕ) → PathAhead p c t nodes v n → IsLedPathAhead p c t nodes v n
@@ -67,8 +67,8 @@ module _ (p : PlannedShop) (c : Cell) (t : ℕ) where
   held_path _ _ _ m (done j k x on is) none = absurd cc
   held_path _ _ _ m (cleaned x from d v is stands) some = let same : d ≡ m = cc in subst (λ (n : ℕ). PathAhead p c t (v ∷ []) v n) same (held (Cleaning x) d v (from, is) stands)
 
-  pub told_path : (v : Node) (b : NodeBound) → IsSound p c → IsNode p v → IsToldOf p c t v b → PathAhead p c t (v ∷ []) v b.moment
-  told_path v b sound is told = subst (λ (n : ℕ). PathAhead p c t (v ∷ []) v n) (sym told.moment) (elim (later_is t told.due) [
+  pub bound_path : (v : Node) (b : NodeBound) → IsSound p c → IsNode p v → IsHoldBound p c t v b → PathAhead p c t (v ∷ []) v b.moment
+  bound_path v b sound is told = subst (λ (n : ℕ). PathAhead p c t (v ∷ []) v n) (sym told.moment) (elim (later_is t told.due) [
     | inl same ↦ subst (λ (n : ℕ). PathAhead p c t (v ∷ []) v n) (sym same) (now v is ahead)
     | inr (m, some, same) ↦ subst (λ (n : ℕ). PathAhead p c t (v ∷ []) v n) (sym same) (held_path b.holds told.due v m told.holds some)
   ])
@@ -89,7 +89,7 @@ module _ (p : PlannedShop) (c : Cell) (t : ℕ) (first : Node) (rest : List Node
   chain_along = led.along
 
   pub chain_small : (b : NodeBound) → IsSound p c → IsBoundOf p c t first b → length_from p b.moment first rest < 2 ^ 64
-  chain_small b sound bound = omega (arith, is.small, is.greatest is.last (length_from p b.moment first rest) (led.again b.moment (told_path p c t first b sound is.begins.0 bound.told)))
+  chain_small b sound bound = omega (arith, is.small, is.greatest is.last (length_from p b.moment first rest) (led.again b.moment (bound_path p c t first b sound is.begins.0 bound.by_hold)))
 
 -- a longest chain to the leaving of a job that isn't gone is one of which the lines can be written
 pub leaving_chain : (p : PlannedShop) (c : Cell) (t n j : ℕ) (times : NodeTimes) (nodes : List Node) → AreOrderedAhead p c t times → j < jobs p → (IsGone p c j → ⊥) → IsPathFromBy times (leaving p j) nodes

@@ -56,10 +56,10 @@ texts_same of other (suc n) same = ap (λ l. l ++ of n) (texts_same of other n (
 
 -- ---- texts of one kind that are texts of another
 
-pub both_told : {One Other First Behind : List ℕ → Type 0} → ((text : List ℕ) → One text → First text) → ((text : List ℕ) → Other text → Behind text)
+pub both_map : {One Other First Behind : List ℕ → Type 0} → ((text : List ℕ) → One text → First text) → ((text : List ℕ) → Other text → Behind text)
     → (text : List ℕ) → AreBoth One Other text → AreBoth First Behind text
-both_told one other text are = record { first = are.first; is = one are.first are.is; behind = are.behind; are = other are.behind are.are; both = are.both }
+both_map one other text are = record { first = are.first; is = one are.first are.is; behind = are.behind; are = other are.behind are.are; both = are.both }
 
-pub texts_told : {Is So : ℕ → List ℕ → Type 0} (first last : ℕ) → ((n : ℕ) (text : List ℕ) → n < last → Is n text → So n text) → (text : List ℕ) → AreTextsFrom Is first last text → AreTextsFrom So first last text
-texts_told first _ each _ no_text = no_text
-texts_told first _ each _ (next_text n text more are is) = next_text n text more (texts_told first n (λ i one below. each i one (omega (arith, below))) text are) (each n more (omega arith) is)
+pub texts_map : {Is So : ℕ → List ℕ → Type 0} (first last : ℕ) → ((n : ℕ) (text : List ℕ) → n < last → Is n text → So n text) → (text : List ℕ) → AreTextsFrom Is first last text → AreTextsFrom So first last text
+texts_map first _ each _ no_text = no_text
+texts_map first _ each _ (next_text n text more are is) = next_text n text more (texts_map first n (λ i one below. each i one (omega (arith, below))) text are) (each n more (omega arith) is)

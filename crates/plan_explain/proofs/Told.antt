@@ -6,8 +6,8 @@ use Rattle.shop_base.specs.declared.node.Node.{Node}
 use Rattle.shop_base.specs.Plan.{PlannedShop}
 use Rattle.shop_base.specs.Graph.{HasArc, ArcsLead, IsSimpleCycle}
 use Rattle.people_names.specs.NameBooks.{NameBook}
-use Rattle.plan_explain.specs.declared.arcs.ToldArc.{ToldArc}
-use Rattle.plan_explain.specs.Arcs.{time_of, told_arc}
+use Rattle.plan_explain.specs.declared.arcs.ArcKind.{ArcKind}
+use Rattle.plan_explain.specs.Arcs.{time_of, arc_kind}
 use Rattle.plan_explain.specs.Cycles.{arc_line, arc_lines}
 use Rattle.plan_explain.specs.Chains.{AreAlong, reached_at, length_from, reached_line, reached_lines}
 use Rattle.plan_explain.proofs.ArcFacts.{length_grows}
@@ -27,24 +27,24 @@ module _ (p : PlannedShop) (u : Node) (along : List Node) (i : ℕ) (d : Node) (
   arcs_next v arcs = subst (λ (l : List Node). ArcsLead p u l v) (rest_at along i d below) arcs
 
   -- one more arc's line is written
-  pub arc_told : (names : NameBook) (v : Node) (now new all : List ℕ) → now ++ arc_lines names p u (drop i along) v ≡ all → new ≡ now ++ arc_line names p u next
+  pub arc_printed : (names : NameBook) (v : Node) (now new all : List ℕ) → now ++ arc_lines names p u (drop i along) v ≡ all → new ≡ now ++ arc_line names p u next
       → new ++ arc_lines names p next rest v ≡ all
-  arc_told names v now new all so_far pushed =
+  arc_printed names v now new all so_far pushed =
       ap (λ l. l ++ arc_lines names p next rest v) pushed ∙ append_assoc now (arc_line names p u next) (arc_lines names p next rest v)
       ∙ ap (λ (l : List Node). now ++ arc_lines names p u l v) (sym (rest_at along i d below)) ∙ so_far
 
   pub along_next : AreAlong p u (drop i along) → HasArc p u next × AreAlong p next rest
   along_next arcs = subst (λ (l : List Node). AreAlong p u l) (rest_at along i d below) arcs
 
-  module _ (t n : ℕ) (arc : ToldArc) (is : arc ≡ told_arc p u next) (time : n ≡ time_of arc) where
-    same_time : n ≡ time_of (told_arc p u next)
+  module _ (t n : ℕ) (arc : ArcKind) (is : arc ≡ arc_kind p u next) (time : n ≡ time_of arc) where
+    same_time : n ≡ time_of (arc_kind p u next)
     same_time = time ∙ ap time_of is
 
     -- one more node's line is written
-    pub reached_told : (names : NameBook) (now new all : List ℕ) → now ++ reached_lines names p t u (drop i along) ≡ all → new ≡ now ++ reached_line names (t + n) next arc
+    pub reached_printed : (names : NameBook) (now new all : List ℕ) → now ++ reached_lines names p t u (drop i along) ≡ all → new ≡ now ++ reached_line names (t + n) next arc
         → new ++ reached_lines names p (t + n) next rest ≡ all
-    reached_told names now new all so_far pushed =
-        let line = reached_line names (reached_at p t u next) next (told_arc p u next) in
+    reached_printed names now new all so_far pushed =
+        let line = reached_line names (reached_at p t u next) next (arc_kind p u next) in
         let lines = reached_lines names p (reached_at p t u next) next rest in
         ap (λ k. new ++ reached_lines names p (t + k) next rest) same_time
         ∙ ap (λ l. l ++ lines) (pushed ∙ ap (λ k. now ++ reached_line names (t + k) next arc) same_time ∙ ap (λ a. now ++ reached_line names (reached_at p t u next) next a) is)

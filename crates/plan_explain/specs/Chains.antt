@@ -7,13 +7,13 @@ use Rattle.shop_base.specs.Graph.{HasArc}
 use Rattle.people_names.specs.NameBooks.{NameBook}
 use Rattle.people_names.specs.Words.{moment_word}
 use Rattle.plan_verifier.specs.declared.node_bound.Hold.TheVariants.{Awaited}
-use Rattle.plan_explain.specs.declared.arcs.ToldArc.{ToldArc}
-use Rattle.plan_explain.specs.Arcs.{before, time_of, arc_words, told_arc}
+use Rattle.plan_explain.specs.declared.arcs.ArcKind.{ArcKind}
+use Rattle.plan_explain.specs.Arcs.{before, time_of, arc_words, arc_kind}
 use Rattle.plan_explain.specs.Holds.{bound_line}
 
 -- when v is reached over the arc from u, which is reached at moment t
 abbrev pub reached_at : PlannedShop → ℕ → Node → Node → ℕ
-reached_at p t u v = t + time_of (told_arc p u v)
+reached_at p t u v = t + time_of (arc_kind p u v)
 
 -- when the last of the nodes is reached along arcs from u, which is reached at moment t
 abbrev pub length_from : PlannedShop → ℕ → Node → List Node → ℕ
@@ -31,13 +31,13 @@ module _ (names : NameBook) where
   release_line release u = bound_line names u (record { moment = release; holds = Awaited u.job; overdue = None })
 
   -- `T B WORDS`, of a node that is reached at moment t over the arc
-  abbrev pub reached_line : ℕ → Node → ToldArc → List ℕ
+  abbrev pub reached_line : ℕ → Node → ArcKind → List ℕ
   reached_line t v arc = before (moment_word names t ∷ codes " " ∷ node_text v ∷ codes " " ∷ []) (before (arc_words names arc) (codes "\n"))
 
   -- the lines of the nodes along arcs from u, which is reached at moment t
   abbrev pub reached_lines : PlannedShop → ℕ → Node → List Node → List ℕ
   reached_lines p t u [] = []
-  reached_lines p t u (v ∷ vs) = reached_line (reached_at p t u v) v (told_arc p u v) ++ reached_lines p (reached_at p t u v) v vs
+  reached_lines p t u (v ∷ vs) = reached_line (reached_at p t u v) v (arc_kind p u v) ++ reached_lines p (reached_at p t u v) v vs
 
   -- the lines of a chain: the release of the first job, and each further node, with the length of the path up to it
   abbrev pub chain_lines : PlannedShop → List Node → List ℕ

@@ -4,12 +4,12 @@ use Rattle.shop_base.specs.declared.node.Node.{Node}
 use Rattle.shop_base.specs.NodeText.{node_text}
 use Rattle.shop_base.specs.Plan.{PlannedShop}
 use Rattle.people_names.specs.NameBooks.{NameBook}
-use Rattle.plan_explain.specs.Arcs.{before, arc_words, told_arc}
+use Rattle.plan_explain.specs.Arcs.{before, arc_words, arc_kind}
 
 module _ (names : NameBook) (p : PlannedShop) where
   -- `A B WORDS`, of the arc from u to v
   abbrev pub arc_line : Node → Node → List ℕ
-  arc_line u v = before (node_text u ∷ codes " " ∷ node_text v ∷ codes " " ∷ []) (before (arc_words names (told_arc p u v)) (codes "\n"))
+  arc_line u v = before (node_text u ∷ codes " " ∷ node_text v ∷ codes " " ∷ []) (before (arc_words names (arc_kind p u v)) (codes "\n"))
 
   -- the lines of the arcs from u along the list, and from its end to v
   abbrev pub arc_lines : Node → List Node → Node → List ℕ

@@ -24,18 +24,18 @@ IsChosen IsTo (Some j) Else leaves chain = IsTo j leaves chain
 -- of a plan, or of the rest of a run, by its leavings, the lines of its jobs, and those of a chain
 module _ (AreLeaves : (ℕ → ℕ) → Type 0) (job_lines : (ℕ → ℕ) → List ℕ) (AreChain : List Node → List ℕ → Type 0) where
   -- a line for each job's leaving, and then those of such a chain
-  pub record AreMomentLines (IsTold : (ℕ → ℕ) → List Node → Type 0) (lines : List ℕ) : Type 0 where
+  pub record AreMomentLines (IsChain : (ℕ → ℕ) → List Node → Type 0) (lines : List ℕ) : Type 0 where
     pub leaves : ℕ → ℕ
     pub leavings : AreLeaves leaves
     pub chain : List Node
-    pub is : IsTold leaves chain
+    pub is : IsChain leaves chain
     pub are : AreBoth (λ jobs. jobs ≡ job_lines leaves) (AreChain chain) lines
 
   -- the lines behind the first one of a verdict: the arcs of the cycle; or the leavings, and the arcs of a chain: the one that is asked for, else of what is accepted that to the last, of a late one that which the first line tells
   abbrev pub AreLinesBehind : (ℕ → (ℕ → ℕ) → List Node → Type 0) → ((ℕ → ℕ) → List Node → Type 0) → NameBook → Option ℕ → PlannedShop → Judged → List ℕ → Type 0
-  AreLinesBehind IsTo IsToLast names told p (Accepted times) lines = AreMomentLines (IsChosen IsTo told IsToLast) lines
-  AreLinesBehind IsTo IsToLast names told p (Refused (Cycle nodes)) lines = lines ≡ cycle_lines names p nodes.items
-  AreLinesBehind IsTo IsToLast names told p (Refused (Late job leaves chain times)) lines = AreMomentLines (IsChosen IsTo told (λ moments nodes. nodes ≡ chain.items)) lines
+  AreLinesBehind IsTo IsToLast names asked p (Accepted times) lines = AreMomentLines (IsChosen IsTo asked IsToLast) lines
+  AreLinesBehind IsTo IsToLast names asked p (Refused (Cycle nodes)) lines = lines ≡ cycle_lines names p nodes.items
+  AreLinesBehind IsTo IsToLast names asked p (Refused (Late job leaves chain times)) lines = AreMomentLines (IsChosen IsTo asked (λ moments nodes. nodes ≡ chain.items)) lines
 
 -- along the nodes leads a longest path to the leaving of job j
 abbrev pub IsChainOf : PlannedShop → ℕ → (ℕ → ℕ) → List Node → Type 0
@@ -47,6 +47,6 @@ IsChainToLast p leaves chain = (j : ℕ) × IsLastToLeave p j (leaves j) × IsCh
 
 -- the explanation of a verdict, by names, with the chain to the leaving of a job, where one is asked for: its first line, and then those behind it
 abbrev pub IsExplained : NameBook → Option ℕ → Verdict → List ℕ → Type 0
-IsExplained names told verdict =
+IsExplained names asked verdict =
     let p = judged verdict in
-    AreBoth (IsFirstLine verdict) (AreLinesBehind (AreLeavings p) (leaving_lines names p) (λ chain lines. lines ≡ chain_lines names p chain) (IsChainOf p) (IsChainToLast p) names told p (as_rest verdict))
+    AreBoth (IsFirstLine verdict) (AreLinesBehind (AreLeavings p) (leaving_lines names p) (λ chain lines. lines ≡ chain_lines names p chain) (IsChainOf p) (IsChainToLast p) names asked p (as_rest verdict))

@@ -50,7 +50,7 @@ abbrev pub IsAcceptedText : PlannedShop → (ℕ → ℕ) → List ℕ → Type 
 IsAcceptedText p leaves line = (n : ℕ) × IsLastLeaving p leaves n × (line ≡ accepted_line n (moments_below leaves (jobs p)))
 
 -- the line tells the makespan and the leavings of the plan
-pub record TellsAccepted (p : PlannedShop) (line : List ℕ) : Type 0 where
+pub record IsAcceptedFirstLine (p : PlannedShop) (line : List ℕ) : Type 0 where
   pub makespan : ℕ
   pub is : IsMakespan p makespan
   pub leaves : ℕ → ℕ
@@ -59,5 +59,5 @@ pub record TellsAccepted (p : PlannedShop) (line : List ℕ) : Type 0 where
 
 -- the first line of a verdict
 abbrev pub IsFirstLine : Verdict → List ℕ → Type 0
-IsFirstLine (Accepted verified) line = TellsAccepted verified.planned line
+IsFirstLine (Accepted verified) line = IsAcceptedFirstLine verified.planned line
 IsFirstLine (Refused back why) line = line ≡ refused_line why

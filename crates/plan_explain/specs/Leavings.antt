@@ -4,7 +4,7 @@ use Rattle.shop_base.specs.declared.node.Node.{Node}
 use Rattle.shop_base.specs.Plan.{PlannedShop, jobs, budget}
 use Rattle.shop_base.specs.Graph.{leaving, Path}
 use Rattle.people_names.specs.NameBooks.{NameBook}
-use Rattle.people_names.specs.Words.{job_word, moment_word, is_budget_told}
+use Rattle.people_names.specs.Words.{job_word, moment_word, is_budget_printed}
 use Rattle.plan_verifier.specs.Accepted.{IsMakespan}
 use Rattle.plan_explain.specs.Arcs.{before}
 use Rattle.plan_explain.specs.Parts.{texts_below}
@@ -19,7 +19,7 @@ pub record IsLastToLeave (p : PlannedShop) (j n : ℕ) : Type 0 where
 module _ (names : NameBook) where
   -- ` budget B`, with these words behind it; ` no budget` of one that nobody gave
   abbrev pub budget_words : ℕ → List (List ℕ) → List (List ℕ)
-  budget_words budget behind = if is_budget_told names budget then codes " budget " ∷ moment_word names budget ∷ behind else codes " no budget" ∷ []
+  budget_words budget behind = if is_budget_printed names budget then codes " budget " ∷ moment_word names budget ∷ behind else codes " no budget" ∷ []
 
   -- ` budget B slack S`, what is left to the budget, or ` no budget`; or ` budget B late D`, by how much the leaving is past it
   abbrev pub margin_words : ℕ → ℕ → List (List ℕ)

@@ -6,35 +6,35 @@ use Rattle.shop_base.specs.Graph.{node, Arc, HasArc, Path, IsSimpleCycle}
 use Rattle.alt_graph.specs.Evidence.{EndsIn}
 use Rattle.people_names.specs.NameBooks.{NameBook}
 use Rattle.plan_verifier.specs.declared.verdict.Verdict.{Verdict}
-use Rattle.plan_explain.specs.declared.arcs.ToldArc.TheVariants.{Job, Blocking}
-use Rattle.plan_explain.specs.Arcs.{time_of, told_arc}
+use Rattle.plan_explain.specs.declared.arcs.ArcKind.TheVariants.{Job, Blocking}
+use Rattle.plan_explain.specs.Arcs.{time_of, arc_kind}
 use Rattle.plan_explain.specs.Cycles.{arc_line, cycle_lines}
 use Rattle.plan_explain.specs.Chains.{release_line, reached_line, reached_lines, chain_lines}
 use Rattle.plan_explain.specs.FirstLines.{IsFirstLine}
 
 -- each arc of the plan is told as it is, and takes the time that is told
-pub record AreArcsTold (p : PlannedShop) : Type 0 where
-  pub job : (j k : ℕ) → k < steps p j → told_arc p (node j k) (node j (k + 1)) ≡ Job j (machine_of p j k) (nominal p j k)
-  pub blocking : (m a i k j l : ℕ) → Stands p m a i k → Stands p m (a + 1) j l → told_arc p (node i (k + 1)) (node j l) ≡ Blocking m i j (clean p m)
-  pub time : (u v : Node) (d : ℕ) → Arc p u v d → time_of (told_arc p u v) ≡ d
+pub record AreExactArcs (p : PlannedShop) : Type 0 where
+  pub job : (j k : ℕ) → k < steps p j → arc_kind p (node j k) (node j (k + 1)) ≡ Job j (machine_of p j k) (nominal p j k)
+  pub blocking : (m a i k j l : ℕ) → Stands p m a i k → Stands p m (a + 1) j l → arc_kind p (node i (k + 1)) (node j l) ≡ Blocking m i j (clean p m)
+  pub time : (u v : Node) (d : ℕ) → Arc p u v d → time_of (arc_kind p u v) ≡ d
 
 -- of every well-shaped plan
-abbrev pub ArcsAreToldAsTheyAre : Type 0
-ArcsAreToldAsTheyAre = (p : PlannedShop) → IsWellShaped p → AreArcsTold p
+abbrev pub ArcsAreExact : Type 0
+ArcsAreExact = (p : PlannedShop) → IsWellShaped p → AreExactArcs p
 
 -- the line of a node behind a path tells the length of the path up to it, which is that of the path before and the arc between
-abbrev pub EachLineTellsThePathUpToIt : Type 0
-EachLineTellsThePathUpToIt = (names : NameBook) (p : PlannedShop) (path nodes : List Node) (u v : Node) (n d : ℕ) → IsWellShaped p → Path p path u n → Arc p u v d
-    → chain_lines names p (path ++ v ∷ nodes) ≡ chain_lines names p path ++ (reached_line names (n + d) v (told_arc p u v) ++ reached_lines names p (n + d) v nodes)
+abbrev pub EachLineIsItsPath : Type 0
+EachLineIsItsPath = (names : NameBook) (p : PlannedShop) (path nodes : List Node) (u v : Node) (n d : ℕ) → IsWellShaped p → Path p path u n → Arc p u v d
+    → chain_lines names p (path ++ v ∷ nodes) ≡ chain_lines names p path ++ (reached_line names (n + d) v (arc_kind p u v) ++ reached_lines names p (n + d) v nodes)
 
 -- the last line of a path to v of length n: of the arc to v from the node before it, or, where there is none, of the release of v's job
 abbrev pub IsLastLine : NameBook → PlannedShop → List Node → Node → ℕ → List ℕ → Type 0
 IsLastLine names p nodes v n line =
-    ((front : List Node) × (u : Node) × (nodes ≡ front ++ u ∷ v ∷ []) × (line ≡ reached_line names n v (told_arc p u v))) ⊎ ((nodes ≡ v ∷ []) × (line ≡ release_line names n v))
+    ((front : List Node) × (u : Node) × (nodes ≡ front ++ u ∷ v ∷ []) × (line ≡ reached_line names n v (arc_kind p u v))) ⊎ ((nodes ≡ v ∷ []) × (line ≡ release_line names n v))
 
 -- the last line of a path's lines is of its last node, and tells its length
-abbrev pub TheLastLineTellsTheLength : Type 0
-TheLastLineTellsTheLength = (names : NameBook) (p : PlannedShop) (nodes : List Node) (v : Node) (n : ℕ) → IsWellShaped p → Path p nodes v n
+abbrev pub TheLastLineIsTheLength : Type 0
+TheLastLineIsTheLength = (names : NameBook) (p : PlannedShop) (nodes : List Node) (v : Node) (n : ℕ) → IsWellShaped p → Path p nodes v n
     → (lines last : List ℕ) × (chain_lines names p nodes ≡ lines ++ last) × IsLastLine names p nodes v n last
 
 -- the last line of a cycle's lines is of the arc from its last node to its first

@@ -25,9 +25,9 @@ module _ (p : PlannedShop) (c : Cell) (t : ℕ) where
 
 -- the lines behind the first one of a verdict on the rest, by names, with the chain to the leaving of a job, where one is asked for
 abbrev pub AreRestBehind : NameBook → Option ℕ → PlannedShop → Cell → ℕ → Judged → List ℕ → Type 0
-AreRestBehind names told p c t =
-    AreLinesBehind (AreLeavingsAhead p c t) (rest_leaving_lines names p c) (AreRestChainLines names p c t) (IsChainTo p c t) (IsChainToLastAhead p c t) names told p
+AreRestBehind names asked p c t =
+    AreLinesBehind (AreLeavingsAhead p c t) (rest_leaving_lines names p c) (AreRestChainLines names p c t) (IsChainTo p c t) (IsChainToLastAhead p c t) names asked p
 
 -- the explanation of a verdict on the rest: its first line, and then those behind it
 abbrev pub IsRestExplained : NameBook → Option ℕ → PlannedShop → Cell → ℕ → Judged → List ℕ → Type 0
-IsRestExplained names told p c t verdict = AreBoth (IsRestFirstLine p c t verdict) (AreRestBehind names told p c t verdict)
+IsRestExplained names asked p c t verdict = AreBoth (IsRestFirstLine p c t verdict) (AreRestBehind names asked p c t verdict)

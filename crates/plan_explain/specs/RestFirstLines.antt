@@ -13,12 +13,12 @@ IsLineByTimes p (Accepted times) line = IsAcceptedText p (leaves_in p times) lin
 IsLineByTimes p (Refused why) line = line ≡ refused_line why
 
 -- the line tells the makespan and the leavings of the rest
-pub record TellsRestAccepted (p : PlannedShop) (c : Cell) (t : ℕ) (line : List ℕ) : Type 0 where
+pub record IsRestAcceptedFirstLine (p : PlannedShop) (c : Cell) (t : ℕ) (line : List ℕ) : Type 0 where
   pub leaves : ℕ → ℕ
   pub leavings : AreLeavingsAhead p c t leaves
-  pub tells : IsAcceptedText p leaves line
+  pub text : IsAcceptedText p leaves line
 
 -- the first line of a verdict on the rest
 abbrev pub IsRestFirstLine : PlannedShop → Cell → ℕ → Judged → List ℕ → Type 0
-IsRestFirstLine p c t (Accepted times) line = TellsRestAccepted p c t line
+IsRestFirstLine p c t (Accepted times) line = IsRestAcceptedFirstLine p c t line
 IsRestFirstLine p c t (Refused why) line = line ≡ refused_line why

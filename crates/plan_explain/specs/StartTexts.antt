@@ -19,8 +19,8 @@ said_of p (AcceptedRest times) = Accepted (record { planned = p; times = times }
 said_of p (RefusedRest why) = Refused p why
 
 -- of a verdict on the rest from the start and moment 0 on the same is told as of the plan: its first line is the plan's, and its explanations are the plan's, by any names and with the chain to any job
-abbrev pub TheRestOfTheStartIsToldAsThePlan : Type 0
-TheRestOfTheStartIsToldAsThePlan = (p : PlannedShop) (verdict : Judged) (text : List ℕ) → IsWellShaped p → IsRestJudged p (start p) 0 verdict
+abbrev pub TheStartIsExplainedAsThePlan : Type 0
+TheStartIsExplainedAsThePlan = (p : PlannedShop) (verdict : Judged) (text : List ℕ) → IsWellShaped p → IsRestJudged p (start p) 0 verdict
     → (IsRestFirstLine p (start p) 0 verdict text ↔ IsFirstLine (said_of p verdict) text)
-    × ((names : NameBook) (told : Option ℕ) → IfSome told (λ j. j < jobs p)
-    → IsRestExplained names told p (start p) 0 verdict text ↔ IsExplained names told (said_of p verdict) text)
+    × ((names : NameBook) (asked : Option ℕ) → IfSome asked (λ j. j < jobs p)
+    → IsRestExplained names asked p (start p) 0 verdict text ↔ IsExplained names asked (said_of p verdict) text)

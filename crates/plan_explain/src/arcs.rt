@@ -2,13 +2,13 @@
 
 ghost use Rattle.std.specs.Prelude.{◌≡◌, ◌<◌};
 ghost use Rattle.shop_base.specs.{Plan.steps, Graph.HasArc};
-ghost use Rattle.plan_explain.specs.Arcs.{told_arc, told_job_arc, told_blocking_arc, time_of};
+ghost use Rattle.plan_explain.specs.Arcs.{arc_kind, job_arc_kind, blocking_arc_kind, time_of};
 
 use shop_base::{JobNo, MachineNo, Moment, Node, Shaped};
 
 /// An arc of the graph, shown by machines and jobs.
 #[derive(Clone, Copy)]
-pub(crate) enum ToldArc {
+pub(crate) enum ArcKind {
     /// From a place of a job to its next one: the machine of its step there, and the step's nominal time.
     Job {
         job: JobNo,
@@ -25,18 +25,18 @@ pub(crate) enum ToldArc {
     },
 }
 
-impl ToldArc {
+impl ArcKind {
     /// How long the arc is.
     pub(crate) fn time(self) -> Moment
         ensures { result ≡ time_of self }
     {
         match self {
-            ToldArc::Job {
+            ArcKind::Job {
                 job: _,
                 machine: _,
                 nominal,
             } => nominal,
-            ToldArc::Blocking {
+            ArcKind::Blocking {
                 machine: _,
                 from: _,
                 to: _,
@@ -48,9 +48,9 @@ impl ToldArc {
 
 /// The arc from one node to the other. A job never comes after itself in an order, so an arc between two
 /// places of a job is a job arc.
-pub(crate) fn told_arc(shaped: &Shaped, from: Node, to: Node) -> ToldArc
+pub(crate) fn arc_kind(shaped: &Shaped, from: Node, to: Node) -> ArcKind
     requires { HasArc shaped.now from to }
-    ensures { result ≡ told_arc shaped.now from to }
+    ensures { result ≡ arc_kind shaped.now from to }
 {
     let _shop = shaped.shop();
     if from.job == to.job {
@@ -60,12 +60,12 @@ pub(crate) fn told_arc(shaped: &Shaped, from: Node, to: Node) -> ToldArc
     }
 }
 
-fn job_arc(shaped: &Shaped, from: Node) -> ToldArc
+fn job_arc(shaped: &Shaped, from: Node) -> ArcKind
     requires { from.place < steps shaped.now from.job }
-    ensures { result ≡ told_job_arc shaped.now from }
+    ensures { result ≡ job_arc_kind shaped.now from }
 {
     match shaped.step_of(from.job, from.place) {
-        Some(step) => ToldArc::Job {
+        Some(step) => ArcKind::Job {
             job: from.job,
             machine: step.machine,
             nominal: step.nominal,
@@ -74,12 +74,12 @@ fn job_arc(shaped: &Shaped, from: Node) -> ToldArc
     }
 }
 
-fn blocking_arc(shaped: &Shaped, from: JobNo, to: Node) -> ToldArc
+fn blocking_arc(shaped: &Shaped, from: JobNo, to: Node) -> ArcKind
     requires { to.place < steps shaped.now to.job }
-    ensures { result ≡ told_blocking_arc shaped.now from to }
+    ensures { result ≡ blocking_arc_kind shaped.now from to }
 {
     match shaped.machine_at(to.job, to.place) {
-        Some(machine) => ToldArc::Blocking {
+        Some(machine) => ArcKind::Blocking {
             machine,
             from,
             to: to.job,

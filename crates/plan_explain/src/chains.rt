@@ -8,7 +8,7 @@ ghost use Rattle.plan_explain.specs.Holds.{bound_line, overdue_words, hold_words
 ghost use Rattle.plan_explain.specs.RestChains.{IsRestChain, IsChainOrNone, AreRestChainLines};
 ghost use Rattle.people_names.specs.declared.names.TheConstants.{LONGEST_MOMENT};
 
-use crate::arcs::{ToldArc, told_arc};
+use crate::arcs::{ArcKind, arc_kind};
 use crate::words::{Line, push_line, put_arc, put_job, put_node};
 use cell_tables::WorkCell;
 use people_names::Names;
@@ -171,7 +171,7 @@ fn push_reached_lines(
     let mut at = start;
     let mut last = from;
     for node in along {
-        let arc = told_arc(shaped, last, *node);
+        let arc = arc_kind(shaped, last, *node);
         at += arc.time();
         push_reached_line(text, names, at, *node, arc)?;
         last = *node;
@@ -185,7 +185,7 @@ fn push_reached_line(
     names: &Names,
     at: Moment,
     node: Node,
-    arc: ToldArc,
+    arc: ArcKind,
 ) -> Result<(), AllocError>
     ensures { OnOk result (text.new.items ≡ text.old.items ++ reached_line names.now at node arc) }
 {

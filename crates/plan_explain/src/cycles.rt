@@ -4,7 +4,7 @@ ghost use Rattle.std.specs.Prelude.{◌≡◌, ◌++◌, OnOk};
 ghost use Rattle.shop_base.specs.Graph.{HasArc, ArcsLead, IsSimpleCycle};
 ghost use Rattle.plan_explain.specs.Cycles.{arc_line, arc_lines, cycle_lines};
 
-use crate::arcs::told_arc;
+use crate::arcs::arc_kind;
 use crate::words::{Line, push_line, put_arc, put_node};
 use people_names::Names;
 use shop_base::{Node, Shaped};
@@ -58,7 +58,7 @@ fn push_arc_line(
     ensures { OnOk result (text.new.items ≡ text.old.items ++ arc_line names.now shaped.now from to) }
 {
     let mut line = Line::ended();
-    put_arc(&mut line, names, told_arc(shaped, from, to));
+    put_arc(&mut line, names, arc_kind(shaped, from, to));
     line.put_text(b" ");
     put_node(&mut line, to);
     line.put_text(b" ");

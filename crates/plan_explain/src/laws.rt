@@ -3,29 +3,29 @@
 
 // Nothing is done here: a function's contract is the law, so a check of this crate proves it.
 
-ghost use Rattle.plan_explain.specs.StartTexts.{TheRestOfTheStartIsToldAsThePlan};
-ghost use Rattle.plan_explain.specs.LineLaws.{ArcsAreToldAsTheyAre, EachLineTellsThePathUpToIt, TheLastLineTellsTheLength, TheLinesOfACycleClose, AVerdictHasOneFirstLine};
+ghost use Rattle.plan_explain.specs.StartTexts.{TheStartIsExplainedAsThePlan};
+ghost use Rattle.plan_explain.specs.LineLaws.{ArcsAreExact, EachLineIsItsPath, TheLastLineIsTheLength, TheLinesOfACycleClose, AVerdictHasOneFirstLine};
 
 /// A job arc is shown by its job, the machine and the nominal time of its step. A blocking arc is shown by its machine,
 /// the job that leaves it, the one that enters and its cleaning time. The time shown is the length of the arc.
-#[tactic(auto, using(crate::proofs::LineLaws::arcs_told))]
-pub fn arcs_are_told_as_they_are()
-    ensures { ArcsAreToldAsTheyAre }
+#[tactic(auto, using(crate::proofs::LineLaws::exact_arcs))]
+pub fn arcs_are_exact()
+    ensures { ArcsAreExact }
 {}
 
 /// The line of a node after a path gives the length of the path up to it: the length of the path before, plus the arc
 /// between. So the moments never fall along a chain.
 #[tactic(auto, using(crate::proofs::LineLaws::each_line))]
-pub fn each_line_tells_the_path_up_to_it()
-    ensures { EachLineTellsThePathUpToIt }
+pub fn each_line_is_its_path()
+    ensures { EachLineIsItsPath }
 {}
 
 /// The last line of a path is the line of the arc to its last node or, for a path of one node, of its job's release.
 /// Its moment is the path's length: for a late plan the moment at which the late job leaves, for an accepted one the
 /// makespan.
 #[tactic(auto, using(crate::proofs::LineLaws::last_line))]
-pub fn the_last_line_tells_the_length()
-    ensures { TheLastLineTellsTheLength }
+pub fn the_last_line_is_the_length()
+    ensures { TheLastLineIsTheLength }
 {}
 
 /// The last line of a cycle is of the arc from its last node back to the first.
@@ -43,6 +43,6 @@ pub fn a_verdict_has_one_first_line()
 
 /// From the cell at the start and moment 0 on, just what is told of the plan is told of the rest of a run: the same first
 /// line, and the same explanations.
-pub fn the_rest_of_the_start_is_told_as_the_plan()
-    ensures { TheRestOfTheStartIsToldAsThePlan }
+pub fn the_start_is_explained_as_the_plan()
+    ensures { TheStartIsExplainedAsThePlan }
 {}

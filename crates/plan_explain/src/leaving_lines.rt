@@ -49,7 +49,7 @@ fn push_job_line<P: Planned>(
     let budget = cell.shaped().budget_of(job);
     let mut line = Line::ended();
     if cell.step_count(job) < cell.job_state(job).made {
-        put_told_budget(&mut line, names, budget);
+        put_given_budget(&mut line, names, budget);
         return push_job_at(text, names, &mut line, job, b" left ", leaves);
     }
     put_margin(&mut line, names, leaves, budget);
@@ -66,7 +66,7 @@ fn put_margin(line: &mut Line, names: &Names, leaves: Moment, budget: Moment)
         line.put_number(leaves - budget);
         line.put_text(b" late ");
         put_budget(line, names, budget);
-    } else if names.tells_budget(budget) {
+    } else if names.prints_budget(budget) {
         line.put_number(budget - leaves);
         line.put_text(b" slack ");
         put_budget(line, names, budget);
@@ -86,12 +86,12 @@ fn put_budget(line: &mut Line, names: &Names, budget: Moment)
 }
 
 /// Writes the budget, if it is told.
-fn put_told_budget(line: &mut Line, names: &Names, budget: Moment)
+fn put_given_budget(line: &mut Line, names: &Names, budget: Moment)
     requires { length line.old ≤ 1 }
     ensures written { line.new ≡ before (budget_words names.now budget []) line.old }
     ensures length { length line.new ≤ 37 + length line.old }
 {
-    if names.tells_budget(budget) {
+    if names.prints_budget(budget) {
         put_budget(line, names, budget);
     } else {
         line.put_text(b" no budget");

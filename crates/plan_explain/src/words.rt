@@ -6,7 +6,7 @@ ghost use Rattle.people_names.specs.Words.{job_word, moment_word};
 ghost use Rattle.plan_explain.specs.Arcs.{before, clean_words, arc_words};
 ghost use Rattle.plan_explain.specs.declared.words.TheConstants.{LINE_ROOM};
 
-use crate::arcs::ToldArc;
+use crate::arcs::ArcKind;
 use people_names::Names;
 use shop_base::{JobNo, Moment, Node};
 use std::alloc::AllocError;
@@ -55,13 +55,13 @@ fn put_clean(line: &mut Line, clean: Moment)
 
 /// Writes what the arc is.
 #[inline(always)]
-pub(crate) fn put_arc(line: &mut Line, names: &Names, arc: ToldArc)
+pub(crate) fn put_arc(line: &mut Line, names: &Names, arc: ArcKind)
     requires { length line.old ≤ 1 }
     ensures written { line.new ≡ before (arc_words names.now arc) line.old }
     ensures length { length line.new ≤ 179 + length line.old }
 {
     match arc {
-        ToldArc::Job {
+        ArcKind::Job {
             job,
             machine,
             nominal,
@@ -71,7 +71,7 @@ pub(crate) fn put_arc(line: &mut Line, names: &Names, arc: ToldArc)
             names.put_machine(line, machine);
             put_job(line, names, job, b" on machine ");
         }
-        ToldArc::Blocking {
+        ArcKind::Blocking {
             machine,
             from,
             to,

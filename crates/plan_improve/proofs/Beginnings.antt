@@ -6,16 +6,16 @@ use Rattle.plan_seek.specs.declared.search.TheConstants.{MAX_ROUNDS}
 use Rattle.plan_improve.specs.Faults.{IsImproveRestFault}
 use Rattle.plan_improve.specs.declared.not_improved.NotImproved.{NotImproved}
 use Rattle.plan_improve.specs.declared.improve_fault.ImproveFault.TheVariants.{Memory as WantOfMemory}
-use Rattle.plan_improve.proofs.Common.{AreSound, Cell, Entry, IsBegun, IsCellOf, IsNextMoment, IsRestOf, IsTold}
-use Rattle.plan_improve.proofs.Common.{LinesTell, PlannedShop, cell_of, one_reading, present_of, range_with_len}
+use Rattle.plan_improve.proofs.Common.{AreSound, Cell, Entry, IsBegun, IsCellOf, IsNextMoment, IsRestOf, IsReplayed}
+use Rattle.plan_improve.proofs.Common.{LinesParse, PlannedShop, cell_of, one_reading, present_of, range_with_len}
 use Rattle.plan_improve.proofs.OneCell.{cell_once}
 
 -- whether lines tell an event, by what they tell
-pub event_told : (lines : List (List ℕ)) (p : PlannedShop) (told : List Entry) (n : ℕ) → LinesTell p lines told → n ≡ length told → (nat_lt 0 n ≡ false) ↔ LinesTell p lines []
-event_told lines p [] n tells is = (λ _. tells, λ _. rw is refl)
-event_told lines p (e ∷ es) n tells is = (
+pub event_read : (lines : List (List ℕ)) (p : PlannedShop) (entries : List Entry) (n : ℕ) → LinesParse p lines entries → n ≡ length entries → (nat_lt 0 n ≡ false) ↔ LinesParse p lines []
+event_read lines p [] n parse is = (λ _. parse, λ _. rw is refl)
+event_read lines p (e ∷ es) n parse is = (
   (λ none. let some = lt-ltb 0 n (omega (arith, is)) in absurd (cc (none, some))),
-  (λ empty. absurd (cc (one_reading p lines (e ∷ es) [] tells empty))),
+  (λ empty. absurd (cc (one_reading p lines (e ∷ es) [] parse empty))),
 )
 
 -- out of memory is why no plan is given
@@ -29,11 +29,11 @@ few_rounds (Ok found) rounds few = few
 few_rounds (Err e) rounds few = tt
 
 -- the run of a log, as it is taken up
-pub begun_is : (lines : List (List ℕ)) (p q r : PlannedShop) (c : Cell) (told : List Entry) (begun : Begun) → q ≡ p → r ≡ p → LinesTell p lines told → IsTold p c told
-    → cell_of q begun.tables ≡ c → AreSound q begun.tables → IsNextMoment c begun.present → IsRestOf r c begun.present begun.rest → ((begun.has_event ≡ false) ↔ LinesTell p lines []) → IsBegun lines p begun
-begun_is lines p q r c told begun same also tells run cell sound next rest event = record {
+pub begun_is : (lines : List (List ℕ)) (p q r : PlannedShop) (c : Cell) (entries : List Entry) (begun : Begun) → q ≡ p → r ≡ p → LinesParse p lines entries → IsReplayed p c entries
+    → cell_of q begun.tables ≡ c → AreSound q begun.tables → IsNextMoment c begun.present → IsRestOf r c begun.present begun.rest → ((begun.has_event ≡ false) ↔ LinesParse p lines []) → IsBegun lines p begun
+begun_is lines p q r c entries begun same also parse run cell sound next rest event = record {
   sound = subst (λ (x : PlannedShop). AreSound x begun.tables) same sound;
-  cell = record { told = told; tells = tells; run = subst (λ (x : Cell). IsTold p x told) (sym here) run };
+  cell = record { entries = entries; parse = parse; run = subst (λ (x : Cell). IsReplayed p x entries) (sym here) run };
   next = subst (λ (x : Cell). IsNextMoment x begun.present) (sym here) next;
   rest = subst (λ (x : Cell). IsRestOf p x begun.present begun.rest) (sym here) (subst (λ (x : PlannedShop). IsRestOf x c begun.present begun.rest) also rest);
   event = event;

@@ -23,7 +23,7 @@ pub use Rattle.cell_tables.specs.PlannedCell.{PlannedCell}
 pub use Rattle.cell_tables.specs.Tables.{AreSound, cell_of, entered_at, no_row, state_of, states_from}
 pub use Rattle.cell_tables.specs.declared.entry.Entry.{Entry}
 pub use Rattle.event_lines.proofs.Readings.{one_reading}
-pub use Rattle.event_lines.specs.LogLines.{IsEntryOf, LineTells, LinesTell}
+pub use Rattle.event_lines.specs.LogLines.{IsEntryOf, LineParses, LinesParse}
 pub use Rattle.plan_annealing.specs.declared.rest.Rest.{Rest}
 pub use Rattle.plan_seek.specs.Orders.{Proposal, serial_order}
 pub use Rattle.plan_verifier.proofs.Acceptable.{acyclic, leaving_node}
@@ -36,20 +36,20 @@ pub use Rattle.plan_verifier.specs.Rest.{AreOrderedAhead, IsGreatestAhead}
 pub use Rattle.plan_verifier.specs.RestVerdicts.{IsAcceptableAhead, IsRestAccepted}
 pub use Rattle.plan_verifier.specs.Seen.{judged}
 pub use Rattle.plan_verifier.specs.Verdicts.{SaysAccepted}
-pub use Rattle.run_log.specs.Audits.{IsTold, TellRun}
+pub use Rattle.run_log.specs.Audits.{IsReplayed, ParseAsRun}
 pub use Rattle.text_lines.specs.Lines.{ended_lines}
 pub use Rattle.plan_improve.specs.AtBound.{IsBound, Meets}
 pub use Rattle.plan_improve.specs.Costs.{IsAtMost, IsCost, IsLateness, IsLess}
-pub use Rattle.plan_improve.specs.Improved.{HasNoBegin, HasNoRestBegin, IsBegin, IsFound, IsFoundTold, IsNeverWorse, IsVerdictOn, present_of}
-pub use Rattle.plan_improve.specs.Keeping.{Begin, Comes, IsComeTo, IsFixed, IsLast, IsLastTold, IsNext, IsNextOf, IsReached, IsSearched, Stands, bound_in, present_in, rest_in, setting_of}
+pub use Rattle.plan_improve.specs.Improved.{HasNoBegin, HasNoRestBegin, IsBegin, IsFound, IsFoundReported, IsNeverWorse, IsVerdictOn, present_of}
+pub use Rattle.plan_improve.specs.Keeping.{Begin, Comes, IsComeTo, IsFixed, IsLast, IsLastReported, IsNext, IsNextOf, IsReached, IsSearched, Stands, bound_in, present_in, rest_in, setting_of}
 pub use Rattle.plan_improve.specs.Laws.{ALogIsKeptByTheEntries, ASecondSearchIsNoWorse, AcceptedPlansStayAccepted, AcceptedRestsStayAccepted, BeginsWithEntries, EachOrderHasOneCell, NoWorseIsPassedOn, NobodyBettersIt, TheRestOfTheStartCostsThePlan, TheirMakespansNeverGrow}
 pub use Rattle.plan_improve.specs.Reordered.{IsReordered, reordered}
 pub use Rattle.plan_improve.specs.RestCosts.{IsCellOf, IsCostFrom, IsRestCost, late_by}
-pub use Rattle.plan_improve.specs.RestKeeping.{IsBegun, IsImprovedTold, LeaveSoon, the_last_leaving}
+pub use Rattle.plan_improve.specs.RestKeeping.{IsBegun, IsImprovedReported, LeaveSoon, the_last_leaving}
 pub use Rattle.plan_improve.specs.RestOf.{IsRestOf, job_rest}
-pub use Rattle.plan_improve.specs.Runs.{AfterRound, AfterRounds, AfterSome, Asked, Becomes, EndsAfter, RoundsTold, better, no_answer, no_better, no_round, nobody, one_more, round_more}
+pub use Rattle.plan_improve.specs.Runs.{AfterRound, AfterRounds, AfterSome, Asked, Becomes, EndsAfter, ReportedRounds, better, no_answer, no_better, no_round, nobody, one_more, round_more}
 pub use Rattle.plan_improve.specs.Settings.{IsAtBound, IsBetter, IsBoundThere, IsNoWorse, IsRestThere, Setting, rest_after, whole_plan}
-pub use Rattle.plan_improve.specs.Watching.{IsToldMore, Told, told_bound}
+pub use Rattle.plan_improve.specs.Watching.{ReportsMore, Progress, reported_bound}
 pub use Rattle.plan_improve.specs.declared.best.Best.{Best}
 pub use Rattle.plan_improve.specs.declared.cost.Cost.{Cost}
 pub use Rattle.plan_improve.specs.declared.fixed.Fixed.{Fixed}

@@ -6,11 +6,11 @@ use Rattle.shop_base.proofs.Visits.{visits_or_not}
 use Rattle.shop_base.proofs.Changes.{after_move-moved}
 use Rattle.plan_improve.proofs.Common.{ALogIsKeptByTheEntries, AreEvents, BeginsWithEntries, CanEnter, CanHappen}
 use Rattle.plan_improve.proofs.Common.{CanLeave, CanMove, CanObey, Cell, Event, IsCellOf, IsOn, IsPrefix, IsRun}
-use Rattle.plan_improve.proofs.Common.{IsSound, IsWellShaped, Moved, PlannedShop, Reported, Spot, TellRun, Visits}
+use Rattle.plan_improve.proofs.Common.{IsSound, IsWellShaped, Moved, PlannedShop, Reported, Spot, ParseAsRun, Visits}
 use Rattle.plan_improve.proofs.Common.{after, after-sound, after_all, after_report-like, append-nil, ended, ends_in}
 use Rattle.plan_improve.proofs.Common.{entries, events_of, made, order, reordered, run-sound, start}
 use Rattle.plan_improve.proofs.Common.{start-sound, target}
-use Rattle.plan_improve.proofs.OneCell.{source_same, after_same, ends_same, tell_same, one_cell, tells_run}
+use Rattle.plan_improve.proofs.OneCell.{source_same, after_same, ends_same, parse_same, one_cell, parses_run}
 
 -- what begins a list begins what that begins
 through : (a b c : List ℕ) → IsPrefix a b → IsPrefix b c → IsPrefix a c
@@ -90,22 +90,22 @@ module _ (p : PlannedShop) (orders : List (List ℕ)) (shaped : IsWellShaped p) 
 
   pub log_there : (lines : List (List ℕ)) (c : Cell) → IsCellOf lines p c → BeginsWithEntries c other → IsCellOf lines other c
   log_there lines c is begins = record {
-    told = is.told;
-    tells = tell_same other p.plan.order lines is.told is.tells;
+    entries = is.entries;
+    parse = parse_same other p.plan.order lines is.entries is.parse;
     run = record {
-      run = run_there (events_of is.told) is.run.run (subst (λ (x : Cell). BeginsWithEntries x other) is.run.cell begins);
-      cell = is.run.cell ∙ sym (ends_same p orders (events_of is.told));
+      run = run_there (events_of is.entries) is.run.run (subst (λ (x : Cell). BeginsWithEntries x other) is.run.cell begins);
+      cell = is.run.cell ∙ sym (ends_same p orders (events_of is.entries));
     };
   }
 
 pub entries_law : ALogIsKeptByTheEntries
-entries_law lines p q c shaped fits same is = (begins, told)
+entries_law lines p q c shaped fits same is = (begins, run_of)
   where
-    begins : TellRun q lines → BeginsWithEntries c q
+    begins : ParseAsRun q lines → BeginsWithEntries c q
     begins run =
-        let ends : IsCellOf lines q (ends_in q (events_of run.0)) = record { told = run.0; tells = run.1; run = record { run = run.2; cell = refl } } in
+        let ends : IsCellOf lines q (ends_in q (events_of run.0)) = record { entries = run.0; parse = run.1; run = record { run = run.2; cell = refl } } in
         subst (λ (x : Cell). BeginsWithEntries x q) (sym (one_cell lines p q c (ends_in q (events_of run.0)) same is ends)) (run-sound q (events_of run.0) fits run.2).in_order
 
-    told : BeginsWithEntries c q → TellRun q lines
-    told keeps = subst (λ (x : PlannedShop). TellRun x lines) (sym same)
-        (tells_run lines (reordered p q.plan.order) c (log_there p q.plan.order shaped lines c is (subst (BeginsWithEntries c) same keeps)))
+    run_of : BeginsWithEntries c q → ParseAsRun q lines
+    run_of keeps = subst (λ (x : PlannedShop). ParseAsRun x lines) (sym same)
+        (parses_run lines (reordered p q.plan.order) c (log_there p q.plan.order shaped lines c is (subst (BeginsWithEntries c) same keeps)))

@@ -2,23 +2,23 @@
 use Rattle.std.proofs.Common.{◌≡◌, ℕ, ◌+◌, ◌<◌, List, [], ◌∷◌, ◌++◌, append_assoc, Option, Result, Ok, Err, IfOk, length, get_or, None, Some, inr, refl, sym, ap, ◌∙◌, subst}
 use Rattle.std.proofs.lemmas.Option.{slice_get_read}
 use Rattle.plan_improve.proofs.Common.{AfterRound, AfterRounds, AfterSome, Asked, Becomes, Best, Cost, EndsAfter, Fixed}
-use Rattle.plan_improve.proofs.Common.{IsAtBound, IsAtMost, IsBetter, IsFixed, IsLast, IsLastTold, IsLess, IsNext}
-use Rattle.plan_improve.proofs.Common.{IsNextOf, IsReordered, IsToldMore, IsWellShaped, Meets, PlannedCell, PlannedShop}
-use Rattle.plan_improve.proofs.Common.{Proposal, Rest, RoundsTold, Setting, Stands, Told, append-nil, better, bound_in}
+use Rattle.plan_improve.proofs.Common.{IsAtBound, IsAtMost, IsBetter, IsFixed, IsLast, IsLastReported, IsLess, IsNext}
+use Rattle.plan_improve.proofs.Common.{IsNextOf, IsReordered, ReportsMore, IsWellShaped, Meets, PlannedCell, PlannedShop}
+use Rattle.plan_improve.proofs.Common.{Proposal, Rest, ReportedRounds, Setting, Stands, Progress, append-nil, better, bound_in}
 use Rattle.plan_improve.proofs.Common.{no_answer, no_better, no_round, nobody, one_more, reordered, rest_in, round_more}
-use Rattle.plan_improve.proofs.Common.{setting_of, told_bound}
+use Rattle.plan_improve.proofs.Common.{setting_of, reported_bound}
 use Rattle.plan_improve.proofs.Comparing.{most_of_most, not_both, most_same, most_less}
 use Rattle.plan_improve.proofs.Once.{OneCost, reordered_on}
 
 -- nothing was told, and then more
-pub told_nothing : (before : Option (List Told)) → IsToldMore before [] before
-told_nothing None = tt
-told_nothing (Some before) = ap (λ told. Some told) (sym (append-nil before))
+pub reports_nothing : (before : Option (List Progress)) → ReportsMore before [] before
+reports_nothing None = tt
+reports_nothing (Some before) = ap (λ reported. Some reported) (sym (append-nil before))
 
-pub told_on : (before between after : Option (List Told)) (one more : List Told) → IsToldMore before one between → IsToldMore between more after → IsToldMore before (one ++ more) after
-told_on None between after one more first next = tt
-told_on (Some before) between after one more first next =
-    (rw first at next) ∙ ap (λ told. Some told) (append_assoc before one more)
+pub reports_on : (before between after : Option (List Progress)) (one more : List Progress) → ReportsMore before one between → ReportsMore between more after → ReportsMore before (one ++ more) after
+reports_on None between after one more first next = tt
+reports_on (Some before) between after one more first next =
+    (rw first at next) ∙ ap (λ reported. Some reported) (append_assoc before one more)
 
 module _ (s : Setting) where
   -- what becomes of a plan has its numbers
@@ -115,16 +115,16 @@ module _ (fixed : Fixed) where
     round_ends round n p first best known ends = record { run = record { asked = n; after = known.run; ends = ends }; same = known.same; stands = known.stands; is = known.is; most = known.most }
 
     -- one more round, before which the best plan doesn't meet its bound
-    pub one_more_round : (before between after : Option (List Told)) (n : ℕ) (p : PlannedShop) (first : Cost) (best kept : Best) → IsFixed fixed p → (Meets best.cost (bound_in fixed) → ⊥)
-        → IsLastTold here before between (λ told x. AfterRounds here may improvers x n told) p first best
-        → IsToldMore between (record { round = n; cost = best.cost; at_least = told_bound (bound_in fixed) } ∷ []) after
+    pub one_more_round : (before between after : Option (List Progress)) (n : ℕ) (p : PlannedShop) (first : Cost) (best kept : Best) → IsFixed fixed p → (Meets best.cost (bound_in fixed) → ⊥)
+        → IsLastReported here before between (λ reported x. AfterRounds here may improvers x n reported) p first best
+        → ReportsMore between (record { round = n; cost = best.cost; at_least = reported_bound (bound_in fixed) } ∷ []) after
         → IsLast here (AfterRound here may improvers n) best.cell.plan best.cost kept
-        → IsLastTold here before after (λ told x. AfterRounds here may improvers x (n + 1) told) p first kept
+        → IsLastReported here before after (λ reported x. AfterRounds here may improvers x (n + 1) reported) p first kept
     one_more_round before between after n p first best kept is unmet known more next = record {
-      told = known.told ++ record { round = n; cost = best.cost; at_least = told_bound (bound_in fixed) } ∷ [];
-      more = told_on before between after known.told (record { round = n; cost = best.cost; at_least = told_bound (bound_in fixed) } ∷ []) known.more more;
+      reported = known.reported ++ record { round = n; cost = best.cost; at_least = reported_bound (bound_in fixed) } ∷ [];
+      more = reports_on before between after known.reported (record { round = n; cost = best.cost; at_least = reported_bound (bound_in fixed) } ∷ []) known.more more;
       last = record {
-        run = round_more n known.told best.cell.plan kept.cell.plan best.cost (bound_in fixed) known.last.run known.last.is (is.bound best.cell.plan known.last.same) unmet next.run;
+        run = round_more n known.reported best.cell.plan kept.cell.plan best.cost (bound_in fixed) known.last.run known.last.is (is.bound best.cell.plan known.last.same) unmet next.run;
         same = reordered_on p best.cell.plan kept.cell.plan known.last.same next.same;
         stands = next.stands;
         is = next.is;
@@ -133,29 +133,29 @@ module _ (fixed : Fixed) where
     }
 
     -- no round more
-    pub rounds_end : (before after : Option (List Told)) (n rounds : ℕ) (p : PlannedShop) (first : Cost) (best : Best)
-        → IsLastTold here before after (λ told x. AfterRounds here may improvers x n told) p first best
-        → EndsAfter here rounds n best.cell.plan → IsLastTold here before after (RoundsTold here may improvers rounds) p first best
+    pub rounds_end : (before after : Option (List Progress)) (n rounds : ℕ) (p : PlannedShop) (first : Cost) (best : Best)
+        → IsLastReported here before after (λ reported x. AfterRounds here may improvers x n reported) p first best
+        → EndsAfter here rounds n best.cell.plan → IsLastReported here before after (ReportedRounds here may improvers rounds) p first best
     rounds_end before after n rounds p first best known ends = record {
-      told = known.told;
+      reported = known.reported;
       more = known.more;
       last = record { run = record { asked = n; after = known.last.run; ends = ends }; same = known.last.same; stands = known.last.stands; is = known.last.is; most = known.last.most };
     }
 
-    pub bound_met : (before after : Option (List Told)) (n rounds : ℕ) (p : PlannedShop) (first : Cost) (best : Best)
-        → IsLastTold here before after (λ told x. AfterRounds here may improvers x n told) p first best
-        → n < rounds → IsFixed fixed p → Meets best.cost (bound_in fixed) → IsLastTold here before after (RoundsTold here may improvers rounds) p first best
+    pub bound_met : (before after : Option (List Progress)) (n rounds : ℕ) (p : PlannedShop) (first : Cost) (best : Best)
+        → IsLastReported here before after (λ reported x. AfterRounds here may improvers x n reported) p first best
+        → n < rounds → IsFixed fixed p → Meets best.cost (bound_in fixed) → IsLastReported here before after (ReportedRounds here may improvers rounds) p first best
     bound_met before after n rounds p first best known few is meets =
         rounds_end before after n rounds p first best known
-        (inr (few, at_bound (λ x. AfterRounds here may improvers x n known.told) p first best known.last is meets))
+        (inr (few, at_bound (λ x. AfterRounds here may improvers x n known.reported) p first best known.last is meets))
 
     pub nobody_asked : (round : ℕ) (best : Best) → Stands here best.cell → here.costs best.cell.plan best.cost → IsLast here (λ x. AfterSome here may improvers round x 0) best.cell.plan best.cost best
     nobody_asked round best stands is = record { run = nobody; same = refl; stands = stands; is = is; most = most_same best.cost }
 
-    pub no_rounds : (before : Option (List Told)) (best : Best) → Stands here best.cell → here.costs best.cell.plan best.cost
-        → IsLastTold here before before (λ told x. AfterRounds here may improvers x 0 told) best.cell.plan best.cost best
+    pub no_rounds : (before : Option (List Progress)) (best : Best) → Stands here best.cell → here.costs best.cell.plan best.cost
+        → IsLastReported here before before (λ reported x. AfterRounds here may improvers x 0 reported) best.cell.plan best.cost best
     no_rounds before best stands is = record {
-      told = [];
-      more = told_nothing before;
+      reported = [];
+      more = reports_nothing before;
       last = record { run = no_round; same = refl; stands = stands; is = is; most = most_same best.cost };
     }

@@ -4,8 +4,8 @@ use Rattle.shop_base.specs.declared.move_order.Spot.TheVariants.{Out, At}
 use Rattle.shop_base.specs.declared.report.Report.TheVariants.{Arrive, Finish, Clean}
 use Rattle.cell_tables.specs.Moving.{IsSpotOf}
 use Rattle.cell_tables.specs.declared.entry.Entry.TheVariants.{Report as ReportEntry, Order as OrderEntry}
-use Rattle.plan_improve.proofs.Common.{Cell, EachOrderHasOneCell, Entry, Event, IsCellOf, IsEntryOf, LineTells}
-use Rattle.plan_improve.proofs.Common.{LinesTell, Moved, PlannedShop, Reported, Spot, TellRun, after, after_all}
+use Rattle.plan_improve.proofs.Common.{Cell, EachOrderHasOneCell, Entry, Event, IsCellOf, IsEntryOf, LineParses}
+use Rattle.plan_improve.proofs.Common.{LinesParse, Moved, PlannedShop, Reported, Spot, ParseAsRun, after, after_all}
 use Rattle.plan_improve.proofs.Common.{after_leaving, ends_in, events_of, made, one_reading, reordered, source}
 use Rattle.plan_improve.proofs.Common.{spot_after, start, target, with_entry, with_moved}
 
@@ -45,19 +45,19 @@ module _ (p : PlannedShop) (order : List (List ℕ)) where
   entry_same (ReportEntry (Clean m at)) is = is
   entry_same (OrderEntry o) is = (is.0, spot_same o.source is.1, spot_same o.target is.2, is.3)
 
-  line_same : (line : List ℕ) (es : List Entry) → LineTells other_plan line es → LineTells p line es
+  line_same : (line : List ℕ) (es : List Entry) → LineParses other_plan line es → LineParses p line es
   line_same line [] is = is
   line_same line (e ∷ []) is = (is.0, is.1, entry_same e is.2)
   line_same line (e ∷ f ∷ es) is = is
 
-  pub tell_same : (lines : List (List ℕ)) (es : List Entry) → LinesTell other_plan lines es → LinesTell p lines es
-  tell_same [] es is = is
-  tell_same (line ∷ lines) es is = (is.0, is.1, line_same line is.0 is.2, tell_same lines is.1 is.3, is.4)
+  pub parse_same : (lines : List (List ℕ)) (es : List Entry) → LinesParse other_plan lines es → LinesParse p lines es
+  parse_same [] es is = is
+  parse_same (line ∷ lines) es is = (is.0, is.1, line_same line is.0 is.2, parse_same lines is.1 is.3, is.4)
 
   cell_same : (lines : List (List ℕ)) (c d : Cell) → IsCellOf lines p c → IsCellOf lines other_plan d → c ≡ d
   cell_same lines c d one other =
-      let told : other.told ≡ one.told = one_reading p lines other.told one.told (tell_same lines other.told other.tells) one.tells in
-      one.run.cell ∙ sym (other.run.cell ∙ ap (λ es. ends_in other_plan (events_of es)) told ∙ ends_same (events_of one.told))
+      let same_entries : other.entries ≡ one.entries = one_reading p lines other.entries one.entries (parse_same lines other.entries other.parse) one.parse in
+      one.run.cell ∙ sym (other.run.cell ∙ ap (λ es. ends_in other_plan (events_of es)) same_entries ∙ ends_same (events_of one.entries))
 
 pub one_cell : EachOrderHasOneCell
 one_cell lines p q c d same one other = cell_same p q.plan.order lines c d one (subst (λ (x : PlannedShop). IsCellOf lines x d) same other)
@@ -67,5 +67,5 @@ pub cell_once : (lines : List (List ℕ)) (p : PlannedShop) (c d : Cell) → IsC
 cell_once lines p c d one other = one_cell lines p p c d refl one other
 
 -- lines that lead to a cell tell a run
-pub tells_run : (lines : List (List ℕ)) (p : PlannedShop) (c : Cell) → IsCellOf lines p c → TellRun p lines
-tells_run lines p c is = (is.told, is.tells, is.run.run)
+pub parses_run : (lines : List (List ℕ)) (p : PlannedShop) (c : Cell) → IsCellOf lines p c → ParseAsRun p lines
+parses_run lines p c is = (is.entries, is.parse, is.run.run)

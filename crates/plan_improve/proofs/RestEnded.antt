@@ -2,14 +2,14 @@
 use Rattle.std.proofs.Common.{◌≡◌, ◌⊎◌, ℕ, List, Option, Result, Ok, Err, IfOk, inl, inr, refl, sym, ap, ◌∙◌, subst}
 use Rattle.plan_improve.specs.declared.improved.Improved.{Improved}
 use Rattle.plan_improve.proofs.Common.{Asked, Cell, Comes, HasCycle, HasNoRestBegin, IsAcceptableAhead, IsCellOf}
-use Rattle.plan_improve.proofs.Common.{IsComeTo, IsFoundTold, IsImprovedTold, IsNeverWorse, IsNextMoment, IsNoWorse}
-use Rattle.plan_improve.proofs.Common.{IsRestAccepted, IsVerdictOn, PlannedCell, PlannedShop, Told, present_of}
+use Rattle.plan_improve.proofs.Common.{IsComeTo, IsFoundReported, IsImprovedReported, IsNeverWorse, IsNextMoment, IsNoWorse}
+use Rattle.plan_improve.proofs.Common.{IsRestAccepted, IsVerdictOn, PlannedCell, PlannedShop, Progress, present_of}
 use Rattle.plan_improve.proofs.Common.{rest_after}
 use Rattle.plan_improve.proofs.OneCell.{one_cell, cell_once}
 use Rattle.plan_improve.proofs.Lawful.{rest_accepted}
-use Rattle.plan_improve.proofs.Searched.{same_numbers, never_worse_either, found_told_either}
+use Rattle.plan_improve.proofs.Searched.{same_numbers, never_worse_either, found_reported_either}
 
-module _ (lines : List (List ℕ)) (t : ℕ) (before after : Option (List Told)) (made : List Told → Asked) (start : PlannedShop) where
+module _ (lines : List (List ℕ)) (t : ℕ) (before after : Option (List Progress)) (made : List Progress → Asked) (start : PlannedShop) where
   -- the present moment can be the next after the run that the lines tell by the plan that is found
   pub come_next : (x : PlannedCell PlannedShop) (c : Cell) → IsCellOf lines start c → IsNextMoment c t → IsComeTo (rest_after lines t) before after made start x → IsNextMoment x.cell t
   come_next x c here next come =
@@ -17,7 +17,7 @@ module _ (lines : List (List ℕ)) (t : ℕ) (before after : Option (List Told))
 
   -- the plan with the verdict on its rest
   pub improved_answer : {E : Type 0} (x : PlannedCell PlannedShop) (r : Result Improved E) → IsComeTo (rest_after lines t) before after made start x → IfOk r (λ found. found.shaped ≡ x.plan)
-      → IfOk r (λ found. IsVerdictOn x.plan x.cell t found.verdict) → IfOk r (IsImprovedTold lines t before after made start)
+      → IfOk r (λ found. IsVerdictOn x.plan x.cell t found.verdict) → IfOk r (IsImprovedReported lines t before after made start)
   improved_answer x (Ok found) come plan verdict = record {
     came = subst (Comes (rest_after lines t) before after made start) (sym plan) come.0;
     cell = x.cell;
@@ -31,18 +31,18 @@ module _ (lines : List (List ℕ)) (t : ℕ) (before after : Option (List Told))
   acyclic_unless p (inr came) = inl came.is.costs.acyclic
 
 -- the same, where the present moment is told by the cell of the log
-module _ (lines : List (List ℕ)) (at : Option ℕ) (t : ℕ) (before after : Option (List Told)) (made : ℕ → List Told → Asked) (start : PlannedShop) (begun : Cell)
-    (told : IsCellOf lines start begun) (present : t ≡ present_of at begun.last) (found : Improved) (is : IsImprovedTold lines t before after (made t) start found)
+module _ (lines : List (List ℕ)) (at : Option ℕ) (t : ℕ) (before after : Option (List Progress)) (made : ℕ → List Progress → Asked) (start : PlannedShop) (begun : Cell)
+    (led : IsCellOf lines start begun) (present : t ≡ present_of at begun.last) (found : Improved) (is : IsImprovedReported lines t before after (made t) start found)
     (c : Cell) (here : IsCellOf lines start c) where
   moment : t ≡ present_of at c.last
-  moment = present ∙ ap (λ (x : Cell). present_of at x.last) (cell_once lines start begun c told here)
+  moment = present ∙ ap (λ (x : Cell). present_of at x.last) (cell_once lines start begun c led here)
 
   pub never_worse : IsNeverWorse (rest_after lines (present_of at c.last)) start found.shaped
   never_worse = subst (λ n. IsNeverWorse (rest_after lines n) start found.shaped) moment (never_worse_either (rest_after lines t) before after (made t) start found.shaped is.came)
 
-  pub is_found_told : HasNoRestBegin lines start ⊎ IsFoundTold (rest_after lines (present_of at c.last)) before after (made (present_of at c.last)) start found.shaped
-  is_found_told = subst (λ n. HasNoRestBegin lines start ⊎ IsFoundTold (rest_after lines n) before after (made n) start found.shaped) moment
-      (found_told_either (rest_after lines t) before after (made t) start found.shaped is.came)
+  pub is_found_reported : HasNoRestBegin lines start ⊎ IsFoundReported (rest_after lines (present_of at c.last)) before after (made (present_of at c.last)) start found.shaped
+  is_found_reported = subst (λ n. HasNoRestBegin lines start ⊎ IsFoundReported (rest_after lines n) before after (made n) start found.shaped) moment
+      (found_reported_either (rest_after lines t) before after (made t) start found.shaped is.came)
 
   same_cell : is.cell ≡ c
   same_cell = sym (one_cell lines start found.shaped c is.cell (same_numbers (rest_after lines t) before after (made t) start found.shaped is.came) here is.run)

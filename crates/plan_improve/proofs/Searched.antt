@@ -2,8 +2,8 @@
 use Rattle.std.proofs.Common.{◌≡◌, ◌⊎◌, ◌↔◌, List, Option, Result, Ok, Err, IfErr, inl, inr, refl, sym, ◌∙◌, subst}
 use Rattle.plan_verifier.specs.declared.verdict.Verdict.{Verdict}
 use Rattle.plan_improve.proofs.Common.{Asked, Best, Comes, Cost, HasNoBegin, IsAcceptable, IsBegin, IsFound}
-use Rattle.plan_improve.proofs.Common.{IsFoundTold, IsLastTold, IsNeverWorse, IsNoWorse, IsReordered, IsSearched}
-use Rattle.plan_improve.proofs.Common.{PlannedShop, SaysAccepted, Setting, Told, judged, whole_plan}
+use Rattle.plan_improve.proofs.Common.{IsFoundReported, IsLastReported, IsNeverWorse, IsNoWorse, IsReordered, IsSearched}
+use Rattle.plan_improve.proofs.Common.{PlannedShop, SaysAccepted, Setting, Progress, judged, whole_plan}
 use Rattle.plan_improve.proofs.Lawful.{accepted}
 use Rattle.plan_improve.proofs.Once.{reordered_on}
 
@@ -24,14 +24,14 @@ module _ (s : Setting) where
   begin_only start p q (inr (cycle, none, is)) (inl (acyclic, same)) = absurd (acyclic cycle)
   begin_only start p q (inr (cycle, none, is)) (inr (other, empty, same)) = is ∙ sym same
 
-  module _ (before after : Option (List Told)) (made : List Told → Asked) (start : PlannedShop) where
+  module _ (before after : Option (List Progress)) (made : List Progress → Asked) (start : PlannedShop) where
     -- a search that has begun
-    pub searched : (p : PlannedShop) (first : Cost) (kept : Best) → IsBegin s start p → s.costs p first → IsLastTold s before after made p first kept
+    pub searched : (p : PlannedShop) (first : Cost) (kept : Best) → IsBegin s start p → s.costs p first → IsLastReported s before after made p first kept
         → IsSearched s before after made start kept.cell.plan
     searched p first kept begins cost last = record {
       begin = p;
       begins_at = begins;
-      told = last.told;
+      reported = last.reported;
       more = last.more;
       run = last.last.run;
       same = reordered_on start p kept.cell.plan (begin_same start p begins) last.last.same;
@@ -48,8 +48,8 @@ module _ (s : Setting) where
           (record { cost = is.cost; other = is.first; is = is.is; than = is.than; most = is.most })
 
       -- what is found, with what is told
-      pub found_told : IsFoundTold s before after made start p
-      found_told = record { told = is.told; more = is.more; found = record { begin = is.begin; begins_at = is.begins_at; run = is.run } }
+      pub found_reported : IsFoundReported s before after made start p
+      found_reported = record { reported = is.reported; more = is.more; found = record { begin = is.begin; begins_at = is.begins_at; run = is.run } }
 
     module _ (p : PlannedShop) (is : Comes s before after made start p) where
       pub same_numbers : IsReordered start p
@@ -70,10 +70,10 @@ module _ (s : Setting) where
         | inr came ↦ never_worse p came
       ]
 
-      pub found_told_either : HasNoBegin s start ⊎ IsFoundTold s before after made start p
-      found_told_either = elim is [
+      pub found_reported_either : HasNoBegin s start ⊎ IsFoundReported s before after made start p
+      found_reported_either = elim is [
         | inl stays ↦ inl stays.0
-        | inr came ↦ inr (found_told p came)
+        | inr came ↦ inr (found_reported p came)
       ]
 
     pub back_same : {A E : Type 0} (p : PlannedShop) (r : Result A (E × PlannedShop)) → Comes s before after made start p → IfErr r (λ refused. refused.1 ≡ p)
@@ -82,16 +82,16 @@ module _ (s : Setting) where
     back_same p (Err e) comes back = subst (IsReordered start) (sym back) (same_numbers p comes)
 
   -- whatever is told
-  pub untold : (before after : Option (List Told)) (made : List Told → Asked) (start p : PlannedShop) → IsFoundTold s before after made start p
-      → IsFound s (λ x y. (told : List Told) × made told x y) start p
-  untold before after made start p is = record { begin = is.found.begin; begins_at = is.found.begins_at; run = (is.told, is.found.run) }
+  pub found_of_reported : (before after : Option (List Progress)) (made : List Progress → Asked) (start p : PlannedShop) → IsFoundReported s before after made start p
+      → IsFound s (λ x y. (reported : List Progress) × made reported x y) start p
+  found_of_reported before after made start p is = record { begin = is.found.begin; begins_at = is.found.begins_at; run = (is.reported, is.found.run) }
 
-  pub untold_either : (before after : Option (List Told)) (made : List Told → Asked) (start p : PlannedShop) → HasNoBegin s start ⊎ IsFoundTold s before after made start p
-      → HasNoBegin s start ⊎ IsFound s (λ x y. (told : List Told) × made told x y) start p
-  untold_either before after made start p (inl none) = inl none
-  untold_either before after made start p (inr is) = inr (untold before after made start p is)
+  pub found_either : (before after : Option (List Progress)) (made : List Progress → Asked) (start p : PlannedShop) → HasNoBegin s start ⊎ IsFoundReported s before after made start p
+      → HasNoBegin s start ⊎ IsFound s (λ x y. (reported : List Progress) × made reported x y) start p
+  found_either before after made start p (inl none) = inl none
+  found_either before after made start p (inr is) = inr (found_of_reported before after made start p is)
 
-module _ (before after : Option (List Told)) (made : List Told → Asked) (start : PlannedShop) where
+module _ (before after : Option (List Progress)) (made : List Progress → Asked) (start : PlannedShop) where
   -- of a whole plan there always is one to begin with
   pub came_on : (p : PlannedShop) → Comes whole_plan before after made start p → IsSearched whole_plan before after made start p
   came_on p (inl stays) = absurd (stays.0.1 tt)

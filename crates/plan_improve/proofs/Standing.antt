@@ -5,7 +5,7 @@ use Rattle.plan_improve.proofs.Common.{BeginsWithEntries, Cell, Cost, Fixed, IsR
 use Rattle.plan_improve.proofs.Common.{Nothing, PlannedCell, PlannedShop, Run, Stands, ended_lines, entries, events_of}
 use Rattle.plan_improve.proofs.Common.{order, reordered, setting_of, start}
 use Rattle.plan_improve.proofs.Fronts.{log_there, entries_law}
-use Rattle.plan_improve.proofs.OneCell.{cell_once, tells_run}
+use Rattle.plan_improve.proofs.OneCell.{cell_once, parses_run}
 
 -- nobody has entered a machine at the start
 start_begins : (p q : PlannedShop) (c : Cell) → c ≡ start p → BeginsWithEntries c q
@@ -14,7 +14,7 @@ start_begins p q c same m = (order q m, sym (ap (λ es. es ++ order q m) (ap (λ
 -- some run leads to it
 pub stands_reached : (fixed : Fixed) (p : PlannedShop) (c : Cell) → (setting_of fixed).cells p c → IsReached p c
 stands_reached (Nothing at_least) p c is = ([], tt, is)
-stands_reached (Run log present rest) p c is = (events_of is.told, is.run.run, is.run.cell)
+stands_reached (Run log present rest) p c is = (events_of is.entries, is.run.run, is.run.cell)
 
 -- it is the same by a plan whose orders begin with the entries
 stands_on : (fixed : Fixed) (p : PlannedShop) (orders : List (List ℕ)) (c : Cell) → IsWellShaped p → (setting_of fixed).cells p c → BeginsWithEntries c (reordered p orders)
@@ -33,9 +33,9 @@ pub costs_begin : (fixed : Fixed) (p : PlannedShop) (orders : List (List ℕ)) (
     → (setting_of fixed).costs (reordered p orders) cost → BeginsWithEntries c (reordered p orders)
 costs_begin (Nothing at_least) p orders c cost shaped fits is costs = start_begins p (reordered p orders) c is
 costs_begin (Run log present rest) p orders c cost shaped fits is costs =
-    (entries_law (ended_lines log.now) p (reordered p orders) c shaped fits refl is).0 (tells_run (ended_lines log.now) (reordered p orders) costs.cell costs.run)
+    (entries_law (ended_lines log.now) p (reordered p orders) c shaped fits refl is).0 (parses_run (ended_lines log.now) (reordered p orders) costs.cell costs.run)
 
 -- where nothing has happened yet, any orders do
 pub fresh_begins : (fixed : Fixed) (p q : PlannedShop) (c : Cell) → (setting_of fixed).cells p c → (setting_of fixed).fresh p → BeginsWithEntries c q
 fresh_begins (Nothing at_least) p q c is fresh = start_begins p q c is
-fresh_begins (Run log present rest) p q c is fresh = start_begins p q c (cell_once (ended_lines log.now) p c (start p) is (record { told = []; tells = fresh; run = record { run = tt; cell = refl } }))
+fresh_begins (Run log present rest) p q c is fresh = start_begins p q c (cell_once (ended_lines log.now) p c (start p) is (record { entries = []; parse = fresh; run = record { run = tt; cell = refl } }))

@@ -4,12 +4,12 @@ use Rattle.shop_base.specs.Plan.{PlannedShop}
 use Rattle.shop_base.specs.Cell.{Cell}
 use Rattle.plan_verifier.specs.declared.verdict.Judged.{Judged}
 use Rattle.plan_verifier.specs.RestVerdicts.{IsAcceptedAhead, IsReasonAhead, IsAcceptableAhead, IsRestAccepted}
-use Rattle.event_lines.specs.LogLines.{LinesTell}
+use Rattle.event_lines.specs.LogLines.{LinesParse}
 use Rattle.alt_graph.specs.Solved.{HasCycle}
 use Rattle.plan_seek.specs.Orders.{serial_order}
 use Rattle.plan_improve.specs.Settings.{Setting, IsNoWorse}
 use Rattle.plan_improve.specs.Reordered.{reordered}
-use Rattle.plan_improve.specs.Watching.{Told, IsToldMore}
+use Rattle.plan_improve.specs.Watching.{Progress, ReportsMore}
 use Rattle.plan_improve.specs.Runs.{Asked}
 
 module _ (s : Setting) where
@@ -28,10 +28,10 @@ module _ (s : Setting) where
     pub run : made begin p
 
   -- it is what rounds make of that plan, in which whoever watches is told these very things
-  pub record IsFoundTold (before after : Option (List Told)) (made : List Told → Asked) (start p : PlannedShop) : Type 0 where
-    pub told : List Told
-    pub more : IsToldMore before told after
-    pub found : IsFound (made told) start p
+  pub record IsFoundReported (before after : Option (List Progress)) (made : List Progress → Asked) (start p : PlannedShop) : Type 0 where
+    pub reported : List Progress
+    pub more : ReportsMore before reported after
+    pub found : IsFound (made reported) start p
 
   -- the plan is no worse than the one with which the search begins
   abbrev pub IsNeverWorse : PlannedShop → PlannedShop → Type 0
@@ -39,7 +39,7 @@ module _ (s : Setting) where
 
 -- the same for the rest of the run that these lines tell: they tell an event
 abbrev pub HasNoRestBegin : List (List ℕ) → PlannedShop → Type 0
-HasNoRestBegin lines start = HasCycle start × (LinesTell start lines [] → ⊥)
+HasNoRestBegin lines start = HasCycle start × (LinesParse start lines [] → ⊥)
 
 -- the present moment: the one that is given, else the last one
 abbrev pub present_of : Option ℕ → ℕ → ℕ

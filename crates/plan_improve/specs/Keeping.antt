@@ -22,7 +22,7 @@ use Rattle.plan_improve.specs.Costs.{IsLess, IsAtMost}
 use Rattle.plan_improve.specs.Settings.{Setting, whole_plan, rest_after}
 use Rattle.plan_improve.specs.Laws.{BeginsWithEntries}
 use Rattle.plan_improve.specs.Reordered.{reordered, IsReordered}
-use Rattle.plan_improve.specs.Watching.{Told, IsToldMore}
+use Rattle.plan_improve.specs.Watching.{Progress, ReportsMore}
 use Rattle.plan_improve.specs.Runs.{Asked, Becomes}
 use Rattle.plan_improve.specs.Improved.{IsBegin, HasNoBegin}
 
@@ -91,18 +91,18 @@ module _ (s : Setting) where
     pub most : IsAtMost kept.cost c
 
   -- the best plan that rounds make of one with its cost, and what is told meanwhile
-  pub record IsLastTold (before after : Option (List Told)) (made : List Told → Asked) (p : PlannedShop) (c : Cost) (kept : Best) : Type 0 where
-    pub told : List Told
-    pub more : IsToldMore before told after
-    pub last : IsLast (made told) p c kept
+  pub record IsLastReported (before after : Option (List Progress)) (made : List Progress → Asked) (p : PlannedShop) (c : Cost) (kept : Best) : Type 0 where
+    pub reported : List Progress
+    pub more : ReportsMore before reported after
+    pub last : IsLast (made reported) p c kept
 
   -- the plan that questions make of the one with which the search begins, and what is told meanwhile
-  pub record IsSearched (before after : Option (List Told)) (made : List Told → Asked) (start p : PlannedShop) : Type 0 where
+  pub record IsSearched (before after : Option (List Progress)) (made : List Progress → Asked) (start p : PlannedShop) : Type 0 where
     pub begin : PlannedShop
     pub begins_at : IsBegin s start begin
-    pub told : List Told
-    pub more : IsToldMore before told after
-    pub run : made told begin p
+    pub reported : List Progress
+    pub more : ReportsMore before reported after
+    pub run : made reported begin p
     pub same : IsReordered start p
     pub cost : Cost
     pub first : Cost
@@ -111,11 +111,11 @@ module _ (s : Setting) where
     pub most : IsAtMost cost first
 
   -- it is that or, where there is no plan to begin with, the start
-  abbrev pub Comes : Option (List Told) → Option (List Told) → (List Told → Asked) → PlannedShop → PlannedShop → Type 0
+  abbrev pub Comes : Option (List Progress) → Option (List Progress) → (List Progress → Asked) → PlannedShop → PlannedShop → Type 0
   Comes before after made start p = (HasNoBegin s start × (p ≡ start)) ⊎ IsSearched before after made start p
 
   -- a cell by that plan
-  abbrev pub IsComeTo : Option (List Told) → Option (List Told) → (List Told → Asked) → PlannedShop → PlannedCell PlannedShop → Type 0
+  abbrev pub IsComeTo : Option (List Progress) → Option (List Progress) → (List Progress → Asked) → PlannedShop → PlannedCell PlannedShop → Type 0
   IsComeTo before after made start x = Comes before after made start x.plan × Stands x
 
 -- some run of the plan leads to the cell

@@ -3,7 +3,7 @@ use Rattle.std.specs.Prelude.{◌≡◌, ◌↔◌, ℕ, ◌≤◌, List}
 use Rattle.shop_base.specs.Plan.{PlannedShop, order, IsWellShaped}
 use Rattle.shop_base.specs.Cell.{Cell, entries, start}
 use Rattle.shop_base.specs.Move.{IsPrefix}
-use Rattle.run_log.specs.Audits.{TellRun}
+use Rattle.run_log.specs.Audits.{ParseAsRun}
 use Rattle.plan_verifier.specs.Accepted.{HasNoCycle, IsAcceptable, IsMakespan}
 use Rattle.plan_verifier.specs.RestVerdicts.{IsAcceptableAhead}
 use Rattle.plan_improve.specs.declared.cost.Cost.{Cost}
@@ -44,7 +44,7 @@ BeginsWithEntries c q = (m : ℕ) → IsPrefix (entries c m) (order q m)
 -- lines that tell a run of a plan tell one of another that differs in its orders alone exactly where the entries of the cell at the end begin the other's orders
 abbrev pub ALogIsKeptByTheEntries : Type 0
 ALogIsKeptByTheEntries = (lines : List (List ℕ)) (p q : PlannedShop) (c : Cell) → IsWellShaped p → IsWellShaped q → IsReordered p q → IsCellOf lines p c
-    → TellRun q lines ↔ BeginsWithEntries c q
+    → ParseAsRun q lines ↔ BeginsWithEntries c q
 
 -- a rest by a plan that is no worse than one by which it is to be accepted is to be accepted itself
 abbrev pub AcceptedRestsStayAccepted : Type 0

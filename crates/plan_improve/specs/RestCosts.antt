@@ -5,16 +5,16 @@ use Rattle.shop_base.specs.Cell.{Cell, made}
 use Rattle.shop_base.specs.Ends.{sum_below}
 use Rattle.alt_graph.specs.Solved.{HasCycle}
 use Rattle.cell_tables.specs.declared.entry.Entry.{Entry}
-use Rattle.event_lines.specs.LogLines.{LinesTell}
-use Rattle.run_log.specs.Audits.{IsTold}
+use Rattle.event_lines.specs.LogLines.{LinesParse}
+use Rattle.run_log.specs.Audits.{IsReplayed}
 use Rattle.plan_verifier.specs.Leavings.{AreLeavingsAhead, IsLastLeaving}
 use Rattle.plan_improve.specs.declared.cost.Cost.{Cost}
 
 -- the lines tell a run of the plan, and this is the cell at its end
 pub record IsCellOf (lines : List (List ℕ)) (p : PlannedShop) (c : Cell) : Type 0 where
-  pub told : List Entry
-  pub tells : LinesTell p lines told
-  pub run : IsTold p c told
+  pub entries : List Entry
+  pub parse : LinesParse p lines entries
+  pub run : IsReplayed p c entries
 
 -- what job j leaves past its budget, nothing where it is gone
 abbrev pub late_by : PlannedShop → Cell → (ℕ → ℕ) → ℕ → ℕ

@@ -5,13 +5,13 @@ use Rattle.shop_base.specs.Plan.{PlannedShop, jobs}
 use Rattle.shop_base.specs.Cell.{Cell, IsGone}
 use Rattle.shop_base.specs.Report.{IsNextMoment}
 use Rattle.cell_tables.specs.Tables.{cell_of, AreSound}
-use Rattle.event_lines.specs.LogLines.{LinesTell}
+use Rattle.event_lines.specs.LogLines.{LinesParse}
 use Rattle.plan_improve.specs.declared.improved.Improved.{Improved}
 use Rattle.plan_improve.specs.RestCosts.{IsCellOf}
 use Rattle.plan_improve.specs.declared.begun.Begun.{Begun}
 use Rattle.plan_improve.specs.RestOf.{IsRestOf}
 use Rattle.plan_improve.specs.Settings.{rest_after}
-use Rattle.plan_improve.specs.Watching.{Told}
+use Rattle.plan_improve.specs.Watching.{Progress}
 use Rattle.plan_improve.specs.Runs.{Asked}
 use Rattle.plan_improve.specs.Improved.{IsVerdictOn, present_of}
 use Rattle.plan_improve.specs.Keeping.{Comes}
@@ -33,11 +33,11 @@ pub record IsBegun (lines : List (List ℕ)) (p : PlannedShop) (begun : Begun) :
   pub cell : IsCellOf lines p (cell_of p begun.tables)
   pub next : IsNextMoment (cell_of p begun.tables) begun.present
   pub rest : IsRestOf p (cell_of p begun.tables) begun.present begun.rest
-  pub event : (begun.has_event ≡ false) ↔ LinesTell p lines []
+  pub event : (begun.has_event ≡ false) ↔ LinesParse p lines []
 
 module _ (lines : List (List ℕ)) (t : ℕ) where
   -- what is said of the plan that is found
-  pub record IsImprovedTold (before after : Option (List Told)) (made : List Told → Asked) (start : PlannedShop) (found : Improved) : Type 0 where
+  pub record IsImprovedReported (before after : Option (List Progress)) (made : List Progress → Asked) (start : PlannedShop) (found : Improved) : Type 0 where
     pub came : Comes (rest_after lines t) before after made start found.shaped
     pub cell : Cell
     pub run : IsCellOf lines found.shaped cell

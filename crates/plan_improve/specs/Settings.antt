@@ -2,7 +2,7 @@
 use Rattle.std.specs.Prelude.{◌≡◌, ℕ, List, [], Option, None, Some}
 use Rattle.shop_base.specs.Plan.{PlannedShop, IsWellShaped}
 use Rattle.shop_base.specs.Cell.{Cell, start}
-use Rattle.event_lines.specs.LogLines.{LinesTell}
+use Rattle.event_lines.specs.LogLines.{LinesParse}
 use Rattle.plan_annealing.specs.declared.rest.Rest.{Rest}
 use Rattle.plan_improve.specs.declared.cost.Cost.{Cost}
 use Rattle.plan_improve.specs.Costs.{IsCost, IsLess, IsAtMost}
@@ -40,7 +40,7 @@ IsRestThere lines t p (Some rest) = (c : Cell) × IsCellOf lines p c × IsRestOf
 abbrev pub rest_after : List (List ℕ) → ℕ → Setting
 rest_after lines t = record {
   cells = IsCellOf lines;
-  fresh = λ p. LinesTell p lines [];
+  fresh = λ p. LinesParse p lines [];
   costs = IsRestCost lines t;
   leaves = IsRestThere lines t;
   bounds = λ p bound. bound ≡ None;

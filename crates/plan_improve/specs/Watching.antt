@@ -3,17 +3,17 @@ use Rattle.std.specs.Prelude.{◌≡◌, ℕ, List, ◌++◌, Option, None, Some
 use Rattle.plan_improve.specs.declared.cost.Cost.{Cost}
 
 -- a round, what the best plan before it costs, and the bound below which no makespan can be
-pub record Told : Type 0 where
+pub record Progress : Type 0 where
   pub round : ℕ
   pub cost : Cost
   pub at_least : ℕ
 
 -- whoever was told these things before, where that is said, was then told those more
-abbrev pub IsToldMore : Option (List Told) → List Told → Option (List Told) → Type 0
-IsToldMore None more after = Unit {0}
-IsToldMore (Some before) more after = after ≡ Some (before ++ more)
+abbrev pub ReportsMore : Option (List Progress) → List Progress → Option (List Progress) → Type 0
+ReportsMore None more after = Unit {0}
+ReportsMore (Some before) more after = after ≡ Some (before ++ more)
 
 -- the bound that is told: 0 where none is known
-abbrev pub told_bound : Option ℕ → ℕ
-told_bound None = 0
-told_bound (Some n) = n
+abbrev pub reported_bound : Option ℕ → ℕ
+reported_bound None = 0
+reported_bound (Some n) = n

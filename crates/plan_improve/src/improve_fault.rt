@@ -38,12 +38,12 @@ impl From<AuditFault> for ImproveFault {
     ghost use Rattle.std.specs.Prelude.{◌≡◌};
     ghost use Rattle.plan_improve.specs.Faults.{log_fault};
 
-    ghost from_gives = { λ told fault. fault ≡ log_fault told };
+    ghost from_gives = { λ audit fault. fault ≡ log_fault audit };
 
-    fn from(told: AuditFault) -> ImproveFault {
-        match told {
+    fn from(audit: AuditFault) -> ImproveFault {
+        match audit {
             AuditFault::Memory => ImproveFault::Memory,
-            _ => ImproveFault::Log(told),
+            _ => ImproveFault::Log(audit),
         }
     }
 }

@@ -4,7 +4,7 @@ ghost use Rattle.std.specs.Prelude.{◌≡◌, ◌≤◌, ◌⊎◌, OnOk, IfOk,
 ghost use Rattle.shop_base.specs.Cell.{Cell};
 ghost use Rattle.shop_base.specs.Report.{IsNextMoment};
 ghost use Rattle.text_lines.specs.Lines.{ended_lines};
-ghost use Rattle.run_log.specs.Audits.{TellRun};
+ghost use Rattle.run_log.specs.Audits.{ParseAsRun};
 ghost use Rattle.alt_graph.specs.Solved.{HasCycle};
 ghost use Rattle.plan_verifier.specs.RestVerdicts.{IsAcceptableAhead, IsRestAccepted};
 ghost use Rattle.plan_improve.specs.declared.improve_fault.ImproveFault.TheVariants.{Memory};
@@ -12,9 +12,9 @@ ghost use Rattle.plan_improve.specs.Reordered.{IsReordered};
 ghost use Rattle.plan_improve.specs.Settings.{rest_after};
 ghost use Rattle.plan_improve.specs.Faults.{IsImproveRestFault};
 ghost use Rattle.plan_improve.specs.RestCosts.{IsCellOf};
-ghost use Rattle.plan_improve.specs.Runs.{RoundsTold, Rounds};
-ghost use Rattle.plan_improve.specs.Improved.{HasNoRestBegin, IsNeverWorse, IsFound, IsFoundTold, IsVerdictOn, present_of};
-ghost use Rattle.plan_improve.specs.RestKeeping.{IsBegun, IsImprovedTold};
+ghost use Rattle.plan_improve.specs.Runs.{ReportedRounds, Rounds};
+ghost use Rattle.plan_improve.specs.Improved.{HasNoRestBegin, IsNeverWorse, IsFound, IsFoundReported, IsVerdictOn, present_of};
+ghost use Rattle.plan_improve.specs.RestKeeping.{IsBegun, IsImprovedReported};
 
 use crate::begun::{Begun, begun_at};
 use crate::fixed::Fixed;
@@ -51,10 +51,10 @@ pub fn improve_after<W: Watch>(
     watch: &mut W,
 ) -> Result<Improved, NotImproved>
     ensures same { IfOk result (λ found. IsReordered start found.shaped) }
-    ensures begun { IfOk result (λ found. TellRun start (ended_lines log.now)) }
+    ensures begun { IfOk result (λ found. ParseAsRun start (ended_lines log.now)) }
     ensures present { IfOk result (λ found. (c : Cell) → IsCellOf (ended_lines log.now) start c
         → IsNextMoment c (present_of at c.last)) }
-    ensures kept { IfOk result (λ found. TellRun found.shaped (ended_lines log.now)) }
+    ensures kept { IfOk result (λ found. ParseAsRun found.shaped (ended_lines log.now)) }
     ensures stays { IfOk result (λ found. HasNoRestBegin (ended_lines log.now) start → found.shaped ≡ start) }
     ensures acyclic { IfOk result (λ found. (HasCycle found.shaped → ⊥) ⊎ HasNoRestBegin (ended_lines log.now) start) }
     ensures never_worse { IfOk result (λ found. (c : Cell) → IsCellOf (ended_lines log.now) start c
@@ -62,10 +62,10 @@ pub fn improve_after<W: Watch>(
     ensures found { let lines = ended_lines log.now in IfOk result (λ found. (c : Cell) → IsCellOf lines start c
         → HasNoRestBegin lines start ⊎ IsFound (rest_after lines (present_of at c.last))
         (Rounds (rest_after lines (present_of at c.last)) (λ b. may b) improvers.now rounds) start found.shaped) }
-    ensures told { let lines = ended_lines log.now in IfOk result (λ found. (c : Cell) → IsCellOf lines start c
+    ensures reported { let lines = ended_lines log.now in IfOk result (λ found. (c : Cell) → IsCellOf lines start c
         → HasNoRestBegin lines start
-        ⊎ IsFoundTold (rest_after lines (present_of at c.last)) (W.told watch.old) (W.told watch.new)
-        (RoundsTold (rest_after lines (present_of at c.last)) (λ b. may b) improvers.now rounds) start found.shaped) }
+        ⊎ IsFoundReported (rest_after lines (present_of at c.last)) (W.reported watch.old) (W.reported watch.new)
+        (ReportedRounds (rest_after lines (present_of at c.last)) (λ b. may b) improvers.now rounds) start found.shaped) }
     ensures verdict { IfOk result (λ found. (c : Cell) → IsCellOf (ended_lines log.now) start c
         → IsVerdictOn found.shaped c (present_of at c.last) found.verdict) }
     ensures stays_accepted { IfOk result (λ found. (c : Cell) → IsCellOf (ended_lines log.now) start c
@@ -97,9 +97,9 @@ fn improve_begun<W: Watch>(
     watch: &mut W,
 ) -> Result<Improved, NotImproved>
     requires { IsBegun (ended_lines log.now) start begun }
-    ensures improved { IfOk result (IsImprovedTold (ended_lines log.now) begun.present
-        (W.told watch.old) (W.told watch.new)
-        (RoundsTold (rest_after (ended_lines log.now) begun.present) (λ b. may b) improvers.now rounds) start) }
+    ensures improved { IfOk result (IsImprovedReported (ended_lines log.now) begun.present
+        (W.reported watch.old) (W.reported watch.new)
+        (ReportedRounds (rest_after (ended_lines log.now) begun.present) (λ b. may b) improvers.now rounds) start) }
     ensures memory { IfErr result (λ refused. refused.fault ≡ Memory) }
     ensures handed_back { IfErr result (λ refused. refused.start ≡ start) }
 {
@@ -123,9 +123,9 @@ fn improve_from<W: Watch>(
     watch: &mut W,
 ) -> Result<Improved, (AllocError, Shaped)>
     requires { IsBegun (ended_lines log.now) start begun }
-    ensures improved { IfOk result (IsImprovedTold (ended_lines log.now) begun.present
-        (W.told watch.old) (W.told watch.new)
-        (RoundsTold (rest_after (ended_lines log.now) begun.present) (λ b. may b) improvers.now rounds) start) }
+    ensures improved { IfOk result (IsImprovedReported (ended_lines log.now) begun.present
+        (W.reported watch.old) (W.reported watch.new)
+        (ReportedRounds (rest_after (ended_lines log.now) begun.present) (λ b. may b) improvers.now rounds) start) }
     ensures handed_back { IfErr result (λ refused. IsReordered start refused.1) }
 {
     let Begun {

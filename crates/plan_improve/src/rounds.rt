@@ -3,9 +3,9 @@
 ghost use Rattle.std.specs.Prelude.{◌≡◌, Option, IfOk, IfErr, option_copied};
 ghost use Rattle.plan_seek.specs.Orders.{proposal_of};
 ghost use Rattle.plan_improve.specs.Reordered.{IsReordered};
-ghost use Rattle.plan_improve.specs.Watching.{told_bound};
-ghost use Rattle.plan_improve.specs.Runs.{AfterRound, RoundsTold};
-ghost use Rattle.plan_improve.specs.Keeping.{setting_of, rest_in, IsFixed, IsNextOf, IsLast, IsLastTold, Stands};
+ghost use Rattle.plan_improve.specs.Watching.{reported_bound};
+ghost use Rattle.plan_improve.specs.Runs.{AfterRound, ReportedRounds};
+ghost use Rattle.plan_improve.specs.Keeping.{setting_of, rest_in, IsFixed, IsNextOf, IsLast, IsLastReported, Stands};
 
 use crate::best::Best;
 use crate::fixed::Fixed;
@@ -29,8 +29,8 @@ pub(crate) fn ask_in_rounds<W: Watch>(
     requires stands { Stands (setting_of fixed.now) best.cell }
     requires cost { (setting_of fixed.now).costs best.cell.plan best.cost }
     requires fixed { IsFixed fixed.now best.cell.plan }
-    ensures last { IfOk result (IsLastTold (setting_of fixed.now) (W.told watch.old) (W.told watch.new)
-        (RoundsTold (setting_of fixed.now) (λ b. may b) improvers.now rounds) best.cell.plan best.cost) }
+    ensures last { IfOk result (IsLastReported (setting_of fixed.now) (W.reported watch.old) (W.reported watch.new)
+        (ReportedRounds (setting_of fixed.now) (λ b. may b) improvers.now rounds) best.cell.plan best.cost) }
     ensures handed_back { IfErr result (λ refused. IsReordered best.cell.plan refused.1) }
 {
     let at_least = fixed.at_least();
@@ -42,7 +42,7 @@ pub(crate) fn ask_in_rounds<W: Watch>(
             round,
             best.cost.late,
             best.cost.makespan,
-            bound_told(at_least),
+            bound_or_zero(at_least),
         );
         best = ask_each(alloc, best, fixed, improvers, round)?;
     }
@@ -50,8 +50,8 @@ pub(crate) fn ask_in_rounds<W: Watch>(
 }
 
 /// The bound that is told: 0 where none is known.
-fn bound_told(at_least: Option<Moment>) -> Moment
-    ensures { result ≡ told_bound at_least }
+fn bound_or_zero(at_least: Option<Moment>) -> Moment
+    ensures { result ≡ reported_bound at_least }
 {
     match at_least {
         Some(at_least) => at_least,

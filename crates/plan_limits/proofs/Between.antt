@@ -124,7 +124,7 @@ module _ (p : PlannedShop) (c : Cell) (shaped : IsWellShaped p) (sound : IsSound
       → ((j k : ℕ) → j < jobs p → made c j ≤ k → k ≤ steps p j → w (node j k) < 2 ^ 64) → AreFineMoments (stage_of p c t) w
   fine_moments t next cleaned small = record {
     next = next;
-    cleanings = λ m j l due visit ahead told. entry_after m (due * FINE) j l (as_visit m j l visit) ahead (λ i k stands. cleaned m i k due stands told);
+    cleanings = λ m j l due visit ahead going_on. entry_after m (due * FINE) j l (as_visit m j l visit) ahead (λ i k stands. cleaned m i k due stands going_on);
     routes = λ j k ahead within. keeps (node j k) (node j (k + 1)) _ ahead (job_arc j k within);
     machines = λ m i k j l apart one other here there. one_before m i k j l apart (as_visit m i k one) (as_visit m j l other) here there;
     holders = λ m i k j l one other on there. holder_before m i k j l (as_visit m i k one) (as_visit m j l other) on there;

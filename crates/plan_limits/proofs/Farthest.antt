@@ -17,7 +17,7 @@ use Rattle.shop_base.proofs.Keeping.{run-sound}
 use Rattle.plan_verifier.specs.Accepted.{HasNoCycle}
 use Rattle.plan_verifier.specs.CellBounds.{cleaned_at}
 use Rattle.plan_verifier.specs.Held.{later_than}
-use Rattle.plan_verifier.proofs.PathsAhead.{begun_at, begun_next, beginning_told, beginning_ahead, beginning_path}
+use Rattle.plan_verifier.proofs.PathsAhead.{begun_at, begun_next, beginning_in_table, beginning_ahead, beginning_path}
 use Rattle.plan_verifier.proofs.Tables.{later_is, later_above, later_other, cleaned_holds, holds_cleaned}
 use Rattle.plan_limits.specs.declared.fine.TheConstants.{FINE}
 use Rattle.plan_limits.specs.Stages.{Stage, stage_of, IsTimed}
@@ -36,7 +36,7 @@ module _ (p : PlannedShop) (c : Cell) (t : ℕ) (shaped : IsWellShaped p) (sound
   begun_later v later = rw (lt-ltb (made c v.job) v.place later) refl
 
   moment_path : (v : Node) → IsNode p v → IsAhead c v → PathAhead p c t (v ∷ []) v (moment v)
-  moment_path v is ahead = beginning_path p c t sound v (moment v) is (beginning_told p c t sound v is ∙ beginning_ahead p c t v ahead)
+  moment_path v is ahead = beginning_path p c t sound v (moment v) is (beginning_in_table p c t sound v is ∙ beginning_ahead p c t v ahead)
 
   -- the first moment of a node
   abbrev start : Node → ℕ
@@ -231,7 +231,7 @@ module _ (p : PlannedShop) (c : Cell) (t : ℕ) (shaped : IsWellShaped p) (sound
   module _ (timed : IsTimed (stage_of p c t)) where
     -- what goes on with a job is due in time
     due_small : (j due : ℕ) → j < jobs p → due_of_job p j (job_in c j) ≡ Some due → due ≤ MAX_MOMENT + MAX_RELEASE
-    due_small j due inside told = elim (job_due p c j due told) [
+    due_small j due inside comes_due = elim (job_due p c j due comes_due) [
       | inl awaited ↦ omega (arith, awaited.is_due, shaped.limits.releases j inside)
       | inr (m, (k, worked)) ↦ omega (arith, worked.is_due, sound.begun j, sound.last_in_range, (visits-sound p j k m shaped worked.on.visits).nominal)
     ]
@@ -243,19 +243,19 @@ module _ (p : PlannedShop) (c : Cell) (t : ℕ) (shaped : IsWellShaped p) (sound
           let next : made c v.job ≡ v.place = let here : made c v.job ≤ v.place = ahead in omega arith in
           elim (later_is t (due_of_job p v.job (job_in c v.job))) [
             | inl same ↦ omega (arith, begun_next p c t v next, same, timed.present)
-            | inr (due, told, same) ↦ omega (arith, begun_next p c t v next, same, due_small v.job due is.job told)
+            | inr (due, comes_due, same) ↦ omega (arith, begun_next p c t v next, same, due_small v.job due is.job comes_due)
           ])
     ]
 
     cleaned_small : (v : Node) (due : ℕ) → cleaned_at p c v ≡ Some due → due ≤ MAX_MOMENT + MAX_RELEASE
-    cleaned_small v due told =
-        let (m, going_on, holds) = cleaned_holds p c v due told in
+    cleaned_small v due comes_due =
+        let (m, going_on, holds) = cleaned_holds p c v due comes_due in
         omega (arith, going_on.1.is_due, timed.cleanings m going_on.0 going_on.1.is_cleaned, shaped.limits.cleanings m (visits_machine p v.job v.place m shaped holds.visits))
 
     start_small : (v : Node) → IsNode p v → IsAhead c v → start v ≤ (MAX_MOMENT + MAX_RELEASE) * FINE
     start_small v is ahead = elim (later_is (begun_at p c t v) (cleaned_at p c v)) [
       | inl same ↦ omega (arith, same, begun_small v is ahead)
-      | inr (due, told, same) ↦ omega (arith, same, cleaned_small v due told)
+      | inr (due, comes_due, same) ↦ omega (arith, same, cleaned_small v due comes_due)
     ]
 
     far_small : (n : ℕ) (v : Node) → IsNode p v → IsAhead c v → far n v ≤ (MAX_MOMENT + MAX_RELEASE) * FINE + n * ((MAX_NOMINAL + MAX_CLEAN) * FINE + 1)
@@ -277,8 +277,8 @@ module _ (p : PlannedShop) (c : Cell) (t : ℕ) (shaped : IsWellShaped p) (sound
     next_kept j inside here = omega (arith, start_far (number_count p) (next_node c j), begun_next p c t (next_node c j) refl, later_above (begun_at p c t (next_node c j)) (cleaned_at p c (next_node c j)))
 
     cleaned_kept : (m i k due : ℕ) → Stands p m (length (entries c m)) i k → due_of_cleaning p m (cleaning c m) ≡ Some due → due * FINE ≤ all (node i k)
-    cleaned_kept m i k due stands told =
-        let at : cleaned_at p c (node i k) ≡ Some due = holds_cleaned p c (node i k) due m (due_cleaning p c m due told) stands in
+    cleaned_kept m i k due stands comes_due =
+        let at : cleaned_at p c (node i k) ≡ Some due = holds_cleaned p c (node i k) due m (due_cleaning p c m due comes_due) stands in
         omega (arith, start_far (number_count p) (node i k), later_other (begun_at p c t (node i k)) due (cleaned_at p c (node i k)) at)
 
     all_fine : HasNoCycle p → AreFineMoments (stage_of p c t) all

@@ -230,9 +230,9 @@ module _ (p : PlannedShop) (s : ℕ) (kept : Node → ℕ) (lengths : AreLengths
   arcs_kept : (u v : Node) (d : ℕ) → Arc p u v d → kept u + longer s d ≤ kept v
   arcs_kept u v d arc = (lengths v (target_node p u v d arc)).arcs u d arc
 
-  pub late_told : AreReached p s kept → (o : Option ℕ) → MatchOption o (AreAllWithin p kept) (IsFirstOver p kept) → MatchOption o (HasLongerSchedule p s) (IsFirstPast p s)
-  late_told reached None within = (kept, record { releases = releases_kept; arcs = arcs_kept; budgets = within })
-  late_told reached (Some j) over = record {
+  pub late_exact : AreReached p s kept → (o : Option ℕ) → MatchOption o (AreAllWithin p kept) (IsFirstOver p kept) → MatchOption o (HasLongerSchedule p s) (IsFirstPast p s)
+  late_exact reached None within = (kept, record { releases = releases_kept; arcs = arcs_kept; budgets = within })
+  late_exact reached (Some j) over = record {
     past = record { job = over.job; nodes = (reached (leaving p j) there).0; length = kept (leaving p j); path = (reached (leaving p j) there).1; past = over.over };
     before = λ i less nodes n path. omega (arith, path_kept p s kept nodes (leaving p i) n releases_kept arcs_kept path, over.before i less);
   }

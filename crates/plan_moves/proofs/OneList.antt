@@ -124,7 +124,7 @@ module _ (p : PlannedShop) (t : ℕ) (shaped : IsWellShaped p) where
   one_run c rs qs es fs end last (accepted first r js rest_of gs stop step leads) other sound rest over past next others =
       orders_in-moved (step_orders p c r js) gs
       ∙ meets c qs fs last r js (orders_in gs) other past others sound rest step next.0
-      (λ ks hs later there. one_run (after_step p c r js) rest_of ks gs hs end last leads later (after_step-sound p c r js shaped sound step) step.rest over past
+      (λ ks hs later there. one_run (after_step p c r js) rest_of ks gs hs end last leads later (after_step-sound p c r js shaped sound step) step.quiescent over past
       (reports_later p (IsNextReport p t) (after_report c r) (at r) js gs next.1) there)
 
 pub one_list-holds : OneListOfMoves
@@ -139,7 +139,7 @@ one_list-holds p es t moves others shaped run one other =
     sound = run-sound p es shaped run
 
     movers_same : one.settled.movers ≡ other.settled.movers
-    movers_same = one_settling p c t one.settled.movers other.settled.movers one.settled.in_order other.settled.in_order one.settled.settles.rest other.settled.settles.rest
+    movers_same = one_settling p c t one.settled.movers other.settled.movers one.settled.in_order other.settled.in_order one.settled.settles.quiescent other.settled.settles.quiescent
 
     cell_same : other.rested ≡ one.rested
     cell_same = other.settled.leads ∙ ap (after_moves p c t) (sym movers_same) ∙ sym one.settled.leads
@@ -148,7 +148,7 @@ one_list-holds p es t moves others shaped run one other =
     sound_then = rw one.settled.leads (after_moves-sound p c t one.settled.movers shaped sound one.settled.settles.moves)
 
     rest_then : IsAtRest p one.rested
-    rest_then = rw one.settled.leads one.settled.settles.rest
+    rest_then = rw one.settled.leads one.settled.settles.quiescent
 
     orders_same : orders_in one.events ≡ orders_in other.events
     orders_same = one_run p t shaped one.rested one.reports other.reports one.events other.events one.end other.end one.leads (subst (λ (x : Cell). Leads p x other.reports other.events other.end) cell_same other.leads)

@@ -50,9 +50,9 @@ module _ (p : PlannedShop) (t : ℕ) (c : Cell) where
           earlier due other less after (inr on_time) = inr (λ a moment going. omega (arith, on_time a moment going))
 
   -- what is due after the present moment comes first where nothing is late by then
-  pub first_told : (due : ℕ) (late : Bool) → t < due → ((late ≡ false) ↔ IsOnTime p c due) → MatchBool (not late) (ComesFirst p t c due) (ComesFirst p t c due → ⊥)
-  first_told due false after on_time = inr (on_time.0 refl)
-  first_told due true after on_time = λ first. none first
+  pub first_exact : (due : ℕ) (late : Bool) → t < due → ((late ≡ false) ↔ IsOnTime p c due) → MatchBool (not late) (ComesFirst p t c due) (ComesFirst p t c due → ⊥)
+  first_exact due false after on_time = inr (on_time.0 refl)
+  first_exact due true after on_time = λ first. none first
     where
       none : ComesFirst p t c due → ⊥
       none (inl over) = absurd (omega arith)

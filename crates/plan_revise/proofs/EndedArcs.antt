@@ -12,7 +12,7 @@ use Rattle.plan_verifier.specs.Accepted.{HasNoCycle}
 use Rattle.plan_revise.specs.Fits.{IsFit}
 use Rattle.plan_revise.specs.Parts.{Ends}
 use Rattle.plan_revise.specs.Paths.{HasLonger}
-use Rattle.plan_revise.proofs.EndedParts.{IsTakenAt, IsLeft, order_cases, step_before, steps_few, visits_before, stands_before, stands_front, stands_back}
+use Rattle.plan_revise.proofs.EndedParts.{IsRemovedAt, IsLeft, order_cases, step_before, steps_few, visits_before, stands_before, stands_front, stands_back}
 use Rattle.alt_graph.proofs.ClosedWalks.{no_cycle_by_ways}
 
 -- arcs lead from u over two nodes of job j, behind its first n steps, to v, and the first and the last are each as long as the arc that joins them
@@ -32,7 +32,7 @@ module _ (p : PlannedShop) (j n : ℕ) (q : PlannedShop) (fit : IsFit p) (ends :
   arc_of : (u v : Node) (d e : ℕ) → e ≡ d → Arc p u v e → Arc p u v d
   arc_of u v d e same arc = subst (λ x. Arc p u v x) same arc
 
-  blocking : (m a i k l g : ℕ) → Stands q m a i k → Stands q m (a + 1) l g → IsLeft p j n q m ⊎ IsTakenAt p j n q m
+  blocking : (m a i k l g : ℕ) → Stands q m a i k → Stands q m (a + 1) l g → IsLeft p j n q m ⊎ IsRemovedAt p j n q m
       → Arc p (node i (k + 1)) (node l g) (clean q m) ⊎ IsJoined p j n (node i (k + 1)) (node l g) (clean q m)
   blocking m a i k l g one other (inl left) =
       inl (arc_of (node i (k + 1)) (node l g) (clean q m) (clean p m) (sym (ends.cleans m))
@@ -86,7 +86,7 @@ module _ (p : PlannedShop) (j n : ℕ) (q : PlannedShop) (fit : IsFit p) (ends :
     on_before : (i k m : ℕ) → IsOn q c i k m → IsOn p c i k m
     on_before i k m on = record { entered = on.entered; visits = visits_before p j n q fit ends i k m on.visits }
 
-    held_by : (m due : ℕ) (v : Node) → GoesOn q c (Cleaning m) due → HoldsUp q c (Cleaning m) v → IsLeft p j n q m ⊎ IsTakenAt p j n q m → HasLonger p c t v due
+    held_by : (m due : ℕ) (v : Node) → GoesOn q c (Cleaning m) due → HoldsUp q c (Cleaning m) v → IsLeft p j n q m ⊎ IsRemovedAt p j n q m → HasLonger p c t v due
     held_by m due v (from, goes) holds cases = go cases
       where
         before : GoesOn p c (Cleaning m) due
@@ -95,19 +95,19 @@ module _ (p : PlannedShop) (j n : ℕ) (q : PlannedShop) (fit : IsFit p) (ends :
         straight : Stands p m (length (entries c m)) v.job v.place → HasLonger p c t v due
         straight stands = record { nodes = v ∷ []; size = due; path = held (Cleaning m) due v before stands; longer = omega arith }
 
-        go : IsLeft p j n q m ⊎ IsTakenAt p j n q m → HasLonger p c t v due
+        go : IsLeft p j n q m ⊎ IsRemovedAt p j n q m → HasLonger p c t v due
         go (inl left) = straight (stands_before p j n q fit ends m (length (entries c m)) v.job v.place holds left)
-        go (inr taken) = elim (cases_eq (length (entries c m)) taken.place) [
-          | inr other ↦ straight (stands_front p j n q fit ends m (length (entries c m)) v.job v.place holds taken (omega (arith, unentered m taken.place taken.step taken.behind taken.stands, other)))
+        go (inr removed) = elim (cases_eq (length (entries c m)) removed.place) [
+          | inr other ↦ straight (stands_front p j n q fit ends m (length (entries c m)) v.job v.place holds removed (omega (arith, unentered m removed.place removed.step removed.behind removed.stands, other)))
           | inl at ↦ record {
-            nodes = (node j taken.step ∷ [] ++ node j (taken.step + 1) ∷ []) ++ v ∷ [];
-            size = due + nominal p j taken.step + clean p m;
-            path = onward (node j taken.step ∷ [] ++ node j (taken.step + 1) ∷ []) (node j (taken.step + 1)) v (due + nominal p j taken.step) (clean p m)
-                (onward (node j taken.step ∷ []) (node j taken.step) (node j (taken.step + 1)) due (nominal p j taken.step)
-                (held (Cleaning m) due (node j taken.step) before (subst (λ b. Stands p m b j taken.step) (sym at) taken.stands))
-                (job_arc j taken.step taken.stands.visits.within))
-                (blocking_arc m taken.place j taken.step v.job v.place taken.stands
-                (subst (λ b. Stands p m (b + 1) v.job v.place) at (stands_back p j n q fit ends m (length (entries c m)) v.job v.place holds taken (omega arith))));
+            nodes = (node j removed.step ∷ [] ++ node j (removed.step + 1) ∷ []) ++ v ∷ [];
+            size = due + nominal p j removed.step + clean p m;
+            path = onward (node j removed.step ∷ [] ++ node j (removed.step + 1) ∷ []) (node j (removed.step + 1)) v (due + nominal p j removed.step) (clean p m)
+                (onward (node j removed.step ∷ []) (node j removed.step) (node j (removed.step + 1)) due (nominal p j removed.step)
+                (held (Cleaning m) due (node j removed.step) before (subst (λ b. Stands p m b j removed.step) (sym at) removed.stands))
+                (job_arc j removed.step removed.stands.visits.within))
+                (blocking_arc m removed.place j removed.step v.job v.place removed.stands
+                (subst (λ b. Stands p m (b + 1) v.job v.place) at (stands_back p j n q fit ends m (length (entries c m)) v.job v.place holds removed (omega arith))));
             longer = omega arith;
           }
         ]

@@ -10,7 +10,7 @@ use Rattle.plan_revise.specs.Promises.{no_promise}
 use Rattle.plan_revise.specs.Ended.{ended}
 use Rattle.plan_revise.specs.Fits.{IsFit}
 use Rattle.plan_revise.specs.Parts.{IsBehind, IsOnRoute, Ends}
-use Rattle.plan_revise.proofs.Places.{IsTaken, without_taken, taken_once, AreApart, changed-length, changed-off, changed-on}
+use Rattle.plan_revise.proofs.Places.{IsRemoved, without_removed, removed_once, AreApart, changed-length, changed-off, changed-on}
 use Rattle.plan_revise.proofs.Fitting.{fit-machine, fit-once, fit-stands, fit-order_once, behind_or_not}
 
 -- a step of the rest of a route
@@ -60,12 +60,12 @@ ended-ends p j n fit inside = record {
 -- ---- reading the plan that is left
 
 -- job j stands at place x of the order of machine m for its step k, behind its first n, and is taken out there
-pub record IsTakenAt (p : PlannedShop) (j n : ℕ) (q : PlannedShop) (m : ℕ) : Type 0 where
+pub record IsRemovedAt (p : PlannedShop) (j n : ℕ) (q : PlannedShop) (m : ℕ) : Type 0 where
   pub place : ℕ
   pub step : ℕ
   pub behind : n ≤ step
   pub stands : Stands p m place j step
-  pub taken : IsTaken j (order p m) place (order q m)
+  pub removed : IsRemoved j (order p m) place (order q m)
 
 -- the order of machine m is as it was, or job j is taken out of it
 pub record IsLeft (p : PlannedShop) (j n : ℕ) (q : PlannedShop) (m : ℕ) : Type 0 where
@@ -73,20 +73,20 @@ pub record IsLeft (p : PlannedShop) (j n : ℕ) (q : PlannedShop) (m : ℕ) : Ty
   pub same : order q m ≡ order p m
 
 module _ (p : PlannedShop) (j n : ℕ) (q : PlannedShop) (fit : IsFit p) (ends : Ends p j n q) where
-  pub order_cases : (m : ℕ) → IsLeft p j n q m ⊎ IsTakenAt p j n q m
+  pub order_cases : (m : ℕ) → IsLeft p j n q m ⊎ IsRemovedAt p j n q m
   order_cases m = elim (behind_or_not p j n m) [
     | inl behind ↦ inr (at behind.0 behind.1 behind.2 (fit-stands p fit j behind.0 m behind.2))
     | inr off ↦ inl (record { not_behind = off; same = ends.elsewhere m off })
   ]
     where
-      at : (k : ℕ) → n ≤ k → Visits p j k m → (a : ℕ) × Stands p m a j k → IsTakenAt p j n q m
+      at : (k : ℕ) → n ≤ k → Visits p j k m → (a : ℕ) × Stands p m a j k → IsRemovedAt p j n q m
       at k more visits (a, stands) = record {
         place = a;
         step = k;
         behind = more;
         stands = stands;
-        taken = subst (λ (ys : List ℕ). IsTaken j (order p m) a ys) (sym (ends.behind m (k, more, visits)))
-            (without_taken j (order p m) a (fit-order_once p fit m (fit-machine p fit j k m visits)) stands.within stands.job);
+        removed = subst (λ (ys : List ℕ). IsRemoved j (order p m) a ys) (sym (ends.behind m (k, more, visits)))
+            (without_removed j (order p m) a (fit-order_once p fit m (fit-machine p fit j k m visits)) stands.within stands.job);
       }
 
   -- a step of the plan that is left is one of before
@@ -136,17 +136,17 @@ module _ (p : PlannedShop) (j n : ℕ) (q : PlannedShop) (fit : IsFit p) (ends :
     visits = visits_before i k m stands.visits;
   }
 
-  pub stands_front : (m a i k : ℕ) → Stands q m a i k → (t : IsTakenAt p j n q m) → a < t.place → Stands p m a i k
+  pub stands_front : (m a i k : ℕ) → Stands q m a i k → (t : IsRemovedAt p j n q m) → a < t.place → Stands p m a i k
   stands_front m a i k stands t less = record {
-    within = omega (arith, t.taken.size, stands.within);
-    job = sym (t.taken.before a less) ∙ stands.job;
+    within = omega (arith, t.removed.size, stands.within);
+    job = sym (t.removed.before a less) ∙ stands.job;
     visits = visits_before i k m stands.visits;
   }
 
-  pub stands_back : (m a i k : ℕ) → Stands q m a i k → (t : IsTakenAt p j n q m) → t.place ≤ a → Stands p m (a + 1) i k
+  pub stands_back : (m a i k : ℕ) → Stands q m a i k → (t : IsRemovedAt p j n q m) → t.place ≤ a → Stands p m (a + 1) i k
   stands_back m a i k stands t more = record {
-    within = omega (arith, t.taken.size, stands.within);
-    job = sym (t.taken.after a more) ∙ stands.job;
+    within = omega (arith, t.removed.size, stands.within);
+    job = sym (t.removed.after a more) ∙ stands.job;
     visits = visits_before i k m stands.visits;
   }
 
@@ -184,7 +184,7 @@ module _ (p : PlannedShop) (j n : ℕ) (fit : IsFit p) (inside : j < jobs p) whe
       old : IsOrder p m
       old = fit.orders m here
 
-      go : IsLeft p j n (ended p j n) m ⊎ IsTakenAt p j n (ended p j n) m → IsOrder (ended p j n) m
+      go : IsLeft p j n (ended p j n) m ⊎ IsRemovedAt p j n (ended p j n) m → IsOrder (ended p j n) m
       go (inl l) = record {
         on_route = on_route;
         once = λ a b one other same. old.once a b (omega (arith, ap length l.same)) (omega (arith, ap length l.same)) (sym (at a) ∙ same ∙ at b);
@@ -214,7 +214,7 @@ module _ (p : PlannedShop) (j n : ℕ) (fit : IsFit p) (inside : j < jobs p) whe
               (found.0, record { within = omega (arith, ap length l.same, found.1.within); job = at found.0 ∙ found.1.job; visits = visits })
       go (inr t) = record {
         on_route = on_route;
-        once = taken_once j (order p m) t.place (order (ended p j n) m) old.once t.taken;
+        once = removed_once j (order p m) t.place (order (ended p j n) m) old.once t.removed;
         complete = complete;
       }
         where
@@ -228,8 +228,8 @@ module _ (p : PlannedShop) (j n : ℕ) (fit : IsFit p) (inside : j < jobs p) whe
 
           on_route : (a : ℕ) → a < length (order (ended p j n) m) → (k : ℕ) × Visits (ended p j n) (job_at (ended p j n) m a) k m
           on_route a within = elim (cases_lt a t.place) [
-            | inl less ↦ came a a (omega (arith, t.taken.size)) (omega arith) (t.taken.before a less)
-            | inr more ↦ came a (a + 1) (omega (arith, t.taken.size)) (omega arith) (t.taken.after a more)
+            | inl less ↦ came a a (omega (arith, t.removed.size)) (omega arith) (t.removed.before a less)
+            | inr more ↦ came a (a + 1) (omega (arith, t.removed.size)) (omega arith) (t.removed.after a more)
           ]
 
           complete : (i k : ℕ) → Visits (ended p j n) i k m → (a : ℕ) × Stands (ended p j n) m a i k
@@ -250,13 +250,13 @@ module _ (p : PlannedShop) (j n : ℕ) (fit : IsFit p) (inside : j < jobs p) whe
                   apart same = not_mine (sym stands.job ∙ ap (job_at p m) same ∙ t.stands.job)
 
                   place : (b < t.place) ⊎ (t.place ≤ b) → (a : ℕ) × Stands (ended p j n) m a i k
-                  place (inl less) = (b, record { within = omega (arith, t.taken.size, t.taken.within); job = t.taken.before b less ∙ stands.job; visits = visits })
+                  place (inl less) = (b, record { within = omega (arith, t.removed.size, t.removed.within); job = t.removed.before b less ∙ stands.job; visits = visits })
                   place (inr more) =
                       let back : (b - 1) + 1 ≡ b = omega (arith, apart) in (
                         b - 1,
                         record {
-                          within = omega (arith, t.taken.size, stands.within, apart);
-                          job = t.taken.after (b - 1) (omega (arith, apart)) ∙ ap (job_at p m) back ∙ stands.job;
+                          within = omega (arith, t.removed.size, stands.within, apart);
+                          job = t.removed.after (b - 1) (omega (arith, apart)) ∙ ap (job_at p m) back ∙ stands.job;
                           visits = visits;
                         },
                       )

@@ -12,7 +12,7 @@ abbrev pub AreOnce : List ℕ → Type 0
 AreOnce xs = (a b : ℕ) → a < length xs → b < length xs → get_or xs a 0 ≡ get_or xs b 0 → a ≡ b
 
 -- the entry at place x, which is j, is taken out, and those behind it move up
-pub record IsTaken (j : ℕ) (xs : List ℕ) (x : ℕ) (ys : List ℕ) : Type 0 where
+pub record IsRemoved (j : ℕ) (xs : List ℕ) (x : ℕ) (ys : List ℕ) : Type 0 where
   pub size : length xs ≡ length ys + 1
   pub within : x < length xs
   pub here : get_or xs x 0 ≡ j
@@ -34,8 +34,8 @@ without_none j (y ∷ ys) none =
 once_tail : (y : ℕ) (ys : List ℕ) → AreOnce (y ∷ ys) → AreOnce ys
 once_tail y ys once a b one other same = omega (arith, once (suc a) (suc b) (omega arith) (omega arith) same)
 
-taken_first : (j y : ℕ) (ys : List ℕ) → AreOnce (y ∷ ys) → y ≡ j → IsTaken j (y ∷ ys) 0 ys
-taken_first j y ys once same = record {
+removed_first : (j y : ℕ) (ys : List ℕ) → AreOnce (y ∷ ys) → y ≡ j → IsRemoved j (y ∷ ys) 0 ys
+removed_first j y ys once same = record {
   size = omega arith;
   within = omega arith;
   here = same;
@@ -43,8 +43,8 @@ taken_first j y ys once same = record {
   after = λ a more. rw add-one refl;
 }
 
-taken_later : (j y : ℕ) (ys zs : List ℕ) (x : ℕ) → IsTaken j ys x zs → IsTaken j (y ∷ ys) (suc x) (y ∷ zs)
-taken_later j y ys zs x t = record {
+removed_later : (j y : ℕ) (ys zs : List ℕ) (x : ℕ) → IsRemoved j ys x zs → IsRemoved j (y ∷ ys) (suc x) (y ∷ zs)
+removed_later j y ys zs x t = record {
   size = omega (arith, t.size);
   within = omega (arith, t.within);
   here = t.here;
@@ -61,18 +61,18 @@ taken_later j y ys zs x t = record {
     after (suc a) more = rw (add-one (suc a)) (t.after a (omega arith) ∙ ap (λ b. get_or ys b 0) (add-one a))
 
 -- the entry at a place, taken out
-pub without_taken : (j : ℕ) (xs : List ℕ) (x : ℕ) → AreOnce xs → x < length xs → get_or xs x 0 ≡ j → IsTaken j xs x (without j xs)
-without_taken j [] x once within here = absurd (omega arith)
-without_taken j (y ∷ ys) zero once within here =
+pub without_removed : (j : ℕ) (xs : List ℕ) (x : ℕ) → AreOnce xs → x < length xs → get_or xs x 0 ≡ j → IsRemoved j xs x (without j xs)
+without_removed j [] x once within here = absurd (omega arith)
+without_removed j (y ∷ ys) zero once within here =
     let none : without j ys ≡ ys = without_none j ys (λ a less same. omega (arith, once 0 (suc a) (omega arith) (omega arith) (here ∙ sym same))) in
-    rw (without_same j y ys here, none) (taken_first j y ys once here)
-without_taken j (y ∷ ys) (suc x) once within here =
+    rw (without_same j y ys here, none) (removed_first j y ys once here)
+without_removed j (y ∷ ys) (suc x) once within here =
     let other : y ≢ j = λ same. omega (arith, once 0 (suc x) (omega arith) (omega arith) (same ∙ sym here)) in
-    rw (without_other j y ys other) (taken_later j y ys (without j ys) x (without_taken j ys x (once_tail y ys once) (omega arith) here))
+    rw (without_other j y ys other) (removed_later j y ys (without j ys) x (without_removed j ys x (once_tail y ys once) (omega arith) here))
 
 -- what is left is each once
-pub taken_once : (j : ℕ) (xs : List ℕ) (x : ℕ) (ys : List ℕ) → AreOnce xs → IsTaken j xs x ys → AreOnce ys
-taken_once j xs x ys once t a b one other same = go (cases_lt a x) (cases_lt b x)
+pub removed_once : (j : ℕ) (xs : List ℕ) (x : ℕ) (ys : List ℕ) → AreOnce xs → IsRemoved j xs x ys → AreOnce ys
+removed_once j xs x ys once t a b one other same = go (cases_lt a x) (cases_lt b x)
   where
     go : (a < x) ⊎ (x ≤ a) → (b < x) ⊎ (x ≤ b) → a ≡ b
     go (inl p) (inl q) = once a b (omega (arith, t.size)) (omega (arith, t.size)) (sym (t.before a p) ∙ same ∙ t.before b q)

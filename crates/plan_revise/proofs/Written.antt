@@ -20,7 +20,7 @@ use Rattle.plan_revise.specs.declared.not_revised.NotRevised.{NotRevised}
 use Rattle.plan_revise.specs.declared.not_revised.NotRevised.TheVariants.{Refused, Memory as NoMemory}
 use Rattle.plan_revise.specs.declared.refusal.Refusal.{Refusal}
 use Rattle.plan_revise.specs.declared.refusal.Refusal.TheVariants.{Fault, Memory}
-use Rattle.plan_revise.specs.Orders.{changed_at, taken_out, put_last}
+use Rattle.plan_revise.specs.Orders.{changed_at, removed, put_last}
 use Rattle.plan_revise.specs.Promises.{no_promise}
 use Rattle.plan_revise.specs.Ended.{ended}
 use Rattle.plan_revise.specs.Placed.{placed}
@@ -31,7 +31,7 @@ use Rattle.plan_revise.specs.Revised.{AreMade, IsRevised, IsReason}
 use Rattle.plan_revise.specs.Settings.{Setting, setting, IsAtWork}
 use Rattle.plan_revise.specs.Stopped.{place_on}
 use Rattle.plan_revise.specs.Fits.{IsSetting}
-use Rattle.plan_revise.specs.Answers.{Tells, TellsFirst, told_at}
+use Rattle.plan_revise.specs.Answers.{UnlessMemory, ParsesFirst, refused_at}
 
 differ : false ≡ true → ⊥
 differ e = cc
@@ -59,7 +59,7 @@ changed_step f steps rows i m old new total within here inside read written so_f
     ∙ sym (ap (λ (ss : List Step). changed_at f ss (lists_of rows)) (drop-cons steps i no_step within))
     ∙ so_far
 
-pub draft_ended : (p : PlannedShop) (j n : ℕ) (routes : List (List Step)) (orders : List (List ℕ)) → routes ≡ set p.shop.routes j (take n (route p j)) → orders ≡ taken_out j (drop n (route p j)) p.plan.order
+pub draft_ended : (p : PlannedShop) (j n : ℕ) (routes : List (List Step)) (orders : List (List ℕ)) → routes ≡ set p.shop.routes j (take n (route p j)) → orders ≡ removed j (drop n (route p j)) p.plan.order
     → record p { shop = record p.shop { routes = routes }; plan = record p.plan { budget = set p.plan.budget j no_promise; order = orders } } ≡ ended p j n
 draft_ended p j n routes orders cut out = rw (cut, out) refl
 
@@ -96,10 +96,10 @@ not_on m r none k within here = go (cases_lt (position_or_len (λ (step : Step).
     go (inr all) = none_pass (λ (step : Step). eqb step.machine m) r no_step all k within (eq-eqb (step_at r k).machine m here)
 
 -- what is told of one kind is of another
-pub tells_more : {X : Type 0} (One Other : ChangeFault → Type 0) → ((fault : ChangeFault) → One fault → Other fault) → (answer : Result X Refusal) → IfErr answer (Tells One) → IfErr answer (Tells Other)
-tells_more One Other more (Ok x) told = tt
-tells_more One Other more (Err (Fault fault)) told = more fault told
-tells_more One Other more (Err Memory) told = tt
+pub reason_more : {X : Type 0} (One Other : ChangeFault → Type 0) → ((fault : ChangeFault) → One fault → Other fault) → (answer : Result X Refusal) → IfErr answer (UnlessMemory One) → IfErr answer (UnlessMemory Other)
+reason_more One Other more (Ok x) why = tt
+reason_more One Other more (Err (Fault fault)) why = more fault why
+reason_more One Other more (Err Memory) why = tt
 
 -- a job in an order is of the shop
 pub listed_job : (p : PlannedShop) (m a : ℕ) → IsWellShaped p → m < machines p → a < length (order p m) → job_at p m a < jobs p
@@ -160,13 +160,13 @@ pub changes_more : (s : Setting) (p : PlannedShop) (changes : List Change) (n : 
 changes_more s p changes n q r change there made one = subst (λ k. AreMade s p (take k changes) r) (sym (add-one n)) (made_more s p changes n q r change there made one)
 
 -- the refusal of a change is told at its place
-pub tells_first : (s : Setting) (p : PlannedShop) (changes : List Change) (n : ℕ) (q : PlannedShop) (change : Change) (refusal : Refusal) → slice_get changes n ≡ Some change → AreMade s p (take n changes) q → Tells (IsRefused s q change) refusal
-    → TellsFirst s p changes (told_at n refusal)
-tells_first s p changes n q change (Fault fault) there made refused = record { reached = q; before = made; change = change; there = there; refused = refused }
-tells_first s p changes n q change Memory there made refused = tt
+pub first_reason_at : (s : Setting) (p : PlannedShop) (changes : List Change) (n : ℕ) (q : PlannedShop) (change : Change) (refusal : Refusal) → slice_get changes n ≡ Some change → AreMade s p (take n changes) q → UnlessMemory (IsRefused s q change) refusal
+    → ParsesFirst s p changes (refused_at n refusal)
+first_reason_at s p changes n q change (Fault fault) there made refused = record { reached = q; before = made; change = change; there = there; refused = refused }
+first_reason_at s p changes n q change Memory there made refused = tt
 
 -- what is told first of the changes that are given
-pub first_reason : (p : PlannedShop) (c : Cell) (t : ℕ) (changes : List Change) (plant : ℕ) (answer : NotRevised) → IsPlant p plant → TellsFirst (setting p c t plant) p changes answer → IsReason p c t changes answer
+pub first_reason : (p : PlannedShop) (c : Cell) (t : ℕ) (changes : List Change) (plant : ℕ) (answer : NotRevised) → IsPlant p plant → ParsesFirst (setting p c t plant) p changes answer → IsReason p c t changes answer
 first_reason p c t changes plant (Refused n fault) is_plant first = record { plant = plant; is_plant = is_plant; first = first }
 first_reason p c t changes plant NoMemory is_plant first = tt
 
@@ -184,10 +184,10 @@ module _ (run : Setting) (p : PlannedShop) (c : Cell) (t : ℕ) (changes : List 
   }
   revised_answer (Err answer) made = tt
 
-  pub refused_answer : (answer : Result PlannedShop NotRevised) → IfErr answer (TellsFirst run draft changes) → IfErr answer (IsReason p c t changes)
-  refused_answer (Ok q) told = tt
-  refused_answer (Err answer) told = first_reason p c t changes run.plant answer plant_of
-      (subst (λ (x : PlannedShop). TellsFirst (setting p c t run.plant) x changes answer) same (subst (λ (s : Setting). TellsFirst s draft changes answer) is told))
+  pub refused_answer : (answer : Result PlannedShop NotRevised) → IfErr answer (ParsesFirst run draft changes) → IfErr answer (IsReason p c t changes)
+  refused_answer (Ok q) why = tt
+  refused_answer (Err answer) why = first_reason p c t changes run.plant answer plant_of
+      (subst (λ (x : PlannedShop). ParsesFirst (setting p c t run.plant) x changes answer) same (subst (λ (s : Setting). ParsesFirst s draft changes answer) is why))
 
   pub draft_given : run.given ≡ draft
   draft_given = ap (λ (s : Setting). s.given) is ∙ sym same

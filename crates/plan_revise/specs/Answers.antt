@@ -16,9 +16,9 @@ use Rattle.plan_revise.specs.Settings.{Setting, moves_made, IsAtWork}
 use Rattle.plan_revise.specs.Aside.{HasRoom}
 
 -- the fault that is told, unless memory ran out, is one of these
-abbrev pub Tells : (ChangeFault → Type 0) → Refusal → Type 0
-Tells Is (Fault fault) = Is fault
-Tells Is Memory = Unit {0}
+abbrev pub UnlessMemory : (ChangeFault → Type 0) → Refusal → Type 0
+UnlessMemory Is (Fault fault) = Is fault
+UnlessMemory Is Memory = Unit {0}
 
 -- job j is outside, and there is no room for a machine more
 abbrev pub IsNoRoom : Setting → PlannedShop → ℕ → ChangeFault → Type 0
@@ -40,11 +40,11 @@ pub record AreFitFor (s : Setting) (p : PlannedShop) (steps : List Step) (releas
   pub budget_in_range : budget ≤ MAX_MOMENT
 
 -- what is told of a refusal of the change at place n
-abbrev pub told_at : ℕ → Refusal → NotRevised
-told_at n (Fault fault) = Refused n fault
-told_at n Memory = NoMemory
+abbrev pub refused_at : ℕ → Refusal → NotRevised
+refused_at n (Fault fault) = Refused n fault
+refused_at n Memory = NoMemory
 
 -- the answer tells the first of the changes that can't be, unless memory ran out
-abbrev pub TellsFirst : Setting → PlannedShop → List Change → NotRevised → Type 0
-TellsFirst s p changes (Refused n fault) = IsFirstRefused s p changes n fault
-TellsFirst s p changes NoMemory = Unit {0}
+abbrev pub ParsesFirst : Setting → PlannedShop → List Change → NotRevised → Type 0
+ParsesFirst s p changes (Refused n fault) = IsFirstRefused s p changes n fault
+ParsesFirst s p changes NoMemory = Unit {0}

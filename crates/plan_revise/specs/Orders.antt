@@ -16,8 +16,8 @@ changed_at f [] orders = orders
 changed_at f (step ∷ steps) orders = changed_at f steps (slice_set orders step.machine (f (slice_index_or orders step.machine [])))
 
 -- the orders, with job j taken out of those of the machines of these steps
-abbrev pub taken_out : ℕ → List Step → List (List ℕ) → List (List ℕ)
-taken_out j steps orders = changed_at (without j) steps orders
+abbrev pub removed : ℕ → List Step → List (List ℕ) → List (List ℕ)
+removed j steps orders = changed_at (without j) steps orders
 
 -- the orders, with job j last in those of the machines of these steps
 abbrev pub put_last : ℕ → List Step → List (List ℕ) → List (List ℕ)

@@ -9,7 +9,7 @@ ghost use Rattle.plan_revise.specs.Placed.{added};
 ghost use Rattle.plan_revise.specs.Changes.{IsAdded, given_or};
 ghost use Rattle.plan_revise.specs.Refusals.{IsAddFault, IsStepsFault, IsLineFault};
 ghost use Rattle.plan_revise.specs.Fits.{IsFit, IsRevision};
-ghost use Rattle.plan_revise.specs.Answers.{Tells, AreFitFor};
+ghost use Rattle.plan_revise.specs.Answers.{UnlessMemory, AreFitFor};
 
 use crate::change_fault::ChangeFault;
 use crate::checking::check_route;
@@ -34,7 +34,7 @@ impl Draft {
     ) -> Result<(), Refusal>
         requires { IsRevision run.now self.old }
         ensures added { OnOk result (IsAdded run.now self.old words.now release budget self.new) }
-        ensures refused { IfErr result (Tells (IsAddFault run.now self.old words.now release budget)) }
+        ensures refused { IfErr result (UnlessMemory (IsAddFault run.now self.old words.now release budget)) }
     {
         let steps = steps_of(alloc, words)?;
         let release = given_or(release, run.present());
@@ -92,7 +92,7 @@ impl Draft {
 /// The steps that the words say.
 fn steps_of(alloc: Global, words: &[u8]) -> Result<Vec<Step>, Refusal>
     ensures steps { IfOk result (λ steps. IsJobLine (first_line words.now) steps.items) }
-    ensures fault { IfErr result (Tells (IsLineFault words.now)) }
+    ensures fault { IfErr result (UnlessMemory (IsLineFault words.now)) }
 {
     match read_route(alloc, words) {
         Ok(steps) => Ok(steps),

@@ -4,7 +4,7 @@ ghost use Rattle.std.specs.Prelude.{◌≡◌, OnOk, IfErr};
 ghost use Rattle.plan_revise.specs.Changes.{Becomes, IsProlonged, IsScrapped, IsWithout};
 ghost use Rattle.plan_revise.specs.Refusals.{IsRefused, IsUntilFault, IsScrapFault, IsDownFault};
 ghost use Rattle.plan_revise.specs.Fits.{IsRevision};
-ghost use Rattle.plan_revise.specs.Answers.{Tells};
+ghost use Rattle.plan_revise.specs.Answers.{UnlessMemory};
 
 use crate::change::Change;
 use crate::change_fault::ChangeFault;
@@ -25,7 +25,7 @@ impl Draft {
     ) -> Result<(), Refusal>
         requires { IsRevision run.now self.old }
         ensures made { OnOk result (Becomes run.now self.old change.entry self.new) }
-        ensures refused { IfErr result (Tells (IsRefused run.now self.old change.entry)) }
+        ensures refused { IfErr result (UnlessMemory (IsRefused run.now self.old change.entry)) }
     {
         match change {
             Change::Until { machine, to } => self.prolong(run, machine, to),
@@ -48,7 +48,7 @@ impl Draft {
     ) -> Result<(), Refusal>
         requires { IsRevision run.now self.old }
         ensures made { OnOk result (IsProlonged run.now self.old machine to self.new) }
-        ensures refused { IfErr result (Tells (IsUntilFault run.now self.old machine to)) }
+        ensures refused { IfErr result (UnlessMemory (IsUntilFault run.now self.old machine to)) }
     {
         if machine >= run.plant() {
             return Err(Refusal::Fault(ChangeFault::MachineOutOfRange));
@@ -76,7 +76,7 @@ impl Draft {
     ) -> Result<(), Refusal>
         requires { IsRevision run.now self.old }
         ensures made { OnOk result (IsScrapped run.now self.old job self.new) }
-        ensures refused { IfErr result (Tells (IsScrapFault run.now self.old job)) }
+        ensures refused { IfErr result (UnlessMemory (IsScrapFault run.now self.old job)) }
     {
         if job as usize >= self.routes.len() {
             return Err(Refusal::Fault(ChangeFault::JobOutOfRange));
@@ -97,7 +97,7 @@ impl Draft {
     ) -> Result<(), Refusal>
         requires { IsRevision run.now self.old }
         ensures made { OnOk result (IsWithout run.now self.old machine self.new) }
-        ensures refused { IfErr result (Tells (IsDownFault run.now self.old machine)) }
+        ensures refused { IfErr result (UnlessMemory (IsDownFault run.now self.old machine)) }
     {
         if machine >= run.plant() {
             return Err(Refusal::Fault(ChangeFault::MachineOutOfRange));

@@ -3,7 +3,7 @@
 ghost use Rattle.std.specs.Prelude.{◌≡◌, ℕ, ◌<◌, OnOk, length};
 ghost use Rattle.shop_base.specs.Shop.{step_at};
 ghost use Rattle.shop_base.specs.Vectors.{lists_of};
-ghost use Rattle.plan_revise.specs.Orders.{without, taken_out, put_last};
+ghost use Rattle.plan_revise.specs.Orders.{without, removed, put_last};
 
 use shop_base::{JobNo, Step};
 use std::alloc::AllocError;
@@ -11,7 +11,7 @@ use std::alloc::AllocError;
 /// Takes the job out of the orders of the machines of these steps.
 pub(crate) fn take_out(orders: &mut Vec<Vec<JobNo>>, job: JobNo, steps: &[Step])
     requires { (k : ℕ) → k < length steps.now → (step_at steps.now k).machine < length orders.old.items }
-    ensures { lists_of orders.new.items ≡ taken_out job steps.now (lists_of orders.old.items) }
+    ensures { lists_of orders.new.items ≡ removed job steps.now (lists_of orders.old.items) }
 {
     for step in steps {
         take_out_of(&mut orders[step.machine as usize], job);

@@ -3,7 +3,7 @@
 ghost use Rattle.std.specs.Prelude.{◌≡◌, ◌<◌, ◌≤◌, IfOk, OnOk, IfErr, length, slice_get, Some};
 ghost use Rattle.plan_revise.specs.Revised.{AreMade, IsRevised, IsReason};
 ghost use Rattle.plan_revise.specs.Fits.{IsRevision};
-ghost use Rattle.plan_revise.specs.Answers.{told_at, TellsFirst};
+ghost use Rattle.plan_revise.specs.Answers.{refused_at, ParsesFirst};
 
 use crate::change::Change;
 use crate::draft::Draft;
@@ -47,7 +47,7 @@ impl Draft {
     ) -> Result<Shaped, NotRevised>
         requires { IsRevision run.now self }
         ensures revised { IfOk result (AreMade run.now self changes.now) }
-        ensures refused { IfErr result (TellsFirst run.now self changes.now) }
+        ensures refused { IfErr result (ParsesFirst run.now self changes.now) }
     {
         let mut draft = self;
         match draft.make_all(alloc, run, changes) {
@@ -66,7 +66,7 @@ impl Draft {
         requires { IsRevision run.now self.old }
         ensures made { OnOk result (AreMade run.now self.old changes.now self.new) }
         ensures revision { OnOk result (IsRevision run.now self.new) }
-        ensures refused { IfErr result (TellsFirst run.now self.old changes.now) }
+        ensures refused { IfErr result (ParsesFirst run.now self.old changes.now) }
     {
         // Called for its clause alone: what changes are judged by is sound.
         let _plant = run.plant();
@@ -74,7 +74,7 @@ impl Draft {
             let change = change_at(changes, place);
             match self.make(alloc, run, change) {
                 Ok(()) => {}
-                Err(refusal) => return Err(told_at(place, refusal)),
+                Err(refusal) => return Err(refused_at(place, refusal)),
             }
         }
         Ok(())
@@ -82,8 +82,8 @@ impl Draft {
 }
 
 /// What is told of a refusal of the change at this place.
-fn told_at(place: usize, refusal: Refusal) -> NotRevised
-    ensures { result ≡ told_at place refusal }
+fn refused_at(place: usize, refusal: Refusal) -> NotRevised
+    ensures { result ≡ refused_at place refusal }
 {
     match refusal {
         Refusal::Fault(fault) => NotRevised::Refused {

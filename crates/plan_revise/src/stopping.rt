@@ -8,7 +8,7 @@ ghost use Rattle.plan_revise.specs.Aside.{HasRoom, with_aside, put_aside};
 ghost use Rattle.plan_revise.specs.Stopped.{place_on, stopped, stopped_at, without_machine};
 ghost use Rattle.plan_revise.specs.Refusals.{IsDownFault};
 ghost use Rattle.plan_revise.specs.Fits.{IsRevision};
-ghost use Rattle.plan_revise.specs.Answers.{IsNoRoom, IsNoRoomFor, Tells};
+ghost use Rattle.plan_revise.specs.Answers.{IsNoRoom, IsNoRoomFor, UnlessMemory};
 
 use crate::change_fault::ChangeFault;
 use crate::draft::Draft;
@@ -31,7 +31,7 @@ impl Draft {
         requires plant { machine < run.now.plant }
         ensures done { OnOk result (self.new ≡ without_machine run.now self.old machine (jobs self.old)) }
         ensures room { OnOk result ((j k : ℕ) → moves_made run.now j ≡ 0 → Visits self.old j k machine → HasRoom run.now self.old) }
-        ensures refused { IfErr result (Tells (IsDownFault run.now self.old machine)) }
+        ensures refused { IfErr result (UnlessMemory (IsDownFault run.now self.old machine)) }
     {
         // Called for its clause alone: what changes are judged by is sound.
         let _plant = run.plant();
@@ -53,7 +53,7 @@ impl Draft {
         requires job { job < jobs self.old }
         ensures done { OnOk result (self.new ≡ stopped_at run.now self.old job (place_on machine (route self.old job))) }
         ensures room { OnOk result ((k : ℕ) → moves_made run.now job ≡ 0 → Visits self.old job k machine → HasRoom run.now self.old) }
-        ensures refused { IfErr result (Tells (IsNoRoomFor run.now self.old job machine)) }
+        ensures refused { IfErr result (UnlessMemory (IsNoRoomFor run.now self.old job machine)) }
     {
         let Some(place) = place_of(machine, &self.routes[job as usize]) else {
             return Ok(());
@@ -78,7 +78,7 @@ impl Draft {
         requires within { count ≤ steps self.old job }
         ensures done { OnOk result (self.new ≡ stopped run.now self.old job count) }
         ensures room { OnOk result (moves_made run.now job ≡ 0 → HasRoom run.now self.old) }
-        ensures refused { IfErr result (Tells (IsNoRoom run.now self.old job)) }
+        ensures refused { IfErr result (UnlessMemory (IsNoRoom run.now self.old job)) }
     {
         if run.moves_made(job) > 0 {
             self.end_behind(job, count);

@@ -18,7 +18,7 @@ use Rattle.run_picture.specs.declared.visit.Cleaned.TheVariants.{By}
 use Rattle.run_picture.specs.declared.visit.DrawnVisit.{DrawnVisit}
 use Rattle.plan_schedule.specs.declared.lines.Cleaning.{Cleaning}
 use Rattle.plan_schedule.specs.Schedules.{IsCleaningBehind}
-use Rattle.plan_schedule.specs.DrawnVisits.{told_cleaning, cleaned_behind, drawn_visit, job_visits, place_behind, place_inside, cleaning_end, job_ahead, visits_ahead, leavings_by, TheRunOfTheStartIsDrawnAsThePlan}
+use Rattle.plan_schedule.specs.DrawnVisits.{known_cleaning, cleaned_behind, drawn_visit, job_visits, place_behind, place_inside, cleaning_end, job_ahead, visits_ahead, leavings_by, TheRunOfTheStartIsDrawnAsThePlan}
 
 range-more : (n : ℕ) → range_with_len 0 (n + 1) ≡ range_with_len 0 n ++ n ∷ []
 range-more n =
@@ -44,7 +44,7 @@ module _ (p : PlannedShop) (at : Node → ℕ) where
 
   -- the cleaning behind a visit
   pub behind : (due : Node → Option ℕ) (j k : ℕ) (found : Option Cleaning) → IsCleaningBehind p at due j k found
-      → told_cleaning found ≡ cleaned_behind p at j k
+      → known_cleaning found ≡ cleaned_behind p at j k
   behind due j k None none = rw (eq-eqb (clean p (machine_of p j k)) 0 none) refl
   behind due j k (Some cleaning) is =
       rw (ne_eqb (clean p (machine_of p j k)) 0 (λ none. absurd (omega (arith, none, is.cleaned)))) (ap By is.ends)
@@ -74,18 +74,18 @@ module _ (p : PlannedShop) (c : Cell) (at : Node → ℕ) where
       sym (append-nil visits) ∙ ap (λ (k : ℕ). visits ++ job_visits p at j (made c j) k) (sym none)
 
 -- one more of the visits that are told
-pub one_more_told : (of : DrawnVisit → DrawnVisit) (start now new told : List DrawnVisit) (i : ℕ) (d : DrawnVisit) → i < length told → now ++ map of (drop i told) ≡ start ++ map of told
-    → new ≡ now ++ of (get_or told i d) ∷ [] → new ++ map of (drop (i + 1) told) ≡ start ++ map of told
-one_more_told of start now new told i d below so_far pushed =
-    let one = of (get_or told i d) in
-    let rest = map of (drop (i + 1) told) in
-    let here : drop i told ≡ get_or told i d ∷ drop (i + 1) told = drop-cons told i d below ∙ ap (λ (n : ℕ). get_or told i d ∷ drop n told) (sym (add-one i)) in
+pub one_more_drawn : (of : DrawnVisit → DrawnVisit) (start now new drawn : List DrawnVisit) (i : ℕ) (d : DrawnVisit) → i < length drawn → now ++ map of (drop i drawn) ≡ start ++ map of drawn
+    → new ≡ now ++ of (get_or drawn i d) ∷ [] → new ++ map of (drop (i + 1) drawn) ≡ start ++ map of drawn
+one_more_drawn of start now new drawn i d below so_far pushed =
+    let one = of (get_or drawn i d) in
+    let rest = map of (drop (i + 1) drawn) in
+    let here : drop i drawn ≡ get_or drawn i d ∷ drop (i + 1) drawn = drop-cons drawn i d below ∙ ap (λ (n : ℕ). get_or drawn i d ∷ drop n drawn) (sym (add-one i)) in
     ap (λ (l : List DrawnVisit). l ++ rest) pushed ∙ append_assoc now (one ∷ []) rest ∙ ap (λ (l : List DrawnVisit). now ++ map of l) (sym here) ∙ so_far
 
 -- all of them
-pub all_told : (of : DrawnVisit → DrawnVisit) (now whole told : List DrawnVisit) (i : ℕ) → length told ≤ i → now ++ map of (drop i told) ≡ whole → now ≡ whole
-all_told of now whole told i all so_far =
-    sym (append-nil now) ∙ ap (λ (l : List DrawnVisit). now ++ map of l) (sym (drop_of_length-le told all)) ∙ so_far
+pub all_drawn : (of : DrawnVisit → DrawnVisit) (now whole drawn : List DrawnVisit) (i : ℕ) → length drawn ≤ i → now ++ map of (drop i drawn) ≡ whole → now ≡ whole
+all_drawn of now whole drawn i all so_far =
+    sym (append-nil now) ∙ ap (λ (l : List DrawnVisit). now ++ map of l) (sym (drop_of_length-le drawn all)) ∙ so_far
 
 -- ---- where a job is
 
@@ -115,8 +115,8 @@ past_uncleaned p c t m sound past =
     rw none refl
 
 -- those that are told, and then those ahead
-pub run_visits : (start mid new told ahead : List DrawnVisit) → start ≡ [] → mid ≡ start ++ told → new ≡ mid ++ ahead → new ≡ told ++ ahead
-run_visits start mid new told ahead none ended added = added ∙ ap (λ (l : List DrawnVisit). l ++ ahead) (ended ∙ ap (λ (l : List DrawnVisit). l ++ told) none)
+pub run_visits : (start mid new drawn ahead : List DrawnVisit) → start ≡ [] → mid ≡ start ++ drawn → new ≡ mid ++ ahead → new ≡ drawn ++ ahead
+run_visits start mid new drawn ahead none ended added = added ∙ ap (λ (l : List DrawnVisit). l ++ ahead) (ended ∙ ap (λ (l : List DrawnVisit). l ++ drawn) none)
 
 -- ---- of a whole plan
 

@@ -27,8 +27,8 @@ use Rattle.shop_base.proofs.Within.{each_move_is_in_time-holds, punctual_reports
 use Rattle.shop_base.proofs.StartAhead.{the_start_is_a_case-holds, start-keeps_moments, from_start, no_exact_move_is_earlier-holds}
 use Rattle.shop_base.proofs.SomeExact.{some_continuation_is_exact-holds}
 use Rattle.plan_schedule.specs.Scheduled.{AreEarliest}
-use Rattle.plan_schedule.specs.AsTold.{IsLastVisit, EndsAsTold, AreAsTold}
-use Rattle.plan_schedule.specs.ScheduleLaw.{SchedulesTellTheExactRun, SomeRunIsExact}
+use Rattle.plan_schedule.specs.OnTime.{IsLastVisit, EndsOnTime, AreOnTime}
+use Rattle.plan_schedule.specs.ScheduleLaw.{ScheduleIsTheExactRun, SomeRunIsExact}
 
 -- an arc leads to a node of the shop
 target_node : (p : PlannedShop) (u v : Node) (d : ℕ) → Arc p u v d → IsNode p v
@@ -73,12 +73,12 @@ module _ (p : PlannedShop) (rank moments : Node → ℕ) (shaped : IsWellShaped 
       (punctual_reports_are_within-holds p rank moments [] 0 rs es end tt (at_once p) from_there goes punctual)
 
   -- each job of the shop has made its last move, and each cleaning has begun, as it is told
-  record HasBegunAsTold (c : Cell) : Type 0 where
+  record HasBegunOnTime (c : Cell) : Type 0 where
     jobs_moved : (j k : ℕ) → j < jobs p → made c j ≡ k + 1 → since c j ≡ moments (node j k)
     cleanings_begun : (m from : ℕ) → cleaning c m ≡ Some from → (j : ℕ) × (k : ℕ) × IsLastVisit p c j k m × (from ≡ moments (node j (k + 1)))
 
-  start_as_told : HasBegunAsTold (start p)
-  start_as_told = record {
+  start_on_time : HasBegunOnTime (start p)
+  start_on_time = record {
     jobs_moved = λ j k inside is. absurd (omega (arith, start-made p j inside));
     cleanings_begun = λ m from is. absurd (none m from is);
   }
@@ -86,8 +86,8 @@ module _ (p : PlannedShop) (rank moments : Node → ℕ) (shaped : IsWellShaped 
       none : (m from : ℕ) → cleaning (start p) m ≡ Some from → ⊥
       none m from is = let idle : cleaning (start p) m ≡ None = ap (λ (x : MachineState). x.cleaning) (start_unused p m) in cc
 
-  report_as_told : (c new : Cell) → IsLike p c new → HasBegunAsTold c → HasBegunAsTold new
-  report_as_told c new like begun = record {
+  report_on_time : (c new : Cell) → IsLike p c new → HasBegunOnTime c → HasBegunOnTime new
+  report_on_time c new like begun = record {
     jobs_moved = λ j k inside is. like.since_same j ∙ begun.jobs_moved j k inside (sym (like.made_same j) ∙ is);
     cleanings_begun = λ m from is.
         let (j, k, last, at) = begun.cleanings_begun m from (like.cleaned_before m from is) in
@@ -96,7 +96,7 @@ module _ (p : PlannedShop) (rank moments : Node → ℕ) (shaped : IsWellShaped 
 
   -- a move at just the moment of the node that it makes
   module _ (c new : Cell) (j t : ℕ) (sound : IsSound p c) (can : CanMove p c j t) (change : IsMoved p c j t new) (now : t ≡ moments (next_node c j)) where
-    move_jobs : HasBegunAsTold c → (i k : ℕ) → i < jobs p → made new i ≡ k + 1 → since new i ≡ moments (node i k)
+    move_jobs : HasBegunOnTime c → (i k : ℕ) → i < jobs p → made new i ≡ k + 1 → since new i ≡ moments (node i k)
     move_jobs begun i k inside is = elim (cases_eq i j) [
       | inl same ↦ (let place : made c j ≡ k = omega (arith, change.made_mine, ap (made new) same) in
           ap (since new) same ∙ change.since_mine ∙ now ∙ ap moments (ap (node j) place ∙ ap (λ n. node n k) (sym same)))
@@ -116,7 +116,7 @@ module _ (p : PlannedShop) (rank moments : Node → ℕ) (shaped : IsWellShaped 
         begins_now : cleaning new m ≡ Some t → from ≡ moments (next_node c j)
         begins_now begun = let same : from ≡ t = cc in same ∙ now
 
-    move_cleanings : HasBegunAsTold c → (m from : ℕ) → cleaning new m ≡ Some from → (i : ℕ) × (l : ℕ) × IsLastVisit p new i l m × (from ≡ moments (node i (l + 1)))
+    move_cleanings : HasBegunOnTime c → (m from : ℕ) → cleaning new m ≡ Some from → (i : ℕ) × (l : ℕ) × IsLastVisit p new i l m × (from ≡ moments (node i (l + 1)))
     move_cleanings begun m from is = elim (on_or_not p c j m) [
       | inl (k, on) ↦ cleaning_left k m from on is
       | inr off ↦ (let before : cleaning c m ≡ Some from = sym (change.cleaning_elsewhere m off) ∙ is in
@@ -125,36 +125,36 @@ module _ (p : PlannedShop) (rank moments : Node → ℕ) (shaped : IsWellShaped 
           (i, l, (last.0, ap length same ∙ last.1, last.2), at))
     ]
 
-    move_as_told : HasBegunAsTold c → HasBegunAsTold new
-    move_as_told begun = record { jobs_moved = move_jobs begun; cleanings_begun = move_cleanings begun }
+    move_on_time : HasBegunOnTime c → HasBegunOnTime new
+    move_on_time begun = record { jobs_moved = move_jobs begun; cleanings_begun = move_cleanings begun }
 
   module _ (due : Node → Option ℕ) where
     -- so what goes on then is due as it is told
-    ends_as_told : (c : Cell) (a : Activity) (t : ℕ) → HasBegunAsTold c → GoesOn p c a t → EndsAsTold p moments due c a t
-    ends_as_told c (Arrival j) t begun awaited = awaited.is_due
-    ends_as_told c (Operation j m) t begun (k, worked) =
+    ends_on_time : (c : Cell) (a : Activity) (t : ℕ) → HasBegunOnTime c → GoesOn p c a t → EndsOnTime p moments due c a t
+    ends_on_time c (Arrival j) t begun awaited = awaited.is_due
+    ends_on_time c (Operation j m) t begun (k, worked) =
         let moved = begun.jobs_moved j k (visits_job p j k m worked.on.visits) worked.on.entered in
         (k, worked.on, worked.is_due ∙ ap (λ n. n + nominal p j k) moved)
-    ends_as_told c (Cleaning m) t begun (from, cleaned) =
+    ends_on_time c (Cleaning m) t begun (from, cleaned) =
         let (j, k, last, at) = begun.cleanings_begun m from cleaned.is_cleaned in
         (j, k, last, cleaned.is_due ∙ ap (λ n. n + clean p m) at)
 
     -- each event behind the first ones of an exact run
-    behind_as_told : (front es : List Event) (c : Cell) → c ≡ ends_in p front → IsRun p (front ++ es) → AreExact p (start p) (front ++ es)
-        → IsSound p c → AreEvents p c es → AreExact p c es → AreMadeBy p moments c es → HasBegunAsTold c → AreAsTold p moments due c es
-    behind_as_told front [] c is run whole sound events exact by begun = tt
-    behind_as_told front (Reported r ∷ es) c is run whole sound events exact by begun = (
-      ends_as_told c (ended r) (at r) begun exact.0.due,
-      behind_as_told (front ++ Reported r ∷ []) es (after_report c r) (ap (λ x. after_report x r) is ∙ sym (after_all_join p (start p) front (Reported r ∷ [])))
+    behind_on_time : (front es : List Event) (c : Cell) → c ≡ ends_in p front → IsRun p (front ++ es) → AreExact p (start p) (front ++ es)
+        → IsSound p c → AreEvents p c es → AreExact p c es → AreMadeBy p moments c es → HasBegunOnTime c → AreOnTime p moments due c es
+    behind_on_time front [] c is run whole sound events exact by begun = tt
+    behind_on_time front (Reported r ∷ es) c is run whole sound events exact by begun = (
+      ends_on_time c (ended r) (at r) begun exact.0.due,
+      behind_on_time (front ++ Reported r ∷ []) es (after_report c r) (ap (λ x. after_report x r) is ∙ sym (after_all_join p (start p) front (Reported r ∷ [])))
           (subst (IsRun p) (sym (append_assoc front (Reported r ∷ []) es)) run) (subst (AreExact p (start p)) (sym (append_assoc front (Reported r ∷ []) es)) whole)
-          (after_report-sound p c r shaped sound events.0) events.1 exact.1 by (report_as_told c (after_report c r) (after_report-like p c r sound events.0) begun),
+          (after_report-sound p c r shaped sound events.0) events.1 exact.1 by (report_on_time c (after_report c r) (after_report-like p c r sound events.0) begun),
     )
-    behind_as_told front (Moved o ∷ es) c is run whole sound events exact by begun = (
+    behind_on_time front (Moved o ∷ es) c is run whole sound events exact by begun = (
       record { leaves = λ k at. now ∙ ap (λ n. moments (node o.job n)) at; enters = λ more. now },
-      behind_as_told (front ++ Moved o ∷ []) es (after_move p c o.job o.at) (ap (λ x. after_move p x o.job o.at) is ∙ sym (after_all_join p (start p) front (Moved o ∷ [])))
+      behind_on_time (front ++ Moved o ∷ []) es (after_move p c o.job o.at) (ap (λ x. after_move p x o.job o.at) is ∙ sym (after_all_join p (start p) front (Moved o ∷ [])))
           (subst (IsRun p) (sym (append_assoc front (Moved o ∷ []) es)) run) (subst (AreExact p (start p)) (sym (append_assoc front (Moved o ∷ []) es)) whole)
           (after_move-sound p c o.job o.at shaped sound events.0.0.can events.0.1) events.1 exact by.1
-          (move_as_told c (after_move p c o.job o.at) o.job o.at sound events.0.0.can (after_move-moved p c o.job o.at shaped sound events.0.0.can) now begun),
+          (move_on_time c (after_move p c o.job o.at) o.job o.at sound events.0.0.can (after_move-moved p c o.job o.at shaped sound events.0.0.can) now begun),
     )
       where
         next : IsNode p (next_node c o.job)
@@ -167,11 +167,11 @@ module _ (p : PlannedShop) (rank moments : Node → ℕ) (shaped : IsWellShaped 
             (subst (λ (x : Cell). Path p nodes (node o.job (made x o.job)) (moments (next_node c o.job))) is path) in
             omega (arith, no_earlier, by.0)
 
-pub exact_run_told : SchedulesTellTheExactRun
-exact_run_told p rank moments due rs es end shaped ranks earliest run exact =
+pub schedule_is_exact_run : ScheduleIsTheExactRun
+schedule_is_exact_run p rank moments due rs es end shaped ranks earliest run exact =
     let events : IsRun p es = (controlled_to_run p rs es end shaped run).0 in
-    behind_as_told p rank moments shaped ranks earliest due [] es (start p) refl events exact (start-sound p shaped) events exact
-    (made_by p rank moments shaped ranks earliest rs es end run exact) (start_as_told p rank moments shaped ranks earliest)
+    behind_on_time p rank moments shaped ranks earliest due [] es (start p) refl events exact (start-sound p shaped) events exact
+    (made_by p rank moments shaped ranks earliest rs es end run exact) (start_on_time p rank moments shaped ranks earliest)
 
 pub some_exact_run : SomeRunIsExact
 some_exact_run p rank moments shaped ranks earliest =

@@ -15,9 +15,9 @@ use Rattle.plan_schedule.specs.RestSchedules.{operation_end, cleaned_by}
 use Rattle.plan_schedule.specs.RestScheduled.{AreRestMoments}
 
 -- the end of a cleaning, if there is one
-abbrev pub told_cleaning : Option Cleaning → Cleaned
-told_cleaning None = Never
-told_cleaning (Some cleaning) = By cleaning.to
+abbrev pub known_cleaning : Option Cleaning → Cleaned
+known_cleaning None = Never
+known_cleaning (Some cleaning) = By cleaning.to
 
 module _ (p : PlannedShop) (at : Node → ℕ) where
   -- the cleaning behind the visit of job j by its step k, if the machine has a cleaning time: it begins as the job leaves
@@ -47,7 +47,7 @@ place_behind (suc k) = Some k
 -- a cleaning whose end isn't told ends so
 abbrev pub ended_cleaning : Cleaned → Option ℕ → Cleaned
 ended_cleaning Never end = Never
-ended_cleaning (By told) end = By told
+ended_cleaning (By at) end = By at
 ended_cleaning NotYet None = NotYet
 ended_cleaning NotYet (Some end) = By end
 
@@ -116,11 +116,11 @@ abbrev pub leavings_by : PlannedShop → (Node → ℕ) → ℕ → List (Option
 leavings_by p at count = map (λ j. Some (at (leaving p j))) (range_with_len 0 count)
 
 -- the run that goes on from a cell c and a present moment t, of which these visits are told so far: they end, and those ahead follow, by the earliest moments; a job that is gone leaves when it left
-pub record IsDrawnRun (p : PlannedShop) (c : Cell) (t : ℕ) (told : List DrawnVisit) (run : DrawnRun) : Type 0 where
+pub record IsDrawnRun (p : PlannedShop) (c : Cell) (t : ℕ) (drawn : List DrawnVisit) (run : DrawnRun) : Type 0 where
   pub moments : Node → ℕ
   pub earliest : AreRestMoments p c t moments
   pub left : (j : ℕ) → j < jobs p → IsGone p c j → moments (leaving p j) ≡ since c j
-  pub visits : run.visits.items ≡ map (ended_visit p c t moments) told ++ visits_ahead p c moments (jobs p)
+  pub visits : run.visits.items ≡ map (ended_visit p c t moments) drawn ++ visits_ahead p c moments (jobs p)
   pub leavings : run.leavings.items ≡ leavings_by p moments (jobs p)
 
 -- ---- of a whole plan

@@ -3,7 +3,7 @@ pub mod Lines
 pub mod Schedules
 pub mod Scheduled
 pub mod DrawnVisits
-pub mod AsTold
+pub mod OnTime
 pub mod ScheduleLaw
 -- The same of the rest of a run.
 pub mod RestSchedules

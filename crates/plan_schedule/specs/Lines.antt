@@ -1,7 +1,7 @@
 -- The lines of a schedule in words.
 use Rattle.std.specs.Prelude.{ℕ, if◌then◌else◌, List, [], ◌∷◌, ◌++◌, codes, Option, None, Some}
 use Rattle.people_names.specs.NameBooks.{NameBook}
-use Rattle.people_names.specs.Words.{job_word, machine_word, moment_word, is_deadline_told}
+use Rattle.people_names.specs.Words.{job_word, machine_word, moment_word, is_deadline_printed}
 use Rattle.plan_explain.specs.Arcs.{before}
 use Rattle.plan_schedule.specs.declared.lines.Visit.{Visit}
 use Rattle.plan_schedule.specs.declared.lines.Cleaning.{Cleaning}
@@ -10,7 +10,7 @@ module _ (names : NameBook) where
   -- ` by D`, where there is a deadline and it is told
   abbrev pub due_words : Option ℕ → List (List ℕ)
   due_words None = []
-  due_words (Some due) = if is_deadline_told names due then codes " by " ∷ moment_word names due ∷ [] else []
+  due_words (Some due) = if is_deadline_printed names due then codes " by " ∷ moment_word names due ∷ [] else []
 
   -- `job J arrives R by D`
   abbrev pub arrival_line : ℕ → ℕ → Option ℕ → List ℕ

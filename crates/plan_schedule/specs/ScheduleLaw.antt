@@ -10,13 +10,13 @@ use Rattle.shop_base.specs.Controlled.{IsControlledRun}
 use Rattle.shop_base.specs.Punctual.{AreExact}
 use Rattle.shop_base.specs.Graph.{leaving, RanksRise}
 use Rattle.plan_schedule.specs.Scheduled.{AreEarliest}
-use Rattle.plan_schedule.specs.AsTold.{AreAsTold}
+use Rattle.plan_schedule.specs.OnTime.{AreOnTime}
 
 -- schedules tell the exact run: where ranks rise along every arc, each event of a controlled run whose reports are exact comes at just the moment that the lines by the earliest moments tell
-abbrev pub SchedulesTellTheExactRun : Type 0
-SchedulesTellTheExactRun = (p : PlannedShop) (rank moments : Node → ℕ) (due : Node → Option ℕ) (rs : List Report) (es : List Event) (end : Cell)
+abbrev pub ScheduleIsTheExactRun : Type 0
+ScheduleIsTheExactRun = (p : PlannedShop) (rank moments : Node → ℕ) (due : Node → Option ℕ) (rs : List Report) (es : List Event) (end : Cell)
     → IsWellShaped p → RanksRise p rank → AreEarliest p moments → IsControlledRun p rs es end → AreExact p (start p) es
-    → AreAsTold p moments due (start p) es
+    → AreOnTime p moments due (start p) es
 
 -- there is such a run, and in it each job is gone whose leaving is told for a moment that can be reported
 abbrev pub SomeRunIsExact : Type 0

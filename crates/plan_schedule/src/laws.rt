@@ -5,15 +5,15 @@
 
 ghost use Rattle.plan_schedule.specs.StartSchedule.{TheRestOfTheStartIsScheduledAsThePlan};
 ghost use Rattle.plan_schedule.specs.DrawnVisits.{TheRunOfTheStartIsDrawnAsThePlan};
-ghost use Rattle.plan_schedule.specs.ScheduleLaw.{SchedulesTellTheExactRun, SomeRunIsExact};
+ghost use Rattle.plan_schedule.specs.ScheduleLaw.{ScheduleIsTheExactRun, SomeRunIsExact};
 
 /// Let the ranks rise along every arc, and let lines give the greatest length of a path to each node as its moment.
 /// Then in a controlled run whose reports are exact each event comes at just the moment that they give. A job arrives
 /// at its release, enters each of its visits and leaves it, and its operation ends between, as the line of the visit
 /// says. A cleaning begins as the job leaves, and its end is reported its time after that. There is such a run, in
 /// which each job is gone whose leaving has a moment that can be reported.
-pub fn schedules_tell_the_exact_run()
-    ensures exact { SchedulesTellTheExactRun }
+pub fn schedule_is_the_exact_run()
+    ensures exact { ScheduleIsTheExactRun }
     ensures some { SomeRunIsExact }
 {}
 

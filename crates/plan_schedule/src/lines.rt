@@ -127,7 +127,7 @@ fn put_deadline(line: &mut Line, names: &Names, deadline: Moment)
     ensures written { line.new ≡ before (due_words names.now (Some deadline)) line.old }
     ensures length { length line.new ≤ 33 + length line.old }
 {
-    if names.tells_deadline(deadline) {
+    if names.prints_deadline(deadline) {
         names.put_moment(line, deadline);
         line.put_text(b" by ");
     }

@@ -5,7 +5,7 @@ ghost use Rattle.shop_base.specs.{Report.IsNextMoment, Plan.jobs, Plan.steps, Ce
 ghost use Rattle.alt_graph.specs.Times.{earliest_of, AreRanks};
 ghost use Rattle.plan_verifier.specs.Rest.{AreOrderedAhead};
 ghost use Rattle.plan_schedule.specs.Calendars.{at_of};
-ghost use Rattle.plan_schedule.specs.DrawnVisits.{told_cleaning, drawn_visit, job_visits, place_inside, cleaning_end, ended_cleaning, left_visit, going_visit, staying_visit, ended_visit, job_ahead, visits_ahead, leavings_by, IsDrawnRun};
+ghost use Rattle.plan_schedule.specs.DrawnVisits.{known_cleaning, drawn_visit, job_visits, place_inside, cleaning_end, ended_cleaning, left_visit, going_visit, staying_visit, ended_visit, job_ahead, visits_ahead, leavings_by, IsDrawnRun};
 
 use crate::calendar::Calendar;
 use crate::lines::Cleaning;
@@ -34,15 +34,15 @@ pub fn drawn_run<'a, P: Planned>(
     cell: &'a WorkCell<P>,
     present: Moment,
     times: &'a Times,
-    told: &[DrawnVisit],
+    drawn: &[DrawnVisit],
 ) -> Result<DrawnRun, AllocError>
     requires present { IsNextMoment cell.now.cell present }
     requires ordered { AreOrderedAhead cell.now.plan cell.now.cell present times.now }
-    ensures { IfOk result (IsDrawnRun cell.now.plan cell.now.cell present told.now) }
+    ensures { IfOk result (IsDrawnRun cell.now.plan cell.now.cell present drawn.now) }
 {
     let calendar = Calendar::new(alloc, cell, present, times, None)?;
     let mut visits = Vec::new(alloc);
-    push_told(&mut visits, &calendar, told)?;
+    push_drawn(&mut visits, &calendar, drawn)?;
     push_ahead(&mut visits, &calendar)?;
     let leavings = leavings_by(alloc, cell, times)?;
     Ok(DrawnRun { visits, leavings })
@@ -65,15 +65,15 @@ fn leavings_by<P: Planned>(
 }
 
 /// Adds the visits that are told so far, with their ends.
-fn push_told<P: Planned>(
+fn push_drawn<P: Planned>(
     visits: &mut Vec<DrawnVisit>,
     calendar: &Calendar<'_, P>,
-    told: &[DrawnVisit],
+    drawn: &[DrawnVisit],
 ) -> Result<(), AllocError>
     ensures { let k = calendar.now in
-        OnOk result (visits.new.items ≡ visits.old.items ++ map (ended_visit k.plan k.cell k.present (at_of k)) told.now) }
+        OnOk result (visits.new.items ≡ visits.old.items ++ map (ended_visit k.plan k.cell k.present (at_of k)) drawn.now) }
 {
-    for visit in told {
+    for visit in drawn {
         visits.push(ended_visit(calendar, *visit))?;
     }
     Ok(())
@@ -121,7 +121,7 @@ fn ended_cleaning(cleaned: Cleaned, end: Option<Moment>) -> Cleaned
 {
     match cleaned {
         Cleaned::Never => Cleaned::Never,
-        Cleaned::By(told) => Cleaned::By(told),
+        Cleaned::By(at) => Cleaned::By(at),
         Cleaned::NotYet => match end {
             Some(end) => Cleaned::By(end),
             None => Cleaned::NotYet,
@@ -172,17 +172,17 @@ fn going_visit<P: Planned>(calendar: &Calendar<'_, P>, visit: DrawnVisit, place:
         job: visit.job,
         machine: visit.machine,
         enter: visit.enter,
-        finish: Some(told_or(visit.finish, here.to)),
+        finish: Some(moment_or(visit.finish, here.to)),
         leave: Some(here.leaves),
         cleaned: cleaned(calendar.cleaning(visit.job, place)),
     }
 }
 
 /// A moment as it is told, else this one.
-fn told_or(told: Option<Moment>, other: Moment) -> Moment
-    ensures { result ≡ unwrap_or told other }
+fn moment_or(moment: Option<Moment>, other: Moment) -> Moment
+    ensures { result ≡ unwrap_or moment other }
 {
-    match told {
+    match moment {
         Some(moment) => moment,
         None => other,
     }
@@ -256,7 +256,7 @@ fn drawn_visit<P: Planned>(calendar: &Calendar<'_, P>, job: JobNo, place: u32) -
 }
 
 fn cleaned(cleaning: Option<Cleaning>) -> Cleaned
-    ensures { result ≡ told_cleaning cleaning }
+    ensures { result ≡ known_cleaning cleaning }
 {
     match cleaning {
         Some(cleaning) => Cleaned::By(cleaning.to),

@@ -1,6 +1,6 @@
 use crate::proposer::Proposer;
+use crate::safe_sequence::{Transfer, place_in, safe_sequence};
 use crate::simulated_cell::SimulatedCell;
-use crate::way_out::{Passage, place_in, way_out};
 use shop_base::{JobNo, Moment, Shop};
 use std::alloc::{AllocError, Global};
 
@@ -45,7 +45,7 @@ struct Simulation {
     /// The jobs that have entered each machine, in order.
     orders: Vec<Vec<JobNo>>,
     /// Moves by which all jobs that are in the cell can leave it, one after the other.
-    way: Vec<Passage>,
+    way: Vec<Transfer>,
     now: Moment,
     /// How many choices of looking ahead are left.
     choices: u32,
@@ -126,7 +126,7 @@ impl Simulation {
         self.choices -= 1;
         let mut ahead = self.cell.copy(alloc)?;
         ahead.advance(shop, job, 0);
-        match way_out(alloc, shop, ahead, &mut self.choices)? {
+        match safe_sequence(alloc, shop, ahead, &mut self.choices)? {
             Some(way) => {
                 self.way = way;
                 Ok(true)

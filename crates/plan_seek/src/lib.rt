@@ -9,13 +9,13 @@ mod numbers;
 mod orders;
 mod proposer;
 mod rounds;
+mod safe_sequence;
 mod search;
 mod seek_fault;
 mod serial;
 mod shift;
 mod simulated_cell;
 mod task;
-mod way_out;
 
 pub use greedy::GreedyProposer;
 pub use not_found::NotFound;

@@ -38,21 +38,21 @@ fn told(alloc: Global, solved: &Solved, node: Node) -> Result<Told, Fail> {
     }
 }
 
-fn told_of_graph(alloc: Global, shaped: &Shaped, node: Node) -> Result<Told, Fail> {
+fn bounds_of_graph(alloc: Global, shaped: &Shaped, node: Node) -> Result<Told, Fail> {
     let solved = solve(alloc, shaped)?;
     told(alloc, &solved, node)
 }
 
-fn told_of_plan(alloc: Global, plan: &[u8], node: Node) -> Result<Told, Fail> {
+fn bounds_of_plan(alloc: Global, plan: &[u8], node: Node) -> Result<Told, Fail> {
     let shaped = planned(alloc, TWO, plan)?;
-    told_of_graph(alloc, &shaped, node)
+    bounds_of_graph(alloc, &shaped, node)
 }
 
 #[test]
 fn just_nodes_have_times_ranks_and_chains(rt: HostRuntime) -> Result<(), Fail> {
     for &(plan, job, place, moment) in TIMES {
         let is_node = moment.is_some();
-        let told = told_of_plan(rt.alloc(), plan, Node { job, place })?;
+        let told = bounds_of_plan(rt.alloc(), plan, Node { job, place })?;
         assert!(rt; told == (moment, is_node, is_node));
     }
     Ok(())

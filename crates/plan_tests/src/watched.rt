@@ -11,7 +11,7 @@ pub(crate) struct Watched {
 }
 
 impl Watch for Watched {
-    ghost told = { λ _. None };
+    ghost reported = { λ _. None };
 
     fn round(&mut self, round: u32, _late: Moment, _makespan: Moment, _at_least: Moment) {
         let told = if round == self.rounds { 1 } else { 1_000_000 };

@@ -60,7 +60,7 @@ version_has_at : (t : Members) (fault : PlanFault) (version : Option Data) → v
 version_has_at t fault None e h = absurd h
 version_has_at t fault (Some d) e h =
     let p = bad_version fault d h in
-    rw p.0 (record { version = d; stated = e; not_one = p.1.0; not_two = p.1.1 })
+    rw p.0 (record { version = d; given = e; not_one = p.1.0; not_two = p.1.1 })
 
 bad_listed : (d : Data) → IsBad d → In BadVersion (version_faults (Some d))
 bad_listed (string s) h = inl refl
@@ -80,7 +80,7 @@ bad_listed (array ds) h = inl refl
 bad_listed (table ms) h = inl refl
 
 version_listed : (t : Members) → HasBadVersion t → In BadVersion (version_faults (version_in t))
-version_listed t h = rw h.stated (bad_listed h.version (h.not_one, h.not_two))
+version_listed t h = rw h.given (bad_listed h.version (h.not_one, h.not_two))
 
 -- ---- the keys
 

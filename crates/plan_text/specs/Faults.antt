@@ -16,7 +16,7 @@ HasCleaning table = version_in table ≡ Some (integer (pos 2))
 -- the table states a version, and it isn't the whole number 1 or 2
 pub record HasBadVersion (table : Members) : Type 0 where
   pub version : Data
-  pub stated : version_in table ≡ Some version
+  pub given : version_in table ≡ Some version
   pub not_one : version ≡ integer (pos 1) → ⊥
   pub not_two : version ≡ integer (pos 2) → ⊥
 

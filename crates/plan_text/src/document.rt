@@ -137,7 +137,7 @@ pub fn plan_document(alloc: Global, plan: &Plan) -> Result<String, PlanFault>
 
 /// Whether a text is read as this plan.
 fn is_read_back(alloc: Global, text: &[u8], plan: &Plan) -> Result<bool, PlanFault>
-    ensures told { IfOk result (λ same. MatchBool same (IsPlanText text.now plan.now) (IsPlanText text.now plan.now → ⊥)) }
+    ensures decided { IfOk result (λ same. MatchBool same (IsPlanText text.now plan.now) (IsPlanText text.now plan.now → ⊥)) }
     ensures memory { IfErr result (λ fault. fault ≡ PlanFault.Memory) }
 {
     match read_plan(alloc, text) {

@@ -28,7 +28,7 @@ acceptable_ahead p c t rank kept rise greatest meets =
 module _ (p : PlannedShop) (b : NodeBounds) where
   -- a path has no more nodes than its last one's rank and one
   path_few : (rank : Node → ℕ) (nodes : List Node) (v : Node) (n : ℕ) → RanksRise p rank → PathFrom p b nodes v n → length nodes ≤ rank v + 1
-  path_few rank _ _ _ rise (begins_at v n is told) = omega arith
+  path_few rank _ _ _ rise (begins_at v n is recorded) = omega arith
   path_few rank _ _ _ rise (goes_along nodes u v n d path ahead arc) = omega (arith, path_few rank nodes u n rise path, rise u v d arc, length_push nodes v)
 
   -- so a path by the times has no more than there are

@@ -1,4 +1,4 @@
--- What holds up a node is told by the tables, and of what is told one bound goes before all others.
+-- What holds up a node is in the tables, and of its bounds one goes before all others.
 use Rattle.std.proofs.Common.{◌≡◌, ◌≢◌, ℕ, ◌+◌, ◌-◌, ◌<◌, ◌≤◌, ◌⊎◌, length, true, false, nat_lt, nat_eq, Option, None, Some, inl, inr, arith, refl, sym, ap, subst, ◌∙◌, ltb-true, eqb-true}
 use Rattle.std.specs.Prelude.{MatchOption}
 use Rattle.std.proofs.lemmas.Bool.{and_parts}
@@ -13,7 +13,7 @@ use Rattle.alt_graph.proofs.NodeNumbers.{node_same}
 use Rattle.plan_verifier.specs.declared.node_bound.Hold.{Hold}
 use Rattle.plan_verifier.specs.declared.node_bound.Hold.TheVariants.{Awaited, Arrived, Worked, Done, Cleaned}
 use Rattle.plan_verifier.specs.{declared.node_bound.NodeBound.NodeBound, CellBounds.{cleaned_at, is_next_in}}
-use Rattle.plan_verifier.specs.Held.{IsHeldBy, awaited, arrived, worked, done, cleaned, IsHeldUp, IsToldOf, IsBoundOf, GoesBefore, later_than, overdue_at, turn}
+use Rattle.plan_verifier.specs.Held.{IsHeldBy, awaited, arrived, worked, done, cleaned, IsHeldUp, IsHoldBound, IsBoundOf, GoesBefore, later_than, overdue_at, turn}
 use Rattle.plan_verifier.specs.JobHolds.{IsJobHold, IsBoundBy, job_turn}
 use Rattle.plan_verifier.proofs.Tables.{holds_cleaned}
 
@@ -72,10 +72,10 @@ module _ (p : PlannedShop) (c : Cell) where
         (job_hold j _ _ (worked j (state.made - 1) step.machine _ goes) (sym (operation_due p c j step.machine _ (state.made - 1, goes))) (rw busy refl))
 
   module _ (t : ℕ) (v : Node) where
-    -- a bound tells of what holds up the node
+    -- a bound is given by what holds up the node
     pub bound_is : (h : Hold) (due : Option ℕ) (n : ℕ) (b : NodeBound) → IsHeldBy p c h due v → turn h ≡ n
         → b ≡ record { moment = later_than t due; holds = h; overdue = overdue_at t due } → IsBoundBy p c t v due n b
-    bound_is h due n b is at same = rw same (record { told = record { due = due; holds = is; moment = refl; overdue = refl }; moment = refl; turn_is = at })
+    bound_is h due n b is at same = rw same (record { by_hold = record { due = due; holds = is; moment = refl; overdue = refl }; moment = refl; turn_is = at })
 
     -- of the cleaning of the machine that it enters
     pub cleaning_bound : (m from n : ℕ) (b : NodeBound) → Visits p v.job v.place m → is_next_in p c m v.job ≡ true → cleaning c m ≡ Some from → n ≡ clean p m
@@ -113,19 +113,19 @@ module _ (p : PlannedShop) (c : Cell) where
     other_first b other due n by (inr (same, first)) = inr (same ∙ by.moment, omega (arith, first, by.turn_is))
 
     -- where it does so with the one by the job and the one by a cleaning it goes before all
-    bound_first : (b : NodeBound) → IsToldOf p c t v b → (made c v.job ≡ v.place → GoesFirst b (due_of_job p v.job (job_in c v.job)) (job_turn c v.job))
+    bound_first : (b : NodeBound) → IsHoldBound p c t v b → (made c v.job ≡ v.place → GoesFirst b (due_of_job p v.job (job_in c v.job)) (job_turn c v.job))
         → ((n : ℕ) → cleaned_at p c v ≡ Some n → GoesFirst b (Some n) 1) → IsBoundOf p c t v b
-    bound_first b told by_job by_cleaning = record { told = told; first = λ other its. go other its (hold_kind other.holds its.due v its.holds) }
+    bound_first b by_hold by_job by_cleaning = record { by_hold = by_hold; first = λ other its. go other its (hold_kind other.holds its.due v its.holds) }
       where
-        go : (other : NodeBound) (its : IsToldOf p c t v other) → IsByJob other.holds its.due v ⊎ IsByCleaning other.holds its.due v → GoesBefore b other
+        go : (other : NodeBound) (its : IsHoldBound p c t v other) → IsByJob other.holds its.due v ⊎ IsByCleaning other.holds its.due v → GoesBefore b other
         go other its (inl (next, is, at)) = rw (its.moment, is, at) (by_job next)
         go other its (inr (n, is, due, at)) = rw (its.moment, due, at) (by_cleaning n is)
 
-    -- of a node that isn't its job's next only a cleaning is told
+    -- of a node that isn't its job's next only a cleaning gives a bound
     pub later_bound : (o : Option NodeBound) → made c v.job ≢ v.place → MatchOption o (cleaned_at p c v ≡ None) (IsBoundBy p c t v (cleaned_at p c v) 1)
         → MatchOption o (IsHeldUp p c v → ⊥) (IsBoundOf p c t v)
     later_bound None later free = free_later later free
-    later_bound (Some b) later by = bound_first b by.told (λ next. absurd (later next)) (λ n is. rw is at (own_first b (cleaned_at p c v) 1 by))
+    later_bound (Some b) later by = bound_first b by.by_hold (λ next. absurd (later next)) (λ n is. rw is at (own_first b (cleaned_at p c v) 1 by))
 
     -- of its job's next one what goes on with the job, or a cleaning too
     module _ (own : NodeBound) (next : made c v.job ≡ v.place) (by_job : IsBoundBy p c t (next_node c v.job) (due_of_job p v.job (job_in c v.job)) (job_turn c v.job) own) where
@@ -136,11 +136,11 @@ module _ (p : PlannedShop) (c : Cell) where
       by = subst (λ (w : Node). IsBoundBy p c t w due (job_turn c v.job) own) (node_same (next_node c v.job) v refl next) by_job
 
       pub alone_bound : cleaned_at p c v ≡ None → IsBoundOf p c t v own
-      alone_bound free = bound_first own by.told (λ _. own_first own due (job_turn c v.job) by) (λ n is. absurd (cc))
+      alone_bound free = bound_first own by.by_hold (λ _. own_first own due (job_turn c v.job) by) (λ n is. absurd (cc))
 
       pub first_bound : (other found : NodeBound) → IsBoundBy p c t v (cleaned_at p c v) 1 other → ((found ≡ own) × GoesBefore own other) ⊎ ((found ≡ other) × GoesBefore other own)
           → IsBoundOf p c t v found
       first_bound other found its (inl (is, before)) =
-          rw is (bound_first own by.told (λ _. own_first own due (job_turn c v.job) by) (λ n at. rw at at (other_first own other (cleaned_at p c v) 1 its before)))
+          rw is (bound_first own by.by_hold (λ _. own_first own due (job_turn c v.job) by) (λ n at. rw at at (other_first own other (cleaned_at p c v) 1 its before)))
       first_bound other found its (inr (is, before)) =
-          rw is (bound_first other its.told (λ _. other_first other own due (job_turn c v.job) by before) (λ n at. rw at at (own_first other (cleaned_at p c v) 1 its)))
+          rw is (bound_first other its.by_hold (λ _. other_first other own due (job_turn c v.job) by before) (λ n at. rw at at (own_first other (cleaned_at p c v) 1 its)))

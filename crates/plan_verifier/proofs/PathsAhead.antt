@@ -11,7 +11,7 @@ use Rattle.alt_graph.specs.Bounds.{NodeBounds, bound_of, PathFrom, begins_at, go
 use Rattle.alt_graph.specs.{Evidence.EndsIn, Places.node_at}
 use Rattle.plan_verifier.specs.{CellBounds.{bound_in, held_to, cleaned_at}, FromThere.IsNeverGoneBeforeFrom}
 use Rattle.plan_verifier.specs.{Held.later_than, PathBounds.{path_bounds, beginning_in}, Rest.IsChainAhead}
-use Rattle.plan_verifier.proofs.{Rests.{some_same, bound_path}, Tables.{bound_next, bound_later, told_by, ahead_of, bound_from, held_bound}}
+use Rattle.plan_verifier.proofs.{Rests.{some_same, bound_path}, Tables.{bound_next, bound_later, in_table, ahead_of, bound_from, held_bound}}
 
 -- a path ahead ends with its last node
 ahead_ends : (p : PlannedShop) (c : Cell) (t : ℕ) (nodes : List Node) (v : Node) (n i : ℕ) → PathAhead p c t nodes v n → i + 1 ≡ length nodes → node_at nodes i ≡ v
@@ -72,14 +72,14 @@ module _ (p : PlannedShop) (c : Cell) (t : ℕ) (sound : IsSound p c) where
   abbrev b : NodeBounds
   b = path_bounds p c t
 
-  pub beginning_told : (v : Node) → IsNode p v → bound_of b v ≡ beginning_in p c t v
-  beginning_told v is = told_by p (beginning_in p c t) v is
+  pub beginning_in_table : (v : Node) → IsNode p v → bound_of b v ≡ beginning_in p c t v
+  beginning_in_table v is = in_table p (beginning_in p c t) v is
 
   -- where a path can begin one begins
   pub beginning_path : (v : Node) (n : ℕ) → IsNode p v → bound_of b v ≡ Some n → PathAhead p c t (v ∷ []) v n
-  beginning_path v n is told = elim (cases_lt v.place (made c v.job)) [
-    | inl passed ↦ absurd (differ n (sym (beginning_told v is ∙ beginning_passed p c t v passed) ∙ told))
-    | inr here ↦ subst (λ k. PathAhead p c t (v ∷ []) v k) (some_same p c t sound _ _ (sym (beginning_told v is ∙ beginning_here p c t v here) ∙ told)) (from here (bound_in p c t v) refl)
+  beginning_path v n is recorded = elim (cases_lt v.place (made c v.job)) [
+    | inl passed ↦ absurd (differ n (sym (beginning_in_table v is ∙ beginning_passed p c t v passed) ∙ recorded))
+    | inr here ↦ subst (λ k. PathAhead p c t (v ∷ []) v k) (some_same p c t sound _ _ (sym (beginning_in_table v is ∙ beginning_here p c t v here) ∙ recorded)) (from here (bound_in p c t v) refl)
   ]
     where
       differ : (m : ℕ) → None ≡ Some m → ⊥
@@ -91,14 +91,14 @@ module _ (p : PlannedShop) (c : Cell) (t : ℕ) (sound : IsSound p c) where
 
   -- so each path from there is one ahead
   path_ahead : (nodes : List Node) (v : Node) (n : ℕ) → PathFrom p b nodes v n → PathAhead p c t nodes v n
-  path_ahead _ _ _ (begins_at v n is told) = beginning_path v n is told
+  path_ahead _ _ _ (begins_at v n is recorded) = beginning_path v n is recorded
   path_ahead _ _ _ (goes_along nodes u v n d path from arc) = onward nodes u v n d (path_ahead nodes u n path) arc
 
   -- and along the nodes of a path ahead there is one from there that is at least as long
   begin_long : (v : Node) (k : ℕ) → IsLeftIn p c v → k ≤ unwrap_or (bound_in p c t v) t → (n : ℕ) × (k ≤ n) × PathFrom p b (v ∷ []) v n
   begin_long v k left le =
       let is : IsNode p v = record { job = left.job; place = left.place } in
-      (unwrap_or (bound_in p c t v) t, le, begins_at v _ is (beginning_told v is ∙ beginning_here p c t v left.ahead))
+      (unwrap_or (bound_in p c t v) t, le, begins_at v _ is (beginning_in_table v is ∙ beginning_here p c t v left.ahead))
 
   begin_from : (v : Node) → IsAhead c v → (o : Option ℕ) → bound_in p c t v ≡ o → t ≤ unwrap_or o t
   begin_from v ahead None is = omega arith
@@ -113,33 +113,33 @@ module _ (p : PlannedShop) (c : Cell) (t : ℕ) (sound : IsSound p c) where
       let (m, le, from) = path_long nodes u n path in
       (m + d, omega (arith, le), goes_along nodes u v m d from (ahead_of p c t sound u (source_node p u v d arc).job (path_left p c t nodes u n sound path).ahead) arc)
 
-  module _ (nodes : List Node) (told : Option ℕ) (exact : (n : ℕ) → (told ≡ Some n) ↔ IsChainFrom p b nodes n) where
-    pub told_ahead : (n : ℕ) → (told ≡ Some n) ↔ IsChainAhead p c t nodes n
-    told_ahead n = (there, back)
+  module _ (nodes : List Node) (answer : Option ℕ) (exact : (n : ℕ) → (answer ≡ Some n) ↔ IsChainFrom p b nodes n) where
+    pub exact_ahead : (n : ℕ) → (answer ≡ Some n) ↔ IsChainAhead p c t nodes n
+    exact_ahead n = (there, back)
       where
-        there : told ≡ Some n → IsChainAhead p c t nodes n
+        there : answer ≡ Some n → IsChainAhead p c t nodes n
         there is =
             let chain = (exact n).0 is in
             record {
               few = chain.few;
               path = (chain.path.0, path_ahead nodes chain.path.0 n chain.path.1);
               greatest = λ w k other. (let (m, le, from) = path_long nodes w k other in
-                  let again : told ≡ Some m = (exact m).1 (record { few = chain.few; path = (w, from) }) in
+                  let again : answer ≡ Some m = (exact m).1 (record { few = chain.few; path = (w, from) }) in
                   omega (arith, le, some_same p c t sound m n (sym again ∙ is)));
             }
 
-        back : IsChainAhead p c t nodes n → told ≡ Some n
+        back : IsChainAhead p c t nodes n → answer ≡ Some n
         back chain =
             let (m, le, from) = path_long nodes chain.path.0 n chain.path.1 in
             let same : m ≡ n = omega (arith, le, chain.greatest chain.path.0 m (path_ahead nodes chain.path.0 m from)) in
-            subst (λ k. told ≡ Some k) same ((exact m).1 (record { few = chain.few; path = (chain.path.0, from) }))
+            subst (λ k. answer ≡ Some k) same ((exact m).1 (record { few = chain.few; path = (chain.path.0, from) }))
 
-    pub told_no_faster : IsWellShaped p → IfSome told (λ n. (j : ℕ) → EndsIn nodes (leaving p j) → IsNeverGoneBeforeFrom p c t j n)
-    told_no_faster shaped = go told refl
+    pub answer_no_faster : IsWellShaped p → IfSome answer (λ n. (j : ℕ) → EndsIn nodes (leaving p j) → IsNeverGoneBeforeFrom p c t j n)
+    answer_no_faster shaped = go answer refl
       where
-        go : (o : Option ℕ) → told ≡ o → IfSome o (λ n. (j : ℕ) → EndsIn nodes (leaving p j) → IsNeverGoneBeforeFrom p c t j n)
+        go : (o : Option ℕ) → answer ≡ o → IfSome o (λ n. (j : ℕ) → EndsIn nodes (leaving p j) → IsNeverGoneBeforeFrom p c t j n)
         go None is = tt
-        go (Some n) is = (let chain = (told_ahead n).0 is in λ j ends. path_no_faster p c t j nodes n shaped
+        go (Some n) is = (let chain = (exact_ahead n).0 is in λ j ends. path_no_faster p c t j nodes n shaped
             (subst (λ (w : Node). PathAhead p c t nodes w n) (ends_at chain.path.0 n chain.path.1 j ends) chain.path.1))
           where
             ends_at : (v : Node) (m : ℕ) → PathAhead p c t nodes v m → (j : ℕ) → EndsIn nodes (leaving p j) → v ≡ leaving p j

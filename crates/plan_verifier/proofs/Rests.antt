@@ -13,7 +13,7 @@ use Rattle.alt_graph.specs.{declared.solving.Solved.TheVariants.{Ordered, Cyclic
 use Rattle.alt_graph.proofs.NodeNumbers.{node_same}
 use Rattle.plan_verifier.specs.CellBounds.{rest_bounds, bound_in, cleaned_at}
 use Rattle.plan_verifier.specs.{Held.{later_than, BeginHeldUp}, Rest.{AreOrderedAhead, OnOrderedAhead}}
-use Rattle.plan_verifier.proofs.Tables.{bound_passed, bound_next, bound_told, ahead_of, of_ahead, later_is, cleaned_holds, bound_kind, bound_from, held_bound}
+use Rattle.plan_verifier.proofs.Tables.{bound_passed, bound_next, bound_in_table, ahead_of, of_ahead, later_is, cleaned_holds, bound_kind, bound_from, held_bound}
 
 module _ (p : PlannedShop) (c : Cell) (t : ℕ) (sound : IsSound p c) where
   abbrev b : NodeBounds
@@ -25,25 +25,25 @@ module _ (p : PlannedShop) (c : Cell) (t : ℕ) (sound : IsSound p c) where
   -- a bound of a node ahead is the length of a path ahead
   later_path : (v : Node) (n m : ℕ) → IsLeftIn p c v → PathAhead p c t (v ∷ []) v n → (m ≡ n) ⊎ ((due : ℕ) × (cleaned_at p c v ≡ Some due) × (m ≡ due)) → PathAhead p c t (v ∷ []) v m
   later_path v n m left path (inl same) = subst (λ k. PathAhead p c t (v ∷ []) v k) (sym same) path
-  later_path v n m left path (inr (due, told, same)) =
-      let (machine, going, holds) = cleaned_holds p c v due told in
+  later_path v n m left path (inr (due, recorded, same)) =
+      let (machine, going, holds) = cleaned_holds p c v due recorded in
       subst (λ k. PathAhead p c t (v ∷ []) v k) (sym same) (held (Cleaning machine) due v going holds)
 
   pub next_path : (v : Node) (n : ℕ) → IsNode p v → made c v.job ≡ v.place → (n ≡ t) ⊎ ((due : ℕ) × (due_of_job p v.job (job_in c v.job) ≡ Some due) × (n ≡ due)) → PathAhead p c t (v ∷ []) v n
   next_path v n is next (inl same) = subst (λ k. PathAhead p c t (v ∷ []) v k) (sym same) (now v is (omega arith))
-  next_path v n is next (inr (due, told, same)) =
+  next_path v n is next (inr (due, recorded, same)) =
       let here : v ≡ next_node c v.job = node_same v (next_node c v.job) refl (sym next) in
-      subst (λ k. PathAhead p c t (v ∷ []) v k) (sym same) (elim (job_due p c v.job due told) [
+      subst (λ k. PathAhead p c t (v ∷ []) v k) (sym same) (elim (job_due p c v.job due recorded) [
         | inl arrives ↦ held (Arrival v.job) due v arrives here
         | inr (m, works) ↦ held (Operation v.job m) due v works here
       ])
 
   pub bound_path : (v : Node) (n : ℕ) → IsNode p v → IsAhead c v → bound_in p c t v ≡ Some n → PathAhead p c t (v ∷ []) v n
-  bound_path v n is ahead told = elim (bound_kind p c t v n ahead told) [
+  bound_path v n is ahead recorded = elim (bound_kind p c t v n ahead recorded) [
     | inl next ↦ (
         let left : IsLeftIn p c v = record { ahead = ahead; job = is.job; place = is.place } in
         let first = later_than t (due_of_job p v.job (job_in c v.job)) in
-        let is_bound : later_than first (cleaned_at p c v) ≡ n = some_same _ _ (sym (bound_next p c t v next) ∙ told) in
+        let is_bound : later_than first (cleaned_at p c v) ≡ n = some_same _ _ (sym (bound_next p c t v next) ∙ recorded) in
         subst (λ k. PathAhead p c t (v ∷ []) v k) is_bound
         (later_path v first (later_than first (cleaned_at p c v)) left (next_path v first is next (later_is t (due_of_job p v.job (job_in c v.job)))) (later_is first (cleaned_at p c v))))
     | inr (m, due, going, holds, at) ↦ subst (λ k. PathAhead p c t (v ∷ []) v k) (sym at) (elim (later_is t (Some due)) [
@@ -58,9 +58,9 @@ module _ (p : PlannedShop) (c : Cell) (t : ℕ) (sound : IsSound p c) where
 
   -- so a path from the bounds to a node ahead begins with one
   begin_held : (nodes : List Node) (v : Node) (n : ℕ) → IsAhead c v → PathFrom p b nodes v n → BeginHeldUp p c nodes
-  begin_held _ _ _ ahead (begins_at v n is told) = (
+  begin_held _ _ _ ahead (begins_at v n is recorded) = (
     is,
-    elim (bound_kind p c t v n ahead (sym (bound_told p c t sound v is) ∙ told)) [
+    elim (bound_kind p c t v n ahead (sym (bound_in_table p c t sound v is) ∙ recorded)) [
       | inl next ↦ inl next
       | inr (m, due, going, holds, at) ↦ inr (m, due, going, holds)
     ],
@@ -72,7 +72,7 @@ module _ (p : PlannedShop) (c : Cell) (t : ℕ) (sound : IsSound p c) where
     kept = earliest_of times
 
     at_bound : (v : Node) (n : ℕ) → IsNode p v → bound_in p c t v ≡ Some n → n ≤ kept v
-    at_bound v n is told = ordered.times.moments.bounds v n is (bound_told p c t sound v is ∙ told)
+    at_bound v n is recorded = ordered.times.moments.bounds v n is (bound_in_table p c t sound v is ∙ recorded)
 
     activity_kept : (a : Activity) (due : ℕ) (v : Node) → GoesOn p c a due → HoldsUp p c a v → due ≤ kept v
     activity_kept a due v going holds =
@@ -91,7 +91,7 @@ module _ (p : PlannedShop) (c : Cell) (t : ℕ) (sound : IsSound p c) where
 
     -- a path from the bounds to a node ahead is a path ahead
     path_ahead : (nodes : List Node) (v : Node) (n : ℕ) → IsAhead c v → PathFrom p b nodes v n → PathAhead p c t nodes v n
-    path_ahead _ _ _ ahead (begins_at v n is told) = bound_path v n is ahead (sym (bound_told p c t sound v is) ∙ told)
+    path_ahead _ _ _ ahead (begins_at v n is recorded) = bound_path v n is ahead (sym (bound_in_table p c t sound v is) ∙ recorded)
     path_ahead _ _ _ ahead (goes_along nodes u v n d path from arc) =
         onward nodes u v n d (path_ahead nodes u n (of_ahead p c t sound u (source_node p u v d arc).job from) path) arc
 
@@ -100,7 +100,7 @@ module _ (p : PlannedShop) (c : Cell) (t : ℕ) (sound : IsSound p c) where
 
     -- a path to a passed node is its bound alone
     passed_path : (nodes : List Node) (v : Node) (n : ℕ) → v.place < made c v.job → PathFrom p b nodes v n → n ≡ since c v.job
-    passed_path _ _ _ passed (begins_at v n is told) = some_same _ _ (sym told ∙ bound_told p c t sound v is ∙ bound_passed p c t v passed)
+    passed_path _ _ _ passed (begins_at v n is recorded) = some_same _ _ (sym recorded ∙ bound_in_table p c t sound v is ∙ bound_passed p c t v passed)
     passed_path _ _ _ passed (goes_along nodes u v n d path from arc) =
         let ahead : made c v.job ≤ v.place = arc_ahead p c u v d sound arc (of_ahead p c t sound u (source_node p u v d arc).job from) in
         absurd (omega arith)

@@ -1,4 +1,4 @@
--- What the table of a cell's bounds tells.
+-- What stands in the table of a cell's bounds.
 use Rattle.std.proofs.Common.{◌≡◌, ℕ, ◌+◌, ◌-◌, ◌<◌, ◌≤◌, List, [], map, length, get_or, max, Bool, true, false, nat_lt, nat_eq, if◌then◌else◌, Option, None, Some, arith, refl, sym, ap, subst, ◌∙◌, ◌⊎◌, inl, inr, lt-ltb, le-ltb, ltb-true, eq-eqb, eqb-true}
 use Rattle.std.specs.List.{range_with_len}
 use Rattle.std.proofs.{lemmas.Bool.{cases_lt, cases_order, and_parts, and_from}, lemmas.List.get_or-map}
@@ -13,10 +13,10 @@ use Rattle.shop_base.proofs.{CellFacts.{arrival_due, operation_due, cleaning_due
 use Rattle.alt_graph.specs.Bounds.{bound_of, IsAheadOf, AreRooted}
 use Rattle.plan_verifier.specs.{CellBounds.{rest_bounds, bound_in, held_to, is_next_in, cleaned_at}, Held.later_than}
 
--- what a table of bounds tells of a node
-pub told_by : (p : PlannedShop) (bound : Node → Option ℕ) (v : Node) → IsNode p v
+-- where a table of bounds has a node's
+pub in_table : (p : PlannedShop) (bound : Node → Option ℕ) (v : Node) → IsNode p v
     → get_or (get_or (map (λ j. map (λ k. bound (node j k)) (range_with_len 0 (steps p j + 1))) (range_with_len 0 (jobs p))) v.job []) v.place None ≡ bound v
-told_by p bound v is =
+in_table p bound v is =
     ap (λ (row : List (Option ℕ)). get_or row v.place None)
     (get_or-map-range_with_len (λ j. map (λ k. bound (node j k)) (range_with_len 0 (steps p j + 1))) 0 (jobs p) v.job v.job [] is.job (omega arith))
     ∙ get_or-map-range_with_len (λ k. bound (node v.job k)) 0 (steps p v.job + 1) v.place v.place None (omega (arith, is.place)) (omega arith)
@@ -35,26 +35,26 @@ module _ (p : PlannedShop) (c : Cell) (t : ℕ) where
   bound_later v later = rw (le-ltb v.place (made c v.job) (omega arith), lt-ltb (made c v.job) v.place later) refl
 
   module _ (sound : IsSound p c) where
-    pub made_told : (j : ℕ) → j < jobs p → get_or (rest_bounds p c t).made j 0 ≡ made c j
-    made_told j inside = get_or-map (λ (s : JobState). s.made) c.jobs j absent 0 (omega (arith, sound.job_count))
+    pub made_in_table : (j : ℕ) → j < jobs p → get_or (rest_bounds p c t).made j 0 ≡ made c j
+    made_in_table j inside = get_or-map (λ (s : JobState). s.made) c.jobs j absent 0 (omega (arith, sound.job_count))
 
-    pub bound_told : (v : Node) → IsNode p v → bound_of (rest_bounds p c t) v ≡ bound_in p c t v
-    bound_told v is = told_by p (bound_in p c t) v is
+    pub bound_in_table : (v : Node) → IsNode p v → bound_of (rest_bounds p c t) v ≡ bound_in p c t v
+    bound_in_table v is = in_table p (bound_in p c t) v is
 
     -- a node is ahead by the table where it is in the cell
     pub ahead_of : (v : Node) → v.job < jobs p → IsAhead c v → IsAheadOf (rest_bounds p c t) v
-    ahead_of v inside ahead = let here : made c v.job ≤ v.place = ahead in omega (arith, made_told v.job inside)
+    ahead_of v inside ahead = let here : made c v.job ≤ v.place = ahead in omega (arith, made_in_table v.job inside)
 
     pub of_ahead : (v : Node) → v.job < jobs p → IsAheadOf (rest_bounds p c t) v → IsAhead c v
-    of_ahead v inside ahead = omega (arith, made_told v.job inside, ahead)
+    of_ahead v inside ahead = omega (arith, made_in_table v.job inside, ahead)
 
     -- a node without a bound is behind its job's next one
     pub rest_rooted : AreRooted p (rest_bounds p c t)
     rest_rooted v is free = elim (cases_order v.place (made c v.job)) [
-      | inl same ↦ absurd (differ _ (sym (bound_told v is ∙ bound_next v (sym same)) ∙ free))
+      | inl same ↦ absurd (differ _ (sym (bound_in_table v is ∙ bound_next v (sym same)) ∙ free))
       | inr other ↦ elim other [
-        | inl passed ↦ absurd (differ _ (sym (bound_told v is ∙ bound_passed v passed) ∙ free))
-        | inr later ↦ (v.place - 1, omega arith, omega (arith, made_told v.job is.job))
+        | inl passed ↦ absurd (differ _ (sym (bound_in_table v is ∙ bound_passed v passed) ∙ free))
+        | inr later ↦ (v.place - 1, omega arith, omega (arith, made_in_table v.job is.job))
       ]
     ]
       where
@@ -80,9 +80,9 @@ module _ (p : PlannedShop) (c : Cell) (v : Node) (due : ℕ) where
   abbrev there : ℕ
   there = machine_of p v.job v.place
 
-  -- what the table tells of a cleaning goes on, and holds the node up
+  -- the cleaning of which the table has the end goes on, and holds the node up
   pub cleaned_holds : cleaned_at p c v ≡ Some due → (m : ℕ) × GoesOn p c (Cleaning m) due × HoldsUp p c (Cleaning m) v
-  cleaned_holds told = go (nat_lt v.place (steps p v.job)) refl (is_next_in p c there v.job) refl told
+  cleaned_holds recorded = go (nat_lt v.place (steps p v.job)) refl (is_next_in p c there v.job) refl recorded
     where
       go : (b : Bool) → nat_lt v.place (steps p v.job) ≡ b → (d : Bool) → is_next_in p c there v.job ≡ d
           → (if b then (if d then due_of_cleaning p there (cleaning c there) else None) else None) ≡ Some due
@@ -113,11 +113,11 @@ module _ (p : PlannedShop) (c : Cell) (t : ℕ) where
   -- a node ahead that has a bound is its job's next, or is held up by a cleaning until then
   pub bound_kind : (v : Node) (n : ℕ) → IsAhead c v → bound_in p c t v ≡ Some n
       → (made c v.job ≡ v.place) ⊎ ((m due : ℕ) × GoesOn p c (Cleaning m) due × HoldsUp p c (Cleaning m) v × (n ≡ max t due))
-  bound_kind v n ahead told = elim (cases_order v.place (made c v.job)) [
+  bound_kind v n ahead recorded = elim (cases_order v.place (made c v.job)) [
     | inl same ↦ inl (sym same)
     | inr other ↦ elim other [
       | inl passed ↦ absurd (let here : made c v.job ≤ v.place = ahead in omega arith)
-      | inr later ↦ inr (go (cleaned_at p c v) refl (sym (bound_later p c t v later) ∙ told))
+      | inr later ↦ inr (go (cleaned_at p c v) refl (sym (bound_later p c t v later) ∙ recorded))
     ]
   ]
     where
@@ -127,9 +127,9 @@ module _ (p : PlannedShop) (c : Cell) (t : ℕ) where
 
   -- no bound of a node ahead is before the present moment
   pub bound_from : (v : Node) (n : ℕ) → IsAhead c v → bound_in p c t v ≡ Some n → t ≤ n
-  bound_from v n ahead told = elim (bound_kind v n ahead told) [
+  bound_from v n ahead recorded = elim (bound_kind v n ahead recorded) [
     | inl next ↦ (let first : ℕ = later_than t (due_of_job p v.job (job_in c v.job)) in
-        let is : later_than first (cleaned_at p c v) ≡ n = (let both = sym (bound_next p c t v next) ∙ told in cc) in
+        let is : later_than first (cleaned_at p c v) ≡ n = (let both = sym (bound_next p c t v next) ∙ recorded in cc) in
         omega (arith, later_above t (due_of_job p v.job (job_in c v.job)), later_above first (cleaned_at p c v), is))
     | inr (m, due, going, holds, is) ↦ omega arith
   ]
@@ -139,22 +139,22 @@ module _ (p : PlannedShop) (c : Cell) (t : ℕ) where
   IsBoundFrom v due = (n : ℕ) × (bound_in p c t v ≡ Some n) × (due ≤ n)
 
   busy_bound : (j due : ℕ) → due_of_job p j (job_in c j) ≡ Some due → IsBoundFrom (next_node c j) due
-  busy_bound j due told =
+  busy_bound j due recorded =
       let first : ℕ = later_than t (due_of_job p j (job_in c j)) in
       let v : Node = next_node c j in
-      (later_than first (cleaned_at p c v), bound_next p c t v refl, omega (arith, later_other t due (due_of_job p j (job_in c j)) told, later_above first (cleaned_at p c v)))
+      (later_than first (cleaned_at p c v), bound_next p c t v refl, omega (arith, later_other t due (due_of_job p j (job_in c j)) recorded, later_above first (cleaned_at p c v)))
 
   -- what holds up a node is due by its bound
   pub held_bound : (a : Activity) (due : ℕ) (v : Node) → IsSound p c → GoesOn p c a due → HoldsUp p c a v → IsBoundFrom v due
   held_bound (Arrival j) due v sound going holds = subst (λ (w : Node). IsBoundFrom w due) (sym holds) (busy_bound j due (arrival_due p c j due going))
   held_bound (Operation j m) due v sound going holds = subst (λ (w : Node). IsBoundFrom w due) (sym holds) (busy_bound j due (operation_due p c j m due going))
   held_bound (Cleaning m) due v sound going holds =
-      let told = holds_cleaned p c v due m going holds in
+      let recorded = holds_cleaned p c v due m going holds in
       elim (cases_order v.place (made c v.job)) [
         | inl same ↦ (let first : ℕ = later_than t (due_of_job p v.job (job_in c v.job)) in
-            (later_than first (cleaned_at p c v), bound_next p c t v (sym same), later_other first due (cleaned_at p c v) told))
+            (later_than first (cleaned_at p c v), bound_next p c t v (sym same), later_other first due (cleaned_at p c v) recorded))
         | inr other ↦ elim other [
           | inl passed ↦ absurd (let here : made c v.job ≤ v.place = (held_left p c (Cleaning m) due v sound going holds).ahead in omega arith)
-          | inr later ↦ (max t due, bound_later p c t v later ∙ ap (held_to t) told, omega arith)
+          | inr later ↦ (max t due, bound_later p c t v later ∙ ap (held_to t) recorded, omega arith)
         ]
       ]

@@ -37,5 +37,5 @@ module _ (p : PlannedShop) (c : Cell) where
     abbrev pub rest_bounds : NodeBounds
     rest_bounds = record {
       made = map (λ (s : JobState). s.made) c.jobs;
-      told = map (λ j. map (λ k. bound_in (node j k)) (range_with_len 0 (steps p j + 1))) (range_with_len 0 (jobs p));
+      recorded = map (λ j. map (λ k. bound_in (node j k)) (range_with_len 0 (steps p j + 1))) (range_with_len 0 (jobs p));
     }

@@ -1,4 +1,4 @@
--- What holds up a node ahead besides the nodes before it, and the bound that is told of it: the greatest, and of equal ones the one whose turn is first.
+-- What holds up a node ahead besides the nodes before it, and its bound: the greatest, and of equal ones the one whose turn is first.
 use Rattle.std.specs.Prelude.{◌≡◌, ℕ, ◌<◌, ◌≤◌, ◌⊎◌, List, [], ◌∷◌, length, Option, None, Some, max, nat_lt, if◌then◌else◌, true}
 use Rattle.shop_base.specs.declared.node.Node.{Node}
 use Rattle.shop_base.specs.Plan.{PlannedShop, nominal, clean, Stands}
@@ -46,21 +46,21 @@ turn (Cleaned m from n) = 1
 turn (Arrived j) = 2
 turn (Done j m) = 2
 
--- it is told of something that holds up v: at the present moment t, or later when that is due
-pub record IsToldOf (p : PlannedShop) (c : Cell) (t : ℕ) (v : Node) (b : NodeBound) : Type 0 where
+-- the bound is given by something that holds up v: at the present moment t, or later when that is due
+pub record IsHoldBound (p : PlannedShop) (c : Cell) (t : ℕ) (v : Node) (b : NodeBound) : Type 0 where
   pub due : Option ℕ
   pub holds : IsHeldBy p c b.holds due v
   pub moment : b.moment ≡ later_than t due
   pub overdue : b.overdue ≡ overdue_at t due
 
--- the bound is told rather than the other
+-- the bound goes before the other
 abbrev pub GoesBefore : NodeBound → NodeBound → Type 0
 GoesBefore one other = (other.moment < one.moment) ⊎ ((one.moment ≡ other.moment) × (turn one.holds ≤ turn other.holds))
 
--- of all bounds of v the one that is told
+-- of all bounds of v the one that goes before the others
 pub record IsBoundOf (p : PlannedShop) (c : Cell) (t : ℕ) (v : Node) (b : NodeBound) : Type 0 where
-  pub told : IsToldOf p c t v b
-  pub first : (other : NodeBound) → IsToldOf p c t v other → GoesBefore b other
+  pub by_hold : IsHoldBound p c t v b
+  pub first : (other : NodeBound) → IsHoldBound p c t v other → GoesBefore b other
 
 -- each cleaning that goes on began at a moment within the limit
 abbrev pub AreBegun : Cell → Type 0

@@ -7,7 +7,7 @@ use Rattle.shop_base.specs.Movers.{due_of_job}
 use Rattle.shop_base.specs.Ahead.{next_node}
 use Rattle.plan_verifier.specs.declared.node_bound.Hold.{Hold}
 use Rattle.plan_verifier.specs.declared.node_bound.NodeBound.{NodeBound}
-use Rattle.plan_verifier.specs.Held.{IsHeldBy, IsToldOf, later_than, turn}
+use Rattle.plan_verifier.specs.Held.{IsHeldBy, IsHoldBound, later_than, turn}
 
 -- the turn of what holds up the next node of job j: last where it waits
 abbrev pub job_turn : Cell → ℕ → ℕ
@@ -20,6 +20,6 @@ pub record IsJobHold (p : PlannedShop) (c : Cell) (j : ℕ) (h : Hold) : Type 0 
 
 -- the bound of v by what is due then, with its turn
 pub record IsBoundBy (p : PlannedShop) (c : Cell) (t : ℕ) (v : Node) (due : Option ℕ) (n : ℕ) (b : NodeBound) : Type 0 where
-  pub told : IsToldOf p c t v b
+  pub by_hold : IsHoldBound p c t v b
   pub moment : b.moment ≡ later_than t due
   pub turn_is : turn b.holds ≡ n

@@ -17,5 +17,5 @@ module _ (p : PlannedShop) (c : Cell) (t : ℕ) where
   abbrev pub path_bounds : NodeBounds
   path_bounds = record {
     made = (rest_bounds p c t).made;
-    told = map (λ j. map (λ k. beginning_in (node j k)) (range_with_len 0 (steps p j + 1))) (range_with_len 0 (jobs p));
+    recorded = map (λ j. map (λ k. beginning_in (node j k)) (range_with_len 0 (steps p j + 1))) (range_with_len 0 (jobs p));
   }

@@ -73,7 +73,7 @@ pub fn bound_after<P: Planned>(cell: &WorkCell<P>, present: Moment, node: Node) 
     }
     let own = job_bound(cell, present, node.job);
     match cleaned {
-        Some(cleaned) => Some(told_first(own, cleaned)),
+        Some(cleaned) => Some(prior_bound(own, cleaned)),
         None => Some(own),
     }
 }
@@ -156,7 +156,7 @@ fn bound_by(present: Moment, holds: Hold, due: Option<Moment>) -> NodeBound
 }
 
 /// Which of two bounds is named.
-fn told_first(one: NodeBound, other: NodeBound) -> NodeBound
+fn prior_bound(one: NodeBound, other: NodeBound) -> NodeBound
     ensures { ((result ≡ one) × GoesBefore one other) ⊎ ((result ≡ other) × GoesBefore other one) }
 {
     if other.moment < one.moment {

@@ -19,14 +19,14 @@ use Rattle.plan_verifier.proofs.Reasons.{reason_refutes}
 use Rattle.plan_seek.specs.Tasks.{task_in}
 use Rattle.cell_tables.specs.declared.entry.Entry.{Entry}
 use Rattle.cell_tables.specs.Events.{events_of}
-use Rattle.event_lines.specs.LogLines.{LinesTell}
+use Rattle.event_lines.specs.LogLines.{LinesParse}
 use Rattle.event_lines.proofs.Readings.{one_reading}
 use Rattle.run_log.proofs.Audits.{first_bad-no_run}
-use Rattle.cell_drive.specs.declared.manner.Manner.{Manner}
+use Rattle.cell_drive.specs.declared.protocol.Protocol.{Protocol}
 use Rattle.cell_drive.specs.declared.resume_fault.ResumeFault.{ResumeFault}
 use Rattle.cell_drive.specs.declared.resume_fault.ResumeFault.TheVariants.{Log, Past, Refused as RefusedRun, Memory as WantOfMemory}
 use Rattle.cell_drive.specs.OneRun.{cell_after}
-use Rattle.cell_drive.specs.TakenUp.{TakenUp, IsTakenUp}
+use Rattle.cell_drive.specs.Recovered.{Recovered, IsRecovered}
 use Rattle.cell_drive.specs.ResumeFaults.{IsResumeFault, IsRefusedFor}
 use Rattle.people_names.specs.NameBooks.{NameBook, no_names}
 use Rattle.plan_bounds.specs.Bounds.{times_of}
@@ -37,7 +37,7 @@ use Rattle.command_answers.specs.declared.command_fault.CommandFault.{CommandFau
 use Rattle.command_answers.specs.declared.command_fault.CommandFault.TheVariants.{Memory}
 use Rattle.command_answers.specs.declared.pictures.Drawn.{Drawn}
 use Rattle.command_answers.specs.declared.pictures.Drawn.TheVariants.{Picture, Line}
-use Rattle.command_answers.specs.Instances.{Tells}
+use Rattle.command_answers.specs.Instances.{ParsesAs}
 use Rattle.command_answers.specs.Facts.{AreFacts}
 use Rattle.command_answers.specs.Steps.{Then, GoesOn, Told, IsOrMemory}
 use Rattle.command_answers.specs.Texts.{Asks}
@@ -47,7 +47,7 @@ use Rattle.command_answers.specs.Checks.{IsLoaded, IsCheckLine}
 use Rattle.command_answers.specs.Search.{IsSearchAnswer}
 use Rattle.command_answers.specs.Improving.{IsImproveAnswer, ordered}
 use Rattle.command_answers.specs.ImprovingRests.{IsRestAnswer}
-use Rattle.command_answers.specs.declared.rests.PlanTelling.{PlanTelling}
+use Rattle.command_answers.specs.declared.rests.PlanAnswer.{PlanAnswer}
 use Rattle.command_answers.specs.Rests.{IsRestLine, job_asked}
 use Rattle.command_answers.specs.Commands.{PairOfFiles, IfShaped, IfThere, RunsRest, ReadsPlan, ReadsBoth, WithBoth, WithNames, WithNamesAndLog, WithRest, WithSoundNames, RunsBounds, RunsFacts}
 use Rattle.command_answers.specs.Pictures.{IsLogDrawn, IsAnyPlanDrawn, IsPlanDrawn, IsRestDrawing, IsUnshapedDrawn, IfDrawable, DrawsLog, DrawsRest, DrawsSchedule}
@@ -59,10 +59,10 @@ use Rattle.command_run.specs.Streams.{Streams}
 use Rattle.command_run.specs.Planners.{search_by_two, SeeksPlan}
 use Rattle.command_run.specs.Improvers.{AsksOne, ImprovesPlan, AsksOneForRest, ImprovesRest}
 use Rattle.command_run.specs.Pictures.{Draws, RunsPicture}
-use Rattle.command_run.specs.Drives.{DrivesCell, Drives, IsLineTold}
-use Rattle.command_run.specs.Resumes.{IsUntakenTold, ResumesText, Resumes}
+use Rattle.command_run.specs.Drives.{DrivesCell, Drives, IsLineAnswer}
+use Rattle.command_run.specs.Resumes.{IsUnrecoveredAnswer, ResumesText, Resumes}
 use Rattle.command_run.specs.Program.{RunsDrive, RunsResume}
-use Rattle.command_run.specs.Laws.{Shelf, TellPlan, IsAnswered, IsDrawn, IsNoPlanFor}
+use Rattle.command_run.specs.Laws.{Shelf, ParseAsPlan, IsAnswered, IsDrawn, IsNoPlanFor}
 
 -- the answer is one of these, or memory ran out
 pub answered : {A : Type 0} (Is : A → Type 0) (files : List (List ℕ)) (outcome : Result A CommandFault) (asked : List (List ℕ)) → IsOrMemory Is outcome → asked ≡ files → IsAnswered Is files outcome asked
@@ -87,18 +87,18 @@ module _ (content : List ℕ → Result (List ℕ) CommandFault) where
       (subst (λ x. Is x read) same on.0, on.1 ∙ given.1)
   asked_and_read Is path text is before (Err f) mid read after given on = absurd (let both : Err f ≡ Ok text = given.1.0 ∙ is in cc both)
 
-  facts_answered : (path : List ℕ) (text description : List ℕ) (name : Option (List ℕ)) (shop : JobShop) (outcome : Result Answer CommandFault) (asked : List (List ℕ)) → Tells text name description shop
+  facts_answered : (path : List ℕ) (text description : List ℕ) (name : Option (List ℕ)) (shop : JobShop) (outcome : Result Answer CommandFault) (asked : List (List ℕ)) → ParsesAs text name description shop
       → AreFactsAnswered text name outcome → asked ≡ path ∷ [] → IsAnswered (λ answer. AreFacts answer shop) (path ∷ []) outcome asked
   facts_answered path text description name shop (Ok answer) asked tells are same = (are.only description shop tells, same)
   facts_answered path text description name shop (Err fault) asked tells are same = are.only description shop tells
 
-  pub good_facts : (path text description : List ℕ) (name : Option (List ℕ)) (shop : JobShop) (outcome : Result Answer CommandFault) (asked : List (List ℕ)) → content path ≡ Ok text → Tells text name description shop
+  pub good_facts : (path text description : List ℕ) (name : Option (List ℕ)) (shop : JobShop) (outcome : Result Answer CommandFault) (asked : List (List ℕ)) → content path ≡ Ok text → ParsesAs text name description shop
       → RunsFacts (Shelf content) path name [] outcome asked → IsAnswered (λ answer. AreFacts answer shop) (path ∷ []) outcome asked
   good_facts path text description name shop outcome asked is tells run =
       let read = asked_and_read (λ t. AreFactsAnswered t name) path text is [] run.came run.mid outcome asked run.is run.goes_on in
       facts_answered path text description name shop outcome asked tells read.0 read.1
 
-module _ (content : List ℕ → Result (List ℕ) CommandFault) (pair : PairOfFiles) (p : PlannedShop) (good : TellPlan content pair p) where
+module _ (content : List ℕ → Result (List ℕ) CommandFault) (pair : PairOfFiles) (p : PlannedShop) (good : ParseAsPlan content pair p) where
   -- the plan's text tells its plan
   plan_came : (shop : JobShop) (came : Result ShopPlan CommandFault) (mid : List (List ℕ)) (read : Result PlannedShop CommandFault) (asked : List (List ℕ)) → shop ≡ p.shop → IsPlanRead good.plan came
       → mid ≡ pair.path ∷ pair.plan ∷ [] → GoesOn (λ plan. Told (λ r. r ≡ Ok (record { shop = shop; plan = plan }))) came mid read asked → IsAnswered (λ q. q ≡ p) (pair.path ∷ pair.plan ∷ []) read asked
@@ -135,14 +135,14 @@ module _ (content : List ℕ → Result (List ℕ) CommandFault) (pair : PairOfF
       → next p (pair.path ∷ pair.plan ∷ []) outcome asked ⊎ (outcome ≡ Err Memory)
   with_both next outcome asked run = goes_with next run.came run.mid outcome asked (both_come run.came run.mid run.is) run.goes_on
 
-  told_answered : {A : Type 0} (Is : A → Type 0) (outcome : Result A CommandFault) (asked : List (List ℕ)) → Told (IsOrMemory Is) (pair.path ∷ pair.plan ∷ []) outcome asked ⊎ (outcome ≡ Err Memory)
+  parsed_answered : {A : Type 0} (Is : A → Type 0) (outcome : Result A CommandFault) (asked : List (List ℕ)) → Told (IsOrMemory Is) (pair.path ∷ pair.plan ∷ []) outcome asked ⊎ (outcome ≡ Err Memory)
       → IsAnswered Is (pair.path ∷ pair.plan ∷ []) outcome asked
-  told_answered Is outcome asked (inl told) = answered Is _ outcome asked told.0 told.1
-  told_answered Is outcome asked (inr none) = wanting Is _ outcome asked none
+  parsed_answered Is outcome asked (inl told) = answered Is _ outcome asked told.0 told.1
+  parsed_answered Is outcome asked (inr none) = wanting Is _ outcome asked none
 
   pub good_plan : {A : Type 0} (Is : PlannedShop → A → Type 0) (outcome : Result A CommandFault) (asked : List (List ℕ)) → WithBoth (Shelf content) pair (λ q. Told (IsOrMemory (Is q))) [] outcome asked
       → IsAnswered (Is p) (pair.path ∷ pair.plan ∷ []) outcome asked
-  good_plan Is outcome asked run = told_answered (Is p) outcome asked (with_both (λ q. Told (IsOrMemory (Is q))) outcome asked run)
+  good_plan Is outcome asked run = parsed_answered (Is p) outcome asked (with_both (λ q. Told (IsOrMemory (Is q))) outcome asked run)
 
   -- `bounds` without names
   unnamed_bounds : (outcome : Result Answer CommandFault) (before asked : List (List ℕ)) → WithSoundNames (Shelf content) (λ book. IsOrMemory (AreBoundLines book (times_of p) p.plan.budget)) None p before outcome asked
@@ -153,33 +153,33 @@ module _ (content : List ℕ → Result (List ℕ) CommandFault) (pair : PairOfF
   unnamed_bounds (Ok answer) before asked (inr told) = (inr told.0, told.1)
   unnamed_bounds (Err fault) before asked (inr told) = told
 
-  bounds_told : (outcome : Result Answer CommandFault) (asked : List (List ℕ)) → WithSoundNames (Shelf content) (λ book. IsOrMemory (AreBoundLines book (times_of p) p.plan.budget)) None p (pair.path ∷ pair.plan ∷ []) outcome asked ⊎ (outcome ≡ Err Memory)
+  bounds_answered : (outcome : Result Answer CommandFault) (asked : List (List ℕ)) → WithSoundNames (Shelf content) (λ book. IsOrMemory (AreBoundLines book (times_of p) p.plan.budget)) None p (pair.path ∷ pair.plan ∷ []) outcome asked ⊎ (outcome ≡ Err Memory)
       → IsAnswered (AreBounds p) (pair.path ∷ pair.plan ∷ []) outcome asked
-  bounds_told outcome asked (inl run) = told_answered (AreBounds p) outcome asked (inl (unnamed_bounds outcome (pair.path ∷ pair.plan ∷ []) asked run))
-  bounds_told outcome asked (inr none) = told_answered (AreBounds p) outcome asked (inr none)
+  bounds_answered outcome asked (inl run) = parsed_answered (AreBounds p) outcome asked (inl (unnamed_bounds outcome (pair.path ∷ pair.plan ∷ []) asked run))
+  bounds_answered outcome asked (inr none) = parsed_answered (AreBounds p) outcome asked (inr none)
 
   pub good_bounds : (outcome : Result Answer CommandFault) (asked : List (List ℕ)) → RunsBounds (Shelf content) pair None [] outcome asked → IsAnswered (AreBounds p) (pair.path ∷ pair.plan ∷ []) outcome asked
   good_bounds outcome asked run =
-      bounds_told outcome asked (with_both (λ q. WithSoundNames (Shelf content) (λ book. IsOrMemory (AreBoundLines book (times_of q) q.plan.budget)) None q) outcome asked run)
+      bounds_answered outcome asked (with_both (λ q. WithSoundNames (Shelf content) (λ book. IsOrMemory (AreBoundLines book (times_of q) q.plan.budget)) None q) outcome asked run)
 
   shaped_after_all : (q : PlannedShop) (outcome : Result Answer CommandFault) → IsWellShaped q → IsOrMemory (IsNotShapedLine q) outcome → outcome ≡ Err Memory
   shaped_after_all q (Ok answer) shaped is = absurd (shape_fault_refutes q is.fault is.first shaped)
   shaped_after_all q (Err fault) shaped is = ap Err is
 
   -- without names
-  named_told : (Is : NameBook → PlannedShop → Answer → Type 0) (outcome : Result Answer CommandFault) (before asked : List (List ℕ))
+  named_answered : (Is : NameBook → PlannedShop → Answer → Type 0) (outcome : Result Answer CommandFault) (before asked : List (List ℕ))
       → IfShaped (Shelf content) p (WithNames (Shelf content) None p (λ book. IsOrMemory (Is book p))) before outcome asked
       → Told (IsOrMemory (λ answer. IsNotShapedLine p answer ⊎ Is no_names p answer)) before outcome asked
-  named_told Is (Ok answer) before asked (inl (shaped, run)) = let told = unnamed (λ book. Told (IsOrMemory (Is book p))) before asked (Ok answer) (Shelf content) p run in (inr told.0, told.1)
-  named_told Is (Err fault) before asked (inl (shaped, run)) = unnamed (λ book. Told (IsOrMemory (Is book p))) before asked (Err fault) (Shelf content) p run
-  named_told Is (Ok answer) before asked (inr told) = (inl told.0, told.1)
-  named_told Is (Err fault) before asked (inr told) = told
+  named_answered Is (Ok answer) before asked (inl (shaped, run)) = let told = unnamed (λ book. Told (IsOrMemory (Is book p))) before asked (Ok answer) (Shelf content) p run in (inr told.0, told.1)
+  named_answered Is (Err fault) before asked (inl (shaped, run)) = unnamed (λ book. Told (IsOrMemory (Is book p))) before asked (Err fault) (Shelf content) p run
+  named_answered Is (Ok answer) before asked (inr told) = (inl told.0, told.1)
+  named_answered Is (Err fault) before asked (inr told) = told
 
   named_came : (Is : NameBook → PlannedShop → Answer → Type 0) (outcome : Result Answer CommandFault) (asked : List (List ℕ))
       → IfShaped (Shelf content) p (WithNames (Shelf content) None p (λ book. IsOrMemory (Is book p))) (pair.path ∷ pair.plan ∷ []) outcome asked ⊎ (outcome ≡ Err Memory)
       → IsAnswered (λ answer. IsNotShapedLine p answer ⊎ Is no_names p answer) (pair.path ∷ pair.plan ∷ []) outcome asked
-  named_came Is outcome asked (inl run) = told_answered (λ answer. IsNotShapedLine p answer ⊎ Is no_names p answer) outcome asked (inl (named_told Is outcome (pair.path ∷ pair.plan ∷ []) asked run))
-  named_came Is outcome asked (inr none) = told_answered (λ answer. IsNotShapedLine p answer ⊎ Is no_names p answer) outcome asked (inr none)
+  named_came Is outcome asked (inl run) = parsed_answered (λ answer. IsNotShapedLine p answer ⊎ Is no_names p answer) outcome asked (inl (named_answered Is outcome (pair.path ∷ pair.plan ∷ []) asked run))
+  named_came Is outcome asked (inr none) = parsed_answered (λ answer. IsNotShapedLine p answer ⊎ Is no_names p answer) outcome asked (inr none)
 
   pub good_named : (Is : NameBook → PlannedShop → Answer → Type 0) (outcome : Result Answer CommandFault) (asked : List (List ℕ))
       → WithBoth (Shelf content) pair (λ q. IfShaped (Shelf content) q (WithNames (Shelf content) None q (λ book. IsOrMemory (Is book q)))) [] outcome asked
@@ -203,15 +203,15 @@ module _ (content : List ℕ → Result (List ℕ) CommandFault) (pair : PairOfF
       named_log_came IsLine log text outcome asked is shaped (with_both (λ q. IfShaped (Shelf content) q (WithNamesAndLog (Shelf content) None log q (λ book. IsLine book q))) outcome asked run)
 
   -- of the rest of a run, with no job asked for
-  rest_came : (telling : PlanTelling) (at : Option ℕ) (told : Option ℕ) (log text : List ℕ) (outcome : Result Answer CommandFault) (asked : List (List ℕ)) → content log ≡ Ok text → IsWellShaped p → told ≡ None
-      → WithBoth (Shelf content) pair (λ q. IfShaped (Shelf content) q (IfThere (Shelf content) told q (WithNamesAndLog (Shelf content) None log q (λ book. IsRestLine book telling at q)))) [] outcome asked
-      → IsAnswered (IsRestLine no_names telling at p text) (pair.path ∷ pair.plan ∷ log ∷ []) outcome asked
-  rest_came telling at None log text outcome asked is shaped none run = good_named_log (λ book. IsRestLine book telling at) log text outcome asked is shaped run
-  rest_came telling at (Some j) log text outcome asked is shaped none run = absurd (cc none)
+  rest_came : (wanted : PlanAnswer) (at : Option ℕ) (told : Option ℕ) (log text : List ℕ) (outcome : Result Answer CommandFault) (asked : List (List ℕ)) → content log ≡ Ok text → IsWellShaped p → told ≡ None
+      → WithBoth (Shelf content) pair (λ q. IfShaped (Shelf content) q (IfThere (Shelf content) told q (WithNamesAndLog (Shelf content) None log q (λ book. IsRestLine book wanted at q)))) [] outcome asked
+      → IsAnswered (IsRestLine no_names wanted at p text) (pair.path ∷ pair.plan ∷ log ∷ []) outcome asked
+  rest_came wanted at None log text outcome asked is shaped none run = good_named_log (λ book. IsRestLine book wanted at) log text outcome asked is shaped run
+  rest_came wanted at (Some j) log text outcome asked is shaped none run = absurd (cc none)
 
-  pub good_rest : (telling : PlanTelling) (at : Option ℕ) (log text : List ℕ) (outcome : Result Answer CommandFault) (asked : List (List ℕ)) → content log ≡ Ok text → IsWellShaped p → job_asked telling ≡ None
-      → RunsRest (Shelf content) telling at pair None log [] outcome asked → IsAnswered (IsRestLine no_names telling at p text) (pair.path ∷ pair.plan ∷ log ∷ []) outcome asked
-  good_rest telling at log text outcome asked is shaped none run = rest_came telling at (job_asked telling) log text outcome asked is shaped none run
+  pub good_rest : (wanted : PlanAnswer) (at : Option ℕ) (log text : List ℕ) (outcome : Result Answer CommandFault) (asked : List (List ℕ)) → content log ≡ Ok text → IsWellShaped p → job_asked wanted ≡ None
+      → RunsRest (Shelf content) wanted at pair None log [] outcome asked → IsAnswered (IsRestLine no_names wanted at p text) (pair.path ∷ pair.plan ∷ log ∷ []) outcome asked
+  good_rest wanted at log text outcome asked is shaped none run = rest_came wanted at (job_asked wanted) log text outcome asked is shaped none run
 
   any_drawn : (drawn : Result Drawn CommandFault) (before asked : List (List ℕ)) → IfDrawable p (WithNames (Shelf content) None p (λ book. IsOrMemory (IsPlanDrawn book p))) before drawn asked
       → Told (IsOrMemory (IsAnyPlanDrawn p)) before drawn asked
@@ -223,8 +223,8 @@ module _ (content : List ℕ → Result (List ℕ) CommandFault) (pair : PairOfF
   plan_came_drawn : (drawn : Result Drawn CommandFault) (asked : List (List ℕ))
       → IfDrawable p (WithNames (Shelf content) None p (λ book. IsOrMemory (IsPlanDrawn book p))) (pair.path ∷ pair.plan ∷ []) drawn asked ⊎ (drawn ≡ Err Memory)
       → IsAnswered (IsAnyPlanDrawn p) (pair.path ∷ pair.plan ∷ []) drawn asked
-  plan_came_drawn drawn asked (inl run) = told_answered (IsAnyPlanDrawn p) drawn asked (inl (any_drawn drawn (pair.path ∷ pair.plan ∷ []) asked run))
-  plan_came_drawn drawn asked (inr none) = told_answered (IsAnyPlanDrawn p) drawn asked (inr none)
+  plan_came_drawn drawn asked (inl run) = parsed_answered (IsAnyPlanDrawn p) drawn asked (inl (any_drawn drawn (pair.path ∷ pair.plan ∷ []) asked run))
+  plan_came_drawn drawn asked (inr none) = parsed_answered (IsAnyPlanDrawn p) drawn asked (inr none)
 
   pub good_schedule_picture : (before after : Streams) (outcome : Result Answer CommandFault) (asked : List (List ℕ)) → RunsPicture (DrawsSchedule (Shelf content) pair None) [] before outcome asked after
       → IsDrawn (IsAnyPlanDrawn p) (pair.path ∷ pair.plan ∷ []) before outcome asked after
@@ -285,104 +285,104 @@ module _ (content : List ℕ → Result (List ℕ) CommandFault) (pair : PairOfF
   -- ---- what follows what is to be said of the plan
 
   -- an accepted plan drives its cell
-  loaded_drives : (manner : Manner) (loaded : Result Loaded CommandFault) (asked : List (List ℕ)) (before after : Streams) (outcome : Result Answer CommandFault) → IsWellShaped p → IsAcceptable p
-      → IsAnswered (IsLoaded p) (pair.path ∷ pair.plan ∷ []) loaded asked → Drives manner loaded before after outcome
-      → ((asked ≡ pair.path ∷ pair.plan ∷ []) × ((v : VerifiedPlan) × (v.planned ≡ p) × DrivesCell manner v before after outcome)) ⊎ ((outcome ≡ Err Memory) × (after ≡ before))
-  loaded_drives manner (Err fault) asked before after outcome shaped acceptable is drives = inr (drives.0 ∙ ap Err is, drives.1)
-  loaded_drives manner (Ok (NotShaped fault)) asked before after outcome shaped acceptable is drives = absurd (shape_fault_refutes p fault is.0 shaped)
-  loaded_drives manner (Ok (Judged (Refused back why))) asked before after outcome shaped acceptable is drives = absurd (reason_refutes p why is.0.refused.1 acceptable)
-  loaded_drives manner (Ok (Judged (Accepted v))) asked before after outcome shaped acceptable is drives = inl (is.1, (v, is.0.accepted.0, drives))
+  loaded_drives : (protocol : Protocol) (loaded : Result Loaded CommandFault) (asked : List (List ℕ)) (before after : Streams) (outcome : Result Answer CommandFault) → IsWellShaped p → IsAcceptable p
+      → IsAnswered (IsLoaded p) (pair.path ∷ pair.plan ∷ []) loaded asked → Drives protocol loaded before after outcome
+      → ((asked ≡ pair.path ∷ pair.plan ∷ []) × ((v : VerifiedPlan) × (v.planned ≡ p) × DrivesCell protocol v before after outcome)) ⊎ ((outcome ≡ Err Memory) × (after ≡ before))
+  loaded_drives protocol (Err fault) asked before after outcome shaped acceptable is drives = inr (drives.0 ∙ ap Err is, drives.1)
+  loaded_drives protocol (Ok (NotShaped fault)) asked before after outcome shaped acceptable is drives = absurd (shape_fault_refutes p fault is.0 shaped)
+  loaded_drives protocol (Ok (Judged (Refused back why))) asked before after outcome shaped acceptable is drives = absurd (reason_refutes p why is.0.refused.1 acceptable)
+  loaded_drives protocol (Ok (Judged (Accepted v))) asked before after outcome shaped acceptable is drives = inl (is.1, (v, is.0.accepted.0, drives))
 
-  pub good_drive : (manner : Manner) (before after : Streams) (outcome : Result Answer CommandFault) (asked : List (List ℕ)) → IsWellShaped p → IsAcceptable p → RunsDrive (Shelf content) manner pair [] before outcome asked after
-      → ((asked ≡ pair.path ∷ pair.plan ∷ []) × ((v : VerifiedPlan) × (v.planned ≡ p) × DrivesCell manner v before after outcome)) ⊎ ((outcome ≡ Err Memory) × (after ≡ before))
-  good_drive manner before after outcome asked shaped acceptable run =
-      loaded_drives manner run.loaded asked before after outcome shaped acceptable (good_plan IsLoaded run.loaded asked run.loads) run.drives
+  pub good_drive : (protocol : Protocol) (before after : Streams) (outcome : Result Answer CommandFault) (asked : List (List ℕ)) → IsWellShaped p → IsAcceptable p → RunsDrive (Shelf content) protocol pair [] before outcome asked after
+      → ((asked ≡ pair.path ∷ pair.plan ∷ []) × ((v : VerifiedPlan) × (v.planned ≡ p) × DrivesCell protocol v before after outcome)) ⊎ ((outcome ≡ Err Memory) × (after ≡ before))
+  good_drive protocol before after outcome asked shaped acceptable run =
+      loaded_drives protocol run.loaded asked before after outcome shaped acceptable (good_plan IsLoaded run.loaded asked run.loads) run.drives
 
   -- the text of the log that came is taken up
-  log_resumes : (manner : Manner) (at : Option ℕ) (log text : List ℕ) (came : Result (List ℕ) CommandFault) (mid asked : List (List ℕ)) (before after : Streams) (outcome : Result Answer CommandFault) → content log ≡ Ok text
-      → mid ≡ pair.path ∷ pair.plan ∷ [] → Asks (Shelf content) log mid came asked → ResumesText manner at p came before after outcome
-      → (asked ≡ pair.path ∷ pair.plan ∷ log ∷ []) × ResumesText manner at p (Ok text) before after outcome
-  log_resumes manner at log text (Ok t) mid asked before after outcome is files given resumes =
+  log_resumes : (protocol : Protocol) (at : Option ℕ) (log text : List ℕ) (came : Result (List ℕ) CommandFault) (mid asked : List (List ℕ)) (before after : Streams) (outcome : Result Answer CommandFault) → content log ≡ Ok text
+      → mid ≡ pair.path ∷ pair.plan ∷ [] → Asks (Shelf content) log mid came asked → ResumesText protocol at p came before after outcome
+      → (asked ≡ pair.path ∷ pair.plan ∷ log ∷ []) × ResumesText protocol at p (Ok text) before after outcome
+  log_resumes protocol at log text (Ok t) mid asked before after outcome is files given resumes =
       let same : t ≡ text = (let both : Ok t ≡ Ok text = given.0 ∙ is in cc both) in
-      (given.1 ∙ ap (λ (paths : List (List ℕ)). paths ++ log ∷ []) files, subst (λ (x : List ℕ). ResumesText manner at p (Ok x) before after outcome) same resumes)
-  log_resumes manner at log text (Err f) mid asked before after outcome is files given resumes = absurd (let both : Err f ≡ Ok text = given.1.0 ∙ is in cc both)
+      (given.1 ∙ ap (λ (paths : List (List ℕ)). paths ++ log ∷ []) files, subst (λ (x : List ℕ). ResumesText protocol at p (Ok x) before after outcome) same resumes)
+  log_resumes protocol at log text (Err f) mid asked before after outcome is files given resumes = absurd (let both : Err f ≡ Ok text = given.1.0 ∙ is in cc both)
 
   -- a well-shaped plan has its log asked for
-  shaped_resumes : (manner : Manner) (at : Option ℕ) (log text : List ℕ) (shaped : Result (Result PlannedShop ShapeFault) CommandFault) (mid asked : List (List ℕ)) (before after : Streams) (outcome : Result Answer CommandFault) → content log ≡ Ok text → IsWellShaped p
-      → IsAnswered (IsShapedOrNot p) (pair.path ∷ pair.plan ∷ []) shaped mid → Resumes (Shelf content) manner at log shaped mid before outcome asked after
-      → ((asked ≡ pair.path ∷ pair.plan ∷ log ∷ []) × ResumesText manner at p (Ok text) before after outcome) ⊎ ((outcome ≡ Err Memory) × (after ≡ before))
-  shaped_resumes manner at log text (Err fault) mid asked before after outcome came well is resumes = inr (resumes.0 ∙ ap Err is, resumes.1)
-  shaped_resumes manner at log text (Ok (Err fault)) mid asked before after outcome came well is resumes = absurd (shape_fault_refutes p fault is.0 well)
-  shaped_resumes manner at log text (Ok (Ok q)) mid asked before after outcome came well is resumes =
-      let of_plan : ResumesText manner at p resumes.text before after outcome = subst (λ (x : PlannedShop). ResumesText manner at x resumes.text before after outcome) is.0.0 resumes.resumes in
-      inl (log_resumes manner at log text resumes.text mid asked before after outcome came is.1 resumes.asks of_plan)
+  shaped_resumes : (protocol : Protocol) (at : Option ℕ) (log text : List ℕ) (shaped : Result (Result PlannedShop ShapeFault) CommandFault) (mid asked : List (List ℕ)) (before after : Streams) (outcome : Result Answer CommandFault) → content log ≡ Ok text → IsWellShaped p
+      → IsAnswered (IsShapedOrNot p) (pair.path ∷ pair.plan ∷ []) shaped mid → Resumes (Shelf content) protocol at log shaped mid before outcome asked after
+      → ((asked ≡ pair.path ∷ pair.plan ∷ log ∷ []) × ResumesText protocol at p (Ok text) before after outcome) ⊎ ((outcome ≡ Err Memory) × (after ≡ before))
+  shaped_resumes protocol at log text (Err fault) mid asked before after outcome came well is resumes = inr (resumes.0 ∙ ap Err is, resumes.1)
+  shaped_resumes protocol at log text (Ok (Err fault)) mid asked before after outcome came well is resumes = absurd (shape_fault_refutes p fault is.0 well)
+  shaped_resumes protocol at log text (Ok (Ok q)) mid asked before after outcome came well is resumes =
+      let of_plan : ResumesText protocol at p resumes.text before after outcome = subst (λ (x : PlannedShop). ResumesText protocol at x resumes.text before after outcome) is.0.0 resumes.resumes in
+      inl (log_resumes protocol at log text resumes.text mid asked before after outcome came is.1 resumes.asks of_plan)
 
-  pub good_resume : (manner : Manner) (at : Option ℕ) (before after : Streams) (log text : List ℕ) (outcome : Result Answer CommandFault) (asked : List (List ℕ)) → IsWellShaped p → content log ≡ Ok text
-      → RunsResume (Shelf content) manner at pair log [] before outcome asked after
-      → ((asked ≡ pair.path ∷ pair.plan ∷ log ∷ []) × ResumesText manner at p (Ok text) before after outcome) ⊎ ((outcome ≡ Err Memory) × (after ≡ before))
-  good_resume manner at before after log text outcome asked well is run =
-      shaped_resumes manner at log text run.shaped run.texts_mid asked before after outcome is well (good_plan IsShapedOrNot run.shaped run.texts_mid run.shapes) run.resumes
+  pub good_resume : (protocol : Protocol) (at : Option ℕ) (before after : Streams) (log text : List ℕ) (outcome : Result Answer CommandFault) (asked : List (List ℕ)) → IsWellShaped p → content log ≡ Ok text
+      → RunsResume (Shelf content) protocol at pair log [] before outcome asked after
+      → ((asked ≡ pair.path ∷ pair.plan ∷ log ∷ []) × ResumesText protocol at p (Ok text) before after outcome) ⊎ ((outcome ≡ Err Memory) × (after ≡ before))
+  good_resume protocol at before after log text outcome asked well is run =
+      shaped_resumes protocol at log text run.shaped run.texts_mid asked before after outcome is well (good_plan IsShapedOrNot run.shaped run.texts_mid run.shapes) run.resumes
 
   -- ---- plans that aren't accepted
 
   -- the line of such a plan is that of `check`
-  line_told : (loaded : Loaded) (outcome : Result Answer CommandFault) (asked : List (List ℕ)) → IsLoaded p loaded → asked ≡ pair.path ∷ pair.plan ∷ [] → IsLineTold loaded outcome
+  line_answered : (loaded : Loaded) (outcome : Result Answer CommandFault) (asked : List (List ℕ)) → IsLoaded p loaded → asked ≡ pair.path ∷ pair.plan ∷ [] → IsLineAnswer loaded outcome
       → IsAnswered (IsCheckLine p) (pair.path ∷ pair.plan ∷ []) outcome asked
-  line_told loaded (Ok answer) asked is files told = (line_of_loaded p loaded answer is told, files)
-  line_told loaded (Err fault) asked is files told = told
+  line_answered loaded (Ok answer) asked is files told = (line_of_loaded p loaded answer is told, files)
+  line_answered loaded (Err fault) asked is files told = told
 
-  drives_no_cell : (manner : Manner) (loaded : Result Loaded CommandFault) (asked : List (List ℕ)) (before after : Streams) (outcome : Result Answer CommandFault) → (IsWellShaped p → IsAcceptable p → ⊥)
-      → IsAnswered (IsLoaded p) (pair.path ∷ pair.plan ∷ []) loaded asked → Drives manner loaded before after outcome → IsAnswered (IsCheckLine p) (pair.path ∷ pair.plan ∷ []) outcome asked × (after ≡ before)
-  drives_no_cell manner (Err fault) asked before after outcome never is drives = (wanting (IsCheckLine p) _ outcome asked (drives.0 ∙ ap Err is), drives.1)
-  drives_no_cell manner (Ok (NotShaped fault)) asked before after outcome never is drives = (line_told (NotShaped fault) outcome asked is.0 is.1 drives.0, drives.1)
-  drives_no_cell manner (Ok (Judged (Refused back why))) asked before after outcome never is drives = (line_told (Judged (Refused back why)) outcome asked is.0 is.1 drives.0, drives.1)
-  drives_no_cell manner (Ok (Judged (Accepted v))) asked before after outcome never is drives = absurd (never is.0.well_shaped is.0.accepted.1)
+  drives_no_cell : (protocol : Protocol) (loaded : Result Loaded CommandFault) (asked : List (List ℕ)) (before after : Streams) (outcome : Result Answer CommandFault) → (IsWellShaped p → IsAcceptable p → ⊥)
+      → IsAnswered (IsLoaded p) (pair.path ∷ pair.plan ∷ []) loaded asked → Drives protocol loaded before after outcome → IsAnswered (IsCheckLine p) (pair.path ∷ pair.plan ∷ []) outcome asked × (after ≡ before)
+  drives_no_cell protocol (Err fault) asked before after outcome never is drives = (wanting (IsCheckLine p) _ outcome asked (drives.0 ∙ ap Err is), drives.1)
+  drives_no_cell protocol (Ok (NotShaped fault)) asked before after outcome never is drives = (line_answered (NotShaped fault) outcome asked is.0 is.1 drives.0, drives.1)
+  drives_no_cell protocol (Ok (Judged (Refused back why))) asked before after outcome never is drives = (line_answered (Judged (Refused back why)) outcome asked is.0 is.1 drives.0, drives.1)
+  drives_no_cell protocol (Ok (Judged (Accepted v))) asked before after outcome never is drives = absurd (never is.0.well_shaped is.0.accepted.1)
 
-  pub no_drive : (manner : Manner) (before after : Streams) (outcome : Result Answer CommandFault) (asked : List (List ℕ)) → (IsWellShaped p → IsAcceptable p → ⊥) → RunsDrive (Shelf content) manner pair [] before outcome asked after
+  pub no_drive : (protocol : Protocol) (before after : Streams) (outcome : Result Answer CommandFault) (asked : List (List ℕ)) → (IsWellShaped p → IsAcceptable p → ⊥) → RunsDrive (Shelf content) protocol pair [] before outcome asked after
       → IsAnswered (IsCheckLine p) (pair.path ∷ pair.plan ∷ []) outcome asked × (after ≡ before)
-  no_drive manner before after outcome asked never run = drives_no_cell manner run.loaded asked before after outcome never (good_plan IsLoaded run.loaded asked run.loads) run.drives
+  no_drive protocol before after outcome asked never run = drives_no_cell protocol run.loaded asked before after outcome never (good_plan IsLoaded run.loaded asked run.loads) run.drives
 
   -- a plan that isn't well shaped
-  resumes_unshaped : (manner : Manner) (at : Option ℕ) (log : List ℕ) (shaped : Result (Result PlannedShop ShapeFault) CommandFault) (mid asked : List (List ℕ)) (before after : Streams) (outcome : Result Answer CommandFault) → (IsWellShaped p → ⊥)
-      → IsAnswered (IsShapedOrNot p) (pair.path ∷ pair.plan ∷ []) shaped mid → Resumes (Shelf content) manner at log shaped mid before outcome asked after
+  resumes_unshaped : (protocol : Protocol) (at : Option ℕ) (log : List ℕ) (shaped : Result (Result PlannedShop ShapeFault) CommandFault) (mid asked : List (List ℕ)) (before after : Streams) (outcome : Result Answer CommandFault) → (IsWellShaped p → ⊥)
+      → IsAnswered (IsShapedOrNot p) (pair.path ∷ pair.plan ∷ []) shaped mid → Resumes (Shelf content) protocol at log shaped mid before outcome asked after
       → IsAnswered (IsCheckLine p) (pair.path ∷ pair.plan ∷ []) outcome asked × (after ≡ before)
-  resumes_unshaped manner at log (Err fault) mid asked before after outcome never is resumes = (wanting (IsCheckLine p) _ outcome asked (resumes.0 ∙ ap Err is), resumes.1)
-  resumes_unshaped manner at log (Ok (Err fault)) mid asked before after outcome never is resumes = (line_told (NotShaped fault) outcome asked is.0 (resumes.2 ∙ is.1) resumes.0, resumes.1)
-  resumes_unshaped manner at log (Ok (Ok q)) mid asked before after outcome never is resumes = absurd (never is.0.1)
+  resumes_unshaped protocol at log (Err fault) mid asked before after outcome never is resumes = (wanting (IsCheckLine p) _ outcome asked (resumes.0 ∙ ap Err is), resumes.1)
+  resumes_unshaped protocol at log (Ok (Err fault)) mid asked before after outcome never is resumes = (line_answered (NotShaped fault) outcome asked is.0 (resumes.2 ∙ is.1) resumes.0, resumes.1)
+  resumes_unshaped protocol at log (Ok (Ok q)) mid asked before after outcome never is resumes = absurd (never is.0.1)
 
-  pub no_unshaped_resume : (manner : Manner) (at : Option ℕ) (log : List ℕ) (before after : Streams) (outcome : Result Answer CommandFault) (asked : List (List ℕ)) → (IsWellShaped p → ⊥) → RunsResume (Shelf content) manner at pair log [] before outcome asked after
+  pub no_unshaped_resume : (protocol : Protocol) (at : Option ℕ) (log : List ℕ) (before after : Streams) (outcome : Result Answer CommandFault) (asked : List (List ℕ)) → (IsWellShaped p → ⊥) → RunsResume (Shelf content) protocol at pair log [] before outcome asked after
       → IsAnswered (IsCheckLine p) (pair.path ∷ pair.plan ∷ []) outcome asked × (after ≡ before)
-  no_unshaped_resume manner at log before after outcome asked never run =
-      resumes_unshaped manner at log run.shaped run.texts_mid asked before after outcome never (good_plan IsShapedOrNot run.shaped run.texts_mid run.shapes) run.resumes
+  no_unshaped_resume protocol at log before after outcome asked never run =
+      resumes_unshaped protocol at log run.shaped run.texts_mid asked before after outcome never (good_plan IsShapedOrNot run.shaped run.texts_mid run.shapes) run.resumes
 
   -- a plan by which the run of a log can't go on
-  module _ (manner : Manner) (at : Option ℕ) (text : List ℕ) (told : List Entry) (well : IsWellShaped p) (tells : LinesTell p (ended_lines text) told) (run : IsRun p (events_of told))
+  module _ (protocol : Protocol) (at : Option ℕ) (text : List ℕ) (told : List Entry) (well : IsWellShaped p) (tells : LinesParse p (ended_lines text) told) (run : IsRun p (events_of told))
       (not_past : (cell_after p told).last ≤ unwrap_or at (cell_after p told).last) (no_plan : IsNoPlanFor p told) where
-    not_taken : (t : TakenUp) → IsTakenUp p (ended_lines text) at t → ⊥
-    not_taken t up = go no_plan
+    not_recovered : (t : Recovered) → IsRecovered p (ended_lines text) at t → ⊥
+    not_recovered t up = go no_plan
       where
         same : up.told ≡ told
         same = one_reading p (ended_lines text) up.told told up.tells tells
 
         acyclic : HasNoCycle p
         acyclic nodes cycle =
-            ranks_exclude_cycle p (rank_of t.control.times) nodes (subst (λ (q : PlannedShop). AreRanks q t.control.times) up.taken_from.planned up.taken_from.run.kept.control.ranks).rise cycle
+            ranks_exclude_cycle p (rank_of t.control.times) nodes (subst (λ (q : PlannedShop). AreRanks q t.control.times) up.recovered_from.planned up.recovered_from.run.kept.control.ranks).rise cycle
 
         go : IsNoPlanFor p told → ⊥
         go (inl cyclic) = cyclic acyclic
-        go (inr (none, never)) = never (up.taken_from.accepted (same ∙ none))
+        go (inr (none, never)) = never (up.recovered_from.accepted (same ∙ none))
 
-    untaken_told : (fault : ResumeFault) (files asked : List (List ℕ)) (outcome : Result Answer CommandFault) → asked ≡ files → IsResumeFault p (ended_lines text) at fault → IsUntakenTold fault outcome
+    unrecovered_answered : (fault : ResumeFault) (files asked : List (List ℕ)) (outcome : Result Answer CommandFault) → asked ≡ files → IsResumeFault p (ended_lines text) at fault → IsUnrecoveredAnswer fault outcome
         → IsAnswered (IsCheckLine p) files outcome asked
-    untaken_told WantOfMemory files asked outcome same is told_so = wanting (IsCheckLine p) files outcome asked told_so
-    untaken_told (Log fault) files asked outcome same is told_so = absurd (first_bad-no_run p (ended_lines text) fault is (told, tells, run))
-    untaken_told (Past last) files asked outcome same (others, also, events, is_past) told_so =
+    unrecovered_answered WantOfMemory files asked outcome same is answered_so = wanting (IsCheckLine p) files outcome asked answered_so
+    unrecovered_answered (Log fault) files asked outcome same is answered_so = absurd (first_bad-no_run p (ended_lines text) fault is (told, tells, run))
+    unrecovered_answered (Past last) files asked outcome same (others, also, events, is_past) answered_so =
         let one : others ≡ told = one_reading p (ended_lines text) others told also tells in
         let here : last ≡ (cell_after p told).last = is_past.0 ∙ ap (λ (es : List Entry). (cell_after p es).last) one in
         let past_there : unwrap_or at (cell_after p told).last < (cell_after p told).last = subst (λ n. unwrap_or at n < n) here is_past.1 in
         absurd (omega (arith, past_there, not_past))
-    untaken_told (RefusedRun back why) files asked outcome same (others, also, events, is_refused) told_so =
-        answered_line outcome told_so
+    unrecovered_answered (RefusedRun back why) files asked outcome same (others, also, events, is_refused) answered_so =
+        answered_line outcome answered_so
       where
         judged : IsLoaded p (Judged (Refused back why))
         judged = record { well_shaped = well; accepted = tt; refused = (is_refused.1, reason_of why is_refused.2) }
@@ -391,18 +391,18 @@ module _ (content : List ℕ → Result (List ℕ) CommandFault) (pair : PairOfF
             reason_of (Cycle nodes) cycle = cycle
             reason_of (Late job leaves chain times) late = late.1
 
-        answered_line : (outcome : Result Answer CommandFault) → IsLineTold (Judged (Refused back why)) outcome → IsAnswered (IsCheckLine p) files outcome asked
+        answered_line : (outcome : Result Answer CommandFault) → IsLineAnswer (Judged (Refused back why)) outcome → IsAnswered (IsCheckLine p) files outcome asked
         answered_line (Ok answer) line = (line_of_loaded p (Judged (Refused back why)) answer judged line, same)
         answered_line (Err fault) line = line
 
-    text_resumes : (files asked : List (List ℕ)) (before after : Streams) (outcome : Result Answer CommandFault) → asked ≡ files → ResumesText manner at p (Ok text) before after outcome
+    text_resumes : (files asked : List (List ℕ)) (before after : Streams) (outcome : Result Answer CommandFault) → asked ≡ files → ResumesText protocol at p (Ok text) before after outcome
         → IsAnswered (IsCheckLine p) files outcome asked × (after ≡ before)
-    text_resumes files asked before after outcome same (Ok t, taking, on) = absurd (not_taken t taking.is)
-    text_resumes files asked before after outcome same (Err fault, taking, on) = (untaken_told fault files asked outcome same taking.fault on.0, on.1)
+    text_resumes files asked before after outcome same (Ok t, taking, on) = absurd (not_recovered t taking.is)
+    text_resumes files asked before after outcome same (Err fault, taking, on) = (unrecovered_answered fault files asked outcome same taking.fault on.0, on.1)
 
-    pub no_resume : (log : List ℕ) (before after : Streams) (outcome : Result Answer CommandFault) (asked : List (List ℕ)) → content log ≡ Ok text → RunsResume (Shelf content) manner at pair log [] before outcome asked after
+    pub no_resume : (log : List ℕ) (before after : Streams) (outcome : Result Answer CommandFault) (asked : List (List ℕ)) → content log ≡ Ok text → RunsResume (Shelf content) protocol at pair log [] before outcome asked after
         → IsAnswered (IsCheckLine p) (pair.path ∷ pair.plan ∷ log ∷ []) outcome asked × (after ≡ before)
-    no_resume log before after outcome asked is runs = elim (good_resume manner at before after log text outcome asked well is runs) [
+    no_resume log before after outcome asked is runs = elim (good_resume protocol at before after log text outcome asked well is runs) [
       | inl (files, resumes) ↦ text_resumes (pair.path ∷ pair.plan ∷ log ∷ []) asked before after outcome files resumes
       | inr (none, unread) ↦ (wanting (IsCheckLine p) (pair.path ∷ pair.plan ∷ log ∷ []) outcome asked none, unread)
     ]

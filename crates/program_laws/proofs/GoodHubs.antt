@@ -21,11 +21,11 @@ use Rattle.command_answers.specs.Checks.{IsLoaded, accepted_in}
 use Rattle.command_answers.specs.Commands.{ReadsPlan}
 use Rattle.command_answers.specs.Cells.{AfterPlan, IsCellLine, LoadsEach}
 use Rattle.command_answers.proofs.CheckLines.{line_of_loaded}
-use Rattle.cell_drive.specs.declared.manner.Manner.{Manner}
+use Rattle.cell_drive.specs.declared.protocol.Protocol.{Protocol}
 use Rattle.command_run.specs.Streams.{Streams}
 use Rattle.command_run.specs.Hubs.{DrivesAll}
 use Rattle.command_run.specs.Program.{RunsHub}
-use Rattle.command_run.specs.Laws.{Shelf, IsAnswered, TellsPlanOf, TellsAcceptedPlan, TellAcceptedPlans, DrivesPlans, IsNumberedLine}
+use Rattle.command_run.specs.Laws.{Shelf, IsAnswered, ParsesAsPlanOf, ParsesAsAcceptedPlan, ParseAsAcceptedPlans, DrivesPlans, IsNumberedLine}
 use Rattle.plan_verifier.proofs.Reasons.{reason_refutes}
 use Rattle.program_laws.proofs.GoodFiles.{answered, wanting, asked_and_read}
 
@@ -39,15 +39,15 @@ AreCellsOf plans (AllAccepted all) = plans_of all.items ≡ plans
 AreCellsOf plans (Line answer) = ⊥
 
 -- accepted plans drive their cells
-cells_drive : (manner : Manner) (files : List (List ℕ)) (plans : List PlannedShop) (loaded : Result Cells CommandFault) (before after : Streams) (outcome : Result Answer CommandFault) (asked : List (List ℕ))
-    → IsAnswered (AreCellsOf plans) files loaded asked → DrivesAll manner loaded before after outcome → ((asked ≡ files) × DrivesPlans manner plans before after outcome) ⊎ ((outcome ≡ Err Memory) × (after ≡ before))
-cells_drive manner files plans (Err fault) before after outcome asked is drives = inr (drives.0 ∙ ap Err is, drives.1)
-cells_drive manner files plans (Ok (Line answer)) before after outcome asked is drives = absurd is.0
-cells_drive manner files plans (Ok (AllAccepted cells)) before after outcome asked is drives = inl (is.1, (cells.items, is.0, drives))
+cells_drive : (protocol : Protocol) (files : List (List ℕ)) (plans : List PlannedShop) (loaded : Result Cells CommandFault) (before after : Streams) (outcome : Result Answer CommandFault) (asked : List (List ℕ))
+    → IsAnswered (AreCellsOf plans) files loaded asked → DrivesAll protocol loaded before after outcome → ((asked ≡ files) × DrivesPlans protocol plans before after outcome) ⊎ ((outcome ≡ Err Memory) × (after ≡ before))
+cells_drive protocol files plans (Err fault) before after outcome asked is drives = inr (drives.0 ∙ ap Err is, drives.1)
+cells_drive protocol files plans (Ok (Line answer)) before after outcome asked is drives = absurd is.0
+cells_drive protocol files plans (Ok (AllAccepted cells)) before after outcome asked is drives = inl (is.1, (cells.items, is.0, drives))
 
 module _ (content : List ℕ → Result (List ℕ) CommandFault) (instance : List ℕ) (name : Option (List ℕ)) where
   -- a plan's text tells its plan
-  plan_came : (path : List ℕ) (p : PlannedShop) (good : TellsPlanOf content instance name path p) (shop : JobShop) (came : Result ShopPlan CommandFault) (before mid : List (List ℕ))
+  plan_came : (path : List ℕ) (p : PlannedShop) (good : ParsesAsPlanOf content instance name path p) (shop : JobShop) (came : Result ShopPlan CommandFault) (before mid : List (List ℕ))
       (loaded : Result Loaded CommandFault) (asked : List (List ℕ)) → shop ≡ p.shop → IsPlanRead good.plan came → mid ≡ before ++ path ∷ []
       → GoesOn (λ plan. Told (IsOrMemory (IsLoaded (record { shop = shop; plan = plan })))) came mid loaded asked → IsAnswered (IsLoaded p) (before ++ path ∷ []) loaded asked
   plan_came path p good shop (Ok plan) before mid loaded asked same_shop is files on =
@@ -58,7 +58,7 @@ module _ (content : List ℕ → Result (List ℕ) CommandFault) (instance : Lis
   plan_came path p good shop (Err f) before mid loaded asked same_shop is files on = wanting _ _ loaded asked (on.0 ∙ ap Err (is.only p.plan good.tell.plan))
 
   -- the plan of a file is accepted
-  one_came : (path : List ℕ) (p : PlannedShop) → TellsPlanOf content instance name path p → (came : Result Named CommandFault) (before mid : List (List ℕ))
+  one_came : (path : List ℕ) (p : PlannedShop) → ParsesAsPlanOf content instance name path p → (came : Result Named CommandFault) (before mid : List (List ℕ))
       (loaded : Result Loaded CommandFault) (asked : List (List ℕ)) → IsInstanceRead instance name came → mid ≡ before
       → GoesOn (λ named. Then (ReadsPlan (Shelf content) path) (λ plan. Told (IsOrMemory (IsLoaded (record { shop = named.shop; plan = plan }))))) came mid loaded asked
       → IsAnswered (IsLoaded p) (before ++ path ∷ []) loaded asked
@@ -69,7 +69,7 @@ module _ (content : List ℕ → Result (List ℕ) CommandFault) (instance : Lis
   one_came path p good (Err f) before mid loaded asked is same on = wanting _ _ loaded asked (on.0 ∙ ap Err (is.only good.tell.description p.shop good.tell.shop))
 
   -- behind it come the others
-  others_come : (path : List ℕ) (p : PlannedShop) → TellsAcceptedPlan content instance name path p → (paths : List (List ℕ)) (plans : List PlannedShop) (cells : List VerifiedPlan) (before mid : List (List ℕ))
+  others_come : (path : List ℕ) (p : PlannedShop) → ParsesAsAcceptedPlan content instance name path p → (paths : List (List ℕ)) (plans : List PlannedShop) (cells : List VerifiedPlan) (before mid : List (List ℕ))
       → ((more : List VerifiedPlan) (here : List (List ℕ)) (loaded : Result Cells CommandFault) (asked : List (List ℕ)) → LoadsEach (Shelf content) instance name more paths here loaded asked
       → IsAnswered (AreCellsOf (plans_of more ++ plans)) (here ++ paths) loaded asked)
       → (one : Result Loaded CommandFault) (loaded : Result Cells CommandFault) (asked : List (List ℕ)) → IsAnswered (IsLoaded p) (before ++ path ∷ []) one mid
@@ -88,7 +88,7 @@ module _ (content : List ℕ → Result (List ℕ) CommandFault) (instance : Lis
       (subst (λ (fs : List (List ℕ)). IsAnswered (AreCellsOf (plans_of (cells ++ v ∷ []) ++ plans)) fs loaded asked) files (rest (cells ++ v ∷ []) mid loaded asked on))
 
   -- the plans that are left are accepted, behind those that are so far
-  each_come : (paths : List (List ℕ)) (plans : List PlannedShop) → TellAcceptedPlans content instance name paths plans → (cells : List VerifiedPlan) (here : List (List ℕ)) (loaded : Result Cells CommandFault)
+  each_come : (paths : List (List ℕ)) (plans : List PlannedShop) → ParseAsAcceptedPlans content instance name paths plans → (cells : List VerifiedPlan) (here : List (List ℕ)) (loaded : Result Cells CommandFault)
       (asked : List (List ℕ)) → LoadsEach (Shelf content) instance name cells paths here loaded asked → IsAnswered (AreCellsOf (plans_of cells ++ plans)) (here ++ paths) loaded asked
   each_come [] [] good cells here (Ok (AllAccepted all)) asked loads = (ap plans_of loads.0 ∙ sym (append-nil (plans_of cells)), loads.1 ∙ sym (append-nil here))
   each_come [] [] good cells here (Ok (Line answer)) asked loads = absurd loads.0
@@ -99,7 +99,7 @@ module _ (content : List ℕ → Result (List ℕ) CommandFault) (instance : Lis
       let one = one_came path p good.0.told loads.is.came here loads.is.mid loads.came loads.mid loads.is.is.0 loads.is.is.1 loads.is.goes_on in
       others_come path p good.0 paths plans cells here loads.mid (λ more now those files each. each_come paths plans good.1 more now those files each) loads.came loaded asked one loads.goes_on
 
-  cells_come : (path : List ℕ) (files : List (List ℕ)) (plans : List PlannedShop) → content path ≡ Ok instance → TellAcceptedPlans content instance name files plans → (came : Result (List ℕ) CommandFault)
+  cells_come : (path : List ℕ) (files : List (List ℕ)) (plans : List PlannedShop) → content path ≡ Ok instance → ParseAsAcceptedPlans content instance name files plans → (came : Result (List ℕ) CommandFault)
       (mid : List (List ℕ)) (loaded : Result Cells CommandFault) (asked : List (List ℕ)) → Asks (Shelf content) path [] came mid → GoesOn (λ t. LoadsEach (Shelf content) t name [] files) came mid loaded asked
       → IsAnswered (AreCellsOf plans) (path ∷ files) loaded asked
   cells_come path files plans is good (Ok t) mid loaded asked given on =
@@ -108,10 +108,10 @@ module _ (content : List ℕ → Result (List ℕ) CommandFault) (instance : Lis
       subst (λ (here : List (List ℕ)). IsAnswered (AreCellsOf plans) (here ++ files) loaded asked) given.1 each
   cells_come path files plans is good (Err f) mid loaded asked given on = absurd (let both : Err f ≡ Ok instance = given.1.0 ∙ is in cc both)
 
-  pub good_hub : (manner : Manner) (path : List ℕ) (files : List (List ℕ)) (plans : List PlannedShop) (before after : Streams) (outcome : Result Answer CommandFault) (asked : List (List ℕ)) → content path ≡ Ok instance
-      → TellAcceptedPlans content instance name files plans → RunsHub (Shelf content) manner path name files [] before outcome asked after → ((asked ≡ path ∷ files) × DrivesPlans manner plans before after outcome) ⊎ ((outcome ≡ Err Memory) × (after ≡ before))
-  good_hub manner path files plans before after outcome asked is good run =
-      cells_drive manner (path ∷ files) plans run.loaded before after outcome asked (cells_come path files plans is good run.loads.came run.loads.mid run.loaded asked run.loads.is run.loads.goes_on) run.drives
+  pub good_hub : (protocol : Protocol) (path : List ℕ) (files : List (List ℕ)) (plans : List PlannedShop) (before after : Streams) (outcome : Result Answer CommandFault) (asked : List (List ℕ)) → content path ≡ Ok instance
+      → ParseAsAcceptedPlans content instance name files plans → RunsHub (Shelf content) protocol path name files [] before outcome asked after → ((asked ≡ path ∷ files) × DrivesPlans protocol plans before after outcome) ⊎ ((outcome ≡ Err Memory) × (after ≡ before))
+  good_hub protocol path files plans before after outcome asked is good run =
+      cells_drive protocol (path ∷ files) plans run.loaded before after outcome asked (cells_come path files plans is good run.loads.came run.loads.mid run.loaded asked run.loads.is run.loads.goes_on) run.drives
 
 -- the line of a plan that isn't accepted, behind its number
 abbrev IsCellsLine : ℕ → PlannedShop → Cells → Type 0
@@ -119,11 +119,11 @@ IsCellsLine number p (AllAccepted all) = ⊥
 IsCellsLine number p (Line answer) = IsNumberedLine number p answer
 
 -- it is the answer, with no byte read or written
-line_answered : (manner : Manner) (number : ℕ) (p : PlannedShop) (files : List (List ℕ)) (loaded : Result Cells CommandFault) (before after : Streams) (outcome : Result Answer CommandFault) (asked : List (List ℕ))
-    → IsAnswered (IsCellsLine number p) files loaded asked → DrivesAll manner loaded before after outcome → IsAnswered (IsNumberedLine number p) files outcome asked × (after ≡ before)
-line_answered manner number p files (Err fault) before after outcome asked is drives = (wanting _ _ outcome asked (drives.0 ∙ ap Err is), drives.1)
-line_answered manner number p files (Ok (Line answer)) before after outcome asked is drives = (subst (λ r. IsAnswered (IsNumberedLine number p) files r asked) (sym drives.0) is, drives.1)
-line_answered manner number p files (Ok (AllAccepted cells)) before after outcome asked is drives = absurd is.0
+line_answered : (protocol : Protocol) (number : ℕ) (p : PlannedShop) (files : List (List ℕ)) (loaded : Result Cells CommandFault) (before after : Streams) (outcome : Result Answer CommandFault) (asked : List (List ℕ))
+    → IsAnswered (IsCellsLine number p) files loaded asked → DrivesAll protocol loaded before after outcome → IsAnswered (IsNumberedLine number p) files outcome asked × (after ≡ before)
+line_answered protocol number p files (Err fault) before after outcome asked is drives = (wanting _ _ outcome asked (drives.0 ∙ ap Err is), drives.1)
+line_answered protocol number p files (Ok (Line answer)) before after outcome asked is drives = (subst (λ r. IsAnswered (IsNumberedLine number p) files r asked) (sym drives.0) is, drives.1)
+line_answered protocol number p files (Ok (AllAccepted cells)) before after outcome asked is drives = absurd is.0
 
 cell_told : (number : ℕ) (p : PlannedShop) (files : List (List ℕ)) (l : Loaded) (loaded : Result Cells CommandFault) (asked : List (List ℕ)) → IsLoaded p l → IsCellLine number l loaded → asked ≡ files
     → IsAnswered (IsCellsLine number p) files loaded asked
@@ -133,7 +133,7 @@ cell_told number p files l (Ok (AllAccepted all)) asked is told same = absurd to
 cell_told number p files l (Err fault) asked is told same = told
 
 module _ (content : List ℕ → Result (List ℕ) CommandFault) (instance : List ℕ) (name : Option (List ℕ)) (file : List ℕ) (p : PlannedShop) (others : List (List ℕ))
-    (told : TellsPlanOf content instance name file p) (never : IsWellShaped p → IsAcceptable p → ⊥) where
+    (told : ParsesAsPlanOf content instance name file p) (never : IsWellShaped p → IsAcceptable p → ⊥) where
   -- the plan that isn't accepted ends it
   ends_there : (cells : List VerifiedPlan) (rest : List VerifiedPlan → List (List ℕ) → Result Cells CommandFault → List (List ℕ) → Type 0) (one : Result Loaded CommandFault) (mid files : List (List ℕ))
       (loaded : Result Cells CommandFault) (asked : List (List ℕ)) → IsAnswered (IsLoaded p) files one mid → GoesOn (λ l. AfterPlan cells rest (accepted_in l)) one mid loaded asked
@@ -144,7 +144,7 @@ module _ (content : List ℕ → Result (List ℕ) CommandFault) (instance : Lis
   ends_there cells rest (Ok (Judged (Accepted v))) mid files loaded asked is on = absurd (never is.0.well_shaped is.0.accepted.1)
 
   -- an accepted plan is passed
-  passes : (path : List ℕ) (q : PlannedShop) → TellsAcceptedPlan content instance name path q → (paths : List (List ℕ)) (cells : List VerifiedPlan) (before mid : List (List ℕ))
+  passes : (path : List ℕ) (q : PlannedShop) → ParsesAsAcceptedPlan content instance name path q → (paths : List (List ℕ)) (cells : List VerifiedPlan) (before mid : List (List ℕ))
       → ((more : List VerifiedPlan) (here : List (List ℕ)) (loaded : Result Cells CommandFault) (asked : List (List ℕ)) → LoadsEach (Shelf content) instance name more (paths ++ file ∷ others) here loaded asked
       → IsAnswered (IsCellsLine (length more + length paths) p) (here ++ (paths ++ file ∷ [])) loaded asked)
       → (one : Result Loaded CommandFault) (loaded : Result Cells CommandFault) (asked : List (List ℕ)) → IsAnswered (IsLoaded q) (before ++ path ∷ []) one mid
@@ -161,7 +161,7 @@ module _ (content : List ℕ → Result (List ℕ) CommandFault) (instance : Lis
       subst (λ (n : ℕ). IsAnswered (IsCellsLine n p) (before ++ path ∷ (paths ++ file ∷ [])) loaded asked) number
       (subst (λ (fs : List (List ℕ)). IsAnswered (IsCellsLine (length (cells ++ v ∷ []) + length paths) p) fs loaded asked) files (rest (cells ++ v ∷ []) mid loaded asked on))
 
-  line_comes : (paths : List (List ℕ)) (plans : List PlannedShop) → TellAcceptedPlans content instance name paths plans → (cells : List VerifiedPlan) (here : List (List ℕ)) (loaded : Result Cells CommandFault)
+  line_comes : (paths : List (List ℕ)) (plans : List PlannedShop) → ParseAsAcceptedPlans content instance name paths plans → (cells : List VerifiedPlan) (here : List (List ℕ)) (loaded : Result Cells CommandFault)
       (asked : List (List ℕ)) → LoadsEach (Shelf content) instance name cells (paths ++ file ∷ others) here loaded asked
       → IsAnswered (IsCellsLine (length cells + length paths) p) (here ++ (paths ++ file ∷ [])) loaded asked
   line_comes [] [] good cells here loaded asked loads =
@@ -174,7 +174,7 @@ module _ (content : List ℕ → Result (List ℕ) CommandFault) (instance : Lis
       let one = one_came content instance name path q good.0.told loads.is.came here loads.is.mid loads.came loads.mid loads.is.is.0 loads.is.is.1 loads.is.goes_on in
       passes path q good.0 paths cells here loads.mid (λ more now those files each. line_comes paths plans good.1 more now those files each) loads.came loaded asked one loads.goes_on
 
-  line_of_cells : (path : List ℕ) (files : List (List ℕ)) (plans : List PlannedShop) → content path ≡ Ok instance → TellAcceptedPlans content instance name files plans → (came : Result (List ℕ) CommandFault)
+  line_of_cells : (path : List ℕ) (files : List (List ℕ)) (plans : List PlannedShop) → content path ≡ Ok instance → ParseAsAcceptedPlans content instance name files plans → (came : Result (List ℕ) CommandFault)
       (mid : List (List ℕ)) (loaded : Result Cells CommandFault) (asked : List (List ℕ)) → Asks (Shelf content) path [] came mid → GoesOn (λ t. LoadsEach (Shelf content) t name [] (files ++ file ∷ others)) came mid loaded asked
       → IsAnswered (IsCellsLine (length files) p) (path ∷ (files ++ file ∷ [])) loaded asked
   line_of_cells path files plans is good (Ok t) mid loaded asked given on =
@@ -185,9 +185,9 @@ module _ (content : List ℕ → Result (List ℕ) CommandFault) (instance : Lis
       (subst (λ (here : List (List ℕ)). IsAnswered (IsCellsLine (0 + length files) p) (here ++ (files ++ file ∷ [])) loaded asked) given.1 line)
   line_of_cells path files plans is good (Err f) mid loaded asked given on = absurd (let both : Err f ≡ Ok instance = given.1.0 ∙ is in cc both)
 
-  pub no_hub : (manner : Manner) (path : List ℕ) (files : List (List ℕ)) (plans : List PlannedShop) (before after : Streams) (outcome : Result Answer CommandFault) (asked : List (List ℕ)) → content path ≡ Ok instance
-      → TellAcceptedPlans content instance name files plans → RunsHub (Shelf content) manner path name (files ++ file ∷ others) [] before outcome asked after
+  pub no_hub : (protocol : Protocol) (path : List ℕ) (files : List (List ℕ)) (plans : List PlannedShop) (before after : Streams) (outcome : Result Answer CommandFault) (asked : List (List ℕ)) → content path ≡ Ok instance
+      → ParseAsAcceptedPlans content instance name files plans → RunsHub (Shelf content) protocol path name (files ++ file ∷ others) [] before outcome asked after
       → IsAnswered (IsNumberedLine (length files) p) (path ∷ (files ++ file ∷ [])) outcome asked × (after ≡ before)
-  no_hub manner path files plans before after outcome asked is good run =
-      line_answered manner (length files) p (path ∷ (files ++ file ∷ [])) run.loaded before after outcome asked
+  no_hub protocol path files plans before after outcome asked is good run =
+      line_answered protocol (length files) p (path ∷ (files ++ file ∷ [])) run.loaded before after outcome asked
       (line_of_cells path files plans is good run.loads.came run.loads.mid run.loaded asked run.loads.is run.loads.goes_on) run.drives

@@ -6,7 +6,7 @@ use Rattle.text_lines.specs.declared.limits.TheConstants.{MAX_INPUT}
 use Rattle.command_answers.specs.declared.answer.Answer.{Answer}
 use Rattle.command_answers.specs.declared.command_fault.CommandFault.{CommandFault}
 use Rattle.command_answers.specs.declared.command_fault.CommandFault.TheVariants.{Instance, Plan, Names, Read, Write, InputTooLong, Log, LogInUse, Memory}
-use Rattle.command_answers.specs.Instances.{Tells}
+use Rattle.command_answers.specs.Instances.{ParsesAs}
 use Rattle.command_answers.specs.Readings.{AreFactsAnswered}
 use Rattle.command_answers.specs.Steps.{GoesOn, Told}
 use Rattle.command_run.specs.Streams.{Input}
@@ -23,17 +23,17 @@ no_more : (after : Option (List ℕ)) (text came : List ℕ) → Consumes (Some 
 no_more None text came was = absurd was
 no_more (Some ys) text came was = omega (arith, ap length was, length-append came ys)
 
-module _ (text description : List ℕ) (shop : JobShop) (tells : Tells text None description shop) where
-  facts_told : (outcome : Result Answer CommandFault) (after : Input) → AreFactsAnswered text None outcome → after.left ≡ Some [] → IsInputAnswered shop outcome after
-  facts_told (Ok answer) after are whole = (are.only description shop tells, whole)
-  facts_told (Err fault) after are whole = subst (λ f. IsInputAnswered shop (Err f) after) (sym (are.only description shop tells)) tt
+module _ (text description : List ℕ) (shop : JobShop) (tells : ParsesAs text None description shop) where
+  facts_answered_first : (outcome : Result Answer CommandFault) (after : Input) → AreFactsAnswered text None outcome → after.left ≡ Some [] → IsInputAnswered shop outcome after
+  facts_answered_first (Ok answer) after are whole = (are.only description shop tells, whole)
+  facts_answered_first (Err fault) after are whole = subst (λ f. IsInputAnswered shop (Err f) after) (sym (are.only description shop tells)) tt
 
   -- what came of the reading is answered
   input_read : (before mid after : Input) (came : Result (List ℕ) CommandFault) (outcome : Result Answer CommandFault) → before.left ≡ Some text → length text ≤ MAX_INPUT
       → IsInputRead before came mid → GoesOn (λ t. Told (AreFactsAnswered t None)) came mid outcome after → IsInputAnswered shop outcome after
   input_read before mid after (Ok t) outcome given few is on =
       let all = all_given mid.left text t (subst (λ o. Consumes o mid.left t) given is.0) is.1 in
-      facts_told outcome after (subst (λ x. AreFactsAnswered x None outcome) all.0 on.0) (ap (λ (i : Input). i.left) on.1 ∙ all.1)
+      facts_answered_first outcome after (subst (λ x. AreFactsAnswered x None outcome) all.0 on.0) (ap (λ (i : Input). i.left) on.1 ∙ all.1)
   input_read before mid after (Err (Names names)) outcome given few is on = absurd is
   input_read before mid after (Err Read) outcome given few is on = subst (λ r. IsInputAnswered shop r after) (sym on.0) (ap (λ (i : Input). i.failed) on.1 ∙ is)
   input_read before mid after (Err InputTooLong) outcome given few is on =
@@ -46,6 +46,6 @@ module _ (text description : List ℕ) (shop : JobShop) (tells : Tells text None
   input_read before mid after (Err LogInUse) outcome given few is on = absurd is
 
 pub good_input : (before after : Input) (text description : List ℕ) (shop : JobShop) (outcome : Result Answer CommandFault) → before.left ≡ Some text → length text ≤ MAX_INPUT
-    → Tells text None description shop → RunsInput before outcome after → IsInputAnswered shop outcome after
+    → ParsesAs text None description shop → RunsInput before outcome after → IsInputAnswered shop outcome after
 good_input before after text description shop outcome given few tells run =
     input_read text description shop tells before run.mid after run.came outcome given few run.is run.goes_on

@@ -4,7 +4,7 @@ pub mod GoodHubs
 pub mod GoodInputs
 pub mod SameWriting
 pub mod SameResuming
-pub mod ToldLogs
+pub mod KnownHistories
 pub mod OneLogs
 mod NamedPlans
 mod TouchedLogs

@@ -4,8 +4,8 @@ use Rattle.shop_base.specs.declared.shape_fault.ShapeFault.{ShapeFault}
 use Rattle.shop_base.specs.Plan.{PlannedShop}
 use Rattle.text_lines.specs.Lines.{lines_of}
 use Rattle.cell_tables.specs.declared.entry.Entry.{Entry}
-use Rattle.cell_drive.specs.declared.manner.Manner.{Manner}
-use Rattle.cell_drive.specs.TakenUp.{TakenUp, plan_of}
+use Rattle.cell_drive.specs.declared.protocol.Protocol.{Protocol}
+use Rattle.cell_drive.specs.Recovered.{Recovered, plan_of}
 use Rattle.byte_streams.specs.declared.drive_fault.DriveFault.{DriveFault}
 use Rattle.event_lines.specs.declared.run_digits.RunDigits.{RunDigits}
 use Rattle.run_journal.specs.declared.file_fault.FileFault.{FileFault}
@@ -16,7 +16,7 @@ use Rattle.run_journal.specs.Logged.{Held}
 use Rattle.run_journal.specs.LogRuns.{IsRunOf, NameLast}
 use Rattle.run_journal.specs.WholeLines.{whole_lines}
 use Rattle.run_journal.proofs.LogRuns.{last_run}
-use Rattle.logged_drive.specs.declared.taken_log.TakeUpFault.{TakeUpFault}
+use Rattle.logged_drive.specs.declared.recovered_log.RecoverFault.{RecoverFault}
 use Rattle.command_words.specs.declared.words.Chosen.{Chosen}
 use Rattle.command_words.specs.declared.words.log_start.LogStart.{LogStart}
 use Rattle.command_words.specs.declared.words.log_start.LogStart.TheVariants.{Any, New, Continue, HandOver}
@@ -29,10 +29,10 @@ use Rattle.command_run.specs.Streams.{Devices, Streams, Output}
 use Rattle.command_run.specs.Misfits.{IsMisfit}
 use Rattle.command_run.specs.declared.misfits.Misfit.{Misfit}
 use Rattle.command_run.specs.declared.misfits.Misfit.TheVariants.{NotNew, OtherPlan}
-use Rattle.command_run.specs.Logs.{Driven, Found, DrivesAs, DrivesFitting, DrivesFound, DrivesOpened, DrivesShaped, GoesOnAfter, GoesOnTaken, LogEnd, Step, TakesLog, bytes_in, digits_in}
+use Rattle.command_run.specs.Logs.{Driven, Found, DrivesAs, DrivesFitting, DrivesFound, DrivesOpened, DrivesShaped, GoesOnAfter, ContinuesRecovered, LogEnd, Step, RecoversLog, bytes_in, digits_in}
 use Rattle.command_run.specs.Program.{Follows, RunsChosen, kept_log_in}
 use Rattle.program_laws.specs.PlanLaw.{NoOtherPlanDrives}
-use Rattle.program_laws.proofs.ToldLogs.{asked_path}
+use Rattle.program_laws.proofs.KnownHistories.{asked_path}
 
 -- a cell was driven with a log by this plan
 abbrev DrivenBy : PlannedShop → Option LogEnd → Type 0
@@ -48,13 +48,13 @@ module _ (p : PlannedShop) where
   undriven (Some bytes) driven = absurd (cc driven.2)
 
   -- the plan by which it goes on is the one by which it was taken up
-  taken_plan : (manner : Manner) (q : PlannedShop) (t : TakenUp) (mid : Output) (told : Result TakenUp DriveFault) (step : Step) → plan_of t ≡ q → GoesOnAfter manner t mid told step → DrivenBy p step.log → p ≡ q
-  taken_plan manner q t mid (Ok done) step planned run driven = (let same : p ≡ plan_of t = cc (sym driven.2 ∙ run.log) in same ∙ planned)
-  taken_plan manner q t mid (Err fault) step planned is driven = absurd (cc (sym driven.2 ∙ is.2))
+  recovered_plan : (protocol : Protocol) (q : PlannedShop) (t : Recovered) (mid : Output) (told : Result Recovered DriveFault) (step : Step) → plan_of t ≡ q → GoesOnAfter protocol t mid told step → DrivenBy p step.log → p ≡ q
+  recovered_plan protocol q t mid (Ok done) step planned run driven = (let same : p ≡ plan_of t = cc (sym driven.2 ∙ run.log) in same ∙ planned)
+  recovered_plan protocol q t mid (Err fault) step planned is driven = absurd (cc (sym driven.2 ∙ is.2))
 
-  log_plan : (manner : Manner) (at : Option ℕ) (q : PlannedShop) (text : List ℕ) (taken : Result TakenUp TakeUpFault) (step : Step) → TakesLog q at text taken → GoesOnTaken q manner text taken step → DrivenBy p step.log → p ≡ q
-  log_plan manner at q text (Ok t) step takes on driven = taken_plan manner q t on.mid on.told step takes.is.taken_from.planned on.goes_on driven
-  log_plan manner at q text (Err fault) step takes is driven = absurd (cc (sym driven.2 ∙ is.1.is))
+  log_plan : (protocol : Protocol) (at : Option ℕ) (q : PlannedShop) (text : List ℕ) (taken : Result Recovered RecoverFault) (step : Step) → RecoversLog q at text taken → ContinuesRecovered q protocol text taken step → DrivenBy p step.log → p ≡ q
+  log_plan protocol at q text (Ok t) step takes on driven = recovered_plan protocol q t on.mid on.told step takes.is.recovered_from.planned on.goes_on driven
+  log_plan protocol at q text (Err fault) step takes is driven = absurd (cc (sym driven.2 ∙ is.1.is))
 
 -- ---- a log that names a plan
 
@@ -66,38 +66,38 @@ fits Continue run digits own is start none other = none (OtherPlan digits) (inr 
 fits HandOver run digits own is start none other = start refl
 
 module _ (p : PlannedShop) (digits : RunDigits) (bytes : List ℕ) (named : NameLast (lines_of (whole_lines bytes)) digits) (other : digits_in p ≡ digits → ⊥) where
-  fitting : (folder after : Folder) (path : List ℕ) (manner : Manner) (at : Option ℕ) (q : PlannedShop) (step : Step) → DrivesFitting folder after path manner at q (Some bytes) step → DrivenBy p step.log → p ≡ q
-  fitting folder after path manner at q step is driven = some bytes named is
+  fitting : (folder after : Folder) (path : List ℕ) (protocol : Protocol) (at : Option ℕ) (q : PlannedShop) (step : Step) → DrivesFitting folder after path protocol at q (Some bytes) step → DrivenBy p step.log → p ≡ q
+  fitting folder after path protocol at q step is driven = some bytes named is
     where
-      some : (xs : List ℕ) → NameLast (lines_of (whole_lines xs)) digits → DrivesFitting folder after path manner at q (Some xs) step → p ≡ q
+      some : (xs : List ℕ) → NameLast (lines_of (whole_lines xs)) digits → DrivesFitting folder after path protocol at q (Some xs) step → p ≡ q
       some [] none is = absurd none
-      some (x ∷ xs) names is = log_plan p manner at q (x ∷ xs) is.0.taken step is.0.takes is.0.goes_on driven
+      some (x ∷ xs) names is = log_plan p protocol at q (x ∷ xs) is.0.taken step is.0.takes is.0.goes_on driven
 
-  as_asked : (folder after : Folder) (path : List ℕ) (start : LogStart) (manner : Manner) (at : Option ℕ) (q : PlannedShop) (run : LogRun) (misfit : Option Misfit) (step : Step) → IsRunOf (lines_of (whole_lines bytes)) run
-      → (start ≡ HandOver → ⊥) → MatchOption misfit ((m : Misfit) → IsMisfit start run (digits_in q) m → ⊥) (IsMisfit start run (digits_in q)) → DrivesAs folder after path misfit manner at q (Some bytes) step → DrivenBy p step.log → ⊥
-  as_asked folder after path start manner at q run (Some m) step tells asked is drives driven = never p step.log (Some (Found bytes)) drives.1.is (undriven p (Some bytes)) driven
-  as_asked folder after path start manner at q run None step tells asked none drives driven =
-      let same = fitting folder after path manner at q step drives driven in
+  as_asked : (folder after : Folder) (path : List ℕ) (start : LogStart) (protocol : Protocol) (at : Option ℕ) (q : PlannedShop) (run : LogRun) (misfit : Option Misfit) (step : Step) → IsRunOf (lines_of (whole_lines bytes)) run
+      → (start ≡ HandOver → ⊥) → MatchOption misfit ((m : Misfit) → IsMisfit start run (digits_in q) m → ⊥) (IsMisfit start run (digits_in q)) → DrivesAs folder after path misfit protocol at q (Some bytes) step → DrivenBy p step.log → ⊥
+  as_asked folder after path start protocol at q run (Some m) step tells asked is drives driven = never p step.log (Some (Found bytes)) drives.1.is (undriven p (Some bytes)) driven
+  as_asked folder after path start protocol at q run None step tells asked none drives driven =
+      let same = fitting folder after path protocol at q step drives driven in
       fits start run digits (digits_in q) (last_run (lines_of (whole_lines bytes)) run digits tells named) asked none (λ is. other (ap digits_in same ∙ is))
 
-  found : (folder after : Folder) (path : List ℕ) (start : LogStart) (manner : Manner) (at : Option ℕ) (q : PlannedShop) (there : Option (List ℕ)) (step : Step) → there ≡ Some bytes → (start ≡ HandOver → ⊥)
-      → DrivesFound folder after path start manner at q there step → DrivenBy p step.log → ⊥
-  found folder after path start manner at q there step is asked drives =
-      let here = subst (λ (o : Option (List ℕ)). DrivesFound folder after path start manner at q o step) is drives in
-      as_asked folder after path start manner at q here.run here.misfit step here.tells asked here.is_misfit here.drives
+  found : (folder after : Folder) (path : List ℕ) (start : LogStart) (protocol : Protocol) (at : Option ℕ) (q : PlannedShop) (there : Option (List ℕ)) (step : Step) → there ≡ Some bytes → (start ≡ HandOver → ⊥)
+      → DrivesFound folder after path start protocol at q there step → DrivenBy p step.log → ⊥
+  found folder after path start protocol at q there step is asked drives =
+      let here = subst (λ (o : Option (List ℕ)). DrivesFound folder after path start protocol at q o step) is drives in
+      as_asked folder after path start protocol at q here.run here.misfit step here.tells asked here.is_misfit here.drives
 
-  opened : (folder after : Folder) (path : List ℕ) (start : LogStart) (manner : Manner) (at : Option ℕ) (q : PlannedShop) (opened : Result (Option (List ℕ)) FileFault) (step : Step) → (start ≡ HandOver → ⊥)
-      → ((there : Option (List ℕ)) → opened ≡ Ok there → there ≡ Some bytes) → DrivesOpened folder after path start manner at q opened step → DrivenBy p step.log → ⊥
-  opened folder after path start manner at q (Ok there) step asked here drives = found (handed_if (is_some there) folder) after path start manner at q there step (here there refl) asked drives
-  opened folder after path start manner at q (Err fault) step asked here (_, _, inl is) = never p step.log None is.2 (undriven p None)
-  opened folder after path start manner at q (Err fault) step asked here (_, _, inr is) = never p step.log _ is.2 (λ driven. absurd (cc driven.2))
+  opened : (folder after : Folder) (path : List ℕ) (start : LogStart) (protocol : Protocol) (at : Option ℕ) (q : PlannedShop) (opened : Result (Option (List ℕ)) FileFault) (step : Step) → (start ≡ HandOver → ⊥)
+      → ((there : Option (List ℕ)) → opened ≡ Ok there → there ≡ Some bytes) → DrivesOpened folder after path start protocol at q opened step → DrivenBy p step.log → ⊥
+  opened folder after path start protocol at q (Ok there) step asked here drives = found (handed_if (is_some there) folder) after path start protocol at q there step (here there refl) asked drives
+  opened folder after path start protocol at q (Err fault) step asked here (_, _, inl is) = never p step.log None is.2 (undriven p None)
+  opened folder after path start protocol at q (Err fault) step asked here (_, _, inr is) = never p step.log _ is.2 (λ driven. absurd (cc driven.2))
 
-  shaped : (folder after : Folder) (logs : List NamedLog) (path : List ℕ) (start : LogStart) (manner : Manner) (at : Option ℕ) (shape : Result (Result PlannedShop ShapeFault) CommandFault) (step : Step) → folder.logs ≡ Some logs
-      → held logs path ≡ Some bytes → (start ≡ HandOver → ⊥) → DrivesShaped folder after path start manner at shape step → DrivenBy p step.log → ⊥
-  shaped folder after logs path start manner at (Err fault) step there has asked is = never p step.log None is.1.is (undriven p None)
-  shaped folder after logs path start manner at (Ok (Err fault)) step there has asked is = never p step.log None is.1.is (undriven p None)
-  shaped folder after logs path start manner at (Ok (Ok q)) step there has asked (inr wanting) = never p step.log None wanting.1.is (undriven p None)
-  shaped folder after logs path start manner at (Ok (Ok q)) step there has asked (inl is) = opened folder after path start manner at q is.opened step asked here is.drives
+  shaped : (folder after : Folder) (logs : List NamedLog) (path : List ℕ) (start : LogStart) (protocol : Protocol) (at : Option ℕ) (shape : Result (Result PlannedShop ShapeFault) CommandFault) (step : Step) → folder.logs ≡ Some logs
+      → held logs path ≡ Some bytes → (start ≡ HandOver → ⊥) → DrivesShaped folder after path start protocol at shape step → DrivenBy p step.log → ⊥
+  shaped folder after logs path start protocol at (Err fault) step there has asked is = never p step.log None is.1.is (undriven p None)
+  shaped folder after logs path start protocol at (Ok (Err fault)) step there has asked is = never p step.log None is.1.is (undriven p None)
+  shaped folder after logs path start protocol at (Ok (Ok q)) step there has asked (inr wanting) = never p step.log None wanting.1.is (undriven p None)
+  shaped folder after logs path start protocol at (Ok (Ok q)) step there has asked (inl is) = opened folder after path start protocol at q is.opened step asked here is.drives
     where
       here : (found : Option (List ℕ)) → is.opened ≡ Ok found → found ≡ Some bytes
       here found opened_is =

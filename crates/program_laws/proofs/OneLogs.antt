@@ -8,16 +8,16 @@ use Rattle.cell_tables.specs.declared.entry.Entry.{Entry}
 use Rattle.cell_tables.specs.Events.{events_of}
 use Rattle.text_lines.specs.Lines.{ended_lines}
 use Rattle.event_lines.proofs.Readings.{one_reading}
-use Rattle.cell_drive.specs.CutLaw.{IsTakenUpFrom}
-use Rattle.cell_drive.specs.TakenUp.{told_in}
+use Rattle.cell_drive.specs.CutLaw.{IsRunPrefix}
+use Rattle.cell_drive.specs.Recovered.{replayed_events}
 use Rattle.run_journal.specs.WholeLines.{whole_lines}
-use Rattle.logged_drive.specs.CrashLaw.{IsTakenUpAgain, ADrivenRunIsTakenUp, ATakenUpRunIsTakenUp}
-use Rattle.drive_laws.proofs.GoneOnAsOne.{it_is_one_so_far, it_is_taken_up_as_one, the_first_events_have_their_orders}
-use Rattle.drive_laws.proofs.Resumes.{taken_to_rest}
-use Rattle.program_laws.specs.OneLogLaw.{ANewLogIsOfOneRun, ATakenUpLogIsOfOneRun}
+use Rattle.logged_drive.specs.CrashLaw.{IsRecoveredAgain, ADrivenRunIsRecovered, ARecoveredRunIsRecovered}
+use Rattle.drive_laws.proofs.GoneOnAsOne.{it_is_one_so_far, it_is_recovered_as_one, the_first_events_have_their_orders}
+use Rattle.drive_laws.proofs.Resumes.{recovered_to_rest}
+use Rattle.program_laws.specs.OneLogLaw.{ANewLogIsOfOneRun, ARecoveredLogIsOfOneRun}
 
 -- what was left tells the first events of a run
-from_left : (p : PlannedShop) (told came entries : List Entry) (shown left : List ℕ) → IsTakenUpAgain p told came shown left → entries ≡ told ++ came → IsTakenUpFrom p (whole_lines left) entries
+from_left : (p : PlannedShop) (told came entries : List Entry) (shown left : List ℕ) → IsRecoveredAgain p told came shown left → entries ≡ told ++ came → IsRunPrefix p (whole_lines left) entries
 from_left p told came entries shown left again whole = record {
   told = told ++ again.kept;
   tells = again.tells;
@@ -26,16 +26,16 @@ from_left p told came entries shown left again whole = record {
   whole = whole ∙ ap (λ (es : List Entry). told ++ es) again.came_so ∙ sym (append_assoc told again.kept again.lost);
 }
 
-pub a_new_log : ADrivenRunIsTakenUp → ANewLogIsOfOneRun
-a_new_log driven_run p manner base lines answers closing shown pending left end shaped acceptable whole none are given is_left =
+pub a_new_log : ADrivenRunIsRecovered → ANewLogIsOfOneRun
+a_new_log driven_run p protocol base lines answers closing shown pending left end shaped acceptable whole none are given is_left =
     the_first_events_have_their_orders p (whole_lines left) end.entries shaped
-    (it_is_one_so_far p manner [] 1 lines answers end shaped ([], done (start p)) are)
-    (from_left p [] end.entries end.entries shown left (driven_run p manner base lines answers closing shown pending left end shaped acceptable whole none are given is_left) refl)
+    (it_is_one_so_far p protocol [] 1 lines answers end shaped ([], done (start p)) are)
+    (from_left p [] end.entries end.entries shown left (driven_run p protocol base lines answers closing shown pending left end shaped acceptable whole none are given is_left) refl)
 
-pub a_taken_up_log : ATakenUpRunIsTakenUp → ATakenUpLogIsOfOneRun
-a_taken_up_log taken_up_run p manner base taken lines answers closing shown pending left end whole own up are given is_left =
-    let shaped = (taken_to_rest p own.lines None taken own.up).0 in
-    let more = taken_up_run p manner base None taken lines answers closing shown pending left end whole up are given is_left in
+pub a_recovered_log : ARecoveredRunIsRecovered → ARecoveredLogIsOfOneRun
+a_recovered_log recovered_again_run p protocol base taken lines answers closing shown pending left end whole own up are given is_left =
+    let shaped = (recovered_to_rest p own.lines None taken own.up).0 in
+    let more = recovered_again_run p protocol base None taken lines answers closing shown pending left end whole up are given is_left in
     the_first_events_have_their_orders p (whole_lines left) end.entries shaped
-    (it_is_one_so_far p manner taken.log.entries 1 lines answers end shaped (it_is_taken_up_as_one p taken own) are)
-    (from_left p (told_in taken) more.came end.entries shown left more.again more.whole)
+    (it_is_one_so_far p protocol taken.log.entries 1 lines answers end shaped (it_is_recovered_as_one p taken own) are)
+    (from_left p (replayed_events taken) more.came end.entries shown left more.again more.whole)

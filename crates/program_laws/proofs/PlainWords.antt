@@ -4,7 +4,7 @@ use Rattle.shop_base.specs.declared.shape_fault.ShapeFault.{ShapeFault}
 use Rattle.shop_base.specs.Plan.{PlannedShop}
 use Rattle.orlib_read.specs.declared.named.Named.{Named}
 use Rattle.orlib_read.specs.declared.or_fault.OrFault.{OrFault}
-use Rattle.cell_drive.specs.declared.manner.Manner.{Manner}
+use Rattle.cell_drive.specs.declared.protocol.Protocol.{Protocol}
 use Rattle.command_answers.specs.declared.answer.Answer.{Answer}
 use Rattle.command_answers.specs.declared.cells.Cells.{Cells}
 use Rattle.command_answers.specs.declared.loading.Loaded.{Loaded}
@@ -25,61 +25,61 @@ use Rattle.command_run.specs.Resumes.{Resumes}
 use Rattle.command_run.specs.Planners.{SeeksPlan}
 use Rattle.command_run.specs.Improvers.{ImprovesPlan, ImprovesRest}
 use Rattle.command_run.specs.Program.{RunsDrive, RunsResume, RunsHub}
-use Rattle.command_run.specs.Laws.{Shelf, IsInstanceTold}
+use Rattle.command_run.specs.Laws.{Shelf, IsInstanceRefused}
 
 -- the fault of an instance, or that memory ran out
-abbrev IsToldOf : {A : Type 0} → OrFault → Result A CommandFault → Type 0
-IsToldOf fault outcome = (outcome ≡ Err (Instance fault)) ⊎ (outcome ≡ Err Memory)
+abbrev IsRefusalOf : {A : Type 0} → OrFault → Result A CommandFault → Type 0
+IsRefusalOf fault outcome = (outcome ≡ Err (Instance fault)) ⊎ (outcome ≡ Err Memory)
 
-told_of : {A : Type 0} (fault : OrFault) (outcome : Result A CommandFault) → IsInstanceRefusal outcome fault → IsToldOf fault outcome
-told_of fault (Ok a) refusal = absurd refusal
-told_of fault (Err (Instance told)) refusal = inl (ap (λ f. Err (Instance f)) refusal)
-told_of fault (Err (Plan told)) refusal = absurd refusal
-told_of fault (Err (Names names)) refusal = absurd refusal
-told_of fault (Err Read) refusal = absurd refusal
-told_of fault (Err Write) refusal = absurd refusal
-told_of fault (Err InputTooLong) refusal = absurd refusal
-told_of fault (Err Log) refusal = absurd refusal
-told_of fault (Err LogInUse) refusal = absurd refusal
-told_of fault (Err Memory) refusal = inr refl
+recovered_by : {A : Type 0} (fault : OrFault) (outcome : Result A CommandFault) → IsInstanceRefusal outcome fault → IsRefusalOf fault outcome
+recovered_by fault (Ok a) refusal = absurd refusal
+recovered_by fault (Err (Instance told)) refusal = inl (ap (λ f. Err (Instance f)) refusal)
+recovered_by fault (Err (Plan told)) refusal = absurd refusal
+recovered_by fault (Err (Names names)) refusal = absurd refusal
+recovered_by fault (Err Read) refusal = absurd refusal
+recovered_by fault (Err Write) refusal = absurd refusal
+recovered_by fault (Err InputTooLong) refusal = absurd refusal
+recovered_by fault (Err Log) refusal = absurd refusal
+recovered_by fault (Err LogInUse) refusal = absurd refusal
+recovered_by fault (Err Memory) refusal = inr refl
 
 -- such a fault ends the steps
 stopped : {W A B : Type 0} (fault : OrFault) (came : Result A CommandFault) (next : A → W → Result B CommandFault → W → Type 0) (mid after : W) (outcome : Result B CommandFault)
-    → IsToldOf fault came → GoesOn next came mid outcome after → (after ≡ mid) × IsToldOf fault outcome
+    → IsRefusalOf fault came → GoesOn next came mid outcome after → (after ≡ mid) × IsRefusalOf fault outcome
 stopped fault (Ok a) next mid after outcome (inl told) on = absurd (cc told)
 stopped fault (Ok a) next mid after outcome (inr told) on = absurd (cc told)
 stopped fault (Err f) next mid after outcome (inl told) on = (on.1, inl ((let one : f ≡ (Instance fault) = cc told in on.0 ∙ ap (λ x. Err x) one)))
 stopped fault (Err f) next mid after outcome (inr told) on = (on.1, inr ((let one : f ≡ Memory = cc told in on.0 ∙ ap (λ x. Err x) one)))
 
-drives_stopped : (manner : Manner) (fault : OrFault) (loaded : Result Loaded CommandFault) (before after : Streams) (outcome : Result Answer CommandFault)
-    → IsToldOf fault loaded → Drives manner loaded before after outcome → IsToldOf fault outcome × (after ≡ before)
-drives_stopped manner fault (Ok loaded) before after outcome (inl told) is = absurd (cc told)
-drives_stopped manner fault (Ok loaded) before after outcome (inr told) is = absurd (cc told)
-drives_stopped manner fault (Err f) before after outcome (inl told) is = (inl ((let one : f ≡ (Instance fault) = cc told in is.0 ∙ ap (λ x. Err x) one)), is.1)
-drives_stopped manner fault (Err f) before after outcome (inr told) is = (inr ((let one : f ≡ Memory = cc told in is.0 ∙ ap (λ x. Err x) one)), is.1)
+drives_stopped : (protocol : Protocol) (fault : OrFault) (loaded : Result Loaded CommandFault) (before after : Streams) (outcome : Result Answer CommandFault)
+    → IsRefusalOf fault loaded → Drives protocol loaded before after outcome → IsRefusalOf fault outcome × (after ≡ before)
+drives_stopped protocol fault (Ok loaded) before after outcome (inl told) is = absurd (cc told)
+drives_stopped protocol fault (Ok loaded) before after outcome (inr told) is = absurd (cc told)
+drives_stopped protocol fault (Err f) before after outcome (inl told) is = (inl ((let one : f ≡ (Instance fault) = cc told in is.0 ∙ ap (λ x. Err x) one)), is.1)
+drives_stopped protocol fault (Err f) before after outcome (inr told) is = (inr ((let one : f ≡ Memory = cc told in is.0 ∙ ap (λ x. Err x) one)), is.1)
 
 draws_stopped : (fault : OrFault) (drawn : Result Drawn CommandFault) (before after : Streams) (outcome : Result Answer CommandFault)
-    → IsToldOf fault drawn → Draws drawn before after outcome → IsToldOf fault outcome × (after ≡ before)
+    → IsRefusalOf fault drawn → Draws drawn before after outcome → IsRefusalOf fault outcome × (after ≡ before)
 draws_stopped fault (Ok drawn) before after outcome (inl told) is = absurd (cc told)
 draws_stopped fault (Ok drawn) before after outcome (inr told) is = absurd (cc told)
 draws_stopped fault (Err f) before after outcome (inl told) is = (inl ((let one : f ≡ (Instance fault) = cc told in is.0 ∙ ap (λ x. Err x) one)), is.1)
 draws_stopped fault (Err f) before after outcome (inr told) is = (inr ((let one : f ≡ Memory = cc told in is.0 ∙ ap (λ x. Err x) one)), is.1)
 
-resumes_stopped : {W : Type 0} (gives : W → List ℕ → Result (List ℕ) CommandFault → W → Type 0) (manner : Manner) (at : Option ℕ) (log : List ℕ) (fault : OrFault) (loaded : Result (Result PlannedShop ShapeFault) CommandFault) (mid last : W) (before after : Streams) (outcome : Result Answer CommandFault)
-    → IsToldOf fault loaded → Resumes gives manner at log loaded mid before outcome last after → IsToldOf fault outcome × (after ≡ before) × (last ≡ mid)
-resumes_stopped gives manner at log fault (Ok loaded) mid last before after outcome (inl told) is = absurd (cc told)
-resumes_stopped gives manner at log fault (Ok loaded) mid last before after outcome (inr told) is = absurd (cc told)
-resumes_stopped gives manner at log fault (Err f) mid last before after outcome (inl told) is =
+resumes_stopped : {W : Type 0} (gives : W → List ℕ → Result (List ℕ) CommandFault → W → Type 0) (protocol : Protocol) (at : Option ℕ) (log : List ℕ) (fault : OrFault) (loaded : Result (Result PlannedShop ShapeFault) CommandFault) (mid last : W) (before after : Streams) (outcome : Result Answer CommandFault)
+    → IsRefusalOf fault loaded → Resumes gives protocol at log loaded mid before outcome last after → IsRefusalOf fault outcome × (after ≡ before) × (last ≡ mid)
+resumes_stopped gives protocol at log fault (Ok loaded) mid last before after outcome (inl told) is = absurd (cc told)
+resumes_stopped gives protocol at log fault (Ok loaded) mid last before after outcome (inr told) is = absurd (cc told)
+resumes_stopped gives protocol at log fault (Err f) mid last before after outcome (inl told) is =
     (inl ((let one : f ≡ (Instance fault) = cc told in is.0 ∙ ap (λ x. Err x) one)), is.1, is.2)
-resumes_stopped gives manner at log fault (Err f) mid last before after outcome (inr told) is =
+resumes_stopped gives protocol at log fault (Err f) mid last before after outcome (inr told) is =
     (inr ((let one : f ≡ Memory = cc told in is.0 ∙ ap (λ x. Err x) one)), is.1, is.2)
 
-hub_stopped : (manner : Manner) (fault : OrFault) (loaded : Result Cells CommandFault) (before after : Streams) (outcome : Result Answer CommandFault)
-    → IsToldOf fault loaded → DrivesAll manner loaded before after outcome → IsToldOf fault outcome × (after ≡ before)
-hub_stopped manner fault (Ok loaded) before after outcome (inl told) is = absurd (cc told)
-hub_stopped manner fault (Ok loaded) before after outcome (inr told) is = absurd (cc told)
-hub_stopped manner fault (Err f) before after outcome (inl told) is = (inl ((let one : f ≡ (Instance fault) = cc told in is.0 ∙ ap (λ x. Err x) one)), is.1)
-hub_stopped manner fault (Err f) before after outcome (inr told) is = (inr ((let one : f ≡ Memory = cc told in is.0 ∙ ap (λ x. Err x) one)), is.1)
+hub_stopped : (protocol : Protocol) (fault : OrFault) (loaded : Result Cells CommandFault) (before after : Streams) (outcome : Result Answer CommandFault)
+    → IsRefusalOf fault loaded → DrivesAll protocol loaded before after outcome → IsRefusalOf fault outcome × (after ≡ before)
+hub_stopped protocol fault (Ok loaded) before after outcome (inl told) is = absurd (cc told)
+hub_stopped protocol fault (Ok loaded) before after outcome (inr told) is = absurd (cc told)
+hub_stopped protocol fault (Err f) before after outcome (inl told) is = (inl ((let one : f ≡ (Instance fault) = cc told in is.0 ∙ ap (λ x. Err x) one)), is.1)
+hub_stopped protocol fault (Err f) before after outcome (inr told) is = (inr ((let one : f ≡ Memory = cc told in is.0 ∙ ap (λ x. Err x) one)), is.1)
 
 module _ (content : List ℕ → Result (List ℕ) CommandFault) (path text : List ℕ) (name : Option (List ℕ)) (fault : OrFault)
     (is : content path ≡ Ok text) (first : IsFirstInstanceFault text name fault) where
@@ -92,18 +92,18 @@ module _ (content : List ℕ → Result (List ℕ) CommandFault) (path text : Li
   -- the instance's file was asked for alone, and is refused
   came_refused : {A : Type 0} (Is : List ℕ → Result A CommandFault → Type 0) (came : Result (List ℕ) CommandFault) (read : Result A CommandFault) (mid asked : List (List ℕ))
       → ((t : List ℕ) → Is t read → IsFirstInstanceFault t name fault → IsInstanceRefusal read fault)
-      → Asks (Shelf content) path [] came mid → GoesOn (λ t. Told (Is t)) came mid read asked → IsInstanceTold path fault read asked
-  came_refused Is (Ok t) read mid asked refuses given on = (on.1 ∙ given.1, told_of fault read (refuses t on.0 (same_text t given.0)))
+      → Asks (Shelf content) path [] came mid → GoesOn (λ t. Told (Is t)) came mid read asked → IsInstanceRefused path fault read asked
+  came_refused Is (Ok t) read mid asked refuses given on = (on.1 ∙ given.1, recovered_by fault read (refuses t on.0 (same_text t given.0)))
   came_refused Is (Err f) read mid asked refuses given on = absurd (let both : Err f ≡ Ok text = given.1.0 ∙ is in cc both)
 
-  pub facts_first : (outcome : Result Answer CommandFault) (asked : List (List ℕ)) → RunsFacts (Shelf content) path name [] outcome asked → IsInstanceTold path fault outcome asked
+  pub facts_first : (outcome : Result Answer CommandFault) (asked : List (List ℕ)) → RunsFacts (Shelf content) path name [] outcome asked → IsInstanceRefused path fault outcome asked
   facts_first outcome asked run = came_refused (λ t. AreFactsAnswered t name) run.came outcome run.mid asked (λ t answered. answered.first fault) run.is run.goes_on
 
-  read_refused : (read : Result Named CommandFault) (asked : List (List ℕ)) → ReadsInstance (Shelf content) path name [] read asked → IsInstanceTold path fault read asked
+  read_refused : (read : Result Named CommandFault) (asked : List (List ℕ)) → ReadsInstance (Shelf content) path name [] read asked → IsInstanceRefused path fault read asked
   read_refused read asked run = came_refused (λ t. IsInstanceRead t name) run.came read run.mid asked (λ t came. came.first fault) run.is run.goes_on
 
   both_refused : (plan : List ℕ) (read : Result PlannedShop CommandFault) (asked : List (List ℕ)) → ReadsBoth (Shelf content) (record { path = path; name = name; plan = plan }) [] read asked
-      → IsInstanceTold path fault read asked
+      → IsInstanceRefused path fault read asked
   both_refused plan read asked run =
       let named = read_refused run.came run.mid run.is in
       let end = stopped fault run.came _ run.mid asked read named.1 run.goes_on in
@@ -111,62 +111,62 @@ module _ (content : List ℕ → Result (List ℕ) CommandFault) (path text : Li
 
   -- the first plan isn't asked for
   cells_refused : (plan : List ℕ) (plans : List (List ℕ)) (came : Result (List ℕ) CommandFault) (mid : List (List ℕ)) (outcome : Result Cells CommandFault) (asked : List (List ℕ))
-      → Asks (Shelf content) path [] came mid → GoesOn (λ t. LoadsEach (Shelf content) t name [] (plan ∷ plans)) came mid outcome asked → IsInstanceTold path fault outcome asked
+      → Asks (Shelf content) path [] came mid → GoesOn (λ t. LoadsEach (Shelf content) t name [] (plan ∷ plans)) came mid outcome asked → IsInstanceRefused path fault outcome asked
   cells_refused plan plans (Ok t) mid outcome asked given on =
-      let refusal = told_of fault on.is.came (on.is.is.0.first fault (same_text t given.0)) in
+      let refusal = recovered_by fault on.is.came (on.is.is.0.first fault (same_text t given.0)) in
       let one = stopped fault on.is.came _ on.is.mid on.mid on.came refusal on.is.goes_on in
       let end = stopped fault on.came _ on.mid asked outcome one.1 on.goes_on in
       (end.0 ∙ one.0 ∙ on.is.is.1 ∙ given.1, end.1)
   cells_refused plan plans (Err f) mid outcome asked given on = absurd (let both : Err f ≡ Ok text = given.1.0 ∙ is in cc both)
 
-  pub hub_first : (manner : Manner) (plan : List ℕ) (plans : List (List ℕ)) (before after : Streams) (outcome : Result Answer CommandFault) (asked : List (List ℕ))
-      → RunsHub (Shelf content) manner path name (plan ∷ plans) [] before outcome asked after → IsInstanceTold path fault outcome asked × (after ≡ before)
-  hub_first manner plan plans before after outcome asked run =
+  pub hub_first : (protocol : Protocol) (plan : List ℕ) (plans : List (List ℕ)) (before after : Streams) (outcome : Result Answer CommandFault) (asked : List (List ℕ))
+      → RunsHub (Shelf content) protocol path name (plan ∷ plans) [] before outcome asked after → IsInstanceRefused path fault outcome asked × (after ≡ before)
+  hub_first protocol plan plans before after outcome asked run =
       let loaded = cells_refused plan plans run.loads.came run.loads.mid run.loaded asked run.loads.is run.loads.goes_on in
-      let end = hub_stopped manner fault run.loaded before after outcome loaded.1 run.drives in
+      let end = hub_stopped protocol fault run.loaded before after outcome loaded.1 run.drives in
       ((loaded.0, end.0), end.1)
 
 module _ (content : List ℕ → Result (List ℕ) CommandFault) (pair : PairOfFiles) (text : List ℕ) (fault : OrFault)
     (is : content pair.path ≡ Ok text) (first : IsFirstInstanceFault text pair.name fault) where
-  pub told_first : {A : Type 0} (next : PlannedShop → List (List ℕ) → Result A CommandFault → List (List ℕ) → Type 0) (outcome : Result A CommandFault) (asked : List (List ℕ))
-      → WithBoth (Shelf content) pair next [] outcome asked → IsInstanceTold pair.path fault outcome asked
-  told_first next outcome asked run =
+  pub instance_first_of : {A : Type 0} (next : PlannedShop → List (List ℕ) → Result A CommandFault → List (List ℕ) → Type 0) (outcome : Result A CommandFault) (asked : List (List ℕ))
+      → WithBoth (Shelf content) pair next [] outcome asked → IsInstanceRefused pair.path fault outcome asked
+  instance_first_of next outcome asked run =
       let read = both_refused content pair.path text pair.name fault is first pair.plan run.came run.mid run.is in
       let end = stopped fault run.came next run.mid asked outcome read.1 run.goes_on in
       (end.0 ∙ read.0, end.1)
 
   pub plan_first : (rounds : ℕ) (outcome : Result Answer CommandFault) (asked : List (List ℕ)) → SeeksPlan (Shelf content) rounds pair [] outcome asked
-      → IsInstanceTold pair.path fault outcome asked ⊎ ((outcome ≡ Err Memory) × (asked ≡ []))
-  plan_first rounds outcome asked (inl run) = inl (told_first _ outcome asked run)
+      → IsInstanceRefused pair.path fault outcome asked ⊎ ((outcome ≡ Err Memory) × (asked ≡ []))
+  plan_first rounds outcome asked (inl run) = inl (instance_first_of _ outcome asked run)
   plan_first rounds outcome asked (inr wanting) = inr wanting
 
   pub improve_first : (rounds : ℕ) (outcome : Result Answer CommandFault) (asked : List (List ℕ)) → ImprovesPlan (Shelf content) rounds pair [] outcome asked
-      → IsInstanceTold pair.path fault outcome asked ⊎ ((outcome ≡ Err Memory) × (asked ≡ []))
-  improve_first rounds outcome asked (inl run) = inl (told_first _ outcome asked run)
+      → IsInstanceRefused pair.path fault outcome asked ⊎ ((outcome ≡ Err Memory) × (asked ≡ []))
+  improve_first rounds outcome asked (inl run) = inl (instance_first_of _ outcome asked run)
   improve_first rounds outcome asked (inr wanting) = inr wanting
 
   pub improve_rest_first : (at : Option ℕ) (rounds : ℕ) (log : List ℕ) (outcome : Result Answer CommandFault) (asked : List (List ℕ)) → ImprovesRest (Shelf content) at rounds pair log [] outcome asked
-      → IsInstanceTold pair.path fault outcome asked ⊎ ((outcome ≡ Err Memory) × (asked ≡ []))
-  improve_rest_first at rounds log outcome asked (inl run) = inl (told_first _ outcome asked run)
+      → IsInstanceRefused pair.path fault outcome asked ⊎ ((outcome ≡ Err Memory) × (asked ≡ []))
+  improve_rest_first at rounds log outcome asked (inl run) = inl (instance_first_of _ outcome asked run)
   improve_rest_first at rounds log outcome asked (inr wanting) = inr wanting
 
-  pub drive_first : (manner : Manner) (before after : Streams) (outcome : Result Answer CommandFault) (asked : List (List ℕ)) → RunsDrive (Shelf content) manner pair [] before outcome asked after
-      → IsInstanceTold pair.path fault outcome asked × (after ≡ before)
-  drive_first manner before after outcome asked run =
-      let loaded = told_first _ run.loaded asked run.loads in
-      let end = drives_stopped manner fault run.loaded before after outcome loaded.1 run.drives in
+  pub drive_first : (protocol : Protocol) (before after : Streams) (outcome : Result Answer CommandFault) (asked : List (List ℕ)) → RunsDrive (Shelf content) protocol pair [] before outcome asked after
+      → IsInstanceRefused pair.path fault outcome asked × (after ≡ before)
+  drive_first protocol before after outcome asked run =
+      let loaded = instance_first_of _ run.loaded asked run.loads in
+      let end = drives_stopped protocol fault run.loaded before after outcome loaded.1 run.drives in
       ((loaded.0, end.0), end.1)
 
   pub picture_first : (next : PlannedShop → List (List ℕ) → Result Drawn CommandFault → List (List ℕ) → Type 0) (before after : Streams) (outcome : Result Answer CommandFault) (asked : List (List ℕ))
-      → RunsPicture (WithBoth (Shelf content) pair next) [] before outcome asked after → IsInstanceTold pair.path fault outcome asked × (after ≡ before)
+      → RunsPicture (WithBoth (Shelf content) pair next) [] before outcome asked after → IsInstanceRefused pair.path fault outcome asked × (after ≡ before)
   picture_first next before after outcome asked run =
-      let came = told_first next run.drawn asked run.came in
+      let came = instance_first_of next run.drawn asked run.came in
       let end = draws_stopped fault run.drawn before after outcome came.1 run.draws in
       ((came.0, end.0), end.1)
 
-  pub resume_first : (manner : Manner) (at : Option ℕ) (log : List ℕ) (before after : Streams) (outcome : Result Answer CommandFault) (asked : List (List ℕ))
-      → RunsResume (Shelf content) manner at pair log [] before outcome asked after → IsInstanceTold pair.path fault outcome asked × (after ≡ before)
-  resume_first manner at log before after outcome asked run =
-      let loaded = told_first _ run.shaped run.texts_mid run.shapes in
-      let end = resumes_stopped (Shelf content) manner at log fault run.shaped run.texts_mid asked before after outcome loaded.1 run.resumes in
+  pub resume_first : (protocol : Protocol) (at : Option ℕ) (log : List ℕ) (before after : Streams) (outcome : Result Answer CommandFault) (asked : List (List ℕ))
+      → RunsResume (Shelf content) protocol at pair log [] before outcome asked after → IsInstanceRefused pair.path fault outcome asked × (after ≡ before)
+  resume_first protocol at log before after outcome asked run =
+      let loaded = instance_first_of _ run.shaped run.texts_mid run.shapes in
+      let end = resumes_stopped (Shelf content) protocol at log fault run.shaped run.texts_mid asked before after outcome loaded.1 run.resumes in
       ((end.2 ∙ loaded.0, end.0), end.1)

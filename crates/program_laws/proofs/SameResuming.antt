@@ -7,42 +7,42 @@ use Rattle.std.proofs.KnownBytes.{Appends-trans}
 use Rattle.shop_base.specs.Plan.{PlannedShop, IsWellShaped}
 use Rattle.text_lines.specs.declared.limits.TheConstants.{MAX_INPUT}
 use Rattle.text_lines.specs.Lines.{ended_lines}
-use Rattle.event_lines.specs.LogLines.{LinesTell}
+use Rattle.event_lines.specs.LogLines.{LinesParse}
 use Rattle.byte_streams.specs.declared.drive_fault.DriveFault.{DriveFault}
 use Rattle.byte_streams.specs.declared.drive_fault.DriveFault.TheVariants.{Read as NotRead, Write as NotWritten, InputTooLong as TooLong, Memory as WantOfMemory}
 use Rattle.byte_streams.specs.declared.rooms.TheConstants.{MAX_PIECE}
 use Rattle.byte_streams.specs.Streams.{IsStreamed}
 use Rattle.run_log.specs.Log.{Noted}
-use Rattle.cell_drive.specs.declared.manner.Manner.{Manner}
+use Rattle.cell_drive.specs.declared.protocol.Protocol.{Protocol}
 use Rattle.cell_drive.specs.declared.resume.RestEnd.{RestEnd}
 use Rattle.cell_drive.specs.declared.resume_fault.ResumeFault.{ResumeFault}
 use Rattle.cell_drive.specs.AnswerText.{DrivenCell}
 use Rattle.cell_drive.specs.OneRun.{IsSoFar}
 use Rattle.cell_drive.specs.Session.{SessionState, SessionAnswer, SessionCloses, IsRestEndOf, seen}
-use Rattle.cell_drive.specs.TakenUp.{TakenUp, IsTakenUp, CanBeTakenUp, plan_of}
+use Rattle.cell_drive.specs.Recovered.{Recovered, IsRecovered, IsRecoverable, plan_of}
 use Rattle.cell_drive.specs.Resuming.{IsResumedText, again_of, session_from}
-use Rattle.cell_drive.specs.InManner.{IsResumeIn}
+use Rattle.cell_drive.specs.InProtocol.{IsResumeIn}
 use Rattle.cell_drive.proofs.OneText.{one_answer_text}
 use Rattle.drive_laws.proofs.Resumes.{resumed_text}
-use Rattle.drive_laws.proofs.OneTaking.{one_text_from_a_log, a_log_without_events_is_driven}
+use Rattle.drive_laws.proofs.Recoveries.{one_text_from_a_log, a_log_without_events_is_driven}
 use Rattle.command_words.specs.declared.words.Chosen.{Chosen}
 use Rattle.command_words.specs.declared.words.CommandName.{CommandName}
 use Rattle.command_words.specs.declared.words.CommandName.TheVariants.{Input, Facts, Shape, Check, Explain, Schedule, Bounds, Margin, Plan, Improve, Decide, Revise, Drive, Resume, Hub, Digest, Audit, Gantt}
 use Rattle.command_words.specs.declared.words.Lines.{Lines}
 use Rattle.command_words.specs.declared.words.WordsFault.{WordsFault}
 use Rattle.command_words.specs.declared.words.WordsFault.TheVariants.{Usage, Memory as NoWordsMemory}
-use Rattle.command_words.specs.Choice.{word_of, IsChoiceOf, TellsOneOf, found_in, rows_found, lines_in, leap_in}
+use Rattle.command_words.specs.Choice.{word_of, IsChoiceOf, NamesOneOf, found_in, rows_found, lines_in, leap_in}
 use Rattle.command_answers.specs.declared.answer.Answer.{Answer}
 use Rattle.command_answers.specs.declared.command_fault.CommandFault.{CommandFault}
 use Rattle.command_answers.specs.Commands.{PairOfFiles}
 use Rattle.command_run.specs.Streams.{Streams, Output}
 use Rattle.command_run.specs.Drives.{IsEndAnswer, status_at}
-use Rattle.command_run.specs.Resumes.{IsTaking, IsUntakenTold, ResumesTaken, end_of_rest}
+use Rattle.command_run.specs.Resumes.{IsRecovery, IsUnrecoveredAnswer, ResumesRecovered, end_of_rest}
 use Rattle.command_run.specs.Ending.{Ends, EndsBy}
 use Rattle.command_run.specs.Program.{AreWordsRead, RunsResume, RunsCommand, RunsChosen, Follows, draws, file_at, is_second, keeps_log, kept_log_in, log_kept_by, manner_in, pair_in}
-use Rattle.command_run.specs.Laws.{Shelf, TellPlan, RunsWell}
+use Rattle.command_run.specs.Laws.{Shelf, ParseAsPlan, RunsWell}
 use Rattle.program_laws.specs.ResumeLaw.{AskForResume, AskForOneManner, moment_given, ResumeWritesTheSame, ResumeWritesAsDrive}
-use Rattle.program_laws.specs.ToldLaw.{manner_of}
+use Rattle.program_laws.specs.HistoryLaw.{manner_of}
 use Rattle.program_laws.proofs.GoodFiles.{good_resume}
 use Rattle.program_laws.proofs.SameWriting.{Wrote, same_manner, first, all_read, fewer, written_is, memory_status, memory_ends, own_ends, write_ends, ended_as, same_done, follows_wrote}
 
@@ -85,14 +85,14 @@ asked_log words pair log chosen ask is = ap (λ (fs : List (List ℕ)). get_or f
 -- ---- what a good run wrote
 
 -- the text for its input from what was taken up, in this manner
-record Resumed (p : PlannedShop) (manner : Manner) (lines : List (List ℕ)) (at : Option ℕ) (input : List ℕ) (status : ℕ) (written : List ℕ) : Type 0 where
-  pub taken : TakenUp
-  pub up : IsTakenUp p lines at taken
+record Resumed (p : PlannedShop) (protocol : Protocol) (lines : List (List ℕ)) (at : Option ℕ) (input : List ℕ) (status : ℕ) (written : List ℕ) : Type 0 where
+  pub taken : Recovered
+  pub up : IsRecovered p lines at taken
   pub state : DrivenCell
   pub done : Bool
   pub last : ℕ
   pub left : ℕ
-  pub is_text : IsResumedText p manner taken.log.entries taken.late input written state
+  pub is_text : IsResumedText p protocol taken.log.entries taken.late input written state
   pub so_far : IsSoFar p state.entries done last left
   pub own : status ≡ status_at done
 
@@ -117,15 +117,15 @@ module _ (content : List ℕ → Result (List ℕ) CommandFault) (words : List (
       abbrev from : Streams
       from = record { input = well.before.streams.input; output = middle }
 
-      ended_behind : (end : RestEnd) (is : IsStreamed (Ok end) MAX_PIECE answers closes start last from mid) → Appends well.before.streams.output.taken middle.taken front → IsEndAnswer (Ok end.done) outcome
+      ended_behind : (end : RestEnd) (is : IsStreamed (Ok end) MAX_PIECE answers closes start last from mid) → Appends well.before.streams.output.written middle.written front → IsEndAnswer (Ok end.done) outcome
           → (is.input ≡ input) × (written ≡ front ++ (is.comes_to.text ++ is.comes_to.closing)) × (status ≡ status_at end.done)
       ended_behind end is again answer =
           let all = is.comes_to in
           let whole : List ℕ = all.text ++ all.closing in
           let ended = ended_as end.done outcome mid.output well.after.streams.output well.before.errors well.after.errors status well.was_written answer ends in (
             all_read well.before.streams.input.left mid.input.left input is.input well.given is.was_read all.at_end,
-            written_is well.before.streams.output.taken mid.output.taken well.after.streams.output.taken well.start written (front ++ whole) ended.1.0 well.empty well.wrote
-                (Appends-trans well.before.streams.output.taken middle.taken mid.output.taken front whole again all.written) ended.1.2 ended.1.1,
+            written_is well.before.streams.output.written mid.output.written well.after.streams.output.written well.start written (front ++ whole) ended.1.0 well.empty well.wrote
+                (Appends-trans well.before.streams.output.written middle.written mid.output.written front whole again all.written) ended.1.2 ended.1.1,
             ended.0,
           )
 
@@ -137,15 +137,15 @@ module _ (content : List ℕ → Result (List ℕ) CommandFault) (words : List (
           omega (arith, less, few, is.comes_to.0)
       never_broke WantOfMemory is answer = is.comes_to
 
-    resumed_so : (manner : Manner) (lines : List (List ℕ)) (at : Option ℕ) (taken : TakenUp) → IsTakenUp p lines at taken → (end : Result RestEnd DriveFault)
-        → IsResumeIn manner taken well.before.streams mid end → IsEndAnswer (end_of_rest end) outcome → Resumed p manner lines at input status written
-    resumed_so manner lines at taken up (Ok end) (inl cut) answer = absurd (let bad : Ok end ≡ Err NotWritten = cut.0 in cc bad)
-    resumed_so manner lines at taken up (Ok end) (inr on) answer =
-        let ended = ended_behind SessionAnswer SessionCloses (session_from manner taken) on.end (again_of manner taken) on.middle end on.streamed on.again answer in
-        let text : List ℕ = again_of manner taken ++ (on.streamed.comes_to.text ++ on.streamed.comes_to.closing) in
+    resumed_so : (protocol : Protocol) (lines : List (List ℕ)) (at : Option ℕ) (taken : Recovered) → IsRecovered p lines at taken → (end : Result RestEnd DriveFault)
+        → IsResumeIn protocol taken well.before.streams mid end → IsEndAnswer (end_of_rest end) outcome → Resumed p protocol lines at input status written
+    resumed_so protocol lines at taken up (Ok end) (inl cut) answer = absurd (let bad : Ok end ≡ Err NotWritten = cut.0 in cc bad)
+    resumed_so protocol lines at taken up (Ok end) (inr on) answer =
+        let ended = ended_behind SessionAnswer SessionCloses (session_from protocol taken) on.end (again_of protocol taken) on.middle end on.streamed on.again answer in
+        let text : List ℕ = again_of protocol taken ++ (on.streamed.comes_to.text ++ on.streamed.comes_to.closing) in
         let state : DrivenCell = seen on.end in
-        let answered : IsResumedText p manner taken.log.entries taken.late on.streamed.input text state =
-        subst (λ (q : PlannedShop). IsResumedText q manner taken.log.entries taken.late on.streamed.input text state) up.taken_from.planned (resumed_text manner taken end well.before.streams mid on) in
+        let answered : IsResumedText p protocol taken.log.entries taken.late on.streamed.input text state =
+        subst (λ (q : PlannedShop). IsResumedText q protocol taken.log.entries taken.late on.streamed.input text state) up.recovered_from.planned (resumed_text protocol taken end well.before.streams mid on) in
         record {
           taken = taken;
           up = up;
@@ -153,26 +153,26 @@ module _ (content : List ℕ → Result (List ℕ) CommandFault) (words : List (
           done = end.done;
           last = end.last;
           left = end.left;
-          is_text = subst (λ xs. IsResumedText p manner taken.log.entries taken.late input xs state) (sym ended.1)
-              (subst (λ xs. IsResumedText p manner taken.log.entries taken.late xs text state) ended.0 answered);
-          so_far = rest_so_far p (plan_of taken) on.end end up.taken_from.planned on.came_to;
+          is_text = subst (λ xs. IsResumedText p protocol taken.log.entries taken.late input xs state) (sym ended.1)
+              (subst (λ xs. IsResumedText p protocol taken.log.entries taken.late xs text state) ended.0 answered);
+          so_far = rest_so_far p (plan_of taken) on.end end up.recovered_from.planned on.came_to;
           own = ended.2;
         }
-    resumed_so manner lines at taken up (Err fault) (inl cut) answer =
+    resumed_so protocol lines at taken up (Err fault) (inl cut) answer =
         let same : fault ≡ NotWritten = (let both : Err fault ≡ Err NotWritten = cut.0 in cc both) in
         absurd (not_cut (subst (λ (f : DriveFault). IsEndAnswer (Err f) outcome) same answer) cut.1)
-    resumed_so manner lines at taken up (Err fault) (inr on) answer =
-        absurd (never_broke SessionAnswer SessionCloses (session_from manner taken) on.end (again_of manner taken) on.middle fault on.streamed answer)
+    resumed_so protocol lines at taken up (Err fault) (inr on) answer =
+        absurd (never_broke SessionAnswer SessionCloses (session_from protocol taken) on.end (again_of protocol taken) on.middle fault on.streamed answer)
 
     -- a log that can be taken up
-    log_resumed : (manner : Manner) (at : Option ℕ) (text : List ℕ) → CanBeTakenUp p (ended_lines text) at → (taken : Result TakenUp ResumeFault) → IsTaking p at text taken
-        → ResumesTaken manner taken well.before.streams mid outcome → Resumed p manner (ended_lines text) at input status written
-    log_resumed manner at text can (Ok taken) is on = resumed_so manner (ended_lines text) at taken is.is on.end on.is on.answer
-    log_resumed manner at text can (Err fault) is on =
-        absurd (not_wanting (subst (λ (f : ResumeFault). IsUntakenTold f outcome) (is.can can) on.0))
+    log_resumed : (protocol : Protocol) (at : Option ℕ) (text : List ℕ) → IsRecoverable p (ended_lines text) at → (taken : Result Recovered ResumeFault) → IsRecovery p at text taken
+        → ResumesRecovered protocol taken well.before.streams mid outcome → Resumed p protocol (ended_lines text) at input status written
+    log_resumed protocol at text can (Ok taken) is on = resumed_so protocol (ended_lines text) at taken is.is on.end on.is on.answer
+    log_resumed protocol at text can (Err fault) is on =
+        absurd (not_wanting (subst (λ (f : ResumeFault). IsUnrecoveredAnswer f outcome) (is.can can) on.0))
 
-  follows_resumed : (pair : PairOfFiles) (log text : List ℕ) (read : Result Chosen WordsFault) → AskForResume words pair log → TellPlan content pair p → IsWellShaped p → content log ≡ Ok text
-      → CanBeTakenUp p (ended_lines text) (moment_given words) → AreWordsRead words read → Follows (Shelf content) read well.before status well.after well.log
+  follows_resumed : (pair : PairOfFiles) (log text : List ℕ) (read : Result Chosen WordsFault) → AskForResume words pair log → ParseAsPlan content pair p → IsWellShaped p → content log ≡ Ok text
+      → IsRecoverable p (ended_lines text) (moment_given words) → AreWordsRead words read → Follows (Shelf content) read well.before status well.after well.log
       → Resumed p (manner_of words) (ended_lines text) (moment_given words) input status written
   follows_resumed pair log text (Ok chosen) ask good shaped came can are follows =
       let name : chosen.name ≡ Resume = is_resume chosen.name (are.chosen.name ∙ ask.resume) in
@@ -185,7 +185,7 @@ module _ (content : List ℕ → Result (List ℕ) CommandFault) (words : List (
       subst (λ (l : List ℕ). RunsResume (Shelf content) (manner_of words) (moment_given words) pair l [] well.before.streams follows.outcome well.after.texts follows.mid) (asked_log words pair log chosen ask are.chosen)
       (subst (λ (q : PairOfFiles). RunsResume (Shelf content) (manner_of words) (moment_given words) q (file_at chosen 2) [] well.before.streams follows.outcome well.after.texts follows.mid) (asked_pair words pair log chosen ask are.chosen)
       (subst (λ (a : Option ℕ). RunsResume (Shelf content) (manner_of words) a (pair_in chosen) (file_at chosen 2) [] well.before.streams follows.outcome well.after.texts follows.mid) are.chosen.at
-      (subst (λ (m : Manner). RunsResume (Shelf content) m chosen.at (pair_in chosen) (file_at chosen 2) [] well.before.streams follows.outcome well.after.texts follows.mid) (same_manner words chosen are.chosen)
+      (subst (λ (m : Protocol). RunsResume (Shelf content) m chosen.at (pair_in chosen) (file_at chosen 2) [] well.before.streams follows.outcome well.after.texts follows.mid) (same_manner words chosen are.chosen)
       (subst (λ (asked : List (List ℕ)). RunsResume (Shelf content) (manner_in chosen) chosen.at (pair_in chosen) (file_at chosen 2) asked well.before.streams follows.outcome well.after.texts follows.mid) well.unasked runs)))) in
       let ends : Ends follows.outcome follows.mid.output well.after.streams.output well.before.errors well.after.errors status =
       subst (λ (n : CommandName). EndsBy (draws n chosen.svg) follows.outcome follows.mid.output well.after.streams.output well.before.errors well.after.errors status) name
@@ -195,31 +195,31 @@ module _ (content : List ℕ → Result (List ℕ) CommandFault) (words : List (
         | inr none ↦ absurd (not_wanting follows.mid follows.outcome follows.input ends none.0)
       ]
   follows_resumed pair log text (Err (Usage help message)) ask good shaped came can are follows =
-      absurd (let told = subst (λ kinds. TellsOneOf kinds (Usage help message)) ask.taken are.refused in told.1)
+      absurd (let told = subst (λ kinds. NamesOneOf kinds (Usage help message)) ask.taken are.refused in told.1)
   follows_resumed pair log text (Err NoWordsMemory) ask good shaped came can are follows = absurd (well.no_want (memory_status well.before.errors well.after.errors status follows.0.1))
 
 -- ---- two runs
 
 pub resume_writes_the_same : ResumeWritesTheSame
 resume_writes_the_same content words pair log text p input status other_status written other ask good shaped came can few well also =
-    let manner = manner_of words in
+    let protocol = manner_of words in
     let one = follows_resumed content words p input few status written well pair log text well.run.read ask good shaped came can well.run.is well.run.follows in
     let two = follows_resumed content words p input few other_status other also pair log text also.run.read ask good shaped came can also.run.is also.run.follows in
-    let same = one_text_from_a_log p manner (ended_lines text) (moment_given words) one.taken two.taken input written other one.state two.state one.up two.up one.is_text two.is_text in
+    let same = one_text_from_a_log p protocol (ended_lines text) (moment_given words) one.taken two.taken input written other one.state two.state one.up two.up one.is_text two.is_text in
     let done : two.done ≡ one.done = same_done p one.state two.state one.done two.done one.last two.last one.left two.left one.so_far two.so_far same.1 in
     (two.own ∙ ap status_at done ∙ sym one.own, same.0)
 
 one_manner : (words others : List (List ℕ)) → AskForOneManner words others → manner_of words ≡ manner_of others
 one_manner words others one =
-    let of : Option Lines → Option ℕ → Option ℕ → Manner = λ version longest at. record { tells = is_second version; longest = longest; from = unwrap_or at 0 } in
+    let of : Option Lines → Option ℕ → Option ℕ → Protocol = λ version max_gap at. record { version_2 = is_second version; max_gap = max_gap; from = unwrap_or at 0 } in
     let leap : Option ℕ = leap_in (rows_found (found_in words)) in
     ap (λ v. of v leap (moment_given words)) one.lines ∙ ap (λ l. of (lines_in (rows_found (found_in others))) l (moment_given words)) one.leap
     ∙ ap (λ a. of (lines_in (rows_found (found_in others))) (leap_in (rows_found (found_in others))) a) (one.none_given ∙ sym one.none_there)
 
 pub resume_writes_as_drive : ResumeWritesAsDrive
 resume_writes_as_drive content words others pair log text p input status other_status written other ask ask_drive one_of good shaped acceptable came none few well also =
-    let manner = manner_of words in
-    let can : CanBeTakenUp p (ended_lines text) (moment_given words) = record {
+    let protocol = manner_of words in
+    let can : IsRecoverable p (ended_lines text) (moment_given words) = record {
       told = [];
       tells = none;
       is_run = tt;
@@ -228,11 +228,11 @@ resume_writes_as_drive content words others pair log text p input status other_s
       accepted = λ nothing. acceptable;
     } in
     let one = follows_resumed content words p input few status written well pair log text well.run.read ask good shaped came can well.run.is well.run.follows in
-    let up : IsTakenUp p (ended_lines text) None one.taken = subst (λ (a : Option ℕ). IsTakenUp p (ended_lines text) a one.taken) one_of.none_given one.up in
-    let (answer, is_text, whole) = a_log_without_events_is_driven p manner (ended_lines text) one.taken input written one.state none up one.is_text in
-    let two : Wrote p manner input other_status other =
-    subst (λ (m : Manner). Wrote p m input other_status other) (sym (one_manner words others one_of))
+    let up : IsRecovered p (ended_lines text) None one.taken = subst (λ (a : Option ℕ). IsRecovered p (ended_lines text) a one.taken) one_of.none_given one.up in
+    let (answer, is_text, whole) = a_log_without_events_is_driven p protocol (ended_lines text) one.taken input written one.state none up one.is_text in
+    let two : Wrote p protocol input other_status other =
+    subst (λ (m : Protocol). Wrote p m input other_status other) (sym (one_manner words others one_of))
     (follows_wrote content others p input few other_status other also pair also.run.read ask_drive good shaped acceptable also.run.is also.run.follows) in
-    let same = one_answer_text p manner input other answer two.state one.state shaped two.is_text is_text in
+    let same = one_answer_text p protocol input other answer two.state one.state shaped two.is_text is_text in
     let done : one.done ≡ two.done = same_done p two.state one.state two.done one.done two.last one.last two.left one.left two.so_far one.so_far same.1 in
     (one.own ∙ ap status_at done ∙ sym two.own, whole ∙ ap (λ xs. 10 ∷ xs) same.0)

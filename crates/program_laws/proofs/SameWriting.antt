@@ -10,7 +10,7 @@ use Rattle.shop_base.specs.Ends.{stated_number, reports_in}
 use Rattle.text_lines.specs.declared.limits.TheConstants.{MAX_INPUT}
 use Rattle.cell_tables.specs.Events.{events_of}
 use Rattle.plan_verifier.specs.Accepted.{VerifiedPlan, IsAcceptable}
-use Rattle.cell_drive.specs.declared.manner.Manner.{Manner}
+use Rattle.cell_drive.specs.declared.protocol.Protocol.{Protocol}
 use Rattle.cell_drive.specs.declared.begin.DriveEnd.{DriveEnd}
 use Rattle.byte_streams.specs.declared.drive_fault.DriveFault.{DriveFault}
 use Rattle.byte_streams.specs.declared.drive_fault.DriveFault.TheVariants.{Read as NotRead, Write as NotWritten, InputTooLong as TooLong, Memory as WantOfMemory}
@@ -21,7 +21,7 @@ use Rattle.run_log.specs.Log.{Noted}
 use Rattle.cell_drive.specs.AnswerText.{DrivenCell}
 use Rattle.cell_drive.specs.Session.{SessionState, SessionAnswer, SessionCloses, IsEndOf, seen, session_start}
 use Rattle.cell_drive.specs.OneRun.{IsSoFar, IsStreamedFrom}
-use Rattle.cell_drive.specs.Stated.{IsStatedText}
+use Rattle.cell_drive.specs.ProtocolText.{IsProtocolText}
 use Rattle.cell_drive.proofs.Sessions.{driven_text}
 use Rattle.cell_drive.proofs.OneText.{one_answer_text}
 use Rattle.command_words.specs.declared.words.Chosen.{Chosen}
@@ -30,18 +30,18 @@ use Rattle.command_words.specs.declared.words.CommandName.TheVariants.{Input, Fa
 use Rattle.command_words.specs.declared.words.Lines.{Lines}
 use Rattle.command_words.specs.declared.words.WordsFault.{WordsFault}
 use Rattle.command_words.specs.declared.words.WordsFault.TheVariants.{Usage, Memory as NoWordsMemory}
-use Rattle.command_words.specs.Choice.{word_of, IsChoiceOf, TellsOneOf, found_in, rows_found, lines_in, leap_in}
+use Rattle.command_words.specs.Choice.{word_of, IsChoiceOf, NamesOneOf, found_in, rows_found, lines_in, leap_in}
 use Rattle.command_answers.specs.declared.answer.Answer.{Answer}
 use Rattle.command_answers.specs.declared.command_fault.CommandFault.{CommandFault}
 use Rattle.command_answers.specs.declared.command_fault.CommandFault.TheVariants.{Write, Memory}
 use Rattle.command_answers.specs.Commands.{PairOfFiles}
 use Rattle.command_run.specs.Streams.{Streams, Output, Errors}
 use Rattle.command_run.specs.Drives.{IsEnded, IsEndAnswer, IsDriveIn, DrivesCell, status_at, end_of_drive}
-use Rattle.command_run.specs.Ending.{IsTold, IsPrinted, IsToldAfter, Ends, EndsBy}
+use Rattle.command_run.specs.Ending.{IsFaultPrinted, IsPrinted, IsPrintedAfter, Ends, EndsBy}
 use Rattle.command_run.specs.Logs.{LogEnd}
 use Rattle.command_run.specs.Program.{AreWordsRead, RunsDrive, RunsCommand, RunsChosen, Follows, draws, draws_in, is_second, keeps_log, kept_log_in, log_kept_by, manner_in, pair_in, status_by}
-use Rattle.command_run.specs.Laws.{Shelf, TellPlan, AskForDrive, RunsWell}
-use Rattle.program_laws.specs.ToldLaw.{manner_of}
+use Rattle.command_run.specs.Laws.{Shelf, ParseAsPlan, AskForDrive, RunsWell}
+use Rattle.program_laws.specs.HistoryLaw.{manner_of}
 use Rattle.program_laws.proofs.GoodFiles.{good_drive}
 
 driven_or_not : {P Q R S : Type 0} → (P × Q) ⊎ (R × S) → Q ⊎ R
@@ -89,9 +89,9 @@ same_pair words pair chosen ask is =
 
 pub same_manner : (words : List (List ℕ)) (chosen : Chosen) → IsChoiceOf words (found_in words) chosen → manner_in chosen ≡ manner_of words
 same_manner words chosen is =
-    ap (λ (v : Option Lines). record { tells = is_second v; longest = chosen.leap; from = unwrap_or chosen.at 0 }) is.lines
-    ∙ ap (λ (l : Option ℕ). record { tells = is_second (lines_in (rows_found (found_in words))); longest = l; from = unwrap_or chosen.at 0 }) is.leap
-    ∙ ap (λ (a : Option ℕ). record { tells = is_second (lines_in (rows_found (found_in words))); longest = leap_in (rows_found (found_in words)); from = unwrap_or a 0 }) is.at
+    ap (λ (v : Option Lines). record { version_2 = is_second v; max_gap = chosen.leap; from = unwrap_or chosen.at 0 }) is.lines
+    ∙ ap (λ (l : Option ℕ). record { version_2 = is_second (lines_in (rows_found (found_in words))); max_gap = l; from = unwrap_or chosen.at 0 }) is.leap
+    ∙ ap (λ (a : Option ℕ). record { version_2 = is_second (lines_in (rows_found (found_in words))); max_gap = leap_in (rows_found (found_in words)); from = unwrap_or a 0 }) is.at
 
 -- and no log
 none_kept : (keeps : Bool) (log : Option (List ℕ)) → log ≡ None → log_kept_by keeps log ≡ None
@@ -124,43 +124,43 @@ written_is before mid after start written text more from to first second none =
 -- ---- how it ends
 
 -- a command that keeps no log ends with its own status
-pub own_ends : (chosen : Chosen) (outcome : Result Answer CommandFault) (before after : Output) (told_before told_after : Errors) (own status : ℕ) (log : Option LogEnd) → kept_log_in chosen ≡ None
-    → status ≡ status_by (kept_log_in chosen) log outcome own → EndsBy (draws_in chosen) outcome before after told_before told_after own → EndsBy (draws_in chosen) outcome before after told_before told_after status
-own_ends chosen outcome before after told_before told_after own status log none is ends =
+pub own_ends : (chosen : Chosen) (outcome : Result Answer CommandFault) (before after : Output) (printed_before printed_after : Errors) (own status : ℕ) (log : Option LogEnd) → kept_log_in chosen ≡ None
+    → status ≡ status_by (kept_log_in chosen) log outcome own → EndsBy (draws_in chosen) outcome before after printed_before printed_after own → EndsBy (draws_in chosen) outcome before after printed_before printed_after status
+own_ends chosen outcome before after printed_before printed_after own status log none is ends =
     let same : status ≡ own = subst (λ (kept : Option (List ℕ)). status ≡ status_by kept log outcome own) none is in
-    subst (λ (n : ℕ). EndsBy (draws_in chosen) outcome before after told_before told_after n) (sym same) ends
+    subst (λ (n : ℕ). EndsBy (draws_in chosen) outcome before after printed_before printed_after n) (sym same) ends
 
-pub memory_status : (before after : Errors) (status : ℕ) → IsTold Memory before after status → status ≡ 4
+pub memory_status : (before after : Errors) (status : ℕ) → IsFaultPrinted Memory before after status → status ≡ 4
 memory_status before after status (inl out) = out.own
 memory_status before after status (inr (text, out)) = absurd text
 
-pub memory_ends : (outcome : Result Answer CommandFault) (before after : Output) (told_before told_after : Errors) (status : ℕ) → outcome ≡ Err Memory → Ends outcome before after told_before told_after status → status ≡ 4
-memory_ends outcome before after told_before told_after status is ends =
-    let wanting = subst (λ o. Ends o before after told_before told_after status) is ends in memory_status told_before told_after status wanting.1
+pub memory_ends : (outcome : Result Answer CommandFault) (before after : Output) (printed_before printed_after : Errors) (status : ℕ) → outcome ≡ Err Memory → Ends outcome before after printed_before printed_after status → status ≡ 4
+memory_ends outcome before after printed_before printed_after status is ends =
+    let wanting = subst (λ o. Ends o before after printed_before printed_after status) is ends in memory_status printed_before printed_after status wanting.1
 
-pub write_ends : (outcome : Result Answer CommandFault) (before after : Output) (told_before told_after : Errors) (status : ℕ) → outcome ≡ Err Write → Ends outcome before after told_before told_after status → after ≡ before
-write_ends outcome before after told_before told_after status is ends =
-    let failed = subst (λ o. Ends o before after told_before told_after status) is ends in failed.0
+pub write_ends : (outcome : Result Answer CommandFault) (before after : Output) (printed_before printed_after : Errors) (status : ℕ) → outcome ≡ Err Write → Ends outcome before after printed_before printed_after status → after ≡ before
+write_ends outcome before after printed_before printed_after status is ends =
+    let failed = subst (λ o. Ends o before after printed_before printed_after status) is ends in failed.0
 
-printed_as : (answer : Answer) (printed : Result ℕ CommandFault) (before after : Output) (told_before told_after : Errors) (status : ℕ) → after.failed ≡ false → IsPrinted answer before after printed
-    → IsToldAfter printed told_before told_after status → (status ≡ answer.status) × Appends before.taken after.taken answer.text.items
-printed_as answer (Ok shown) before after told_before told_after status unfailed is told = (told.1 ∙ is.0, is.1)
-printed_as answer (Err fault) before after told_before told_after status unfailed is told = absurd (let failed : true ≡ false = sym is.2 ∙ unfailed in cc failed)
+printed_as : (answer : Answer) (printed : Result ℕ CommandFault) (before after : Output) (printed_before printed_after : Errors) (status : ℕ) → after.failed ≡ false → IsPrinted answer before after printed
+    → IsPrintedAfter printed printed_before printed_after status → (status ≡ answer.status) × Appends before.written after.written answer.text.items
+printed_as answer (Ok shown) before after printed_before printed_after status unfailed is told = (told.1 ∙ is.0, is.1)
+printed_as answer (Err fault) before after printed_before printed_after status unfailed is told = absurd (let failed : true ≡ false = sym is.2 ∙ unfailed in cc failed)
 
-pub ended_as : (done : Bool) (outcome : Result Answer CommandFault) (before after : Output) (told_before told_after : Errors) (status : ℕ) → after.failed ≡ false → IsEnded done outcome
-    → Ends outcome before after told_before told_after status → (status ≡ status_at done) × ((more : List ℕ) × (more ≡ []) × Appends before.taken after.taken more)
-ended_as done (Ok answer) before after told_before told_after status unfailed is ends =
-    let printed = printed_as answer ends.printed before after told_before told_after status unfailed ends.is ends.told in
+pub ended_as : (done : Bool) (outcome : Result Answer CommandFault) (before after : Output) (printed_before printed_after : Errors) (status : ℕ) → after.failed ≡ false → IsEnded done outcome
+    → Ends outcome before after printed_before printed_after status → (status ≡ status_at done) × ((more : List ℕ) × (more ≡ []) × Appends before.written after.written more)
+ended_as done (Ok answer) before after printed_before printed_after status unfailed is ends =
+    let printed = printed_as answer ends.printed before after printed_before printed_after status unfailed ends.is ends.told in
     (printed.0 ∙ is.1, (answer.text.items, is.0, printed.1))
-ended_as done (Err fault) before after told_before told_after status unfailed is ends = absurd is
+ended_as done (Err fault) before after printed_before printed_after status unfailed is ends = absurd is
 
 -- what a good run of `drive` wrote: the answer text of its input in this manner
-pub record Wrote (p : PlannedShop) (manner : Manner) (input : List ℕ) (status : ℕ) (written : List ℕ) : Type 0 where
+pub record Wrote (p : PlannedShop) (protocol : Protocol) (input : List ℕ) (status : ℕ) (written : List ℕ) : Type 0 where
   pub state : DrivenCell
   pub done : Bool
   pub last : ℕ
   pub left : ℕ
-  pub is_text : IsStatedText p manner input written state
+  pub is_text : IsProtocolText p protocol input written state
   pub so_far : IsSoFar p state.entries done last left
   pub own : status ≡ status_at done
 
@@ -176,7 +176,7 @@ module _ (content : List ℕ → Result (List ℕ) CommandFault) (words : List (
         let whole : List ℕ = all.text ++ all.closing in
         let ended = ended_as end.done outcome mid.output well.after.streams.output well.before.errors well.after.errors status well.was_written answer ends in (
           all_read well.before.streams.input.left mid.input.left input is.input well.given is.was_read all.at_end,
-          written_is well.before.streams.output.taken mid.output.taken well.after.streams.output.taken well.start written whole ended.1.0 well.empty well.wrote all.written ended.1.2 ended.1.1,
+          written_is well.before.streams.output.written mid.output.written well.after.streams.output.written well.start written whole ended.1.0 well.empty well.wrote all.written ended.1.2 ended.1.1,
           ended.0,
         )
 
@@ -194,50 +194,50 @@ module _ (content : List ℕ → Result (List ℕ) CommandFault) (words : List (
   so_far_of v state end same is =
       subst (λ q. IsSoFar q state.log.entries end.done end.last end.left) same (subst (λ (l : Noted). IsSoFar v.planned l.entries end.done end.last end.left) is.log is.so_far)
 
-  drive_wrote : (manner : Manner) (v : VerifiedPlan) (mid : Streams) (outcome : Result Answer CommandFault) (end : Result DriveEnd DriveFault) → v.planned ≡ p
-      → IsDriveIn manner v well.before.streams mid end → IsEndAnswer (end_of_drive end) outcome → well.after.streams.input ≡ mid.input
-      → Ends outcome mid.output well.after.streams.output well.before.errors well.after.errors status → Wrote p manner input status written
-  drive_wrote manner v mid outcome (Ok end) same is answer same_input ends =
+  drive_wrote : (protocol : Protocol) (v : VerifiedPlan) (mid : Streams) (outcome : Result Answer CommandFault) (end : Result DriveEnd DriveFault) → v.planned ≡ p
+      → IsDriveIn protocol v well.before.streams mid end → IsEndAnswer (end_of_drive end) outcome → well.after.streams.input ≡ mid.input
+      → Ends outcome mid.output well.after.streams.output well.before.errors well.after.errors status → Wrote p protocol input status written
+  drive_wrote protocol v mid outcome (Ok end) same is answer same_input ends =
       let all = is.streamed.comes_to in
       let whole : List ℕ = all.text ++ all.closing in
-      let ended = ended_well SessionAnswer SessionCloses (session_start manner v) is.end mid outcome same_input ends end is.streamed answer in
-      let answered : IsStatedText p manner is.streamed.input whole (seen is.end) = subst (λ q. IsStatedText q manner is.streamed.input whole (seen is.end)) same (driven_text v manner end well.before.streams mid is) in
+      let ended = ended_well SessionAnswer SessionCloses (session_start protocol v) is.end mid outcome same_input ends end is.streamed answer in
+      let answered : IsProtocolText p protocol is.streamed.input whole (seen is.end) = subst (λ q. IsProtocolText q protocol is.streamed.input whole (seen is.end)) same (driven_text v protocol end well.before.streams mid is) in
       record {
         state = seen is.end;
         done = end.done;
         last = end.last;
         left = end.left;
-        is_text = subst (λ xs. IsStatedText p manner input xs (seen is.end)) (sym ended.1) (subst (λ xs. IsStatedText p manner xs whole (seen is.end)) ended.0 answered);
+        is_text = subst (λ xs. IsProtocolText p protocol input xs (seen is.end)) (sym ended.1) (subst (λ xs. IsProtocolText p protocol xs whole (seen is.end)) ended.0 answered);
         so_far = so_far_of v is.end end same is.came_to;
         own = ended.2;
       }
-  drive_wrote manner v mid outcome (Err fault) same is answer same_input ends =
-      absurd (never_broke SessionAnswer SessionCloses (session_start manner v) is.end mid outcome same_input ends fault is.streamed answer)
+  drive_wrote protocol v mid outcome (Err fault) same is answer same_input ends =
+      absurd (never_broke SessionAnswer SessionCloses (session_start protocol v) is.end mid outcome same_input ends fault is.streamed answer)
 
-  cell_wrote : (manner : Manner) (mid : Streams) (outcome : Result Answer CommandFault) → ((v : VerifiedPlan) × (v.planned ≡ p) × DrivesCell manner v well.before.streams mid outcome) ⊎ (outcome ≡ Err Memory)
-      → well.after.streams.input ≡ mid.input → Ends outcome mid.output well.after.streams.output well.before.errors well.after.errors status → Wrote p manner input status written
-  cell_wrote manner mid outcome (inl (v, same, cell)) same_input ends = drive_wrote manner v mid outcome cell.end same cell.is cell.answer same_input ends
-  cell_wrote manner mid outcome (inr none) same_input ends =
+  cell_wrote : (protocol : Protocol) (mid : Streams) (outcome : Result Answer CommandFault) → ((v : VerifiedPlan) × (v.planned ≡ p) × DrivesCell protocol v well.before.streams mid outcome) ⊎ (outcome ≡ Err Memory)
+      → well.after.streams.input ≡ mid.input → Ends outcome mid.output well.after.streams.output well.before.errors well.after.errors status → Wrote p protocol input status written
+  cell_wrote protocol mid outcome (inl (v, same, cell)) same_input ends = drive_wrote protocol v mid outcome cell.end same cell.is cell.answer same_input ends
+  cell_wrote protocol mid outcome (inr none) same_input ends =
       absurd (well.no_want (memory_ends outcome mid.output well.after.streams.output well.before.errors well.after.errors status none ends))
 
-  pub follows_wrote : (pair : PairOfFiles) (read : Result Chosen WordsFault) → AskForDrive words pair → TellPlan content pair p → IsWellShaped p → IsAcceptable p → AreWordsRead words read
+  pub follows_wrote : (pair : PairOfFiles) (read : Result Chosen WordsFault) → AskForDrive words pair → ParseAsPlan content pair p → IsWellShaped p → IsAcceptable p → AreWordsRead words read
       → Follows (Shelf content) read well.before status well.after well.log → Wrote p (manner_of words) input status written
   follows_wrote pair (Ok chosen) ask good shaped acceptable are follows =
       let name = is_drive chosen.name (are.chosen.name ∙ ask.drive) in
-      let manner = manner_of words in
+      let protocol = manner_of words in
       let unlogged : RunsCommand (Shelf content) chosen.name chosen well.before.texts well.before.streams follows.outcome well.after.texts follows.mid =
       (subst (λ (l : Option (List ℕ)). RunsChosen (Shelf content) l chosen well.before follows.outcome follows.mid well.after well.log) (no_log words pair chosen ask are.chosen) follows.runs).0 in
       let runs : RunsDrive (Shelf content) (manner_in chosen) (pair_in chosen) well.before.texts well.before.streams follows.outcome well.after.texts follows.mid =
       subst (λ n. RunsCommand (Shelf content) n chosen well.before.texts well.before.streams follows.outcome well.after.texts follows.mid) name unlogged in
-      let drive : RunsDrive (Shelf content) manner pair [] well.before.streams follows.outcome well.after.texts follows.mid =
-      subst (λ (q : PairOfFiles). RunsDrive (Shelf content) manner q [] well.before.streams follows.outcome well.after.texts follows.mid) (same_pair words pair chosen ask are.chosen)
-      (subst (λ (m : Manner). RunsDrive (Shelf content) m (pair_in chosen) [] well.before.streams follows.outcome well.after.texts follows.mid) (same_manner words chosen are.chosen)
+      let drive : RunsDrive (Shelf content) protocol pair [] well.before.streams follows.outcome well.after.texts follows.mid =
+      subst (λ (q : PairOfFiles). RunsDrive (Shelf content) protocol q [] well.before.streams follows.outcome well.after.texts follows.mid) (same_pair words pair chosen ask are.chosen)
+      (subst (λ (m : Protocol). RunsDrive (Shelf content) m (pair_in chosen) [] well.before.streams follows.outcome well.after.texts follows.mid) (same_manner words chosen are.chosen)
       (subst (λ (asked : List (List ℕ)). RunsDrive (Shelf content) (manner_in chosen) (pair_in chosen) asked well.before.streams follows.outcome well.after.texts follows.mid) well.unasked runs)) in
-      cell_wrote manner follows.mid follows.outcome (driven_or_not (good_drive content pair p good manner well.before.streams follows.mid follows.outcome well.after.texts shaped acceptable drive)) follows.input
+      cell_wrote protocol follows.mid follows.outcome (driven_or_not (good_drive content pair p good protocol well.before.streams follows.mid follows.outcome well.after.texts shaped acceptable drive)) follows.input
       (subst (λ (n : CommandName). EndsBy (draws n chosen.svg) follows.outcome follows.mid.output well.after.streams.output well.before.errors well.after.errors status) name
       (own_ends chosen follows.outcome _ _ _ _ follows.own status well.log (no_log words pair chosen ask are.chosen) follows.status_is follows.ends))
   follows_wrote pair (Err (Usage help text)) ask good shaped acceptable are follows =
-      absurd (let told = subst (λ kinds. TellsOneOf kinds (Usage help text)) ask.taken are.refused in told.1)
+      absurd (let told = subst (λ kinds. NamesOneOf kinds (Usage help text)) ask.taken are.refused in told.1)
   follows_wrote pair (Err NoWordsMemory) ask good shaped acceptable are follows = absurd (well.no_want (memory_status well.before.errors well.after.errors status follows.0.1))
 
 -- ---- two runs
@@ -255,15 +255,15 @@ same_done p one two done also last last_too left left_too so_far so_far_too same
     let counted : IsTrue also ↔ (reports_in (events_of one.entries) ≡ stated_number p) = subst (λ es. IsTrue also ↔ (reports_in (events_of es) ≡ stated_number p)) entries so_far_too.counted in
     same_truth done also (λ yet. counted.1 (so_far.counted.0 yet)) (λ yet. so_far.counted.1 (counted.0 yet))
 
-wrote_the_same : (p : PlannedShop) (manner : Manner) (input : List ℕ) (status other_status : ℕ) (written other : List ℕ) → IsWellShaped p → Wrote p manner input status written → Wrote p manner input other_status other
+wrote_the_same : (p : PlannedShop) (protocol : Protocol) (input : List ℕ) (status other_status : ℕ) (written other : List ℕ) → IsWellShaped p → Wrote p protocol input status written → Wrote p protocol input other_status other
     → (other_status ≡ status) × (other ≡ written)
-wrote_the_same p manner input status other_status written other shaped one two =
-    let same = one_answer_text p manner input written other _ _ shaped one.is_text two.is_text in
+wrote_the_same p protocol input status other_status written other shaped one two =
+    let same = one_answer_text p protocol input written other _ _ shaped one.is_text two.is_text in
     let done : two.done ≡ one.done = same_done p one.state two.state one.done two.done one.last two.last one.left two.left one.so_far two.so_far same.1 in
     (two.own ∙ ap status_at done ∙ sym one.own, same.0)
 
 pub drive_writes_the_same : (content : List ℕ → Result (List ℕ) CommandFault) (words : List (List ℕ)) (pair : PairOfFiles) (p : PlannedShop) (input : List ℕ) (status other_status : ℕ) (written other : List ℕ)
-    → AskForDrive words pair → TellPlan content pair p → IsWellShaped p → IsAcceptable p → length input ≤ MAX_INPUT
+    → AskForDrive words pair → ParseAsPlan content pair p → IsWellShaped p → IsAcceptable p → length input ≤ MAX_INPUT
     → RunsWell content words input status written → RunsWell content words input other_status other → (other_status ≡ status) × (other ≡ written)
 drive_writes_the_same content words pair p input status other_status written other ask good shaped acceptable few one two =
     wrote_the_same p (manner_of words) input status other_status written other shaped

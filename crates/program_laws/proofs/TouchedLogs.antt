@@ -8,12 +8,12 @@ use Rattle.byte_streams.specs.declared.drive_fault.DriveFault.{DriveFault}
 use Rattle.byte_streams.specs.declared.drive_fault.DriveFault.TheVariants.{Read as NotRead, Write as NotWritten, InputTooLong as TooLong, Memory as WantOfMemory}
 use Rattle.cell_drive.specs.declared.begin.DriveEnd.{DriveEnd}
 use Rattle.cell_drive.specs.declared.resume.RestEnd.{RestEnd}
-use Rattle.cell_drive.specs.declared.manner.Manner.{Manner}
-use Rattle.cell_drive.specs.TakenUp.{TakenUp}
+use Rattle.cell_drive.specs.declared.protocol.Protocol.{Protocol}
+use Rattle.cell_drive.specs.Recovered.{Recovered}
 use Rattle.run_journal.specs.declared.file_fault.FileFault.{FileFault}
 use Rattle.run_journal.specs.Folders.{Folder, handed_if}
-use Rattle.logged_drive.specs.declared.taken_log.TakeUpFault.{TakeUpFault}
-use Rattle.logged_drive.specs.declared.taken_log.TakeUpFault.TheVariants.{Resume, NoTornEnd, File}
+use Rattle.logged_drive.specs.declared.recovered_log.RecoverFault.{RecoverFault}
+use Rattle.logged_drive.specs.declared.recovered_log.RecoverFault.TheVariants.{Resume, NoTornEnd, File}
 use Rattle.command_words.specs.declared.words.Chosen.{Chosen}
 use Rattle.command_words.specs.declared.words.CommandName.{CommandName}
 use Rattle.command_words.specs.declared.words.CommandName.TheVariants.{Drive}
@@ -26,9 +26,9 @@ use Rattle.command_answers.specs.declared.command_fault.CommandFault.TheVariants
 use Rattle.command_run.specs.Streams.{Devices, Errors, Output, Streams}
 use Rattle.command_run.specs.Drives.{IsEnded, end_of_drive}
 use Rattle.command_run.specs.Resumes.{end_of_rest}
-use Rattle.command_run.specs.Ending.{Ends, EndsBy, IsPrinted, IsTold, IsToldAfter}
+use Rattle.command_run.specs.Ending.{Ends, EndsBy, IsPrinted, IsFaultPrinted, IsPrintedAfter}
 use Rattle.command_run.specs.declared.misfits.Misfit.{Misfit}
-use Rattle.command_run.specs.Logs.{Begins, DrivesAs, DrivesFitting, DrivesOpened, DrivesShaped, GoesOnAfter, GoesOnTaken, IsLoggedAnswer, IsNewLogFault, IsUntouched, LogEnd, Driven, Untaken, Left, Found, Unread, Unlined, Step, TakesLog, TellsAgain, left_if, log_command_fault}
+use Rattle.command_run.specs.Logs.{Begins, DrivesAs, DrivesFitting, DrivesOpened, DrivesShaped, GoesOnAfter, ContinuesRecovered, IsLoggedAnswer, IsNewLogFault, IsUntouched, LogEnd, Driven, NotRecovered, Left, Found, Unread, Unlined, Step, RecoversLog, ReplaysEvents, left_if, log_command_fault}
 use Rattle.command_run.specs.Program.{Follows, RunsChosen, draws, draws_in, kept_log_in}
 use Rattle.command_run.proofs.Endings.{IsOwnOr, own_or}
 use Rattle.command_run.proofs.Keepers.{keeper}
@@ -49,31 +49,31 @@ HasMemory (Err Log) = Unit {0}
 HasMemory (Err LogInUse) = Unit {0}
 HasMemory (Err Memory) = ⊥
 
-told_four : (fault : CommandFault) (before after : Errors) → HasMemory (Err fault) → IsTold fault before after 4 → ⊥
-told_four (Instance fault) before after has told = has
-told_four (Plan fault) before after has told = has
-told_four (Names fault) before after has told = has
-told_four Read before after has (inl out) = omega (arith, out.own)
-told_four Read before after has (inr out) = out.0
-told_four Write before after has (inl out) = omega (arith, out.own)
-told_four Write before after has (inr out) = out.0
-told_four InputTooLong before after has (inl out) = omega (arith, out.own)
-told_four InputTooLong before after has (inr out) = out.0
-told_four Log before after has (inl out) = omega (arith, out.own)
-told_four Log before after has (inr out) = out.0
-told_four LogInUse before after has (inl out) = omega (arith, out.own)
-told_four LogInUse before after has (inr out) = out.0
-told_four Memory before after has told = has
+parsed_first : (fault : CommandFault) (before after : Errors) → HasMemory (Err fault) → IsFaultPrinted fault before after 4 → ⊥
+parsed_first (Instance fault) before after has told = has
+parsed_first (Plan fault) before after has told = has
+parsed_first (Names fault) before after has told = has
+parsed_first Read before after has (inl out) = omega (arith, out.own)
+parsed_first Read before after has (inr out) = out.0
+parsed_first Write before after has (inl out) = omega (arith, out.own)
+parsed_first Write before after has (inr out) = out.0
+parsed_first InputTooLong before after has (inl out) = omega (arith, out.own)
+parsed_first InputTooLong before after has (inr out) = out.0
+parsed_first Log before after has (inl out) = omega (arith, out.own)
+parsed_first Log before after has (inr out) = out.0
+parsed_first LogInUse before after has (inl out) = omega (arith, out.own)
+parsed_first LogInUse before after has (inr out) = out.0
+parsed_first Memory before after has told = has
 
-printed_four : (answer : Answer) (printed : Result ℕ CommandFault) (before after : Output) (told_before told_after : Errors) → answer.status ≤ 1 → IsPrinted answer before after printed
-    → IsToldAfter printed told_before told_after 4 → ⊥
-printed_four answer (Ok status) before after told_before told_after low is told = omega (arith, low, is.0, told.1)
-printed_four answer (Err fault) before after told_before told_after low is told =
-    told_four Write told_before told_after tt (subst (λ (f : CommandFault). IsTold f told_before told_after 4) is.0 told)
+printed_four : (answer : Answer) (printed : Result ℕ CommandFault) (before after : Output) (printed_before printed_after : Errors) → answer.status ≤ 1 → IsPrinted answer before after printed
+    → IsPrintedAfter printed printed_before printed_after 4 → ⊥
+printed_four answer (Ok status) before after printed_before printed_after low is told = omega (arith, low, is.0, told.1)
+printed_four answer (Err fault) before after printed_before printed_after low is told =
+    parsed_first Write printed_before printed_after tt (subst (λ (f : CommandFault). IsFaultPrinted f printed_before printed_after 4) is.0 told)
 
-ends_four : (outcome : Result Answer CommandFault) (before after : Output) (told_before told_after : Errors) → HasMemory outcome → Ends outcome before after told_before told_after 4 → ⊥
-ends_four (Ok answer) before after told_before told_after low ends = printed_four answer ends.printed before after told_before told_after low ends.is ends.told
-ends_four (Err fault) before after told_before told_after has ends = told_four fault told_before told_after has ends.1
+ends_four : (outcome : Result Answer CommandFault) (before after : Output) (printed_before printed_after : Errors) → HasMemory outcome → Ends outcome before after printed_before printed_after 4 → ⊥
+ends_four (Ok answer) before after printed_before printed_after low ends = printed_four answer ends.printed before after printed_before printed_after low ends.is ends.told
+ends_four (Err fault) before after printed_before printed_after has ends = parsed_first fault printed_before printed_after has ends.1
 
 own_four : (own status : ℕ) → IsOwnOr own status → status ≡ 4 → own ≡ 4
 own_four own status (inl same) four = sym same ∙ four
@@ -85,9 +85,9 @@ own_four own status (inr six) four = absurd (omega (arith, six.1, four))
 abbrev IsChanged : Option LogEnd → Type 0
 IsChanged None = ⊥
 IsChanged (Some (Driven p events held)) = Unit {0}
-IsChanged (Some (Untaken p text (Resume fault))) = ⊥
-IsChanged (Some (Untaken p text (NoTornEnd lines))) = ⊥
-IsChanged (Some (Untaken p text (File fault))) = Unit {0}
+IsChanged (Some (NotRecovered p text (Resume fault))) = ⊥
+IsChanged (Some (NotRecovered p text (NoTornEnd lines))) = ⊥
+IsChanged (Some (NotRecovered p text (File fault))) = Unit {0}
 IsChanged (Some Left) = Unit {0}
 IsChanged (Some (Found bytes)) = ⊥
 IsChanged (Some (Unread fault)) = ⊥
@@ -95,9 +95,9 @@ IsChanged (Some (Unlined p)) = Unit {0}
 
 unchanged : (end : LogEnd) (written : Bool) → IsUntouched written end → (IsChanged (Some end) → ⊥) → written ≡ false
 unchanged (Driven p events held) written is never = absurd (never tt)
-unchanged (Untaken p text (Resume fault)) written is never = is tt
-unchanged (Untaken p text (NoTornEnd lines)) written is never = is tt
-unchanged (Untaken p text (File fault)) written is never = absurd (never tt)
+unchanged (NotRecovered p text (Resume fault)) written is never = is tt
+unchanged (NotRecovered p text (NoTornEnd lines)) written is never = is tt
+unchanged (NotRecovered p text (File fault)) written is never = absurd (never tt)
 unchanged Left written is never = absurd (never tt)
 unchanged (Found bytes) written is never = is
 unchanged (Unread fault) written is never = is
@@ -141,22 +141,22 @@ rest_has : (end : Result RestEnd DriveFault) → end ≢ Err WantOfMemory → en
 rest_has (Ok end) memory is = cc is
 rest_has (Err fault) memory is = let same : fault ≡ WantOfMemory = cc is in memory (ap Err same)
 
-after_has : (manner : Manner) (t : TakenUp) (mid : Output) (told : Result TakenUp DriveFault) (step : Step) → TellsAgain manner t step.before.output mid told → GoesOnAfter manner t mid told step → HasMemory step.outcome
-after_has manner t mid (Ok done) step tells run = has_driven run.log_failed (end_of_rest run.end) step.outcome (rest_has run.end run.memory) run.answer
-after_has manner t mid (Err NotWritten) step tells is = has_fault Write step.outcome is.0 tt
-after_has manner t mid (Err NotRead) step tells is = absurd tells.is
-after_has manner t mid (Err TooLong) step tells is = absurd tells.is
-after_has manner t mid (Err WantOfMemory) step tells is = absurd tells.is
+after_has : (protocol : Protocol) (t : Recovered) (mid : Output) (told : Result Recovered DriveFault) (step : Step) → ReplaysEvents protocol t step.before.output mid told → GoesOnAfter protocol t mid told step → HasMemory step.outcome
+after_has protocol t mid (Ok done) step tells run = has_driven run.log_failed (end_of_rest run.end) step.outcome (rest_has run.end run.memory) run.answer
+after_has protocol t mid (Err NotWritten) step tells is = has_fault Write step.outcome is.0 tt
+after_has protocol t mid (Err NotRead) step tells is = absurd tells.is
+after_has protocol t mid (Err TooLong) step tells is = absurd tells.is
+after_has protocol t mid (Err WantOfMemory) step tells is = absurd tells.is
 
-taken_has : (p : PlannedShop) (manner : Manner) (at : Option ℕ) (text : List ℕ) (taken : Result TakenUp TakeUpFault) (step : Step) → TakesLog p at text taken → GoesOnTaken p manner text taken step
+recovered_has : (p : PlannedShop) (protocol : Protocol) (at : Option ℕ) (text : List ℕ) (taken : Result Recovered RecoverFault) (step : Step) → RecoversLog p at text taken → ContinuesRecovered p protocol text taken step
     → IsChanged step.log → HasMemory step.outcome
-taken_has p manner at text (Ok t) step takes on changed = after_has manner t on.mid on.told step on.tells on.goes_on
-taken_has p manner at text (Err (Resume fault)) step takes is changed = never_changed step.log (Some (Untaken p text (Resume fault))) step.outcome is.1.is (λ bad. bad) changed
-taken_has p manner at text (Err (NoTornEnd lines)) step takes is changed = never_changed step.log (Some (Untaken p text (NoTornEnd lines))) step.outcome is.1.is (λ bad. bad) changed
-taken_has p manner at text (Err (File fault)) step takes is changed =
+recovered_has p protocol at text (Ok t) step takes on changed = after_has protocol t on.mid on.told step on.tells on.goes_on
+recovered_has p protocol at text (Err (Resume fault)) step takes is changed = never_changed step.log (Some (NotRecovered p text (Resume fault))) step.outcome is.1.is (λ bad. bad) changed
+recovered_has p protocol at text (Err (NoTornEnd lines)) step takes is changed = never_changed step.log (Some (NotRecovered p text (NoTornEnd lines))) step.outcome is.1.is (λ bad. bad) changed
+recovered_has p protocol at text (Err (File fault)) step takes is changed =
     has_fault (log_command_fault fault) step.outcome is.0 (subst (λ (f : FileFault). HasMemory (Err (log_command_fault f))) (sym takes.fault) tt)
 
-module _ (folder after : Folder) (path : List ℕ) (manner : Manner) (at : Option ℕ) where
+module _ (folder after : Folder) (path : List ℕ) (protocol : Protocol) (at : Option ℕ) where
   lacks_has : (p : PlannedShop) (there : Bool) (fault : FileFault) (log : Option LogEnd) (outcome : Result Answer CommandFault) → outcome ≡ Err (log_command_fault fault)
       → IsNewLogFault folder after path p there fault log → IsChanged log → HasMemory outcome
   lacks_has p there fault log outcome is (inl none) changed = never_changed log None outcome none.1 (λ bad. bad) changed
@@ -164,7 +164,7 @@ module _ (folder after : Folder) (path : List ℕ) (manner : Manner) (at : Optio
   lacks_has p there fault log outcome is (inr (inr unlined)) changed =
       has_fault (log_command_fault fault) outcome is (subst (λ (f : FileFault). HasMemory (Err (log_command_fault f))) (sym unlined.0) tt)
 
-  begins_has : (p : PlannedShop) (there : Bool) (step : Step) → Begins folder after path manner p there step → IsChanged step.log → HasMemory step.outcome
+  begins_has : (p : PlannedShop) (there : Bool) (step : Step) → Begins folder after path protocol p there step → IsChanged step.log → HasMemory step.outcome
   begins_has p there step (inl (Refused back why, is, by)) changed = never_changed step.log (left_if there) step.outcome by.1.is (left_unchanged there) changed
   begins_has p there step (inl (Accepted v, is, inl wanting)) changed = never_changed step.log (left_if there) step.outcome wanting.1.is (left_unchanged there) changed
   begins_has p there step (inl (Accepted v, is, inr (inl lacks))) changed = lacks_has v.planned there lacks.fault step.log step.outcome lacks.is lacks.why changed
@@ -172,22 +172,22 @@ module _ (folder after : Folder) (path : List ℕ) (manner : Manner) (at : Optio
       has_driven run.drove.log_failed (end_of_drive run.drove.end) step.outcome (end_has run.drove.end run.drove.memory) run.drove.answer
   begins_has p there step (inr wanting) changed = never_changed step.log (left_if there) step.outcome wanting.1.is (left_unchanged there) changed
 
-  fitting_has : (p : PlannedShop) (there : Option (List ℕ)) (step : Step) → DrivesFitting folder after path manner at p there step → IsChanged step.log → HasMemory step.outcome
+  fitting_has : (p : PlannedShop) (there : Option (List ℕ)) (step : Step) → DrivesFitting folder after path protocol at p there step → IsChanged step.log → HasMemory step.outcome
   fitting_has p None step is = begins_has p false step is
   fitting_has p (Some []) step is = begins_has p true step is
-  fitting_has p (Some (byte ∷ bytes)) step is = taken_has p manner at (byte ∷ bytes) is.0.taken step is.0.takes is.0.goes_on
+  fitting_has p (Some (byte ∷ bytes)) step is = recovered_has p protocol at (byte ∷ bytes) is.0.taken step is.0.takes is.0.goes_on
 
-  as_has : (misfit : Option Misfit) (p : PlannedShop) (there : Option (List ℕ)) (step : Step) → DrivesAs folder after path misfit manner at p there step → IsChanged step.log → HasMemory step.outcome
+  as_has : (misfit : Option Misfit) (p : PlannedShop) (there : Option (List ℕ)) (step : Step) → DrivesAs folder after path misfit protocol at p there step → IsChanged step.log → HasMemory step.outcome
   as_has (Some misfit) p there step is = never_changed step.log (option_map Found there) step.outcome is.1.is (found_unchanged there)
   as_has None p there step is = fitting_has p there step is
 
-module _ (folder after : Folder) (path : List ℕ) (start : LogStart) (manner : Manner) (at : Option ℕ) where
-  opened_has : (p : PlannedShop) (opened : Result (Option (List ℕ)) FileFault) (step : Step) → DrivesOpened folder after path start manner at p opened step → IsChanged step.log → HasMemory step.outcome
+module _ (folder after : Folder) (path : List ℕ) (start : LogStart) (protocol : Protocol) (at : Option ℕ) where
+  opened_has : (p : PlannedShop) (opened : Result (Option (List ℕ)) FileFault) (step : Step) → DrivesOpened folder after path start protocol at p opened step → IsChanged step.log → HasMemory step.outcome
   opened_has p (Err fault) step (told, same, inl none) = never_changed step.log None step.outcome none.2 (λ bad. bad)
   opened_has p (Err fault) step (told, same, inr unread) = never_changed step.log (Some (Unread fault)) step.outcome unread.2 (λ bad. bad)
-  opened_has p (Ok there) step is = as_has (handed_if (is_some there) folder) after path manner at is.misfit p there step is.drives
+  opened_has p (Ok there) step is = as_has (handed_if (is_some there) folder) after path protocol at is.misfit p there step is.drives
 
-  logged_has : (shaped : Result (Result PlannedShop ShapeFault) CommandFault) (step : Step) → DrivesShaped folder after path start manner at shaped step → IsChanged step.log → HasMemory step.outcome
+  logged_has : (shaped : Result (Result PlannedShop ShapeFault) CommandFault) (step : Step) → DrivesShaped folder after path start protocol at shaped step → IsChanged step.log → HasMemory step.outcome
   logged_has (Err fault) step is = never_changed step.log None step.outcome is.1.is (λ bad. bad)
   logged_has (Ok (Err fault)) step is = never_changed step.log None step.outcome is.1.is (λ bad. bad)
   logged_has (Ok (Ok p)) step (inl is) = opened_has p is.opened step is.drives

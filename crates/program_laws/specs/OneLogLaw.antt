@@ -3,27 +3,27 @@ use Rattle.std.specs.Prelude.{◌≡◌, ℕ, List, [], ◌++◌, length, Option
 use Rattle.shop_base.specs.Plan.{PlannedShop, IsWellShaped}
 use Rattle.text_lines.specs.Lines.{ended_lines}
 use Rattle.plan_verifier.specs.Accepted.{IsAcceptable}
-use Rattle.event_lines.specs.LogLines.{LinesTell}
-use Rattle.cell_drive.specs.declared.manner.Manner.{Manner}
+use Rattle.event_lines.specs.LogLines.{LinesParse}
+use Rattle.cell_drive.specs.declared.protocol.Protocol.{Protocol}
 use Rattle.cell_drive.specs.AnswerText.{DrivenCell, undriven}
 use Rattle.cell_drive.specs.CutLaw.{IsCutFrom}
-use Rattle.cell_drive.specs.TakenUp.{TakenUp, IsTakenUp}
+use Rattle.cell_drive.specs.Recovered.{Recovered, IsRecovered}
 use Rattle.cell_drive.specs.Resuming.{due_text, driven_so_far}
 use Rattle.run_journal.specs.LogFiles.{IsLeft}
 use Rattle.run_journal.specs.WholeLines.{whole_lines}
 use Rattle.run_journal.specs.LoggedLines.{logged}
 use Rattle.logged_drive.specs.CrashLaw.{AreAnswered, IsGiven}
-use Rattle.drive_laws.specs.AsOneLaw.{IsTakenUpByItsPlan}
+use Rattle.drive_laws.specs.AsOneLaw.{IsRecoveredByItsPlan}
 
 -- a run began with a log of its own, whose whole lines told no event: what a crash leaves of it tells the first events of a controlled run, with the orders that are due
 abbrev pub ANewLogIsOfOneRun : Type 0
-ANewLogIsOfOneRun = (p : PlannedShop) (manner : Manner) (base : List ℕ) (lines : List (Option (List ℕ))) (answers closing shown pending left : List ℕ) (end : DrivenCell) → IsWellShaped p → IsAcceptable p
-    → whole_lines base ≡ base → LinesTell p (ended_lines base) [] → AreAnswered p manner (undriven p) lines answers end → IsGiven p answers shown pending closing end
+ANewLogIsOfOneRun = (p : PlannedShop) (protocol : Protocol) (base : List ℕ) (lines : List (Option (List ℕ))) (answers closing shown pending left : List ℕ) (end : DrivenCell) → IsWellShaped p → IsAcceptable p
+    → whole_lines base ≡ base → LinesParse p (ended_lines base) [] → AreAnswered p protocol (undriven p) lines answers end → IsGiven p answers shown pending closing end
     → IsLeft (length (base ++ logged shown)) (base ++ logged (shown ++ pending)) left → IsCutFrom p (whole_lines left) end.entries
 
 -- so it is with a log from which a run was taken up by its own plan, without a moment, and to which what came since was added
-abbrev pub ATakenUpLogIsOfOneRun : Type 0
-ATakenUpLogIsOfOneRun = (p : PlannedShop) (manner : Manner) (base : List ℕ) (taken : TakenUp) (lines : List (Option (List ℕ))) (answers closing shown pending left : List ℕ) (end : DrivenCell)
-    → whole_lines base ≡ base → IsTakenUpByItsPlan p taken → IsTakenUp p (ended_lines base) None taken
-    → AreAnswered p manner (driven_so_far p taken.log.entries) lines answers end → IsGiven p (due_text taken ++ answers) shown pending closing end
+abbrev pub ARecoveredLogIsOfOneRun : Type 0
+ARecoveredLogIsOfOneRun = (p : PlannedShop) (protocol : Protocol) (base : List ℕ) (taken : Recovered) (lines : List (Option (List ℕ))) (answers closing shown pending left : List ℕ) (end : DrivenCell)
+    → whole_lines base ≡ base → IsRecoveredByItsPlan p taken → IsRecovered p (ended_lines base) None taken
+    → AreAnswered p protocol (driven_so_far p taken.log.entries) lines answers end → IsGiven p (due_text taken ++ answers) shown pending closing end
     → IsLeft (length (base ++ logged shown)) (base ++ logged (shown ++ pending)) left → IsCutFrom p (whole_lines left) end.entries

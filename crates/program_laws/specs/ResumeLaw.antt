@@ -4,13 +4,13 @@ use Rattle.shop_base.specs.Plan.{PlannedShop, IsWellShaped}
 use Rattle.text_lines.specs.declared.limits.TheConstants.{MAX_INPUT}
 use Rattle.text_lines.specs.Lines.{ended_lines}
 use Rattle.plan_verifier.specs.Accepted.{IsAcceptable}
-use Rattle.event_lines.specs.LogLines.{LinesTell}
-use Rattle.cell_drive.specs.TakenUp.{CanBeTakenUp}
+use Rattle.event_lines.specs.LogLines.{LinesParse}
+use Rattle.cell_drive.specs.Recovered.{IsRecoverable}
 use Rattle.command_words.specs.declared.words.CommandName.TheVariants.{Resume}
 use Rattle.command_words.specs.Choice.{word_of, word_found, rows_found, files_in, instance_in, at_in, lines_in, leap_in, reasons_in, found_in}
 use Rattle.command_answers.specs.declared.command_fault.CommandFault.{CommandFault}
 use Rattle.command_answers.specs.Commands.{PairOfFiles}
-use Rattle.command_run.specs.Laws.{TellPlan, AskForDrive, RunsWell}
+use Rattle.command_run.specs.Laws.{ParseAsPlan, AskForDrive, RunsWell}
 
 -- the words ask for `resume` with these files and this log
 pub record AskForResume (words : List (List ℕ)) (pair : PairOfFiles) (log : List ℕ) : Type 0 where
@@ -28,7 +28,7 @@ moment_given words = at_in (rows_found (found_in words))
 -- `resume` of a log that can be taken up writes the same, and ends with the same status, whenever it is run on the same words, files and input, of no more bytes than the limit
 abbrev pub ResumeWritesTheSame : Type 0
 ResumeWritesTheSame = (content : List ℕ → Result (List ℕ) CommandFault) (words : List (List ℕ)) (pair : PairOfFiles) (log text : List ℕ) (p : PlannedShop) (input : List ℕ) (status other_status : ℕ) (written other : List ℕ)
-    → AskForResume words pair log → TellPlan content pair p → IsWellShaped p → content log ≡ Ok text → CanBeTakenUp p (ended_lines text) (moment_given words) → length input ≤ MAX_INPUT
+    → AskForResume words pair log → ParseAsPlan content pair p → IsWellShaped p → content log ≡ Ok text → IsRecoverable p (ended_lines text) (moment_given words) → length input ≤ MAX_INPUT
     → RunsWell content words input status written → RunsWell content words input other_status other → (other_status ≡ status) × (other ≡ written)
 
 -- both words ask for the same version of the lines and for the same longest time, and neither gives a moment
@@ -42,5 +42,5 @@ pub record AskForOneManner (words others : List (List ℕ)) : Type 0 where
 abbrev pub ResumeWritesAsDrive : Type 0
 ResumeWritesAsDrive = (content : List ℕ → Result (List ℕ) CommandFault) (words others : List (List ℕ)) (pair : PairOfFiles) (log text : List ℕ) (p : PlannedShop) (input : List ℕ) (status other_status : ℕ) (written other : List ℕ)
     → AskForResume words pair log → AskForDrive others pair → AskForOneManner words others
-    → TellPlan content pair p → IsWellShaped p → IsAcceptable p → content log ≡ Ok text → LinesTell p (ended_lines text) [] → length input ≤ MAX_INPUT
+    → ParseAsPlan content pair p → IsWellShaped p → IsAcceptable p → content log ≡ Ok text → LinesParse p (ended_lines text) [] → length input ≤ MAX_INPUT
     → RunsWell content words input status written → RunsWell content others input other_status other → (status ≡ other_status) × (written ≡ 10 ∷ other)

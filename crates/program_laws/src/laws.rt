@@ -1,55 +1,55 @@
 //! The laws of the program. The first four speak of files that don't change (`Shelf`), and the first three also of
 //! which paths are asked for. The others speak of every run of the whole program, over any files, input, output and
-//! error output, but for `what_run_asks_can_be_told`, which is of what `run` asks, and `a_log_is_of_one_run`, of the log of
+//! error output, but for `a_log_has_history`, which is of what `run` asks, and `a_log_is_of_one_run`, of the log of
 //! a driven run. For `audit`, `gantt` and `--after` `good_files_are_answered` takes a well shaped plan. The clause of
 //! `run` says what else they do.
 
 // Nothing is done here, but that a law of another crate is called: a function's contract is the law, so a check of this crate
 // proves it.
 
-ghost use Rattle.command_run.specs.Laws.{FactsTellInstanceFirst, ShapeTellsInstanceFirst, DigestTellsInstanceFirst, CheckTellsInstanceFirst, ExplainTellsInstanceFirst, ScheduleTellsInstanceFirst, BoundsTellInstanceFirst, MarginTellsInstanceFirst};
-ghost use Rattle.command_run.specs.Laws.{MovesTellInstanceFirst, RestMovesTellInstanceFirst, LogTellsInstanceFirst, RestTellsInstanceFirst, PlanTellsInstanceFirst, ImproveTellsInstanceFirst, ImproveRestTellsInstanceFirst};
-ghost use Rattle.command_run.specs.Laws.{DriveTellsInstanceFirst, ResumeTellsInstanceFirst, HubTellsInstanceFirst};
+ghost use Rattle.command_run.specs.Laws.{FactsReadsInstanceFirst, ShapeReadsInstanceFirst, DigestReadsInstanceFirst, CheckReadsInstanceFirst, ExplainReadsInstanceFirst, ScheduleReadsInstanceFirst, BoundsReadsInstanceFirst, MarginReadsInstanceFirst};
+ghost use Rattle.command_run.specs.Laws.{MovesReadsInstanceFirst, RestMovesReadsInstanceFirst, LogReadsInstanceFirst, RestReadsInstanceFirst, PlanReadsInstanceFirst, ImproveReadsInstanceFirst, ImproveRestReadsInstanceFirst};
+ghost use Rattle.command_run.specs.Laws.{DriveReadsInstanceFirst, ResumeReadsInstanceFirst, HubReadsInstanceFirst};
 ghost use Rattle.command_run.specs.Laws.{ScheduleDrawsInstanceFirst, RestDrawsInstanceFirst, LogDrawsInstanceFirst, ScheduleIsDrawn, RestIsDrawn, LogIsDrawn};
 ghost use Rattle.command_run.specs.Laws.{FactsAnswerShop, ShapeAnswersPlan, DigestAnswersPlan, CheckAnswersPlan, ExplainAnswersPlan, ScheduleAnswersPlan, BoundsAnswerPlan, MarginAnswersPlan, MovesAnswerPlan, RestMovesAreAnswered, LogIsAnswered, RestIsAnswered};
 ghost use Rattle.command_run.specs.Laws.{PlanAnswersPlan, ImproveAnswersPlan, ImproveAnswersRest, DriveDrivesPlan, ResumeGoesOn};
 ghost use Rattle.command_run.specs.Laws.{HubDrivesPlans, InputAnswersShop};
 ghost use Rattle.command_run.specs.Laws.{DriveAnswersByCheck, ResumeAnswersUnshaped, ResumeAnswersByCheck, HubAnswersByCheck, DriveWritesTheSame};
-ghost use Rattle.command_run.specs.Laws.{WhatFailsIsTold, NothingIsHeldBack, WhatFailsIsNoAnswer};
+ghost use Rattle.command_run.specs.Laws.{FaultsArePrinted, NothingIsHeldBack, WhatFailsIsNoAnswer};
 ghost use Rattle.program_laws.specs.ResumeLaw.{ResumeWritesTheSame, ResumeWritesAsDrive};
-ghost use Rattle.program_laws.specs.OneLogLaw.{ANewLogIsOfOneRun, ATakenUpLogIsOfOneRun};
+ghost use Rattle.program_laws.specs.OneLogLaw.{ANewLogIsOfOneRun, ARecoveredLogIsOfOneRun};
 ghost use Rattle.program_laws.specs.PlanLaw.{NoOtherPlanDrives};
 ghost use Rattle.program_laws.specs.MemoryLaw.{WantOfMemoryChangesNoLog};
-ghost use Rattle.program_laws.specs.ToldLaw.{NewLogCanBeTold, OldLogCanBeTold};
+ghost use Rattle.program_laws.specs.HistoryLaw.{NewLogHasHistory, OldLogHasHistory};
 
 use command_answers::Texts;
-use logged_drive::laws::{a_driven_run_is_taken_up, a_taken_up_run_is_taken_up};
+use logged_drive::laws::{a_driven_run_is_recovered, a_recovered_run_is_recovered};
 
 /// In each command over files, `drive` without `--log`: if the text of the instance is refused, its first fault is
 /// reported, unless memory runs out, and no other file is asked for. `drive`, `resume`, `hub` and a command with `--svg`
 /// then read and write no byte. (For `plan` and `improve` memory may also run out before any file is asked for.)
 pub fn instance_first()
-    ensures facts { FactsTellInstanceFirst }
-    ensures shape { ShapeTellsInstanceFirst }
-    ensures digest { DigestTellsInstanceFirst }
-    ensures check { CheckTellsInstanceFirst }
-    ensures explain { ExplainTellsInstanceFirst }
-    ensures schedule { ScheduleTellsInstanceFirst }
-    ensures moves { MovesTellInstanceFirst }
-    ensures rest_moves { RestMovesTellInstanceFirst }
-    ensures bounds { BoundsTellInstanceFirst }
-    ensures margin { MarginTellsInstanceFirst }
-    ensures log { LogTellsInstanceFirst }
-    ensures rest { RestTellsInstanceFirst }
+    ensures facts { FactsReadsInstanceFirst }
+    ensures shape { ShapeReadsInstanceFirst }
+    ensures digest { DigestReadsInstanceFirst }
+    ensures check { CheckReadsInstanceFirst }
+    ensures explain { ExplainReadsInstanceFirst }
+    ensures schedule { ScheduleReadsInstanceFirst }
+    ensures moves { MovesReadsInstanceFirst }
+    ensures rest_moves { RestMovesReadsInstanceFirst }
+    ensures bounds { BoundsReadsInstanceFirst }
+    ensures margin { MarginReadsInstanceFirst }
+    ensures log { LogReadsInstanceFirst }
+    ensures rest { RestReadsInstanceFirst }
     ensures schedule_picture { ScheduleDrawsInstanceFirst }
     ensures rest_picture { RestDrawsInstanceFirst }
     ensures log_picture { LogDrawsInstanceFirst }
-    ensures plan { PlanTellsInstanceFirst }
-    ensures improve { ImproveTellsInstanceFirst }
-    ensures improve_rest { ImproveRestTellsInstanceFirst }
-    ensures drive { DriveTellsInstanceFirst }
-    ensures resume { ResumeTellsInstanceFirst }
-    ensures hub { HubTellsInstanceFirst }
+    ensures plan { PlanReadsInstanceFirst }
+    ensures improve { ImproveReadsInstanceFirst }
+    ensures improve_rest { ImproveRestReadsInstanceFirst }
+    ensures drive { DriveReadsInstanceFirst }
+    ensures resume { ResumeReadsInstanceFirst }
+    ensures hub { HubReadsInstanceFirst }
 {}
 
 /// Files that give a shop and a plan are answered, unless memory runs out, and exactly they are asked for. `plan` and
@@ -116,8 +116,8 @@ pub fn resume_writes_the_same()
 /// more, and what failed is written there: with 2 what is wrong with the words, else the line of the fault in which the
 /// command ended. In place of a refused text it may be that memory ran out, and if an answer couldn't be written, that.
 /// This is written whole, unless a write of the error output has failed.
-pub fn what_fails_is_told<T: Texts>()
-    ensures { WhatFailsIsTold T.gives }
+pub fn faults_are_printed<T: Texts>()
+    ensures { FaultsArePrinted T.gives }
 {}
 
 /// At the end of a run nothing that the output has taken is held back, unless a write of it has failed.
@@ -136,9 +136,9 @@ pub fn what_fails_is_no_answer<T: Texts>()
 /// Where the logs and the output are told, what `run` asks of the history of a log can be told: of a log that isn't
 /// there or is empty, that it has no bytes; of any other, by files that don't change, its whole lines and the text that
 /// tells its events again, if a run is taken up from it.
-pub fn what_run_asks_can_be_told<T: Texts>()
-    ensures new_log { NewLogCanBeTold T.gives }
-    ensures old_log { OldLogCanBeTold }
+pub fn a_log_has_history<T: Texts>()
+    ensures new_log { NewLogHasHistory T.gives }
+    ensures old_log { OldLogHasHistory }
 {}
 
 /// Let the whole lines of a log name a plan last. By a plan with other digits no cell is driven with this log, unless the words
@@ -160,8 +160,8 @@ pub fn want_of_memory_changes_no_log<T: Texts>()
 /// crash.
 pub fn a_log_is_of_one_run()
     ensures new_log { ANewLogIsOfOneRun }
-    ensures taken_up { ATakenUpLogIsOfOneRun }
+    ensures recoverable { ARecoveredLogIsOfOneRun }
 {
-    a_driven_run_is_taken_up();
-    a_taken_up_run_is_taken_up();
+    a_driven_run_is_recovered();
+    a_recovered_run_is_recovered();
 }

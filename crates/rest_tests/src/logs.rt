@@ -6,7 +6,7 @@ use people_names::Names;
 use plan_explain::explain_after;
 use plan_schedule::{drawn_run, schedule_after};
 use plan_verifier::{Judged, verify_after};
-use run_gantt::{drawn_visits, leavings_told};
+use run_gantt::{drawn_visits, leavings_so_far};
 use run_log::run_of_log;
 use run_picture::DrawnVisit;
 use shop_base::limits::MAX_MOMENT;
@@ -81,7 +81,7 @@ fn a_torn_log_tells_the_rest_of_its_run(rt: HostRuntime) -> Result<(), Fail> {
     let visits = drawn_visits(rt.alloc(), run.cell.shaped(), &run.entries)?;
     assert!(rt; visits.len() == 2);
     assert!(rt; is_drawn(rt.alloc(), &run.cell, 4, &visits, 4)?);
-    let leavings = leavings_told(rt.alloc(), run.cell.shaped(), &run.entries)?;
+    let leavings = leavings_so_far(rt.alloc(), run.cell.shaped(), &run.entries)?;
     assert!(rt; leavings.len() == 2);
     Ok(())
 }

@@ -24,7 +24,7 @@ impl Told {
 }
 
 impl Watch for Told {
-    ghost told = { λ _. None };
+    ghost reported = { λ _. None };
 
     fn round(&mut self, round: u32, late: Moment, makespan: Moment, _at_least: Moment) {
         if let Some(cost) = self.costs.get_mut(round as usize) {

@@ -95,11 +95,11 @@ columns-more now new all columns i sign below pushed is so_far =
 pub bar-text : (bar : List (Option ℕ)) (scale columns : ℕ) (visits : List Visit) → length bar ≡ 60 → columns ≤ 60
     → ((c : ℕ) → c < 60 → get_or bar c None ≡ first_of (sign_of (c * scale)) visits) → map column_sign (take columns bar) ≡ bar_of scale columns visits
 bar-text bar scale columns visits whole few shown =
-    let taken : length (take columns bar) ≡ columns = length-take-le columns bar (omega (arith, whole)) in
-    let long : length (map column_sign (take columns bar)) ≡ columns = length-map (take columns bar) column_sign ∙ taken in
+    let size : length (take columns bar) ≡ columns = length-take-le columns bar (omega (arith, whole)) in
+    let long : length (map column_sign (take columns bar)) ≡ columns = length-map (take columns bar) column_sign ∙ size in
     ext_get_or 0 _ _ (long ∙ sym (length-map-range_with_len _ 0 columns)) λ i inside.
     let below : i < columns = omega (arith, long, inside) in
-    get_or-map column_sign (take columns bar) i None 0 (omega (arith, taken, below))
+    get_or-map column_sign (take columns bar) i None 0 (omega (arith, size, below))
     ∙ ap column_sign (get_or-take columns bar i None below ∙ shown i (omega arith))
     ∙ sym (get_or-map-range_with_len _ 0 columns i i 0 below (omega arith))
 

@@ -1,4 +1,4 @@
-pub mod EndsTold
+pub mod VisitEndFacts
 pub mod MachineVisits
 pub mod Linked
 pub mod Bars

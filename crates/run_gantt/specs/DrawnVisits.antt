@@ -10,14 +10,14 @@ use Rattle.cell_tables.specs.declared.entry.Entry.TheVariants.{Report as ReportE
 use Rattle.run_picture.specs.declared.visit.Cleaned.{Cleaned}
 use Rattle.run_picture.specs.declared.visit.Cleaned.TheVariants.{Never, NotYet, By}
 use Rattle.run_picture.specs.declared.visit.DrawnVisit.{DrawnVisit}
-use Rattle.run_gantt.specs.Visits.{first_of, finish_told, leave_told}
+use Rattle.run_gantt.specs.Visits.{first_of, finish_in, leave_in}
 
 -- the moment of the entry, if it reports the end of a cleaning of machine m
-abbrev pub clean_told : ℕ → Entry → Option ℕ
-clean_told m (ReportEntry (Arrive job at)) = None
-clean_told m (ReportEntry (Finish job machine at)) = None
-clean_told m (ReportEntry (Clean machine at)) = if machine == m then Some at else None
-clean_told m (OrderEntry order) = None
+abbrev pub cleaning_in : ℕ → Entry → Option ℕ
+cleaning_in m (ReportEntry (Arrive job at)) = None
+cleaning_in m (ReportEntry (Finish job machine at)) = None
+cleaning_in m (ReportEntry (Clean machine at)) = if machine == m then Some at else None
+cleaning_in m (OrderEntry order) = None
 
 -- the end of a cleaning as it is told, if it is
 abbrev pub cleaned_at : Option ℕ → Cleaned
@@ -34,9 +34,9 @@ drawn_visit p order m later = record {
   job = order.job;
   machine = m;
   enter = order.at;
-  finish = first_of (finish_told order.job m) later;
-  leave = first_of (leave_told order.job m) later;
-  cleaned = cleaned_by p m (first_of (clean_told m) later);
+  finish = first_of (finish_in order.job m) later;
+  leave = first_of (leave_in order.job m) later;
+  cleaned = cleaned_by p m (first_of (cleaning_in m) later);
 }
 
 -- the visit that a move to a spot begins: to a machine of the shop

@@ -43,13 +43,13 @@ bar_of scale columns visits = map (λ c. column_sign (first_of (sign_of (c * sca
 
 module _ (names : NameBook) where
   -- a moment, or `?` for one that isn't told
-  abbrev pub told_word : Option ℕ → List ℕ
-  told_word None = codes "?"
-  told_word (Some moment) = moment_word names moment
+  abbrev pub moment_or_unknown : Option ℕ → List ℕ
+  moment_or_unknown None = codes "?"
+  moment_or_unknown (Some moment) = moment_word names moment
 
   -- ` JOB:ENTER-FINISH-LEAVE`
   abbrev pub visit_word : Visit → List ℕ
-  visit_word visit = codes " " ++ job_word names visit.job ++ codes ":" ++ moment_word names visit.enter ++ codes "-" ++ told_word visit.finish ++ codes "-" ++ told_word visit.leave
+  visit_word visit = codes " " ++ job_word names visit.job ++ codes ":" ++ moment_word names visit.enter ++ codes "-" ++ moment_or_unknown visit.finish ++ codes "-" ++ moment_or_unknown visit.leave
 
   -- the two lines of machine m: its visits, and its bar
   abbrev pub visit_lines : ℕ → ℕ → ℕ → List Visit → List ℕ

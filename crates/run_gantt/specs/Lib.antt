@@ -2,9 +2,9 @@
 pub mod Visits
 pub mod GanttText
 pub mod DrawnVisits
-pub mod LeavingsTold
+pub mod LeavingsSoFar
 -- Of proofs and private contracts alone.
 pub mod VisitEnds
-pub mod FirstTold
+pub mod FirstMoments
 pub mod LinkedVisits
 pub mod Pushing

@@ -20,5 +20,5 @@ abbrev pub visits_to : List (List Visit) → ℕ → List Visit
 visits_to rows m = slice_index_or rows m []
 
 -- each column of a bar shows what it showed, or else what there is to show at the column's first moment
-abbrev pub ShowsToo : ℕ → (ℕ → Option ℕ) → List (Option ℕ) → List (Option ℕ) → Type 0
-ShowsToo scale sign before after = (c : ℕ) → c < MAX_COLUMNS → slice_index_or after c None ≡ option_or (slice_index_or before c None) (sign (c * scale))
+abbrev pub SignsToo : ℕ → (ℕ → Option ℕ) → List (Option ℕ) → List (Option ℕ) → Type 0
+SignsToo scale sign before after = (c : ℕ) → c < MAX_COLUMNS → slice_index_or after c None ≡ option_or (slice_index_or before c None) (sign (c * scale))

@@ -21,4 +21,4 @@ HasNoPlace size j m = m < MAX_MACHINES → j * MAX_MACHINES + m < size → ⊥
 
 -- each place of the table has what the entries tell of its job and machine
 pub record AreVisitEnds (ends : List VisitEnd) (entries : List Entry) : Type 0 where
-  pub told : (j m place : ℕ) → IsPlace (length ends) j m place → slice_index_or ends place no_end ≡ visit_end j m entries
+  pub exact : (j m place : ℕ) → IsPlace (length ends) j m place → slice_index_or ends place no_end ≡ visit_end j m entries

@@ -33,28 +33,28 @@ is_at m Out = false
 is_at m (At machine) = machine == m
 
 -- the moment of the entry, if it ends the operation of job j on machine m
-abbrev pub finish_told : ℕ → ℕ → Entry → Option ℕ
-finish_told j m (ReportEntry (Arrive job at)) = None
-finish_told j m (ReportEntry (Finish job machine at)) = if (job == j) && (machine == m) then Some at else None
-finish_told j m (ReportEntry (Clean machine at)) = None
-finish_told j m (OrderEntry order) = None
+abbrev pub finish_in : ℕ → ℕ → Entry → Option ℕ
+finish_in j m (ReportEntry (Arrive job at)) = None
+finish_in j m (ReportEntry (Finish job machine at)) = if (job == j) && (machine == m) then Some at else None
+finish_in j m (ReportEntry (Clean machine at)) = None
+finish_in j m (OrderEntry order) = None
 
 -- the moment of the entry, if it moves job j away from machine m
-abbrev pub leave_told : ℕ → ℕ → Entry → Option ℕ
-leave_told j m (ReportEntry report) = None
-leave_told j m (OrderEntry order) = if (order.job == j) && is_at m order.source then Some order.at else None
+abbrev pub leave_in : ℕ → ℕ → Entry → Option ℕ
+leave_in j m (ReportEntry report) = None
+leave_in j m (OrderEntry order) = if (order.job == j) && is_at m order.source then Some order.at else None
 
 -- when the operation of job j on machine m first ends, and when j first leaves m
 abbrev pub visit_end : ℕ → ℕ → List Entry → VisitEnd
-visit_end j m entries = record { finish = first_of (finish_told j m) entries; leave = first_of (leave_told j m) entries }
+visit_end j m entries = record { finish = first_of (finish_in j m) entries; leave = first_of (leave_in j m) entries }
 
 -- a visit to machine m that an order begins; what becomes of it is told by the later entries
 abbrev pub visit_of : MoveOrder → ℕ → List Entry → Visit
 visit_of order m later = record {
   job = order.job;
   enter = order.at;
-  finish = first_of (finish_told order.job m) later;
-  leave = first_of (leave_told order.job m) later;
+  finish = first_of (finish_in order.job m) later;
+  leave = first_of (leave_in order.job m) later;
 }
 
 -- the visits to machine m, in the order of the entries that begin them

@@ -4,7 +4,7 @@ ghost use Rattle.std.specs.Prelude.{◌≡◌, ◌≢◌, ℕ, ◌<◌, ◌≤�
 ghost use Rattle.run_gantt.specs.declared.bar.TheConstants.{MAX_COLUMNS, MAX_SCALE};
 ghost use Rattle.std.specs.Option.{option_or};
 ghost use Rattle.run_gantt.specs.GanttText.{is_before, digit_of, sign_of};
-ghost use Rattle.run_gantt.specs.Pushing.{ShowsToo};
+ghost use Rattle.run_gantt.specs.Pushing.{SignsToo};
 
 use crate::visit::Visit;
 use shop_base::Moment;
@@ -19,10 +19,10 @@ pub(crate) const MAX_SCALE: Moment = u64::MAX / MAX_COLUMNS as u64 + 1;
 pub(crate) type Bar = [Option<char>; MAX_COLUMNS];
 
 /// Shows a visit in each column in which its job is there and none is shown yet.
-pub(crate) fn show_visit(bar: &mut Bar, scale: Moment, visit: Visit)
+pub(crate) fn sign_visit(bar: &mut Bar, scale: Moment, visit: Visit)
     requires above { 0 < scale }
     requires below { scale ≤ MAX_SCALE }
-    ensures { ShowsToo scale (λ t. sign_of t visit) bar.old bar.new }
+    ensures { SignsToo scale (λ t. sign_of t visit) bar.old bar.new }
 {
     let mut column = visit.enter.div_ceil(scale);
     while column < MAX_COLUMNS as u64 {
@@ -30,13 +30,13 @@ pub(crate) fn show_visit(bar: &mut Bar, scale: Moment, visit: Visit)
         if !is_before(moment, visit.leave) {
             return;
         }
-        show_sign(bar, column as usize, sign_at(moment, visit));
+        put_sign(bar, column as usize, sign_at(moment, visit));
         column += 1;
     }
 }
 
 /// Shows a sign in a column in which none is shown yet.
-fn show_sign(bar: &mut Bar, column: usize, sign: char)
+fn put_sign(bar: &mut Bar, column: usize, sign: char)
     requires { column < MAX_COLUMNS }
     ensures here { slice_index_or bar.new column None ≡ option_or (slice_index_or bar.old column None) (Some sign) }
     ensures others { (c : ℕ) → c ≢ column → slice_index_or bar.new c None ≡ slice_index_or bar.old c None }

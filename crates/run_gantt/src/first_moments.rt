@@ -2,7 +2,7 @@
 
 ghost use Rattle.std.specs.Prelude.{ℕ, List, [], ◌∷◌, Option, IfOk};
 ghost use Rattle.cell_tables.specs.declared.entry.Entry.{Entry};
-ghost use Rattle.run_gantt.specs.FirstTold.{AreFirstTold, AreCleaningEnds, AreLeavingsAhead};
+ghost use Rattle.run_gantt.specs.FirstMoments.{AreFirstMoments, AreCleaningEnds, AreLeavingsAhead};
 
 use cell_tables::Entry;
 use shop_base::{Moment, Report, Spot};
@@ -10,7 +10,7 @@ use std::alloc::{AllocError, Global};
 
 /// A table of this size, with no moment noted yet.
 pub(crate) fn no_moments(alloc: Global, size: u32) -> Result<Vec<Option<Moment>>, AllocError>
-    ensures { (told : ℕ → Entry → Option ℕ) → IfOk result (λ moments. AreFirstTold told size moments.items []) }
+    ensures { (moment_in : ℕ → Entry → Option ℕ) → IfOk result (λ moments. AreFirstMoments moment_in size moments.items []) }
 {
     let mut moments = Vec::with_capacity(alloc, size as usize)?;
     for _i in 0..size {

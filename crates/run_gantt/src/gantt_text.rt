@@ -3,13 +3,13 @@
 ghost use Rattle.std.specs.Prelude.{◌≡◌, ℕ, ◌<◌, ◌≤◌, length, map, flat_map, slice_index_or, None, Some, decimal, string_bytes, IfOk, OnOk};
 ghost use Rattle.shop_base.specs.Plan.{machines};
 ghost use Rattle.run_gantt.specs.Visits.{first_of, last_of, entry_moment};
-ghost use Rattle.run_gantt.specs.GanttText.{gantt_text, scale_for, columns_for, row_lines, visit_word, told_word, sign_of, column_sign};
+ghost use Rattle.run_gantt.specs.GanttText.{gantt_text, scale_for, columns_for, row_lines, visit_word, moment_or_unknown, sign_of, column_sign};
 ghost use Rattle.people_names.specs.NameBooks.{no_names};
 ghost use Rattle.people_names.specs.Words.{job_word, machine_word, moment_word};
-ghost use Rattle.run_gantt.specs.Pushing.{IsPushed, all_lines, visits_to, ShowsToo};
+ghost use Rattle.run_gantt.specs.Pushing.{IsPushed, all_lines, visits_to, SignsToo};
 ghost use Rattle.run_gantt.specs.declared.bar.TheConstants.{MAX_COLUMNS, MAX_SCALE};
 
-use crate::bar::{Bar, MAX_COLUMNS, show_visit};
+use crate::bar::{Bar, MAX_COLUMNS, sign_visit};
 use crate::visit::Visit;
 use crate::visits::{Visits, visits_of};
 use cell_tables::Entry;
@@ -151,13 +151,13 @@ impl Visits {
         requires above { 0 < scale }
         requires below { scale ≤ MAX_SCALE }
         ensures text { OnOk result (IsPushed text.old text.new (flat_map (visit_word names.now) (visits_to self.now machine))) }
-        ensures bar { OnOk result (ShowsToo scale (λ t. first_of (sign_of t) (visits_to self.now machine)) bar.old bar.new) }
+        ensures bar { OnOk result (SignsToo scale (λ t. first_of (sign_of t) (visits_to self.now machine)) bar.old bar.new) }
     {
         let mut next = self.first[machine as usize];
         while let Some(place) = next {
             let linked = self.table[place];
             push_visit(text, names, linked.visit)?;
-            show_visit(bar, scale, linked.visit);
+            sign_visit(bar, scale, linked.visit);
             next = linked.next;
         }
         Ok(())
@@ -172,13 +172,17 @@ fn push_visit(text: &mut String, names: &Names, visit: Visit) -> Result<(), Allo
     text.push_str(":")?;
     push_moment(text, names, visit.enter)?;
     text.push_str("-")?;
-    push_told(text, names, visit.finish)?;
+    push_moment_or_unknown(text, names, visit.finish)?;
     text.push_str("-")?;
-    push_told(text, names, visit.leave)
+    push_moment_or_unknown(text, names, visit.leave)
 }
 
-fn push_told(text: &mut String, names: &Names, moment: Option<Moment>) -> Result<(), AllocError>
-    ensures { OnOk result (IsPushed text.old text.new (told_word names.now moment)) }
+fn push_moment_or_unknown(
+    text: &mut String,
+    names: &Names,
+    moment: Option<Moment>,
+) -> Result<(), AllocError>
+    ensures { OnOk result (IsPushed text.old text.new (moment_or_unknown names.now moment)) }
 {
     match moment {
         Some(moment) => push_moment(text, names, moment),

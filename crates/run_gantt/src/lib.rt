@@ -12,5 +12,5 @@ mod visit_ends;
 mod visits;
 
 pub use gantt_text::{gantt, gantt_for, the_columns_in_numbers};
-pub use job_leavings::leavings_told;
+pub use job_leavings::leavings_so_far;
 pub use picture_visits::drawn_visits;

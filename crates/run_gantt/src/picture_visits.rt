@@ -4,7 +4,7 @@ ghost use Rattle.std.specs.Prelude.{◌≡◌, ◌<◌, ◌++◌, IfOk, OnOk};
 ghost use Rattle.shop_base.specs.Plan.{machines};
 ghost use Rattle.run_gantt.specs.DrawnVisits.{begun_visit, cleaned_by, drawn_visits, if_any};
 ghost use Rattle.run_gantt.specs.VisitEnds.{AreVisitEnds};
-ghost use Rattle.run_gantt.specs.FirstTold.{AreCleaningEnds};
+ghost use Rattle.run_gantt.specs.FirstMoments.{AreCleaningEnds};
 
 use crate::first_moments::{no_moments, note_cleaning_end};
 use crate::visit_ends::{VisitEnd, no_visit_ends, note_visit_end, visit_end_at};

@@ -4,7 +4,7 @@ ghost use Rattle.std.specs.Prelude.{◌≡◌, ◌≤◌, List, [], ◌∷◌, l
 ghost use Rattle.shop_base.specs.declared.limits.TheConstants.{MAX_JOBS};
 ghost use Rattle.cell_tables.specs.declared.entry.Entry.{Entry};
 ghost use Rattle.std.specs.Option.{option_or};
-ghost use Rattle.run_gantt.specs.Visits.{finish_told, leave_told, visit_end};
+ghost use Rattle.run_gantt.specs.Visits.{finish_in, leave_in, visit_end};
 ghost use Rattle.run_gantt.specs.VisitEnds.{IsPlace, HasNoPlace, AreVisitEnds};
 
 use cell_tables::Entry;
@@ -72,8 +72,8 @@ fn search_visit_end(entries: &[Entry], job: JobNo, machine: MachineNo) -> VisitE
     let mut finish = None;
     let mut leave = None;
     for entry in entries {
-        finish = first_moment(finish, finish_told(*entry, job, machine));
-        leave = first_moment(leave, leave_told(*entry, job, machine));
+        finish = first_moment(finish, finish_in(*entry, job, machine));
+        leave = first_moment(leave, leave_in(*entry, job, machine));
     }
     VisitEnd { finish, leave }
 }
@@ -87,8 +87,8 @@ fn first_moment(one: Option<Moment>, other: Option<Moment>) -> Option<Moment>
     }
 }
 
-fn finish_told(entry: Entry, of_job: JobNo, on_machine: MachineNo) -> Option<Moment>
-    ensures { result ≡ finish_told of_job on_machine entry }
+fn finish_in(entry: Entry, of_job: JobNo, on_machine: MachineNo) -> Option<Moment>
+    ensures { result ≡ finish_in of_job on_machine entry }
 {
     let Entry::Report(Report::Finish { job, machine, at }) = entry else {
         return None;
@@ -100,8 +100,8 @@ fn finish_told(entry: Entry, of_job: JobNo, on_machine: MachineNo) -> Option<Mom
     }
 }
 
-fn leave_told(entry: Entry, of_job: JobNo, from_machine: MachineNo) -> Option<Moment>
-    ensures { result ≡ leave_told of_job from_machine entry }
+fn leave_in(entry: Entry, of_job: JobNo, from_machine: MachineNo) -> Option<Moment>
+    ensures { result ≡ leave_in of_job from_machine entry }
 {
     let Entry::Order(order) = entry else {
         return None;

@@ -96,10 +96,10 @@ pub none_whole : (bytes : List ℕ) → HasNone 10 bytes → whole_lines bytes �
 none_whole [] none = refl
 none_whole (b ∷ bytes) none = rw none.0 (ap (before_any b) (none_whole bytes none.1))
 
-pub none_taken : (n : ℕ) (bytes : List ℕ) → HasNone 10 bytes → HasNone 10 (take n bytes)
-none_taken zero bytes none = tt
-none_taken (suc n) [] none = tt
-none_taken (suc n) (b ∷ bytes) none = (none.0, none_taken n bytes none.1)
+pub none_written : (n : ℕ) (bytes : List ℕ) → HasNone 10 bytes → HasNone 10 (take n bytes)
+none_written zero bytes none = tt
+none_written (suc n) [] none = tt
+none_written (suc n) (b ∷ bytes) none = (none.0, none_written n bytes none.1)
 
 pub no_feed_both : (front back : List ℕ) → HasNone 10 front → HasNone 10 back → HasNone 10 (front ++ back)
 no_feed_both [] back first second = second
@@ -120,7 +120,7 @@ torn-behind base more whole =
 
 -- the end of a piece of a line is all of it
 torn-piece : (body : List ℕ) (n unwritten : ℕ) → HasNone 10 body → torn_end (take n body ++ zeros unwritten) ≡ take n body ++ zeros unwritten
-torn-piece body n unwritten none = ap (λ (l : List ℕ). drop (length l) (take n body ++ zeros unwritten)) (whole-zeros (take n body) unwritten ∙ none_whole (take n body) (none_taken n body none))
+torn-piece body n unwritten none = ap (λ (l : List ℕ). drop (length l) (take n body ++ zeros unwritten)) (whole-zeros (take n body) unwritten ∙ none_whole (take n body) (none_written n body none))
 
 abbrev pub no_bytes : List ℕ
 no_bytes = []

@@ -5,17 +5,17 @@ use Rattle.run_journal.specs.LogFiles.{zeros, Leaves}
 use Rattle.run_journal.specs.Logged.{HoldsNothing}
 
 -- a crash that leaves just a file leaves the front of more
-pub settled_leaves : (may_leave : List ℕ → Type 0) (file more : List ℕ) → ((left : List ℕ) → may_leave left → left ≡ file) → Leaves may_leave (length file) (file ++ more)
-settled_leaves may_leave file more settled left leaves = record {
+pub durable_leaves : (crash_states : List ℕ → Type 0) (file more : List ℕ) → ((left : List ℕ) → crash_states left → left ≡ file) → Leaves crash_states (length file) (file ++ more)
+durable_leaves crash_states file more durable left leaves = record {
   count = length file;
   at_least = omega arith;
   unwritten = 0;
-  is = settled left leaves ∙ sym (take_at file more (length file) refl) ∙ sym (append-nil (take (length file) (file ++ more)));
+  is = durable left leaves ∙ sym (take_at file more (length file) refl) ∙ sym (append-nil (take (length file) (file ++ more)));
 }
 
 -- the same bytes, with fewer of them for certain
-pub fewer_leave : (may_leave : List ℕ → Type 0) (least fewer : ℕ) (most same : List ℕ) → fewer ≤ least → same ≡ most → Leaves may_leave least most → Leaves may_leave fewer same
-fewer_leave may_leave least fewer most same le is leaves left leave =
+pub fewer_left : (crash_states : List ℕ → Type 0) (least fewer : ℕ) (most same : List ℕ) → fewer ≤ least → same ≡ most → Leaves crash_states least most → Leaves crash_states fewer same
+fewer_left crash_states least fewer most same le is leaves left leave =
     let front = leaves left leave in
     record { count = front.count; at_least = omega (arith, le, front.at_least); unwritten = front.unwritten; is = front.is ∙ ap (λ l. take front.count l ++ zeros front.unwritten) (sym is) }
 

@@ -13,9 +13,9 @@ use Rattle.cell_tables.specs.declared.entry.Entry.{Entry}
 use Rattle.cell_tables.specs.declared.entry.Entry.TheVariants.{Report as ReportEntry, Order as OrderEntry}
 use Rattle.event_lines.specs.Words.{moment}
 use Rattle.event_lines.specs.EventLines.{end_words, move_numbers, IsEntryLine}
-use Rattle.event_lines.specs.LogLines.{LineTells, LinesTell}
+use Rattle.event_lines.specs.LogLines.{LineParses, LinesParse}
 use Rattle.event_lines.proofs.WordByWord.{text_before}
-use Rattle.event_lines.proofs.Readings.{one_reading, tell-parts}
+use Rattle.event_lines.proofs.Readings.{one_reading, parse-parts}
 use Rattle.run_journal.specs.LogFiles.{zeros}
 use Rattle.run_journal.specs.WholeLines.{before_any, whole_lines}
 use Rattle.run_journal.specs.LoggedLines.{is_logged, logged_line, logged}
@@ -91,10 +91,10 @@ event_logged front more (OrderEntry order) found =
     let end = without_return-front front in
     ap (λ l. is_logged (l ++ more)) (end.1 ∙ ap (λ l. l ++ end.0) first.1)
 
-none_told : (p : PlannedShop) (front more : List ℕ) (own : List Entry) → is_logged (front ++ more) ≡ false → LineTells p (without_return front) own → own ≡ []
-none_told p front more [] not tells = refl
-none_told p front more (entry ∷ []) not tells = let is = event_logged front more entry tells.1 in absurd (cc (sym is ∙ not))
-none_told p front more (entry ∷ next ∷ own) not tells = absurd tells
+none_parsed : (p : PlannedShop) (front more : List ℕ) (own : List Entry) → is_logged (front ++ more) ≡ false → LineParses p (without_return front) own → own ≡ []
+none_parsed p front more [] not tells = refl
+none_parsed p front more (entry ∷ []) not tells = let is = event_logged front more entry tells.1 in absurd (cc (sym is ∙ not))
+none_parsed p front more (entry ∷ next ∷ own) not tells = absurd tells
 
 none_logged : (front : List ℕ) → HasNone 10 front → HasNone 10 (logged_line front ++ [])
 none_logged front none = elim (cases_Bool (is_logged front)) [
@@ -104,47 +104,47 @@ none_logged front none = elim (cases_Bool (is_logged front)) [
 
 -- what a log gets of a text tells what the text tells
 module _ (p : PlannedShop) where
-  tells_logged : (front text : List ℕ) (told : List Entry) → HasNone 10 front → LinesTell p (ended_behind front text) told → LinesTell p (ended_lines (logged_line front ++ added front text)) told
-  tells_logged front [] told none tells = subst (λ lines. LinesTell p lines told) (sym (ended-none (logged_line front ++ []) (none_logged front none))) tells
-  tells_logged front (b ∷ text) told none tells = elim (cases_Bool (b == 10)) [
+  parses_logged : (front text : List ℕ) (recorded : List Entry) → HasNone 10 front → LinesParse p (ended_behind front text) recorded → LinesParse p (ended_lines (logged_line front ++ added front text)) recorded
+  parses_logged front [] recorded none tells = subst (λ lines. LinesParse p lines recorded) (sym (ended-none (logged_line front ++ []) (none_logged front none))) tells
+  parses_logged front (b ∷ text) recorded none tells = elim (cases_Bool (b == 10)) [
     | inl feed ↦
-        let line : LinesTell p (without_return front ∷ ended_behind [] text) told = chosen front b text told true feed tells in
+        let line : LinesParse p (without_return front ∷ ended_behind [] text) recorded = chosen front b text recorded true feed tells in
         let text_is : logged_line front ++ added front (b ∷ text) ≡ logged_line (front ++ b ∷ []) ++ added [] text =
         ap (λ l. logged_line front ++ (more front b ++ added l text)) (rw feed refl) ∙ sym (append_assoc (logged_line front) (more front b) (added [] text)) ∙ ap (λ l. l ++ added [] text) (sym (logged_line-more front b)) in
-        let rest = tells_logged [] text line.1 tt line.3 in
-        subst (λ l. LinesTell p (ended_lines l) told) (sym text_is) (ended_told front b text told none feed line rest)
+        let rest = parses_logged [] text line.1 tt line.3 in
+        subst (λ l. LinesParse p (ended_lines l) recorded) (sym text_is) (ended_parsed front b text recorded none feed line rest)
     | inr other ↦
-        let line : LinesTell p (ended_behind (front ++ b ∷ []) text) told = chosen front b text told false other tells in
+        let line : LinesParse p (ended_behind (front ++ b ∷ []) text) recorded = chosen front b text recorded false other tells in
         let text_is : logged_line front ++ added front (b ∷ text) ≡ logged_line (front ++ b ∷ []) ++ added (front ++ b ∷ []) text =
         ap (λ l. logged_line front ++ (more front b ++ added l text)) (rw other refl) ∙ sym (append_assoc (logged_line front) (more front b) (added (front ++ b ∷ []) text))
         ∙ ap (λ l. l ++ added (front ++ b ∷ []) text) (sym (logged_line-more front b)) in
-        subst (λ l. LinesTell p (ended_lines l) told) (sym text_is) (tells_logged (front ++ b ∷ []) text told (none-more front b none other) line)
+        subst (λ l. LinesParse p (ended_lines l) recorded) (sym text_is) (parses_logged (front ++ b ∷ []) text recorded (none-more front b none other) line)
   ]
     where
-      chosen : (front : List ℕ) (b : ℕ) (text : List ℕ) (told : List Entry) (test : Bool) → (b == 10) ≡ test → LinesTell p (ended_behind front (b ∷ text)) told
-          → LinesTell p (if test then without_return front ∷ ended_behind [] text else ended_behind (front ++ b ∷ []) text) told
-      chosen front b text told test is tells = subst (λ (t : Bool). LinesTell p (if t then without_return front ∷ ended_behind [] text else ended_behind (front ++ b ∷ []) text) told) is tells
+      chosen : (front : List ℕ) (b : ℕ) (text : List ℕ) (recorded : List Entry) (test : Bool) → (b == 10) ≡ test → LinesParse p (ended_behind front (b ∷ text)) recorded
+          → LinesParse p (if test then without_return front ∷ ended_behind [] text else ended_behind (front ++ b ∷ []) text) recorded
+      chosen front b text recorded test is tells = subst (λ (t : Bool). LinesParse p (if t then without_return front ∷ ended_behind [] text else ended_behind (front ++ b ∷ []) text) recorded) is tells
 
-      ended_told : (front : List ℕ) (b : ℕ) (text : List ℕ) (told : List Entry) → HasNone 10 front → (b == 10) ≡ true → (line : LinesTell p (without_return front ∷ ended_behind [] text) told)
-          → LinesTell p (ended_lines (added [] text)) line.1 → LinesTell p (ended_lines (logged_line (front ++ b ∷ []) ++ added [] text)) told
-      ended_told front b text told none feed line rest = elim (cases_Bool (is_logged (front ++ b ∷ []))) [
+      ended_parsed : (front : List ℕ) (b : ℕ) (text : List ℕ) (recorded : List Entry) → HasNone 10 front → (b == 10) ≡ true → (line : LinesParse p (without_return front ∷ ended_behind [] text) recorded)
+          → LinesParse p (ended_lines (added [] text)) line.1 → LinesParse p (ended_lines (logged_line (front ++ b ∷ []) ++ added [] text)) recorded
+      ended_parsed front b text recorded none feed line rest = elim (cases_Bool (is_logged (front ++ b ∷ []))) [
         | inl is ↦
             let split : (front ++ b ∷ []) ++ added [] text ≡ front ++ 10 ∷ added [] text = append_assoc front (b ∷ []) (added [] text) ∙ ap (λ (c : ℕ). front ++ c ∷ added [] text) (eqb-true b 10 feed) in
-            rw is (subst (λ lines. LinesTell p lines told) (sym (ap ended_lines split ∙ ended_with front (added [] text) none)) (line.0, line.1, line.2, rest, line.4))
+            rw is (subst (λ lines. LinesParse p lines recorded) (sym (ap ended_lines split ∙ ended_with front (added [] text) none)) (line.0, line.1, line.2, rest, line.4))
         | inr not ↦
-            let same : told ≡ line.1 = line.4 ∙ ap (λ own. own ++ line.1) (none_told p front (b ∷ []) line.0 not line.2) in
-            rw not (subst (λ t. LinesTell p (ended_lines (added [] text)) t) (sym same) rest)
+            let same : recorded ≡ line.1 = line.4 ∙ ap (λ own. own ++ line.1) (none_parsed p front (b ∷ []) line.0 not line.2) in
+            rw not (subst (λ t. LinesParse p (ended_lines (added [] text)) t) (sym same) rest)
       ]
 
-  logged_tells : (text : List ℕ) (told : List Entry) → LinesTell p (ended_lines text) told → LinesTell p (ended_lines (logged text)) told
-  logged_tells text told tells = subst (λ l. LinesTell p (ended_lines l) told) (sym (added_all text)) (tells_logged [] text told tt (subst (λ lines. LinesTell p lines told) (ended_is [] text tt) tells))
+  logged_parses : (text : List ℕ) (recorded : List Entry) → LinesParse p (ended_lines text) recorded → LinesParse p (ended_lines (logged text)) recorded
+  logged_parses text recorded tells = subst (λ l. LinesParse p (ended_lines l) recorded) (sym (added_all text)) (parses_logged [] text recorded tt (subst (λ lines. LinesParse p lines recorded) (ended_is [] text tt) tells))
 
-  pub tell-both : (before after : List (List ℕ)) (a b : List Entry) → LinesTell p before a → LinesTell p after b → LinesTell p (before ++ after) (a ++ b)
-  tell-both [] after a b first second = subst (λ t. LinesTell p after (t ++ b)) (sym first) second
-  tell-both (line ∷ before) after a b first second = (first.0, first.1 ++ b, first.2, tell-both before after first.1 b first.3 second, ap (λ es. es ++ b) first.4 ∙ append_assoc first.0 first.1 b)
+  pub parse-both : (before after : List (List ℕ)) (a b : List Entry) → LinesParse p before a → LinesParse p after b → LinesParse p (before ++ after) (a ++ b)
+  parse-both [] after a b first second = subst (λ t. LinesParse p after (t ++ b)) (sym first) second
+  parse-both (line ∷ before) after a b first second = (first.0, first.1 ++ b, first.2, parse-both before after first.1 b first.3 second, ap (λ es. es ++ b) first.4 ∙ append_assoc first.0 first.1 b)
 
 pub left_log : ACrashLeavesALog
-left_log p base shown pending left told came whole is tells_base tells_came =
+left_log p base shown pending left recorded came whole is parses_base parses_came =
     let rest = logged-front shown pending in
     let first = base ++ logged shown in
     let full = base ++ logged (shown ++ pending) in
@@ -163,21 +163,21 @@ left_log p base shown pending left told came whole is tells_base tells_came =
     sym (ended-base base (logged (shown ++ pending)) whole) ∙ ap (ended_behind []) (sym (take-append-drop is.count full)) ∙ ended-append [] cut lost in
     let lines_left : ended_lines left ≡ ended_behind [] cut =
     ap ended_lines is.is ∙ ended_is [] (cut ++ zeros is.unwritten) tt ∙ ended-append [] cut (zeros is.unwritten) ∙ ap (λ l. ended_behind [] cut ++ l) (ended-zeros (line_after [] cut) is.unwritten) ∙ append-nil (ended_behind [] cut) in
-    let tells_full = tell-both p (ended_lines base) (ended_lines (logged (shown ++ pending))) told came tells_base (logged_tells p (shown ++ pending) came tells_came) in
-    let parts = tell-parts p (ended_behind [] cut) (ended_behind (line_after [] cut) lost) (told ++ came) (subst (λ lines. LinesTell p lines (told ++ came)) lines_full tells_full) in
-    let inner = tell-parts p (ended_lines base) (ended_lines (logged shown) ++ ended_behind (line_after [] (logged shown)) (take n rest.0)) parts.0 (subst (λ lines. LinesTell p lines parts.0) lines_cut parts.2) in
-    let deeper = tell-parts p (ended_lines (logged shown)) (ended_behind (line_after [] (logged shown)) (take n rest.0)) inner.1 inner.3 in
-    let base_told : inner.0 ≡ told = one_reading p (ended_lines base) inner.0 told inner.2 tells_base in
-    let kept : parts.0 ≡ told ++ inner.1 = inner.4 ∙ ap (λ t. t ++ inner.1) base_told in
-    let split : told ++ came ≡ told ++ (inner.1 ++ parts.1) = parts.4 ∙ ap (λ t. t ++ parts.1) kept ∙ append_assoc told inner.1 parts.1 in
+    let parses_full = parse-both p (ended_lines base) (ended_lines (logged (shown ++ pending))) recorded came parses_base (logged_parses p (shown ++ pending) came parses_came) in
+    let parts = parse-parts p (ended_behind [] cut) (ended_behind (line_after [] cut) lost) (recorded ++ came) (subst (λ lines. LinesParse p lines (recorded ++ came)) lines_full parses_full) in
+    let inner = parse-parts p (ended_lines base) (ended_lines (logged shown) ++ ended_behind (line_after [] (logged shown)) (take n rest.0)) parts.0 (subst (λ lines. LinesParse p lines parts.0) lines_cut parts.2) in
+    let deeper = parse-parts p (ended_lines (logged shown)) (ended_behind (line_after [] (logged shown)) (take n rest.0)) inner.1 inner.3 in
+    let base_parsed : inner.0 ≡ recorded = one_reading p (ended_lines base) inner.0 recorded inner.2 parses_base in
+    let kept : parts.0 ≡ recorded ++ inner.1 = inner.4 ∙ ap (λ t. t ++ inner.1) base_parsed in
+    let split : recorded ++ came ≡ recorded ++ (inner.1 ++ parts.1) = parts.4 ∙ ap (λ t. t ++ parts.1) kept ∙ append_assoc recorded inner.1 parts.1 in
     record {
       kept = inner.1;
       lost = parts.1;
-      came_so = append_cancel_left told came (inner.1 ++ parts.1) split;
-      tells = subst (λ t. LinesTell p (ended_lines left) t) kept (subst (λ lines. LinesTell p lines parts.0) (sym lines_left) parts.2);
-      has_shown = λ entries tells_shown. (
+      came_so = append_cancel_left recorded came (inner.1 ++ parts.1) split;
+      tells = subst (λ t. LinesParse p (ended_lines left) t) kept (subst (λ lines. LinesParse p lines parts.0) (sym lines_left) parts.2);
+      has_shown = λ entries parses_shown. (
         deeper.1,
-        deeper.4 ∙ ap (λ t. t ++ deeper.1) (one_reading p (ended_lines (logged shown)) deeper.0 entries deeper.2 (logged_tells p shown entries tells_shown)),
+        deeper.4 ∙ ap (λ t. t ++ deeper.1) (one_reading p (ended_lines (logged shown)) deeper.0 entries deeper.2 (logged_parses p shown entries parses_shown)),
       );
     }
 

@@ -4,7 +4,7 @@ mod Whole
 pub mod Fronts
 mod Steps
 mod CrashLines
-mod Gathering
+mod Buffering
 pub mod LeftEvents
 mod PlansKept
 mod TornEnds

@@ -9,7 +9,7 @@ use Rattle.text_lines.specs.Cuts.{HasNone}
 use Rattle.text_lines.specs.Lines.{lines_of, ended_lines}
 use Rattle.text_lines.proofs.EndedLines.{ended-part}
 use Rattle.cell_tables.specs.declared.entry.Entry.{Entry}
-use Rattle.event_lines.specs.LogLines.{LinesTell}
+use Rattle.event_lines.specs.LogLines.{LinesParse}
 use Rattle.event_lines.specs.ReadBack.{IsSpaceless}
 use Rattle.event_lines.specs.Words.{Word, Text, words_before, line_of}
 use Rattle.event_lines.proofs.WrittenWords.{AreSpaceless, before-append, line_first}
@@ -22,8 +22,8 @@ use Rattle.run_journal.specs.WholeLines.{whole_lines, torn_end}
 use Rattle.run_journal.specs.TornEnds.{is_torn}
 use Rattle.run_journal.proofs.Whole.{cut_keeps, take_whole, whole-behind, whole-push_feed, whole-zeros}
 use Rattle.run_journal.proofs.TornEnds.{both, plan_begins}
-use Rattle.run_journal.proofs.LeftEvents.{ended-base, ended_is, tell-both}
-use Rattle.run_journal.proofs.Formed.{none_taken, none_whole, no_feed_both, torn_lines, torn-behind, drop-front}
+use Rattle.run_journal.proofs.LeftEvents.{ended-base, ended_is, parse-both}
+use Rattle.run_journal.proofs.Formed.{none_written, none_whole, no_feed_both, torn_lines, torn-behind, drop-front}
 
 -- whole lines are whole
 pub whole_again : (text : List ℕ) → whole_lines (whole_lines text) ≡ whole_lines text
@@ -62,7 +62,7 @@ front_of body n unwritten none = elim (cases_lt (length body) n) [
       inr (whole-zeros (take n (body ++ 10 ∷ [])) unwritten ∙ ap whole_lines all ∙ whole-push_feed body)
   | inr within ↦
       let cut : take n (body ++ 10 ∷ []) ≡ take n body = take-append-le n body (10 ∷ []) within in
-      inl (whole-zeros (take n (body ++ 10 ∷ [])) unwritten ∙ ap whole_lines cut ∙ none_whole (take n body) (none_taken n body none))
+      inl (whole-zeros (take n (body ++ 10 ∷ [])) unwritten ∙ ap whole_lines cut ∙ none_whole (take n body) (none_written n body none))
 ]
 
 module _ (digits : RunDigits) (are : AreDigits digits) (file left : List ℕ) (whole : whole_lines file ≡ file) (is : IsLeft (length file) (file ++ plan_line digits) left) where
@@ -132,17 +132,17 @@ plan_lines digits are =
 plan_ended : (digits : RunDigits) → AreDigits digits → ended_lines (plan_line digits) ≡ plan_words digits ∷ []
 plan_ended digits are = sym (ended-part (plan_line digits) (plan_words digits) [] refl tt) ∙ plan_lines digits are
 
-pub plan_tells : (p : PlannedShop) (digits : RunDigits) → AreDigits digits → LinesTell p (ended_lines (plan_line digits)) []
-plan_tells p digits are = subst (λ (lines : List (List ℕ)). LinesTell p lines []) (sym (plan_ended digits are)) ([], [], refl, refl, refl)
+pub plan_parses : (p : PlannedShop) (digits : RunDigits) → AreDigits digits → LinesParse p (ended_lines (plan_line digits)) []
+plan_parses p digits are = subst (λ (lines : List (List ℕ)). LinesParse p lines []) (sym (plan_ended digits are)) ([], [], refl, refl, refl)
 
 -- the lines with that of a plan tell what they told
-pub named_tells : (p : PlannedShop) (digits : RunDigits) (lines base : List ℕ) (told : List Entry) → AreDigits digits → whole_lines lines ≡ lines → IsNamedFor digits lines base → LinesTell p (ended_lines lines) told
-    → LinesTell p (ended_lines base) told
-named_tells p digits lines base told are whole (inl is) tells = subst (λ (l : List ℕ). LinesTell p (ended_lines l) told) (sym is.1) tells
-named_tells p digits lines base told are whole (inr is) tells =
+pub named_parses : (p : PlannedShop) (digits : RunDigits) (lines base : List ℕ) (told : List Entry) → AreDigits digits → whole_lines lines ≡ lines → IsNamedFor digits lines base → LinesParse p (ended_lines lines) told
+    → LinesParse p (ended_lines base) told
+named_parses p digits lines base told are whole (inl is) tells = subst (λ (l : List ℕ). LinesParse p (ended_lines l) told) (sym is.1) tells
+named_parses p digits lines base told are whole (inr is) tells =
     let ended : ended_lines base ≡ ended_lines lines ++ ended_lines (plan_line digits) = ap ended_lines is.1 ∙ ended_is [] (lines ++ plan_line digits) tt ∙ ended-base lines (plan_line digits) whole in
-    subst (λ (ls : List (List ℕ)). LinesTell p ls told) (sym ended)
-    (subst (λ (es : List Entry). LinesTell p (ended_lines lines ++ ended_lines (plan_line digits)) es) (append-nil told) (tell-both p (ended_lines lines) (ended_lines (plan_line digits)) told [] tells (plan_tells p digits are)))
+    subst (λ (ls : List (List ℕ)). LinesParse p ls told) (sym ended)
+    (subst (λ (es : List Entry). LinesParse p (ended_lines lines ++ ended_lines (plan_line digits)) es) (append-nil told) (parse-both p (ended_lines lines) (ended_lines (plan_line digits)) told [] tells (plan_parses p digits are)))
 
 -- ---- folders
 

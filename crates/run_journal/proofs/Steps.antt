@@ -4,14 +4,14 @@ use Rattle.std.specs.Io.KnownBytes.{Appends}
 use Rattle.std.proofs.lemmas.List.{take_all}
 use Rattle.run_journal.specs.declared.logged.TheConstants.{MAX_PENDING}
 use Rattle.run_journal.specs.declared.selection.TheConstants.{DECIDING}
-use Rattle.run_journal.specs.LogFiles.{Leaves, IsSettled}
+use Rattle.run_journal.specs.LogFiles.{Leaves, IsDurable}
 use Rattle.run_journal.specs.LoggedLines.{logged}
 use Rattle.run_journal.specs.Selecting.{Selected, at_first, behind_bytes, got}
 use Rattle.run_journal.specs.Standings.{IsStanding, open_line}
-use Rattle.run_journal.specs.declared.logged.Unshown.{Unshown}
-use Rattle.run_journal.specs.declared.logged.Unshown.TheVariants.{Log, Output}
-use Rattle.run_journal.specs.Logged.{AreBefore, IsSoFar, IsSound, OnKept, OnLogFault}
-use Rattle.run_journal.proofs.Fronts.{settled_leaves, fewer_leave, if_some-map}
+use Rattle.run_journal.specs.declared.logged.Unflushed.{Unflushed}
+use Rattle.run_journal.specs.declared.logged.Unflushed.TheVariants.{Log, Output}
+use Rattle.run_journal.specs.Logged.{AreInitial, IsSoFar, IsSound, OnKept, OnLogFault}
+use Rattle.run_journal.proofs.Fronts.{durable_leaves, fewer_left, if_some-map}
 use Rattle.run_journal.proofs.Selected.{logged-front, got_next, stands_next}
 
 pub told : {X : Type 0} (o : Option X) (x : X) (P : X → Type 0) → o ≡ Some x → IfSome o P → P x
@@ -23,36 +23,36 @@ grown (Some ys) None xs bs is added = absurd added
 grown (Some ys) (Some zs) xs bs is added = let same : ys ≡ xs = cc is in ap Some (added ∙ ap (λ l. l ++ bs) same)
 
 -- before anything has come
-pub starts : (before : Option (List ℕ × List ℕ)) (seen : Option (List ℕ)) (may_leave : List ℕ → Type 0) (taken : Option (List ℕ)) (gathered : List ℕ) (capacity events_capacity : ℕ) (selected : Selected)
-    → AreBefore before seen taken → IsSettled seen may_leave → gathered ≡ [] → MAX_PENDING ≤ capacity → MAX_PENDING + DECIDING ≤ events_capacity → selected ≡ at_first
-    → IsSound before seen may_leave taken gathered capacity events_capacity 0 false selected
-starts before seen may_leave taken gathered capacity events_capacity selected are settled none room events_room first = record {
+pub starts : (before : Option (List ℕ × List ℕ)) (seen : Option (List ℕ)) (crash_states : List ℕ → Type 0) (written : Option (List ℕ)) (buffered : List ℕ) (capacity events_capacity : ℕ) (selected : Selected)
+    → AreInitial before seen written → IsDurable seen crash_states → buffered ≡ [] → MAX_PENDING ≤ capacity → MAX_PENDING + DECIDING ≤ events_capacity → selected ≡ at_first
+    → IsSound before seen crash_states written buffered capacity events_capacity 0 false selected
+starts before seen crash_states written buffered capacity events_capacity selected are durable none room events_room first = record {
   within = omega arith;
   few = omega (arith, ap length none);
   room = room;
   events_room = events_room;
   few_open = omega (arith, ap (λ (s : Selected). length s.front) first);
   none_out = λ yes. refl;
-  settled = λ yes. settled;
+  durable = λ yes. durable;
   so_far = if_some-map before (λ b both. record {
     step = record {
       shown = [];
       output = both.1 ∙ ap Some (sym (append-nil b.1));
       log = λ yes. both.0 ∙ ap Some (sym (append-nil b.0));
-      crash = fewer_leave may_leave (length b.0) (length (b.0 ++ [])) (b.0 ++ []) (b.0 ++ logged (drop 0 gathered)) (omega (arith, ap length (append-nil b.0))) (ap (λ l. b.0 ++ logged (drop 0 l)) none)
-          (settled_leaves may_leave b.0 [] (told seen b.0 (λ f. (left : List ℕ) → may_leave left → left ≡ f) both.0 settled));
+      crash = fewer_left crash_states (length b.0) (length (b.0 ++ [])) (b.0 ++ []) (b.0 ++ logged (drop 0 buffered)) (omega (arith, ap length (append-nil b.0))) (ap (λ l. b.0 ++ logged (drop 0 l)) none)
+          (durable_leaves crash_states b.0 [] (told seen b.0 (λ f. (left : List ℕ) → crash_states left → left ≡ f) both.0 durable));
     };
     line = λ yes. subst (λ (s : Selected). IsStanding s.standing s.front []) (sym first) (refl, refl, omega arith);
   }) are;
 }
 
-module _ (before : Option (List ℕ × List ℕ)) (seen : Option (List ℕ)) (may_leave : List ℕ → Type 0) (taken : Option (List ℕ)) (gathered : List ℕ) (capacity events_capacity sent : ℕ) (failed : Bool)
-    (selected : Selected) (sound : IsSound before seen may_leave taken gathered capacity events_capacity sent failed selected) (unfailed : failed ≡ false) where
-  pub all_pending : drop sent gathered ≡ gathered
-  all_pending = ap (λ (n : ℕ). drop n gathered) (sound.none_out unfailed)
+module _ (before : Option (List ℕ × List ℕ)) (seen : Option (List ℕ)) (crash_states : List ℕ → Type 0) (written : Option (List ℕ)) (buffered : List ℕ) (capacity events_capacity sent : ℕ) (failed : Bool)
+    (selected : Selected) (sound : IsSound before seen crash_states written buffered capacity events_capacity sent failed selected) (unfailed : failed ≡ false) where
+  pub all_pending : drop sent buffered ≡ buffered
+  all_pending = ap (λ (n : ℕ). drop n buffered) (sound.none_out unfailed)
 
   -- more bytes are gathered
-  pub gathers : (more now : List ℕ) (room : ℕ) → now ≡ gathered ++ more → length now ≤ MAX_PENDING → capacity ≤ room → IsSound before seen may_leave taken now room events_capacity sent failed selected
+  pub gathers : (more now : List ℕ) (room : ℕ) → now ≡ buffered ++ more → length now ≤ MAX_PENDING → capacity ≤ room → IsSound before seen crash_states written now room events_capacity sent failed selected
   gathers more now room is few kept_room = record {
     within = omega (arith, sound.none_out unfailed);
     few = few;
@@ -60,7 +60,7 @@ module _ (before : Option (List ℕ × List ℕ)) (seen : Option (List ℕ)) (ma
     events_room = sound.events_room;
     few_open = sound.few_open;
     none_out = sound.none_out;
-    settled = sound.settled;
+    durable = sound.durable;
     so_far = if_some-map before (λ b so_far.
         let step = so_far.step in
         let rest = logged-front step.shown (drop sent now) in
@@ -70,26 +70,26 @@ module _ (before : Option (List ℕ × List ℕ)) (seen : Option (List ℕ)) (ma
             shown = step.shown;
             output = step.output;
             log = step.log;
-            crash = fewer_leave may_leave (length file) (length file) (file ++ rest.0) (b.0 ++ logged (step.shown ++ drop sent now)) (omega arith)
+            crash = fewer_left crash_states (length file) (length file) (file ++ rest.0) (b.0 ++ logged (step.shown ++ drop sent now)) (omega arith)
                 (ap (λ l. b.0 ++ l) rest.1 ∙ sym (append_assoc b.0 (logged step.shown) rest.0))
-                (settled_leaves may_leave file rest.0 (told seen file (λ f. (left : List ℕ) → may_leave left → left ≡ f) (step.log unfailed) (sound.settled unfailed)));
+                (durable_leaves crash_states file rest.0 (told seen file (λ f. (left : List ℕ) → crash_states left → left ≡ f) (step.log unfailed) (sound.durable unfailed)));
           };
           line = so_far.line;
         }) sound.so_far;
   }
 
-  module _ (events : List ℕ) (seen_now : Option (List ℕ)) (may_leave_now : List ℕ → Type 0) (selected_now : Selected) (events_room : ℕ) (kept_room : events_capacity ≤ events_room)
-      (selects : events ≡ got selected gathered) (selects_on : selected_now ≡ behind_bytes selected gathered) (few_open : length selected_now.front < DECIDING) where
+  module _ (events : List ℕ) (seen_now : Option (List ℕ)) (crash_states_now : List ℕ → Type 0) (selected_now : Selected) (events_room : ℕ) (kept_room : events_capacity ≤ events_room)
+      (selects : events ≡ got selected buffered) (selects_on : selected_now ≡ behind_bytes selected buffered) (few_open : length selected_now.front < DECIDING) where
     -- what the log gets of all that has come
-    all_events : (b : List ℕ × List ℕ) (so_far : IsSoFar b.0 b.1 seen may_leave taken (drop sent gathered) failed selected)
-        → (b.0 ++ logged so_far.step.shown) ++ events ≡ b.0 ++ logged (so_far.step.shown ++ gathered)
+    all_events : (b : List ℕ × List ℕ) (so_far : IsSoFar b.0 b.1 seen crash_states written (drop sent buffered) failed selected)
+        → (b.0 ++ logged so_far.step.shown) ++ events ≡ b.0 ++ logged (so_far.step.shown ++ buffered)
     all_events b so_far =
         append_assoc b.0 (logged so_far.step.shown) events ∙ ap (λ l. b.0 ++ (logged so_far.step.shown ++ l)) selects
-        ∙ ap (λ l. b.0 ++ l) (sym (got_next selected so_far.step.shown gathered (so_far.line unfailed)))
+        ∙ ap (λ l. b.0 ++ l) (sym (got_next selected so_far.step.shown buffered (so_far.line unfailed)))
 
     -- the log didn't take them
-    pub not_kept : IfSome seen (λ file. Leaves may_leave_now (length file) (file ++ events))
-        → IsSound before seen_now may_leave_now taken gathered capacity events_room sent true selected_now
+    pub not_kept : IfSome seen (λ file. Leaves crash_states_now (length file) (file ++ events))
+        → IsSound before seen_now crash_states_now written buffered capacity events_room sent true selected_now
     not_kept crash = record {
       within = sound.within;
       few = sound.few;
@@ -97,7 +97,7 @@ module _ (before : Option (List ℕ × List ℕ)) (seen : Option (List ℕ)) (ma
       events_room = omega (arith, sound.events_room, kept_room);
       few_open = few_open;
       none_out = λ no. absurd (cc no);
-      settled = λ no. absurd (cc no);
+      durable = λ no. absurd (cc no);
       so_far = if_some-map before (λ b so_far.
           let step = so_far.step in
           let file = b.0 ++ logged step.shown in
@@ -106,51 +106,51 @@ module _ (before : Option (List ℕ × List ℕ)) (seen : Option (List ℕ)) (ma
               shown = step.shown;
               output = step.output;
               log = λ no. absurd (cc no);
-              crash = fewer_leave may_leave_now (length file) (length file) (file ++ events) (b.0 ++ logged (step.shown ++ drop sent gathered)) (omega arith)
+              crash = fewer_left crash_states_now (length file) (length file) (file ++ events) (b.0 ++ logged (step.shown ++ drop sent buffered)) (omega arith)
                   (ap (λ l. b.0 ++ logged (step.shown ++ l)) all_pending ∙ sym (all_events b so_far))
-                  (told seen file (λ f. Leaves may_leave_now (length f) (f ++ events)) (step.log unfailed) crash);
+                  (told seen file (λ f. Leaves crash_states_now (length f) (f ++ events)) (step.log unfailed) crash);
             };
             line = λ no. absurd (cc no);
           }) sound.so_far;
     }
 
-    module _ (kept : IfSome seen (λ file. seen_now ≡ Some (file ++ events))) (settled : IsSettled seen_now may_leave_now) where
+    module _ (kept : IfSome seen (λ file. seen_now ≡ Some (file ++ events))) (durable : IsDurable seen_now crash_states_now) where
       -- where the log has them all, a crash leaves just these
-      has_all : (b : List ℕ × List ℕ) (so_far : IsSoFar b.0 b.1 seen may_leave taken (drop sent gathered) failed selected)
-          → seen_now ≡ Some (b.0 ++ logged (so_far.step.shown ++ gathered))
+      has_all : (b : List ℕ × List ℕ) (so_far : IsSoFar b.0 b.1 seen crash_states written (drop sent buffered) failed selected)
+          → seen_now ≡ Some (b.0 ++ logged (so_far.step.shown ++ buffered))
       has_all b so_far = told seen (b.0 ++ logged so_far.step.shown) (λ file. seen_now ≡ Some (file ++ events)) (so_far.step.log unfailed) kept ∙ ap Some (all_events b so_far)
 
-      leaves_all : (b : List ℕ × List ℕ) (so_far : IsSoFar b.0 b.1 seen may_leave taken (drop sent gathered) failed selected)
-          → Leaves may_leave_now (length (b.0 ++ logged (so_far.step.shown ++ gathered))) (b.0 ++ logged (so_far.step.shown ++ gathered))
+      leaves_all : (b : List ℕ × List ℕ) (so_far : IsSoFar b.0 b.1 seen crash_states written (drop sent buffered) failed selected)
+          → Leaves crash_states_now (length (b.0 ++ logged (so_far.step.shown ++ buffered))) (b.0 ++ logged (so_far.step.shown ++ buffered))
       leaves_all b so_far =
-          let file = b.0 ++ logged (so_far.step.shown ++ gathered) in
-          fewer_leave may_leave_now (length file) (length file) (file ++ []) file (omega arith) (sym (append-nil file))
-          (settled_leaves may_leave_now file [] (told seen_now file (λ f. (left : List ℕ) → may_leave_now left → left ≡ f) (has_all b so_far) settled))
+          let file = b.0 ++ logged (so_far.step.shown ++ buffered) in
+          fewer_left crash_states_now (length file) (length file) (file ++ []) file (omega arith) (sym (append-nil file))
+          (durable_leaves crash_states_now file [] (told seen_now file (λ f. (left : List ℕ) → crash_states_now left → left ≡ f) (has_all b so_far) durable))
 
       -- and the output took only some
-      pub not_shown : (taken_now : Option (List ℕ)) (out : ℕ) → out ≤ length gathered → Appends taken taken_now (take out gathered)
-          → IsSound before seen_now may_leave_now taken_now gathered capacity events_room out true selected_now
-      not_shown taken_now out within added = record {
+      pub not_shown : (written_now : Option (List ℕ)) (out : ℕ) → out ≤ length buffered → Appends written written_now (take out buffered)
+          → IsSound before seen_now crash_states_now written_now buffered capacity events_room out true selected_now
+      not_shown written_now out within added = record {
         within = within;
         few = sound.few;
         room = sound.room;
         events_room = omega (arith, sound.events_room, kept_room);
         few_open = few_open;
         none_out = λ no. absurd (cc no);
-        settled = λ no. absurd (cc no);
+        durable = λ no. absurd (cc no);
         so_far = if_some-map before (λ b so_far.
             let step = so_far.step in
-            let shown = step.shown ++ take out gathered in
-            let same : shown ++ drop out gathered ≡ step.shown ++ gathered = append_assoc step.shown (take out gathered) (drop out gathered) ∙ ap (λ l. step.shown ++ l) (take-append-drop out gathered) in
-            let all = logged-front shown (drop out gathered) in
-            let file = b.0 ++ logged (step.shown ++ gathered) in
+            let shown = step.shown ++ take out buffered in
+            let same : shown ++ drop out buffered ≡ step.shown ++ buffered = append_assoc step.shown (take out buffered) (drop out buffered) ∙ ap (λ l. step.shown ++ l) (take-append-drop out buffered) in
+            let all = logged-front shown (drop out buffered) in
+            let file = b.0 ++ logged (step.shown ++ buffered) in
             let whole : file ≡ (b.0 ++ logged shown) ++ all.0 = ap (λ l. b.0 ++ logged l) (sym same) ∙ ap (λ l. b.0 ++ l) all.1 ∙ sym (append_assoc b.0 (logged shown) all.0) in
             record {
               step = record {
                 shown = shown;
-                output = grown taken taken_now (b.1 ++ step.shown) (take out gathered) step.output added ∙ ap Some (append_assoc b.1 step.shown (take out gathered));
+                output = grown written written_now (b.1 ++ step.shown) (take out buffered) step.output added ∙ ap Some (append_assoc b.1 step.shown (take out buffered));
                 log = λ no. absurd (cc no);
-                crash = fewer_leave may_leave_now (length file) (length (b.0 ++ logged shown)) file (b.0 ++ logged (shown ++ drop out gathered))
+                crash = fewer_left crash_states_now (length file) (length (b.0 ++ logged shown)) file (b.0 ++ logged (shown ++ drop out buffered))
                     (omega (arith, ap length whole, length-append (b.0 ++ logged shown) all.0)) (ap (λ l. b.0 ++ logged l) same) (leaves_all b so_far);
               };
               line = λ no. absurd (cc no);
@@ -158,39 +158,39 @@ module _ (before : Option (List ℕ × List ℕ)) (seen : Option (List ℕ)) (ma
       }
 
       -- both have them
-      pub shown : (taken_now : Option (List ℕ)) (out : ℕ) (now : List ℕ) (room : ℕ) → out ≡ length gathered → Appends taken taken_now (take out gathered) → now ≡ [] → capacity ≤ room
-          → IsSound before seen_now may_leave_now taken_now now room events_room 0 false selected_now
-      shown taken_now out now room all added none kept_gathered = record {
+      pub shown : (written_now : Option (List ℕ)) (out : ℕ) (now : List ℕ) (room : ℕ) → out ≡ length buffered → Appends written written_now (take out buffered) → now ≡ [] → capacity ≤ room
+          → IsSound before seen_now crash_states_now written_now now room events_room 0 false selected_now
+      shown written_now out now room all added none kept_buffered = record {
         within = omega arith;
         few = omega (arith, ap length none);
-        room = omega (arith, sound.room, kept_gathered);
+        room = omega (arith, sound.room, kept_buffered);
         events_room = omega (arith, sound.events_room, kept_room);
         few_open = few_open;
         none_out = λ yes. refl;
-        settled = λ yes. settled;
+        durable = λ yes. durable;
         so_far = if_some-map before (λ b so_far.
             let step = so_far.step in
-            let whole : take out gathered ≡ gathered = take_all out gathered (omega (arith, all)) in
-            let text = step.shown ++ gathered in
+            let whole : take out buffered ≡ buffered = take_all out buffered (omega (arith, all)) in
+            let text = step.shown ++ buffered in
             let same : text ++ now ≡ text = ap (λ l. text ++ l) none ∙ append-nil text in
             record {
               step = record {
                 shown = text;
-                output = grown taken taken_now (b.1 ++ step.shown) (take out gathered) step.output added ∙ ap (λ l. Some ((b.1 ++ step.shown) ++ l)) whole ∙ ap Some (append_assoc b.1 step.shown gathered);
+                output = grown written written_now (b.1 ++ step.shown) (take out buffered) step.output added ∙ ap (λ l. Some ((b.1 ++ step.shown) ++ l)) whole ∙ ap Some (append_assoc b.1 step.shown buffered);
                 log = λ yes. has_all b so_far;
-                crash = fewer_leave may_leave_now (length (b.0 ++ logged text)) (length (b.0 ++ logged text)) (b.0 ++ logged text) (b.0 ++ logged (text ++ now)) (omega arith) (ap (λ l. b.0 ++ logged l) same)
+                crash = fewer_left crash_states_now (length (b.0 ++ logged text)) (length (b.0 ++ logged text)) (b.0 ++ logged text) (b.0 ++ logged (text ++ now)) (omega arith) (ap (λ l. b.0 ++ logged l) same)
                     (leaves_all b so_far);
               };
-              line = λ yes. subst (λ (s : Selected). IsStanding s.standing s.front (open_line text)) (sym selects_on) (stands_next selected step.shown gathered (so_far.line unfailed));
+              line = λ yes. subst (λ (s : Selected). IsStanding s.standing s.front (open_line text)) (sym selects_on) (stands_next selected step.shown buffered (so_far.line unfailed));
             }) sound.so_far;
       }
 
 -- ---- which has failed
 
-pub on_log_fault : (fault : Unshown) (P : Type 0) → fault ≡ Log → OnLogFault (Err fault) P → P
+pub on_log_fault : (fault : Unflushed) (P : Type 0) → fault ≡ Log → OnLogFault (Err fault) P → P
 on_log_fault Log P is p = p
 on_log_fault Output P is p = absurd (cc is)
 
-pub on_output_fault : (fault : Unshown) (P : Type 0) → fault ≡ Output → OnKept (Err fault) P → P
+pub on_output_fault : (fault : Unflushed) (P : Type 0) → fault ≡ Output → OnKept (Err fault) P → P
 on_output_fault Log P is p = absurd (cc is)
 on_output_fault Output P is p = p

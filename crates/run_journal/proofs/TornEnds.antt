@@ -13,7 +13,7 @@ use Rattle.text_lines.proofs.WrittenNumbers.{decimal_digits}
 use Rattle.cell_tables.specs.declared.entry.Entry.{Entry}
 use Rattle.cell_tables.specs.declared.entry.Entry.TheVariants.{Report as ReportEntry, Order as OrderEntry}
 use Rattle.event_lines.specs.Words.{Word, Number, short, moment, written, words_before, line_of}
-use Rattle.event_lines.specs.EventLines.{spot_word, told_words, order_words, entry_words}
+use Rattle.event_lines.specs.EventLines.{spot_word, logged_words, order_words, entry_words}
 use Rattle.cell_tables.specs.declared.standing.Standing.{Standing}
 use Rattle.cell_tables.specs.declared.standing.Standing.TheVariants.{Awaited, Outside, Worked, Done, Gone, Cleaned, Clean as CleanMachine}
 use Rattle.cell_tables.specs.Standings.{is_overdue}
@@ -149,7 +149,7 @@ or-right : (a b : Bool) → b ≡ true → a || b ≡ true
 or-right true b is = refl
 or-right false b is = is
 
-begun_report : (report : Report) → AreNarrow (told_words report) → begins_report (words_before (told_words report) []) ≡ true
+begun_report : (report : Report) → AreNarrow (logged_words report) → begins_report (words_before (logged_words report) []) ≡ true
 begun_report (Arrive job at) (_, (t, (_, (j, _)))) = or-left _ _ (or-left _ _ (
     moment_on at (codes " arrive %") (32 ∷ (codes "arrive" ++ 32 ∷ (decimal job ++ []))) t (spaced (codes "arrive %") (codes "arrive" ++ 32 ∷ (decimal job ++ []))
     (short_on job [] [] j ended))
@@ -323,7 +323,7 @@ plan_begins digits are = or-right (begins_report (plan_words digits) || begins_o
     )
 
 pub event_begins : (entry : Entry) → AreNarrow (entry_words entry) → begins_line (words_before (entry_words entry) []) ≡ true
-event_begins (ReportEntry report) fits = any_report (words_before (told_words report) []) (begun_report report fits)
+event_begins (ReportEntry report) fits = any_report (words_before (logged_words report) []) (begun_report report fits)
 event_begins (OrderEntry o) fits = any_order (words_before (order_words o) []) (begun_order o.at o.job o.source o.target fits.1.0 fits.1.1.0 fits.1.1.1.0 fits.1.1.1.1.0)
 
 pub late_begins : (at : ℕ) → AreNarrow (late_words at) → begins_line (words_before (late_words at) []) ≡ true

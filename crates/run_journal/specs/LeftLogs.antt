@@ -3,21 +3,21 @@ use Rattle.std.specs.Prelude.{◌≡◌, ℕ, List, ◌++◌, length}
 use Rattle.shop_base.specs.Plan.{PlannedShop}
 use Rattle.text_lines.specs.Lines.{ended_lines}
 use Rattle.cell_tables.specs.declared.entry.Entry.{Entry}
-use Rattle.event_lines.specs.LogLines.{LinesTell}
+use Rattle.event_lines.specs.LogLines.{LinesParse}
 use Rattle.run_journal.specs.LogFiles.{IsLeft}
 use Rattle.run_journal.specs.WholeLines.{whole_lines}
 use Rattle.run_journal.specs.LoggedLines.{logged}
 
 -- the ended lines of what was left tell the events that were told before, and behind them the first of those that came, with all that were shown
-pub record TellsWhatWasShown (p : PlannedShop) (told came : List Entry) (shown left : List ℕ) : Type 0 where
+pub record HasShownEvents (p : PlannedShop) (recorded came : List Entry) (shown left : List ℕ) : Type 0 where
   pub kept : List Entry
   pub lost : List Entry
   pub came_so : came ≡ kept ++ lost
-  pub tells : LinesTell p (ended_lines left) (told ++ kept)
-  pub has_shown : (entries : List Entry) → LinesTell p (ended_lines shown) entries → (more : List Entry) × (kept ≡ entries ++ more)
+  pub tells : LinesParse p (ended_lines left) (recorded ++ kept)
+  pub has_shown : (entries : List Entry) → LinesParse p (ended_lines shown) entries → (more : List Entry) × (kept ≡ entries ++ more)
 
 -- whole lines told some events; a text came that tells others, some of it was shown, and the log got what it gets. Whatever a crash leaves is such a log
 abbrev pub ACrashLeavesALog : Type 0
-ACrashLeavesALog = (p : PlannedShop) (base shown pending left : List ℕ) (told came : List Entry) → whole_lines base ≡ base
+ACrashLeavesALog = (p : PlannedShop) (base shown pending left : List ℕ) (recorded came : List Entry) → whole_lines base ≡ base
     → IsLeft (length (base ++ logged shown)) (base ++ logged (shown ++ pending)) left
-    → LinesTell p (ended_lines base) told → LinesTell p (ended_lines (shown ++ pending)) came → TellsWhatWasShown p told came shown left
+    → LinesParse p (ended_lines base) recorded → LinesParse p (ended_lines (shown ++ pending)) came → HasShownEvents p recorded came shown left

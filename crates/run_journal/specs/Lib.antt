@@ -8,7 +8,7 @@ pub mod LoggedLines
 pub mod Selecting
 pub mod Standings
 pub mod Logged
-pub mod Gathering
+pub mod Buffering
 pub mod Laws
 pub mod LeftLogs
 pub mod TornEnds

@@ -17,11 +17,11 @@ pub record IsLeft (least : ℕ) (most left : List ℕ) : Type 0 where
 
 -- a crash leaves the first of these bytes, so many of them at least
 abbrev pub Leaves : (List ℕ → Type 0) → ℕ → List ℕ → Type 0
-Leaves may_leave least most = (left : List ℕ) → may_leave left → IsLeft least most left
+Leaves crash_states least most = (left : List ℕ) → crash_states left → IsLeft least most left
 
 -- where the bytes of the file are told, a crash leaves just these
-abbrev pub IsSettled : Option (List ℕ) → (List ℕ → Type 0) → Type 0
-IsSettled seen may_leave = IfSome seen (λ file. (left : List ℕ) → may_leave left → left ≡ file)
+abbrev pub IsDurable : Option (List ℕ) → (List ℕ → Type 0) → Type 0
+IsDurable seen crash_states = IfSome seen (λ file. (left : List ℕ) → crash_states left → left ≡ file)
 
 -- a crash leaves nothing that it couldn't have left before
 abbrev pub LeavesNoMore : (List ℕ → Type 0) → (List ℕ → Type 0) → Type 0

@@ -3,17 +3,17 @@ use Rattle.std.specs.Prelude.{◌≡◌, ◌⊎◌, ℕ, ◌+◌, ◌<◌, ◌�
 use Rattle.run_journal.specs.declared.file_fault.FileFault.{FileFault}
 use Rattle.run_journal.specs.declared.file_fault.FileFault.TheVariants.{Log as LogFault}
 use Rattle.run_journal.specs.declared.logged.TheConstants.{MAX_PENDING}
-use Rattle.run_journal.specs.declared.logged.Unshown.{Unshown}
-use Rattle.run_journal.specs.declared.logged.Unshown.TheVariants.{Log, Output}
+use Rattle.run_journal.specs.declared.logged.Unflushed.{Unflushed}
+use Rattle.run_journal.specs.declared.logged.Unflushed.TheVariants.{Log, Output}
 use Rattle.run_journal.specs.declared.selection.TheConstants.{DECIDING}
-use Rattle.run_journal.specs.LogFiles.{Leaves, IsSettled}
+use Rattle.run_journal.specs.LogFiles.{Leaves, IsDurable}
 use Rattle.run_journal.specs.LoggedLines.{logged}
 use Rattle.run_journal.specs.Selecting.{Selected}
 use Rattle.run_journal.specs.Standings.{IsStanding, open_line}
 
 -- what the output has taken, where that is told, what has come since and isn't out, whether a call has failed, and whether the log has
 pub record Held : Type 0 where
-  pub taken : Option (List ℕ)
+  pub written : Option (List ℕ)
   pub pending : List ℕ
   pub failed : Bool
   pub log_failed : Bool
@@ -21,11 +21,11 @@ pub record Held : Type 0 where
 -- Since the log held the base, and the output had taken the start, a text has come. The log got of it what a log gets, and
 -- got it first: what a log gets of all that the output has taken, and so may have shown, is on the disk behind the base. A
 -- crash leaves that, and perhaps the first of what a log gets of the rest.
-pub record AreInStep (base start : List ℕ) (seen : Option (List ℕ)) (may_leave : List ℕ → Type 0) (taken : Option (List ℕ)) (pending : List ℕ) (failed : Bool) : Type 0 where
+pub record AreInStep (base start : List ℕ) (seen : Option (List ℕ)) (crash_states : List ℕ → Type 0) (written : Option (List ℕ)) (pending : List ℕ) (failed : Bool) : Type 0 where
   pub shown : List ℕ
-  pub output : taken ≡ Some (start ++ shown)
+  pub output : written ≡ Some (start ++ shown)
   pub log : failed ≡ false → seen ≡ Some (base ++ logged shown)
-  pub crash : Leaves may_leave (length (base ++ logged shown)) (base ++ logged (shown ++ pending))
+  pub crash : Leaves crash_states (length (base ++ logged shown)) (base ++ logged (shown ++ pending))
 
 -- the fault of a log that was written or synced, if that has failed
 abbrev pub fault_if : Bool → Option FileFault
@@ -44,38 +44,38 @@ HoldsNothing pending failed = (pending ≡ []) ⊎ (failed ≡ true)
 
 -- where it is told what they held
 abbrev pub StayInStep : Option (List ℕ × List ℕ) → Option (List ℕ) → (List ℕ → Type 0) → Held → Type 0
-StayInStep before seen may_leave held = IfSome before (λ told. AreInStep told.0 told.1 seen may_leave held.taken held.pending held.failed)
+StayInStep before seen crash_states held = IfSome before (λ told. AreInStep told.0 told.1 seen crash_states held.written held.pending held.failed)
 
 -- the log and the output hold what is told of them
-abbrev pub AreBefore : Option (List ℕ × List ℕ) → Option (List ℕ) → Option (List ℕ) → Type 0
-AreBefore before seen taken = IfSome before (λ told. (seen ≡ Some told.0) × (taken ≡ Some told.1))
+abbrev pub AreInitial : Option (List ℕ × List ℕ) → Option (List ℕ) → Option (List ℕ) → Type 0
+AreInitial before seen written = IfSome before (λ told. (seen ≡ Some told.0) × (written ≡ Some told.1))
 
 -- so far that is so, and it is known whether the log gets the line that is being shown
-pub record IsSoFar (base start : List ℕ) (seen : Option (List ℕ)) (may_leave : List ℕ → Type 0) (taken : Option (List ℕ)) (pending : List ℕ) (failed : Bool) (selected : Selected) : Type 0 where
-  pub step : AreInStep base start seen may_leave taken pending failed
+pub record IsSoFar (base start : List ℕ) (seen : Option (List ℕ)) (crash_states : List ℕ → Type 0) (written : Option (List ℕ)) (pending : List ℕ) (failed : Bool) (selected : Selected) : Type 0 where
+  pub step : AreInStep base start seen crash_states written pending failed
   pub line : failed ≡ false → IsStanding selected.standing selected.front (open_line step.shown)
 
 -- At most so many bytes are gathered, and there is room for them, and for what a log gets of them. Until a call fails none
 -- of them is out, and the log is synced.
-pub record IsSound (before : Option (List ℕ × List ℕ)) (seen : Option (List ℕ)) (may_leave : List ℕ → Type 0) (taken : Option (List ℕ)) (gathered : List ℕ) (capacity events_capacity sent : ℕ)
+pub record IsSound (before : Option (List ℕ × List ℕ)) (seen : Option (List ℕ)) (crash_states : List ℕ → Type 0) (written : Option (List ℕ)) (buffered : List ℕ) (capacity events_capacity sent : ℕ)
     (failed : Bool) (selected : Selected) : Type 0 where
-  pub within : sent ≤ length gathered
-  pub few : length gathered ≤ MAX_PENDING
+  pub within : sent ≤ length buffered
+  pub few : length buffered ≤ MAX_PENDING
   pub room : MAX_PENDING ≤ capacity
   pub events_room : MAX_PENDING + DECIDING ≤ events_capacity
   pub few_open : length selected.front < DECIDING
   pub none_out : failed ≡ false → sent ≡ 0
-  pub settled : failed ≡ false → IsSettled seen may_leave
-  pub so_far : IfSome before (λ told. IsSoFar told.0 told.1 seen may_leave taken (drop sent gathered) failed selected)
+  pub durable : failed ≡ false → IsDurable seen crash_states
+  pub so_far : IfSome before (λ told. IsSoFar told.0 told.1 seen crash_states written (drop sent buffered) failed selected)
 
 -- where the log has what it gets, whether the output then takes all or not
-abbrev pub OnKept : Result (Unit {0}) Unshown → Type 0 → Type 0
+abbrev pub OnKept : Result (Unit {0}) Unflushed → Type 0 → Type 0
 OnKept (Ok done) P = P
 OnKept (Err Output) P = P
 OnKept (Err Log) P = Unit {0}
 
 -- where the log has failed
-abbrev pub OnLogFault : Result (Unit {0}) Unshown → Type 0 → Type 0
+abbrev pub OnLogFault : Result (Unit {0}) Unflushed → Type 0 → Type 0
 OnLogFault (Ok done) P = Unit {0}
 OnLogFault (Err Output) P = Unit {0}
 OnLogFault (Err Log) P = P

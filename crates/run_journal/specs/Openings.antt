@@ -4,7 +4,7 @@ use Rattle.event_lines.specs.RunDigits.{plan_line}
 use Rattle.event_lines.specs.declared.run_digits.RunDigits.{RunDigits}
 use Rattle.run_journal.specs.declared.file_fault.FileFault.{FileFault}
 use Rattle.run_journal.specs.declared.file_fault.FileFault.TheVariants.{Log}
-use Rattle.run_journal.specs.LogFiles.{Leaves, IsSettled, IsReadFault, HasFailed}
+use Rattle.run_journal.specs.LogFiles.{Leaves, IsDurable, IsReadFault, HasFailed}
 use Rattle.run_journal.specs.Folders.{Folder, held, with_fault, with_made, with_name, IsOpenFault, IsDiskFault}
 
 -- the log itself tells that it couldn't be synced or read
@@ -23,19 +23,19 @@ pub record IsUnmade (there : Bool) (path : List ℕ) (before after : Folder) (to
   pub at_most : (after ≡ with_fault told before) ⊎ (after ≡ with_fault told (with_made path before))
 
 -- the folder tells that the name of a new log couldn't be put onto the disk, and the log has no byte
-pub record LacksName (had after : Folder) (seen : Option (List ℕ)) (may_leave : List ℕ → Type 0) (fault : Option FileFault) (told : FileFault) : Type 0 where
+pub record LacksName (had after : Folder) (seen : Option (List ℕ)) (crash_states : List ℕ → Type 0) (fault : Option FileFault) (told : FileFault) : Type 0 where
   pub is : IsDiskFault told
   pub own : after ≡ with_fault told had
   pub unfailed : fault ≡ None
-  pub settled : IsSettled seen may_leave
+  pub durable : IsDurable seen crash_states
   pub empty : IfSome had.logs (λ _. seen ≡ Some [])
 
 -- the log tells that the line of the plan couldn't be, and a crash leaves at most that line
-pub record LacksLine (path : List ℕ) (digits : RunDigits) (had after : Folder) (may_leave : List ℕ → Type 0) (fault : Option FileFault) (told : FileFault) : Type 0 where
+pub record LacksLine (path : List ℕ) (digits : RunDigits) (had after : Folder) (crash_states : List ℕ → Type 0) (fault : Option FileFault) (told : FileFault) : Type 0 where
   pub is : HasFailed fault told
   pub named : after ≡ with_name path had
-  pub crash : IfSome had.logs (λ _. Leaves may_leave 0 (plan_line digits))
+  pub crash : IfSome had.logs (λ _. Leaves crash_states 0 (plan_line digits))
 
 -- a new log lacks its name or its line
 abbrev pub IsUnnamed : List ℕ → RunDigits → Folder → Folder → Option (List ℕ) → (List ℕ → Type 0) → Option FileFault → FileFault → Type 0
-IsUnnamed path digits had after seen may_leave fault told = LacksName had after seen may_leave fault told ⊎ LacksLine path digits had after may_leave fault told
+IsUnnamed path digits had after seen crash_states fault told = LacksName had after seen crash_states fault told ⊎ LacksLine path digits had after crash_states fault told

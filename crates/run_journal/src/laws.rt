@@ -2,7 +2,7 @@
 
 // Nothing is done here: a function's contract is the law, so a check of this crate proves it.
 
-ghost use Rattle.run_journal.specs.Gathering.{AnAnswerIsGatheredWhole};
+ghost use Rattle.run_journal.specs.Buffering.{AnAnswerIsBufferedWhole};
 ghost use Rattle.run_journal.specs.Laws.{ACrashKeepsThePlan, ACrashKeepsWhatWasShown};
 ghost use Rattle.run_journal.specs.LeftLogs.{ACrashLeavesALog};
 ghost use Rattle.run_journal.specs.TornEnds.{UnwrittenLinesAreTorn};
@@ -33,6 +33,6 @@ pub fn unwritten_lines_are_torn()
 
 /// Of the answer to a report, if it has at most 16,384 bytes, no byte is shown before all of it is gathered. So by the clauses
 /// of [`Logged`](crate::Logged) what a log gets of it is written and synced first.
-pub fn an_answer_is_gathered_whole()
-    ensures { AnAnswerIsGatheredWhole }
+pub fn an_answer_is_buffered_whole()
+    ensures { AnAnswerIsBufferedWhole }
 {}

@@ -18,7 +18,7 @@ mod writing_room;
 pub use file_fault::FileFault;
 pub use log_file::LogFile;
 pub use log_run::LogRun;
-pub use logged::{Before, FULL, Logged, MAX_PENDING, Untold};
+pub use logged::{FULL, InitialState, Logged, MAX_PENDING, UnknownHistory};
 pub use logs::Logs;
 pub use opening::{LogText, Unopened, cut_end, name_plan, new_log, open_log, read_log};
 pub use torn_end::is_torn_end;

@@ -1,6 +1,6 @@
 ghost use Rattle.std.specs.Prelude.{◌≡◌, ℕ, ◌≤◌, ◌<◌, ◌++◌, List, length, take, Option, None, Some, Bool, true, false, IfOk, IfErr, IfSome, OnOk};
 ghost use Rattle.run_journal.specs.declared.file_fault.FileFault.{FileFault};
-ghost use Rattle.run_journal.specs.LogFiles.{Leaves, IsSettled, LeavesNoMore, IsReadFault, HasFailed};
+ghost use Rattle.run_journal.specs.LogFiles.{Leaves, IsDurable, LeavesNoMore, IsReadFault, HasFailed};
 
 use crate::file_fault::FileFault;
 use std::alloc::Global;
@@ -16,7 +16,7 @@ pub trait LogFile {
     ghost seen: { Self → Option (List ℕ) };
 
     // What a crash may leave now.
-    ghost may_leave: { Self → List ℕ → Type 0 };
+    ghost crash_states: { Self → List ℕ → Type 0 };
 
     // The fault of the last call that has failed, if one has.
     ghost fault: { Self → Option FileFault };
@@ -30,7 +30,7 @@ pub trait LogFile {
         ensures within { IfOk result (λ bytes. length bytes.items ≤ most) }
         ensures too_long { IfErr result (λ told. told ≡ FileFault.TooLong → IfSome (seen self.old) (λ file. most < length file)) }
         ensures seen { seen self.new ≡ seen self.old }
-        ensures crash { LeavesNoMore (may_leave self.old) (may_leave self.new) }
+        ensures crash { LeavesNoMore (crash_states self.old) (crash_states self.new) }
         ensures written { written self.new ≡ written self.old }
         ensures unfailed { OnOk result (fault self.new ≡ fault self.old) }
         ensures failed { IfErr result (λ told. IsReadFault told × (fault self.new ≡ Some told)) };
@@ -38,21 +38,21 @@ pub trait LogFile {
     /// Appends to a file that is synced. Until the next sync a crash may leave only the first of these bytes, and zeros
     /// in place of the others.
     fn append(&mut self, bytes: &[u8]) -> Result<(), FileFault>
-        requires settled { IsSettled (seen self.old) (may_leave self.old) }
+        requires durable { IsDurable (seen self.old) (crash_states self.old) }
         requires unfailed { fault self.old ≡ None }
         ensures appended { OnOk result (IfSome (seen self.old) (λ file. seen self.new ≡ Some (file ++ bytes.now))) }
-        ensures crash { IfSome (seen self.old) (λ file. Leaves (may_leave self.new) (length file) (file ++ bytes.now)) }
+        ensures crash { IfSome (seen self.old) (λ file. Leaves (crash_states self.new) (length file) (file ++ bytes.now)) }
         ensures written { written self.new ≡ true }
         ensures unfailed { OnOk result (fault self.new ≡ None) }
         ensures failed { IfErr result (HasFailed (fault self.new)) };
 
     /// Cuts a file that is synced to its first bytes. Until the next sync a crash may leave more of them.
     fn cut(&mut self, len: usize) -> Result<(), FileFault>
-        requires settled { IsSettled (seen self.old) (may_leave self.old) }
+        requires durable { IsDurable (seen self.old) (crash_states self.old) }
         requires unfailed { fault self.old ≡ None }
         requires within { IfSome (seen self.old) (λ file. len ≤ length file) }
         ensures cut { OnOk result (IfSome (seen self.old) (λ file. seen self.new ≡ Some (take len file))) }
-        ensures crash { IfSome (seen self.old) (Leaves (may_leave self.new) len) }
+        ensures crash { IfSome (seen self.old) (Leaves (crash_states self.new) len) }
         ensures written { written self.new ≡ true }
         ensures unfailed { OnOk result (fault self.new ≡ None) }
         ensures failed { IfErr result (HasFailed (fault self.new)) };
@@ -60,9 +60,9 @@ pub trait LogFile {
     /// After it a crash leaves what a read gives.
     fn sync(&mut self) -> Result<(), FileFault>
         requires unfailed { fault self.old ≡ None }
-        ensures settled { OnOk result (IsSettled (seen self.new) (may_leave self.new)) }
+        ensures durable { OnOk result (IsDurable (seen self.new) (crash_states self.new)) }
         ensures seen { seen self.new ≡ seen self.old }
-        ensures crash { LeavesNoMore (may_leave self.old) (may_leave self.new) }
+        ensures crash { LeavesNoMore (crash_states self.old) (crash_states self.new) }
         ensures written { written self.new ≡ written self.old }
         ensures unfailed { OnOk result (fault self.new ≡ None) }
         ensures failed { IfErr result (HasFailed (fault self.new)) };

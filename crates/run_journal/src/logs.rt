@@ -1,6 +1,6 @@
 ghost use Rattle.std.specs.Prelude.{◌≡◌, ◌⊎◌, [], None, Some, is_some, option_map, true, false, IfOk, IfErr, IfSome, OnOk};
 ghost use Rattle.run_journal.specs.Folders.{Folder, handed, handed_if, held, is_named, IsDiskFault, IsOpenFault, with_fault, with_made, with_name};
-ghost use Rattle.run_journal.specs.LogFiles.{IsSettled};
+ghost use Rattle.run_journal.specs.LogFiles.{IsDurable};
 
 use crate::file_fault::FileFault;
 use crate::log_file::LogFile;
@@ -24,7 +24,7 @@ pub trait Logs {
     /// Makes a log of this path, where there is none: it has no bytes, and is locked.
     fn make(&mut self, path: &str) -> Result<Self::Log, FileFault>
         ensures empty { IfOk result (λ log. IfSome (Self.Log.seen log) (λ file. file ≡ [])) }
-        ensures settled { IfOk result (λ log. IsSettled (Self.Log.seen log) (Self.Log.may_leave log)) }
+        ensures durable { IfOk result (λ log. IsDurable (Self.Log.seen log) (Self.Log.crash_states log)) }
         ensures unfailed { IfOk result (λ log. Self.Log.fault log ≡ None) }
         ensures unwritten { IfOk result (λ log. Self.Log.written log ≡ false) }
         ensures told { IfOk result (λ log. IfSome (folder self.old).logs (λ _. Self.Log.seen log ≡ Some [])) }

@@ -4,7 +4,7 @@ ghost use Rattle.std.specs.Prelude.{◌≡◌, ◌<◌, ◌≤◌, ◌↔◌, []
 ghost use Rattle.text_lines.specs.declared.limits.TheConstants.{MAX_INPUT};
 ghost use Rattle.text_lines.specs.Lines.{lines_of};
 ghost use Rattle.event_lines.specs.RunDigits.{AreDigits, plan_line};
-ghost use Rattle.run_journal.specs.LogFiles.{HasFailed, IsSettled, LeavesNoMore};
+ghost use Rattle.run_journal.specs.LogFiles.{HasFailed, IsDurable, LeavesNoMore};
 ghost use Rattle.run_journal.specs.LogRuns.{IsNamedFor, IsNamedOrNot, IsRunOf};
 ghost use Rattle.run_journal.specs.Openings.{IsFound, IsOfLog, IsUnmade, IsUnnamed};
 ghost use Rattle.run_journal.specs.Folders.{Folder, handed, handed_if, held, is_named, IsOpenFault, with_fault, with_log, with_name};
@@ -96,8 +96,8 @@ pub fn read_log<D: LogFile>(alloc: Global, log: &mut D) -> Result<LogText, FileF
     ensures text { IfOk result (λ text. IfSome (D.seen log.old) (λ file. text ≡ file)) }
     ensures within { IfOk result (λ text. length text ≤ MAX_INPUT) }
     ensures seen { D.seen log.new ≡ D.seen log.old }
-    ensures settled { OnOk result (IsSettled (D.seen log.new) (D.may_leave log.new)) }
-    ensures crash { LeavesNoMore (D.may_leave log.old) (D.may_leave log.new) }
+    ensures durable { OnOk result (IsDurable (D.seen log.new) (D.crash_states log.new)) }
+    ensures crash { LeavesNoMore (D.crash_states log.old) (D.crash_states log.new) }
     ensures unwritten { D.written log.new ≡ D.written log.old }
     ensures unfailed { OnOk result (D.fault log.new ≡ None) }
     ensures failed { IfErr result (IsOfLog (D.fault log.new)) }
@@ -115,7 +115,7 @@ fn read_opened<D: LogFile + Drop>(alloc: Global, log: D) -> Result<(D, LogText),
     ensures text { IfOk result (λ there. IfSome (D.seen log) (λ file. there.1 ≡ file)) }
     ensures within { IfOk result (λ there. length there.1 ≤ MAX_INPUT) }
     ensures seen { IfOk result (λ there. D.seen there.0 ≡ D.seen log) }
-    ensures settled { IfOk result (λ there. IsSettled (D.seen there.0) (D.may_leave there.0)) }
+    ensures durable { IfOk result (λ there. IsDurable (D.seen there.0) (D.crash_states there.0)) }
     ensures unwritten { IfOk result (λ there. D.written there.0 ≡ D.written log) }
     ensures unfailed { IfOk result (λ there. D.fault there.0 ≡ None) }
     ensures unread { IfErr result (λ back. MatchOption back.log ⊥
@@ -140,7 +140,7 @@ pub fn open_log<L: Logs>(
 ) -> Result<Option<(L::Log, LogText)>, Unopened<L::Log>>
     ensures text { IfOk result (λ opened. IfSome opened (λ there. IfSome (L.Log.seen there.0) (λ file. there.1 ≡ file))) }
     ensures within { IfOk result (λ opened. IfSome opened (λ there. length there.1 ≤ MAX_INPUT)) }
-    ensures settled { IfOk result (λ opened. IfSome opened (λ there. IsSettled (L.Log.seen there.0) (L.Log.may_leave there.0))) }
+    ensures durable { IfOk result (λ opened. IfSome opened (λ there. IsDurable (L.Log.seen there.0) (L.Log.crash_states there.0))) }
     ensures unwritten { IfOk result (λ opened. IfSome opened (λ there. L.Log.written there.0 ≡ false)) }
     ensures unfailed { IfOk result (λ opened. IfSome opened (λ there. L.Log.fault there.0 ≡ None)) }
     ensures told { IfOk result (λ opened. IfSome opened (λ there. IfSome (L.folder logs.old).logs (λ _. L.Log.seen there.0 ≡ Some there.1))) }
@@ -172,10 +172,10 @@ pub fn new_log<L: Logs>(
     digits: &RunDigits,
 ) -> Result<L::Log, Unopened<L::Log>>
     requires empty { IfSome opened (λ log. IfSome (L.Log.seen log) (λ file. file ≡ [])) }
-    requires settled { IfSome opened (λ log. IsSettled (L.Log.seen log) (L.Log.may_leave log)) }
+    requires durable { IfSome opened (λ log. IsDurable (L.Log.seen log) (L.Log.crash_states log)) }
     requires unfailed { IfSome opened (λ log. L.Log.fault log ≡ None) }
     requires told { IfSome opened (λ log. IfSome (L.folder logs.old).logs (λ _. L.Log.seen log ≡ Some [])) }
-    ensures settled { IfOk result (λ log. IsSettled (L.Log.seen log) (L.Log.may_leave log)) }
+    ensures durable { IfOk result (λ log. IsDurable (L.Log.seen log) (L.Log.crash_states log)) }
     ensures unfailed { IfOk result (λ log. L.Log.fault log ≡ None) }
     ensures told { IfOk result (λ log. IfSome (L.folder logs.old).logs (λ _. L.Log.seen log ≡ Some (plan_line digits.now))) }
     ensures named { OnOk result (IfSome (L.folder logs.new).logs (λ logs. is_named logs path.now ≡ true)) }
@@ -186,7 +186,7 @@ pub fn new_log<L: Logs>(
     // Why not is what the folder or the log tells, which has no byte but those of the line.
     ensures unnamed { IfErr result (λ back. MatchOption back.log
         (IsUnmade (is_some opened) path.now (L.folder logs.old) (L.folder logs.new) back.fault)
-        (λ log. IsUnnamed path.now digits.now (with_log (is_some opened) path.now (L.folder logs.old)) (L.folder logs.new) (L.Log.seen log) (L.Log.may_leave log) (L.Log.fault log) back.fault)) }
+        (λ log. IsUnnamed path.now digits.now (with_log (is_some opened) path.now (L.folder logs.old)) (L.folder logs.new) (L.Log.seen log) (L.Log.crash_states log) (L.Log.fault log) back.fault)) }
 
     // Where it wasn't the log that failed, no byte of it was changed.
     ensures unwritten { IfSome opened (λ had. L.Log.written had ≡ false)
@@ -204,10 +204,10 @@ fn had_or_made<L: Logs>(
     path: &str,
     opened: Option<L::Log>,
 ) -> Result<L::Log, FileFault>
-    requires settled { IfSome opened (λ log. IsSettled (L.Log.seen log) (L.Log.may_leave log)) }
+    requires durable { IfSome opened (λ log. IsDurable (L.Log.seen log) (L.Log.crash_states log)) }
     requires unfailed { IfSome opened (λ log. L.Log.fault log ≡ None) }
     requires told { IfSome opened (λ log. IfSome (L.folder logs.old).logs (λ _. L.Log.seen log ≡ Some [])) }
-    ensures settled { IfOk result (λ log. IsSettled (L.Log.seen log) (L.Log.may_leave log)) }
+    ensures durable { IfOk result (λ log. IsDurable (L.Log.seen log) (L.Log.crash_states log)) }
     ensures unfailed { IfOk result (λ log. L.Log.fault log ≡ None) }
     ensures told { IfOk result (λ log. IfSome (L.folder logs.old).logs (λ _. L.Log.seen log ≡ Some [])) }
     ensures made { OnOk result (L.folder logs.new ≡ with_log (is_some opened) path.now (L.folder logs.old)) }
@@ -227,16 +227,16 @@ fn named_log<L: Logs>(
     log: L::Log,
     digits: &RunDigits,
 ) -> Result<L::Log, Unopened<L::Log>>
-    requires settled { IsSettled (L.Log.seen log) (L.Log.may_leave log) }
+    requires durable { IsDurable (L.Log.seen log) (L.Log.crash_states log) }
     requires unfailed { L.Log.fault log ≡ None }
     requires told { IfSome (L.folder logs.old).logs (λ _. L.Log.seen log ≡ Some []) }
-    ensures settled { IfOk result (λ named. IsSettled (L.Log.seen named) (L.Log.may_leave named)) }
+    ensures durable { IfOk result (λ named. IsDurable (L.Log.seen named) (L.Log.crash_states named)) }
     ensures unfailed { IfOk result (λ named. L.Log.fault named ≡ None) }
     ensures told { IfOk result (λ named. IfSome (L.folder logs.old).logs (λ _. L.Log.seen named ≡ Some (plan_line digits.now))) }
     ensures named { OnOk result (IfSome (L.folder logs.new).logs (λ there. is_named there path.now ≡ true)) }
     ensures made { OnOk result (L.folder logs.new ≡ with_name path.now (L.folder logs.old)) }
     ensures unnamed { IfErr result (λ back. MatchOption back.log ⊥
-        (λ unnamed. IsUnnamed path.now digits.now (L.folder logs.old) (L.folder logs.new) (L.Log.seen unnamed) (L.Log.may_leave unnamed) (L.Log.fault unnamed) back.fault)) }
+        (λ unnamed. IsUnnamed path.now digits.now (L.folder logs.old) (L.folder logs.new) (L.Log.seen unnamed) (L.Log.crash_states unnamed) (L.Log.fault unnamed) back.fault)) }
     ensures unwritten { IfErr result (λ back. IfSome back.log (λ unnamed. L.Log.fault unnamed ≡ None → L.Log.written unnamed ≡ L.Log.written log)) }
 {
     let mut log = log;
@@ -257,17 +257,17 @@ fn named_log<L: Logs>(
 
 /// Cuts off what comes after the whole lines of a log that was read.
 pub fn cut_end<D: LogFile>(log: &mut D, text: &LogText) -> Result<(), FileFault>
-    requires settled { IsSettled (D.seen log.old) (D.may_leave log.old) }
+    requires durable { IsDurable (D.seen log.old) (D.crash_states log.old) }
     requires unfailed { D.fault log.old ≡ None }
     requires read { IfSome (D.seen log.old) (λ file. text.now ≡ file) }
     ensures cut { OnOk result (IfSome (D.seen log.old) (λ file. D.seen log.new ≡ Some (whole_lines file))) }
-    ensures settled { OnOk result (IsSettled (D.seen log.new) (D.may_leave log.new)) }
+    ensures durable { OnOk result (IsDurable (D.seen log.new) (D.crash_states log.new)) }
     ensures unfailed { OnOk result (D.fault log.new ≡ None) }
     ensures failed { IfErr result (HasFailed (D.fault log.new)) }
 
     // A crash at any moment leaves the same whole lines, and behind them of a torn end a torn end again.
-    ensures crash { IfSome (D.seen log.old) (λ file. (left : List ℕ) → D.may_leave log.new left → whole_lines left ≡ whole_lines file) }
-    ensures torn_again { IfSome (D.seen log.old) (λ file. is_torn (torn_end file) ≡ true → (left : List ℕ) → D.may_leave log.new left → is_torn (torn_end left) ≡ true) }
+    ensures crash { IfSome (D.seen log.old) (λ file. (left : List ℕ) → D.crash_states log.new left → whole_lines left ≡ whole_lines file) }
+    ensures torn_again { IfSome (D.seen log.old) (λ file. is_torn (torn_end file) ≡ true → (left : List ℕ) → D.crash_states log.new left → is_torn (torn_end left) ≡ true) }
 {
     // A file that may be appended to but not cut serves as long as nothing is to be cut off.
     if text.end().is_empty() {
@@ -284,17 +284,17 @@ pub fn name_plan<D: LogFile>(
     text: &LogText,
     digits: &RunDigits,
 ) -> Result<(), FileFault>
-    requires settled { IsSettled (D.seen log.old) (D.may_leave log.old) }
+    requires durable { IsDurable (D.seen log.old) (D.crash_states log.old) }
     requires unfailed { D.fault log.old ≡ None }
     requires digits { AreDigits digits.now }
     ensures named { OnOk result (IfSome (D.seen log.old) (λ file. file ≡ whole_lines text.now → (base : List ℕ) × IsNamedFor digits.now file base × (D.seen log.new ≡ Some base))) }
-    ensures settled { OnOk result (IsSettled (D.seen log.new) (D.may_leave log.new)) }
+    ensures durable { OnOk result (IsDurable (D.seen log.new) (D.crash_states log.new)) }
     ensures unfailed { OnOk result (D.fault log.new ≡ None) }
     ensures failed { IfErr result (HasFailed (D.fault log.new)) }
 
     // A crash at any moment leaves these lines, with that of the plan or without, and behind them at most the beginning of it.
-    ensures crash { IfSome (D.seen log.old) (λ file. file ≡ whole_lines text.now → (left : List ℕ) → D.may_leave log.new left → IsNamedOrNot digits.now file (whole_lines left)) }
-    ensures torn { IfSome (D.seen log.old) (λ file. file ≡ whole_lines text.now → (left : List ℕ) → D.may_leave log.new left → is_torn (torn_end left) ≡ true) }
+    ensures crash { IfSome (D.seen log.old) (λ file. file ≡ whole_lines text.now → (left : List ℕ) → D.crash_states log.new left → IsNamedOrNot digits.now file (whole_lines left)) }
+    ensures torn { IfSome (D.seen log.old) (λ file. file ≡ whole_lines text.now → (left : List ℕ) → D.crash_states log.new left → is_torn (torn_end left) ≡ true) }
 {
     if text.run().names(digits) {
         // Its last line of a plan is this one.

@@ -3,11 +3,11 @@ use crate::selection::{DECIDING, Selection};
 use std::alloc::{AllocError, Global};
 use std::marker::Model;
 
-/// All memory of an outlet with a log: the room for what it gathers, and for what the log gets of that. So it can be had before
+/// All memory of an output with a log: the room for what it gathers, and for what the log gets of that. So it can be had before
 /// the log is touched. One is as good as any other.
 #[derive(Drop)]
 pub struct WritingRoom {
-    pub(crate) gathered: Vec<u8>,
+    pub(crate) buffered: Vec<u8>,
     pub(crate) events: Vec<u8>,
     pub(crate) selection: Selection,
 }
@@ -22,18 +22,18 @@ impl Model for WritingRoom {
 
     ghost view = { λ r. tt };
 
-    ghost invariant = { λ r. (r.gathered.items ≡ []) × (MAX_PENDING ≤ vec_capacity r.gathered)
+    ghost invariant = { λ r. (r.buffered.items ≡ []) × (MAX_PENDING ≤ vec_capacity r.buffered)
         × (MAX_PENDING + DECIDING ≤ vec_capacity r.events) × (r.selection ≡ at_first) };
 }
 
 impl WritingRoom {
     /// Such a room.
     pub fn new(alloc: Global) -> Result<WritingRoom, AllocError> {
-        let gathered = Vec::with_capacity(alloc, MAX_PENDING)?;
+        let buffered = Vec::with_capacity(alloc, MAX_PENDING)?;
         let events = Vec::with_capacity(alloc, MAX_PENDING + DECIDING)?;
         let selection = Selection::new(alloc)?;
         Ok(WritingRoom {
-            gathered,
+            buffered,
             events,
             selection,
         })

@@ -3,11 +3,11 @@ use Rattle.std.specs.Prelude.{◌≡◌, ℕ, ◌*◌, ◌<◌, List, ◌++◌}
 use Rattle.shop_base.specs.Plan.{PlannedShop}
 use Rattle.shop_base.specs.Ends.{stated_number}
 use Rattle.cell_tables.specs.declared.entry.Entry.{Entry}
-use Rattle.event_lines.specs.LogLines.{LineTells}
+use Rattle.event_lines.specs.LogLines.{LineParses}
 
 -- the entries that a line tells were put behind those before
-abbrev pub IsLineTaken : PlannedShop → List ℕ → List Entry → List Entry → Type 0
-IsLineTaken p line before after = (own : List Entry) × LineTells p line own × (after ≡ before ++ own)
+abbrev pub IsLineReplayed : PlannedShop → List ℕ → List Entry → List Entry → Type 0
+IsLineReplayed p line before after = (own : List Entry) × LineParses p line own × (after ≡ before ++ own)
 
 -- while a run can have more entries than were told, there is room for one more
 abbrev pub HasRoomForNext : PlannedShop → ℕ → ℕ → Type 0

@@ -17,7 +17,7 @@ use Rattle.run_log.specs.declared.audit_fault.AuditFault.TheVariants.{BadLine, N
 use Rattle.run_log.specs.declared.audit_result.Audit.{Audit}
 use Rattle.cell_tables.specs.Events.{events_of}
 use Rattle.event_lines.specs.AnswerLines.{is_passed_over}
-use Rattle.event_lines.specs.LogLines.{TellsNoEntry, LineTells, LinesTell}
+use Rattle.event_lines.specs.LogLines.{ParsesNoEntry, LineParses, LinesParse}
 
 -- the activity is going on
 abbrev pub IsGoingOn : PlannedShop → Cell → Activity → Type 0
@@ -79,13 +79,13 @@ IsFaultOf p c entry fault = ⊥
 -- the line isn't passed over, and tells no event of the shop
 pub record IsBadLine (p : PlannedShop) (line : List ℕ) : Type 0 where
   pub told : is_passed_over line ≡ false
-  pub untold : TellsNoEntry p line
+  pub untold : ParsesNoEntry p line
 
 -- the first fault of a line in a cell
 abbrev pub IsLineFault : PlannedShop → Cell → List ℕ → AuditFault → Type 0
 IsLineFault p c line (BadLine number) = IsBadLine p line
 IsLineFault p c line Memory = ⊥
-IsLineFault p c line fault = (entry : Entry) × LineTells p line (entry ∷ []) × IsFaultOf p c entry fault
+IsLineFault p c line fault = (entry : Entry) × LineParses p line (entry ∷ []) × IsFaultOf p c entry fault
 
 -- the line of a fault
 abbrev pub fault_line : AuditFault → ℕ
@@ -107,18 +107,18 @@ pub record IsFirstBad (p : PlannedShop) (lines : List (List ℕ)) (fault : Audit
   pub split : lines ≡ before ++ line ∷ after
   pub number : fault_line fault ≡ length before + 1
   pub told : List Entry
-  pub tells : LinesTell p before told
+  pub tells : LinesParse p before told
   pub run : IsRun p (events_of told)
   pub is_fault : IsLineFault p (ends_in p (events_of told)) line fault
 
 -- these entries are a run, and this is the cell at its end
-pub record IsTold (p : PlannedShop) (c : Cell) (told : List Entry) : Type 0 where
+pub record IsReplayed (p : PlannedShop) (c : Cell) (told : List Entry) : Type 0 where
   pub run : IsRun p (events_of told)
   pub cell : c ≡ ends_in p (events_of told)
 
 -- what an audit found of lines that tell a run
 pub record IsAudit (p : PlannedShop) (lines : List (List ℕ)) (audit : Audit) : Type 0 where
-  pub tells : LinesTell p lines audit.entries.items
+  pub tells : LinesParse p lines audit.entries.items
   pub run : IsRun p (events_of audit.entries.items)
   pub reports : audit.reports ≡ reports_in (events_of audit.entries.items)
   pub orders : audit.orders ≡ moves_in (events_of audit.entries.items)
@@ -131,8 +131,8 @@ IsAuditFault p lines Memory = Unit {0}
 IsAuditFault p lines fault = IsFirstBad p lines fault
 
 -- the lines tell a run
-abbrev pub TellRun : PlannedShop → List (List ℕ) → Type 0
-TellRun p lines = (told : List Entry) × LinesTell p lines told × IsRun p (events_of told)
+abbrev pub ParseAsRun : PlannedShop → List (List ℕ) → Type 0
+ParseAsRun p lines = (told : List Entry) × LinesParse p lines told × IsRun p (events_of told)
 
 -- for how many entries an audit of these lines has room: one for each line, but no more than a run can have, which are two for each report of the stated number
 abbrev pub room_for : PlannedShop → List (List ℕ) → ℕ

@@ -4,7 +4,7 @@ ghost use Rattle.std.specs.Prelude.{◌≡◌, ◌≤◌, [], ◌∷◌, length,
 ghost use Rattle.shop_base.specs.Ends.{reports_in};
 ghost use Rattle.text_lines.specs.Lines.{lines_of};
 ghost use Rattle.cell_tables.specs.Events.{event_of, events_of};
-ghost use Rattle.run_log.specs.Audits.{IsAudit, IsAuditFault, TellRun, room_for};
+ghost use Rattle.run_log.specs.Audits.{IsAudit, IsAuditFault, ParseAsRun, room_for};
 
 use crate::audit_fault::AuditFault;
 use crate::audit_result::Audit;
@@ -23,7 +23,7 @@ pub fn audit(alloc: Global, shaped: &Shaped, text: &[u8]) -> Result<Audit, Audit
     ensures kept { IfOk result (IsAudit shaped.now (lines_of text.now)) }
     ensures room { IfOk result (λ audit. vec_capacity audit.entries ≡ room_for shaped.now (lines_of text.now)) }
     ensures fault { IfErr result (IsAuditFault shaped.now (lines_of text.now)) }
-    ensures only { TellRun shaped.now (lines_of text.now) → IfErr result (λ fault. fault ≡ AuditFault.Memory) }
+    ensures only { ParseAsRun shaped.now (lines_of text.now) → IfErr result (λ fault. fault ≡ AuditFault.Memory) }
 {
     let room = line_count(text).min(most_entries(shaped));
     match read_log(alloc, shaped, text, room) {

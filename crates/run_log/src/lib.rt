@@ -20,5 +20,5 @@ pub use byte_streams::{IntoSink, Sink, WriteFault, put_all};
 pub use cell_tables::Entry;
 pub use log_fault::LogFault;
 pub use log_text::write_lines;
-pub use logged_run::{LoggedRun, run_if_told, run_of_log};
+pub use logged_run::{LoggedRun, run_if_replayed, run_of_log};
 pub use run_log::RunLog;

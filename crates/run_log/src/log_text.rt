@@ -11,7 +11,7 @@ use event_lines::{LineText, put_entry_line};
 /// Writes the lines of the entries. A fault leaves the first bytes of them written.
 pub fn write_lines<W: Sink>(entries: &[Entry], writer: &mut W) -> Result<(), WriteFault>
     ensures wrote { Wrote result (W.failed writer.new)
-        (W.taken writer.old) (W.taken writer.new) (entry_lines entries.now) }
+        (W.written writer.old) (W.written writer.new) (entry_lines entries.now) }
     ensures unfailed { OnOk result (W.failed writer.new ≡ W.failed writer.old) }
 {
     for entry in entries {

@@ -3,15 +3,15 @@
 ghost use Rattle.std.specs.Prelude.{◌≡◌, ◌*◌, ◌≤◌, [], length, vec_capacity, IfOk, OnOk, IfErr, IfSome, IfNone};
 ghost use Rattle.shop_base.specs.Ends.{stated_number};
 ghost use Rattle.text_lines.specs.Lines.{lines_of, ended_lines};
-ghost use Rattle.event_lines.specs.LogLines.{LinesTell};
-ghost use Rattle.run_log.specs.Audits.{IsTold, IsLineFault, IsFirstBad, IsAuditFault, TellRun, fault_line, room_for};
-ghost use Rattle.run_log.specs.Auditing.{IsLineTaken, HasRoomForNext};
+ghost use Rattle.event_lines.specs.LogLines.{LinesParse};
+ghost use Rattle.run_log.specs.Audits.{IsReplayed, IsLineFault, IsFirstBad, IsAuditFault, ParseAsRun, fault_line, room_for};
+ghost use Rattle.run_log.specs.Auditing.{IsLineReplayed, HasRoomForNext};
 
 use crate::audit_fault::AuditFault;
 use crate::entry_check::{check_entry, follow_entry};
 use crate::entry_room::most_entries;
 use cell_tables::{Entry, WorkCell};
-use event_lines::{is_passed_over, told_entry};
+use event_lines::{entry_in, is_passed_over};
 use shop_base::Planned;
 use std::alloc::{AllocError, Global};
 use text_lines::{ended_part, next_line};
@@ -36,10 +36,10 @@ pub fn run_of_log<P: Planned>(
 ) -> Result<LoggedRun<P>, AuditFault>
     ensures basis { IfOk result (λ run. run.cell.basis ≡ basis) }
     ensures plan { IfOk result (λ run. run.cell.plan ≡ P.planned basis) }
-    ensures tells { IfOk result (λ run. LinesTell (P.planned basis) (ended_lines text.now) run.entries.items) }
-    ensures told { IfOk result (λ run. IsTold (P.planned basis) run.cell.cell run.entries.items) }
+    ensures tells { IfOk result (λ run. LinesParse (P.planned basis) (ended_lines text.now) run.entries.items) }
+    ensures replayed { IfOk result (λ run. IsReplayed (P.planned basis) run.cell.cell run.entries.items) }
     ensures fault { IfErr result (IsAuditFault (P.planned basis) (ended_lines text.now)) }
-    ensures only { TellRun (P.planned basis) (ended_lines text.now) → IfErr result (λ fault. fault ≡ AuditFault.Memory) }
+    ensures only { ParseAsRun (P.planned basis) (ended_lines text.now) → IfErr result (λ fault. fault ≡ AuditFault.Memory) }
     ensures room { IfOk result (λ run. vec_capacity run.entries ≡ 2 * stated_number (P.planned basis)) }
 {
     let room = most_entries(basis.shaped());
@@ -47,16 +47,16 @@ pub fn run_of_log<P: Planned>(
 }
 
 /// The same, if the whole lines of the log record a run of the plan; `None` if they don't.
-pub fn run_if_told<P: Planned>(
+pub fn run_if_replayed<P: Planned>(
     alloc: Global,
     basis: P,
     text: &[u8],
 ) -> Result<Option<LoggedRun<P>>, AllocError>
     ensures plan { IfOk result (λ found. IfSome found (λ run. run.cell.plan ≡ P.planned basis)) }
     ensures tells { IfOk result (λ found. IfSome found (λ run.
-        LinesTell (P.planned basis) (ended_lines text.now) run.entries.items)) }
-    ensures told { IfOk result (λ found. IfSome found (λ run. IsTold (P.planned basis) run.cell.cell run.entries.items)) }
-    ensures none { IfOk result (λ found. IfNone found (TellRun (P.planned basis) (ended_lines text.now) → ⊥)) }
+        LinesParse (P.planned basis) (ended_lines text.now) run.entries.items)) }
+    ensures replayed { IfOk result (λ found. IfSome found (λ run. IsReplayed (P.planned basis) run.cell.cell run.entries.items)) }
+    ensures none { IfOk result (λ found. IfNone found (ParseAsRun (P.planned basis) (ended_lines text.now) → ⊥)) }
 {
     let room = most_entries(basis.shaped());
     let mut run = LoggedRun::with_room(alloc, basis, room)?;
@@ -76,8 +76,8 @@ pub(crate) fn read_log<P: Planned>(
     requires { room_for (P.planned basis) (lines_of text.now) ≤ room }
     ensures basis { IfOk result (λ run. run.cell.basis ≡ basis) }
     ensures plan { IfOk result (λ run. run.cell.plan ≡ P.planned basis) }
-    ensures told { IfOk result (λ run. IsTold (P.planned basis) run.cell.cell run.entries.items) }
-    ensures tells { IfOk result (λ run. LinesTell (P.planned basis) (lines_of text.now) run.entries.items) }
+    ensures replayed { IfOk result (λ run. IsReplayed (P.planned basis) run.cell.cell run.entries.items) }
+    ensures tells { IfOk result (λ run. LinesParse (P.planned basis) (lines_of text.now) run.entries.items) }
     ensures room { IfOk result (λ run. vec_capacity run.entries ≡ room) }
     ensures fault { IfErr result (IsAuditFault (P.planned basis) (lines_of text.now)) }
 {
@@ -91,7 +91,7 @@ impl<P: Planned> LoggedRun<P> {
     fn with_room(alloc: Global, basis: P, room: usize) -> Result<LoggedRun<P>, AllocError>
         ensures basis { IfOk result (λ run. run.cell.basis ≡ basis) }
         ensures plan { IfOk result (λ run. run.cell.plan ≡ P.planned basis) }
-        ensures told { IfOk result (λ run. IsTold run.cell.plan run.cell.cell []) }
+        ensures replayed { IfOk result (λ run. IsReplayed run.cell.plan run.cell.cell []) }
         ensures empty { IfOk result (λ run. run.entries.items ≡ []) }
         ensures room { IfOk result (λ run. vec_capacity run.entries ≡ room) }
     {
@@ -106,13 +106,13 @@ impl<P: Planned> LoggedRun<P> {
 
     /// Takes the lines of the text one after another.
     fn take_lines(&mut self, text: &[u8]) -> Result<(), AuditFault>
-        requires told { IsTold self.old.cell.plan self.old.cell.cell [] }
+        requires replayed { IsReplayed self.old.cell.plan self.old.cell.cell [] }
         requires empty { self.old.entries.items ≡ [] }
         requires room { room_for self.old.cell.plan (lines_of text.now) ≤ vec_capacity self.old.entries }
         ensures same_basis { OnOk result (self.new.cell.basis ≡ self.old.cell.basis) }
         ensures same_plan { OnOk result (self.new.cell.plan ≡ self.old.cell.plan) }
-        ensures told { OnOk result (IsTold self.old.cell.plan self.new.cell.cell self.new.entries.items) }
-        ensures tells { OnOk result (LinesTell self.old.cell.plan (lines_of text.now) self.new.entries.items) }
+        ensures replayed { OnOk result (IsReplayed self.old.cell.plan self.new.cell.cell self.new.entries.items) }
+        ensures tells { OnOk result (LinesParse self.old.cell.plan (lines_of text.now) self.new.entries.items) }
         ensures capacity { OnOk result (vec_capacity self.new.entries ≡ vec_capacity self.old.entries) }
         ensures fault { IfErr result (IsFirstBad self.old.cell.plan (lines_of text.now)) }
     {
@@ -128,18 +128,18 @@ impl<P: Planned> LoggedRun<P> {
 
     /// Takes the entry in the line of this number, if it isn't passed over.
     fn take_line(&mut self, line: &[u8], number: usize) -> Result<(), AuditFault>
-        requires told { IsTold self.old.cell.plan self.old.cell.cell self.old.entries.items }
+        requires replayed { IsReplayed self.old.cell.plan self.old.cell.cell self.old.entries.items }
         requires room { HasRoomForNext self.old.cell.plan (length self.old.entries.items) (vec_capacity self.old.entries) }
         ensures same_basis { OnOk result (self.new.cell.basis ≡ self.old.cell.basis) }
         ensures same_plan { OnOk result (self.new.cell.plan ≡ self.old.cell.plan) }
-        ensures told { OnOk result (IsTold self.old.cell.plan self.new.cell.cell self.new.entries.items) }
+        ensures replayed { OnOk result (IsReplayed self.old.cell.plan self.new.cell.cell self.new.entries.items) }
         ensures tells { OnOk result
-            (IsLineTaken self.old.cell.plan line.now self.old.entries.items self.new.entries.items) }
+            (IsLineReplayed self.old.cell.plan line.now self.old.entries.items self.new.entries.items) }
         ensures capacity { OnOk result (vec_capacity self.new.entries ≡ vec_capacity self.old.entries) }
         ensures number { IfErr result (λ fault. fault_line fault ≡ number) }
         ensures fault { IfErr result (IsLineFault self.old.cell.plan self.old.cell.cell line.now) }
     {
-        let Some(entry) = told_entry(self.cell.shaped(), line) else {
+        let Some(entry) = entry_in(self.cell.shaped(), line) else {
             if is_passed_over(line) {
                 return Ok(());
             }

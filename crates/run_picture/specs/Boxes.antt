@@ -14,9 +14,9 @@ end_of last None = last
 end_of last (Some t) = t
 
 -- its end is told
-abbrev pub is_told : Option ℕ → Bool
-is_told None = false
-is_told (Some t) = true
+abbrev pub is_known : Option ℕ → Bool
+is_known None = false
+is_known (Some t) = true
 
 -- the box of a visit's operation: from the entry of the job to the operation's end; it is late where the job is
 abbrev pub work_box : ℕ → Bool → DrawnVisit → DrawnBox
@@ -26,7 +26,7 @@ work_box last late visit = record {
   machine = visit.machine;
   from = visit.enter;
   to = end_of last visit.finish;
-  over = is_told visit.finish;
+  over = is_known visit.finish;
   late = late;
 }
 
@@ -35,7 +35,7 @@ abbrev pub wait_from : ℕ → Bool → DrawnVisit → Option ℕ → Option Dra
 wait_from last late visit None = None
 wait_from last late visit (Some from) =
     if nat_lt from (end_of last visit.leave)
-    then Some (record { kind = Wait; job = visit.job; machine = visit.machine; from = from; to = end_of last visit.leave; over = is_told visit.leave; late = late })
+    then Some (record { kind = Wait; job = visit.job; machine = visit.machine; from = from; to = end_of last visit.leave; over = is_known visit.leave; late = late })
     else None
 
 abbrev pub wait_box : ℕ → Bool → DrawnVisit → Option DrawnBox

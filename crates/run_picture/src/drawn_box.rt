@@ -1,7 +1,7 @@
 //! The boxes of a visit.
 
 ghost use Rattle.std.specs.Prelude.{◌≡◌};
-ghost use Rattle.run_picture.specs.Boxes.{end_of, is_told, work_box, wait_box, clean_box};
+ghost use Rattle.run_picture.specs.Boxes.{end_of, is_known, work_box, wait_box, clean_box};
 
 use crate::visit::{Cleaned, DrawnVisit};
 use shop_base::{JobNo, MachineNo, Moment};
@@ -40,7 +40,7 @@ pub(crate) fn work_box(last: Moment, late: bool, visit: DrawnVisit) -> DrawnBox
         machine: visit.machine,
         from: visit.enter,
         to: end_of(last, visit.finish),
-        over: is_told(visit.finish),
+        over: is_known(visit.finish),
         late,
     }
 }
@@ -60,7 +60,7 @@ pub(crate) fn wait_box(last: Moment, late: bool, visit: DrawnVisit) -> Option<Dr
         machine: visit.machine,
         from,
         to,
-        over: is_told(visit.leave),
+        over: is_known(visit.leave),
         late,
     })
 }
@@ -96,8 +96,8 @@ fn end_of(last: Moment, end: Option<Moment>) -> Moment
     }
 }
 
-fn is_told(end: Option<Moment>) -> bool
-    ensures { result ≡ is_told end }
+fn is_known(end: Option<Moment>) -> bool
+    ensures { result ≡ is_known end }
 {
     end.is_some()
 }

@@ -62,7 +62,7 @@ pub leads_induction : (p : PlannedShop) (P : Cell → List Report → List Event
 leads_induction p P shaped alone more same _ _ _ _ sound rest (done c) = alone c sound rest
 leads_induction p P shaped alone more same _ _ _ _ sound rest (accepted c r js rs es end step leads) =
     more c r js rs es end sound rest step
-    (leads_induction p P shaped alone more same (after_step p c r js) rs es end (after_step-sound p c r js shaped sound step) step.rest leads)
+    (leads_induction p P shaped alone more same (after_step p c r js) rs es end (after_step-sound p c r js shaped sound step) step.quiescent leads)
 leads_induction p P shaped alone more same _ _ _ _ sound rest (refused c r rs es end cannot leads) =
     same c r rs es end sound rest cannot (leads_induction p P shaped alone more same c rs es end sound rest leads)
 

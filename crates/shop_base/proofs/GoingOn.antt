@@ -23,7 +23,7 @@ use Rattle.shop_base.proofs.LowerBounds.{made_more}
 pub goes_on_to_run : (p : PlannedShop) (c : Cell) (t : ℕ) (rs : List Report) (fs : List Event) (end : Cell) → IsWellShaped p → IsSound p c → GoesOnTo p c t rs fs end
     → AreEvents p c fs × (end ≡ after_all p c fs) × IsSound p end × IsAtRest p end
 goes_on_to_run p c t _ _ _ shaped sound (settled js rs es end settles leads) =
-    let (events, ends, sound_end, rest) = leads_to_run p (after_moves p c t js) rs es end leads shaped (after_moves-sound p c t js shaped sound settles.moves) settles.rest in (
+    let (events, ends, sound_end, rest) = leads_to_run p (after_moves p c t js) rs es end leads shaped (after_moves-sound p c t js shaped sound settles.moves) settles.quiescent in (
       events_join p c (moved (orders_for p c t js)) es (moves-events p c t js settles.moves) (rw (after_all-moves p c t js) events),
       ends ∙ rw (after_all_join p c (moved (orders_for p c t js)) es, after_all-moves p c t js) refl,
       sound_end,

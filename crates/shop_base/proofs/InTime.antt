@@ -282,7 +282,7 @@ settled-fits p rank kept c t js sound later schedule moves =
 goes_on-still_fits : (p : PlannedShop) (rank kept : Node → ℕ) (c : Cell) (t : ℕ) (rs : List Report) (fs : List Event) (end : Cell)
     → IsSound p c → c.last ≤ t → IsScheduleAhead p c t rank kept → GoesOnTo p c t rs fs end → AreWithin p kept c fs → KeepsMoments p kept end
 goes_on-still_fits p rank kept c t _ _ _ sound later schedule (settled js rs es end settles leads) within =
-    leads-still_fits p rank kept (after_moves p c t js) rs es end schedule.shaped schedule.ranks (after_moves-sound p c t js schedule.shaped sound settles.moves) settles.rest leads
+    leads-still_fits p rank kept (after_moves p c t js) rs es end schedule.shaped schedule.ranks (after_moves-sound p c t js schedule.shaped sound settles.moves) settles.quiescent leads
     (settled-fits p rank kept c t js sound later schedule settles.moves) (reports_later p (IsWithin p kept) c t js es within)
 
 pub moments_still_fit-holds : MomentsStillFit

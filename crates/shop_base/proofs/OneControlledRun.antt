@@ -77,7 +77,7 @@ pub leads_once : (p : PlannedShop) (c : Cell) (rs : List Report) → IsWellShape
 leads_once p c [] shaped sound rest = ([], c, record { leads = done c; only = leads-none p c })
 leads_once p c (r ∷ rs) shaped sound rest =
     go (reports_or_not p c r) (leads_once p c rs shaped sound rest)
-    λ js step. leads_once p (after_step p c r js) rs shaped (after_step-sound p c r js shaped sound step) step.rest
+    λ js step. leads_once p (after_step p c r js) rs shaped (after_step-sound p c r js shaped sound step) step.quiescent
   where
     go : CanReport p c r ⊎ (CanReport p c r → ⊥) → (es : List Event) × (end : Cell) × LeadsOnlyTo p c rs es end
         → ((js : List ℕ) → IsStep p c r js → (es : List Event) × (end : Cell) × LeadsOnlyTo p (after_step p c r js) rs es end)

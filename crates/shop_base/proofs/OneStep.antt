@@ -320,8 +320,8 @@ pub one_step : (p : PlannedShop) (c : Cell) (r : Report) → IsWellShaped p → 
     → (js : List ℕ) × IsStep p c r js × ((others : List ℕ) → IsStep p c r others → others ≡ js)
 one_step p c r shaped sound rest can = (
   found.0,
-  record { can = can; moves = found.1; rest = found.2 },
-  λ others step. moves_unique p (after_report c r) j (at r) found.0 others shaped sound_after only found.1 found.2 step.moves step.rest,
+  record { can = can; moves = found.1; quiescent = found.2 },
+  λ others step. moves_unique p (after_report c r) j (at r) found.0 others shaped sound_after only found.1 found.2 step.moves step.quiescent,
 )
   where
     j : ℕ

@@ -186,7 +186,7 @@ abbrev pub step_test : PlannedShop → Cell → Report → List ℕ → Bool
 step_test p c r js = report_test p c r && (moves_test p (after_report c r) (at r) js && rest_test p (after_step p c r js))
 
 pub step_decides : (p : PlannedShop) (c : Cell) (r : Report) (js : List ℕ) → Decides (step_test p c r js) (IsStep p c r js)
-step_decides p c r js = Decides-like (step_test p c r js) (λ all. record { can = all.0; moves = all.1.0; rest = all.1.1 }) (λ step. (step.can, (step.moves, step.rest)))
+step_decides p c r js = Decides-like (step_test p c r js) (λ all. record { can = all.0; moves = all.1.0; quiescent = all.1.1 }) (λ step. (step.can, (step.moves, step.quiescent)))
     (Decides-and (report_test p c r) _ (report_decides p c r) (Decides-and _ _ (moves_decides p (after_report c r) (at r) js) (rest_decides p (after_step p c r js))))
 
 -- the events to which reports lead, where for each report the jobs are given that then move, none where the report isn't possible

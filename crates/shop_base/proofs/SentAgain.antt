@@ -17,7 +17,7 @@ use Rattle.shop_base.proofs.Keeping.{run-sound, after_report-sound, after_move-s
 use Rattle.shop_base.proofs.ControlledRuns.{after_all_join}
 use Rattle.shop_base.proofs.Visits.{visits_once, visits_job}
 use Rattle.shop_base.proofs.InShop.{outside_in_shop}
-use Rattle.shop_base.specs.AgainLaw.{HasLeft, HasWorked, IsNoneLater, NoEndIsAcceptedTwice}
+use Rattle.shop_base.specs.AtMostOnceLaw.{HasLeft, HasWorked, IsNoneLater, NoEndIsAcceptedTwice}
 
 module _ (p : PlannedShop) (shaped : IsWellShaped p) where
   -- ---- what a report that makes a job ready comes to

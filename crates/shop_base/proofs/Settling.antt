@@ -56,10 +56,10 @@ settles_by (suc n) p c t shaped sound moment enough =
   where
     go : ((j : ℕ) × CanMove p c j t × KeepsPlan p c j) ⊎ IsAtRest p c → ((j : ℕ) → CanMove p c j t → KeepsPlan p c j → (js : List ℕ) × Settles p (after_move p c j t) t js)
         → (js : List ℕ) × Settles p c t js
-    go (inr rest) later = ([], record { moves = tt; rest = rest })
+    go (inr rest) later = ([], record { moves = tt; quiescent = rest })
     go (inl (j, can, keeps)) later =
         let (js, settles) = later j can keeps in
-        (j ∷ js, record { moves = (can, keeps, settles.moves); rest = settles.rest })
+        (j ∷ js, record { moves = (can, keeps, settles.moves); quiescent = settles.quiescent })
 
 pub cell_settles : (p : PlannedShop) (c : Cell) (t : ℕ) → IsWellShaped p → IsSound p c → IsNextMoment c t → (js : List ℕ) × Settles p c t js
 cell_settles p c t shaped sound moment = settles_by (moves_left p c + 1) p c t shaped sound moment (omega arith)
@@ -246,12 +246,12 @@ settle_once : (n : ℕ) (p : PlannedShop) (c : Cell) (t : ℕ) (js others : List
     → Settles p c t js → Settles p c t others → after_moves p c t others ≡ after_moves p c t js
 settle_once zero p c t js others shaped sound enough settles again = absurd (omega arith)
 settle_once (suc n) p c t [] [] shaped sound enough settles again = refl
-settle_once (suc n) p c t [] (k ∷ ks) shaped sound enough settles again = absurd (settles.rest k t again.moves.0 again.moves.1)
-settle_once (suc n) p c t (j ∷ js) [] shaped sound enough settles again = absurd (again.rest j t settles.moves.0 settles.moves.1)
+settle_once (suc n) p c t [] (k ∷ ks) shaped sound enough settles again = absurd (settles.quiescent k t again.moves.0 again.moves.1)
+settle_once (suc n) p c t (j ∷ js) [] shaped sound enough settles again = absurd (again.quiescent j t settles.moves.0 settles.moves.1)
 settle_once (suc n) p c t (j ∷ js) (k ∷ ks) shaped sound enough settles again =
     go (cases_eq k j)
-    (λ ms last. settle_once n p (after_move p c j t) t js ms shaped sound_j less_j (record { moves = settles.moves.2; rest = settles.rest }) last)
-    (λ ms last. settle_once n p (after_move p c k t) t ms ks shaped sound_k less_k last (record { moves = again.moves.2; rest = again.rest }))
+    (λ ms last. settle_once n p (after_move p c j t) t js ms shaped sound_j less_j (record { moves = settles.moves.2; quiescent = settles.quiescent }) last)
+    (λ ms last. settle_once n p (after_move p c k t) t ms ks shaped sound_k less_k last (record { moves = again.moves.2; quiescent = again.quiescent }))
   where
     sound_j : IsSound p (after_move p c j t)
     sound_j = after_move-sound p c j t shaped sound settles.moves.0 settles.moves.1
@@ -271,11 +271,11 @@ settle_once (suc n) p c t (j ∷ js) (k ∷ ks) shaped sound enough settles agai
         → after_moves p (after_move p c k t) t ks ≡ after_moves p (after_move p c j t) t js
     go (inl same) from_j from_k =
         ap (λ i. after_moves p (after_move p c i t) t ks) same
-        ∙ from_j ks (subst (λ i. Settles p (after_move p c i t) t ks) same (record { moves = again.moves.2; rest = again.rest }))
+        ∙ from_j ks (subst (λ i. Settles p (after_move p c i t) t ks) same (record { moves = again.moves.2; quiescent = again.quiescent }))
     go (inr differ) from_j from_k =
-        from_k (j ∷ ms) (record { moves = (can_j, keeps_j, subst (λ x. AreMoves p x t ms) commute found.1.moves); rest = subst (λ x. IsAtRest p (after_moves p x t ms)) commute found.1.rest })
+        from_k (j ∷ ms) (record { moves = (can_j, keeps_j, subst (λ x. AreMoves p x t ms) commute found.1.moves); quiescent = subst (λ x. IsAtRest p (after_moves p x t ms)) commute found.1.quiescent })
         ∙ ap (λ x. after_moves p x t ms) (sym commute)
-        ∙ from_j (k ∷ ms) (record { moves = (can_k, keeps_k, found.1.moves); rest = found.1.rest })
+        ∙ from_j (k ∷ ms) (record { moves = (can_k, keeps_k, found.1.moves); quiescent = found.1.quiescent })
       where
         can_k : CanMove p (after_move p c j t) k t
         can_k = can_then p c j k t shaped sound settles.moves.0 settles.moves.1 again.moves.0 again.moves.1 differ
@@ -309,7 +309,7 @@ pub every_list_goes_on-holds : EveryListGoesOn
 every_list_goes_on-holds p es t rs shaped run moment =
     let sound : IsSound p (ends_in p es) = run-sound p es shaped run in
     let (js, settles) = cell_settles p (ends_in p es) t shaped sound moment in
-    let (fs, end, once) = leads_once p (after_moves p (ends_in p es) t js) rs shaped (after_moves-sound p (ends_in p es) t js shaped sound settles.moves) settles.rest in
+    let (fs, end, once) = leads_once p (after_moves p (ends_in p es) t js) rs shaped (after_moves-sound p (ends_in p es) t js shaped sound settles.moves) settles.quiescent in
     (moved (orders_for p (ends_in p es) t js) ++ fs, end, settled js rs fs end settles once.leads)
 
 pub no_job_settles_twice-holds : NoJobSettlesTwice
@@ -332,5 +332,5 @@ pub a_cut_step_settles-holds : ACutStepSettlesAsItWas
 a_cut_step_settles-holds p c r front js can moves settles = record {
   can = can;
   moves = moves_join p (after_report c r) (at r) front js moves settles.moves;
-  rest = rw (after_moves_join p (after_report c r) (at r) front js) settles.rest;
+  quiescent = rw (after_moves_join p (after_report c r) (at r) front js) settles.quiescent;
 }

@@ -171,7 +171,7 @@ module _ (p : PlannedShop) (rank kept : Node → ℕ) (t : ℕ) (shaped : IsWell
   -- a cell at rest that keeps its moments, and whose last moment isn't past what goes on, or isn't past moment t
   record IsOnTime (c : Cell) : Type 0 where
     sound : IsSound p c
-    rest : IsAtRest p c
+    quiescent : IsAtRest p c
     keeps : KeepsMoments p kept c
     none_late : IsNoneLate p c t kept
     soon : (a : Activity) (due : ℕ) → GoesOn p c a due → c.last ≤ max due t
@@ -194,7 +194,7 @@ module _ (p : PlannedShop) (rank kept : Node → ℕ) (t : ℕ) (shaped : IsWell
       gone : (j : ℕ) → j < jobs p → kept (leaving p j) ≤ MAX_MOMENT → IsGone p c j
       gone j inside short = elim (cases_lt (steps p j) (made c j)) [
         | inl out ↦ out
-        | inr left ↦ (let found : HasActivityBy p c (next_node c j) = rest-active p rank c j shaped ranks on_time.sound on_time.rest inside left in
+        | inr left ↦ (let found : HasActivityBy p c (next_node c j) = rest-active p rank c j shaped ranks on_time.sound on_time.quiescent inside left in
             let late : MAX_MOMENT < max found.due t = past found.activity found.due found.going in
             let held : found.due ≤ kept found.held = on_time.keeps.activities found.activity found.due found.held found.going found.holds in
             let leads : kept found.held ≤ kept (next_node c j) = found.leads kept (fit_rise p c c.last kept on_time.keeps) in
@@ -234,11 +234,11 @@ module _ (p : PlannedShop) (rank kept : Node → ℕ) (t : ℕ) (shaped : IsWell
 
       answered : (js : List ℕ) × Settles p (after_report c r) (at r) js → LeadsExactly c
       answered (js, settles) =
-          let step : IsStep p c r js = record { can = can; moves = settles.moves; rest = settles.rest } in
+          let step : IsStep p c r js = record { can = can; moves = settles.moves; quiescent = settles.quiescent } in
           let found : LeadsExactly (after_step p c r js) = later r js step (record {
             sound = after_step-sound p c r js shaped on_time.sound step;
-            rest = settles.rest;
-            keeps = step-still_fits p rank kept c r js shaped ranks on_time.sound on_time.rest on_time.keeps step
+            quiescent = settles.quiescent;
+            keeps = step-still_fits p rank kept c r js shaped ranks on_time.sound on_time.quiescent on_time.keeps step
                 (from-within p kept c t c.last r on_time.sound on_time.keeps on_time.none_late punctual);
             none_late = none_late-after p c (after_step p c r js) t kept (λ i. step_more p c r js i shaped on_time.sound step) on_time.none_late;
             soon = λ a due going.
@@ -285,7 +285,7 @@ some_continuation_is_exact-holds p rank kept es t run moment schedule =
     go_on_from (js, settles) =
         let found : LeadsExactly p rank kept t schedule.shaped schedule.ranks moment.in_range (after_moves p c t js) = leads_exactly p rank kept t schedule.shaped schedule.ranks moment.in_range (reports_left p (after_moves p c t js) + 1) (after_moves p c t js) (record {
           sound = after_moves-sound p c t js schedule.shaped sound settles.moves;
-          rest = settles.rest;
+          quiescent = settles.quiescent;
           keeps = settled-fits p rank kept c t js sound moment.in_order schedule settles.moves;
           none_late = none_late-after p c (after_moves p c t js) t kept (λ i. moves_more p c t js i schedule.shaped sound settles.moves) (λ v left. present_left p c t kept v schedule.moments left);
           soon = λ a due going. omega (arith, moves_last p c t js moment.in_order);

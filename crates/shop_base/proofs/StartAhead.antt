@@ -96,7 +96,7 @@ the_start_is_a_case-holds p shaped = record {
   no_longer = λ nodes v n path. start-no_longer p nodes v n shaped path;
   goes_on = λ t rs es end. (
     start-goes_on p t rs es end,
-    (λ leads. settled [] rs es end (record { moves = tt; rest = start_at_rest p }) leads),
+    (λ leads. settled [] rs es end (record { moves = tt; quiescent = start_at_rest p }) leads),
   );
 }
 
@@ -125,7 +125,7 @@ pub start-keeps_moments : (p : PlannedShop) (rank kept : Node → ℕ) → IsSch
 start-keeps_moments p rank kept schedule = (start-schedule p rank kept schedule).moments
 
 pub from_start : (p : PlannedShop) (rs : List Report) (es : List Event) (end : Cell) → IsControlledRun p rs es end → GoesOnTo p (start p) 0 rs es end
-from_start p rs es end leads = settled [] rs es end (record { moves = tt; rest = start_at_rest p }) leads
+from_start p rs es end leads = settled [] rs es end (record { moves = tt; quiescent = start_at_rest p }) leads
 
 -- moment 0 can be the next moment of the start
 at_once : (p : PlannedShop) → IsNextMoment (start p) 0

@@ -99,7 +99,7 @@ leads-soon p rank kept c rs es end j shaped ranks sound rest leads inside =
 goes_on-soon : (p : PlannedShop) (rank kept : Node → ℕ) (c : Cell) (t : ℕ) (rs : List Report) (fs : List Event) (end : Cell) (j : ℕ) → IsWellShaped p → RanksRise p rank → IsSound p c → c.last ≤ t → GoesOnTo p c t rs fs end → j < jobs p
     → RiseAhead p c kept → IsSoonEnough p c j t (kept (leaving p j)) → AreWithin p kept c fs → KeepsLeaving p kept end j
 goes_on-soon p rank kept c t _ _ _ j shaped ranks sound later (settled js rs es end settles leads) inside rise soon within =
-    leads-soon p rank kept (after_moves p c t js) rs es end j shaped ranks (after_moves-sound p c t js shaped sound settles.moves) settles.rest leads inside
+    leads-soon p rank kept (after_moves p c t js) rs es end j shaped ranks (after_moves-sound p c t js shaped sound settles.moves) settles.quiescent leads inside
     (rise_later p c (after_moves p c t js) kept (λ i. moves_more p c t js i shaped sound settles.moves) rise)
     (moves-soon p c t js j (kept (leaving p j)) shaped sound later settles.moves inside soon)
     (reports_later p (IsWithin p kept) c t js es within)
@@ -152,7 +152,7 @@ pub goes_on-made_by : (p : PlannedShop) (rank kept : Node → ℕ) (c : Cell) (t
     → ((v : Node) → IsLeftIn p c v → t ≤ kept v) → RiseAhead p c kept → AreWithin p kept c fs → AreMadeBy p kept c fs
 goes_on-made_by p rank kept c t _ _ _ shaped ranks sound (settled js rs es end settles leads) none rise within =
     moves-made_by p kept c t js es shaped sound settles.moves none
-    (leads-made_by p rank kept (after_moves p c t js) rs es end shaped ranks (after_moves-sound p c t js shaped sound settles.moves) settles.rest leads
+    (leads-made_by p rank kept (after_moves p c t js) rs es end shaped ranks (after_moves-sound p c t js shaped sound settles.moves) settles.quiescent leads
     (rise_later p c (after_moves p c t js) kept (λ i. moves_more p c t js i shaped sound settles.moves) rise) (reports_later p (IsWithin p kept) c t js es within))
 
 pub each_move_is_in_time-holds : EachMoveIsInTime
@@ -192,7 +192,7 @@ goes_on-within : (p : PlannedShop) (rank kept : Node → ℕ) (c : Cell) (t : �
     → IsSound p c → c.last ≤ t → IsScheduleAhead p c t rank kept → GoesOnTo p c t rs fs end → ArePunctualFrom p t c fs → AreWithin p kept c fs
 goes_on-within p rank kept c t _ _ _ sound later schedule (settled js rs es end settles leads) punctual =
     reports_sooner p (IsWithin p kept) c t js es
-    (leads-within p rank kept (after_moves p c t js) t rs es end schedule.shaped schedule.ranks (after_moves-sound p c t js schedule.shaped sound settles.moves) settles.rest leads
+    (leads-within p rank kept (after_moves p c t js) t rs es end schedule.shaped schedule.ranks (after_moves-sound p c t js schedule.shaped sound settles.moves) settles.quiescent leads
     (settled-fits p rank kept c t js sound later schedule settles.moves)
     (none_late-after p c (after_moves p c t js) t kept (λ i. moves_more p c t js i schedule.shaped sound settles.moves) (λ v left. present_left p c t kept v schedule.moments left))
     (reports_later p (IsPunctualFrom p t) c t js es punctual))

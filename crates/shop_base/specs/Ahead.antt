@@ -58,7 +58,7 @@ module _ (p : PlannedShop) (c : Cell) (t : ℕ) where
   -- these jobs' moves at moment t, which keep the plan, bring the cell to rest
   pub record Settles (js : List ℕ) : Type 0 where
     pub moves : AreMoves p c t js
-    pub rest : IsAtRest p (after_moves p c t js)
+    pub quiescent : IsAtRest p (after_moves p c t js)
 
   -- the controlled run goes on from the cell at moment t: the cell settles, and then reports lead to events and another cell
   pub data GoesOnTo : List Report → List Event → Cell → Type 0 where

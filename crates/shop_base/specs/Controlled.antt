@@ -42,7 +42,7 @@ module _ (p : PlannedShop) (c : Cell) (r : Report) (js : List ℕ) where
   pub record IsStep : Type 0 where
     pub can : CanReport p c r
     pub moves : AreMoves p (after_report c r) (at r) js
-    pub rest : IsAtRest p after_step
+    pub quiescent : IsAtRest p after_step
 
 -- from a cell, reports lead to events and another cell: a possible report makes a step, any other changes nothing
 pub data Leads (p : PlannedShop) : Cell → List Report → List Event → Cell → Type 0 where

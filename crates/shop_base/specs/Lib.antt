@@ -27,7 +27,7 @@ pub mod InTimeLaw
 pub mod CycleLaw
 pub mod ExactLaw
 pub mod SerialLaw
-pub mod AgainLaw
+pub mod AtMostOnceLaw
 pub mod Ahead
 pub mod AheadLaw
 pub mod Within

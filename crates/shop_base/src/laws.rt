@@ -16,7 +16,7 @@ ghost use Rattle.shop_base.specs.InTimeLaw.{InTime, InTimeAtTheEnd};
 ghost use Rattle.shop_base.specs.CycleLaw.{ACycleStopsEveryRun};
 ghost use Rattle.shop_base.specs.ExactLaw.{NoExactRunIsFaster, NoExactMoveIsEarlier, JustInTime};
 ghost use Rattle.shop_base.specs.SerialLaw.{TheSerialPlanHasNoCycle};
-ghost use Rattle.shop_base.specs.AgainLaw.{NoEndIsAcceptedTwice};
+ghost use Rattle.shop_base.specs.AtMostOnceLaw.{NoEndIsAcceptedTwice};
 ghost use Rattle.shop_base.specs.AheadLaw.{NeverStuckFromThere, EndsOnTheReportsLeft, ReportsLeftAddUp, EveryCellSettlesOnce, NoJobSettlesTwice};
 ghost use Rattle.shop_base.specs.AheadLaw.{ACutStepSettlesAsItWas, EveryListGoesOn, EveryCellHasASchedule, InTimeFromThere, NoContinuationIsFaster};
 ghost use Rattle.shop_base.specs.AheadLaw.{JustInTimeFromThere, SomeContinuationIsExact, ACycleStopsEveryContinuation, NoArcLeadsBack, TheStartIsACaseOfThese};

@@ -15,7 +15,7 @@ use Rattle.clap.specs.declared.parser.matches.Found.{Found}
 use Rattle.clap.proofs.WalkLemmas.{raw_values-rows}
 use Rattle.command_words.specs.CommandLine.{latest_moment}
 use Rattle.command_words.specs.Given.{is_moment}
-use Rattle.command_words.specs.Changes.{attached_misfit, moment_at, moment_told, owners_in, owners_used, placed_misfit, places_misfit, rises, values_misfit}
+use Rattle.command_words.specs.Changes.{attached_misfit, moment_at, moment_read, owners_in, owners_used, placed_misfit, places_misfit, rises, values_misfit}
 
 -- the text of each
 abbrev pub texts : List (Bor Text) → List Text
@@ -49,30 +49,30 @@ module _ (is_such : Text → Bool) (vals : List (Bor Text)) (values : List Text)
 -- ---- the moment that is the value at a place
 
 -- what is told of a word is the moment that it is
-told_is : (word : Text) (told : Option ℕ) → MatchOption told (is_moment word ≡ false) (λ n. (is_moment word ≡ true) × (n ≡ value_of word) × (n ≤ latest_moment)) → told ≡ moment_told word
-told_is word None isnt = sym (cond-false (is_moment word) (Some (value_of word)) None isnt)
-told_is word (Some n) is = ap (λ k. Some k) is.1 ∙ sym (cond-true (is_moment word) (Some (value_of word)) None is.0)
+replayed_is : (word : Text) (told : Option ℕ) → MatchOption told (is_moment word ≡ false) (λ n. (is_moment word ≡ true) × (n ≡ value_of word) × (n ≤ latest_moment)) → told ≡ moment_read word
+replayed_is word None isnt = sym (cond-false (is_moment word) (Some (value_of word)) None isnt)
+replayed_is word (Some n) is = ap (λ k. Some k) is.1 ∙ sym (cond-true (is_moment word) (Some (value_of word)) None is.0)
 
 module _ (vals : List (Bor Text)) (values : List Text) (place : ℕ) (same : texts vals ≡ values) where
   pub past_values : length vals ≤ place → None ≡ moment_at values place
   past_values outside =
-      sym (ap (λ (o : Option Text). option_and_then moment_told o) (slice_get-map (λ (v : Bor Text). v.now) vals place ∙ ap (option_map (λ (v : Bor Text). v.now)) (slice_get_past vals place outside)))
+      sym (ap (λ (o : Option Text). option_and_then moment_read o) (slice_get-map (λ (v : Bor Text). v.now) vals place ∙ ap (option_map (λ (v : Bor Text). v.now)) (slice_get_past vals place outside)))
       ∙ ap (λ (vs : List Text). moment_at vs place) same
 
   pub at_value : (d : Bor Text) (told : Option ℕ) → place < length vals
       → MatchOption told (is_moment (get_or vals place d).now ≡ false) (λ n. (is_moment (get_or vals place d).now ≡ true) × (n ≡ value_of (get_or vals place d).now) × (n ≤ latest_moment))
       → told ≡ moment_at values place
   at_value d told inside is =
-      told_is (get_or vals place d).now told is
-      ∙ sym (ap (λ (o : Option Text). option_and_then moment_told o) (slice_get-map (λ (v : Bor Text). v.now) vals place ∙ ap (option_map (λ (v : Bor Text). v.now)) (slice_get-get_or vals place d inside)))
+      replayed_is (get_or vals place d).now told is
+      ∙ sym (ap (λ (o : Option Text). option_and_then moment_read o) (slice_get-map (λ (v : Bor Text). v.now) vals place ∙ ap (option_map (λ (v : Bor Text). v.now)) (slice_get-get_or vals place d inside)))
       ∙ ap (λ (vs : List Text). moment_at vs place) same
 
 -- a word of which none is told
-pub not_all_told : (vals : List (Bor Text)) (values : List Text) (i : ℕ) (d : Bor Text) (told : Option ℕ) → texts vals ≡ values → list_all is_moment (texts vals) ≡ list_all is_moment (texts (drop i vals)) → i < length vals
+pub not_all_read : (vals : List (Bor Text)) (values : List Text) (i : ℕ) (d : Bor Text) (told : Option ℕ) → texts vals ≡ values → list_all is_moment (texts vals) ≡ list_all is_moment (texts (drop i vals)) → i < length vals
     → MatchOption told (is_moment (get_or vals i d).now ≡ false) (λ n. (is_moment (get_or vals i d).now ≡ true) × (n ≡ value_of (get_or vals i d).now) × (n ≤ latest_moment))
     → is_some told ≡ false → list_all is_moment values ≡ false
-not_all_told vals values i d None same so_far inside isnt none = not_all is_moment vals values i same so_far d inside isnt
-not_all_told vals values i d (Some n) same so_far inside is none = absurd (cc)
+not_all_read vals values i d None same so_far inside isnt none = not_all is_moment vals values i same so_far d inside isnt
+not_all_read vals values i d (Some n) same so_far inside is none = absurd (cc)
 
 -- ---- an option that isn't used, and one that is
 

@@ -3,23 +3,23 @@ use Rattle.std.proofs.Common.{◌≡◌, ◌∙◌, [], ◌∷◌, List, Option,
 use Rattle.clap.specs.Words.{IsAmong, Kinds, Row, Text}
 use Rattle.clap.specs.Kinds.{or_else}
 use Rattle.clap.specs.declared.error.kind.ErrorKind.{ErrorKind}
-use Rattle.command_words.specs.Choice.{Found, IsFaultOf, TellsOneOf, TellsReason, rows_found}
+use Rattle.command_words.specs.Choice.{Found, IsFaultOf, NamesOneOf, NamesReason, rows_found}
 use Rattle.command_words.specs.declared.words.Chosen.{Chosen}
 use Rattle.command_words.specs.declared.words.WordsFault.{WordsFault}
 use Rattle.command_words.specs.declared.words.WordsFault.TheVariants.{Usage, Memory}
 
-tells : (kind : ErrorKind) (fault : WordsFault) → IsFaultOf kind fault → TellsReason kind fault
+tells : (kind : ErrorKind) (fault : WordsFault) → IsFaultOf kind fault → NamesReason kind fault
 tells kind Memory is = tt
 tells kind (Usage help text) is = is
 
-pub tells_reason : (kind same : ErrorKind) (fault : WordsFault) → kind ≡ same → IsFaultOf kind fault → TellsReason same fault
-tells_reason kind same fault e is = subst (λ k. TellsReason k fault) e (tells kind fault is)
+pub names_reason : (kind same : ErrorKind) (fault : WordsFault) → kind ≡ same → IsFaultOf kind fault → NamesReason same fault
+names_reason kind same fault e is = subst (λ k. NamesReason k fault) e (tells kind fault is)
 
 -- it tells of the only one
-pub tells_only : (kind : ErrorKind) (kinds : Kinds) (fault : WordsFault) → kinds ≡ kind ∷ [] → TellsReason kind fault → TellsOneOf kinds fault
-tells_only kind kinds fault only is = subst (λ (ks : Kinds). TellsOneOf ks fault) (sym only) (told fault is)
+pub names_only : (kind : ErrorKind) (kinds : Kinds) (fault : WordsFault) → kinds ≡ kind ∷ [] → NamesReason kind fault → NamesOneOf kinds fault
+names_only kind kinds fault only is = subst (λ (ks : Kinds). NamesOneOf ks fault) (sym only) (told fault is)
   where
-    told : (f : WordsFault) → TellsReason kind f → TellsOneOf (kind ∷ []) f
+    told : (f : WordsFault) → NamesReason kind f → NamesOneOf (kind ∷ []) f
     told Memory is = tt
     told (Usage help text) is = (kind, inl refl, is.1)
 
@@ -29,27 +29,27 @@ among_first : (kind : ErrorKind) (first next : Kinds) → IsAmong kind first →
 among_first kind [] next is = absurd is
 among_first kind (k ∷ ks) next is = is
 
-pub tells_first : (first next : Kinds) (fault : WordsFault) → TellsOneOf first fault → TellsOneOf (or_else first next) fault
-tells_first first next Memory is = tt
-tells_first first next (Usage help text) is = (is.0, among_first is.0 first next is.1, is.2)
+pub names_first : (first next : Kinds) (fault : WordsFault) → NamesOneOf first fault → NamesOneOf (or_else first next) fault
+names_first first next Memory is = tt
+names_first first next (Usage help text) is = (is.0, among_first is.0 first next is.1, is.2)
 
-pub tells_next : (first next other : Kinds) (read : Result Chosen WordsFault) → first ≡ [] → other ≡ next → IfErr read (TellsOneOf other) → IfErr read (TellsOneOf (or_else first next))
-tells_next first next other (Ok chosen) none same is = tt
-tells_next first next other (Err fault) none same is =
-    subst (λ (ks : Kinds). TellsOneOf (or_else ks next) fault) (sym none) (subst (λ (ks : Kinds). TellsOneOf ks fault) same is)
+pub names_next : (first next other : Kinds) (read : Result Chosen WordsFault) → first ≡ [] → other ≡ next → IfErr read (NamesOneOf other) → IfErr read (NamesOneOf (or_else first next))
+names_next first next other (Ok chosen) none same is = tt
+names_next first next other (Err fault) none same is =
+    subst (λ (ks : Kinds). NamesOneOf (or_else ks next) fault) (sym none) (subst (λ (ks : Kinds). NamesOneOf ks fault) same is)
 
 pub no_reasons : (first next other : Kinds) (read : Result Chosen WordsFault) → first ≡ [] → other ≡ next → IfOk read (λ _. other ≡ []) → IfOk read (λ _. or_else first next ≡ [])
 no_reasons first next other (Ok chosen) none same is = ap (λ (ks : Kinds). or_else ks next) none ∙ sym same ∙ is
 no_reasons first next other (Err fault) none same is = tt
 
 -- a fault of those that follow where the first finds none
-pub tells_later : (first next : Kinds) (fault : WordsFault) → first ≡ [] → TellsOneOf next fault → TellsOneOf (or_else first next) fault
-tells_later first next fault none is = subst (λ (ks : Kinds). TellsOneOf (or_else ks next) fault) (sym none) is
+pub names_later : (first next : Kinds) (fault : WordsFault) → first ≡ [] → NamesOneOf next fault → NamesOneOf (or_else first next) fault
+names_later first next fault none is = subst (λ (ks : Kinds). NamesOneOf (or_else ks next) fault) (sym none) is
 
 -- the fault is passed on
-pub passed_on : {A : Type 0} (kinds : Kinds) (read : Result A WordsFault) (fault : WordsFault) → IsErrAnd read (λ passed. passed ≡ fault) → TellsOneOf kinds fault → IfErr read (TellsOneOf kinds)
+pub passed_on : {A : Type 0} (kinds : Kinds) (read : Result A WordsFault) (fault : WordsFault) → IsErrAnd read (λ passed. passed ≡ fault) → NamesOneOf kinds fault → IfErr read (NamesOneOf kinds)
 passed_on kinds (Ok chosen) fault passed is = tt
-passed_on kinds (Err told) fault passed is = subst (λ (f : WordsFault). TellsOneOf kinds f) (sym passed) is
+passed_on kinds (Err told) fault passed is = subst (λ (f : WordsFault). NamesOneOf kinds f) (sym passed) is
 
 -- the matches of a command that was found
 pub rows_same : (found : Found) (rows : List Row) → Some rows ≡ option_map (λ (p : Text × List Row). p.1) found → rows_found found ≡ rows

@@ -18,7 +18,7 @@ use Rattle.clap.specs.declared.builder.value_parser.ValueParser.TheVariants.{Sig
 use Rattle.clap.proofs.ValueTestLemmas.{accepts-Accepts}
 use Rattle.command_words.specs.CommandLine.{option_rule, command, command_line, driven_rules, hub_rules, kept_rules, log_command, names_rule, plan_command, rest_command, decision_rules, described, revising_rules, most_rounds, greatest_seed, most_choices, rounds_rule, switch_rule}
 use Rattle.command_words.specs.Given.{values_of}
-use Rattle.command_words.specs.Choice.{FitsBetween, Found, IsFit, TakesFiles, TellsOneOf, TellsReason, files_in, found_in, parse_reasons_in, word_of}
+use Rattle.command_words.specs.Choice.{FitsBetween, Found, IsFit, TakesFiles, NamesOneOf, NamesReason, files_in, found_in, parse_reasons_in, word_of}
 use Rattle.command_words.specs.declared.words.CommandName.{CommandName}
 use Rattle.command_words.specs.declared.words.CommandName.TheVariants.{Facts, Shape as ShapeName, Check, Explain, Schedule, Bounds, Margin, Plan, Improve, Decide, Revise, Drive, Resume, Hub, Digest, Audit, Gantt}
 use Rattle.command_words.specs.declared.words.WordsFault.{WordsFault}
@@ -548,8 +548,8 @@ leaves = (
   ),
 )
 
-pub taken_fits : (words : List Text) → parse_reasons_in words ≡ [] → IsFit (found_in words)
-taken_fits words e = built_fits (built command_line) (argument_words (built command_line) words) leaves e
+pub accepted_fits : (words : List Text) → parse_reasons_in words ≡ [] → IsFit (found_in words)
+accepted_fits words e = built_fits (built command_line) (argument_words (built command_line) words) leaves e
 
 -- ---- what the parse says, of the described command line
 
@@ -561,7 +561,7 @@ pub met : (a : App) (words : List Text) (rows : List Row) (found : Found) → a 
 met a words rows found is h = (h (ap is_simple is)).1 ∙ ap (λ x. subcommand_of x words) is
 
 pub told : (a : App) (words : List Text) (error : Error) (fault : WordsFault) → a ≡ command_line → (is_simple_and_free a ≡ true → HasKind (fault_of a words) error)
-    → TellsReason (kind_of error) fault → TellsOneOf (parse_reasons_in words) fault
+    → NamesReason (kind_of error) fault → NamesOneOf (parse_reasons_in words) fault
 told a words error Memory is h tells = tt
 told a words error (Usage help text) is h tells = elim (h (ap is_simple_and_free is)) [
   | inl memory ↦ absurd (tells.0 memory)

@@ -6,7 +6,7 @@ ghost use Rattle.clap.specs.Words.{found_of, rows_of};
 ghost use Rattle.command_words.specs.Given.{is_moment, is_short, values_of};
 ghost use Rattle.text_lines.specs.Numbers.{value_of};
 ghost use Rattle.command_words.specs.Changes.{all_asked, asked_by, attached_misfit, change_seen, changes_in, ends_name, form_misfit, forms_misfit, is_such, is_until, kind_in, kind_of_until, moment_at, moment_with, option_of, owners_in, owners_used, placed_misfit, revision_misfit, rises, uses};
-ghost use Rattle.command_words.specs.Choice.{TellsOneOf, TellsReason};
+ghost use Rattle.command_words.specs.Choice.{NamesOneOf, NamesReason};
 
 use crate::words::{
     LATEST, MOST_DIGITS, NumberForm, WordsFault, misfit, moment_of, no_number, number_in_form,
@@ -72,7 +72,7 @@ pub(crate) fn changes_of(
     ensures exact { IfOk result (λ changes. map change_seen changes.items
         ≡ changes_in (map (λ word. word.now) words.now) (rows_of (found_of matches.now))) }
     ensures fits { IfOk result (λ _. revision_misfit (map (λ word. word.now) words.now) (rows_of (found_of matches.now)) ≡ []) }
-    ensures refused { IfErr result (TellsOneOf (revision_misfit (map (λ word. word.now) words.now) (rows_of (found_of matches.now)))) }
+    ensures refused { IfErr result (NamesOneOf (revision_misfit (map (λ word. word.now) words.now) (rows_of (found_of matches.now)))) }
 {
     let released = attached_to(alloc, words, matches, "release", "--release")?;
     let promised = attached_to(alloc, words, matches, "budget", "--budget")?;
@@ -89,7 +89,7 @@ fn asked(
     ensures exact { IfOk result (λ changes. map change_seen changes.items
         ≡ all_asked released.now promised.now (rows_of (found_of matches.now))) }
     ensures fits { IfOk result (λ _. forms_misfit (rows_of (found_of matches.now)) ≡ []) }
-    ensures refused { IfErr result (TellsOneOf (forms_misfit (rows_of (found_of matches.now)))) }
+    ensures refused { IfErr result (NamesOneOf (forms_misfit (rows_of (found_of matches.now)))) }
 {
     let mut changes = Vec::new(alloc);
     add_changes(
@@ -139,7 +139,7 @@ fn attached_to(
         ≡ owners_used name.now flag.now (map (λ word. word.now) words.now) (rows_of (found_of matches.now))) }
     ensures fits { IfOk result (λ _. attached_misfit name.now flag.now (map (λ word. word.now) words.now) (rows_of (found_of matches.now)) ≡ []) }
     ensures refused { IfErr result
-        (TellsOneOf (attached_misfit name.now flag.now (map (λ word. word.now) words.now) (rows_of (found_of matches.now)))) }
+        (NamesOneOf (attached_misfit name.now flag.now (map (λ word. word.now) words.now) (rows_of (found_of matches.now)))) }
 {
     if !matches.contains_id(name) {
         return Ok(Vec::new(alloc));
@@ -159,7 +159,7 @@ fn placed(
     ensures fits { let values = values_of name.now (rows_of (found_of matches.now)) in
         IfOk result (λ _. placed_misfit values (owners_in flag.now (map (λ word. word.now) words.now)) ≡ []) }
     ensures refused { let values = values_of name.now (rows_of (found_of matches.now)) in
-        IfErr result (TellsOneOf (placed_misfit values (owners_in flag.now (map (λ word. word.now) words.now)))) }
+        IfErr result (NamesOneOf (placed_misfit values (owners_in flag.now (map (λ word. word.now) words.now)))) }
 {
     if let Some(word) = no_moment_in(matches, name) {
         return Err(no_attached_moment(alloc, word, flag));
@@ -253,7 +253,7 @@ fn add_changes(
     ensures added { OnOk result (map change_seen changes.new.items
         ≡ map change_seen changes.old.items ++ asked_by released.now promised.now (rows_of (found_of matches.now)) form) }
     ensures fits { OnOk result (form_misfit (rows_of (found_of matches.now)) form ≡ []) }
-    ensures refused { IfErr result (TellsOneOf (form_misfit (rows_of (found_of matches.now)) form)) }
+    ensures refused { IfErr result (NamesOneOf (form_misfit (rows_of (found_of matches.now)) form)) }
 {
     let Some(given) = matches.get_raw(option_of(form)) else {
         return Ok(());
@@ -382,7 +382,7 @@ fn moment_at(matches: &ArgMatches<'_>, name: &str, place: usize) -> Option<u64>
 
 /// The fault of a value that asks for no change.
 fn no_change(alloc: Global, form: ChangeForm, word: &str) -> WordsFault
-    ensures { TellsReason ErrorKind.ValueValidation result }
+    ensures { NamesReason ErrorKind.ValueValidation result }
 {
     let wanted = match form {
         ChangeForm::Until => {
@@ -397,7 +397,7 @@ fn no_change(alloc: Global, form: ChangeForm, word: &str) -> WordsFault
 
 /// The fault of a value of an option of an added job that isn't a moment.
 fn no_attached_moment(alloc: Global, word: &str, flag: &str) -> WordsFault
-    ensures { TellsReason ErrorKind.ValueValidation result }
+    ensures { NamesReason ErrorKind.ValueValidation result }
 {
     let parts = [
         "invalid value '",
@@ -411,7 +411,7 @@ fn no_attached_moment(alloc: Global, word: &str, flag: &str) -> WordsFault
 
 /// The fault of an option that goes with no added job, or with one that has it already.
 fn misplaced(alloc: Global, flag: &str) -> WordsFault
-    ensures { TellsReason ErrorKind.ArgumentConflict result }
+    ensures { NamesReason ErrorKind.ArgumentConflict result }
 {
     let parts = [
         "the argument '",

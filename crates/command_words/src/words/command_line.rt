@@ -233,8 +233,8 @@ fn reasons<'a>(alloc: Global) -> Result<Command<'a>, AllocError>
 {
     let about = "Says why a plan is accepted or refused";
     let help = "Tell the chain to job J's leaving";
-    let told = on_rest(alloc, "explain", about)?.arg(job(alloc, help))?;
-    told.arg(names(alloc))
+    let so_far = on_rest(alloc, "explain", about)?.arg(job(alloc, help))?;
+    so_far.arg(names(alloc))
 }
 
 /// The schedule of a plan.
@@ -263,8 +263,8 @@ fn resumed<'a>(alloc: Global) -> Result<Command<'a>, AllocError>
 {
     let about = "Continues a driven run from its log";
     let log = on_log(alloc, "resume", about)?.arg(at(alloc))?;
-    let told = log.arg(lines(alloc))?;
-    told.arg(leap(alloc))
+    let so_far = log.arg(lines(alloc))?;
+    so_far.arg(leap(alloc))
 }
 
 /// The search of a plan.
@@ -356,8 +356,8 @@ fn logged<'a>(alloc: Global) -> Result<Command<'a>, AllocError>
     let hand_over = "Take up a run by this plan, whichever it had";
     let plan = on_plan(alloc, "drive", about)?.arg(log(alloc))?;
     let begun = plan.arg(switch(alloc, "new", new))?;
-    let taken = begun.arg(switch(alloc, "continue", goes_on))?;
-    taken.arg(switch(alloc, "hand-over", hand_over))
+    let so_far = begun.arg(switch(alloc, "continue", goes_on))?;
+    so_far.arg(switch(alloc, "hand-over", hand_over))
 }
 
 /// One driven cell.
@@ -365,8 +365,8 @@ fn driven<'a>(alloc: Global) -> Result<Command<'a>, AllocError>
     ensures { IfOk result (Describes (leaf (described CommandName.Drive))) }
 {
     let rest = logged(alloc)?.arg(at(alloc))?;
-    let told = rest.arg(lines(alloc))?;
-    told.arg(leap(alloc))
+    let so_far = rest.arg(lines(alloc))?;
+    so_far.arg(leap(alloc))
 }
 
 /// The program before it has a command.

@@ -2,7 +2,7 @@
 
 ghost use Rattle.std.specs.Prelude.{◌≡◌, [], IfOk, IfErr};
 ghost use Rattle.clap.specs.Words.{found_of, rows_of};
-ghost use Rattle.command_words.specs.Choice.{TellsOneOf, goes_on, is_asked, is_twofold, lacks_log, start_in, start_misfit};
+ghost use Rattle.command_words.specs.Choice.{NamesOneOf, goes_on, is_asked, is_twofold, lacks_log, start_in, start_misfit};
 
 use crate::words::{WordsFault, has_log, is_set, no_both, no_log};
 use clap::ArgMatches;
@@ -25,9 +25,9 @@ pub enum LogStart {
 pub(crate) fn start_of(alloc: Global, matches: &ArgMatches<'_>) -> Result<LogStart, WordsFault>
     ensures exact { IfOk result (λ start. start ≡ start_in (rows_of (found_of matches.now))) }
     ensures fits { IfOk result (λ _. start_misfit (rows_of (found_of matches.now)) ≡ []) }
-    ensures refused { IfErr result (TellsOneOf (start_misfit (rows_of (found_of matches.now)))) }
+    ensures refused { IfErr result (NamesOneOf (start_misfit (rows_of (found_of matches.now)))) }
 {
-    let start = start_told(matches);
+    let start = start_read(matches);
     if is_twofold(matches, start) {
         return Err(no_both(alloc, "--new", option_of(start)));
     }
@@ -38,7 +38,7 @@ pub(crate) fn start_of(alloc: Global, matches: &ArgMatches<'_>) -> Result<LogSta
 }
 
 /// How the log has to begin, by the last of the switches that is set.
-fn start_told(matches: &ArgMatches<'_>) -> LogStart
+fn start_read(matches: &ArgMatches<'_>) -> LogStart
     ensures { result ≡ start_in (rows_of (found_of matches.now)) }
 {
     if is_set(matches, "hand-over") {

@@ -14,7 +14,7 @@ loop-job-preserved c =
     let still = rw c.deref_mut.ensures.value at c.note_ranks.ensures.still in
     rw same (record {
       size = omega (arith, size, c.loop-job.invariant.size, c.loop-job.nodes.ok.0);
-      told = c.note_ranks.ensures.told;
+      ranked = c.note_ranks.ensures.ranked;
       all = λ j lt k le. elim (cases_order j c.loop-job.job) [
         | inl is ↦ rw is (c.note_ranks.ensures.noted k (omega (arith, le, ap (steps c.args.shaped.now) is)))
         | inr other ↦ (let lower : j < c.loop-job.job = elim other [ inl less ↦ omega arith | inr more ↦ omega arith ] in

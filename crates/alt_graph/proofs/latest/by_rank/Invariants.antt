@@ -8,6 +8,6 @@ use Rattle.alt_graph.proofs.latest.by_rank.Given as goal
 abbrev pub invariant-loop-job : goal.invariant-loop-job
 invariant-loop-job l = record {
   size : length l.nodes.items ≡ l.fn.count;
-  told : AreAtTheirRanks l.shaped l.times l.nodes.items;
+  ranked : AreAtTheirRanks l.shaped l.times l.nodes.items;
   all : (j : ℕ) → j < l.job → (k : ℕ) → k ≤ steps l.shaped j → IsAtItsRank l.times l.nodes.items (node j k);
 }

@@ -28,14 +28,14 @@ number-at-requires c =
     let nodes = c.in_ok-order.order.items in
     let within : c.back.left - 1 < length nodes = omega (arith, c.back-test.true, c.back.invariant.within) in
     let at : get_or nodes (c.back.left - 1) None ≡ Some c.in-Some.node = sym (get_or_read nodes (c.back.left - 1) c.index.result.now within c.index.ensures None) ∙ c.in-Some.is in
-    rw c.in_ok-graph.ensures.graph.plan (c.in_ok-order.ensures.told (c.back.left - 1) c.in-Some.node at).0
+    rw c.in_ok-graph.ensures.graph.plan (c.in_ok-order.ensures.ranked (c.back.left - 1) c.in-Some.node at).0
 
 pub index_mut-requires : goal.index_mut-requires
 index_mut-requires c =
     let nodes = c.in_ok-order.order.items in
     let within : c.back.left - 1 < length nodes = omega (arith, c.back-test.true, c.back.invariant.within) in
     let at : get_or nodes (c.back.left - 1) None ≡ Some c.in-Some.node = sym (get_or_read nodes (c.back.left - 1) c.index.result.now within c.index.ensures None) ∙ c.in-Some.is in
-    let is = (c.in_ok-order.ensures.told (c.back.left - 1) c.in-Some.node at).0 in
+    let is = (c.in_ok-order.ensures.ranked (c.back.left - 1) c.in-Some.node at).0 in
     omega (arith, c.number-at.ensures.number, row_inside _ _ _ _ c.back.invariant.rows is, c.back.moments.ok.0)
 
 pub back-preserved-in-Some : goal.back-preserved-in-Some
@@ -45,12 +45,12 @@ back-preserved-in-Some c =
     let nodes = c.in_ok-order.order.items in
     let within : c.back.left - 1 < length nodes = omega (arith, c.back-test.true, c.back.invariant.within) in
     let at : get_or nodes (c.back.left - 1) None ≡ Some c.in-Some.node = sym (get_or_read nodes (c.back.left - 1) c.index.result.now within c.index.ensures None) ∙ c.in-Some.is in
-    let told = c.in_ok-order.ensures.told (c.back.left - 1) c.in-Some.node at in
+    let ranked = c.in_ok-order.ensures.ranked (c.back.left - 1) c.in-Some.node at in
     let above : (c.back.left - 1) + 1 ≡ c.back.left = omega (arith, c.back-test.true) in
     let latest = rw (c.in_ok-graph.ensures.graph.plan, c.deref.ensures.value) at c.latest_of.ensures in
     rw c.number-at.ensures.number (record {
-      rows = rows_more p t c.requires _ _ c.back.invariant.rows c.in-Some.node told.0 c.latest_of.result;
-      latest = latest_more p t c.requires _ _ c.back.invariant.rows c.in-Some.node told.0 c.latest_of.result (c.back.left - 1) (sym told.1) latest (rw above c.back.invariant.latest);
+      rows = rows_more p t c.requires _ _ c.back.invariant.rows c.in-Some.node ranked.0 c.latest_of.result;
+      latest = latest_more p t c.requires _ _ c.back.invariant.rows c.in-Some.node ranked.0 c.latest_of.result (c.back.left - 1) (sym ranked.1) latest (rw above c.back.invariant.latest);
       within = omega (arith, within);
     })
 

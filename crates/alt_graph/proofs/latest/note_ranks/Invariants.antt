@@ -7,7 +7,7 @@ use Rattle.alt_graph.proofs.latest.note_ranks.Given as goal
 -- the nodes looked at are told, those told before are so still, and no others
 abbrev pub invariant-loop-place : goal.invariant-loop-place
 invariant-loop-place l = record {
-  told : AreAtTheirRanks l.shaped l.times l.nodes;
+  ranked : AreAtTheirRanks l.shaped l.times l.nodes;
   noted : (k : ℕ) → k < l.place → IsAtItsRank l.times l.nodes (node l.job k);
   still : (v : Node) → IsNode l.shaped v → IsAtItsRank l.times l.initial.nodes v → IsAtItsRank l.times l.nodes v;
 }

@@ -8,7 +8,7 @@ use Rattle.byte_streams.proofs.streaming.drain.Goals as goal
 pub returns-in_err-count-clause-drained : goal.returns-in_err-count-clause-drained
 returns-in_err-count-clause-drained g c =
     let p = err_from_is_err_and c.from_residual.result c.from_residual.ensures.1 in
-    rw (p.1, p.2) (Draining-unread _ _ _ _ _ _ c.reads.invariant.so_far ℕ _ (streams_of g.R.Source g.W.Sink g.W.Outlet.pending c.read_on.new.reader c.read_on.new.writer) c.in_err-count.ensures.given c.in_err-count.ensures.taken c.in_err-count.ensures.failed)
+    rw (p.1, p.2) (Draining-unread _ _ _ _ _ _ c.reads.invariant.so_far ℕ _ (streams_of g.R.Source g.W.Sink g.W.BufferedSink.pending c.read_on.new.reader c.read_on.new.writer) c.in_err-count.ensures.given c.in_err-count.ensures.written c.in_err-count.ensures.failed)
 
 pub returns-then-count-eq0-clause-drained : goal.returns-then-count-eq0-clause-drained
 returns-then-count-eq0-clause-drained g c =
@@ -16,7 +16,7 @@ returns-then-count-eq0-clause-drained g c =
     let room : length c.read_on.new.room ≡ length c.reads.room = c.read_on.auto.room in
     let full = c.reads.invariant.room in
     let failed = c.in_ok-count.ensures.failed in
-    let so_far = Draining-shown _ _ _ _ _ _ c.reads.invariant.so_far (output_of g.W.Sink g.W.Outlet.pending c.read_on.new.writer) c.in_ok-count.ensures.taken failed.1 in
+    let so_far = Draining-shown _ _ _ _ _ _ c.reads.invariant.so_far (output_of g.W.Sink g.W.BufferedSink.pending c.read_on.new.writer) c.in_ok-count.ensures.written failed.1 in
     Draining-ended _ _ _ _ _ _ so_far (input_of g.R.Source c.read_on.new.reader) _ c.in_ok-count.ensures.given.0 failed.0 _ (ap (λ (n : ℕ). take n c.read_on.new.room) none)
     (c.in_ok-count.ensures.given.1 none (omega (arith, room, full)))
 
@@ -28,25 +28,25 @@ pub returns-in_err-left-clause-drained : goal.returns-in_err-left-clause-drained
 returns-in_err-left-clause-drained g c =
     let p = err_from_is_err_and c.from_residual-in_err-left.result c.from_residual-in_err-left.ensures.1 in
     let failed = c.in_ok-count.ensures.failed in
-    let so_far = Draining-shown _ _ _ _ _ _ c.reads.invariant.so_far (output_of g.W.Sink g.W.Outlet.pending c.read_on.new.writer) c.in_ok-count.ensures.taken failed.1 in
+    let so_far = Draining-shown _ _ _ _ _ _ c.reads.invariant.so_far (output_of g.W.Sink g.W.BufferedSink.pending c.read_on.new.writer) c.in_ok-count.ensures.written failed.1 in
     let room : length c.read_on.new.room ≡ length c.reads.room = c.read_on.auto.room in
     let as_at_first : length c.reads.room ≡ length c.args.room.now = c.reads.auto.room in
     let few = length-take c.in_ok-count.count c.read_on.new.room in
-    rw (p.1, p.2) (Draining-failed _ _ _ _ _ _ so_far (input_of g.R.Source c.read_on.new.reader) _ c.in_ok-count.ensures.given.0 failed.0 _ _ _ (output_of g.W.Sink g.W.Outlet.pending c.take_read.new.writer) c.in_err-left.ensures.taken (omega (arith, room, as_at_first, few)))
+    rw (p.1, p.2) (Draining-failed _ _ _ _ _ _ so_far (input_of g.R.Source c.read_on.new.reader) _ c.in_ok-count.ensures.given.0 failed.0 _ _ _ (output_of g.W.Sink g.W.BufferedSink.pending c.take_read.new.writer) c.in_err-left.ensures.written (omega (arith, room, as_at_first, few)))
 
 pub reads-preserved : goal.reads-preserved
 reads-preserved g c =
     let failed = c.in_ok-count.ensures.failed in
-    let so_far = Draining-shown _ _ _ _ _ _ c.reads.invariant.so_far (output_of g.W.Sink g.W.Outlet.pending c.read_on.new.writer) c.in_ok-count.ensures.taken failed.1 in
+    let so_far = Draining-shown _ _ _ _ _ _ c.reads.invariant.so_far (output_of g.W.Sink g.W.BufferedSink.pending c.read_on.new.writer) c.in_ok-count.ensures.written failed.1 in
     let room : length c.read_on.new.room ≡ length c.reads.room = c.read_on.auto.room in
     let full = c.reads.invariant.room in
     record {
-      so_far = Draining-more _ _ _ _ _ _ so_far (input_of g.R.Source c.read_on.new.reader) _ c.in_ok-count.ensures.given.0 failed.0 _ _ (output_of g.W.Sink g.W.Outlet.pending c.take_read.new.writer) c.in_ok-left.ensures.taken;
+      so_far = Draining-more _ _ _ _ _ _ so_far (input_of g.R.Source c.read_on.new.reader) _ c.in_ok-count.ensures.given.0 failed.0 _ _ (output_of g.W.Sink g.W.BufferedSink.pending c.take_read.new.writer) c.in_ok-left.ensures.written;
       room = omega (arith, room, full);
     }
 
 pub reads-init : goal.reads-init
 reads-init g c = record {
-  so_far = Draining-first g.H.LineHandler.answers _ _ _ (streams_of g.R.Source g.W.Sink g.W.Outlet.pending c.args.reader.now c.args.writer.now) c.requires.no_lines c.requires.none_held;
+  so_far = Draining-first g.H.LineHandler.answers _ _ _ (streams_of g.R.Source g.W.Sink g.W.BufferedSink.pending c.args.reader.now c.args.writer.now) c.requires.no_lines c.requires.none_held;
   room = c.requires.room;
 }

@@ -7,7 +7,7 @@ use Rattle.byte_streams.proofs.streaming.drain.Given as goal
 abbrev pub invariant-reads : goal.invariant-reads
 invariant-reads g l = record {
   so_far : Draining g.H.LineHandler.answers l.initial.handler (reached l.handler l.input) l.left
-      (streams_of g.R.Source g.W.Sink g.W.Outlet.pending l.initial.reader l.initial.writer) (streams_of g.R.Source g.W.Sink g.W.Outlet.pending l.reader l.writer);
+      (streams_of g.R.Source g.W.Sink g.W.BufferedSink.pending l.initial.reader l.initial.writer) (streams_of g.R.Source g.W.Sink g.W.BufferedSink.pending l.reader l.writer);
   room : 0 < length l.room;
 }
 

@@ -1,6 +1,6 @@
 use Rattle.std.proofs.Common.{inl}
 use Rattle.std.proofs.lemmas.Result.{err_from_is_err_and}
-use Rattle.byte_streams.specs.Lent.{taker_of}
+use Rattle.byte_streams.specs.Lent.{sink_state}
 use Rattle.byte_streams.specs.Reading.{reached}
 use Rattle.byte_streams.proofs.Streamed.{finish_cut, finish_shown}
 use Rattle.byte_streams.proofs.streaming.finish.Goals as goal
@@ -16,4 +16,4 @@ returns-in_err-put_closing-clause-finished g c =
     rw p.1 (finish_cut _ _ _ (reached c.args.handler.now c.args.input.now) _ _ _ _ c.in_ok-answer_last.ensures c.in_err-put_closing.ensures)
 
 pub returns-clause-finished : goal.returns-clause-finished
-returns-clause-finished g c = finish_shown _ _ _ _ (reached c.args.handler.now c.args.input.now) _ _ _ _ (taker_of g.W.Sink c.show.new.self) c.in_ok-answer_last.ensures c.in_ok-put_closing.ensures c.show.ensures.taken c.show.ensures.unfailed c.show.ensures.failed
+returns-clause-finished g c = finish_shown _ _ _ _ (reached c.args.handler.now c.args.input.now) _ _ _ _ (sink_state g.W.Sink c.flush.new.self) c.in_ok-answer_last.ensures c.in_ok-put_closing.ensures c.flush.ensures.written c.flush.ensures.unfailed c.flush.ensures.failed

@@ -18,7 +18,7 @@ finish-requires g c =
     omega (arith, within, lines_are, length-ended drained.bytes (Some []))
 
 pub returns-in-Ok : goal.returns-in-Ok
-returns-in-Ok g c = stream_done _ _ _ _ _ _ _ _ (output_of g.W.Sink g.W.Outlet.pending c.finish.new.writer) c.in_ok-drain.ensures.drained _ c.in-Ok.ensures.finished c.in-Ok.ensures.shown
+returns-in-Ok g c = stream_done _ _ _ _ _ _ _ _ (output_of g.W.Sink g.W.BufferedSink.pending c.finish.new.writer) c.in_ok-drain.ensures.drained _ c.in-Ok.ensures.finished c.in-Ok.ensures.shown
 
 pub returns-in-Err : goal.returns-in-Err
-returns-in-Err g c = stream_failed _ _ _ _ _ _ _ _ (output_of g.W.Sink g.W.Outlet.pending c.finish.new.writer) c.in_ok-drain.ensures.drained c.in-Err.ensures.finished
+returns-in-Err g c = stream_failed _ _ _ _ _ _ _ _ (output_of g.W.Sink g.W.BufferedSink.pending c.finish.new.writer) c.in_ok-drain.ensures.drained c.in-Err.ensures.finished

@@ -4,7 +4,7 @@ use Rattle.byte_streams.proofs.writing.put_all.Given as goal
 
 abbrev pub invariant-loop-rest : goal.invariant-loop-rest
 invariant-loop-rest g l = record {
-  so_far : AllBut (g.W.Sink.taken l.initial.writer) (g.W.Sink.taken l.writer) l.bytes l.rest;
+  so_far : AllBut (g.W.Sink.written l.initial.writer) (g.W.Sink.written l.writer) l.bytes l.rest;
   unfailed : g.W.Sink.failed l.writer ≡ g.W.Sink.failed l.initial.writer;
 }
 

@@ -1,37 +1,37 @@
 use Rattle.std.proofs.Common.{◌≡◌, ◌∙◌, List, ℕ, get_or, ap, subst, arith, refl}
 use Rattle.std.specs.Prelude.{slice_set}
 use Rattle.std.proofs.KnownBytes.{Appends-nil}
-use Rattle.byte_streams.specs.Lent.{taker_of, WroteTo}
+use Rattle.byte_streams.specs.Lent.{sink_state, WroteTo}
 use Rattle.event_lines.specs.SentLines.{cell_prefix}
-use Rattle.cell_drive.specs.StatedCells.{AsksOf, CellsTell}
+use Rattle.cell_drive.specs.ProtocolCells.{AsksOf, CellsReply}
 use Rattle.cell_drive.specs.Numbers.{planned_cells}
 use Rattle.cell_drive.specs.Replies.{reply_text}
 use Rattle.cell_drive.proofs.LineAnswers.{was_answered, bad_line, no_bytes, some_bytes, empty_line}
-use Rattle.cell_drive.proofs.Hubs.{asked_of, none_there, still_in_run, there_at, told_none, told_reply, unchanged}
+use Rattle.cell_drive.proofs.Hubs.{asked_of, none_there, still_in_run, there_at, answers_none, reply_answers, unchanged}
 use Rattle.cell_drive.proofs.hub.answer_line.Goals as goal
 
 pub returns-then-is_empty-clause-answered : goal.returns-then-is_empty-clause-answered
 returns-then-is_empty-clause-answered g c =
-    let manner = c.args.manner in
+    let protocol = c.args.protocol in
     let cells = planned_cells c.args.cells.now in
-    was_answered _ _ _ (taker_of g.W.Sink c.args.writer.now) (taker_of g.W.Sink c.args.writer.now)
-    (unchanged manner cells c.args.number _ _ (empty_line (AsksOf manner.tells) (CellsTell manner) cells c.args.number _ (no_bytes _ _ c.is_empty.ensures c.if-is_empty.true))) (Appends-nil _) refl
+    was_answered _ _ _ (sink_state g.W.Sink c.args.writer.now) (sink_state g.W.Sink c.args.writer.now)
+    (unchanged protocol cells c.args.number _ _ (empty_line (AsksOf protocol.version_2) (CellsReply protocol) cells c.args.number _ (no_bytes _ _ c.is_empty.ensures c.if-is_empty.true))) (Appends-nil _) refl
 
 pub returns-in_default-clause-answered : goal.returns-in_default-clause-answered
 returns-in_default-clause-answered g c =
-    let manner = c.args.manner in
+    let protocol = c.args.protocol in
     let cells = planned_cells c.args.cells.now in
-    was_answered _ _ _ (taker_of g.W.Sink c.args.writer.now) (taker_of g.W.Sink c.put_refused.new.writer)
-    (unchanged manner cells c.args.number _ _ (bad_line (AsksOf manner.tells) (CellsTell manner) cells c.args.number _ (some_bytes _ _ c.is_empty.ensures c.if-is_empty.false) (λ asked is. c.in_default.ensures asked.cell asked.request is))) c.put_refused.ensures.wrote c.put_refused.ensures.unfailed
+    was_answered _ _ _ (sink_state g.W.Sink c.args.writer.now) (sink_state g.W.Sink c.put_refused.new.writer)
+    (unchanged protocol cells c.args.number _ _ (bad_line (AsksOf protocol.version_2) (CellsReply protocol) cells c.args.number _ (some_bytes _ _ c.is_empty.ensures c.if-is_empty.false) (λ asked is. c.in_default.ensures asked.cell asked.request is))) c.put_refused.ensures.wrote c.put_refused.ensures.unfailed
 
 pub returns-then-place-cells-clause-answered : goal.returns-then-place-cells-clause-answered
 returns-then-place-cells-clause-answered g c =
     let controls = c.args.cells.now in
     let k = c.in-Some.cell in
     let request = c.in-Some.request in
-    was_answered _ _ _ (taker_of g.W.Sink c.args.writer.now) (taker_of g.W.Sink c.put_refused-then-place-cells.new.writer)
-    (asked_of c.args.manner controls controls c.args.number _ _ k request (some_bytes _ _ c.is_empty.ensures c.if-is_empty.false) c.in-Some.ensures
-    (told_none c.args.manner controls c.args.number k request (none_there controls k (λ below. (let past = c.if-place-cells.true in omega (arith, past, below))))))
+    was_answered _ _ _ (sink_state g.W.Sink c.args.writer.now) (sink_state g.W.Sink c.put_refused-then-place-cells.new.writer)
+    (asked_of c.args.protocol controls controls c.args.number _ _ k request (some_bytes _ _ c.is_empty.ensures c.if-is_empty.false) c.in-Some.ensures
+    (answers_none c.args.protocol controls c.args.number k request (none_there controls k (λ below. (let past = c.if-place-cells.true in omega (arith, past, below))))))
     c.put_refused-then-place-cells.ensures.wrote c.put_refused-then-place-cells.ensures.unfailed
 
 pub returns-clause-in_run : goal.returns-clause-in_run
@@ -41,8 +41,8 @@ returns-clause-in_run g c =
     let new = c.reply_to-reply.new.controller in
     let v = get_or controls k c.index-cells-place.result in
     let there = there_at controls k c.index-cells-place.result (let past = c.if-place-cells.false in omega (arith, past)) in
-    still_in_run c.args.manner controls (slice_set controls k new) c.args.number k c.in-Some.request _ c.requires
-    (told_reply c.args.manner controls c.args.number k v new c.in-Some.request c.reply_to-reply.result there c.reply_to-reply.ensures.reply)
+    still_in_run c.args.protocol controls (slice_set controls k new) c.args.number k c.in-Some.request _ c.requires
+    (reply_answers c.args.protocol controls c.args.number k v new c.in-Some.request c.reply_to-reply.result there c.reply_to-reply.ensures.reply)
 
 pub returns-clause-answered : goal.returns-clause-answered
 returns-clause-answered g c =
@@ -53,7 +53,7 @@ returns-clause-answered g c =
     let v = get_or controls k c.index-cells-place.result in
     let there = there_at controls k c.index-cells-place.result (let past = c.if-place-cells.false in omega (arith, past)) in
     let prefix : c.bytes.result.now ≡ cell_prefix k = c.bytes.ensures ∙ c.cell_prefix-prefix.ensures ∙ ap cell_prefix c.from.ensures in
-    was_answered _ _ _ (taker_of g.W.Sink c.args.writer.now) (taker_of g.W.Sink c.put_reply.new.writer)
-    (asked_of c.args.manner controls (slice_set controls k new) c.args.number _ _ k c.in-Some.request (some_bytes _ _ c.is_empty.ensures c.if-is_empty.false) c.in-Some.ensures
-    (told_reply c.args.manner controls c.args.number k v new c.in-Some.request reply there c.reply_to-reply.ensures.reply))
-    (subst (λ (text : List ℕ). WroteTo g.W.Sink c.put_reply.result c.args.writer.now c.put_reply.new.writer (reply_text c.args.manner text c.args.number new reply)) prefix c.put_reply.ensures.wrote) c.put_reply.ensures.unfailed
+    was_answered _ _ _ (sink_state g.W.Sink c.args.writer.now) (sink_state g.W.Sink c.put_reply.new.writer)
+    (asked_of c.args.protocol controls (slice_set controls k new) c.args.number _ _ k c.in-Some.request (some_bytes _ _ c.is_empty.ensures c.if-is_empty.false) c.in-Some.ensures
+    (reply_answers c.args.protocol controls c.args.number k v new c.in-Some.request reply there c.reply_to-reply.ensures.reply))
+    (subst (λ (text : List ℕ). WroteTo g.W.Sink c.put_reply.result c.args.writer.now c.put_reply.new.writer (reply_text c.args.protocol text c.args.number new reply)) prefix c.put_reply.ensures.wrote) c.put_reply.ensures.unfailed

@@ -4,7 +4,7 @@ use Rattle.byte_streams.specs.Lent.{streams_of}
 use Rattle.cell_drive.specs.declared.hub.HubEnd.{HubEnd}
 use Rattle.cell_drive.specs.ManyCells.{PlannedCell}
 use Rattle.cell_drive.specs.Numbers.{planned_cells}
-use Rattle.cell_drive.specs.StatedCells.{StatedHubAnswer, StatedHubCloses, hub_stated, stated_hub_start}
+use Rattle.cell_drive.specs.ProtocolCells.{HubAnswer, HubCloses, hub_of, hub_of_plans}
 use Rattle.cell_drive.proofs.OneText.{undriven_hub}
 use Rattle.cell_drive.proofs.StreamedFrom.{streamed_to_fault}
 use Rattle.cell_drive.proofs.hub.drive_hub_in.Goals as goal
@@ -12,19 +12,19 @@ use Rattle.cell_drive.proofs.hub.drive_hub_in.Goals as goal
 pub returns-clause-driven : goal.returns-clause-driven
 returns-clause-driven g c =
     let size : vec_len c.in_ok-room.room ≡ 65536 = c.in_ok-room.ensures in
-    let first = hub_stated c.args.manner (planned_cells c.in_ok-controllers.controllers.items) in
-    let begun : first ≡ stated_hub_start c.args.manner c.args.cells.items = ap (λ (cells : List PlannedCell). hub_stated c.args.manner cells) c.in_ok-controllers.ensures.started in
+    let first = hub_of c.args.protocol (planned_cells c.in_ok-controllers.controllers.items) in
+    let begun : first ≡ hub_of_plans c.args.protocol c.args.cells.items = ap (λ (cells : List PlannedCell). hub_of c.args.protocol cells) c.in_ok-controllers.ensures.started in
     record {
       end = c.stream.new.handler;
-      streamed = streamed_to_fault StatedHubAnswer StatedHubCloses first c.stream.new.handler
-          (streams_of g.R.Source g.W.Sink g.W.Outlet.pending c.args.reader.now c.args.writer.now) (streams_of g.R.Source g.W.Sink g.W.Outlet.pending c.stream.new.reader c.stream.new.writer) HubEnd c.in-Err.fault (stated_hub_start c.args.manner c.args.cells.items) begun (omega (arith, size, c.deref_mut.ensures.len)) c.in-Err.ensures;
+      streamed = streamed_to_fault HubAnswer HubCloses first c.stream.new.handler
+          (streams_of g.R.Source g.W.Sink g.W.BufferedSink.pending c.args.reader.now c.args.writer.now) (streams_of g.R.Source g.W.Sink g.W.BufferedSink.pending c.stream.new.reader c.stream.new.writer) HubEnd c.in-Err.fault (hub_of_plans c.args.protocol c.args.cells.items) begun (omega (arith, size, c.deref_mut.ensures.len)) c.in-Err.ensures;
       done = tt;
       verified = tt;
     }
 
 pub returns-in_err-room-clause-driven : goal.returns-in_err-room-clause-driven
-returns-in_err-room-clause-driven g c = let p = err_from_is_err_and c.from_residual.result c.from_residual.ensures.1 in undriven_hub c.args.cells.items c.args.manner _ _ (p.1 ∙ ap Err p.2)
+returns-in_err-room-clause-driven g c = let p = err_from_is_err_and c.from_residual.result c.from_residual.ensures.1 in undriven_hub c.args.cells.items c.args.protocol _ _ (p.1 ∙ ap Err p.2)
 
 pub returns-in_err-controllers-clause-driven : goal.returns-in_err-controllers-clause-driven
 returns-in_err-controllers-clause-driven g c =
-    let p = err_from_is_err_and c.from_residual-in_err-controllers.result c.from_residual-in_err-controllers.ensures.1 in undriven_hub c.args.cells.items c.args.manner _ _ (p.1 ∙ ap Err p.2)
+    let p = err_from_is_err_and c.from_residual-in_err-controllers.result c.from_residual-in_err-controllers.ensures.1 in undriven_hub c.args.cells.items c.args.protocol _ _ (p.1 ∙ ap Err p.2)

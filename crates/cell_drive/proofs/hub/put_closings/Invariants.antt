@@ -5,7 +5,7 @@ use Rattle.cell_drive.proofs.hub.put_closings.Given as goal
 
 abbrev pub invariant-loop-cell : goal.invariant-loop-cell
 invariant-loop-cell g l = record {
-  so_far : AllBut (g.W.Sink.taken l.initial.writer) (g.W.Sink.taken l.writer) (closing_text 0 (planned_cells l.cells))
+  so_far : AllBut (g.W.Sink.written l.initial.writer) (g.W.Sink.written l.writer) (closing_text 0 (planned_cells l.cells))
       (closing_text l.cell (drop l.cell (planned_cells l.cells)));
   unfailed : g.W.Sink.failed l.writer ≡ g.W.Sink.failed l.initial.writer;
 }

@@ -6,7 +6,7 @@ use Rattle.cell_drive.proofs.replies.put_orders.Given as goal
 
 abbrev pub invariant-loop-order : goal.invariant-loop-order
 invariant-loop-order g l = record {
-  so_far : AllBut (g.W.Sink.taken l.initial.writer) (g.W.Sink.taken l.writer) (flat_map (λ o. l.prefix ++ order_line o) l.orders)
+  so_far : AllBut (g.W.Sink.written l.initial.writer) (g.W.Sink.written l.writer) (flat_map (λ o. l.prefix ++ order_line o) l.orders)
       (flat_map (λ o. l.prefix ++ order_line o) (drop l.order-index l.orders));
   unfailed : g.W.Sink.failed l.writer ≡ g.W.Sink.failed l.initial.writer;
 }

@@ -1,7 +1,7 @@
 use Rattle.std.proofs.Common.{◌≡◌, sym, subst, inl, inr, refl, arith, vec_len}
 use Rattle.std.specs.Io.KnownBytes.{Appends}
 use Rattle.byte_streams.specs.Lent.{Streams, output_of, streams_of}
-use Rattle.cell_drive.specs.TakenUp.{TakenUp}
+use Rattle.cell_drive.specs.Recovered.{Recovered}
 use Rattle.cell_drive.specs.Resuming.{due_text}
 use Rattle.cell_drive.specs.Session.{SessionAnswer, SessionCloses, SessionState, session_by}
 use Rattle.cell_drive.specs.declared.resume.RestEnd.{RestEnd}
@@ -11,14 +11,14 @@ use Rattle.cell_drive.proofs.resume.go_on_in.Goals as goal
 
 pub returns-in-Ok-stream : goal.returns-in-Ok-stream
 returns-in-Ok-stream g c =
-    let first : SessionState = session_by c.args.manner c.run.inside.controller c.run.inside.log in
+    let first : SessionState = session_by c.args.protocol c.run.inside.controller c.run.inside.log in
     let end : SessionState = c.stream.new.handler in
-    let before : Streams = streams_of g.R.Source g.W.Sink g.W.Outlet.pending c.args.reader.now c.put_due.new.writer in
-    let after : Streams = streams_of g.R.Source g.W.Sink g.W.Outlet.pending c.stream.new.reader c.stream.new.writer in
+    let before : Streams = streams_of g.R.Source g.W.Sink g.W.BufferedSink.pending c.args.reader.now c.put_due.new.writer in
+    let after : Streams = streams_of g.R.Source g.W.Sink g.W.BufferedSink.pending c.stream.new.reader c.stream.new.writer in
     rw (sym c.run.view_is) (inr (record {
       from = c.run.invariant.0;
-      middle = output_of g.W.Sink g.W.Outlet.pending c.put_due.new.writer;
-      again = subst (λ (t : TakenUp). Appends (g.W.Sink.taken c.args.writer.now) (g.W.Sink.taken c.put_due.new.writer) (due_text t)) (sym c.run.view_is) c.in-Ok.ensures.wrote;
+      middle = output_of g.W.Sink g.W.BufferedSink.pending c.put_due.new.writer;
+      again = subst (λ (t : Recovered). Appends (g.W.Sink.written c.args.writer.now) (g.W.Sink.written c.put_due.new.writer) (due_text t)) (sym c.run.view_is) c.in-Ok.ensures.wrote;
       unfailed = c.in-Ok.ensures.unfailed;
       end = end;
       streamed = ended_so SessionAnswer SessionCloses first end before after _ c.end.result c.in-Ok-stream.ensures;
@@ -28,14 +28,14 @@ returns-in-Ok-stream g c =
 pub returns : goal.returns
 returns g c =
     let size : vec_len c.run.inside.room ≡ 65536 = c.run.invariant.1 in
-    let first : SessionState = session_by c.args.manner c.run.inside.controller c.run.inside.log in
+    let first : SessionState = session_by c.args.protocol c.run.inside.controller c.run.inside.log in
     let end : SessionState = c.stream.new.handler in
-    let before : Streams = streams_of g.R.Source g.W.Sink g.W.Outlet.pending c.args.reader.now c.put_due.new.writer in
-    let after : Streams = streams_of g.R.Source g.W.Sink g.W.Outlet.pending c.stream.new.reader c.stream.new.writer in
+    let before : Streams = streams_of g.R.Source g.W.Sink g.W.BufferedSink.pending c.args.reader.now c.put_due.new.writer in
+    let after : Streams = streams_of g.R.Source g.W.Sink g.W.BufferedSink.pending c.stream.new.reader c.stream.new.writer in
     rw (sym c.run.view_is) (inr (record {
       from = c.run.invariant.0;
-      middle = output_of g.W.Sink g.W.Outlet.pending c.put_due.new.writer;
-      again = subst (λ (t : TakenUp). Appends (g.W.Sink.taken c.args.writer.now) (g.W.Sink.taken c.put_due.new.writer) (due_text t)) (sym c.run.view_is) c.in-Ok.ensures.wrote;
+      middle = output_of g.W.Sink g.W.BufferedSink.pending c.put_due.new.writer;
+      again = subst (λ (t : Recovered). Appends (g.W.Sink.written c.args.writer.now) (g.W.Sink.written c.put_due.new.writer) (due_text t)) (sym c.run.view_is) c.in-Ok.ensures.wrote;
       unfailed = c.in-Ok.ensures.unfailed;
       end = end;
       streamed = broken_so SessionAnswer SessionCloses first end before after RestEnd c.in-Err.fault (omega (arith, size, c.deref_mut.ensures.len)) c.in-Err.ensures;

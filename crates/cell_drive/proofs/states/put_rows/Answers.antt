@@ -13,7 +13,7 @@ loop-number-init g c =
     let v = c.args.cell.now in
     let text = λ (i : ℕ). standing_part c.args.prefix.now (row v.plan v.cell c.args.rows i) in
     record {
-      so_far = subst (λ (rest : List ℕ). AllBut (g.W.Sink.taken c.args.writer.now) (g.W.Sink.taken c.args.writer.now) (rows_text c.args.prefix.now v.plan v.cell c.args.rows) rest)
+      so_far = subst (λ (rest : List ℕ). AllBut (g.W.Sink.written c.args.writer.now) (g.W.Sink.written c.args.writer.now) (rows_text c.args.prefix.now v.plan v.cell c.args.rows) rest)
           (sym (all_texts text (row_count v.plan c.args.rows))) (AllBut-none _ _);
       unfailed = refl;
     }

@@ -1,14 +1,14 @@
 use Rattle.std.proofs.Common.{◌≡◌, ℕ, ◌+◌, ◌-◌, List, length, drop, sym, ap, ◌∙◌, subst, arith}
 use Rattle.byte_streams.specs.Lent.{WroteTo}
-use Rattle.cell_drive.specs.ToldLines.{told_lines}
-use Rattle.cell_drive.proofs.ToldAgain.{told_before, none_told}
+use Rattle.cell_drive.specs.PlainLines.{plain_lines}
+use Rattle.cell_drive.proofs.ToldAgain.{plain_before, none_plain}
 use Rattle.cell_drive.proofs.told_again.put_few.Goals as goal
 
 pub places-init : goal.places-init
 places-init g c =
     let entries = c.args.entries.now in
     record {
-      written = c.empty-lines.ensures ∙ sym (none_told entries (drop (length entries) c.args.late.now));
+      written = c.empty-lines.ensures ∙ sym (none_plain entries (drop (length entries) c.args.late.now));
       within = omega arith;
       room = omega (arith, c.requires.few, ap length c.empty-lines.ensures);
     }
@@ -21,9 +21,9 @@ places-preserved g c =
     let i = c.places.place - 1 in
     let back : c.places.place ≡ i + 1 = omega (arith, c.places-test.true) in
     record {
-      written = told_before entries late i c.places.place _ _ _ _ c.put_told_line.ensures.written so_far.written back (omega (arith, so_far.within, back)) c.requires.same;
+      written = plain_before entries late i c.places.place _ _ _ _ c.put_plain_line.ensures.written so_far.written back (omega (arith, so_far.within, back)) c.requires.same;
       within = omega (arith, so_far.within);
-      room = omega (arith, so_far.room, c.put_told_line.ensures.length, back);
+      room = omega (arith, so_far.room, c.put_plain_line.ensures.length, back);
     }
 
 pub returns-clause-wrote : goal.returns-clause-wrote
@@ -31,5 +31,5 @@ returns-clause-wrote g c =
     let entries = c.args.entries.now in
     let late = c.args.late.now in
     let none : c.places.place ≡ 0 = omega (arith, c.places-test.false) in
-    let all = c.bytes.ensures ∙ c.places.invariant.written ∙ ap (λ (n : ℕ). told_lines (drop n entries) (drop n late)) none in
+    let all = c.bytes.ensures ∙ c.places.invariant.written ∙ ap (λ (n : ℕ). plain_lines (drop n entries) (drop n late)) none in
     subst (λ (text : List ℕ). WroteTo g.W.Sink c.put_all.result c.args.writer.now c.put_all.new.writer text) all c.put_all.ensures.wrote

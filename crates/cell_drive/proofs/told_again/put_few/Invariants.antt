@@ -1,11 +1,11 @@
 use Rattle.std.proofs.Common.{◌≡◌, ◌+◌, ◌*◌, ◌≤◌, length, drop}
 use Rattle.cell_drive.specs.declared.told_again.TheConstants.{EVENT_ROOM, LINES_ROOM}
-use Rattle.cell_drive.specs.ToldLines.{told_lines}
+use Rattle.cell_drive.specs.PlainLines.{plain_lines}
 use Rattle.cell_drive.proofs.told_again.put_few.Given as goal
 
 abbrev pub invariant-places : goal.invariant-places
 invariant-places g l = record {
-  written : l.lines ≡ told_lines (drop l.place l.entries) (drop l.place l.late);
+  written : l.lines ≡ plain_lines (drop l.place l.entries) (drop l.place l.late);
   within : l.place ≤ length l.entries;
   room : length l.lines + EVENT_ROOM * l.place ≤ LINES_ROOM;
 }

@@ -3,8 +3,8 @@ use Rattle.std.proofs.lemmas.List.{take_rest}
 use Rattle.std.proofs.lemmas.Result.{err_from_is_err_and}
 use Rattle.byte_streams.proofs.Written.{AllBut-more, TookPart-rest}
 use Rattle.cell_tables.specs.declared.entry.Entry.{Entry}
-use Rattle.cell_drive.specs.ToldLines.{told_lines}
-use Rattle.cell_drive.proofs.ToldAgain.{first_told}
+use Rattle.cell_drive.specs.PlainLines.{plain_lines}
+use Rattle.cell_drive.proofs.ToldAgain.{first_plain}
 use Rattle.cell_drive.proofs.told_again.put_told.Goals as goal
 
 pub returns-in_err-put_few-clause-wrote : goal.returns-in_err-put_few-clause-wrote
@@ -15,7 +15,7 @@ returns-in_err-put_few-clause-wrote g c =
     let p = err_from_is_err_and c.from_residual.result c.from_residual.ensures.1 in
     rw p.1 (
       c.in_err-put_few.ensures.wrote.0,
-      TookPart-rest _ _ _ _ _ _ (told_lines (drop n rest) (drop n late)) c.rests.invariant.so_far c.in_err-put_few.ensures.wrote.1 (first_told n rest late),
+      TookPart-rest _ _ _ _ _ _ (plain_lines (drop n rest) (drop n late)) c.rests.invariant.so_far c.in_err-put_few.ensures.wrote.1 (first_plain n rest late),
     )
 
 pub rests-preserved : goal.rests-preserved
@@ -25,9 +25,9 @@ rests-preserved g c =
     let n = c.min-count.result in
     record {
       so_far = AllBut-more _ _ _ _ _ _ _ c.rests.invariant.so_far c.in_ok-put_few.ensures.wrote
-          (ap (λ (es : List Entry). told_lines (take n rest) (take n late) ++ told_lines es (take (length late - n) (drop n late))) (take_rest rest n)
-          ∙ ap (λ (ls : List Bool). told_lines (take n rest) (take n late) ++ told_lines (drop n rest) ls) (take_rest late n)
-          ∙ first_told n rest late);
+          (ap (λ (es : List Entry). plain_lines (take n rest) (take n late) ++ plain_lines es (take (length late - n) (drop n late))) (take_rest rest n)
+          ∙ ap (λ (ls : List Bool). plain_lines (take n rest) (take n late) ++ plain_lines (drop n rest) ls) (take_rest late n)
+          ∙ first_plain n rest late);
       same = omega (arith, c.rests.invariant.same, ap length (take_rest rest n), ap length (take_rest late n), length-drop n rest, length-drop n late);
       unfailed = c.in_ok-put_few.ensures.unfailed ∙ c.rests.invariant.unfailed;
     }

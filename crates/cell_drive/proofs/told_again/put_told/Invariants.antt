@@ -1,11 +1,11 @@
 use Rattle.std.proofs.Common.{◌≡◌, length}
 use Rattle.byte_streams.specs.Sinks.{AllBut}
-use Rattle.cell_drive.specs.ToldLines.{told_lines}
+use Rattle.cell_drive.specs.PlainLines.{plain_lines}
 use Rattle.cell_drive.proofs.told_again.put_told.Given as goal
 
 abbrev pub invariant-rests : goal.invariant-rests
 invariant-rests g l = record {
-  so_far : AllBut (g.W.Sink.taken l.initial.writer) (g.W.Sink.taken l.writer) (told_lines l.entries l.late) (told_lines l.rest l.rest_late);
+  so_far : AllBut (g.W.Sink.written l.initial.writer) (g.W.Sink.written l.writer) (plain_lines l.entries l.late) (plain_lines l.rest l.rest_late);
   same : length l.rest ≡ length l.rest_late;
   unfailed : g.W.Sink.failed l.writer ≡ g.W.Sink.failed l.initial.writer;
 }

@@ -1,8 +1,8 @@
 use Rattle.std.proofs.Common.{rules}
 use Rattle.cellplan_c.proofs.Judging.{explanation_bound}
-use Rattle.cellplan_c.proofs.Telling.{told_and_put}
+use Rattle.cellplan_c.proofs.Telling.{found_and_put}
 use Rattle.cellplan_c.proofs.answers.cellplan_explain.Goals as goal
 
 pub returns : goal.returns
-returns c = told_and_put _ _ _ _ explanation_bound _ _ _ _ _ _ (search rules depth 2)
-    c.told.ensures.answer c.told.ensures.line c.told.ensures.untold c.put_answer.ensures.fault c.put_answer.ensures.put
+returns c = found_and_put _ _ _ _ explanation_bound _ _ _ _ _ _ (search rules depth 2)
+    c.told.ensures.answer c.told.ensures.line c.told.ensures.unsaid c.put_answer.ensures.fault c.put_answer.ensures.put

@@ -5,7 +5,7 @@ use Rattle.cellplan_c.proofs.readers.cellplan_cell_phase.Goals as goal
 pub returns-in-Some-found : goal.returns-in-Some-found
 returns-in-Some-found c = finds _ _ _ _ _ _ c.in-Some.ensures.taken c.put.ensures _ (inl refl) (λ no. absurd (no refl)) (
   Some c.in-Some-found.place,
-  ap Some c.phase_told.ensures,
+  ap Some c.phase_numbers.ensures,
   rw c.deref.ensures at c.in-Some-found.ensures,
 )
 

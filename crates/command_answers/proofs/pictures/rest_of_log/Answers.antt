@@ -15,15 +15,15 @@ returns-in_ok-cell_drawn-in-Ok c =
     run_shown c.args.at c.args.names c.args.shaped c.args.log.now (run.entries.items, is.tells, is.told.run) run.cell.plan run.cell.cell _ c.in_ok-cell_drawn-in-Ok.field-0
     is.plan is.told.cell c.deref.ensures.value c.in_ok-cell_drawn-in-Ok.ensures
 
-pub returns-in_ok-fault_told-in-Err : goal.returns-in_ok-fault_told-in-Err
-returns-in_ok-fault_told-in-Err c =
+pub returns-in_ok-log_fault_answer-in-Err : goal.returns-in_ok-log_fault_answer-in-Err
+returns-in_ok-log_fault_answer-in-Err c =
     let p = c.args.shaped in
     let lines = ended_lines c.args.log.now in
-    inr (refused_log p lines (IsLogRefused p lines) (λ answer line. line) c.in-Err.fault _ c.in-Err.ensures.fault c.in_ok-fault_told-in-Err.ensures)
+    inr (refused_log p lines (IsLogRefused p lines) (λ answer line. line) c.in-Err.fault _ c.in-Err.ensures.fault c.in_ok-log_fault_answer-in-Err.ensures)
 
-pub returns-in_err-fault_told-in-Err : goal.returns-in_err-fault_told-in-Err
-returns-in_err-fault_told-in-Err c =
+pub returns-in_err-log_fault_answer-in-Err : goal.returns-in_err-log_fault_answer-in-Err
+returns-in_err-log_fault_answer-in-Err c =
     let p = c.args.shaped in
     let lines = ended_lines c.args.log.now in
-    at_fault (IsOrMemory (IsRestDrawing c.args.at c.args.names p c.args.log.now)) c.from_residual-in_err-fault_told-in-Err.result c.in_err-fault_told-in-Err.field-0.0 c.from_residual-in_err-fault_told-in-Err.ensures.1
-    (refused_log p lines (IsLogRefused p lines) (λ answer line. line) c.in-Err.fault _ c.in-Err.ensures.fault c.in_err-fault_told-in-Err.ensures)
+    at_fault (IsOrMemory (IsRestDrawing c.args.at c.args.names p c.args.log.now)) c.from_residual-in_err-log_fault_answer-in-Err.result c.in_err-log_fault_answer-in-Err.field-0.0 c.from_residual-in_err-log_fault_answer-in-Err.ensures.1
+    (refused_log p lines (IsLogRefused p lines) (λ answer line. line) c.in-Err.fault _ c.in-Err.ensures.fault c.in_err-log_fault_answer-in-Err.ensures)

@@ -27,16 +27,16 @@ none_at_fault : (P : Vec ℕ Global → Type 0) (Q : CommandFault → Type 0) (a
 none_at_fault P Q (Ok bytes) failed = absurd failed
 none_at_fault P Q (Err fault) failed = tt
 
-whole_told : (given : Option (List ℕ)) (start : List ℕ) (buf : Vec ℕ Global) (read : Result ℕ Error) (answer : Result (Vec ℕ Global) CommandFault) → start ≡ []
+whole_read : (given : Option (List ℕ)) (start : List ℕ) (buf : Vec ℕ Global) (read : Result ℕ Error) (answer : Result (Vec ℕ Global) CommandFault) → start ≡ []
     → OnOk read (IfSome (option_map (take 67108865) given) (λ xs. buf.items ≡ start ++ xs))
     → IfOk read (λ n. vec_len buf ≤ MAX_INPUT → answer ≡ Ok buf) → IfOk read (λ n. MAX_INPUT < vec_len buf → answer ≡ Err InputTooLong)
     → IfErr read (λ error. IsErrAnd answer (IsFaultOfSystem error)) → IfOk answer (λ bytes. IfSome given (λ all. bytes.items ≡ all))
-whole_told given start buf (Ok n) answer empty bytes within beyond failed =
+whole_read given start buf (Ok n) answer empty bytes within beyond failed =
     elim (cases_lt MAX_INPUT (vec_len buf)) [
       | inl over ↦ rw (beyond over) tt
       | inr below ↦ rw (within below) (whole_below given 67108865 start buf.items empty bytes (omega (arith, buf.ok.0)))
     ]
-whole_told given start buf (Err error) answer empty bytes within beyond failed = none_at_fault _ _ answer failed
+whole_read given start buf (Err error) answer empty bytes within beyond failed = none_at_fault _ _ answer failed
 
 -- each fault is a file's
 faults_are : (buf : Vec ℕ Global) (read : Result ℕ Error) (answer : Result (Vec ℕ Global) CommandFault)
@@ -57,5 +57,5 @@ pub returns-clause-whole : goal.returns-clause-whole
 returns-clause-whole g c =
     let limit : c.take-limited.result.limit ≡ 67108865 = c.take-limited.ensures.limit in
     let bytes = rw (limit, c.take-limited.ensures.inner) at c.read_to_end-read.ensures.bytes in
-    whole_told _ _ c.read_to_end-read.new.buf c.read_to_end-read.result c.whole_of.result c.in_ok-bytes.ensures.items bytes
+    whole_read _ _ c.read_to_end-read.new.buf c.read_to_end-read.result c.whole_of.result c.in_ok-bytes.ensures.items bytes
     c.whole_of.ensures.within c.whole_of.ensures.beyond c.whole_of.ensures.fault

@@ -1,11 +1,11 @@
 use Rattle.std.proofs.Common.{◌≤◌, ◌<◌, ◌∙◌, ℕ, IfOk, ap, subst, sym, unwrap_or}
 use Rattle.shop_base.specs.declared.limits.TheConstants.{MAX_MOMENT}
-use Rattle.command_answers.specs.Rests.{IsPastLine, IsRestTold}
-use Rattle.command_answers.proofs.RestAnswers.{present_within, past_told, rest_told}
+use Rattle.command_answers.specs.Rests.{IsPastLine, AnswersRest}
+use Rattle.command_answers.proofs.RestAnswers.{present_within, past_answered, answer_rest}
 use Rattle.command_answers.proofs.rests.cell_told.Goals as goal
 
-pub rest_told-requires-clause-present : goal.rest_told-requires-clause-present
-rest_told-requires-clause-present c =
+pub answer_rest-requires-clause-present : goal.answer_rest-requires-clause-present
+answer_rest-requires-clause-present c =
     let last = c.last-last.ensures in
     let low = subst (λ (n : ℕ). n ≤ MAX_MOMENT) (sym last) c.shaped-plan.ensures.sound.last_in_range in
     record {
@@ -19,7 +19,7 @@ returns-then-present-last c =
     let last = c.last-last.ensures in
     let present = c.present_at-present.ensures ∙ ap (λ n. unwrap_or c.args.at n) last in
     let before = subst (λ (n : ℕ). n < c.last-last.result) present c.if-present-last.true in
-    past_told (IsRestTold c.args.names.now c.args.telling) c.args.at c.args.cell.now.plan cell c.past_answer.result (subst (λ (n : ℕ). unwrap_or c.args.at cell.last < n) last before)
+    past_answered (AnswersRest c.args.names.now c.args.wanted) c.args.at c.args.cell.now.plan cell c.past_answer.result (subst (λ (n : ℕ). unwrap_or c.args.at cell.last < n) last before)
     (subst (λ (n : ℕ). IfOk c.past_answer.result (IsPastLine n)) last c.past_answer.ensures)
 
 pub returns : goal.returns
@@ -29,5 +29,5 @@ returns c =
     let last = c.last-last.ensures in
     let present = c.present_at-present.ensures ∙ ap (λ n. unwrap_or c.args.at n) last in
     let later = subst (λ (n : ℕ). n ≤ c.present_at-present.result) last c.if-present-last.false in
-    rest_told (IsRestTold c.args.names.now c.args.telling) c.args.at p cell c.rest_told.result (subst (λ (n : ℕ). cell.last ≤ n) present later)
-    (subst (λ (n : ℕ). IfOk c.rest_told.result (IsRestTold c.args.names.now c.args.telling p cell n)) present c.rest_told.ensures)
+    answer_rest (AnswersRest c.args.names.now c.args.wanted) c.args.at p cell c.answer_rest.result (subst (λ (n : ℕ). cell.last ≤ n) present later)
+    (subst (λ (n : ℕ). IfOk c.answer_rest.result (AnswersRest c.args.names.now c.args.wanted p cell n)) present c.answer_rest.ensures)

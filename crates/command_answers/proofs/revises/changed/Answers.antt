@@ -1,5 +1,5 @@
 use Rattle.std.proofs.Common.{inl, inr, map}
-use Rattle.command_answers.proofs.RevisedAnswers.{placed, refused_told}
+use Rattle.command_answers.proofs.RevisedAnswers.{placed, refused_answered}
 use Rattle.command_answers.proofs.revises.changed.Goals as goal
 
 pub unrevised-requires : goal.unrevised-requires
@@ -10,5 +10,5 @@ returns-in-Ok c = inl (record { revised = c.in-Ok.shaped; is = c.in-Ok.ensures.r
 
 pub returns-in-Err : goal.returns-in-Err
 returns-in-Err c =
-    inr (refused_told c.args.cell.now.plan c.args.cell.now.cell c.args.present c.args.wanted.changes.now c.args.wanted.prints c.args.description.now (map (λ value. value.now) c.args.wanted.values.now)
+    inr (refused_answered c.args.cell.now.plan c.args.cell.now.cell c.args.present c.args.wanted.changes.now c.args.wanted.prints c.args.description.now (map (λ value. value.now) c.args.wanted.values.now)
     c.in-Err.told c.from.result c.unrevised.result c.in-Err.ensures.refused c.from.ensures c.unrevised.ensures)

@@ -15,4 +15,4 @@ returns-in-Ok c =
 pub returns-in-Err : goal.returns-in-Err
 returns-in-Err c =
     inr (refused_log c.args.shaped (ended_lines c.args.log.now) (IsLogRefused c.args.shaped (ended_lines c.args.log.now)) (λ answer refused. refused)
-    c.in-Err.fault c.fault_told.result c.in-Err.ensures.fault c.fault_told.ensures)
+    c.in-Err.fault c.log_fault_answer.result c.in-Err.ensures.fault c.log_fault_answer.ensures)

@@ -3,7 +3,7 @@ use Rattle.event_lines.specs.declared.run_digits.RunDigits.{RunDigits}
 use Rattle.command_run.specs.declared.misfits.Misfit.{Misfit}
 use Rattle.command_run.specs.Misfits.{IsMisfit}
 use Rattle.command_run.specs.Logs.{Found}
-use Rattle.command_run.proofs.HeldLogs.{found_held, held_as, told_as, undriven_found}
+use Rattle.command_run.proofs.HeldLogs.{found_held, held_as, known_as, undriven_found}
 use Rattle.command_run.proofs.logs.drive_found.Goals as goal
 
 pub returns-in-Some : goal.returns-in-Some
@@ -13,7 +13,7 @@ returns-in-Some g c =
       drove = record {
         end = option_map Found there;
         is = (undriven_found there, record { run = c.run_found.result; tells = c.run_found.ensures; misfit = Some c.in-Some.misfit; is_misfit = subst (λ (d : RunDigits). IsMisfit c.args.start c.run_found.result d c.in-Some.misfit) c.requires.digits c.in-Some.ensures; drives = (c.misfit_answer.ensures, record { same = refl; is = refl }, refl) });
-        held = found_held _ _ _ _ (g.L.Logs.folder c.args.logs.now) g.B.Before.before _ _ c.args.found c.requires.found (told_as g.B.Before.before (λ t is. (is.logs, is.in_folder)) c.requires.told);
+        held = found_held _ _ _ _ (g.L.Logs.folder c.args.logs.now) g.B.InitialState.before _ _ c.args.found c.requires.found (known_as g.B.InitialState.before (λ t is. (is.logs, is.in_folder)) c.requires.told);
       };
     })
 

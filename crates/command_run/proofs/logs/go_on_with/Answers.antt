@@ -1,13 +1,13 @@
 use Rattle.std.proofs.Common.{Bool, Some, Result, ap, ◌∙◌, subst, refl}
 use Rattle.byte_streams.specs.declared.drive_fault.DriveFault.{DriveFault}
-use Rattle.cell_drive.specs.TakenUp.{plan_of, told_in}
+use Rattle.cell_drive.specs.Recovered.{plan_of, replayed_events}
 use Rattle.run_journal.specs.Logged.{fault_if}
 use Rattle.command_run.specs.Logs.{Driven, IsLoggedAnswer}
-use Rattle.command_run.proofs.HeldLogs.{gone_on_to_end, keeps_in_log, told_as, told_both}
+use Rattle.command_run.proofs.HeldLogs.{gone_on_to_end, keeps_in_log, known_as, known_both}
 use Rattle.command_run.proofs.logs.go_on_with.Goals as goal
 
 pub go_on_logged-end-requires-clause-whole : goal.go_on_logged-end-requires-clause-whole
-go_on_logged-end-requires-clause-whole g c = told_as g.B.Before.before (λ t from. from.0) c.requires.taken_up
+go_on_logged-end-requires-clause-whole g c = known_as g.B.InitialState.before (λ t from. from.0) c.requires.recoverable
 
 pub returns : goal.returns
 returns g c =
@@ -16,9 +16,9 @@ returns g c =
     let end = c.go_on_logged-end.result.end in
     let log_failed = c.go_on_logged-end.result.log_failed in
     let p = plan_of c.args.run in
-    let events = told_in c.args.run in
+    let events = replayed_events c.args.run in
     let answer = subst (λ (done : Result Bool DriveFault). IsLoggedAnswer log_failed done c.logged_end-outcome.result) c.is_rest_done.ensures c.logged_end-outcome.ensures in
-    let up = told_both g.B.Before.before (λ t from is. is p from.1 from.2) c.requires.taken_up had.taken_up in
+    let up = known_both g.B.InitialState.before (λ t from is. is p from.1 from.2) c.requires.recoverable had.recoverable in
     rw (← c.streams.view_is) (record {
       went_on = record {
         end = Some (Driven p events run.held);
@@ -26,7 +26,7 @@ returns g c =
         held = (
           had.log_fault ∙ ap fault_if run.shows.log,
           tt,
-          keeps_in_log _ _ _ _ p events run.held g.B.Before.before run.in_step had.crash up (gone_on_to_end log_failed end c.logged_end-outcome.result answer had.in_log),
+          keeps_in_log _ _ _ _ p events run.held g.B.InitialState.before run.in_step had.crash up (gone_on_to_end log_failed end c.logged_end-outcome.result answer had.in_log),
         );
       };
     })

@@ -12,7 +12,7 @@ returns-in-Ok-Ok g c = record {
     record {
       shaped = Ok c.in-Ok-Ok.field-0;
       shapes = c.in-Ok-Ok.ensures;
-      drives = subst (λ (s : Result PlannedShop ShapeFault). DrivesShaped (g.L.Logs.folder c.args.logs.now) (g.L.Logs.folder c.drive_by_log.new.logs) c.args.path.now c.args.start c.args.manner c.args.at (Ok s)
+      drives = subst (λ (s : Result PlannedShop ShapeFault). DrivesShaped (g.L.Logs.folder c.args.logs.now) (g.L.Logs.folder c.drive_by_log.new.logs) c.args.path.now c.args.start c.args.protocol c.args.at (Ok s)
           (step_of c.args.streams c.drive_by_log.result.outcome c.drive_by_log.result.streams end)) (sym c.in-Ok-Ok.field-0-is) is.1;
     },
   )) c.drive_by_log.ensures.drove;

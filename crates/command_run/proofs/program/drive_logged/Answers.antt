@@ -1,8 +1,8 @@
 use Rattle.std.proofs.Common.{◌≡◌, ◌==◌, ◌&&◌, if◌then◌else◌, ℕ, List, Bool, Option, IfSome, ap, sym, ◌∙◌, subst}
 use Rattle.command_run.specs.Streams.{Devices}
-use Rattle.command_run.specs.Logs.{IsToldOfLog, is_driven}
+use Rattle.command_run.specs.Logs.{IsHistoryOfLog, is_driven}
 use Rattle.command_run.specs.Program.{kept_log_in, manner_in, pair_in, starts_again, status_by}
-use Rattle.command_run.proofs.Choosing.{told_of_path, logged}
+use Rattle.command_run.proofs.Choosing.{history_of_path, logged}
 use Rattle.command_run.proofs.Endings.{own_or}
 use Rattle.command_run.proofs.Keepers.{kept_ends}
 use Rattle.command_run.proofs.LoggedEndings.{silent_logged}
@@ -12,9 +12,9 @@ use Rattle.command_run.proofs.program.drive_logged.Goals as goal
 pub logged_answer-outcome-requires-clause-told : goal.logged_answer-outcome-requires-clause-told
 logged_answer-outcome-requires-clause-told g c =
     let chosen = c.args.chosen.now in
-    rw (c.pair-pair.ensures, c.manner-manner.ensures)
-    (subst (λ (d : Devices g.row.T.Denot). IfSome g.B.Before.before (IsToldOfLog g.T.Texts.gives d.folder (pair_in chosen) c.args.path.now (manner_in chosen) chosen.at d.texts d.streams.output.taken)) (sym c.devices.view_is)
-    (told_of_path g.T.Texts.gives chosen c.args.devices c.args.path.now g.B.Before.before c.requires.kept c.requires.told))
+    rw (c.pair-pair.ensures, c.protocol-protocol.ensures)
+    (subst (λ (d : Devices g.row.T.Denot). IfSome g.B.InitialState.before (IsHistoryOfLog g.T.Texts.gives d.folder (pair_in chosen) c.args.path.now (manner_in chosen) chosen.at d.texts d.streams.output.written)) (sym c.devices.view_is)
+    (history_of_path g.T.Texts.gives chosen c.args.devices c.args.path.now g.B.InitialState.before c.requires.kept c.requires.told))
 
 pub returns : goal.returns
 returns g c =
@@ -30,14 +30,14 @@ returns g c =
         is = record {
           outcome = c.logged_answer-outcome.result.outcome;
           mid = c.logged_answer-outcome.result.streams;
-          runs = logged g.T.Texts.gives c.args.chosen.now _ _ c.logged_answer-outcome.result.outcome c.logged_answer-outcome.result.streams run.end c.args.path.now c.pair-pair.result c.manner-manner.result c.requires.kept
-              c.pair-pair.ensures c.manner-manner.ensures run.is.1;
+          runs = logged g.T.Texts.gives c.args.chosen.now _ _ c.logged_answer-outcome.result.outcome c.logged_answer-outcome.result.streams run.end c.args.path.now c.pair-pair.result c.protocol-protocol.result c.requires.kept
+              c.pair-pair.ensures c.protocol-protocol.ensures run.is.1;
           input = c.end-own.ensures.input;
           own = c.end-own.result;
           ends = kept_ends c.args.chosen.now c.args.path.now c.logged_answer-outcome.result.outcome _ _ _ _ c.end-own.result c.requires.kept c.end-own.ensures.ends;
           status_is = status_is;
         };
-        held = held_at_end g.L.Log.LogFile.seen g.L.Log.LogFile.may_leave g.L.Log.LogFile.fault g.L.Log.LogFile.written g.B.Before.before c.logged_answer-outcome.result.outcome _ _ _ _ c.end-own.result _
+        held = held_at_end g.L.Log.LogFile.seen g.L.Log.LogFile.crash_states g.L.Log.LogFile.fault g.L.Log.LogFile.written g.B.InitialState.before c.logged_answer-outcome.result.outcome _ _ _ _ c.end-own.result _
             c.logged_answer-outcome.result.log run.end (λ driven. silent_logged _ _ _ _ _ _ run.is.1.shaped _ run.is.1.drives driven) c.end-own.ensures.ends
             (own_or (kept_log_in c.args.chosen.now) run.end c.logged_answer-outcome.result.outcome c.end-own.result _ status_is) run.held;
       };

@@ -5,7 +5,7 @@ use Rattle.shop_base.specs.Plan.{PlannedShop}
 use Rattle.command_answers.specs.Checks.{IsLineOf}
 use Rattle.command_answers.specs.declared.loading.Loaded.TheVariants.{NotShaped}
 use Rattle.command_run.specs.Resumes.{Resumes}
-use Rattle.command_run.proofs.Accepting.{memory_told}
+use Rattle.command_run.proofs.Accepting.{memory_reported}
 use Rattle.command_run.proofs.resumes.resume_answer.Goals as goal
 
 pub returns-in_err-shaped : goal.returns-in_err-shaped
@@ -29,7 +29,7 @@ returns-in_err-loaded_answer-in-Err g c = record {
   shaped = Ok c.in_ok-shaped.field-0;
   texts_mid = c.shape_files.new.texts;
   shapes = rw (← c.in_ok-shaped.was) c.shape_files.ensures;
-  resumes = rw c.in-Err.is (memory_told (IsLineOf (NotShaped c.in-Err.fault)) _ c.from_residual-in_err-loaded_answer-in-Err.ensures.1, refl, refl);
+  resumes = rw c.in-Err.is (memory_reported (IsLineOf (NotShaped c.in-Err.fault)) _ c.from_residual-in_err-loaded_answer-in-Err.ensures.1, refl, refl);
 }
 
 pub returns-in_ok-loaded_answer-in-Err : goal.returns-in_ok-loaded_answer-in-Err

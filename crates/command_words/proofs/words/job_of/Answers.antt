@@ -3,12 +3,12 @@ use Rattle.clap.specs.Words.{found_of, rows_of}
 use Rattle.clap.specs.declared.error.kind.ErrorKind.TheVariants.{ArgumentConflict}
 use Rattle.command_words.specs.Choice.{are_both, job_misfit}
 use Rattle.command_words.proofs.words.Apart.{found_so, fits_apart, refused_apart}
-use Rattle.command_words.proofs.words.Reasons.{tells_only}
+use Rattle.command_words.proofs.words.Reasons.{names_only}
 use Rattle.command_words.proofs.words.job_of.Goals as goal
 
 pub returns-then-are_both-clause-refused : goal.returns-then-are_both-clause-refused
 returns-then-are_both-clause-refused c =
-    tells_only ArgumentConflict _ c.no_both.result (found_so _ ArgumentConflict _ (sym c.are_both.ensures ∙ c.if-are_both.true)) c.no_both.ensures
+    names_only ArgumentConflict _ c.no_both.result (found_so _ ArgumentConflict _ (sym c.are_both.ensures ∙ c.if-are_both.true)) c.no_both.ensures
 
 pub returns-clause-fits : goal.returns-clause-fits
 returns-clause-fits c =

@@ -1,14 +1,14 @@
 use Rattle.std.proofs.Common.{IfOk, ap, map, subst, sym}
 use Rattle.command_words.specs.Choice.{Found, IsChoiceOf, IsFit, misfit_in}
-use Rattle.command_words.proofs.words.Reasons.{no_reasons, tells_first, tells_next}
-use Rattle.command_words.proofs.words.Taken.{met, taken, taken_fits, told}
+use Rattle.command_words.proofs.words.Reasons.{no_reasons, names_first, names_next}
+use Rattle.command_words.proofs.words.Taken.{met, taken, accepted_fits, told}
 use Rattle.command_words.proofs.words.read_words.Goals as goal
 
 pub chosen_by-requires : goal.chosen_by-requires
 chosen_by-requires c =
     let is = c.in_ok-program.ensures.app in
     let words = map (λ word. word.now) c.args.words.now in
-    subst IsFit (sym (met _ words _ _ is c.in-Ok.ensures.matches)) (taken_fits words (taken _ words is c.in-Ok.ensures.kinds))
+    subst IsFit (sym (met _ words _ _ is c.in-Ok.ensures.matches)) (accepted_fits words (taken _ words is c.in-Ok.ensures.kinds))
 
 pub returns-in-Ok-clause-chosen : goal.returns-in-Ok-clause-chosen
 returns-in-Ok-clause-chosen c =
@@ -25,8 +25,8 @@ pub returns-in-Ok-clause-refused : goal.returns-in-Ok-clause-refused
 returns-in-Ok-clause-refused c =
     let is = c.in_ok-program.ensures.app in
     let words = map (λ word. word.now) c.args.words.now in
-    tells_next _ _ _ c.chosen_by.result (taken _ words is c.in-Ok.ensures.kinds) (ap (misfit_in words) (met _ words _ _ is c.in-Ok.ensures.matches)) c.chosen_by.ensures.refused
+    names_next _ _ _ c.chosen_by.result (taken _ words is c.in-Ok.ensures.kinds) (ap (misfit_in words) (met _ words _ _ is c.in-Ok.ensures.matches)) c.chosen_by.ensures.refused
 
 pub returns-in-Err-clause-refused : goal.returns-in-Err-clause-refused
 returns-in-Err-clause-refused c =
-    tells_first _ _ c.fault_of.result (told _ (map (λ word. word.now) c.args.words.now) c.in-Err.error c.fault_of.result c.in_ok-program.ensures.app c.in-Err.ensures.kinds c.fault_of.ensures)
+    names_first _ _ c.fault_of.result (told _ (map (λ word. word.now) c.args.words.now) c.in-Err.error c.fault_of.result c.in_ok-program.ensures.app c.in-Err.ensures.kinds c.fault_of.ensures)

@@ -5,7 +5,7 @@ use Rattle.clap.specs.declared.error.kind.ErrorKind.TheVariants.{MissingRequired
 use Rattle.text_lines.specs.Numbers.{value_of}
 use Rattle.command_words.proofs.words.Getters.{text_given, text_left_out}
 use Rattle.command_words.proofs.words.Moments.{fits_none, fits_given, lacks_given, lacks_moment_given}
-use Rattle.command_words.proofs.words.Reasons.{tells_only}
+use Rattle.command_words.proofs.words.Reasons.{names_only}
 use Rattle.command_words.proofs.words.rest_at.Goals as goal
 
 pub returns-in_default-clause-exact : goal.returns-in_default-clause-exact
@@ -18,7 +18,7 @@ returns-in_default-clause-fits c = fits_none _ _ (text_left_out (found_of c.args
 pub returns-then-not-has_log-clause-refused : goal.returns-then-not-has_log-clause-refused
 returns-then-not-has_log-clause-refused c =
     let said = text_given (found_of c.args.matches.now) (codes "at") c.in-Some.word.now c.get_str.result c.in-Some.word c.get_str.ensures c.in-Some.is refl in
-    tells_only MissingRequiredArgument _ c.no_log.result (lacks_given _ _ c.in-Some.word.now (sym c.has_log.ensures ∙ c.if-not-has_log.true) (sym said)) c.no_log.ensures
+    names_only MissingRequiredArgument _ c.no_log.result (lacks_given _ _ c.in-Some.word.now (sym c.has_log.ensures ∙ c.if-not-has_log.true) (sym said)) c.no_log.ensures
 
 pub returns-in-Some-moment_of-clause-exact : goal.returns-in-Some-moment_of-clause-exact
 returns-in-Some-moment_of-clause-exact c =
@@ -33,4 +33,4 @@ returns-in-Some-moment_of-clause-fits c =
 pub returns-in-None-clause-refused : goal.returns-in-None-clause-refused
 returns-in-None-clause-refused c =
     let said = text_given (found_of c.args.matches.now) (codes "at") c.in-Some.word.now c.get_str.result c.in-Some.word c.get_str.ensures c.in-Some.is refl in
-    tells_only ValueValidation _ c.no_moment.result (lacks_moment_given _ _ c.in-Some.word.now (sym c.has_log.ensures ∙ c.if-not-has_log.false) (sym said) c.in-None.ensures) c.no_moment.ensures
+    names_only ValueValidation _ c.no_moment.result (lacks_moment_given _ _ c.in-Some.word.now (sym c.has_log.ensures ∙ c.if-not-has_log.false) (sym said) c.in-None.ensures) c.no_moment.ensures

@@ -7,8 +7,8 @@ returns-clause-run c = one.a_driven_run_goes_on_as_one
 pub returns-clause-promised : goal.returns-clause-promised
 returns-clause-promised c = one.it_stays_as_promised
 
-pub returns-clause-taken : goal.returns-clause-taken
-returns-clause-taken c = one.it_is_taken_up_as_one
+pub returns-clause-recovered : goal.returns-clause-recovered
+returns-clause-recovered c = one.it_is_recovered_as_one
 
 pub returns-clause-so_far : goal.returns-clause-so_far
 returns-clause-so_far c = one.it_is_one_so_far

@@ -1,4 +1,4 @@
-use Rattle.drive_laws.proofs.OneTaking as taking
+use Rattle.drive_laws.proofs.Recoveries as taking
 use Rattle.drive_laws.proofs.laws.a_log_without_events_is_driven.Goals as goal
 
 pub returns : goal.returns

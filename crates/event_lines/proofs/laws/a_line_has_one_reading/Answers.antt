@@ -1,8 +1,8 @@
 use Rattle.event_lines.proofs.Readings.{one_entry, one_report, one_cell_report, one_request, one_cell_request}
 use Rattle.event_lines.proofs.laws.a_line_has_one_reading.Goals as goal
 
-pub returns-clause-told : goal.returns-clause-told
-returns-clause-told c = one_entry
+pub returns-clause-parsed : goal.returns-clause-parsed
+returns-clause-parsed c = one_entry
 
 pub returns-clause-sent : goal.returns-clause-sent
 returns-clause-sent c = one_report

@@ -1,21 +1,21 @@
 use Rattle.std.proofs.Common.{sym, ap, ◌∙◌}
-use Rattle.cell_drive.specs.InManner.{IsGoneOnIn}
+use Rattle.cell_drive.specs.InProtocol.{IsGoneOnIn}
 use Rattle.run_journal.specs.Logged.{fault_if}
-use Rattle.logged_drive.proofs.LoggedSteps.{all_in_log, at_end, at_start, began, keeps_shown, no_memory_behind, retaken, unfailed_behind, write_failed_behind}
-use Rattle.logged_drive.proofs.GivenOn.{taken_up_once_more}
+use Rattle.logged_drive.proofs.LoggedSteps.{all_in_log, at_end, at_start, began, keeps_shown, no_memory_behind, rewritten, unfailed_behind, write_failed_behind}
+use Rattle.logged_drive.proofs.GivenOn.{recovered_once_more}
 use Rattle.logged_drive.proofs.going_on.go_on_logged.Goals as goal
 
 pub returns-clause-went_on : goal.returns-clause-went_on
 returns-clause-went_on g c =
-    let goes_on = IsGoneOnIn c.args.manner c.args.run in
+    let goes_on = IsGoneOnIn c.args.protocol c.args.run in
     let new = c.new-writer.ensures in
     let parts = c.into_parts-log.ensures in
-    retaken goes_on _ _ _ _ _ _ _ _ _ _ new.taken (record {
+    rewritten goes_on _ _ _ _ _ _ _ _ _ _ new.written (record {
       held = c.go_on_in-end.new.writer;
       shows = record {
         drove = began goes_on _ c.new-writer.result _ _ new.pending new.unfailed.0 c.go_on_in-end.ensures;
         log = c.has_log_failed-log_failed.ensures;
-        output = parts.taken;
+        output = parts.written;
         shown = parts.shown;
       };
       in_step = parts.in_step;
@@ -24,21 +24,21 @@ returns-clause-went_on g c =
 pub returns-clause-crash : goal.returns-clause-crash
 returns-clause-crash g c =
     let parts = c.into_parts-log.ensures in
-    keeps_shown c.a_crash_keeps_what_was_shown.ensures g.B.Before.before _ _ c.go_on_in-end.new.writer _ parts.taken c.requires.whole parts.in_step
+    keeps_shown c.a_crash_keeps_what_was_shown.ensures g.B.InitialState.before _ _ c.go_on_in-end.new.writer _ parts.written c.requires.whole parts.in_step
 
-pub returns-clause-taken_up : goal.returns-clause-taken_up
-returns-clause-taken_up g c =
-    let goes_on = IsGoneOnIn c.args.manner c.args.run in
+pub returns-clause-recoverable : goal.returns-clause-recoverable
+returns-clause-recoverable g c =
+    let goes_on = IsGoneOnIn c.args.protocol c.args.run in
     let new = c.new-writer.ensures in
     let parts = c.into_parts-log.ensures in
-    taken_up_once_more c.args.manner c.args.run g.B.Before.before _ _ c.go_on_in-end.new.writer _ _ _ _ _ parts.taken (at_start g.B.Before.before _ _ _ new.taken c.requires.before) c.requires.whole
+    recovered_once_more c.args.protocol c.args.run g.B.InitialState.before _ _ c.go_on_in-end.new.writer _ _ _ _ _ parts.written (at_start g.B.InitialState.before _ _ _ new.written c.requires.before) c.requires.whole
     (began goes_on _ c.new-writer.result _ _ new.pending new.unfailed.0 c.go_on_in-end.ensures) parts.in_step
 
 pub returns-clause-in_log : goal.returns-clause-in_log
 returns-clause-in_log g c = at_end c.go_on_in-end.result (λ end is.
     let parts = c.into_parts-log.ensures in
     let unfailed = unfailed_behind _ _ _ _ _ end is c.go_on_in-end.ensures ∙ c.new-writer.ensures.unfailed.0 in
-    all_in_log g.B.Before.before _ _ c.go_on_in-end.new.writer _ parts.taken unfailed (parts.settled unfailed) parts.in_step)
+    all_in_log g.B.InitialState.before _ _ c.go_on_in-end.new.writer _ parts.written unfailed (parts.durable unfailed) parts.in_step)
 
 pub returns-clause-log_fault : goal.returns-clause-log_fault
 returns-clause-log_fault g c = c.into_parts-log.ensures.log_fault ∙ sym (ap fault_if c.has_log_failed-log_failed.ensures)

@@ -3,11 +3,11 @@ use Rattle.plan_decide.specs.Settings.{case_in}
 use Rattle.plan_decide.proofs.Telling.{pair_exclusion, pair_more, pair_passed}
 use Rattle.plan_decide.proofs.pairs.add_pair.Goals as goal
 
-pub returns-then-not-is_in_doubt-clause-told : goal.returns-then-not-is_in_doubt-clause-told
-returns-then-not-is_in_doubt-clause-told g c = pair_passed (case_in c.args.setting.now) c.args.one c.args.other _ c.args.told.now.items (omega arith) c.requires.told
+pub returns-then-not-is_in_doubt-clause-listed : goal.returns-then-not-is_in_doubt-clause-listed
+returns-then-not-is_in_doubt-clause-listed g c = pair_passed (case_in c.args.setting.now) c.args.one c.args.other _ c.args.listed.now.items (omega arith) c.requires.listed
 
-pub returns-clause-told : goal.returns-clause-told
-returns-clause-told g c =
+pub returns-clause-listed : goal.returns-clause-listed
+returns-clause-listed g c =
     let t = case_in c.args.setting.now in
-    pair_more t c.args.one c.args.other c.args.told.now.items c.push.new.self.items c.in_ok-push.ensures.items
-    (pair_exclusion t c.args.one c.args.other c.requires.ascending c.requires.doubt c.if-not-is_in_doubt.ensures (rw c.in-Never.is at c.in_ok-ask.ensures)) c.requires.told
+    pair_more t c.args.one c.args.other c.args.listed.now.items c.push.new.self.items c.in_ok-push.ensures.items
+    (pair_exclusion t c.args.one c.args.other c.requires.ascending c.requires.doubt c.if-not-is_in_doubt.ensures (rw c.in-Never.is at c.in_ok-ask.ensures)) c.requires.listed

@@ -1,8 +1,8 @@
 use Rattle.plan_decide.specs.Settings.{case_in}
 use Rattle.plan_decide.specs.declared.excluded.Excluded.TheVariants.{Pair}
-use Rattle.plan_decide.specs.Told.{AreToldBefore, AddsExclusions}
+use Rattle.plan_decide.specs.Told.{AreExclusionsBefore, AddsExclusions}
 use Rattle.plan_decide.proofs.pairs.add_pairs.Given as goal
 
 -- what was told stays, and the pairs of the jobs before this one are told
 abbrev pub invariant-loop-one : goal.invariant-loop-one
-invariant-loop-one g l = AreToldBefore (case_in l.setting) (Pair l.one 0) l.told.items × AddsExclusions l.initial.told.items l.told.items
+invariant-loop-one g l = AreExclusionsBefore (case_in l.setting) (Pair l.one 0) l.listed.items × AddsExclusions l.initial.listed.items l.listed.items

@@ -1,8 +1,8 @@
 use Rattle.plan_decide.specs.Settings.{case_in}
 use Rattle.plan_decide.specs.declared.excluded.Excluded.TheVariants.{Pair}
-use Rattle.plan_decide.specs.Told.{AreToldBefore, AddsExclusions}
+use Rattle.plan_decide.specs.Told.{AreExclusionsBefore, AddsExclusions}
 use Rattle.plan_decide.proofs.pairs.add_pairs_of.Given as goal
 
 -- what was told stays, and the pairs with the jobs before this one are told
 abbrev pub invariant-loop-other : goal.invariant-loop-other
-invariant-loop-other g l = AreToldBefore (case_in l.setting) (Pair l.one l.other) l.told.items × AddsExclusions l.initial.told.items l.told.items
+invariant-loop-other g l = AreExclusionsBefore (case_in l.setting) (Pair l.one l.other) l.listed.items × AddsExclusions l.initial.listed.items l.listed.items

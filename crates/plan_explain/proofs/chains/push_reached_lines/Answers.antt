@@ -1,14 +1,14 @@
 use Rattle.std.proofs.Common.{◌+◌, ◌^◌, ◌<◌, arith}
-use Rattle.plan_explain.proofs.Told.{along_next, reached_told, length_next, moment_small, reached_end}
+use Rattle.plan_explain.proofs.Told.{along_next, reached_printed, length_next, moment_small, reached_end}
 use Rattle.plan_explain.proofs.chains.push_reached_lines.Goals as goal
 
-pub told_arc-arc-requires : goal.told_arc-arc-requires
-told_arc-arc-requires c = (along_next c.args.shaped.now c.loop-node.last c.args.along.now c.loop-node.node-index _ (omega arith) c.loop-node.invariant.arcs).0
+pub arc_kind-arc-requires : goal.arc_kind-arc-requires
+arc_kind-arc-requires c = (along_next c.args.shaped.now c.loop-node.last c.args.along.now c.loop-node.node-index _ (omega arith) c.loop-node.invariant.arcs).0
 
 pub overflow_add-at : goal.overflow_add-at
 overflow_add-at c =
     let small : c.loop-node.at + c.time-at.result < 2 ^ 64 = moment_small c.args.shaped.now c.loop-node.last c.args.along.now c.loop-node.node-index _ (omega arith)
-    c.loop-node.at _ _ c.told_arc-arc.ensures c.time-at.ensures _ c.loop-node.invariant.size c.requires.small in
+    c.loop-node.at _ _ c.arc_kind-arc.ensures c.time-at.ensures _ c.loop-node.invariant.size c.requires.small in
     omega (arith, small)
 
 pub loop-node-preserved : goal.loop-node-preserved
@@ -17,10 +17,10 @@ loop-node-preserved c =
     let along = c.args.along.now in
     let i = c.loop-node.node-index in
     record {
-      told = reached_told p c.loop-node.last along i _ (omega arith) c.loop-node.at _ _ c.told_arc-arc.ensures c.time-at.ensures c.args.names.now _ _ _ c.loop-node.invariant.told c.in_ok-push_reached_line.ensures;
+      printed = reached_printed p c.loop-node.last along i _ (omega arith) c.loop-node.at _ _ c.arc_kind-arc.ensures c.time-at.ensures c.args.names.now _ _ _ c.loop-node.invariant.printed c.in_ok-push_reached_line.ensures;
       arcs = (along_next p c.loop-node.last along i _ (omega arith) c.loop-node.invariant.arcs).1;
-      size = length_next p c.loop-node.last along i _ (omega arith) c.loop-node.at _ _ c.told_arc-arc.ensures c.time-at.ensures _ c.loop-node.invariant.size;
+      size = length_next p c.loop-node.last along i _ (omega arith) c.loop-node.at _ _ c.arc_kind-arc.ensures c.time-at.ensures _ c.loop-node.invariant.size;
     }
 
 pub returns : goal.returns
-returns c = reached_end c.args.shaped.now c.loop-node.last c.args.along.now c.loop-node.node-index (omega arith) c.args.names.now c.loop-node.at _ _ c.loop-node.invariant.told
+returns c = reached_end c.args.shaped.now c.loop-node.last c.args.along.now c.loop-node.node-index (omega arith) c.args.names.now c.loop-node.at _ _ c.loop-node.invariant.printed

@@ -1,5 +1,5 @@
 use Rattle.std.proofs.Common.{arith}
-use Rattle.plan_explain.proofs.Told.{arcs_next, arc_told, arcs_end, lines_end}
+use Rattle.plan_explain.proofs.Told.{arcs_next, arc_printed, arcs_end, lines_end}
 use Rattle.plan_explain.proofs.Texts.{on_ok_same}
 use Rattle.plan_explain.proofs.cycles.push_arc_lines.Goals as goal
 
@@ -13,7 +13,7 @@ loop-node-preserved c =
     let along = c.args.along.now in
     let i = c.loop-node.node-index in
     record {
-      told = arc_told p c.loop-node.last along i _ (omega arith) c.args.names.now c.args.to _ _ _ c.loop-node.invariant.told c.in_ok-push_arc_line.ensures;
+      printed = arc_printed p c.loop-node.last along i _ (omega arith) c.args.names.now c.args.to _ _ _ c.loop-node.invariant.printed c.in_ok-push_arc_line.ensures;
       arcs = (arcs_next p c.loop-node.last along i _ (omega arith) c.args.to c.loop-node.invariant.arcs).1;
     }
 
@@ -22,4 +22,4 @@ push_arc_line-requires-2 c = arcs_end c.args.shaped.now c.loop-node.last c.args.
 
 pub returns : goal.returns
 returns c = on_ok_same c.push_arc_line-2.result c.push_arc_line-2.new.text.items _ _
-    (lines_end c.args.shaped.now c.loop-node.last c.args.along.now c.loop-node.node-index (omega arith) c.args.names.now c.args.to _ _ c.loop-node.invariant.told) c.push_arc_line-2.ensures
+    (lines_end c.args.shaped.now c.loop-node.last c.args.along.now c.loop-node.node-index (omega arith) c.args.names.now c.args.to _ _ c.loop-node.invariant.printed) c.push_arc_line-2.ensures

@@ -2,7 +2,7 @@ use Rattle.std.proofs.Common.{◌≡◌, Some, None, arith}
 use Rattle.shop_base.specs.Graph.{leaving}
 use Rattle.plan_explain.specs.Explained.{IsChosen}
 use Rattle.plan_explain.specs.RestExplained.{IsChainTo, IsChainToLastAhead}
-use Rattle.plan_explain.proofs.RestTexts.{some_chain, lines_told}
+use Rattle.plan_explain.proofs.RestTexts.{some_chain, moment_lines_of}
 use Rattle.plan_explain.proofs.Texts.{on_ok_each}
 use Rattle.plan_explain.proofs.explaining.push_lines_behind.Goals as goal
 
@@ -39,7 +39,7 @@ returns-in_ok-chain-in-Accepted g c =
     let known = rw c.in-Accepted.is at c.requires.judged in
     rw c.in-Accepted.is
     (on_ok_each c.push_moment_lines.result _ _
-    (lines_told c.args.names.now p here t c.in-Accepted.times.now c.deref.result.now (IsChosen (IsChainTo p here t) c.args.job (IsChainToLastAhead p here t)) known.accepted.0
+    (moment_lines_of c.args.names.now p here t c.in-Accepted.times.now c.deref.result.now (IsChosen (IsChainTo p here t) c.args.job (IsChainToLastAhead p here t)) known.accepted.0
     (rw c.deref.ensures.value ((c.in_ok-chain-in-Accepted.ensures t known.accepted.0).is)))
     c.push_moment_lines.ensures)
 
@@ -52,7 +52,7 @@ returns-in_ok-asked-in-Some g c =
     let (late, ordered, same) = known.refused in
     rw (c.in-Refused.is, c.in-Late.is, c.in-Some.is)
     (on_ok_each c.push_moment_lines-in-Some.result _ _
-    (lines_told c.args.names.now p here t c.in-Late.times c.deref-in-Some.result.now
+    (moment_lines_of c.args.names.now p here t c.in-Late.times c.deref-in-Some.result.now
     (IsChosen (IsChainTo p here t) (Some c.in-Some.job) (λ moments nodes. nodes ≡ c.in-Late.chain.items)) ordered
     (rw c.deref-in-Some.ensures.value ((c.in_ok-asked-in-Some.ensures t ordered).is)))
     c.push_moment_lines-in-Some.ensures)
@@ -66,6 +66,6 @@ returns-in-None g c =
     let (late, ordered, same) = known.refused in
     rw (c.in-Refused.is, c.in-Late.is, c.in-None.is)
     (on_ok_each c.push_moment_lines-in-None.result _ _
-    (lines_told c.args.names.now p here t c.in-Late.times c.deref-in-None.result.now
+    (moment_lines_of c.args.names.now p here t c.in-Late.times c.deref-in-None.result.now
     (IsChosen (IsChainTo p here t) None (λ moments nodes. nodes ≡ c.in-Late.chain.items)) ordered c.deref-in-None.ensures.value)
     c.push_moment_lines-in-None.ensures)

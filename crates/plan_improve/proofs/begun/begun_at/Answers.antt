@@ -1,6 +1,6 @@
 use Rattle.std.proofs.Common.{length, arith, sym, ap, ◌∙◌}
 use Rattle.plan_improve.proofs.Common.{ended_lines}
-use Rattle.plan_improve.proofs.Beginnings.{event_told, begun_is}
+use Rattle.plan_improve.proofs.Beginnings.{event_read, begun_is}
 use Rattle.plan_improve.proofs.begun.begun_at.Goals as goal
 
 pub returns-clause-begun : goal.returns-clause-begun
@@ -10,4 +10,4 @@ returns-clause-begun c =
     let out = c.into_parts-tables.ensures in
     begun_is (ended_lines c.args.log.now) c.args.start.now run.cell.basis.now run.cell.plan run.cell.cell run.entries.items _ (sym out.plan ∙ is.plan) is.plan is.tells is.told out.cell out.sound
     (record { in_order = omega (arith, c.in_ok-present.ensures.present.1, c.last.ensures); in_range = c.in_ok-present.ensures.present.2 }) c.in_ok-rest.ensures
-    (event_told (ended_lines c.args.log.now) c.args.start.now run.entries.items (length c.as_slice.result.now) is.tells (ap length c.as_slice.ensures.value))
+    (event_read (ended_lines c.args.log.now) c.args.start.now run.entries.items (length c.as_slice.result.now) is.tells (ap length c.as_slice.ensures.value))

@@ -1,22 +1,22 @@
-use Rattle.plan_improve.proofs.Common.{RoundsTold, judged, whole_plan}
-use Rattle.plan_improve.proofs.Searched.{never_worse, found_told, untold, stays_accepted}
+use Rattle.plan_improve.proofs.Common.{ReportedRounds, judged, whole_plan}
+use Rattle.plan_improve.proofs.Searched.{never_worse, found_reported, found_of_reported, stays_accepted}
 use Rattle.plan_improve.proofs.improving.improve.Goals as goal
 
 pub returns-in-Ok-improve_on : goal.returns-in-Ok-improve_on
 returns-in-Ok-improve_on g c =
-    let before = g.W.Watch.told c.args.watch.now in
-    let after = g.W.Watch.told c.improve_on.new.watch in
-    let made = RoundsTold whole_plan (λ b. (goal.Improver-dyn g (b.vtable, b.value)).may b.value) c.args.improvers.now c.args.rounds in
+    let before = g.W.Watch.reported c.args.watch.now in
+    let after = g.W.Watch.reported c.improve_on.new.watch in
+    let made = ReportedRounds whole_plan (λ b. (goal.Improver-dyn g (b.vtable, b.value)).may b.value) c.args.improvers.now c.args.rounds in
     let start = c.args.start in
     let verdict = c.in-Ok-improve_on.verdict in
     let is = c.in-Ok-improve_on.ensures.searched in
-    let told = found_told whole_plan before after made start (judged verdict) is in
+    let reported = found_reported whole_plan before after made start (judged verdict) is in
     record {
       same = is.same;
       acyclic = is.is.acyclic;
       never_worse = never_worse whole_plan before after made start (judged verdict) is;
-      found = untold whole_plan before after made start (judged verdict) told;
-      told = told;
+      found = found_of_reported whole_plan before after made start (judged verdict) reported;
+      reported = reported;
       stays_accepted = stays_accepted before after made start verdict is c.in-Ok-improve_on.ensures.exact;
       exact = c.in-Ok-improve_on.ensures.exact;
       reason = c.in-Ok-improve_on.ensures.reason;

@@ -10,6 +10,6 @@ returns g c =
       moments = earliest_of c.args.times.now;
       earliest = are_moments c.args.cell.now.plan c.args.cell.now.cell c.args.present c.args.times.now c.requires.ordered;
       left = c.requires.ordered.left;
-      visits = run_visits _ _ _ _ _ c.new-visits.ensures.items (rw is at c.in_ok-push_told.ensures) (rw is at c.in_ok-push_ahead.ensures);
+      visits = run_visits _ _ _ _ _ c.new-visits.ensures.items (rw is at c.in_ok-push_drawn.ensures) (rw is at c.in_ok-push_ahead.ensures);
       leavings = c.in_ok-leavings.ensures;
     }

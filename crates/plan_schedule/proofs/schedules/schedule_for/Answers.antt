@@ -1,6 +1,6 @@
 use Rattle.plan_verifier.proofs.Answers.{ok_each}
 use Rattle.plan_verifier.proofs.AtStart.{at_once, accepted_ahead, reason_ahead}
-use Rattle.plan_schedule.proofs.StartSchedule.{scheduled_told}
+use Rattle.plan_schedule.proofs.StartSchedule.{scheduled_whole}
 use Rattle.plan_schedule.proofs.schedules.schedule_for.Goals as goal
 
 pub schedule_after-requires-clause-present : goal.schedule_after-requires-clause-present
@@ -13,5 +13,5 @@ schedule_after-requires-clause-judged c =
 
 pub returns-in-Ok : goal.returns-in-Ok
 returns-in-Ok c =
-    ok_each c.schedule_after.result (λ text is. scheduled_told c.args.names.now c.args.verdict.now text.items (rw c.shaped-shaped.ensures at c.shop-shop.ensures.well_shaped) is)
+    ok_each c.schedule_after.result (λ text is. scheduled_whole c.args.names.now c.args.verdict.now text.items (rw c.shaped-shaped.ensures at c.shop-shop.ensures.well_shaped) is)
     (rw (c.in-Ok.ensures.start, c.shaped-shaped.ensures, c.seen.ensures.same) at c.schedule_after.ensures)

@@ -16,7 +16,7 @@ returns-then-made-node g c =
 pub returns-in-Some : goal.returns-in-Some
 returns-in-Some g c =
     let here : made c.args.cell.now.cell c.args.node.job ≡ c.args.node.place = omega (arith, c.if-node-made.false, c.if-made-node.false, ap (λ (s : JobState). s.made) c.job_state-made.ensures) in
-    first_bound _ _ _ _ c.job_bound-own.result here c.job_bound-own.ensures c.in-Some.cleaned c.told_first.result c.in-Some.ensures c.told_first.ensures
+    first_bound _ _ _ _ c.job_bound-own.result here c.job_bound-own.ensures c.in-Some.cleaned c.prior_bound.result c.in-Some.ensures c.prior_bound.ensures
 
 pub returns-in-None : goal.returns-in-None
 returns-in-None g c =

@@ -12,20 +12,20 @@ returns g c =
     let p = c.args.cell.now.plan in
     let cell = c.args.cell.now.cell in
     let t = c.args.present in
-    let told = c.judge_rest.result in
+    let judged = c.judge_rest.result in
     let is = c.judge_rest.ensures.accepted in
     let why = c.judge_rest.ensures.refused in
     record {
       accepted = is;
       refused = why;
-      exact = ok_both told (λ verdict accepted reason. verdict_exact p cell t verdict accepted reason) is why;
-      never_stuck = verdict_times p cell t (λ (times : NodeTimes). IsNeverStuckFrom p cell t) told (λ times ordered. never_stuck_from p cell t times ordered) is why;
-      in_time = verdict_times p cell t (λ (times : NodeTimes). IsInTimeFrom p cell t) told (λ times ordered. in_time_from p cell t times ordered c.requires) is why;
-      no_later = verdict_times p cell t (λ (times : NodeTimes). (j : ℕ) → j < jobs p → IsNeverGoneAfterFrom p cell t j (earliest_of times (leaving p j))) told
+      exact = ok_both judged (λ verdict accepted reason. verdict_exact p cell t verdict accepted reason) is why;
+      never_stuck = verdict_times p cell t (λ (times : NodeTimes). IsNeverStuckFrom p cell t) judged (λ times ordered. never_stuck_from p cell t times ordered) is why;
+      in_time = verdict_times p cell t (λ (times : NodeTimes). IsInTimeFrom p cell t) judged (λ times ordered. in_time_from p cell t times ordered c.requires) is why;
+      no_later = verdict_times p cell t (λ (times : NodeTimes). (j : ℕ) → j < jobs p → IsNeverGoneAfterFrom p cell t j (earliest_of times (leaving p j))) judged
           (λ times ordered. never_gone_after p cell t times ordered c.requires) is why;
-      no_faster = verdict_times p cell t (λ (times : NodeTimes). (j : ℕ) → j < jobs p → (IsGone p cell j → ⊥) → IsNeverGoneBeforeFrom p cell t j (earliest_of times (leaving p j))) told
+      no_faster = verdict_times p cell t (λ (times : NodeTimes). (j : ℕ) → j < jobs p → (IsGone p cell j → ⊥) → IsNeverGoneBeforeFrom p cell t j (earliest_of times (leaving p j))) judged
           (λ times ordered. never_gone_before p cell t times ordered) is why;
-      just_in_time = verdict_times p cell t (λ (times : NodeTimes). IsJustInTimeFrom p cell t (earliest_of times)) told (λ times ordered. just_in_time_from p cell t times ordered c.requires) is why;
-      stops = ok_each told (λ verdict reason. verdict_stops p cell t verdict c.judge_rest.ensures.well_shaped reason) why;
-      just = ok_each told (λ verdict reason. verdict_just p cell t verdict c.judge_rest.ensures.well_shaped reason) why;
+      just_in_time = verdict_times p cell t (λ (times : NodeTimes). IsJustInTimeFrom p cell t (earliest_of times)) judged (λ times ordered. just_in_time_from p cell t times ordered c.requires) is why;
+      stops = ok_each judged (λ verdict reason. verdict_stops p cell t verdict c.judge_rest.ensures.well_shaped reason) why;
+      just = ok_each judged (λ verdict reason. verdict_just p cell t verdict c.judge_rest.ensures.well_shaped reason) why;
     }

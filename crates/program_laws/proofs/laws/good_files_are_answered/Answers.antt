@@ -43,10 +43,10 @@ pub returns-clause-rest_moves : goal.returns-clause-rest_moves
 returns-clause-rest_moves c = λ at content pair log text p outcome asked good is shaped run. good_named_log content pair p good (λ book. AreMovesOfLog book at) log text outcome asked is shaped run
 
 pub returns-clause-log : goal.returns-clause-log
-returns-clause-log c = λ telling content pair log text p outcome asked good is shaped run. good_named_log content pair p good (λ book. IsLogLine book telling) log text outcome asked is shaped run
+returns-clause-log c = λ wanted content pair log text p outcome asked good is shaped run. good_named_log content pair p good (λ book. IsLogLine book wanted) log text outcome asked is shaped run
 
 pub returns-clause-rest : goal.returns-clause-rest
-returns-clause-rest c = λ telling at content pair log text p outcome asked good is shaped none run. good_rest content pair p good telling at log text outcome asked is shaped none run
+returns-clause-rest c = λ wanted at content pair log text p outcome asked good is shaped none run. good_rest content pair p good wanted at log text outcome asked is shaped none run
 
 pub returns-clause-schedule_picture : goal.returns-clause-schedule_picture
 returns-clause-schedule_picture c = λ before after content pair p outcome asked good run. good_schedule_picture content pair p good before after outcome asked run
@@ -67,13 +67,13 @@ pub returns-clause-improve_rest : goal.returns-clause-improve_rest
 returns-clause-improve_rest c = λ at rounds content pair log text p outcome asked good is shaped run. good_rest_improvement content pair p good at rounds log text outcome asked is shaped run
 
 pub returns-clause-drive : goal.returns-clause-drive
-returns-clause-drive c = λ manner before after content pair p outcome asked good shaped acceptable run. good_drive content pair p good manner before after outcome asked shaped acceptable run
+returns-clause-drive c = λ protocol before after content pair p outcome asked good shaped acceptable run. good_drive content pair p good protocol before after outcome asked shaped acceptable run
 
 pub returns-clause-resume : goal.returns-clause-resume
-returns-clause-resume c = λ manner at before after content pair log text p outcome asked good shaped is run. good_resume content pair p good manner at before after log text outcome asked shaped is run
+returns-clause-resume c = λ protocol at before after content pair log text p outcome asked good shaped is run. good_resume content pair p good protocol at before after log text outcome asked shaped is run
 
 pub returns-clause-hub : goal.returns-clause-hub
-returns-clause-hub c = λ manner before after content path instance name files plans outcome asked is good run. good_hub content instance name manner path files plans before after outcome asked is good run
+returns-clause-hub c = λ protocol before after content path instance name files plans outcome asked is good run. good_hub content instance name protocol path files plans before after outcome asked is good run
 
 pub returns-clause-input : goal.returns-clause-input
 returns-clause-input c = λ before after text description shop outcome given few tells run. good_input before after text description shop outcome given few tells run

@@ -1,41 +1,41 @@
-use Rattle.program_laws.proofs.PlainWords.{told_first, facts_first, plan_first, improve_first, improve_rest_first, picture_first, drive_first, resume_first, hub_first}
+use Rattle.program_laws.proofs.PlainWords.{instance_first_of, facts_first, plan_first, improve_first, improve_rest_first, picture_first, drive_first, resume_first, hub_first}
 use Rattle.program_laws.proofs.laws.instance_first.Goals as goal
 
 pub returns-clause-facts : goal.returns-clause-facts
 returns-clause-facts c = λ content pair text fault outcome asked is first run. facts_first content pair.path text pair.name fault is first outcome asked run
 
 pub returns-clause-shape : goal.returns-clause-shape
-returns-clause-shape c = λ content pair text fault outcome asked is first run. told_first content pair text fault is first _ outcome asked run
+returns-clause-shape c = λ content pair text fault outcome asked is first run. instance_first_of content pair text fault is first _ outcome asked run
 
 pub returns-clause-digest : goal.returns-clause-digest
-returns-clause-digest c = λ content pair text fault outcome asked is first run. told_first content pair text fault is first _ outcome asked run
+returns-clause-digest c = λ content pair text fault outcome asked is first run. instance_first_of content pair text fault is first _ outcome asked run
 
 pub returns-clause-check : goal.returns-clause-check
-returns-clause-check c = λ content pair text fault outcome asked is first run. told_first content pair text fault is first _ outcome asked run
+returns-clause-check c = λ content pair text fault outcome asked is first run. instance_first_of content pair text fault is first _ outcome asked run
 
 pub returns-clause-explain : goal.returns-clause-explain
-returns-clause-explain c = λ names told content pair text fault outcome asked is first run. told_first content pair text fault is first _ outcome asked run
+returns-clause-explain c = λ names told content pair text fault outcome asked is first run. instance_first_of content pair text fault is first _ outcome asked run
 
 pub returns-clause-schedule : goal.returns-clause-schedule
-returns-clause-schedule c = λ names content pair text fault outcome asked is first run. told_first content pair text fault is first _ outcome asked run
+returns-clause-schedule c = λ names content pair text fault outcome asked is first run. instance_first_of content pair text fault is first _ outcome asked run
 
 pub returns-clause-bounds : goal.returns-clause-bounds
-returns-clause-bounds c = λ names content pair text fault outcome asked is first run. told_first content pair text fault is first _ outcome asked run
+returns-clause-bounds c = λ names content pair text fault outcome asked is first run. instance_first_of content pair text fault is first _ outcome asked run
 
 pub returns-clause-margin : goal.returns-clause-margin
-returns-clause-margin c = λ names content pair text fault outcome asked is first run. told_first content pair text fault is first _ outcome asked run
+returns-clause-margin c = λ names content pair text fault outcome asked is first run. instance_first_of content pair text fault is first _ outcome asked run
 
 pub returns-clause-moves : goal.returns-clause-moves
-returns-clause-moves c = λ names content pair text fault outcome asked is first run. told_first content pair text fault is first _ outcome asked run
+returns-clause-moves c = λ names content pair text fault outcome asked is first run. instance_first_of content pair text fault is first _ outcome asked run
 
 pub returns-clause-rest_moves : goal.returns-clause-rest_moves
-returns-clause-rest_moves c = λ at names log content pair text fault outcome asked is first run. told_first content pair text fault is first _ outcome asked run
+returns-clause-rest_moves c = λ at names log content pair text fault outcome asked is first run. instance_first_of content pair text fault is first _ outcome asked run
 
 pub returns-clause-log : goal.returns-clause-log
-returns-clause-log c = λ telling names log content pair text fault outcome asked is first run. told_first content pair text fault is first _ outcome asked run
+returns-clause-log c = λ wanted names log content pair text fault outcome asked is first run. instance_first_of content pair text fault is first _ outcome asked run
 
 pub returns-clause-rest : goal.returns-clause-rest
-returns-clause-rest c = λ telling at names log content pair text fault outcome asked is first run. told_first content pair text fault is first _ outcome asked run
+returns-clause-rest c = λ wanted at names log content pair text fault outcome asked is first run. instance_first_of content pair text fault is first _ outcome asked run
 
 pub returns-clause-schedule_picture : goal.returns-clause-schedule_picture
 returns-clause-schedule_picture c = λ names before after content pair text fault outcome asked is first run. picture_first content pair text fault is first _ before after outcome asked run
@@ -56,10 +56,10 @@ pub returns-clause-improve_rest : goal.returns-clause-improve_rest
 returns-clause-improve_rest c = λ at rounds log content pair text fault outcome asked is first run. improve_rest_first content pair text fault is first at rounds log outcome asked run
 
 pub returns-clause-drive : goal.returns-clause-drive
-returns-clause-drive c = λ manner before after content pair text fault outcome asked is first run. drive_first content pair text fault is first manner before after outcome asked run
+returns-clause-drive c = λ protocol before after content pair text fault outcome asked is first run. drive_first content pair text fault is first protocol before after outcome asked run
 
 pub returns-clause-resume : goal.returns-clause-resume
-returns-clause-resume c = λ manner at log before after content pair text fault outcome asked is first run. resume_first content pair text fault is first manner at log before after outcome asked run
+returns-clause-resume c = λ protocol at log before after content pair text fault outcome asked is first run. resume_first content pair text fault is first protocol at log before after outcome asked run
 
 pub returns-clause-hub : goal.returns-clause-hub
-returns-clause-hub c = λ manner plans before after content pair text fault outcome asked is first run. hub_first content pair.path text pair.name fault is first manner pair.plan plans before after outcome asked run
+returns-clause-hub c = λ protocol plans before after content pair text fault outcome asked is first run. hub_first content pair.path text pair.name fault is first protocol pair.plan plans before after outcome asked run

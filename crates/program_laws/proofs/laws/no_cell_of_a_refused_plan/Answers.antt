@@ -3,15 +3,15 @@ use Rattle.program_laws.proofs.GoodHubs.{no_hub}
 use Rattle.program_laws.proofs.laws.no_cell_of_a_refused_plan.Goals as goal
 
 pub returns-clause-drive : goal.returns-clause-drive
-returns-clause-drive c = λ manner before after content pair p outcome asked good never run. no_drive content pair p good manner before after outcome asked never run
+returns-clause-drive c = λ protocol before after content pair p outcome asked good never run. no_drive content pair p good protocol before after outcome asked never run
 
 pub returns-clause-unshaped : goal.returns-clause-unshaped
-returns-clause-unshaped c = λ manner at log before after content pair p outcome asked good never run. no_unshaped_resume content pair p good manner at log before after outcome asked never run
+returns-clause-unshaped c = λ protocol at log before after content pair p outcome asked good never run. no_unshaped_resume content pair p good protocol at log before after outcome asked never run
 
 pub returns-clause-resume : goal.returns-clause-resume
-returns-clause-resume c = λ manner at before after content pair log text p told outcome asked good well is tells events not_past no_plan run.
-    no_resume content pair p good manner at text told well tells events not_past no_plan log before after outcome asked is run
+returns-clause-resume c = λ protocol at before after content pair log text p told outcome asked good well is tells events not_past no_plan run.
+    no_resume content pair p good protocol at text told well tells events not_past no_plan log before after outcome asked is run
 
 pub returns-clause-hub : goal.returns-clause-hub
-returns-clause-hub c = λ manner before after content path instance name files plans file p others outcome asked is good told never run.
-    no_hub content instance name file p others told never manner path files plans before after outcome asked is good run
+returns-clause-hub c = λ protocol before after content path instance name files plans file p others outcome asked is good told never run.
+    no_hub content instance name file p others told never protocol path files plans before after outcome asked is good run

@@ -1,7 +1,7 @@
 use Rattle.std.proofs.Common.{◌≡◌, ℕ, ◌+◌, ◌*◌, ◌<◌, true, rules, Some, refl, sym, ap, subst, ◌∙◌, arith}
 use Rattle.run_gantt.specs.GanttText.{is_before}
 use Rattle.run_gantt.proofs.Bars.{option_or-none, sign-early, sign-there, column-before, column-after, columns-rise, column-done}
-use Rattle.run_gantt.proofs.bar.show_visit.Goals as goal
+use Rattle.run_gantt.proofs.bar.sign_visit.Goals as goal
 
 pub loop-column-init : goal.loop-column-init
 loop-column-init c =
@@ -23,6 +23,6 @@ loop-column-preserved c =
     let before : is_before (column * scale) visit.leave ≡ true = first_of (search rules, cc, grind arith) in
     record {
       entered = omega (arith, inv.entered, columns-rise column (column + 1) scale (omega arith));
-      done = column-done _ _ _ scale column _ visit inv.done inv.others (sign-there (column * scale) visit inv.entered before ∙ ap Some (sym c.sign_at.ensures)) c.show_sign.ensures.here c.show_sign.ensures.others;
-      others = λ n le. c.show_sign.ensures.others n (λ same. absurd (omega (arith, same))) ∙ inv.others n (omega arith);
+      done = column-done _ _ _ scale column _ visit inv.done inv.others (sign-there (column * scale) visit inv.entered before ∙ ap Some (sym c.sign_at.ensures)) c.put_sign.ensures.here c.put_sign.ensures.others;
+      others = λ n le. c.put_sign.ensures.others n (λ same. absurd (omega (arith, same))) ∙ inv.others n (omega arith);
     }

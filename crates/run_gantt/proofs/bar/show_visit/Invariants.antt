@@ -1,7 +1,7 @@
 use Rattle.std.proofs.Common.{◌≡◌, ℕ, ◌*◌, ◌-◌, ◌<◌, ◌≤◌, get_or, None}
 use Rattle.std.specs.Option.{option_or}
 use Rattle.run_gantt.specs.GanttText.{sign_of}
-use Rattle.run_gantt.proofs.bar.show_visit.Given as goal
+use Rattle.run_gantt.proofs.bar.sign_visit.Given as goal
 
 -- the columns below this one are done, the others are as they were, and at them the job has entered
 abbrev pub invariant-loop-column : goal.invariant-loop-column

@@ -2,7 +2,7 @@ use Rattle.std.proofs.Common.{◌≡◌, ◌≤◌, length, drop}
 use Rattle.shop_base.specs.Plan.{machines}
 use Rattle.run_gantt.specs.DrawnVisits.{drawn_visits}
 use Rattle.run_gantt.specs.VisitEnds.{AreVisitEnds}
-use Rattle.run_gantt.specs.FirstTold.{AreCleaningEnds}
+use Rattle.run_gantt.specs.FirstMoments.{AreCleaningEnds}
 use Rattle.run_gantt.proofs.picture_visits.drawn_visits.Given as goal
 
 abbrev pub invariant-loop-place : goal.invariant-loop-place

@@ -1,4 +1,4 @@
-use Rattle.run_gantt.proofs.EndsTold.{entering-passed, leave-passed, leave-noted}
+use Rattle.run_gantt.proofs.VisitEndFacts.{entering-passed, leave-passed, leave-noted}
 use Rattle.run_gantt.proofs.visit_ends.note_order.Goals as goal
 
 pub returns-in-Out : goal.returns-in-Out

@@ -1,4 +1,4 @@
-use Rattle.run_gantt.proofs.EndsTold.{arrival-passed, cleaning-passed, finish-passed, finish-noted}
+use Rattle.run_gantt.proofs.VisitEndFacts.{arrival-passed, cleaning-passed, finish-passed, finish-noted}
 use Rattle.run_gantt.proofs.visit_ends.note_report.Goals as goal
 
 pub returns-in-Arrive : goal.returns-in-Arrive

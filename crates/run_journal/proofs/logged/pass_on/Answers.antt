@@ -8,14 +8,14 @@ use Rattle.run_journal.proofs.logged.pass_on.Goals as goal
 
 pub loop-sent-init : goal.loop-sent-init
 loop-sent-init g c =
-    let taken = g.W.Sink.taken c.args.outlet.now in
+    let written = g.W.Sink.written c.args.output.now in
     record {
       within = omega (arith, c.requires);
-      taken = subst (λ (n : ℕ). Appends taken taken (take n c.args.bytes.now)) (sym c.requires) (Appends-nil taken);
+      written = subst (λ (n : ℕ). Appends written written (take n c.args.bytes.now)) (sym c.requires) (Appends-nil written);
     }
 
-pub returns-in_err-sent-clause-taken : goal.returns-in_err-sent-clause-taken
-returns-in_err-sent-clause-taken g c = Appends-kept _ _ _ _ c.loop-sent.invariant.taken c.in_err-sent.ensures.taken
+pub returns-in_err-sent-clause-written : goal.returns-in_err-sent-clause-written
+returns-in_err-sent-clause-written g c = Appends-kept _ _ _ _ c.loop-sent.invariant.written c.in_err-sent.ensures.written
 
 pub loop-sent-preserved : goal.loop-sent-preserved
 loop-sent-preserved g c =
@@ -26,14 +26,14 @@ loop-sent-preserved g c =
     let both = ap (λ (l : List ℕ). take sent bytes ++ take count l) rest ∙ sym (take-add sent count bytes) in
     record {
       within = omega (arith, c.in_ok-sent.ensures.count.1, ap length rest, length-drop sent bytes, c.loop-sent.invariant.within);
-      taken = subst (Appends (g.W.Sink.taken c.args.outlet.now) (g.W.Sink.taken c.put.new.self)) both (Appends-trans _ _ _ _ _ c.loop-sent.invariant.taken c.in_ok-sent.ensures.taken);
+      written = subst (Appends (g.W.Sink.written c.args.output.now) (g.W.Sink.written c.put.new.self)) both (Appends-trans _ _ _ _ _ c.loop-sent.invariant.written c.in_ok-sent.ensures.written);
     }
 
-pub returns-clause-taken : goal.returns-clause-taken
-returns-clause-taken g c = Appends-kept _ _ _ _ c.loop-sent.invariant.taken c.show.ensures.taken
+pub returns-clause-written : goal.returns-clause-written
+returns-clause-written g c = Appends-kept _ _ _ _ c.loop-sent.invariant.written c.flush.ensures.written
 
 pub returns-in_err-sent-clause-shown : goal.returns-in_err-sent-clause-shown
 returns-in_err-sent-clause-shown g c = inr c.in_err-sent.ensures.failed
 
 pub returns-clause-shown : goal.returns-clause-shown
-returns-clause-shown g c = quiet c.show.result _ _ c.show.ensures.shown c.show.ensures.failed
+returns-clause-shown g c = quiet c.flush.result _ _ c.flush.ensures.shown c.flush.ensures.failed

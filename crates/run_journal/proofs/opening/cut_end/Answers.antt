@@ -36,10 +36,10 @@ returns-clause-cut g c = on_ok-any c.sync.result (if_some-both (g.D.LogFile.seen
     c.requires.read c.in_ok-cut.ensures.cut)
 
 pub returns-then-is_empty-clause-crash : goal.returns-then-is_empty-clause-crash
-returns-then-is_empty-clause-crash g c = if_some-map (g.D.LogFile.seen c.args.log.now) (λ file settled left leave. ap whole_lines (settled left leave)) c.requires.settled
+returns-then-is_empty-clause-crash g c = if_some-map (g.D.LogFile.seen c.args.log.now) (λ file durable left leave. ap whole_lines (durable left leave)) c.requires.durable
 
 pub returns-then-is_empty-clause-torn_again : goal.returns-then-is_empty-clause-torn_again
-returns-then-is_empty-clause-torn_again g c = if_some-map (g.D.LogFile.seen c.args.log.now) (λ file settled torn left leave. ap (λ l. is_torn (torn_end l)) (settled left leave) ∙ torn) c.requires.settled
+returns-then-is_empty-clause-torn_again g c = if_some-map (g.D.LogFile.seen c.args.log.now) (λ file durable torn left leave. ap (λ l. is_torn (torn_end l)) (durable left leave) ∙ torn) c.requires.durable
 
 pub returns-then-is_empty-clause-cut : goal.returns-then-is_empty-clause-cut
 returns-then-is_empty-clause-cut g c = uncut (g.D.LogFile.seen c.args.log.now) c.args.text.now c.end.result.now c.end.ensures (sym c.is_empty.ensures ∙ c.if-is_empty.true) c.requires.read

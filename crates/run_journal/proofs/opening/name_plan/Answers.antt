@@ -12,12 +12,12 @@ use Rattle.run_journal.proofs.opening.name_plan.Goals as goal
 
 pub returns-then-names-clause-crash : goal.returns-then-names-clause-crash
 returns-then-names-clause-crash g c = if_some-map (g.D.LogFile.seen c.args.log.now)
-    (λ file settled is left leave. inl (ap whole_lines (settled left leave) ∙ ap whole_lines is ∙ whole_again c.args.text.now ∙ sym is)) c.requires.settled
+    (λ file durable is left leave. inl (ap whole_lines (durable left leave) ∙ ap whole_lines is ∙ whole_again c.args.text.now ∙ sym is)) c.requires.durable
 
 pub returns-then-names-clause-torn : goal.returns-then-names-clause-torn
 returns-then-names-clause-torn g c = if_some-map (g.D.LogFile.seen c.args.log.now)
-    (λ file settled is left leave. ap (λ (l : List ℕ). is_torn (torn_end l)) (settled left leave) ∙ ap is_torn (no_end file (ap whole_lines is ∙ whole_again c.args.text.now ∙ sym is)))
-    c.requires.settled
+    (λ file durable is left leave. ap (λ (l : List ℕ). is_torn (torn_end l)) (durable left leave) ∙ ap is_torn (no_end file (ap whole_lines is ∙ whole_again c.args.text.now ∙ sym is)))
+    c.requires.durable
 
 pub returns-clause-named : goal.returns-clause-named
 returns-clause-named g c =
@@ -36,12 +36,12 @@ returns-clause-crash g c =
     let seen = g.D.LogFile.seen c.args.log.now in
     let other : c.run.result ≡ Named digits → ⊥ = λ same. (let both : true ≡ false = sym (c.names.ensures.1 same) ∙ c.if-names.false in absurd (cc both)) in
     let none = unnamed_last (lines_of (whole_lines text)) c.run.result digits c.run.ensures other in
-    let crash = subst (λ (b : List ℕ). IfSome seen (λ file. Leaves (g.D.LogFile.may_leave c.keep.new.log) (length file) (file ++ b))) (c.bytes.ensures ∙ c.plan_line.ensures) c.keep.ensures.crash in
+    let crash = subst (λ (b : List ℕ). IfSome seen (λ file. Leaves (g.D.LogFile.crash_states c.keep.new.log) (length file) (file ++ b))) (c.bytes.ensures ∙ c.plan_line.ensures) c.keep.ensures.crash in
     if_some-map seen (λ file leaves is left leave. named_crash digits c.requires.digits file left (ap whole_lines is ∙ whole_again text ∙ sym is) (leaves left leave)
     (λ last. none (subst (λ (f : List ℕ). NameLast (lines_of f) digits) is last))) crash
 
 pub returns-clause-torn : goal.returns-clause-torn
 returns-clause-torn g c =
     let seen = g.D.LogFile.seen c.args.log.now in
-    let crash = subst (λ (b : List ℕ). IfSome seen (λ file. Leaves (g.D.LogFile.may_leave c.keep.new.log) (length file) (file ++ b))) (c.bytes.ensures ∙ c.plan_line.ensures) c.keep.ensures.crash in
+    let crash = subst (λ (b : List ℕ). IfSome seen (λ file. Leaves (g.D.LogFile.crash_states c.keep.new.log) (length file) (file ++ b))) (c.bytes.ensures ∙ c.plan_line.ensures) c.keep.ensures.crash in
     if_some-map seen (λ file leaves is left leave. torn_crash c.args.digits.now c.requires.digits file left (ap whole_lines is ∙ whole_again c.args.text.now ∙ sym is) (leaves left leave)) crash

@@ -12,7 +12,7 @@ use Rattle.run_log.proofs.auditing.audit.Goals as goal
 pub returns-in-Ok-clause-kept : goal.returns-in-Ok-clause-kept
 returns-in-Ok-clause-kept c =
     let p = c.args.shaped.now in
-    let told = c.in-Ok.ensures.told in
+    let told = c.in-Ok.ensures.replayed in
     let entries = c.in-Ok.field-0.entries.items in
     let reports : c.report_count-reports.result ≡ reports_in (events_of entries) =
     c.report_count-reports.ensures.count ∙ ap (λ (es : List Entry). reports_in (events_of es)) c.deref.ensures.value in

@@ -5,6 +5,6 @@ use Rattle.run_log.proofs.log_text.write_lines.Given as goal
 
 abbrev pub invariant-loop-entry : goal.invariant-loop-entry
 invariant-loop-entry g l = record {
-  so_far : AllBut (g.W.Sink.taken l.initial.writer) (g.W.Sink.taken l.writer) (entry_lines l.entries) (entry_lines (drop l.entry-index l.entries));
+  so_far : AllBut (g.W.Sink.written l.initial.writer) (g.W.Sink.written l.writer) (entry_lines l.entries) (entry_lines (drop l.entry-index l.entries));
   unfailed : g.W.Sink.failed l.writer ≡ g.W.Sink.failed l.initial.writer;
 }

@@ -1,10 +1,10 @@
 use Rattle.std.proofs.Common.{ℕ, List, sym, subst}
 use Rattle.text_lines.specs.Lines.{lines_of}
-use Rattle.run_log.specs.Audits.{TellRun}
+use Rattle.run_log.specs.Audits.{ParseAsRun}
 use Rattle.run_log.proofs.Audits.{only_memory-of}
 use Rattle.run_log.proofs.logged_run.run_of_log.Goals as goal
 
 pub returns-clause-only : goal.returns-clause-only
 returns-clause-only g c run =
     let p = g.P.Planned.planned c.args.basis in
-    only_memory-of p (lines_of c.ended_part.result.now) c.read_log.result c.read_log.ensures.fault (subst (λ (ls : List (List ℕ)). TellRun p ls) (sym c.ended_part.ensures) run)
+    only_memory-of p (lines_of c.ended_part.result.now) c.read_log.result c.read_log.ensures.fault (subst (λ (ls : List (List ℕ)). ParseAsRun p ls) (sym c.ended_part.ensures) run)

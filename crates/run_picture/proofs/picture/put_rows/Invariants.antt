@@ -6,7 +6,7 @@ use Rattle.run_picture.proofs.picture.put_rows.Given as goal
 
 abbrev pub invariant-loop-machine : goal.invariant-loop-machine
 invariant-loop-machine g l = record {
-  so_far : AllBut (g.W.Sink.taken l.initial.output) (g.W.Sink.taken l.output) (rows_text l.names l.machines)
+  so_far : AllBut (g.W.Sink.written l.initial.output) (g.W.Sink.written l.output) (rows_text l.names l.machines)
       (flat_map (row_text l.names) (range_with_len l.machine (l.machines - l.machine)));
   unfailed : g.W.Sink.failed l.output ≡ g.W.Sink.failed l.initial.output;
 }

@@ -6,7 +6,7 @@ use Rattle.run_picture.proofs.picture.put_visits.Given as goal
 
 abbrev pub invariant-loop-visit : goal.invariant-loop-visit
 invariant-loop-visit g l = record {
-  so_far : AllBut (g.W.Sink.taken l.initial.output) (g.W.Sink.taken l.output) (visits_text l.names l.last l.late l.visits)
+  so_far : AllBut (g.W.Sink.written l.initial.output) (g.W.Sink.written l.output) (visits_text l.names l.last l.late l.visits)
       (flat_map (visit_text l.names l.last l.late) (drop l.visit-index l.visits));
   unfailed : g.W.Sink.failed l.output ≡ g.W.Sink.failed l.initial.output;
 }

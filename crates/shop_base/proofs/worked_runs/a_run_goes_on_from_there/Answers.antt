@@ -33,7 +33,7 @@ along t n path =
 
 -- job 0 can move at once, so something happens
 not_left : (es : List Event) (end : Cell) → GoesOnTo with_room (slow_after 4) 7 [] es end → es ≡ [] → ⊥
-not_left _ _ (settled [] rs es end settles leads) is = not_from_Decides _ (rest_decides with_room (slow_after 4)) refl settles.rest
+not_left _ _ (settled [] rs es end settles leads) is = not_from_Decides _ (rest_decides with_room (slow_after 4)) refl settles.quiescent
 not_left _ _ (settled (j ∷ js) rs es end settles leads) is = cc
 
 pub returns-clause-arrival : goal.returns-clause-arrival
@@ -65,13 +65,13 @@ returns-clause-passed c = λ nodes n path. absurd (omega (arith, (path_left with
 
 pub returns-clause-goes_on : goal.returns-clause-goes_on
 returns-clause-goes_on c = settled (0 ∷ []) (drop 3 slow_reports) (drop 5 slow_log) slow_end
-    (record { moves = (moves_decides with_room (slow_after 4) 7 (0 ∷ [])).0 refl; rest = (rest_decides with_room (slow_after 5)).0 refl })
+    (record { moves = (moves_decides with_room (slow_after 4) 7 (0 ∷ [])).0 refl; quiescent = (rest_decides with_room (slow_after 5)).0 refl })
     (turns_lead with_room (slow_after 5) (drop 3 slow_reports) (Some (0 ∷ []) ∷ Some (1 ∷ []) ∷ Some (1 ∷ []) ∷ Some (1 ∷ []) ∷ Some [] ∷ []) refl)
 
 pub returns-clause-later : goal.returns-clause-later
 returns-clause-later c =
     let end : Cell = ends_in with_room (take 4 slow_log ++ Moved (go 8 0 (At 0) (At 1)) ∷ []) in
-    settled (0 ∷ []) [] [] end (record { moves = (moves_decides with_room (slow_after 4) 8 (0 ∷ [])).0 refl; rest = (rest_decides with_room end).0 refl }) (done end)
+    settled (0 ∷ []) [] [] end (record { moves = (moves_decides with_room (slow_after 4) 8 (0 ∷ [])).0 refl; quiescent = (rest_decides with_room end).0 refl }) (done end)
 
 pub returns-clause-not_left : goal.returns-clause-not_left
 returns-clause-not_left c = λ end goes. not_left [] end goes refl

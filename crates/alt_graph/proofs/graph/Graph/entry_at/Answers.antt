@@ -4,7 +4,7 @@ use Rattle.shop_base.specs.Plan.{job_at, Stands}
 use Rattle.alt_graph.specs.Lookups.{slot_of}
 use Rattle.shop_base.proofs.Sizes.{place_job}
 use Rattle.alt_graph.proofs.Filling.{slot_inside}
-use Rattle.alt_graph.proofs.Standing.{lookups_of, entry_told}
+use Rattle.alt_graph.proofs.Standing.{lookups_of, entry_found}
 use Rattle.alt_graph.proofs.graph.Graph.entry_at.Goals as goal
 
 pub order_of-requires : goal.order_of-requires
@@ -35,4 +35,4 @@ returns c =
     get_or_read steps c.slot.result c.index-place.result.now within c.index-place.ensures 0 ∙ ap (λ i. get_or steps i 0) slot_is in
     rw order_is
     (subst (λ (k : ℕ). Stands c.args.self.now.plan c.args.machine c.args.place (job_at c.args.self.now.plan c.args.machine c.args.place) k) (sym is)
-    (entry_told _ are.shaped c.self.inside.lookups _ _ are c.requires.machine c.requires.place))
+    (entry_found _ are.shaped c.self.inside.lookups _ _ are c.requires.machine c.requires.place))

@@ -23,14 +23,14 @@ module _ (r : PlanRanking) (shaped : IsWellShaped r.plan) (rooted : AreRooted r.
   -- besides the bound
   over_both : (s : ArcIn) → IsJobArc r.plan s.node v s.length → (base : Longest) → IsFromBound r v base
       → (o : Option Longest) → MatchOption o (rank_of r.times s.node ≡ UNRANKED) (IsWith r base s) → MatchOption o (WaitsFor r UNRANKED v) (IsLongest r (IsJobArc r.plan) v)
-  over_both s arc base told None free = waits_for r shaped rooted v is s (job_arc_is r.plan s.node v s.length arc) free
-  over_both s arc base told (Some longest) both = longest_both r shaped rooted v is base s longest arc told both
+  over_both s arc base at_base None free = waits_for r shaped rooted v is s (job_arc_is r.plan s.node v s.length arc) free
+  over_both s arc base at_base (Some longest) both = longest_both r shaped rooted v is base s longest arc at_base both
 
   -- the bound alone
   bound_alone : ((u : Node) (d : ℕ) → IsJobArc r.plan u v d → ⊥)
       → (o : Option Longest) → MatchOption o (bound_of r.bounds v ≡ None) (IsFromBound r v) → MatchOption o (WaitsFor r UNRANKED v) (IsLongest r (IsJobArc r.plan) v)
   bound_alone none None free = absurd (has_bound r shaped rooted v is none free)
-  bound_alone none (Some longest) told = longest_bound r shaped rooted v is longest none told
+  bound_alone none (Some longest) at_base = longest_bound r shaped rooted v is longest none at_base
 
 pub longest_over-requires-clause-short : goal.longest_over-requires-clause-short
 longest_over-requires-clause-short g c = arc_short _ _ _ _ c.shaped-shaped.ensures.sound (job_arc_is _ _ _ _ (rw c.shaped-shaped.ensures.plan at c.in-Some.ensures.arc))

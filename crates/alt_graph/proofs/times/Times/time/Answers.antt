@@ -2,7 +2,7 @@ use Rattle.std.proofs.Common.{◌≡◌, ℕ, List, ◌+◌, ◌<◌, ◌≤◌,
 use Rattle.std.proofs.lemmas.List.{get_or_read}
 use Rattle.alt_graph.specs.Times.{NodeTimes, no_time, time_at, IsTimed}
 use Rattle.alt_graph.specs.Layout.{number_of, IsCounted, LeadsBack}
-use Rattle.alt_graph.proofs.Layouts.{time_told, timed_told, timed_counted}
+use Rattle.alt_graph.proofs.Layouts.{time_by_job, timed_by_job, timed_counted}
 use Rattle.alt_graph.proofs.times.Times.time.Goals as goal
 
 pub returns-in_err-at-clause-known : goal.returns-in_err-at-clause-known
@@ -18,9 +18,9 @@ returns-clause-known c =
     let at : c.in_ok-at.at ≡ number_of firsts c.args.node = c.in_ok-at.ensures.1 ∙ ap (λ (l : List ℕ). number_of l c.args.node) c.deref.ensures.value in
     let few : get_or firsts (c.args.node.job + 1) 0 ≤ length rows = c.self.invariant.within c.args.node.job counted.job in
     let inside : c.in_ok-at.at < length rows = omega (arith, at, counted.place, few) in (
-      subst (λ (t : NodeTimes). IsTimed t c.args.node) c.self.view_is (timed_told firsts rows c.args.node counted.job counted.place few),
+      subst (λ (t : NodeTimes). IsTimed t c.args.node) c.self.view_is (timed_by_job firsts rows c.args.node counted.job counted.place few),
       get_or_read rows c.in_ok-at.at c.index.result.now inside c.index.ensures no_time ∙ ap (λ (i : ℕ). get_or rows i no_time) at
-          ∙ sym (time_told firsts rows c.args.node counted.job counted.place) ∙ ap (λ (t : NodeTimes). time_at t c.args.node) c.self.view_is,
+          ∙ sym (time_by_job firsts rows c.args.node counted.job counted.place) ∙ ap (λ (t : NodeTimes). time_at t c.args.node) c.self.view_is,
     )
 
 pub returns-clause-back : goal.returns-clause-back

@@ -11,7 +11,7 @@ returns g c =
     subst (λ (s : SessionState). WroteOneTo g.W.Sink c.put_closing.result c.args.writer.now c.put_closing.new.writer (SessionCloses s)) c.self.view_is
     (record {
       text = closing_line s.controller.planned s.controller.cell;
-      is_text = closes s.controller s.log s.manner c.self.invariant;
+      is_text = closes s.controller s.log s.protocol c.self.invariant;
       wrote = c.put_closing.ensures.wrote;
       unfailed = c.put_closing.ensures.unfailed;
     })

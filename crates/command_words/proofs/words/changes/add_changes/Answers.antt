@@ -5,7 +5,7 @@ use Rattle.command_words.specs.Given.{values_of}
 use Rattle.command_words.specs.Changes.{asked_from, change_seen, is_such, option_of, values_misfit}
 use Rattle.command_words.proofs.words.Asking.{all_such, from_end, not_all, such_fits, such_misfit}
 use Rattle.command_words.proofs.words.Getters.{values_given, values_left_out}
-use Rattle.command_words.proofs.words.Reasons.{tells_only}
+use Rattle.command_words.proofs.words.Reasons.{names_only}
 use Rattle.command_words.proofs.words.changes.add_changes.Goals as goal
 
 pub returns-in_default-clause-added : goal.returns-in_default-clause-added
@@ -27,7 +27,7 @@ returns-in_default-kind_of-clause-refused c =
     let such = is_such c.args.form in
     let given = values_given (found_of c.args.matches.now) c.option_of.result.now c.get_raw.result c.in-Some.given c.get_raw.ensures c.in-Some.is ∙ ap (λ (id : List ℕ). values_of id rows) c.option_of.ensures in
     let isnt = not_all such c.in-Some.given.now (values_of (option_of c.args.form) rows) c.loop-place.place given c.loop-place.invariant.such _ c.loop-place-test.true c.in_default-kind_of.ensures in
-    tells_only ValueValidation _ c.no_change.result (such_misfit such (values_of (option_of c.args.form) rows) isnt) c.no_change.ensures
+    names_only ValueValidation _ c.no_change.result (such_misfit such (values_of (option_of c.args.form) rows) isnt) c.no_change.ensures
 
 pub returns-clause-added : goal.returns-clause-added
 returns-clause-added c =

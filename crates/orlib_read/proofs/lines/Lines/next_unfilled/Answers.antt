@@ -20,14 +20,14 @@ pub returns-then-not-is_filler-clause-line : goal.returns-then-not-is_filler-cla
 unfolding lines_left
 returns-then-not-is_filler-clause-line c =
     let filler : is_filler c.in-Some.line.bytes.now ≡ false = sym (all_filler c.in-Some.line.bytes.now) ∙ sym c.is_filler.ensures ∙ c.if-not-is_filler.true in
-    let told : c.loop-line.lines.in_section ≡ true → is_instance_line (numbered_line c.in-Some.line) ≡ false =
+    let no_instance_line : c.loop-line.lines.in_section ≡ true → is_instance_line (numbered_line c.in-Some.line) ≡ false =
     λ h. elim c.else-self.branch [
       | else-self-via-then-self+else-is_instance_line w ↦ sym w.is_instance_line.ensures ∙ w.if-is_instance_line.false
       | else-self-via-else-self w ↦ let no = sym (c.loop-line.invariant.same ∙ w.if-self.false) ∙ h in absurd (cc)
     ]
     in
     sym c.loop-line.invariant.left
-    ∙ left_line c.loop-line.lines.in_section (raw_left c.loop-line.lines) (numbered_line c.in-Some.line) (raw_left c.in-Some.rest) c.in-Some.ensures.line filler told
+    ∙ left_line c.loop-line.lines.in_section (raw_left c.loop-line.lines) (numbered_line c.in-Some.line) (raw_left c.in-Some.rest) c.in-Some.ensures.line filler no_instance_line
     ∙ ap (λ (s : Bool). numbered_line c.in-Some.line ∷ left_of s (raw_left c.in-Some.rest)) (sym c.in-Some.ensures.same)
 
 pub loop-line-preserved : goal.loop-line-preserved

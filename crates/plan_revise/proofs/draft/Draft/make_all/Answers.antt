@@ -1,6 +1,6 @@
 use Rattle.std.proofs.Common.{sym, subst}
-use Rattle.plan_revise.specs.Answers.{TellsFirst}
-use Rattle.plan_revise.proofs.Written.{changes_more, tells_first}
+use Rattle.plan_revise.specs.Answers.{ParsesFirst}
+use Rattle.plan_revise.proofs.Written.{changes_more, first_reason_at}
 use Rattle.plan_revise.proofs.Revisions.{becomes-revision}
 use Rattle.plan_revise.proofs.draft.Draft.make_all.Goals as goal
 
@@ -12,5 +12,5 @@ loop-place-preserved g c = record {
 
 pub returns-in-Err-clause-refused : goal.returns-in-Err-clause-refused
 returns-in-Err-clause-refused g c =
-    subst (TellsFirst c.args.run.now c.args.self.now c.args.changes.now) (sym c.told_at.ensures)
-    (tells_first c.args.run.now c.args.self.now c.args.changes.now c.loop-place.place c.loop-place.self c.change_at-change.result c.in-Err.refusal c.change_at-change.ensures c.loop-place.invariant.made c.in-Err.ensures.refused)
+    subst (ParsesFirst c.args.run.now c.args.self.now c.args.changes.now) (sym c.refused_at.ensures)
+    (first_reason_at c.args.run.now c.args.self.now c.args.changes.now c.loop-place.place c.loop-place.self c.change_at-change.result c.in-Err.refusal c.change_at-change.ensures c.loop-place.invariant.made c.in-Err.ensures.refused)

@@ -1,7 +1,7 @@
 use Rattle.std.proofs.Common.{◌≡◌, ◌<◌, ◌∙◌, length, ap, sym, arith}
 use Rattle.shop_base.specs.Plan.{PlannedShop, route}
 use Rattle.plan_revise.specs.Answers.{IsNoRoom, IsNoRoomFor}
-use Rattle.plan_revise.proofs.Written.{row_read, length_lists, no_visit, found_visit, tells_more}
+use Rattle.plan_revise.proofs.Written.{row_read, length_lists, no_visit, found_visit, reason_more}
 use Rattle.plan_revise.proofs.draft.Draft.stop_at.Goals as goal
 
 pub returns-in_default-clause-room : goal.returns-in_default-clause-room
@@ -14,5 +14,5 @@ pub returns-clause-refused : goal.returns-clause-refused
 returns-clause-refused g c =
     let within : c.args.job < length c.self.inside.routes.items = omega (arith, c.requires.job, ap (λ (q : PlannedShop). length q.shop.routes) c.self.view_is, length_lists c.self.inside.routes.items) in
     let read : c.deref.result.now ≡ route c.args.self.now c.args.job = c.deref.ensures.value ∙ row_read c.self.inside.routes.items c.args.job c.index.result.now within c.index.ensures ∙ ap (λ (q : PlannedShop). route q c.args.job) c.self.view_is in
-    tells_more (IsNoRoom c.args.run.now c.args.self.now c.args.job) (IsNoRoomFor c.args.run.now c.args.self.now c.args.job c.args.machine)
-    (λ fault told. (told, c.in-Some.place, found_visit c.args.self.now c.args.job c.args.machine c.in-Some.place c.deref.result.now read (sym c.place_of.ensures.place ∙ c.in-Some.is))) c.stop.result c.stop.ensures.refused
+    reason_more (IsNoRoom c.args.run.now c.args.self.now c.args.job) (IsNoRoomFor c.args.run.now c.args.self.now c.args.job c.args.machine)
+    (λ fault why. (why, c.in-Some.place, found_visit c.args.self.now c.args.job c.args.machine c.in-Some.place c.deref.result.now read (sym c.place_of.ensures.place ∙ c.in-Some.is))) c.stop.result c.stop.ensures.refused

@@ -32,7 +32,7 @@ loop-next-preserved c =
     let left = c.loop-next.invariant in
     let within = left-within _ _ _ _ _ _ _ _ _ left c.in-Some.place c.in-Some.is in
     let found : c.index-linked.result.now ≡ get_or c.self.inside.table.items c.in-Some.place no_visit = c.index-linked.ensures ∙ get_or_default _ _ _ _ within in
-    left-fewer _ _ _ _ _ _ _ _ _ left _ _ c.in-Some.place _ c.in-Some.is found c.in_ok-push_visit.ensures c.show_visit.ensures
+    left-fewer _ _ _ _ _ _ _ _ _ left _ _ c.in-Some.place _ c.in-Some.is found c.in_ok-push_visit.ensures c.sign_visit.ensures
 
 pub returns-clause-text : goal.returns-clause-text
 returns-clause-text c = all_words _ _ _ _ _ _ _ _ _ c.loop-next.invariant c.in_default.is

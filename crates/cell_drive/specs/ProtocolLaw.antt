@@ -1,0 +1,93 @@
+-- The laws of cells that are driven in a manner.
+use Rattle.std.specs.Prelude.{◌≡◌, ℕ, List, ◌∷◌, ◌++◌, Option, None, Some, Bool, false, Result, Ok, IfOk, IfErr, MatchResult}
+use Rattle.shop_base.specs.Plan.{PlannedShop, IsWellShaped}
+use Rattle.shop_base.specs.Cell.{Cell}
+use Rattle.shop_base.specs.Run.{IsRun}
+use Rattle.shop_base.specs.Punctual.{IsPunctual}
+use Rattle.shop_base.specs.Sound.{IsSound}
+use Rattle.shop_base.specs.Report.{at}
+use Rattle.shop_base.specs.declared.report.Report as reports
+use Rattle.shop_base.specs.declared.report.Report.TheVariants.{Arrive, Finish, Clean}
+use Rattle.text_lines.specs.Lines.{lines_of}
+use Rattle.plan_verifier.specs.Accepted.{VerifiedPlan}
+use Rattle.cell_tables.specs.declared.entry.Entry.{Entry}
+use Rattle.cell_tables.specs.declared.entry.Entry.TheVariants.{Report as ReportEntry}
+use Rattle.cell_tables.specs.Events.{events_of}
+use Rattle.cell_control.specs.OnceLaw.{NamedEnd, Arrived, Finished, Cleaned, ReportsEnd}
+use Rattle.cell_control.specs.Control.{verified_in}
+use Rattle.run_log.specs.declared.audit_result.Audit.{Audit}
+use Rattle.run_log.specs.declared.audit_fault.AuditFault.{AuditFault}
+use Rattle.run_log.specs.declared.audit_fault.AuditFault.TheVariants.{Memory}
+use Rattle.run_log.specs.Audits.{IsAudit, ParseAsRun}
+use Rattle.byte_streams.specs.Lent.{Streams}
+use Rattle.byte_streams.specs.Answering.{AnswerAll}
+use Rattle.event_lines.specs.declared.requests.Claim.{Claim}
+use Rattle.event_lines.specs.declared.requests.Claim.TheVariants.{Report, CleanAfter}
+use Rattle.event_lines.specs.declared.requests.Request.TheVariants.{Claim as ClaimRequest}
+use Rattle.cell_drive.specs.declared.protocol.Protocol.{Protocol}
+use Rattle.cell_drive.specs.Protocols.{plain_from}
+use Rattle.cell_drive.specs.AnswerText.{DrivenCell, CellAnswers}
+use Rattle.cell_drive.specs.declared.begin.DriveEnd.{DriveEnd}
+use Rattle.cell_drive.specs.AuditLaw.{IsFoundAgain}
+use Rattle.cell_drive.specs.Session.{SessionState, SessionAnswer, seen}
+use Rattle.cell_drive.specs.InProtocol.{IsDriveIn}
+use Rattle.cell_drive.specs.Replay.{replay_lines}
+use Rattle.cell_drive.specs.PlainLines.{plain_lines}
+use Rattle.cell_drive.specs.OneRun.{cell_after}
+use Rattle.cell_drive.specs.Refusals.{CanClaim, IsAdmissible, standing_of}
+use Rattle.cell_drive.specs.States.{overdue_in}
+use Rattle.cell_drive.specs.ProtocolText.{ProtocolAnswers, CellRequests, AreProtocolAnswers, IsProtocolText}
+
+-- in each manner an input has one answer text at most, which leads to one cell with one list of events
+abbrev pub OneAnswerText : Type 0
+OneAnswerText = (p : PlannedShop) (protocol : Protocol) (input text other : List ℕ) (end last : DrivenCell)
+    → IsWellShaped p → IsProtocolText p protocol input text end → IsProtocolText p protocol input other last → (other ≡ text) × (last ≡ end)
+
+-- and so have its first lines
+abbrev pub OneTextForLines : Type 0
+OneTextForLines = (p : PlannedShop) (protocol : Protocol) (lines : List (Option (List ℕ))) (text other : List ℕ) (end last : DrivenCell)
+    → IsWellShaped p → AreProtocolAnswers p protocol lines text end → AreProtocolAnswers p protocol lines other last → (other ≡ text) × (last ≡ end)
+
+-- what a session answers to lines is what its cell answers to them by its plan, which stays
+abbrev pub ASessionAnswersSo : Type 0
+ASessionAnswersSo = (s end : SessionState) (number : ℕ) (lines : List (Option (List ℕ))) (text : List ℕ) → AnswerAll SessionAnswer s number lines text end
+    → AnswerAll (ProtocolAnswers s.control.planned s.protocol) (seen s) number lines text (seen end) × (verified_in end.control ≡ verified_in s.control)
+
+-- an audit of what was written in a manner finds what driving came to, and its only fault is that it is out of memory. The premises are what is promised of success in driving, into an output that tells its bytes, and of an audit
+abbrev pub AnAuditKeepsWhatWasDriven : Type 0
+AnAuditKeepsWhatWasDriven = (v : VerifiedPlan) (protocol : Protocol) (end : DriveEnd) (before after : Streams) (start text : List ℕ) (outcome : Result Audit AuditFault)
+    → IsWellShaped v.planned → IsDriveIn protocol v before after (Ok end) → before.output.written ≡ Some start → after.output.written ≡ Some (start ++ text)
+    → IfOk outcome (IsAudit v.planned (lines_of text))
+    → (ParseAsRun v.planned (lines_of text) → IfErr outcome (λ fault. fault ≡ Memory))
+    → MatchResult outcome (IsFoundAgain v.planned end.log.entries end.done end.last end.left) (λ fault. fault ≡ Memory)
+
+-- in version 1 of the lines, and with no leap, lines are answered as `drive` answers them
+abbrev pub PlainlyAsEver : Type 0
+PlainlyAsEver = (p : PlannedShop) (from number : ℕ) (lines : List (Option (List ℕ))) (text : List ℕ) (start end : DrivenCell)
+    → AnswerAll (ProtocolAnswers p (plain_from from)) start number lines text end → AnswerAll (CellAnswers p) start number lines text end
+
+-- in version 1 the events of a log are told again each by its line, and that of a late report by the line that it was late
+abbrev pub PlainReplay : Type 0
+PlainReplay = (p : PlannedShop) (protocol : Protocol) (c : Cell) (entries : List Entry) (late : List Bool) → protocol.version_2 ≡ false → replay_lines p protocol c entries late ≡ plain_lines entries late
+
+-- what is claimed to have ended, where the claim names its job
+abbrev pub named : Claim → Option NamedEnd
+named (Report (Arrive job at)) = Some (Arrived job)
+named (Report (Finish job machine at)) = Some (Finished job machine)
+named (Report (Clean machine at)) = None
+named (CleanAfter machine job at) = Some (Cleaned machine job)
+
+-- once what names its job was reported in a run, it can't be claimed at its end, at whatever moment
+abbrev pub NothingOfARunIsClaimedAgain : Type 0
+NothingOfARunIsClaimedAgain = (p : PlannedShop) (before after : List Entry) (report : reports.Report) (again : Claim) (ended : NamedEnd) → IsWellShaped p → IsRun p (events_of (before ++ ReportEntry report ∷ after))
+    → ReportsEnd p (cell_after p before) report ended → named again ≡ Some ended → CanClaim p (cell_after p (before ++ ReportEntry report ∷ after)) again → ⊥
+
+-- a claim that names its job was taken behind some lines, and then further lines were answered: what it said to have ended can't be claimed again, at whatever moment
+abbrev pub NothingIsAcceptedTwice : Type 0
+NothingIsAcceptedTwice = (p : PlannedShop) (protocol : Protocol) (lines later : List (Option (List ℕ))) (before after end : DrivenCell) (number next : ℕ) (texts text others : List ℕ) (claim again : Claim) (ended : NamedEnd)
+    → IsWellShaped p → AreProtocolAnswers p protocol lines texts before → IsAdmissible protocol p before.cell claim → CellRequests p protocol before number (ClaimRequest claim) text after
+    → AnswerAll (ProtocolAnswers p protocol) after next later others end → named claim ≡ Some ended → named again ≡ Some ended → CanClaim p end.cell again → ⊥
+
+-- where a report finds nothing overdue, it is punctual: so of each late one it is told what is
+abbrev pub ALateReportFindsSomethingOverdue : Type 0
+ALateReportFindsSomethingOverdue = (p : PlannedShop) (c : Cell) (report : reports.Report) → IsSound p c → overdue_in p c (standing_of p c report) (at report) ≡ None → IsPunctual p c report

@@ -1,0 +1,40 @@
+use Rattle.std.proofs.Common.{Ok, Err, Some, ap, sym, subst, refl}
+use Rattle.byte_streams.specs.Lent.{output_of}
+use Rattle.cell_drive.specs.Recovered.{Recovered}
+use Rattle.command_run.specs.Logs.{IsRecoveredFromLog, Left}
+use Rattle.command_run.proofs.HeldLogs.{known_as}
+use Rattle.command_run.proofs.KnownLogs.{same_run}
+use Rattle.command_run.proofs.logs.replay_and_continue.Goals as goal
+
+pub go_on_with-requires-clause-recoverable : goal.go_on_with-requires-clause-recoverable
+go_on_with-requires-clause-recoverable g c = known_as g.B.InitialState.before (λ t from. subst (λ (x : Recovered). IsRecoveredFromLog x t.0) (sym c.in-Ok.ensures.same) from) c.requires.recoverable
+
+pub returns-in-Ok : goal.returns-in-Ok
+returns-in-Ok g c =
+    let run = c.go_on_with.ensures.went_on in
+    rw (← c.streams.view_is) (record {
+      went_on = record {
+        end = run.end;
+        is = (
+          run.is.0,
+          record {
+            told = Ok c.in-Ok.run';
+            mid = output_of g.W.Sink g.W.BufferedSink.pending c.show_again.new.output;
+            tells = c.in-Ok.ensures;
+            goes_on = same_run c.args.protocol _ c.in-Ok.run' _ c.in-Ok.ensures.same run.is.1;
+          },
+        );
+        held = run.held;
+      };
+    })
+
+pub returns-in-Err : goal.returns-in-Err
+returns-in-Err g c =
+    let ready = c.requires.ready in
+    rw (← c.streams.view_is) (record {
+      went_on = record {
+        end = Some Left;
+        is = (refl, record { told = Err c.in-Err.fault; mid = output_of g.W.Sink g.W.BufferedSink.pending c.show_again.new.output; tells = c.in-Err.ensures; goes_on = (ap Err c.from.ensures, refl, refl) });
+        held = (ready.unfailed, tt, known_as g.B.InitialState.before (λ t seen. (seen, ready.durable)) c.requires.seen);
+      };
+    })

@@ -1,0 +1,82 @@
+-- What was claimed to have ended, and accepted, isn't accepted again.
+use Rattle.std.proofs.Common.{◌≡◌, ◌⊎◌, ℕ, List, [], ◌∷◌, ◌++◌, Option, Some, refl, sym, ap, ◌∙◌, subst, inl, inr}
+use Rattle.shop_base.specs.Plan.{PlannedShop, IsWellShaped}
+use Rattle.shop_base.specs.Cell.{Cell, start}
+use Rattle.shop_base.specs.Report.{at, after_report}
+use Rattle.shop_base.specs.Run.{Reported, AreEvents, after_all, IsRun, ends_in}
+use Rattle.shop_base.specs.Controlled.{moved, step_orders}
+use Rattle.shop_base.specs.declared.report.Report.TheVariants.{Arrive, Finish, Clean}
+use Rattle.shop_base.proofs.ControlledRuns.{events_join, after_all_join, moves-events, after_all-moves}
+use Rattle.cell_tables.specs.declared.entry.Entry.{Entry}
+use Rattle.cell_tables.specs.Events.{events_of}
+use Rattle.cell_control.specs.OnceLaw.{NamedEnd, Arrived, Finished, Cleaned, ReportsEnd}
+use Rattle.cell_control.proofs.Once.{once}
+use Rattle.byte_streams.specs.Answering.{AnswerAll}
+use Rattle.event_lines.specs.declared.requests.Claim.{Claim}
+use Rattle.event_lines.specs.declared.requests.Claim.TheVariants.{Report, CleanAfter}
+use Rattle.event_lines.specs.declared.requests.Request.TheVariants.{Claim as ClaimRequest}
+use Rattle.event_lines.specs.Requests.{claimed}
+use Rattle.cell_drive.specs.declared.protocol.Protocol.{Protocol}
+use Rattle.cell_drive.specs.Refusals.{CanClaim, IsAdmissible}
+use Rattle.cell_drive.specs.AnswerText.{DrivenCell, undriven}
+use Rattle.cell_drive.specs.ProtocolText.{ProtocolAnswers, IsClaimRefused, IsClaimAccepted, refusal_prefix}
+use Rattle.cell_drive.specs.ProtocolLaw.{named, NothingIsAcceptedTwice}
+use Rattle.cell_drive.proofs.OneText.{IsOnCourse, request_keeps, start_on_course, protocol_lines_keep}
+use Rattle.cell_drive.proofs.ReadBack.{AreParsed, all_parsed}
+use Rattle.cell_drive.proofs.Refusing.{can_report, refused_or_admissible}
+use Rattle.cell_drive.proofs.ProtocolParses.{protocol_line_parses}
+
+-- a claim that is possible tells what it names
+pub ends_named : (p : PlannedShop) (c : Cell) (claim : Claim) (ended : NamedEnd) → named claim ≡ Some ended → CanClaim p c claim → ReportsEnd p c (claimed claim) ended
+ends_named p c (Report (Arrive job at)) ended is can = let same : Arrived job ≡ ended = cc in subst (ReportsEnd p c (Arrive job at)) same refl
+ends_named p c (Report (Finish job machine at)) ended is can = let same : Finished job machine ≡ ended = cc in subst (ReportsEnd p c (Finish job machine at)) same refl
+ends_named p c (Report (Clean machine at)) ended is can = absurd (cc)
+ends_named p c (CleanAfter machine job at) ended is can = let same : Cleaned machine job ≡ ended = cc in subst (ReportsEnd p c (Clean machine at)) same (refl, can.after)
+
+module _ (p : PlannedShop) (protocol : Protocol) (shaped : IsWellShaped p) where
+  abbrev answers : DrivenCell → ℕ → Option (List ℕ) → List ℕ → DrivenCell → Type 0
+  answers = ProtocolAnswers p protocol
+
+  pub told : (lines : List (Option (List ℕ))) (before end : DrivenCell) (number : ℕ) (text : List ℕ) → IsOnCourse p before.cell → AnswerAll answers before number lines text end → AreParsed p shaped before text end
+  told lines before end number text on all = all_parsed p shaped answers (protocol_lines_keep p protocol) (protocol_line_parses p shaped protocol) lines before end number text on all
+
+  module _ (before after end : DrivenCell) (claim again : Claim) (ended : NamedEnd) (texts text others : List ℕ) where
+    taken_once : (first : AreParsed p shaped (undriven p) texts before) (events : List Entry) (is : IsClaimAccepted p protocol [] before.cell claim text events after.cell) (then_replayed : AreParsed p shaped after others end)
+        → named claim ≡ Some ended → named again ≡ Some ended → CanClaim p end.cell again → ⊥
+    taken_once first events is then_replayed names names_again can =
+        let c = before.cell in
+        let r = claimed claim in
+        let es = events_of first.more in
+        let own = Reported r ∷ moved (step_orders p c r is.movers) in
+        let gs = events_of then_replayed.more in
+        let own_events : AreEvents p c own = (is.step.can, moves-events p (after_report c r) (at r) is.movers is.step.moves) in
+        let to_after : after.cell ≡ after_all p c own = is.next_is ∙ sym (after_all-moves p (after_report c r) (at r) is.movers) in
+        let from_before : AreEvents p c (own ++ gs) = events_join p c own gs own_events (subst (λ (x : Cell). AreEvents p x gs) to_after then_replayed.events) in
+        let run : IsRun p (es ++ (own ++ gs)) = events_join p (start p) es (own ++ gs) first.events (subst (λ (x : Cell). AreEvents p x (own ++ gs)) first.cell from_before) in
+        let to_end : end.cell ≡ ends_in p (es ++ (own ++ gs)) =
+        then_replayed.cell ∙ ap (λ (x : Cell). after_all p x gs) to_after ∙ sym (after_all_join p c own gs) ∙ ap (λ (x : Cell). after_all p x (own ++ gs)) first.cell ∙ sym (after_all_join p (start p) es (own ++ gs)) in
+        let can_then : CanClaim p (ends_in p (es ++ (own ++ gs))) again = subst (λ (x : Cell). CanClaim p x again) to_end can in
+        once p es (moved (step_orders p c r is.movers) ++ gs) r (claimed again) ended shaped run
+        (subst (λ (x : Cell). ReportsEnd p x r ended) first.cell (ends_named p c claim ended names is.accepted.0))
+        (ends_named p (ends_in p (es ++ (own ++ gs))) again ended names_again can_then)
+        (can_report p (ends_in p (es ++ (own ++ gs))) again can_then)
+
+    accepted_or_not : (number : ℕ) (events : List Entry) → IsOnCourse p before.cell → IsAdmissible protocol p before.cell claim → AreParsed p shaped (undriven p) texts before
+        → IsClaimRefused p protocol (refusal_prefix protocol []) before.cell number claim text events after.cell ⊎ IsClaimAccepted p protocol [] before.cell claim text events after.cell → AreParsed p shaped after others end
+        → named claim ≡ Some ended → named again ≡ Some ended → CanClaim p end.cell again → ⊥
+    accepted_or_not number events on is_taken first (inl is) then_replayed names names_again can = refused_or_admissible p before.cell shaped on.sound protocol claim is.refusal is.first is_taken
+    accepted_or_not number events on is_taken first (inr is) then_replayed names names_again can = taken_once first events is then_replayed names names_again can
+
+lines_on_course : (p : PlannedShop) (protocol : Protocol) (lines : List (Option (List ℕ))) (before end : DrivenCell) (number : ℕ) (text : List ℕ) → IsOnCourse p before.cell
+    → AnswerAll (ProtocolAnswers p protocol) before number lines text end → IsOnCourse p end.cell
+lines_on_course p protocol [] before end number text on all = subst (λ (d : DrivenCell). IsOnCourse p d.cell) (sym all.1) on
+lines_on_course p protocol (line ∷ lines) before end number text on all =
+    lines_on_course p protocol lines all.2 end _ all.1 (protocol_lines_keep p protocol before number line all.0 all.2 on all.3) all.4
+
+pub nothing_is_accepted_twice : NothingIsAcceptedTwice
+nothing_is_accepted_twice p protocol lines later before after end number next texts text others claim again ended shaped answered accepted requested further names names_again can =
+    let on = start_on_course p shaped in
+    let on_before = lines_on_course p protocol lines (undriven p) before 1 texts on answered in
+    let on_after = request_keeps p protocol [] before.cell number on_before (ClaimRequest claim) text requested.more after.cell requested.answer in
+    accepted_or_not p protocol shaped before after end claim again ended texts text others number requested.more on_before accepted (told p protocol shaped lines (undriven p) before 1 texts on answered) requested.answer
+    (told p protocol shaped later after end next others on_after further) names names_again can

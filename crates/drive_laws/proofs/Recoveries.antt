@@ -1,0 +1,143 @@
+-- A log is taken up in one way, and one without events as at the start.
+use Rattle.std.proofs.Common.{◌≡◌, ℕ, ◌<◌, inl, inr, Bool, true, false, ◌↔◌, List, [], ◌∷◌, ◌++◌, map, Option, None, refl, sym, ap, ap₂, ◌∙◌, subst, arith}
+use Rattle.std.specs.Prelude.{unwrap_or}
+use Rattle.std.proofs.lemmas.Bool.{cases_lt}
+use Rattle.shop_base.specs.declared.move_order.MoveOrder.{MoveOrder}
+use Rattle.shop_base.specs.Plan.{PlannedShop, IsWellShaped}
+use Rattle.shop_base.specs.Cell.{Cell, start}
+use Rattle.shop_base.specs.Move.{after_move}
+use Rattle.shop_base.specs.Run.{after, IsAtRest}
+use Rattle.shop_base.specs.Controlled.{after_moves, orders_for, done}
+use Rattle.cell_tables.specs.declared.entry.Entry.{Entry}
+use Rattle.cell_tables.specs.declared.entry.Entry.TheVariants.{Report as ReportEntry, Order as OrderEntry}
+use Rattle.cell_tables.specs.Events.{event_of}
+use Rattle.event_lines.specs.LogLines.{LinesParse}
+use Rattle.event_lines.proofs.Readings.{one_reading}
+use Rattle.cell_control.specs.Settled.{SettlesInOrder, HasSettled}
+use Rattle.cell_drive.specs.AnswerText.{DrivenCell}
+use Rattle.cell_drive.specs.OneRun.{cell_after}
+use Rattle.cell_drive.specs.LateEvents.{IsLateEvent, AreLate}
+use Rattle.cell_drive.specs.Recovered.{Recovered, IsRecoveredFrom, IsRecovered, replayed_events}
+use Rattle.cell_drive.specs.Resuming.{IsResumedText, IsRunToRest}
+use Rattle.drive_laws.specs.RecoveryLaw.{OneRecovery, OneTextFromALog, ALogWithoutEventsIsDriven}
+use Rattle.drive_laws.proofs.Resumes.{to_rest, one_resumed_text}
+use Rattle.drive_laws.proofs.SettledCuts.{it_is_recovered_with_its_orders}
+
+-- ---- the jobs that move
+
+same_first : (j k : ℕ) → (j < k → ⊥) → (k < j → ⊥) → j ≡ k
+same_first j k not_before not_behind = elim (cases_lt j k) [
+  | inl before ↦ absurd (not_before before)
+  | inr behind ↦ elim (cases_lt k j) [
+    | inl less ↦ absurd (not_behind less)
+    | inr no_less ↦ omega (arith, behind, no_less)
+  ]
+]
+
+module _ (p : PlannedShop) where
+  -- where always the first moves that can, the same jobs move until the cell is at rest
+  same_movers : (c : Cell) (t : ℕ) (js ks : List ℕ) → SettlesInOrder p c t js → SettlesInOrder p c t ks → IsAtRest p (after_moves p c t js) → IsAtRest p (after_moves p c t ks) → js ≡ ks
+  same_movers c t [] [] one other rest also = refl
+  same_movers c t [] (k ∷ ks) one other rest also = absurd (rest k t other.0.can other.0.keeps)
+  same_movers c t (j ∷ js) [] one other rest also = absurd (also j t one.0.can one.0.keeps)
+  same_movers c t (j ∷ js) (k ∷ ks) one other rest also =
+      let same : j ≡ k =
+      same_first j k (λ before. other.0.first j before one.0.can one.0.keeps) (λ behind. one.0.first k behind other.0.can other.0.keeps) in
+      let others : js ≡ ks = same_movers (after_move p c j t) t js ks one.1 (subst (λ i. SettlesInOrder p (after_move p c i t) t ks) (sym same) other.1)
+      rest (subst (λ i. IsAtRest p (after_moves p (after_move p c i t) t ks)) (sym same) also) in
+      ap₂ (λ (i : ℕ) (is : List ℕ). i ∷ is) same others
+
+  -- ---- which events are late
+
+  same_flag : {T : Type 0} (one other : Bool) → (one ≡ false) ↔ T → (other ≡ false) ↔ T → one ≡ other
+  same_flag false false is also = refl
+  same_flag true true is also = refl
+  same_flag false true is also = let turned : true ≡ false = also.1 (is.0 refl) in absurd (cc)
+  same_flag true false is also = let turned : true ≡ false = is.1 (also.0 refl) in absurd (cc)
+
+  same_late_event : (c : Cell) (entry : Entry) (one other : Bool) → IsLateEvent p c entry one → IsLateEvent p c entry other → one ≡ other
+  same_late_event c (ReportEntry report) one other is also = same_flag one other is also
+  same_late_event c (OrderEntry order) one other is also = is ∙ sym also
+
+  same_late : (c : Cell) (entries : List Entry) (one other : List Bool) → AreLate p c entries one → AreLate p c entries other → one ≡ other
+  same_late c [] one other are also = are ∙ sym also
+  same_late c (entry ∷ entries) [] other are also = absurd are
+  same_late c (entry ∷ entries) (f ∷ one) [] are also = absurd also
+  same_late c (entry ∷ entries) (f ∷ one) (g ∷ other) are also =
+      ap₂ (λ (x : Bool) (xs : List Bool). x ∷ xs) (same_late_event c entry f g are.0 also.0) (same_late (after p c (event_of entry)) entries one other are.1 also.1)
+
+  module _ (told : List Entry) (at : Option ℕ) (recovered : Recovered) (from : IsRecoveredFrom p told at recovered) where
+    settled_behind : HasSettled p (unwrap_or at (cell_after p told).last) (cell_after p told) recovered.control.orders recovered.control.cell
+    settled_behind =
+        let control = recovered.control in
+        subst (λ t. HasSettled p t (cell_after p told) control.orders control.cell) from.began
+        (subst (λ (es : List Entry). HasSettled p control.began (cell_after p es) control.orders control.cell) from.replayed_is
+        (subst (λ (q : PlannedShop). HasSettled q control.began (cell_after q (replayed_events recovered)) control.orders control.cell) from.planned from.run.begun.settled))
+
+    late_behind : AreLate p (start p) told recovered.late
+    late_behind =
+        subst (λ (es : List Entry). AreLate p (start p) es recovered.late) from.replayed_is
+        (subst (λ (q : PlannedShop). AreLate q (start q) (replayed_events recovered) recovered.late) from.planned from.run.are_late)
+
+    entries_behind : recovered.log.entries ≡ told ++ map OrderEntry recovered.control.orders
+    entries_behind = from.run.due ∙ ap (λ (es : List Entry). es ++ map OrderEntry recovered.control.orders) from.replayed_is
+
+    shaped_behind : IsWellShaped p
+    shaped_behind = subst IsWellShaped from.planned from.run.kept.shaped
+
+pub one_recovery : OneRecovery
+one_recovery p lines at recovered other up also =
+    let told = up.told in
+    let c : Cell = cell_after p told in
+    let t : ℕ = unwrap_or at c.last in
+    let from = up.recovered_from in
+    let from_too : IsRecoveredFrom p told at other = subst (λ (es : List Entry). IsRecoveredFrom p es at other) (one_reading p lines also.told told also.tells up.tells) also.recovered_from in
+    let one = settled_behind p told at recovered from in
+    let two = settled_behind p told at other from_too in
+    let movers : two.movers ≡ one.movers = same_movers p c t two.movers one.movers two.in_order one.in_order two.settles.quiescent one.settles.quiescent in
+    let orders : other.control.orders ≡ recovered.control.orders = two.orders_are ∙ ap (orders_for p c t) movers ∙ sym one.orders_are in
+    let cells : other.control.cell ≡ recovered.control.cell = two.leads ∙ ap (after_moves p c t) movers ∙ sym one.leads in
+    let entries : other.log.entries ≡ recovered.log.entries =
+    entries_behind p told at other from_too ∙ ap (λ (os : List MoveOrder). told ++ map OrderEntry os) orders ∙ sym (entries_behind p told at recovered from) in
+    (ap₂ (λ (d : Cell) (es : List Entry). let seen : DrivenCell = record { cell = d; entries = es } in seen) cells entries, same_late p (start p) told other.late recovered.late (late_behind p told at other from_too) (late_behind p told at recovered from))
+
+module _ (p : PlannedShop) (lines : List (List ℕ)) (at : Option ℕ) (recovered other : Recovered) (up : IsRecovered p lines at recovered) (also : IsRecovered p lines at other) where
+  same_entries : other.log.entries ≡ recovered.log.entries
+  same_entries = ap (λ (d : DrivenCell). d.entries) (one_recovery p lines at recovered other up also).0
+
+  same_late_ones : other.late ≡ recovered.late
+  same_late_ones = (one_recovery p lines at recovered other up also).1
+
+  shaped_there : IsWellShaped p
+  shaped_there = shaped_behind p up.told at taken up.recovered_from
+
+  run_there : IsRunToRest p recovered.log.entries
+  run_there = subst (λ (q : PlannedShop). IsRunToRest q recovered.log.entries) up.recovered_from.planned (to_rest taken up.recovered_from.run)
+
+pub one_text_from_a_log : OneTextFromALog
+one_text_from_a_log p protocol lines at recovered other input text other_text end last up also is is_too =
+    let same : IsResumedText p protocol recovered.log.entries recovered.late input other_text last =
+    subst (λ (fs : List Bool). IsResumedText p protocol recovered.log.entries fs input other_text last) (same_late_ones p lines at recovered other up also)
+    (subst (λ (es : List Entry). IsResumedText p protocol es other.late input other_text last) (same_entries p lines at recovered other up also) is_too) in
+    one_resumed_text p protocol recovered.log.entries recovered.late input text other_text end last (shaped_there p lines at recovered other up also) (run_there p lines at recovered other up also) is same
+
+-- ---- a log without events
+
+nothing_recovered : (p : PlannedShop) (lines : List (List ℕ)) (recovered : Recovered) → LinesParse p lines [] → IsRecovered p lines None recovered → (recovered.log.entries ≡ []) × (recovered.late ≡ [])
+nothing_recovered p lines recovered none up =
+    let from = up.recovered_from in
+    let (replayed_none, due_none) = it_is_recovered_with_its_orders p lines [] [] recovered (shaped_behind p up.told None recovered from) (record { tells = none; run = done (start p) }) up in
+    let replayed_is : up.told ≡ [] = sym from.replayed_is ∙ replayed_none in (
+      from.run.due ∙ ap₂ (λ (es : List Entry) (os : List MoveOrder). es ++ map OrderEntry os) replayed_none due_none,
+      subst (λ (es : List Entry). AreLate p (start p) es recovered.late) replayed_is (late_behind p up.told None recovered from),
+    )
+
+pub a_log_without_events_is_driven : ALogWithoutEventsIsDriven
+a_log_without_events_is_driven p protocol lines recovered input text end none up is =
+    let nothing = nothing_recovered p lines recovered none up in
+    let from_start : IsResumedText p protocol [] [] input text end =
+    subst (λ (fs : List Bool). IsResumedText p protocol [] fs input text end) nothing.1 (subst (λ (es : List Entry). IsResumedText p protocol es recovered.late input text end) nothing.0 is) in (
+      from_start.answers ++ from_start.closing,
+      record { answers = from_start.answers; are_answers = from_start.are_answers; closing = from_start.closing; is_closing = from_start.is_closing; whole = refl },
+      from_start.whole,
+    )

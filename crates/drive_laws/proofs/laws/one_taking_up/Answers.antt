@@ -1,8 +1,0 @@
-use Rattle.drive_laws.proofs.OneTaking as taking
-use Rattle.drive_laws.proofs.laws.one_taking_up.Goals as goal
-
-pub returns-clause-one : goal.returns-clause-one
-returns-clause-one c = taking.one_taking_up
-
-pub returns-clause-text : goal.returns-clause-text
-returns-clause-text c = taking.one_text_from_a_log
