@@ -7,8 +7,8 @@ ghost use Rattle.alt_graph.specs.Bounds.{NodeBounds, IsAheadOf, bound_of, whole,
 
 use shop_base::{Moment, Node, Shaped};
 
-/// Which nodes are ahead, so that paths follow the arcs from them, and the moments before which some nodes aren't reached,
-/// whatever leads to them: there paths begin. Of a whole plan that is [`Whole`].
+/// Which nodes are ahead, so that paths follow the arcs from them, and the moments before which some nodes aren't
+/// reached, whatever leads to them: there paths begin. Of a whole plan that is [`Whole`].
 pub trait Bounds: Sized + Drop {
     // The plan of the nodes.
     ghost planned: { Self → PlannedShop };

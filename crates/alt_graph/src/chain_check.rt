@@ -17,13 +17,14 @@ use shop_base::{Moment, Node, Shaped};
 /// has that job out earlier, as long as each activity takes its full time.
 pub fn check_chain(shaped: &Shaped, nodes: &[Node]) -> Option<Moment>
     ensures exact { (n : ℕ) → (result ≡ Some n) ↔ IsChain shaped.now nodes.now n }
-    ensures no_faster { IfSome result (λ n. (j : ℕ) → EndsIn nodes.now (leaving shaped.now j) → IsNeverGoneBefore shaped.now j n) }
+    ensures no_faster { IfSome result
+        (λ n. (j : ℕ) → EndsIn nodes.now (leaving shaped.now j) → IsNeverGoneBefore shaped.now j n) }
 {
     check_chain_from(shaped, &Whole { shaped }, nodes)
 }
 
-/// The length of a path from any bounds: the bound of its first node, and the lengths of its arcs, each from a node ahead.
-/// None for a list that isn't such a path, or has more nodes than there are.
+/// The length of a path from any bounds: the bound of its first node, and the lengths of its arcs, each from a node
+/// ahead. None for a list that isn't such a path, or has more nodes than there are.
 pub fn check_chain_from<B: Bounds>(shaped: &Shaped, bounds: &B, nodes: &[Node]) -> Option<Moment>
     requires { B.planned bounds.now ≡ shaped.now }
     ensures exact { (n : ℕ) → (result ≡ Some n) ↔ IsChainFrom shaped.now (B.bounds bounds.now) nodes.now n }
@@ -52,7 +53,8 @@ fn count_nodes(shaped: &Shaped) -> u64
 /// The bound of the node, if it is one of the shop that has one.
 fn begin<B: Bounds>(shaped: &Shaped, bounds: &B, node: Node) -> Option<Moment>
     requires { B.planned bounds.now ≡ shaped.now }
-    ensures exact { MatchOption result ((n : ℕ) → HasBound shaped.now (B.bounds bounds.now) node n → ⊥) (HasBound shaped.now (B.bounds bounds.now) node) }
+    ensures exact { MatchOption result ((n : ℕ) → HasBound shaped.now (B.bounds bounds.now) node n → ⊥)
+        (HasBound shaped.now (B.bounds bounds.now) node) }
     ensures early { IfSome result (λ n. n ≤ MAX_BOUND) }
 {
     if is_node(shaped, node) {
@@ -65,7 +67,8 @@ fn begin<B: Bounds>(shaped: &Shaped, bounds: &B, node: Node) -> Option<Moment>
 /// The length of the arc that leads from the one node to the other, if there is one and the first is ahead.
 fn arc_ahead<B: Bounds>(shaped: &Shaped, bounds: &B, from: Node, to: Node) -> Option<Moment>
     requires { B.planned bounds.now ≡ shaped.now }
-    ensures { MatchOption result (LeadsAhead shaped.now (B.bounds bounds.now) from to → ⊥) (λ d. IsAheadOf (B.bounds bounds.now) from × Arc shaped.now from to d) }
+    ensures { MatchOption result (LeadsAhead shaped.now (B.bounds bounds.now) from to → ⊥)
+        (λ d. IsAheadOf (B.bounds bounds.now) from × Arc shaped.now from to d) }
 {
     let length = arc_length(shaped, from, to)?;
     if bounds.is_ahead(from) {

@@ -108,7 +108,8 @@ fn note_ranks(shaped: &Shaped, times: &Times, job: JobNo, nodes: &mut [Option<No
     requires ranked { AreAtTheirRanks shaped.now times.now nodes.old }
     ensures ranked { AreAtTheirRanks shaped.now times.now nodes.new }
     ensures noted { (k : ℕ) → k ≤ steps shaped.now job → IsAtItsRank times.now nodes.new (node job k) }
-    ensures still { (v : Node) → IsNode shaped.now v → IsAtItsRank times.now nodes.old v → IsAtItsRank times.now nodes.new v }
+    ensures still { (v : Node) → IsNode shaped.now v → IsAtItsRank times.now nodes.old v
+        → IsAtItsRank times.now nodes.new v }
 {
     for place in 0..shaped.step_count(job) + 1 {
         let node = Node { job, place };

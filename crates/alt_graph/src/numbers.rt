@@ -26,7 +26,8 @@ pub(crate) fn first_numbers(alloc: Global, shaped: &Shaped) -> Result<Vec<u32>, 
 
 /// The node's number, if it is one of the nodes that are counted.
 pub(crate) fn counted_number(firsts: &[u32], node: Node) -> Option<usize>
-    ensures { MatchOption result (IsCounted firsts.now node → ⊥) (λ at. IsCounted firsts.now node × (at ≡ number_of firsts.now node)) }
+    ensures { MatchOption result (IsCounted firsts.now node → ⊥)
+        (λ at. IsCounted firsts.now node × (at ≡ number_of firsts.now node)) }
 {
     let job = node.job as usize;
     if job + 1 >= firsts.len() {

@@ -1,6 +1,7 @@
 //! Ranks and greatest lengths, by a worklist of the nodes whose arcs from before are all ranked.
 
-ghost use Rattle.std.specs.Prelude.{◌≡◌, ◌+◌, ◌<◌, ◌≤◌, ◌↔◌, [], IsTrue, IfOk, MatchOption, MatchBool, None, ◌⊎◌, length, replicate};
+ghost use Rattle.std.specs.Prelude.{◌≡◌, ◌+◌, ◌<◌, ◌≤◌, ◌↔◌, [], IsTrue, IfOk, MatchOption};
+ghost use Rattle.std.specs.Prelude.{MatchBool, None, ◌⊎◌, length, replicate};
 ghost use Rattle.std.specs.Option.{ForSome};
 ghost use Rattle.shop_base.specs.declared.limits.TheConstants.{MAX_NOMINAL};
 ghost use Rattle.shop_base.specs.Plan.{jobs, IsWellShaped};
@@ -8,7 +9,8 @@ ghost use Rattle.shop_base.specs.Graph.{Arc, IsNode};
 ghost use Rattle.alt_graph.specs.Bounds.{AreRooted, IsAheadOf, bound_of};
 ghost use Rattle.alt_graph.specs.Sources.{IsJobArc};
 ghost use Rattle.alt_graph.specs.Times.{AreOrderedFrom, rank_of, time_at, no_time};
-ghost use Rattle.alt_graph.specs.Ranking.{IsRanked, IsUnranked, AreRanked, AreAllRanked, IsJobRanked, IsLongest, IsFromBound, IsOver, IsWith, WaitsFor, Grows, IsSettled, AreSettled};
+ghost use Rattle.alt_graph.specs.Ranking.{IsRanked, IsUnranked, AreRanked, AreAllRanked, IsJobRanked, IsLongest};
+ghost use Rattle.alt_graph.specs.Ranking.{IsFromBound, IsOver, IsWith, WaitsFor, Grows, IsSettled, AreSettled};
 
 use crate::bounds::Bounds;
 use crate::graph::Graph;
@@ -35,7 +37,8 @@ impl<'a, B: Bounds> Model for Ranking<'a, B> {
 
     ghost view = { λ r. ranking_of r.graph (B.bounds r.bounds) r.done.items r.rows.items };
 
-    ghost invariant = { λ r. IsRanking r.graph (B.planned r.bounds) (B.bounds r.bounds) r.done.items r.rows.items (vec_capacity r.done) };
+    ghost invariant = { λ r.
+        IsRanking r.graph (B.planned r.bounds) (B.bounds r.bounds) r.done.items r.rows.items (vec_capacity r.done) };
 }
 
 /// The greatest length of a path to a node, and the node before it on such a path.
@@ -218,7 +221,8 @@ impl<'a, B: Bounds> Ranking<'a, B> {
     /// before has no rank.
     fn longest_in_job(&self, node: Node) -> Option<Longest>
         requires { IsNode self.now.plan node }
-        ensures { MatchOption result (WaitsFor self.now UNRANKED node) (IsLongest self.now (IsJobArc self.now.plan) node) }
+        ensures { MatchOption result (WaitsFor self.now UNRANKED node)
+            (IsLongest self.now (IsJobArc self.now.plan) node) }
     {
         let shaped = self.shaped();
         match job_source(shaped, node) {

@@ -33,8 +33,8 @@ pub fn solve(alloc: Global, shaped: &Shaped) -> Result<Solved, AllocError>
     solve_from(alloc, shaped, Whole { shaped })
 }
 
-/// Ranks the nodes as [`solve`] does, and finds the greatest lengths of the paths from any bounds, over the arcs from nodes
-/// ahead alone; or finds a cycle, whatever is ahead.
+/// Ranks the nodes as [`solve`] does, and finds the greatest lengths of the paths from any bounds, over the arcs from
+/// nodes ahead alone; or finds a cycle, whatever is ahead.
 pub fn solve_from<B: Bounds>(
     alloc: Global,
     shaped: &Shaped,

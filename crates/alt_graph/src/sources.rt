@@ -71,8 +71,8 @@ impl Graph<'_> {
         Some(ArcIn { node, length })
     }
 
-    /// The node to which the blocking arc out of the node leads, if there is one: the entry of the machine that the node's
-    /// job leaves by it, by the next job in the machine's order.
+    /// The node to which the blocking arc out of the node leads, if there is one: the entry of the machine that the
+    /// node's job leaves by it, by the next job in the machine's order.
     pub fn blocking_target(&self, node: Node) -> Option<Node>
         ensures { IsTarget (IsBlockingArc self.now.plan) node result }
     {

@@ -48,7 +48,8 @@ impl Times {
 
     /// The node's rank, which rises strictly along every arc; `None` for a node that isn't of the shop.
     pub fn rank(&self, node: Node) -> Option<u32>
-        ensures { MatchOption result (IsTimed self.now node → ⊥) (λ rank. IsTimed self.now node × (rank ≡ rank_of self.now node)) }
+        ensures { MatchOption result (IsTimed self.now node → ⊥)
+            (λ rank. IsTimed self.now node × (rank ≡ rank_of self.now node)) }
     {
         match self.time(node) {
             Some(time) => Some(time.rank),

@@ -108,7 +108,8 @@ impl Branch {
         requires sound { IsSound question.now }
         requires branch { IsBranch question.now self.old }
         requires pair { side.pair < length question.now.pairs.items }
-        ensures { Propagates (λ w. Keeps w (side_of question.now side.pair side.one)) question.now self.old self.new result }
+        ensures { Propagates (λ w. Keeps w (side_of question.now side.pair side.one)) question.now
+            self.old self.new result }
     {
         self.note(question, side);
         self.keep(question, work, question.side(side))

@@ -11,7 +11,8 @@ use crate::question::Question;
 use crate::rules::Clash;
 use crate::work::Work;
 
-/// The most turns of the rules before a branch is taken as it is: a number in place of a proof of when they come to rest.
+/// The most turns of the rules before a branch is taken as it is: a number in place of a proof of when they come to
+/// rest.
 const ROUNDS: u64 = 1_000_000_000_000;
 
 impl Branch {
@@ -177,7 +178,8 @@ impl Branch {
         requires sound { IsSound question.now }
         requires branch { IsBranch question.now self.old }
         requires pair { side.pair < length question.now.pairs.items }
-        ensures { Propagates (λ w. Keeps w (side_of question.now side.pair side.one)) question.now self.old self.new result }
+        ensures { Propagates (λ w. Keeps w (side_of question.now side.pair side.one)) question.now
+            self.old self.new result }
     {
         self.decide(question, work, side)?;
         self.tighten(question, links, work)

@@ -23,7 +23,8 @@ fn answer_bytes<H: LineHandler, W: Sink>(
     bytes: &[u8],
     writer: &mut W,
 ) -> Result<(), WriteFault>
-    ensures { WasAnswered H.answers handler.old number (held_line (Some bytes.now)) handler.new W.Sink result writer.old writer.new }
+    ensures { WasAnswered H.answers handler.old number
+        (held_line (Some bytes.now)) handler.new W.Sink result writer.old writer.new }
 {
     let line = without_return(bytes);
     if line.len() <= MAX_LINE {
@@ -40,7 +41,8 @@ pub(crate) fn answer_held<H: LineHandler, W: Sink>(
     held: &HeldLine,
     writer: &mut W,
 ) -> Result<(), WriteFault>
-    ensures { WasAnswered H.answers handler.old number (held_line held.now) handler.new W.Sink result writer.old writer.new }
+    ensures { WasAnswered H.answers handler.old number
+        (held_line held.now) handler.new W.Sink result writer.old writer.new }
 {
     match held.bytes() {
         Some(bytes) => answer_bytes(handler, number, bytes, writer),
@@ -56,7 +58,8 @@ fn answer_ended<H: LineHandler, W: Sink>(
     bytes: &[u8],
     writer: &mut W,
 ) -> Result<(), WriteFault>
-    ensures answered { WasAnswered H.answers handler.old number (ended_line held.old bytes.now) handler.new W.Sink result writer.old writer.new }
+    ensures answered { WasAnswered H.answers handler.old number
+        (ended_line held.old bytes.now) handler.new W.Sink result writer.old writer.new }
     ensures cleared { held.new ≡ Some [] }
 {
     if held.is_empty() {
@@ -76,8 +79,8 @@ pub(crate) fn take_piece<H: LineHandler, W: Sink>(
     writer: &mut W,
 ) -> Result<(), WriteFault>
     requires { input.old.lines + length piece.now < 2 ^ 64 }
-    ensures answered { WereAnswered H.answers handler.old (input.old.lines + 1) (ended input.old.held piece.now) handler.new result
-        (sink_state W.Sink writer.old) (sink_state W.Sink writer.new) }
+    ensures answered { WereAnswered H.answers handler.old (input.old.lines + 1) (ended input.old.held piece.now)
+        handler.new result (sink_state W.Sink writer.old) (sink_state W.Sink writer.new) }
     ensures held { OnOk result (input.new.held ≡ held_after input.old.held piece.now) }
     ensures lines { OnOk result (input.new.lines ≡ input.old.lines + length (ended input.old.held piece.now)) }
 {

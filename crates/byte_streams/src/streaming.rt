@@ -4,7 +4,8 @@ ghost use Rattle.std.specs.Prelude.{◌≡◌, ◌+◌, ◌^◌, ◌<◌, ◌≤
 ghost use Rattle.std.specs.Io.KnownBytes.{Keeps, ReadConsumes};
 ghost use Rattle.byte_streams.specs.Lent.{sink_state, output_of, streams_of, lent};
 ghost use Rattle.byte_streams.specs.Answering.{WereAnswered};
-ghost use Rattle.byte_streams.specs.Reading.{IsReadOn, IsPastLimit, IsReadAnswered, IsDrained, IsFinished, last_line, reached};
+ghost use Rattle.byte_streams.specs.Reading.{IsReadOn, IsPastLimit, IsReadAnswered, IsDrained};
+ghost use Rattle.byte_streams.specs.Reading.{IsFinished, last_line, reached};
 ghost use Rattle.byte_streams.specs.Streams.{IsShown, IsShownAt, IsStreamed};
 
 use crate::buffered_sink::BufferedSink;
@@ -36,8 +37,8 @@ fn take_read<H: LineHandler, W: BufferedSink>(
     writer: &mut W,
 ) -> Result<usize, DriveFault>
     requires { input.old.lines + left < 2 ^ 64 }
-    ensures written { IsReadAnswered result H.answers (reached handler.old input.old) piece.now left (reached handler.new input.new)
-        (sink_state W.Sink writer.old) (sink_state W.Sink writer.new) }
+    ensures written { IsReadAnswered result H.answers (reached handler.old input.old) piece.now left
+        (reached handler.new input.new) (sink_state W.Sink writer.old) (sink_state W.Sink writer.new) }
     ensures shown { IfErr result (λ fault. IsShownAt fault (W.pending writer.new)) }
 {
     let within = piece.len().min(left);
@@ -84,7 +85,8 @@ fn drain<H: LineHandler, R: Source, W: BufferedSink>(
     requires no_lines { input.old.lines ≡ 0 }
     requires room { 0 < length room.old }
     ensures drained { IsDrained result (length room.old) H.answers handler.old (reached handler.new input.new)
-        (streams_of R.Source W.Sink W.pending reader.old writer.old) (streams_of R.Source W.Sink W.pending reader.new writer.new) }
+        (streams_of R.Source W.Sink W.pending reader.old writer.old)
+        (streams_of R.Source W.Sink W.pending reader.new writer.new) }
     ensures shown { IsShown result (W.pending writer.new) }
 {
     let mut left = MAX_INPUT;
@@ -144,7 +146,8 @@ pub fn stream<H: LineHandler, R: Source, W: BufferedSink>(
 ) -> Result<(), DriveFault>
     requires { 0 < length room.old }
     ensures { IsStreamed result (length room.old) H.answers H.closes handler.old handler.new
-        (streams_of R.Source W.Sink W.pending reader.old writer.old) (streams_of R.Source W.Sink W.pending reader.new writer.new) }
+        (streams_of R.Source W.Sink W.pending reader.old writer.old)
+        (streams_of R.Source W.Sink W.pending reader.new writer.new) }
 {
     let mut input = Input {
         held: HeldLine::new(),

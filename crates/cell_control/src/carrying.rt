@@ -20,7 +20,8 @@ pub(crate) fn carry<P: Planned>(
 ) -> Result<Tables, RestFault>
     requires { KeepsSoFar cell.now.plan cell.now.cell shaped.now }
     ensures sound { IfOk result (AreSound shaped.now) }
-    ensures carried { IfOk result (λ tables. IsCarried cell.now.plan cell.now.cell shaped.now (cell_of shaped.now tables)) }
+    ensures carried { IfOk result
+        (λ tables. IsCarried cell.now.plan cell.now.cell shaped.now (cell_of shaped.now tables)) }
     ensures memory { IfErr result (λ fault. fault ≡ Memory) }
 {
     // Called for its clauses alone: the plan is well shaped, and the cell sound.

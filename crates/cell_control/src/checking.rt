@@ -2,7 +2,8 @@
 
 ghost use Rattle.std.specs.Prelude.{OnOk, IfErr};
 ghost use Rattle.shop_base.specs.Report.{CanReport, IsNextMoment};
-ghost use Rattle.cell_control.specs.Reports.{IsFirstReason, IsFirstCleanReason, CanCleanAfter, IsMomentReason, IsJobReason, IsBusyInTurn};
+ghost use Rattle.cell_control.specs.Reports.{IsFirstReason, IsFirstCleanReason, CanCleanAfter};
+ghost use Rattle.cell_control.specs.Reports.{IsMomentReason, IsJobReason, IsBusyInTurn};
 
 use crate::report_fault::ReportFault;
 use cell_tables::WorkCell;

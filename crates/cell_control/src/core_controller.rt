@@ -5,7 +5,8 @@ ghost use Rattle.alt_graph.specs.Times.{earliest_of};
 ghost use Rattle.cell_tables.specs.Readings.{IsCleanedFor};
 ghost use Rattle.cell_control.specs.Control.{IsAnswered, IfEndsNow, IsControl};
 ghost use Rattle.cell_control.specs.{Fields.begun_with, Fields.IsRoomFor, Judged.IsJudged, Judged.IsPossible};
-ghost use Rattle.cell_control.specs.Reports.{IsFirstReason, IsOnlyReason, CanCleanAfter, IsFirstCleanReason, IsOnlyCleanReason};
+ghost use Rattle.cell_control.specs.Reports.{IsFirstReason, IsOnlyReason, CanCleanAfter};
+ghost use Rattle.cell_control.specs.Reports.{IsFirstCleanReason, IsOnlyCleanReason};
 ghost use Rattle.cell_control.specs.Promises.{IsCalled};
 ghost use Rattle.cell_control.specs.Readings.{IsPhaseOf, IsJobOn, IsDueOf, IsDueOfCleaning, IsOnTime};
 
@@ -26,15 +27,15 @@ use plan_verifier::leave_time;
 use shop_base::{JobNo, MachineNo, Moment, MoveOrder, Report, Shaped};
 use std::marker::Model;
 
-/// Runs a cell by a plan without a cycle, from any cell on: it gets reports of what has ended, and orders the moves that then
-/// keep the plan.
+/// Runs a cell by a plan without a cycle, from any cell on: it gets reports of what has ended, and orders the moves
+/// that then keep the plan.
 ///
 /// It keeps the ranks of the plan, and a moment for each node that was ahead where it began, the earliest. After each
 /// report the cell is at rest, and until the run has ended something goes on that can be reported; so the cell never
 /// locks, whatever ends first. While no report is late each job is out by the moment kept for it.
 ///
-/// A [`crate::Controller`] has an accepted plan, and began with it; a [`crate::RestController`] began in mid-run, or was
-/// handed over. None of the calls here takes memory.
+/// A [`crate::Controller`] has an accepted plan, and began with it; a [`crate::RestController`] began in mid-run, or
+/// was handed over. None of the calls here takes memory.
 #[derive(Debug, Drop)]
 pub struct Core<P: Timed, D: Dues> {
     pub(crate) cell: WorkCell<P>,
@@ -53,7 +54,8 @@ impl<P: Timed, D: Dues> Model for Core<P, D> {
     ghost view = { λ c. control_of c.cell (P.times c.cell.basis) c.orders.items c.left c.began c.punctual };
 
     ghost invariant = { λ c.
-        AreFieldsOf (control_of c.cell (P.times c.cell.basis) c.orders.items c.left c.began c.punctual) (D.dues c.dues) c.orders.capacity };
+        AreFieldsOf (control_of c.cell (P.times c.cell.basis) c.orders.items c.left c.began c.punctual)
+        (D.dues c.dues) c.orders.capacity };
 }
 
 impl<P: Timed, D: Dues> Core<P, D> {
@@ -92,7 +94,8 @@ impl<P: Timed, D: Dues> Core<P, D> {
         Ok(self.take(possible))
     }
 
-    /// Judges a report: it is possible, and late or not, or this is the first reason for which it isn't possible. Nothing changes.
+    /// Judges a report: it is possible, and late or not, or this is the first reason for which it isn't possible.
+    /// Nothing changes.
     pub fn judge(&self, report: Report) -> Result<Possible, ReportFault>
         ensures possible { IsOk result ↔ CanReport self.now.planned self.now.cell report }
         ensures judged { IfOk result (IsJudged self.now.planned self.now.cell report) }
@@ -168,8 +171,8 @@ impl<P: Timed, D: Dues> Core<P, D> {
         Ok(self.take(possible))
     }
 
-    /// The moves that it ordered last, in the order in which they are made: those that the last accepted report has released,
-    /// or else those at its beginning.
+    /// The moves that it ordered last, in the order in which they are made: those that the last accepted report has
+    /// released, or else those at its beginning.
     pub fn orders(&self) -> &[MoveOrder]
         ensures { result.now ≡ self.now.orders }
     {
@@ -260,8 +263,8 @@ impl<P: Timed, D: Dues> Core<P, D> {
         self.punctual
     }
 
-    /// The moment kept for the job's leaving: while no report is late it is out by then. Of a job that was gone where the
-    /// controller began it is that at which it left. `None` for a number that is no job's.
+    /// The moment kept for the job's leaving: while no report is late it is out by then. Of a job that was gone where
+    /// the controller began it is that at which it left. `None` for a number that is no job's.
     pub fn leave_by(&self, job: JobNo) -> Option<Moment>
         ensures { let p = self.now.planned in
             MatchOption result (jobs p ≤ job) (λ n. (job < jobs p) × (n ≡ earliest_of self.now.times (leaving p job))) }

@@ -35,7 +35,8 @@ pub(crate) fn take_over<P: Planned, D: Dues>(
     ensures carried { IfOk result (λ new. IsCarried cell.now.plan cell.now.cell shaped new.cell.cell) }
     ensures moment { IfOk result (λ new. IsNextMoment new.cell.cell present) }
     ensures ordered { IfOk result (λ new. AreOrderedAhead new.cell.plan new.cell.cell present new.prepared.times) }
-    ensures room { IfOk result (λ new. IsRoomFor new.cell.plan (D.dues new.prepared.room.dues) new.prepared.room.orders.capacity) }
+    ensures room { IfOk result
+        (λ new. IsRoomFor new.cell.plan (D.dues new.prepared.room.dues) new.prepared.room.orders.capacity) }
     ensures no_orders { IfOk result (λ new. new.prepared.room.orders.items ≡ []) }
     ensures fault { IfErr result (λ refused. IsHandOverFault cell.now.plan cell.now.cell shaped present refused.0) }
     ensures handed_back { IfErr result (λ refused. refused.1 ≡ shaped) }
@@ -61,7 +62,8 @@ fn prepare_cell<D: Dues>(
     ensures same { IfOk result (λ new. new.cell ≡ cell) }
     ensures moment { OnOk result (IsNextMoment cell.cell present) }
     ensures ordered { IfOk result (λ new. AreOrderedAhead cell.plan cell.cell present new.prepared.times) }
-    ensures room { IfOk result (λ new. IsRoomFor cell.plan (D.dues new.prepared.room.dues) new.prepared.room.orders.capacity) }
+    ensures room { IfOk result
+        (λ new. IsRoomFor cell.plan (D.dues new.prepared.room.dues) new.prepared.room.orders.capacity) }
     ensures no_orders { IfOk result (λ new. new.prepared.room.orders.items ≡ []) }
     ensures fault { IfErr result (λ refused. IsRestFault cell.plan cell.cell present refused.0) }
     ensures handed_back { IfErr result (λ refused. refused.1 ≡ cell.basis) }

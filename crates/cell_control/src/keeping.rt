@@ -44,7 +44,8 @@ fn job_keeps<P: Planned>(cell: &WorkCell<P>, shaped: &Shaped, job: JobNo) -> boo
 fn end_keeps<P: Planned>(cell: &WorkCell<P>, shaped: &Shaped, job: JobNo) -> bool
     requires job { job < jobs cell.now.plan }
     requires other { job < jobs shaped.now }
-    ensures { let p = cell.now.plan in IsTrue result ↔ (IsGone p cell.now.cell job → steps shaped.now job ≡ steps p job) }
+    ensures { let p = cell.now.plan in
+        IsTrue result ↔ (IsGone p cell.now.cell job → steps shaped.now job ≡ steps p job) }
 {
     let count = cell.step_count(job);
     if count < cell.job_state(job).made {
@@ -58,7 +59,8 @@ fn end_keeps<P: Planned>(cell: &WorkCell<P>, shaped: &Shaped, job: JobNo) -> boo
 fn steps_keep<P: Planned>(cell: &WorkCell<P>, shaped: &Shaped, job: JobNo) -> bool
     requires { job < jobs cell.now.plan }
     ensures { let p = cell.now.plan in
-        IsTrue result ↔ ((k : ℕ) → k < made cell.now.cell job → k < steps p job → Visits shaped.now job k (machine_of p job k)) }
+        IsTrue result
+        ↔ ((k : ℕ) → k < made cell.now.cell job → k < steps p job → Visits shaped.now job k (machine_of p job k)) }
 {
     for place in 0..cell.job_state(job).made {
         if !step_keeps(cell, shaped, job, place) {
@@ -84,7 +86,8 @@ fn step_keeps<P: Planned>(cell: &WorkCell<P>, shaped: &Shaped, job: JobNo, place
 
 /// Whether what was done on each machine keeps the other plan.
 fn machines_keep<P: Planned>(cell: &WorkCell<P>, shaped: &Shaped) -> bool
-    ensures { let p = cell.now.plan in IsTrue result ↔ ((m : ℕ) → m < machines p → KeepsMachine p cell.now.cell shaped.now m) }
+    ensures { let p = cell.now.plan in
+        IsTrue result ↔ ((m : ℕ) → m < machines p → KeepsMachine p cell.now.cell shaped.now m) }
 {
     for machine in 0..cell.machine_count() {
         if !machine_keeps(cell, shaped, machine) {

@@ -1,13 +1,13 @@
 //! The control of a cell, from any cell on: it gets reports of what has ended, and orders the moves that keep the plan.
 //!
-//! A controller takes one [`Report`] at a time. It accepts exactly the reports that are possible, and answers each with the
-//! moves that it releases. All its calls are those of [`Core`]. A [`Controller`] is made of a `Verified` plan, and begins with
-//! it. A [`RestController`] is begun from a cell in mid-run and a present moment, by a plan without a cycle, or made of a
-//! `Controller`: first it moves all jobs that can move then. It can be handed over, at a moment, to another plan that the run
-//! so far keeps, of the same shop or of another one.
+//! A controller takes one [`Report`] at a time. It accepts exactly the reports that are possible, and answers each with
+//! the moves that it releases. All its calls are those of [`Core`]. A [`Controller`] is made of a `Verified` plan, and
+//! begins with it. A [`RestController`] is begun from a cell in mid-run and a present moment, by a plan without a
+//! cycle, or made of a `Controller`: first it moves all jobs that can move then. It can be handed over, at a moment, to
+//! another plan that the run so far keeps, of the same shop or of another one.
 //!
-//! A `RestController` asks for no budgets: a cell that has begun has to go on, however late. What holds of moments is what
-//! `verify_after` of `plan_verifier` says of the same cell and moment.
+//! A `RestController` asks for no budgets: a cell that has begun has to go on, however late. What holds of moments is
+//! what `verify_after` of `plan_verifier` says of the same cell and moment.
 //!
 //! Moments are whole time units, counted from moment 0. Only [`Controller::new`], [`RestController::begin`],
 //! [`RestController::hand_over`] and [`Dues::sized`] take memory.

@@ -3,8 +3,8 @@ ghost use Rattle.std.specs.Prelude.{◌≡◌};
 use shop_base::Report;
 use std::marker::Model;
 
-/// A report that was judged possible in the cell of a controller, and late there or not. Only [`crate::Core::judge`] and
-/// [`crate::Core::judge_clean_after`] make one, and [`crate::Core::take`] takes it.
+/// A report that was judged possible in the cell of a controller, and late there or not. Only [`crate::Core::judge`]
+/// and [`crate::Core::judge_clean_after`] make one, and [`crate::Core::take`] takes it.
 #[derive(Debug, Drop)]
 pub struct Possible {
     pub(crate) report: Report,

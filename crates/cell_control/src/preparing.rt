@@ -15,7 +15,8 @@ use shop_base::limits::MAX_MOMENT;
 use shop_base::{Moment, Planned};
 use std::alloc::Global;
 
-/// What a controller needs besides its cell: the ranks and the moments of the nodes ahead, and room for due moments and orders.
+/// What a controller needs besides its cell: the ranks and the moments of the nodes ahead, and room for due moments and
+/// orders.
 #[derive(Drop)]
 pub(crate) struct Prepared<D: Dues> {
     pub times: Times,

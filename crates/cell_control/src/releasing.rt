@@ -72,7 +72,8 @@ fn advance<P: Planned, D: Dues>(cell: &mut WorkCell<P>, dues: &mut D, job: JobNo
     requires can { let c = cell.old.cell in CanMove cell.old.plan c job c.last }
     requires keeps { KeepsPlan cell.old.plan cell.old.cell job }
     ensures order { let c = cell.old.cell in result ≡ order_for cell.old.plan c job c.last }
-    ensures moved { let c = cell.old.cell in cell.new ≡ record cell.old { cell = after_move cell.old.plan c job c.last } }
+    ensures moved { let c = cell.old.cell in
+        cell.new ≡ record cell.old { cell = after_move cell.old.plan c job c.last } }
     ensures due_moments { AreDueMoments cell.old.plan cell.new.cell (D.dues dues.new) }
 {
     let _plan = cell.shaped();

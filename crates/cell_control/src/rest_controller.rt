@@ -18,8 +18,8 @@ use cell_tables::WorkCell;
 use shop_base::{Moment, Shaped};
 use std::alloc::Global;
 
-/// Runs the rest of a run by a plan without a cycle: a [`Core`] that was begun in mid-run or handed over, with its plan and the
-/// moments kept. No budgets are asked for.
+/// Runs the rest of a run by a plan without a cycle: a [`Core`] that was begun in mid-run or handed over, with its plan
+/// and the moments kept. No budgets are asked for.
 ///
 /// Only [`RestController::begin`] and [`RestController::hand_over`] take memory.
 pub type RestController<D> = Core<Held, D>;
@@ -105,7 +105,8 @@ impl<D: Dues> Core<Held, D> {
         present: Moment,
     ) -> Result<(), (RestFault, Shaped)>
         ensures handed_over { OnOk result (IsHandedOver self.old shaped present self.new) }
-        ensures fault { IfErr result (λ refused. IsHandOverFault self.old.planned self.old.cell shaped present refused.0) }
+        ensures fault { IfErr result
+            (λ refused. IsHandOverFault self.old.planned self.old.cell shaped present refused.0) }
         ensures unchanged { IfErr result (λ refused. self.new ≡ self.old) }
         ensures handed_back { IfErr result (λ refused. refused.1 ≡ shaped) }
     {

@@ -2,8 +2,8 @@ use shop_base::{Moment, Node};
 use std::alloc::AllocError;
 use thiserror::Error;
 
-/// Why the rest of a run isn't driven: the first reason, in the order of the variants; `Memory` in place of any but the first
-/// two.
+/// Why the rest of a run isn't driven: the first reason, in the order of the variants; `Memory` in place of any but the
+/// first two.
 #[derive(Debug, Drop, Error)]
 pub enum RestFault {
     /// The moment is over the limit.

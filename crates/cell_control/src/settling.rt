@@ -27,7 +27,8 @@ pub(crate) fn settle<P: Planned>(cell: &mut WorkCell<P>, orders: &mut Orders, at
 
 /// The first job that can move and keep the plan; `None` if the cell is at rest.
 fn first_mover<P: Planned>(cell: &WorkCell<P>) -> Option<JobNo>
-    ensures { let c = cell.now.cell in MatchOption result (IsAtRest cell.now.plan c) (IsFirstMover cell.now.plan c c.last) }
+    ensures { let c = cell.now.cell in
+        MatchOption result (IsAtRest cell.now.plan c) (IsFirstMover cell.now.plan c c.last) }
 {
     // Called for its clause alone: the cell is sound.
     let _plan = cell.shaped();

@@ -11,7 +11,8 @@ use crate::releasing::{Orders, release_moves};
 use cell_tables::WorkCell;
 use shop_base::{Moment, Planned, Report};
 
-/// Makes the step of a possible report, of which it is known whether it is late. The orders of the last one are dropped.
+/// Makes the step of a possible report, of which it is known whether it is late. The orders of the last one are
+/// dropped.
 pub(crate) fn make_step<P: Planned, D: Dues>(
     cell: &mut WorkCell<P>,
     dues: &mut D,
@@ -48,8 +49,8 @@ pub fn is_past_due<D: Dues>(dues: &D, at: Moment) -> bool
     }
 }
 
-/// Whether all reports so far and this one were punctual: one that isn't late, or comes at the moment of beginning or before, so
-/// that what was overdue then ends then.
+/// Whether all reports so far and this one were punctual: one that isn't late, or comes at the moment of beginning or
+/// before, so that what was overdue then ends then.
 pub(crate) fn still_punctual(punctual: bool, ack: Ack, report: Report, began: Moment) -> bool
     ensures { IsTrue result ↔ (IsTrue punctual × ((ack.late ≡ false) ⊎ (at report ≤ began))) }
 {

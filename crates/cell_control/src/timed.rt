@@ -23,7 +23,8 @@ impl Timed for Verified {
     }
 }
 
-/// A plan without a cycle, with the ranks of its nodes, and moments for those that were ahead where a controller began with it.
+/// A plan without a cycle, with the ranks of its nodes, and moments for those that were ahead where a controller began
+/// with it.
 #[derive(Debug, Drop)]
 pub struct Held {
     pub(crate) shaped: Shaped,

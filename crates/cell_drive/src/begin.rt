@@ -118,8 +118,8 @@ fn end(session: Session<Verified, TourneyDues>) -> DriveEnd
 /// The lines are `arrive JOB MOMENT`, `finish JOB MACHINE MOMENT` and `clean MACHINE MOMENT`. What isn't possible is
 /// refused by a line of its own, and changes nothing. A run that is done goes on to the end of its input.
 ///
-/// `Memory` is answered before the first byte is read. A closing line is written only where nothing has failed before it;
-/// of one whose own write fails the first bytes may be out. After a fault the plan is gone.
+/// `Memory` is answered before the first byte is read. A closing line is written only where nothing has failed before
+/// it; of one whose own write fails the first bytes may be out. After a fault the plan is gone.
 pub fn drive<R: Source, W: BufferedSink>(
     alloc: Global,
     verified: Verified,
@@ -135,10 +135,10 @@ pub fn drive<R: Source, W: BufferedSink>(
 
 /// Begins the run of an accepted plan, to be driven in this manner.
 ///
-/// In version 2 of the lines there are `clean MACHINE JOB MOMENT`, the cleaning after that job, and `status`, which asks
-/// for the state; each refusal and each late report is written with what the controller has, and `done MOMENT` at once.
-/// A report whose moment is further than `max_gap` from the last accepted one, or from `from` where that is later, is
-/// refused as `Leap`, after `Backwards` in the order of reasons.
+/// In version 2 of the lines there are `clean MACHINE JOB MOMENT`, the cleaning after that job, and `status`, which
+/// asks for the state; each refusal and each late report is written with what the controller has, and `done MOMENT` at
+/// once. A report whose moment is further than `max_gap` from the last accepted one, or from `from` where that is
+/// later, is refused as `Leap`, after `Backwards` in the order of reasons.
 ///
 /// All memory is taken here.
 pub fn begin_in(alloc: Global, verified: Verified, protocol: Protocol) -> Result<Begun, AllocError>
@@ -155,7 +155,8 @@ pub fn drive_begun<R: Source, W: BufferedSink>(
     reader: &mut R,
     writer: &mut W,
 ) -> Result<DriveEnd, DriveFault>
-    ensures driven { IsDriveIn begun.protocol begun.verified (streams_of R.Source W.Sink W.pending reader.old writer.old)
+    ensures driven { IsDriveIn begun.protocol begun.verified
+        (streams_of R.Source W.Sink W.pending reader.old writer.old)
         (streams_of R.Source W.Sink W.pending reader.new writer.new) result }
     ensures memory { result ≢ Err DriveFault.Memory }
 {

@@ -77,7 +77,8 @@ fn begin_cell<D: Dues>(alloc: Global, verified: Verified) -> Result<Controller<D
 
 /// What the line asks of a cell, and the number of that cell before it, if it asks for anything.
 fn asked_of(version_2: bool, line: &[u8]) -> Option<(u32, Request)>
-    ensures { MatchOption result (AsksNoCell version_2 line.now) (λ found. AsksCell version_2 line.now found.0 found.1) }
+    ensures { MatchOption result (AsksNoCell version_2 line.now)
+        (λ found. AsksCell version_2 line.now found.0 found.1) }
 {
     if version_2 {
         return cell_request_of(line);
@@ -96,7 +97,8 @@ fn answer_line<D: Dues, W: Sink>(
 ) -> Result<(), WriteFault>
     requires { AreInRun (planned_cells cells.old) }
     ensures in_run { AreInRun (planned_cells cells.new) }
-    ensures answered { WroteOneTo W.Sink result writer.old writer.new (AnsweredByCells protocol cells.old number line.now cells.new) }
+    ensures answered { WroteOneTo W.Sink result writer.old writer.new
+        (AnsweredByCells protocol cells.old number line.now cells.new) }
 {
     if line.is_empty() {
         return Ok(());
@@ -183,9 +185,9 @@ pub fn drive_hub<R: Source, W: BufferedSink>(
 
 /// Drives a cell for each accepted plan, as [`drive_hub`] does, in this manner.
 ///
-/// Each cell reads and answers what a driven cell does in the manner, after the cell's number; in version 2 of the lines
-/// that stands before each refusal too by which a cell has answered. A leap counts from the last accepted report of the
-/// same cell, or from `from` where that is later.
+/// Each cell reads and answers what a driven cell does in the manner, after the cell's number; in version 2 of the
+/// lines that stands before each refusal too by which a cell has answered. A leap counts from the last accepted report
+/// of the same cell, or from `from` where that is later.
 pub fn drive_hub_in<R: Source, W: BufferedSink>(
     alloc: Global,
     cells: Vec<Verified>,

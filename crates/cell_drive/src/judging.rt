@@ -5,7 +5,8 @@ ghost use Rattle.shop_base.specs.Report.{at, CanReport};
 ghost use Rattle.cell_control.specs.{Control.IsControl, Judged.IsJudged, Readings.IsOnTime};
 ghost use Rattle.event_lines.specs.Requests.{claimed};
 ghost use Rattle.cell_drive.specs.Refusals.{IsClaimReason, IsRefusal, IsAdmissible, CanClaim};
-ghost use Rattle.cell_drive.specs.{ProtocolText.prints_end, ProtocolText.printed_overdue, Replies.IsClaimReply, Replies.IsReply};
+ghost use Rattle.cell_drive.specs.{ProtocolText.prints_end, ProtocolText.printed_overdue};
+ghost use Rattle.cell_drive.specs.{Replies.IsClaimReply, Replies.IsReply};
 
 use crate::protocol::Protocol;
 use crate::refusals::{Refusal, claim_leaps, first_refusal, refusal_detail, standing_of};
@@ -58,7 +59,8 @@ fn judge<P: Timed, D: Dues>(
     controller: &Core<P, D>,
     claim: Claim,
 ) -> Result<Possible, Refusal>
-    ensures accepted { IfOk result (λ possible. IsAdmissible protocol controller.now.planned controller.now.cell claim) }
+    ensures accepted { IfOk result
+        (λ possible. IsAdmissible protocol controller.now.planned controller.now.cell claim) }
     ensures judged { IfOk result (IsJudged controller.now.planned controller.now.cell (claimed claim)) }
     ensures refused { IfErr result (IsRefusal protocol controller.now.planned controller.now.cell claim) }
 {

@@ -10,8 +10,8 @@ use shop_base::Moment;
 pub struct Protocol {
     /// Version 2 of the lines: more can be asked for, and the answers say more. Else it is version 1.
     pub version_2: bool,
-    /// The longest time that may pass to a report from the last accepted one, or from `from` where that is later; without
-    /// one any may.
+    /// The longest time that may pass to a report from the last accepted one, or from `from` where that is later;
+    /// without one any may.
     pub max_gap: Option<Moment>,
     /// The moment from which a run goes on that was taken up, 0 for one that begins.
     pub from: Moment,

@@ -1,6 +1,7 @@
 //! A log that is taken up.
 
-ghost use Rattle.std.specs.Prelude.{◌≡◌, ◌*◌, ◌≤◌, vec_len, vec_capacity, unwrap_or, Bool, true, IfOk, IfErr, OnOk, IfSome};
+ghost use Rattle.std.specs.Prelude.{◌≡◌, ◌*◌, ◌≤◌, vec_len, vec_capacity, unwrap_or, Bool};
+ghost use Rattle.std.specs.Prelude.{true, IfOk, IfErr, OnOk, IfSome};
 ghost use Rattle.shop_base.specs.{declared.limits.TheConstants.MAX_MOMENT, Plan.IsWellShaped, Cell.start};
 ghost use Rattle.shop_base.specs.{Report.IsNextMoment, Run.IsRun, Ends.stated_number};
 ghost use Rattle.text_lines.specs.Lines.{ended_lines};
@@ -10,7 +11,8 @@ ghost use Rattle.run_log.specs.Audits.{IsReplayed};
 ghost use Rattle.cell_control.specs.Begun.{IsBegun, IsRestFault};
 ghost use Rattle.byte_streams.specs.declared.rooms.TheConstants.{MAX_PIECE};
 ghost use Rattle.cell_drive.specs.{OneRun.cell_after, LateEvents.AreLate};
-ghost use Rattle.cell_drive.specs.Recovered.{AreAtStart, IsRecovered, IsRecoveredFrom, IsRecoveredRun, IsRecoverable, replayed_events};
+ghost use Rattle.cell_drive.specs.Recovered.{AreAtStart, IsRecovered, IsRecoveredFrom, IsRecoveredRun};
+ghost use Rattle.cell_drive.specs.Recovered.{IsRecoverable, replayed_events};
 ghost use Rattle.cell_drive.specs.ResumeFaults.{IsResumeFault, IsOnlyLogFault, IsRunFault, IsRefusal};
 
 use crate::lateness::late_events;
@@ -49,7 +51,8 @@ pub struct Replayed {
     pub(crate) controller: RestController<TourneyDues>,
     /// What was accepted and ordered in the whole run: the orders that are due stand there already.
     pub(crate) log: RunLog,
-    /// Of each entry of it that the log told, whether it is a report that was late. The others are the orders that are due.
+    /// Of each entry of it that the log told, whether it is a report that was late. The others are the orders that are
+    /// due.
     pub(crate) late: Vec<bool>,
     /// Where what is read lies at a time, once the run goes on.
     pub(crate) room: Vec<u8>,
@@ -64,14 +67,15 @@ impl Model for Replayed {
 
     ghost view = { λ t. recovered_by t.controller t.log t.late.items };
 
-    ghost invariant = { λ t. IsRecoveredRun (recovered_by t.controller t.log t.late.items) × (vec_len t.room ≡ MAX_PIECE) };
+    ghost invariant = { λ t.
+        IsRecoveredRun (recovered_by t.controller t.log t.late.items) × (vec_len t.room ≡ MAX_PIECE) };
 }
 
-/// Takes up a run where its log ends, at a present moment or else at the last one of the log. The log may have been cut at any
-/// byte: what stands after its last line feed isn't looked at. Its whole lines have to tell a run of the plan, by whatever
-/// controller; neither the plan nor its instance need be those by which the log was written. The plan has to have no cycle. Where
-/// the log tells no event the plan has to be an accepted one; else its budgets aren't asked for, since a cell that has begun
-/// has to go on, however late.
+/// Takes up a run where its log ends, at a present moment or else at the last one of the log. The log may have been cut
+/// at any byte: what stands after its last line feed isn't looked at. Its whole lines have to tell a run of the plan,
+/// by whatever controller; neither the plan nor its instance need be those by which the log was written. The plan has
+/// to have no cycle. Where the log tells no event the plan has to be an accepted one; else its budgets aren't asked
+/// for, since a cell that has begun has to go on, however late.
 ///
 /// All memory is taken here.
 pub fn take_up(
@@ -228,7 +232,8 @@ fn with_due(
 ) -> Replayed
     requires shaped { IsWellShaped controller.planned }
     requires run { IsRun controller.planned (events_of log.entries) }
-    requires begun { IsBegun controller.planned (cell_after controller.planned log.entries) controller.began controller }
+    requires begun { IsBegun controller.planned
+        (cell_after controller.planned log.entries) controller.began controller }
     requires reserved { log.reserved ≡ 2 * stated_number controller.planned }
     requires late { AreLate controller.planned (start controller.planned) log.entries late.items }
     requires room { vec_len room ≡ MAX_PIECE }

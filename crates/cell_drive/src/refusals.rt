@@ -4,7 +4,8 @@ ghost use Rattle.std.specs.Prelude.{◌≡◌, false};
 ghost use Rattle.shop_base.specs.Report.{ended};
 ghost use Rattle.cell_control.specs.Reports.{IsOfShop};
 ghost use Rattle.event_lines.specs.Requests.{claimed};
-ghost use Rattle.cell_drive.specs.Refusals.{IsRefusal, claim_leaps, first_refusal, is_before_leap, reason_detail, refusal_detail, refusal_word, standing_of};
+ghost use Rattle.cell_drive.specs.Refusals.{IsRefusal, claim_leaps, first_refusal, is_before_leap, reason_detail};
+ghost use Rattle.cell_drive.specs.Refusals.{refusal_detail, refusal_word, standing_of};
 
 use crate::protocol::Protocol;
 use cell_control::{Core, Dues, Report, ReportFault, Timed};

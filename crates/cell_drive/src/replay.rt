@@ -5,7 +5,8 @@ ghost use Rattle.shop_base.specs.{Report.at, Report.CanReport, Run.CanHappen, Ru
 ghost use Rattle.cell_tables.specs.Events.{event_of, events_of};
 ghost use Rattle.byte_streams.specs.Lent.{WroteTo};
 ghost use Rattle.event_lines.specs.EventLines.{order_line};
-ghost use Rattle.cell_drive.specs.{ProtocolText.lateness_part, ProtocolText.printed_overdue, Replay.replay_line, Replay.replay_lines};
+ghost use Rattle.cell_drive.specs.{ProtocolText.lateness_part, ProtocolText.printed_overdue};
+ghost use Rattle.cell_drive.specs.{Replay.replay_line, Replay.replay_lines};
 
 use crate::judging::printed_overdue;
 use crate::protocol::Protocol;
@@ -55,7 +56,8 @@ fn put_replay_report<P: Planned, W: Sink>(
     writer: &mut W,
 ) -> Result<(), WriteFault>
     requires { CanReport cell.now.plan cell.now.cell report }
-    ensures wrote { WroteTo W.Sink result writer.old writer.new (replay_line cell.now.plan protocol cell.now.cell (Entry.Report report) late) }
+    ensures wrote { WroteTo W.Sink result writer.old writer.new
+        (replay_line cell.now.plan protocol cell.now.cell (Entry.Report report) late) }
     ensures unfailed { OnOk result (W.failed writer.new ≡ W.failed writer.old) }
 {
     put_report_line(b"", report, writer)?;
@@ -71,7 +73,8 @@ fn put_replay<P: Planned, W: Sink>(
     writer: &mut W,
 ) -> Result<(), WriteFault>
     requires { CanHappen cell.now.plan cell.now.cell (event_of entry) }
-    ensures wrote { WroteTo W.Sink result writer.old writer.new (replay_line cell.now.plan protocol cell.now.cell entry late) }
+    ensures wrote { WroteTo W.Sink result writer.old writer.new
+        (replay_line cell.now.plan protocol cell.now.cell entry late) }
     ensures unfailed { OnOk result (W.failed writer.new ≡ W.failed writer.old) }
 {
     match entry {
@@ -103,7 +106,8 @@ pub(crate) fn put_replay_events<P: Planned, W: Sink>(
 ) -> Result<(), WriteFault>
     requires run { AreEvents cell.plan cell.cell (events_of entries.now) }
     requires same { length entries.now ≡ length late.now }
-    ensures wrote { WroteTo W.Sink result writer.old writer.new (replay_lines cell.plan protocol cell.cell entries.now late.now) }
+    ensures wrote { WroteTo W.Sink result writer.old writer.new
+        (replay_lines cell.plan protocol cell.cell entries.now late.now) }
     ensures unfailed { OnOk result (W.failed writer.new ≡ W.failed writer.old) }
 {
     let mut cell = cell;

@@ -29,8 +29,8 @@ pub(crate) enum Reply {
         refusal: Refusal,
         detail: Detail,
     },
-    /// The report is taken, late or not, with what is told to be overdue, and whether the end of the run is told. The moves
-    /// that it released are the controller's last orders.
+    /// The report is taken, late or not, with what is told to be overdue, and whether the end of the run is told. The
+    /// moves that it released are the controller's last orders.
     Accepted {
         report: Report,
         late: bool,
@@ -102,7 +102,8 @@ fn put_orders<W: Sink>(
     orders: &[MoveOrder],
     writer: &mut W,
 ) -> Result<(), WriteFault>
-    ensures wrote { WroteTo W.Sink result writer.old writer.new (flat_map (λ o. prefix.now ++ order_line o) orders.now) }
+    ensures wrote { WroteTo W.Sink result writer.old writer.new
+        (flat_map (λ o. prefix.now ++ order_line o) orders.now) }
     ensures unfailed { OnOk result (W.failed writer.new ≡ W.failed writer.old) }
 {
     for order in orders {
@@ -141,7 +142,8 @@ pub(crate) fn put_accepted<W: Sink>(
     ended: bool,
     writer: &mut W,
 ) -> Result<(), WriteFault>
-    ensures wrote { WroteTo W.Sink result writer.old writer.new (acceptance_lines prefix.now report late overdue orders.now ended) }
+    ensures wrote { WroteTo W.Sink result writer.old writer.new
+        (acceptance_lines prefix.now report late overdue orders.now ended) }
     ensures unfailed { OnOk result (W.failed writer.new ≡ W.failed writer.old) }
 {
     put_report_line(prefix, report, writer)?;
@@ -199,7 +201,8 @@ pub(crate) fn put_reply<P: Timed, D: Dues, W: Sink>(
     reply: Reply,
     writer: &mut W,
 ) -> Result<(), WriteFault>
-    ensures wrote { WroteTo W.Sink result writer.old writer.new (reply_text protocol prefix.now number controller.now reply) }
+    ensures wrote { WroteTo W.Sink result writer.old writer.new
+        (reply_text protocol prefix.now number controller.now reply) }
     ensures unfailed { OnOk result (W.failed writer.new ≡ W.failed writer.old) }
 {
     match reply {

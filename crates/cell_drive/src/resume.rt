@@ -31,7 +31,8 @@ pub struct RestEnd {
     pub log: RunLog,
 }
 
-/// Writes the events that the log of a run told once more in this manner. The tables are those of its cell at its start.
+/// Writes the events that the log of a run told once more in this manner. The tables are those of its cell at its
+/// start.
 fn put_replay_in<W: Sink>(
     run: &Replayed,
     start: Tables,
@@ -51,14 +52,15 @@ fn put_replay_in<W: Sink>(
     }
 }
 
-/// Writes the events that the log of a run told once more in this manner, each report that was late with the line that it
-/// was. In version 2 that line also says what was overdue as the report came.
+/// Writes the events that the log of a run told once more in this manner, each report that was late with the line that
+/// it was. In version 2 that line also says what was overdue as the report came.
 pub fn replay_in<W: Sink>(
     recovered: RecoveredRun,
     protocol: Protocol,
     writer: &mut W,
 ) -> Result<Replayed, DriveFault>
-    ensures told { IsReplayedIn protocol recovered (sink_state W.Sink writer.old) (sink_state W.Sink writer.new) result }
+    ensures told { IsReplayedIn protocol recovered (sink_state W.Sink writer.old)
+        (sink_state W.Sink writer.new) result }
     ensures run { IfOk result (λ run. run ≡ recovered) }
 {
     let RecoveredRun { run, start } = recovered;
@@ -103,8 +105,8 @@ fn end(session: Session<Held, TourneyDues>) -> RestEnd
     }
 }
 
-/// Goes on with a run that was taken up, and whose events were told again, in this manner: writes an empty line, the mark, and
-/// the orders that are due, and then drives the run on as [`crate::drive_in`] does.
+/// Goes on with a run that was taken up, and whose events were told again, in this manner: writes an empty line, the
+/// mark, and the orders that are due, and then drives the run on as [`crate::drive_in`] does.
 ///
 /// `Memory` is never answered. A closing line is written only where nothing has failed before it.
 pub fn go_on_in<R: Source, W: BufferedSink>(
@@ -136,8 +138,8 @@ pub fn go_on_in<R: Source, W: BufferedSink>(
     }
 }
 
-/// Goes on with a run that was taken up in this manner: tells its events again as [`replay_in`] does, and then goes on as
-/// [`go_on_in`] does. What is written is by itself a log of the whole run.
+/// Goes on with a run that was taken up in this manner: tells its events again as [`replay_in`] does, and then goes on
+/// as [`go_on_in`] does. What is written is by itself a log of the whole run.
 ///
 /// `Memory` is never answered.
 pub fn resume_in<R: Source, W: BufferedSink>(

@@ -15,7 +15,8 @@ pub enum ResumeFault {
     /// The present moment is before the last one of the log.
     #[error("Past {last}")]
     Past { last: Moment },
-    /// The plan has a cycle; or the log tells no event, and the plan isn't accepted. The plan comes back with the evidence.
+    /// The plan has a cycle; or the log tells no event, and the plan isn't accepted. The plan comes back with the
+    /// evidence.
     #[error("Refused")]
     Refused(Shaped, Why),
     /// Out of memory.

@@ -4,7 +4,8 @@ ghost use Rattle.std.specs.Prelude.{◌≡◌, ◌+◌, ◌<◌, ◌≤◌, ◌+
 ghost use Rattle.shop_base.specs.declared.limits.TheConstants.{MAX_JOBS};
 ghost use Rattle.byte_streams.specs.Lent.{WroteTo};
 ghost use Rattle.event_lines.specs.StandingLines.{unfinished_standing_line};
-ghost use Rattle.cell_drive.specs.States.{is_over, standing_part, jobs_text, machines_text, state_text, count_of, one_more, with_one, own_first, overdue_in};
+ghost use Rattle.cell_drive.specs.States.{is_over, standing_part, jobs_text, machines_text, state_text};
+ghost use Rattle.cell_drive.specs.States.{count_of, one_more, with_one, own_first, overdue_in};
 ghost use Rattle.cell_drive.specs.StateRows.{row, row_count, rows_text, with_rows};
 
 use crate::replies::{put_behind, put_closing};
@@ -55,7 +56,8 @@ fn put_line<W: Sink>(prefix: &[u8], standing: Standing, writer: &mut W) -> Resul
     put_behind(prefix, line.bytes(), writer)
 }
 
-/// Writes the line of what is under way, if anything is. A job that is gone or a clean machine costs a few instructions.
+/// Writes the line of what is under way, if anything is. A job that is gone or a clean machine costs a few
+/// instructions.
 #[inline(always)]
 fn put_standing<W: Sink>(
     prefix: &[u8],
@@ -107,7 +109,8 @@ fn put_rows<P: Planned, W: Sink>(
     rows: Rows,
     writer: &mut W,
 ) -> Result<(), WriteFault>
-    ensures wrote { WroteTo W.Sink result writer.old writer.new (rows_text prefix.now cell.now.plan cell.now.cell rows) }
+    ensures wrote { WroteTo W.Sink result writer.old writer.new
+        (rows_text prefix.now cell.now.plan cell.now.cell rows) }
     ensures unfailed { OnOk result (W.failed writer.new ≡ W.failed writer.old) }
 {
     for number in 0..row_count(cell, rows) {

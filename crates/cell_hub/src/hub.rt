@@ -2,7 +2,9 @@ ghost use Rattle.std.specs.Prelude.{◌≡◌, ◌↔◌, None, option_copied, I
 ghost use Rattle.shop_base.specs.Report.{CanReport};
 ghost use Rattle.cell_control.specs.Reports.{CanCleanAfter};
 ghost use Rattle.cell_hub.specs.Hub.{hub_from, cell_at, AreSerialsBelow};
-ghost use Rattle.cell_hub.specs.Calls.{IsAdmitted, IsNotAdmitted, IsReported, IsNotReported, IsNotCleaned, IsOnlyRefusal, IsOnlyCleanRefusal, EndsNow, IsDismissed, IsCall, cleaning_call, Admitted, Reported, Shown, Dismissed};
+ghost use Rattle.cell_hub.specs.Calls.{IsAdmitted, IsNotAdmitted, IsReported, IsNotReported, IsNotCleaned};
+ghost use Rattle.cell_hub.specs.Calls.{IsOnlyRefusal, IsOnlyCleanRefusal, EndsNow, IsDismissed, IsCall};
+ghost use Rattle.cell_hub.specs.Calls.{cleaning_call, Admitted, Reported, Shown, Dismissed};
 
 use crate::hub_fault::HubFault;
 use crate::slots::{Placed, cell_in, report_in, reserve_slot, take_from};
@@ -110,7 +112,8 @@ impl<D: Dues> Hub<D> {
         at: Moment,
     ) -> Result<Ack, HubFault>
         ensures reported { IfOk result (λ ack. IsReported self.old ticket (Report.Clean machine at) ack self.new) }
-        ensures possible { IfSome (cell_at self.old ticket) (λ c. IsOk result ↔ CanCleanAfter c.planned c.cell machine job at) }
+        ensures possible { IfSome (cell_at self.old ticket)
+            (λ c. IsOk result ↔ CanCleanAfter c.planned c.cell machine job at) }
         ensures refused { IfErr result (IsNotCleaned self.old ticket machine job at) }
         ensures only_reason { IfErr result (IsOnlyCleanRefusal self.old ticket machine job at) }
         ensures unchanged { OnErr result (self.new ≡ self.old) }

@@ -1,5 +1,5 @@
-//! The end of an activity, and a move in its parts: the job leaves its source, comes to its target, and has made one more
-//! move.
+//! The end of an activity, and a move in its parts: the job leaves its source, comes to its target, and has made one
+//! more move.
 
 ghost use Rattle.std.specs.Prelude.{◌≡◌, ◌<◌, ◌≤◌};
 ghost use Rattle.shop_base.specs.Plan.{jobs, steps};

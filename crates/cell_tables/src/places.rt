@@ -100,7 +100,8 @@ impl<P: Planned> WorkCell<P> {
     /// Whether no job is on the machine and it isn't being cleaned.
     fn is_clear(&self, machine: MachineNo) -> bool
         requires { machine < machines self.now.plan }
-        ensures { IsTrue result ↔ (IsFree self.now.plan self.now.cell machine × (cleaning self.now.cell machine ≡ None)) }
+        ensures { IsTrue result
+            ↔ (IsFree self.now.plan self.now.cell machine × (cleaning self.now.cell machine ≡ None)) }
     {
         match self.cleaned_since(machine) {
             Some(_) => false,

@@ -55,7 +55,8 @@ impl Tables {
     /// The job becomes ready, at a moment that becomes the last.
     pub(crate) fn note_ready(&mut self, job: JobNo, at: Moment)
         requires { job < length self.old.jobs.items }
-        ensures { IsJobPut self.old job (record (slice_index_or self.old.jobs.items job absent) { ready = true }) at self.new }
+        ensures { IsJobPut self.old job
+            (record (slice_index_or self.old.jobs.items job absent) { ready = true }) at self.new }
     {
         self.jobs[job as usize].ready = true;
         self.last = at;

@@ -23,7 +23,8 @@ impl<P: Planned> Model for WorkCell<P> {
 
     ghost Value = { PlannedCell P };
 
-    ghost view = { λ c. record { basis = c.basis; plan = P.planned c.basis; cell = cell_of (P.planned c.basis) c.tables } };
+    ghost view = { λ c.
+        record { basis = c.basis; plan = P.planned c.basis; cell = cell_of (P.planned c.basis) c.tables } };
 
     ghost invariant = { λ c. AreSound (P.planned c.basis) c.tables };
 }

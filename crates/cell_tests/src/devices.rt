@@ -37,8 +37,8 @@ type Reader<'a> = FromRead<PieceReader<'a>>;
 
 type Writer<'a> = Buffered<OneByteWriter<'a>>;
 
-/// What came of a call: its answer, whether all that was written is the beginning of the answers, how much that is and how
-/// much of it was out before the last read, and how many reads were made.
+/// What came of a call: its answer, whether all that was written is the beginning of the answers, how much that is and
+/// how much of it was out before the last read, and how many reads were made.
 #[derive(Clone, Copy)]
 pub(super) struct Outcome {
     pub(super) end: Result<End, DriveFault>,

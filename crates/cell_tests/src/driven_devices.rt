@@ -86,8 +86,8 @@ fn a_failed_read_leaves_the_answers_of_the_complete_lines(rt: HostRuntime) -> Re
     Ok(())
 }
 
-/// What was answered is out where a flush fails, of which there is one before each read of a byte, and one at the end; and
-/// nothing is read behind it.
+/// What was answered is out where a flush fails, of which there is one before each read of a byte, and one at the end;
+/// and nothing is read behind it.
 fn failed_flushes_leave_what_was_answered(
     rt: &(impl Abort + AllocGlobal),
     driven: &Driven,

@@ -14,12 +14,12 @@ pub(super) enum Driver {
 /// Whether all is done; of one cell also the last moment and how many reports are left.
 pub(super) type End = (bool, Moment, u64);
 
-/// How much the reader gives a call at most, how much is gathered before it is written, and whether a write that fails takes
-/// nothing.
+/// How much the reader gives a call at most, how much is gathered before it is written, and whether a write that fails
+/// takes nothing.
 type Writer = (usize, usize, bool);
 
-/// An input, its answers, how it ends, and the writers that fail over it. Of each line that has answers it is told how many
-/// bytes of the input end it, and how many bytes are out once it is answered.
+/// An input, its answers, how it ends, and the writers that fail over it. Of each line that has answers it is told how
+/// many bytes of the input end it, and how many bytes are out once it is answered.
 pub(super) struct Driven {
     pub(super) driver: Driver,
     pub(super) input: &'static [u8],

@@ -1,7 +1,8 @@
 //! The tests of what runs: worked runs and faulty devices, given to the controller, the hub, the log and the driven
 //! cells.
 //!
-//! They stand in a crate of their own since a crate with tests is proved once more for them. It gives nothing to others.
+//! They stand in a crate of their own since a crate with tests is proved once more for them. It gives nothing to
+//! others.
 #![tactic(auto)]
 
 #[cfg(test)]

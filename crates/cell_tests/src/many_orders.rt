@@ -111,8 +111,8 @@ fn is_due<D: Dues>(cell: &Controller<D>) -> bool {
     false
 }
 
-/// Gives the reports, each so long after the last moment. One fewer is left where a report is accepted, and as many where it
-/// is refused; and then something is due, or else the run has ended.
+/// Gives the reports, each so long after the last moment. One fewer is left where a report is accepted, and as many
+/// where it is refused; and then something is due, or else the run has ended.
 fn goes_on<D: Dues>(rt: &impl Abort, cell: &mut Controller<D>, reports: &[Report], pace: Moment) {
     for &report in reports {
         let left = cell.reports_left();
@@ -146,7 +146,8 @@ fn ends<D: Dues>(
     Ok(())
 }
 
-/// With one report held back until so many of those behind it have come, at once, a bit later and much later after each other.
+/// With one report held back until so many of those behind it have come, at once, a bit later and much later after each
+/// other.
 fn ends_without<D: Dues>(
     rt: &(impl Abort + AllocGlobal),
     texts: Texts,

@@ -220,9 +220,9 @@ fn is_shown_in(rt: &HostRuntime, file: &File) -> bool {
     }
 }
 
-/// Locks a file that was opened by this path. One that has the number of a standard stream, since that one is closed, is no
-/// log: what is written to the stream would stand in it. Nor is one to which the standard output goes, or to which the path
-/// doesn't lead any more.
+/// Locks a file that was opened by this path. One that has the number of a standard stream, since that one is closed,
+/// is no log: what is written to the stream would stand in it. Nor is one to which the standard output goes, or to
+/// which the path doesn't lead any more.
 fn locked(
     rt: &HostRuntime,
     path: &str,
@@ -342,7 +342,8 @@ fn made(rt: &HostRuntime, path: &str) -> Result<SystemLog, FileFault>
     let mut how = OpenOptions::new();
     how.read(true).append(true).create(true);
     match how.open(rt, path) {
-        // Where another process has made it meanwhile, and is done with it, it has bytes: then it isn't as long as it should be.
+        // Where another process has made it meanwhile, and is done with it, it has bytes: then it isn't as long as it
+        // should be.
         Ok(file) => locked(rt, path, file, Some(0)),
         Err(error) => Err(LogFailure::from(error).0),
     }

@@ -42,7 +42,8 @@ pub extern "C" fn cellplan_cell_new(
     ensures fault { result ≡ 3 → (fault : CommandFault) × IsTextFault instance.now (named name.now) plan.now fault }
     ensures only { (p : PlannedShop) → BothParse instance.now (named name.now) plan.now p → IsStatusOfPlan p result }
     ensures first { (fault : OrFault) → IsFirstInstanceFault instance.now (named name.now) fault → 3 ≤ result }
-    ensures second { (fault : PlanFault) → ParsesAsShop instance.now (named name.now) → IsFirstPlanFault plan.now fault → 3 ≤ result }
+    ensures second { (fault : PlanFault) → ParsesAsShop instance.now (named name.now)
+        → IsFirstPlanFault plan.now fault → 3 ≤ result }
     ensures unchanged { result ≢ 0 → cell.new.slot.held ≡ cell.old.slot.held }
     ensures statuses { (result ≤ 4) × (result ≢ 2) }
 {

@@ -22,9 +22,9 @@ use shop_base::limits::MAX_MOMENT;
 use shop_base::{ShapeFault, Shaped};
 use std::alloc::Global;
 
-/// Hands the cell over to the plan of the two texts, from a moment on. As many of the orders that are then due are written as
-/// there is room for, and their true number; `cellplan_cell_orders` gives the others. Where it is refused, the cell
-/// holds what it held.
+/// Hands the cell over to the plan of the two texts, from a moment on. As many of the orders that are then due are
+/// written as there is room for, and their true number; `cellplan_cell_orders` gives the others. Where it is refused,
+/// the cell holds what it held.
 #[unsafe(no_mangle)]
 pub extern "C" fn cellplan_cell_hand_over(
     alloc: Global,
@@ -70,7 +70,8 @@ fn hand_over_to(
     plan: &[u8],
     at: u64,
 ) -> u32
-    ensures handed_over { IsHandOver instance.now (named name.now) plan.now at result inner.old.controller inner.new.controller }
+    ensures handed_over { IsHandOver instance.now
+        (named name.now) plan.now at result inner.old.controller inner.new.controller }
     ensures unchanged { result ≢ 0 → inner.new ≡ inner.old }
     ensures statuses { result ≢ 8 }
 {
@@ -92,7 +93,8 @@ fn hand_over_plan(
 ) -> u32
     requires { at ≤ MAX_MOMENT }
     ensures status { (q : PlannedShop) → IsShapedOrNot q told → IsHandOverStatus inner.old.controller q at result }
-    ensures taken { (q : PlannedShop) → IsShapedOrNot q told → result ≡ 0 → IsHandedOver inner.old.controller q at inner.new.controller }
+    ensures taken { (q : PlannedShop) → IsShapedOrNot q told → result ≡ 0
+        → IsHandedOver inner.old.controller q at inner.new.controller }
     ensures unchanged { result ≢ 0 → inner.new ≡ inner.old }
     ensures statuses { (result ≢ 3) × (result ≢ 8) × (result ≢ 18) }
 {

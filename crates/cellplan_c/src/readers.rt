@@ -117,7 +117,8 @@ pub extern "C" fn cellplan_cell_now(alloc: Global, cell: &mut Cell, at: &mut u64
     GOOD
 }
 
-/// Whether no accepted report was late since its plan began or took over, but that what was overdue then has ended then.
+/// Whether no accepted report was late since its plan began or took over, but that what was overdue then has ended
+/// then.
 #[unsafe(no_mangle)]
 pub extern "C" fn cellplan_cell_punctual(alloc: Global, cell: &mut Cell, punctual: &mut bool) -> u32
     ensures { Tells cell.old cell.new result punctual.old punctual.new (λ held punctual. punctual ≡ held.punctual) }
@@ -146,7 +147,8 @@ pub extern "C" fn cellplan_cell_reports_left(alloc: Global, cell: &mut Cell, lef
 /// Whether the run has ended: all jobs are gone, and no machine is being cleaned.
 #[unsafe(no_mangle)]
 pub extern "C" fn cellplan_cell_is_done(alloc: Global, cell: &mut Cell, done: &mut bool) -> u32
-    ensures { Tells cell.old cell.new result done.old done.new (λ held done. IsTrue done ↔ HasEnded held.planned held.cell) }
+    ensures { Tells cell.old cell.new result done.old done.new
+        (λ held done. IsTrue done ↔ HasEnded held.planned held.cell) }
 {
     let Some(inner) = cell.take(alloc) else {
         return NO_CELL;
@@ -182,8 +184,8 @@ pub extern "C" fn cellplan_cell_machines(alloc: Global, cell: &mut Cell, count: 
     GOOD
 }
 
-/// The moment kept for the job's leaving, by which it is out while no report is late: the earliest, from where its plan began or
-/// took over. `NONE` for a number that is no job's.
+/// The moment kept for the job's leaving, by which it is out while no report is late: the earliest, from where its plan
+/// began or took over. `NONE` for a number that is no job's.
 #[unsafe(no_mangle)]
 pub extern "C" fn cellplan_cell_leaves(
     alloc: Global,

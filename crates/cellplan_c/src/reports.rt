@@ -4,7 +4,8 @@ ghost use Rattle.std.specs.Prelude.{◌≡◌, ◌≢◌, ◌<◌, ◌≤◌, �
 ghost use Rattle.cell_control.specs.Control.{IsAnswered};
 ghost use Rattle.cellplan_c.specs.Told.{report_by};
 ghost use Rattle.cellplan_c.specs.Ended.{ended_by, CanEnd, IsFirstFor, IsOnlyFor, IfGoesOnNow, Calls};
-ghost use Rattle.cellplan_c.specs.Cells.{Holding, GoesAsPromised, Reporting, IsReportAnswered, AreOrdersPut, IsKeptBehind};
+ghost use Rattle.cellplan_c.specs.Cells.{Holding, GoesAsPromised, Reporting, IsReportAnswered};
+ghost use Rattle.cellplan_c.specs.Cells.{AreOrdersPut, IsKeptBehind};
 
 use crate::cell::Cell;
 use crate::inner::Inner;
@@ -16,9 +17,9 @@ use cell_control::{Ack, ReportFault, RestController, TourneyDues};
 use std::alloc::Global;
 
 /// Takes a report: of kind 0, that the job has arrived, 1, that its operation on the machine has ended, 2, that the
-/// machine is clean, or 3, that it is clean after just this job. A number that the kind has no use for isn't read. As many
-/// of the orders are written as there is room for, and their true number; [`cellplan_cell_orders`] gives the others.
-/// Refused, the answer is the number of the reason, and what it names is written.
+/// machine is clean, or 3, that it is clean after just this job. A number that the kind has no use for isn't read. As
+/// many of the orders are written as there is room for, and their true number; [`cellplan_cell_orders`] gives the
+/// others. Refused, the answer is the number of the reason, and what it names is written.
 #[unsafe(no_mangle)]
 pub extern "C" fn cellplan_cell_report(
     alloc: Global,
@@ -64,8 +65,8 @@ pub extern "C" fn cellplan_cell_report(
     status
 }
 
-/// The orders of the last accepted report, or of the plan that took over after it, from a first one on, as many as there is
-/// room for, and the number of them all.
+/// The orders of the last accepted report, or of the plan that took over after it, from a first one on, as many as
+/// there is room for, and the number of them all.
 #[unsafe(no_mangle)]
 pub extern "C" fn cellplan_cell_orders(
     alloc: Global,

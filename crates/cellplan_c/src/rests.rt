@@ -39,7 +39,8 @@ pub extern "C" fn cellplan_cell_check(
     status
 }
 
-/// When what is left of the cell's run begins and ends by its plan, from a moment on, as the command `schedule` tells it of a log.
+/// When what is left of the cell's run begins and ends by its plan, from a moment on, as the command `schedule` tells
+/// it of a log.
 #[unsafe(no_mangle)]
 pub extern "C" fn cellplan_cell_schedule(
     alloc: Global,

@@ -1,7 +1,8 @@
 //! Reports, reasons, orders and phases as numbers.
 
 ghost use Rattle.std.specs.Prelude.{◌≡◌, MatchOption};
-ghost use Rattle.cellplan_c.specs.Told.{report_by, fault_number, NoReason, fault_detail, order_numbers, spot_number, phase_numbers};
+ghost use Rattle.cellplan_c.specs.Told.{report_by, fault_number, NoReason, fault_detail};
+ghost use Rattle.cellplan_c.specs.Told.{order_numbers, spot_number, phase_numbers};
 
 use cell_control::{MoveOrder, Phase as Whereabouts, Report, ReportFault, Spot};
 

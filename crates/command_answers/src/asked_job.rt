@@ -11,7 +11,8 @@ use std::alloc::{AllocError, Global};
 
 /// The job that is asked for, if there is one and the shop hasn't got it.
 pub(crate) fn absent_job(shaped: &Shaped, asked: Option<JobNo>) -> Option<JobNo>
-    ensures { MatchOption result (IfSome asked (λ j. j < jobs shaped.now)) (λ j. (asked ≡ Some j) × (jobs shaped.now ≤ j)) }
+    ensures { MatchOption result (IfSome asked (λ j. j < jobs shaped.now))
+        (λ j. (asked ≡ Some j) × (jobs shaped.now ≤ j)) }
 {
     match asked {
         Some(job) if shaped.job_count() <= job => Some(job),

@@ -21,8 +21,8 @@ use shop_base::Shaped;
 use std::alloc::{AllocError, Global};
 
 /// What no plan can do for an instance with the releases and the cleaning times of a plan, both given as texts: a bound
-/// from below on the makespan, and one on each job's leaving beside its budget. The plan's orders are read and not used.
-/// Without a name the first text is one instance, else a collection with an instance of this name.
+/// from below on the makespan, and one on each job's leaving beside its budget. The plan's orders are read and not
+/// used. Without a name the first text is one instance, else a collection with an instance of this name.
 pub fn bounds(alloc: Global, instance: &[u8], name: Option<&[u8]>, plan: &[u8]) -> Answered
     ensures { AreTextsAnswered instance.now (option_copied name.entry) plan.now AreBounds result }
 {
@@ -52,7 +52,8 @@ fn named_bounded<T: Texts>(
     both: Both,
     names: Option<&str>,
 ) -> Answered
-    ensures { WithSoundNames T.gives (λ book. IsOrMemory (AreBoundLines book (times_of both) both.plan.budget)) (option_copied names.entry) both texts.old result texts.new }
+    ensures { WithSoundNames T.gives (λ book. IsOrMemory (AreBoundLines book (times_of both) both.plan.budget))
+        (option_copied names.entry) both texts.old result texts.new }
 {
     match serially(alloc, both)?.shaped() {
         Ok(shaped) => {

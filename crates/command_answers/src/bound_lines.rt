@@ -5,7 +5,8 @@ ghost use Rattle.shop_base.specs.Plan.{jobs};
 ghost use Rattle.plan_bounds.specs.Bounds.{times_of};
 ghost use Rattle.people_names.specs.Words.{moment_word};
 ghost use Rattle.people_names.specs.declared.names.TheConstants.{LONGEST_MOMENT};
-ghost use Rattle.command_answers.specs.BoundLines.{by_words, makespan_line, budget_words, bound_line, bound_lines_below};
+ghost use Rattle.command_answers.specs.BoundLines.{by_words, makespan_line, budget_words};
+ghost use Rattle.command_answers.specs.BoundLines.{bound_line, bound_lines_below};
 
 use people_names::{LONGEST_MOMENT, LONGEST_NAME, Names};
 use plan_bounds::{By, LeastMakespan, job_bound};
@@ -57,7 +58,8 @@ pub(crate) fn push_bound_lines(
     names: &Names,
     shaped: &Shaped,
 ) -> Result<(), AllocError>
-    ensures { OnOk result (text.new.items ≡ text.old.items ++ bound_lines_below names.now (times_of shaped.now) shaped.now.plan.budget (jobs shaped.now)) }
+    ensures { OnOk result (text.new.items ≡ text.old.items
+        ++ bound_lines_below names.now (times_of shaped.now) shaped.now.plan.budget (jobs shaped.now)) }
 {
     for job in 0..shaped.job_count() {
         push_bound_line(
@@ -90,7 +92,8 @@ fn push_bound_line(
     push_line(text, &line)
 }
 
-/// Writes the budget, and that the job is never in time where its bound is past it; a budget that people aren't told is none.
+/// Writes the budget, and that the job is never in time where its bound is past it; a budget that people aren't told is
+/// none.
 fn put_budget(line: &mut Line, names: &Names, bound: Moment, budget: Moment)
     requires { length line.old ≤ 1 }
     ensures written { line.new ≡ budget_words names.now bound budget ++ line.old }

@@ -138,8 +138,8 @@ impl From<NotRevised> for Unrevised {
     }
 }
 
-/// The fault of a command that a fault of a search, of a decision, of the moves or of the audit is: out of memory. Each other one
-/// has an answer.
+/// The fault of a command that a fault of a search, of a decision, of the moves or of the audit is: out of memory. Each
+/// other one has an answer.
 #[derive(Drop)]
 pub(crate) struct Unanswered(pub Option<CommandFault>);
 

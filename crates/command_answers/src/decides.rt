@@ -3,7 +3,9 @@
 ghost use Rattle.std.specs.Prelude.{◌≡◌, IfOk, None};
 ghost use Rattle.std.specs.Option.{option_copied};
 ghost use Rattle.plan_decide.specs.Pasts.{whole_case};
-ghost use Rattle.command_answers.specs.Deciding.{AsksForJob, IsAnswerable, IsDecidedAnswer, IsDecisionAnswer, IsLineRefused, IsUndecidedAnswer, decide_command_fault, out_of_range_line};
+ghost use Rattle.command_answers.specs.Deciding.{AsksForJob, IsAnswerable, IsDecidedAnswer};
+ghost use Rattle.command_answers.specs.Deciding.{IsDecisionAnswer, IsLineRefused, IsUndecidedAnswer};
+ghost use Rattle.command_answers.specs.Deciding.{decide_command_fault, out_of_range_line};
 ghost use Rattle.command_answers.specs.DecisionLines.{never_lines, within_line};
 ghost use Rattle.command_answers.specs.Documents.{IsHeadedAnswer};
 ghost use Rattle.command_answers.specs.Commands.{RunsDecide, WithSoundNames};
@@ -28,8 +30,8 @@ use std::alloc::{AllocError, Global};
 /// instance of another file, by complete searches of at most so many choices each. The orders of the given plan are
 /// read and not used. Where no plan keeps them, there is a line of jobs that exclude each other, or more than one, with
 /// their names where the file of names, which is read once the numbers are sound, has some. The words after
-/// `bad numbers ` are in no clause, but for those of a job that isn't of the shop. The text of a plan is read again: if it
-/// isn't that plan's, the fault is `NotReadBack`.
+/// `bad numbers ` are in no clause, but for those of a job that isn't of the shop. The text of a plan is read again: if
+/// it isn't that plan's, the fault is `NotReadBack`.
 pub fn decide_answer<T: Texts, C: Choose, W: Watch>(
     alloc: Global,
     texts: &mut T,
@@ -57,7 +59,8 @@ fn both_decided<T: Texts, C: Choose, W: Watch>(
     chooser: &mut C,
     watch: &mut W,
 ) -> Answered
-    ensures { WithSoundNames T.gives (λ book. IsDecisionAnswer book (whole_case both) aim) (option_copied names.entry) both texts.old result texts.new }
+    ensures { WithSoundNames T.gives (λ book. IsDecisionAnswer book (whole_case both) aim)
+        (option_copied names.entry) both texts.old result texts.new }
 {
     match serially(alloc, both)?.shaped() {
         Ok(shaped) => {
@@ -120,8 +123,8 @@ fn never_answer(alloc: Global, names: &Names, excluded: &[Excluded]) -> Result<A
     Ok(Answer { text, status })
 }
 
-/// Why nothing is decided: the line of a job that isn't of the shop, of the log's first fault or of a moment that is past, or
-/// that memory ran out.
+/// Why nothing is decided: the line of a job that isn't of the shop, of the log's first fault or of a moment that is
+/// past, or that memory ran out.
 pub(crate) fn undecided_answer(alloc: Global, aim: Aim, fault: DecideFault) -> Answered
     requires { IsAnswerable aim fault }
     ensures { IsUndecidedAnswer aim fault result }

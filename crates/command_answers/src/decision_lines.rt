@@ -2,7 +2,8 @@
 
 ghost use Rattle.std.specs.Prelude.{◌≡◌, ◌++◌, OnOk, codes};
 ghost use Rattle.people_names.specs.Words.{job_word};
-ghost use Rattle.command_answers.specs.DecisionLines.{bounds_line, excluded_words, fewer_if, job_words, least_line, never_line, never_lines, within_line};
+ghost use Rattle.command_answers.specs.DecisionLines.{bounds_line, excluded_words, fewer_if, job_words, least_line};
+ghost use Rattle.command_answers.specs.DecisionLines.{never_line, never_lines, within_line};
 
 use crate::lines::push_fact;
 use people_names::{LONGEST_NAME, Names};

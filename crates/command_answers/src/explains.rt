@@ -57,7 +57,8 @@ fn shaped_explained<T: Texts>(
     names: Option<&str>,
     job: Option<JobNo>,
 ) -> Answered
-    ensures { IfThere T.gives job shaped (WithNames T.gives (option_copied names.entry) shaped (λ book. IsOrMemory (IsPlanExplained book job shaped))) texts.old result texts.new }
+    ensures { IfThere T.gives job shaped (WithNames T.gives (option_copied names.entry) shaped
+        (λ book. IsOrMemory (IsPlanExplained book job shaped))) texts.old result texts.new }
 {
     if let Some(absent) = absent_job(&shaped, job) {
         return Ok(no_job_answer(alloc, absent)?);

@@ -30,7 +30,8 @@ pub fn improve_answer<T: Texts, W: Watch>(
     rounds: u32,
     watch: &mut W,
 ) -> Answered
-    ensures { RunsImprove T.gives (RoundsOf rounds (λ b. may b) improvers.now) rounds pair.now texts.old result texts.new }
+    ensures { RunsImprove T.gives (RoundsOf rounds (λ b. may b) improvers.now) rounds pair.now
+        texts.old result texts.new }
 {
     let both = read_both(alloc, texts, pair)?;
     let both = with_orders(alloc, both)?;

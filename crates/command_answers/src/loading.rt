@@ -49,8 +49,8 @@ pub fn load(alloc: Global, instance: &[u8], name: Option<&[u8]>, plan: &[u8]) ->
     judged(alloc, Both { shop, plan })
 }
 
-/// The plan for an instance, both given as texts, if it is well shaped, else the first fault of its shape. Without a name the
-/// first text is one instance, else a collection with an instance of this name.
+/// The plan for an instance, both given as texts, if it is well shaped, else the first fault of its shape. Without a
+/// name the first text is one instance, else a collection with an instance of this name.
 pub fn load_shaped(
     alloc: Global,
     instance: &[u8],

@@ -28,8 +28,8 @@ pub enum LogAnswer {
     Drawing,
 }
 
-/// Whether the log of a file records a run of the plan of another for the instance of a third, by any controller. Names and
-/// the clock are those of a fourth file, which is read once the plan is shaped.
+/// Whether the log of a file records a run of the plan of another for the instance of a third, by any controller. Names
+/// and the clock are those of a fourth file, which is read once the plan is shaped.
 pub fn log_answer<T: Texts>(
     alloc: Global,
     texts: &mut T,

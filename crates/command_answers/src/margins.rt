@@ -17,8 +17,8 @@ use plan_verifier::{Verdict, Verified, verify};
 use shop_base::Shaped;
 use std::alloc::{AllocError, Global};
 
-/// How much longer everything may take by the plan of a file for the instance of another, with the names of a third, which
-/// is read once the plan is shaped. A plan that isn't accepted has the line of `check`.
+/// How much longer everything may take by the plan of a file for the instance of another, with the names of a third,
+/// which is read once the plan is shaped. A plan that isn't accepted has the line of `check`.
 pub fn margin_answer<T: Texts>(
     alloc: Global,
     texts: &mut T,

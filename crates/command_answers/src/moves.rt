@@ -28,9 +28,9 @@ use run_log::run_of_log;
 use shop_base::{Moment, Shaped};
 use std::alloc::Global;
 
-/// The moves of the run in which everything is reported when it is due, by the plan of a file for the instance of another:
-/// below the line of `check` a line for each, with the names and the clock of a third file, which is read once the plan is
-/// shaped. A plan with a cycle has none.
+/// The moves of the run in which everything is reported when it is due, by the plan of a file for the instance of
+/// another: below the line of `check` a line for each, with the names and the clock of a third file, which is read once
+/// the plan is shaped. A plan with a cycle has none.
 pub fn moves_answer<T: Texts>(
     alloc: Global,
     texts: &mut T,
@@ -133,7 +133,8 @@ fn push_moves(
     present: Moment,
 ) -> Outcome<()>
     requires { IsNextMoment cell.cell present }
-    ensures lines { OnOk result ((lines : List ℕ) × AreLinesBelow names.now cell.plan cell.cell present lines × (text.new.items ≡ text.old.items ++ lines)) }
+    ensures lines { OnOk result ((lines : List ℕ) × AreLinesBelow names.now cell.plan cell.cell present lines
+        × (text.new.items ≡ text.old.items ++ lines)) }
     ensures fault { IfErr result (λ fault. fault ≡ Memory) }
 {
     match moves_from(alloc, cell, present) {

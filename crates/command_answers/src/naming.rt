@@ -18,7 +18,8 @@ fn load_names(alloc: Global, text: &[u8], shaped: &Shaped) -> Outcome<Names>
     Ok(read_names(alloc, text, jobs, machines)?)
 }
 
-/// The names in the file of this path, for the shop of this plan. Without a path there are none, and no file is asked for.
+/// The names in the file of this path, for the shop of this plan. Without a path there are none, and no file is asked
+/// for.
 pub(crate) fn names_of<T: Texts>(
     alloc: Global,
     texts: &mut T,

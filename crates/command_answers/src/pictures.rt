@@ -15,7 +15,9 @@ ghost use Rattle.plan_verifier.specs.declared.verdict.Judged.TheVariants.{Refuse
 ghost use Rattle.plan_explain.specs.FirstLines.{cycle_line};
 ghost use Rattle.plan_explain.specs.RestVerdicts.{IsRestJudged};
 ghost use Rattle.command_answers.specs.Steps.{IsOrMemory};
-ghost use Rattle.command_answers.specs.Pictures.{DrawsLog, DrawsRest, DrawsSchedule, IsCellDrawn, IsLogDrawn, IsPlanDrawn, IsRestDrawing, IsRestDrawn, IsRunPicture, IsVerdictDrawn, line_at, log_sheet, run_head, run_sheet};
+ghost use Rattle.command_answers.specs.Pictures.{DrawsLog, DrawsRest, DrawsSchedule, IsCellDrawn, IsLogDrawn};
+ghost use Rattle.command_answers.specs.Pictures.{IsPlanDrawn, IsRestDrawing, IsRestDrawn, IsRunPicture, IsVerdictDrawn};
+ghost use Rattle.command_answers.specs.Pictures.{line_at, log_sheet, run_head, run_sheet};
 
 use crate::answer::{Answer, GOOD, Outcome, REFUSED};
 use crate::both::{Pair, read_both};
@@ -91,8 +93,8 @@ fn audit_picture(
     shaped: &Shaped,
     found: &Audit,
 ) -> Result<Picture, AllocError>
-    ensures { let run = found.now in let p = shaped.now in IfOk result
-        (IsPicture names (log_sheet p run) (drawn_visits p run.entries.items) (late_leavings p (leavings_so_far (jobs p) run.entries.items))) }
+    ensures { let run = found.now in let p = shaped.now in IfOk result (IsPicture names (log_sheet p run)
+        (drawn_visits p run.entries.items) (late_leavings p (leavings_so_far (jobs p) run.entries.items))) }
 {
     let entries = found.entries.as_slice();
     let visits = run_gantt::drawn_visits(alloc, shaped, entries)?;

@@ -11,9 +11,9 @@ use std::alloc::Global;
 use std::io::{self, Read};
 use text_lines::MAX_INPUT;
 
-/// The bytes that a reader gives until its end. There is room at first for as many as are expected, since room that grows is
-/// copied. No clause says what bytes the kit's files have, and a body that always answered `Read` would meet these clauses
-/// too: only tests show that what can be read is read.
+/// The bytes that a reader gives until its end. There is room at first for as many as are expected, since room that
+/// grows is copied. No clause says what bytes the kit's files have, and a body that always answered `Read` would meet
+/// these clauses too: only tests show that what can be read is read.
 pub fn read_whole<R: Read + Drop>(alloc: Global, reader: R, expected: u64) -> Outcome<Vec<u8>>
     ensures within { IfOk result (λ bytes. vec_len bytes ≤ MAX_INPUT) }
     ensures whole { IfOk result (λ bytes. IfSome (R.remaining reader) (λ all. bytes.items ≡ all)) }

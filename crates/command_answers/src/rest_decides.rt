@@ -21,11 +21,12 @@ use plan_decide::{Aim, Watch, decide_after};
 use shop_base::{Moment, ShapeFault, Shaped};
 use std::alloc::{AllocError, Global};
 
-/// Whether any plan with the releases, budgets and cleaning times of the one in a file keeps all budgets of the jobs that
-/// aren't gone, for the rest of the run in the log of another file and the instance of a third, by complete searches of at
-/// most so many choices each. The orders of the given plan say only of what run that is a log; a plan without any orders is
-/// taken with the serial ones. What comes after the log's last line feed isn't looked at. Numbers that aren't sound are
-/// answered by `bad numbers`, orders that don't fit by `not shaped`, and a log or a moment as by `improve`.
+/// Whether any plan with the releases, budgets and cleaning times of the one in a file keeps all budgets of the jobs
+/// that aren't gone, for the rest of the run in the log of another file and the instance of a third, by complete
+/// searches of at most so many choices each. The orders of the given plan say only of what run that is a log; a plan
+/// without any orders is taken with the serial ones. What comes after the log's last line feed isn't looked at. Numbers
+/// that aren't sound are answered by `bad numbers`, orders that don't fit by `not shaped`, and a log or a moment as by
+/// `improve`.
 pub fn decide_rest_answer<T: Texts, C: Choose, W: Watch>(
     alloc: Global,
     texts: &mut T,

@@ -4,7 +4,8 @@ ghost use Rattle.std.specs.Prelude.{◌≡◌, ◌≤◌, IfOk, IfSome, None};
 ghost use Rattle.shop_base.specs.declared.limits.TheConstants.{MAX_MOMENT};
 ghost use Rattle.text_lines.specs.Lines.{ended_lines};
 ghost use Rattle.plan_improve.specs.declared.improve_fault.ImproveFault.TheVariants.{MomentTooLarge};
-ghost use Rattle.command_answers.specs.ImprovingRests.{RestRoundsOf, IsRestAnswer, IsJudgedAnswer, IsUnfoundAnswer, IsCycleLine, improve_command_fault};
+ghost use Rattle.command_answers.specs.ImprovingRests.{RestRoundsOf, IsRestAnswer, IsJudgedAnswer, IsUnfoundAnswer};
+ghost use Rattle.command_answers.specs.ImprovingRests.{IsCycleLine, improve_command_fault};
 ghost use Rattle.command_answers.specs.Commands.{RunsImproveRest, WithRest};
 
 use crate::answer::{Answer, Answered, GOOD, REFUSED};
@@ -22,11 +23,11 @@ use plan_verifier::{Judged, Why};
 use shop_base::{Moment, Node, Shaped};
 use std::alloc::{AllocError, Global};
 
-/// The text of the best plan that a search from the plan of a file meets for the rest of the run in the log of another, for
-/// the instance of a third: its rest accepted, or with a job that is still late. A plan without any orders is taken with the
-/// serial ones. What comes after the log's last line feed isn't looked at. A log that records no run of that plan is
-/// answered by its first bad line, a present moment before the log's last one by `log past L`, and a plan with a cycle,
-/// if the log records an event, by the line of `check`.
+/// The text of the best plan that a search from the plan of a file meets for the rest of the run in the log of another,
+/// for the instance of a third: its rest accepted, or with a job that is still late. A plan without any orders is taken
+/// with the serial ones. What comes after the log's last line feed isn't looked at. A log that records no run of that
+/// plan is answered by its first bad line, a present moment before the log's last one by `log past L`, and a plan with
+/// a cycle, if the log records an event, by the line of `check`.
 pub fn improve_rest_answer<T: Texts, W: Watch>(
     alloc: Global,
     texts: &mut T,
@@ -38,7 +39,8 @@ pub fn improve_rest_answer<T: Texts, W: Watch>(
     watch: &mut W,
 ) -> Answered
     requires { IfSome at (λ present. present ≤ MAX_MOMENT) }
-    ensures { RunsImproveRest T.gives (RestRoundsOf rounds (λ b. may b) improvers.now) at rounds pair.now log.now texts.old result texts.new }
+    ensures { RunsImproveRest T.gives (RestRoundsOf rounds (λ b. may b) improvers.now) at rounds pair.now log.now
+        texts.old result texts.new }
 {
     let both = read_both(alloc, texts, pair)?;
     let both = with_orders(alloc, both)?;
@@ -57,7 +59,8 @@ fn better_rest_answer<T: Texts, W: Watch>(
     watch: &mut W,
 ) -> Answered
     requires { IfSome at (λ present. present ≤ MAX_MOMENT) }
-    ensures { WithRest T.gives (RestRoundsOf rounds (λ b. may b) improvers.now) at rounds log.now both texts.old result texts.new }
+    ensures { WithRest T.gives (RestRoundsOf rounds (λ b. may b) improvers.now) at rounds log.now both
+        texts.old result texts.new }
 {
     match both.shaped() {
         Ok(start) => {
@@ -79,7 +82,8 @@ fn found_answer<W: Watch>(
     watch: &mut W,
 ) -> Answered
     requires { IfSome at (λ present. present ≤ MAX_MOMENT) }
-    ensures { IsRestAnswer (RestRoundsOf rounds (λ b. may b) improvers.now) at rounds (ended_lines log.now) start result }
+    ensures { IsRestAnswer (RestRoundsOf rounds (λ b. may b) improvers.now) at rounds
+        (ended_lines log.now) start result }
 {
     match improve_after(alloc, start, log, at, improvers, rounds, watch) {
         Ok(found) => judged_answer(alloc, &found),

@@ -5,7 +5,8 @@ ghost use Rattle.std.specs.Option.{option_copied};
 ghost use Rattle.shop_base.specs.Plan.{jobs};
 ghost use Rattle.shop_base.specs.declared.limits.TheConstants.{MAX_MOMENT};
 ghost use Rattle.shop_base.specs.Report.{IsNextMoment};
-ghost use Rattle.command_answers.specs.Rests.{IsRestLine, IsCellAnswer, IsPastLine, AnswersRest, IsTextOf, job_asked, rest_status};
+ghost use Rattle.command_answers.specs.Rests.{IsRestLine, IsCellAnswer, IsPastLine, AnswersRest};
+ghost use Rattle.command_answers.specs.Rests.{IsTextOf, job_asked, rest_status};
 ghost use Rattle.command_answers.specs.Steps.{IsOrMemory};
 ghost use Rattle.command_answers.specs.Commands.{IfThere, RunsRest, WithNamesAndLog};
 ghost use Rattle.plan_explain.specs.RestVerdicts.{IsRestJudged};
@@ -53,8 +54,8 @@ impl PlanAnswer {
 
 /// What is answered for the rest of the run in the log of a file, by the plan of another for the instance of a third:
 /// from a present moment on, or from the last one of that run. What comes after the log's last line feed isn't looked
-/// at. A present moment before the last one gets the line `log past L`. Names and the clock are those of a fourth file, which
-/// is read once the plan is shaped and the job that is asked for is one of the shop.
+/// at. A present moment before the last one gets the line `log past L`. Names and the clock are those of a fourth file,
+/// which is read once the plan is shaped and the job that is asked for is one of the shop.
 pub fn rest_answer<T: Texts>(
     alloc: Global,
     texts: &mut T,
@@ -84,7 +85,8 @@ fn shaped_rest<T: Texts>(
     wanted: PlanAnswer,
 ) -> Answered
     requires { IfSome at (λ present. present ≤ MAX_MOMENT) }
-    ensures { IfThere T.gives (job_asked wanted) shaped (WithNamesAndLog T.gives (option_copied names.entry) log.now shaped (λ book. IsRestLine book wanted at shaped)) texts.old result texts.new }
+    ensures { IfThere T.gives (job_asked wanted) shaped (WithNamesAndLog T.gives (option_copied names.entry) log.now
+        shaped (λ book. IsRestLine book wanted at shaped)) texts.old result texts.new }
 {
     if let Some(absent) = absent_job(&shaped, wanted.job_asked()) {
         return Ok(no_job_answer(alloc, absent)?);

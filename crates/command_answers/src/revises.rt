@@ -4,7 +4,9 @@ ghost use Rattle.std.specs.Prelude.{◌≡◌, ◌≤◌, ◌++◌, [], IfOk, If
 ghost use Rattle.shop_base.specs.declared.limits.TheConstants.{MAX_MOMENT};
 ghost use Rattle.shop_base.specs.Report.{IsNextMoment};
 ghost use Rattle.command_answers.specs.Commands.{RunsRevise, WithLogOf};
-ghost use Rattle.command_answers.specs.Revising.{IsChanged, IsInstanceAnswer, IsPrinted, IsReviseAnswer, IsPlaced, IsRevisedFrom, IsRevisedRest, IsUnrevised, change_refused_line, flag_of, is_printable, printable_part};
+ghost use Rattle.command_answers.specs.Revising.{IsChanged, IsInstanceAnswer, IsPrinted, IsReviseAnswer, IsPlaced};
+ghost use Rattle.command_answers.specs.Revising.{IsRevisedFrom, IsRevisedRest, IsUnrevised, change_refused_line};
+ghost use Rattle.command_answers.specs.Revising.{flag_of, is_printable, printable_part};
 ghost use Rattle.command_answers.specs.Steps.{IsOrMemory};
 
 use crate::answer::{Answer, Answered, GOOD, REFUSED};
@@ -34,8 +36,8 @@ pub enum Revised {
     InstanceText,
 }
 
-/// What is asked for: the present moment, if another one than the log's last is given, the changes in the order in which
-/// they are made, the value of each one's word, and what is printed.
+/// What is asked for: the present moment, if another one than the log's last is given, the changes in the order in
+/// which they are made, the value of each one's word, and what is printed.
 #[derive(Clone, Copy)]
 pub struct Revision<'a> {
     pub at: Option<Moment>,
@@ -44,10 +46,10 @@ pub struct Revision<'a> {
     pub prints: Revised,
 }
 
-/// The text of the plan of a file, or of the instance of another, as it has to be for the rest of the run in the log of a
-/// third, where something has changed. What comes after the log's last line feed isn't looked at. A log that records no
-/// run of the plan is answered by its first bad line, a present moment before the log's last one by `log past L`, a plan
-/// with a cycle by the line of `check`, and a change that can't be by `change refused WORD NAME`.
+/// The text of the plan of a file, or of the instance of another, as it has to be for the rest of the run in the log of
+/// a third, where something has changed. What comes after the log's last line feed isn't looked at. A log that records
+/// no run of the plan is answered by its first bad line, a present moment before the log's last one by `log past L`, a
+/// plan with a cycle by the line of `check`, and a change that can't be by `change refused WORD NAME`.
 pub fn revise_answer<T: Texts>(
     alloc: Global,
     texts: &mut T,
@@ -56,8 +58,8 @@ pub fn revise_answer<T: Texts>(
     wanted: Revision<'_>,
 ) -> Answered
     requires { IfSome wanted.at (λ present. present ≤ MAX_MOMENT) }
-    ensures { RunsRevise T.gives wanted.entry.prints wanted.entry.at wanted.entry.changes.now (map (λ value. value.now) wanted.entry.values.now) pair.now log.now
-        texts.old result texts.new }
+    ensures { RunsRevise T.gives wanted.entry.prints wanted.entry.at wanted.entry.changes.now
+        (map (λ value. value.now) wanted.entry.values.now) pair.now log.now texts.old result texts.new }
 {
     let named = instance(alloc, texts, pair.instance, pair.name)?;
     let plan = plan(alloc, texts, pair.plan)?;
@@ -75,7 +77,8 @@ fn both_revised<T: Texts>(
     wanted: Revision<'_>,
 ) -> Answered
     requires { IfSome wanted.at (λ present. present ≤ MAX_MOMENT) }
-    ensures { WithLogOf T.gives (IsReviseAnswer wanted.entry.prints description.now wanted.entry.at wanted.entry.changes.now (map (λ value. value.now) wanted.entry.values.now))
+    ensures { WithLogOf T.gives (IsReviseAnswer wanted.entry.prints description.now wanted.entry.at
+        wanted.entry.changes.now (map (λ value. value.now) wanted.entry.values.now))
         log.now both texts.old result texts.new }
 {
     match both.shaped() {
@@ -96,7 +99,8 @@ fn log_revised(
     wanted: Revision<'_>,
 ) -> Answered
     requires { IfSome wanted.at (λ present. present ≤ MAX_MOMENT) }
-    ensures { IsReviseAnswer wanted.entry.prints description.now wanted.entry.at wanted.entry.changes.now (map (λ value. value.now) wanted.entry.values.now) shaped log.now result }
+    ensures { IsReviseAnswer wanted.entry.prints description.now wanted.entry.at wanted.entry.changes.now
+        (map (λ value. value.now) wanted.entry.values.now) shaped log.now result }
 {
     match run_of_log(alloc, shaped, log) {
         Ok(run) => cell_revised(alloc, &run.cell, description, wanted),
@@ -112,8 +116,8 @@ fn cell_revised(
     wanted: Revision<'_>,
 ) -> Answered
     requires { IfSome wanted.at (λ present. present ≤ MAX_MOMENT) }
-    ensures { IsRevisedFrom wanted.entry.prints description.now wanted.entry.at wanted.entry.changes.now (map (λ value. value.now) wanted.entry.values.now)
-        cell.now.plan cell.now.cell result }
+    ensures { IsRevisedFrom wanted.entry.prints description.now wanted.entry.at wanted.entry.changes.now
+        (map (λ value. value.now) wanted.entry.values.now) cell.now.plan cell.now.cell result }
 {
     // Called for its clause alone: the cell is sound.
     let _plan = cell.shaped();
@@ -134,8 +138,8 @@ fn rest_revised(
     wanted: Revision<'_>,
 ) -> Answered
     requires { IsNextMoment cell.now.cell present }
-    ensures { IsRevisedRest wanted.entry.prints description.now wanted.entry.changes.now (map (λ value. value.now) wanted.entry.values.now)
-        cell.now.plan cell.now.cell present result }
+    ensures { IsRevisedRest wanted.entry.prints description.now wanted.entry.changes.now
+        (map (λ value. value.now) wanted.entry.values.now) cell.now.plan cell.now.cell present result }
 {
     let verdict = verify_after(alloc, cell, present)?;
     match &verdict {
@@ -161,8 +165,8 @@ fn changed(
     wanted: Revision<'_>,
 ) -> Answered
     requires { cell.now.cell.last ≤ present }
-    ensures { IsChanged wanted.entry.prints description.now wanted.entry.changes.now (map (λ value. value.now) wanted.entry.values.now)
-        cell.now.plan cell.now.cell present result }
+    ensures { IsChanged wanted.entry.prints description.now wanted.entry.changes.now
+        (map (λ value. value.now) wanted.entry.values.now) cell.now.plan cell.now.cell present result }
 {
     match revise(alloc, cell, present, wanted.changes) {
         Ok(shaped) => printed(alloc, &shaped, description, wanted.prints),
@@ -232,7 +236,8 @@ fn refused_answer(
     value: &str,
     fault: ChangeFault,
 ) -> Result<Answer, AllocError>
-    ensures { IfOk result (λ answer. (answer.text.items ≡ change_refused_line change.entry value.now fault) × (answer.status ≡ 1)) }
+    ensures { IfOk result
+        (λ answer. (answer.text.items ≡ change_refused_line change.entry value.now fault) × (answer.status ≡ 1)) }
 {
     let (mut text, status) = (Vec::new(alloc), REFUSED);
     text.extend_from_slice(b"change refused ")?;

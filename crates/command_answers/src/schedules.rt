@@ -30,8 +30,8 @@ pub fn schedule(alloc: Global, instance: &[u8], name: Option<&[u8]>, plan: &[u8]
     Ok(loaded_scheduled(alloc, &loaded)?)
 }
 
-/// The schedule of the plan of a file for the instance of another, with the names and the clock of a third, which is read
-/// once the plan is shaped.
+/// The schedule of the plan of a file for the instance of another, with the names and the clock of a third, which is
+/// read once the plan is shaped.
 pub fn schedule_answer<T: Texts>(
     alloc: Global,
     texts: &mut T,

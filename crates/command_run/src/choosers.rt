@@ -27,7 +27,8 @@ pub(crate) fn decided_answer<T: Texts, S: Screen>(
     screen: &mut S,
 ) -> Answered
     requires { IfSome at (λ present. present ≤ MAX_MOMENT) }
-    ensures { Decides T.gives aim at pair.now (option_copied names.entry) (option_copied log.entry) texts.old result texts.new }
+    ensures { Decides T.gives aim at pair.now (option_copied names.entry)
+        (option_copied log.entry) texts.old result texts.new }
 {
     match log {
         Some(log) => rest_decision_answer(alloc, texts, pair, names, log, at, aim, choices, screen),

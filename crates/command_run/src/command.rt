@@ -8,7 +8,8 @@ ghost use Rattle.command_words.specs.Choice.{IsWithin};
 ghost use Rattle.command_run.specs.Choosers.{Decides};
 ghost use Rattle.command_run.specs.Improvers.{Improves};
 ghost use Rattle.command_run.specs.Tellings.{RunsPlanAnswer};
-ghost use Rattle.command_run.specs.Program.{RunsCommand, aim_in, file_at, is_second, kept_log_in, form_in, log_in, names_in, manner_in, name_in, overall_aim, pair_in};
+ghost use Rattle.command_run.specs.Program.{RunsCommand, aim_in, file_at, is_second, kept_log_in, form_in, log_in};
+ghost use Rattle.command_run.specs.Program.{names_in, manner_in, name_in, overall_aim, pair_in};
 
 use crate::choosers::decided_answer;
 use crate::devices::{Screen, Streams};
@@ -89,7 +90,8 @@ pub(crate) fn pair(chosen: &Chosen) -> Pair<'_>
 fn told<T: Texts>(alloc: Global, chosen: &Chosen, texts: &mut T, wanted: PlanAnswer) -> Answered
     requires files { 1 < length chosen.now.files.items }
     requires at { IfSome chosen.now.at (λ present. present ≤ MAX_MOMENT) }
-    ensures { RunsPlanAnswer T.gives wanted chosen.now.at (pair_in chosen.now) (names_in chosen.now) (log_in chosen.now) texts.old result texts.new }
+    ensures { RunsPlanAnswer T.gives wanted chosen.now.at (pair_in chosen.now) (names_in chosen.now)
+        (log_in chosen.now) texts.old result texts.new }
 {
     let pair = pair(chosen);
     let (names, log) = (names(chosen), rest_log(chosen));
@@ -136,7 +138,8 @@ fn bettered<T: Texts, S: Screen>(
 ) -> Answered
     requires files { 1 < length chosen.now.files.items }
     requires at { IfSome chosen.now.at (λ present. present ≤ MAX_MOMENT) }
-    ensures { Improves T.gives chosen.now.at chosen.now.rounds (pair_in chosen.now) (log_in chosen.now) texts.old result texts.new }
+    ensures { Improves T.gives chosen.now.at chosen.now.rounds (pair_in chosen.now)
+        (log_in chosen.now) texts.old result texts.new }
 {
     let pair = pair(chosen);
     let (rounds, seed) = (chosen.rounds, chosen.seed);
@@ -158,7 +161,8 @@ fn decided<T: Texts, S: Screen>(
 ) -> Answered
     requires files { 1 < length chosen.now.files.items }
     requires at { IfSome chosen.now.at (λ present. present ≤ MAX_MOMENT) }
-    ensures { Decides T.gives aim chosen.now.at (pair_in chosen.now) (names_in chosen.now) (log_in chosen.now) texts.old result texts.new }
+    ensures { Decides T.gives aim chosen.now.at (pair_in chosen.now) (names_in chosen.now)
+        (log_in chosen.now) texts.old result texts.new }
 {
     let (pair, choices) = (pair(chosen), chosen.choices);
     decided_answer(

@@ -2,7 +2,8 @@
 
 ghost use Rattle.std.specs.Prelude.{◌≡◌, IfOk, IfErr};
 ghost use Rattle.command_run.specs.Streams.{Output, errors_of, output_of};
-ghost use Rattle.command_run.specs.Ending.{WasPrinted, IsRefusalLine, IsErrorLine, IsOfText, IsTextLine, IsFaultPrinted, IsPrinted, Ends, EndsAside};
+ghost use Rattle.command_run.specs.Ending.{WasPrinted, IsRefusalLine, IsErrorLine, IsOfText, IsTextLine};
+ghost use Rattle.command_run.specs.Ending.{IsFaultPrinted, IsPrinted, Ends, EndsAside};
 
 use crate::devices::Streams;
 use cell_drive::{BufferedSink, Source};
@@ -17,7 +18,8 @@ pub(crate) fn end<R: Source, W: BufferedSink, E: Sink>(
     streams: &mut Streams<R, W>,
     errors: &mut E,
 ) -> u8
-    ensures ends { Ends outcome streams.old.output streams.new.output (errors_of E.Sink errors.old) (errors_of E.Sink errors.new) result }
+    ensures ends { Ends outcome streams.old.output streams.new.output (errors_of E.Sink errors.old)
+        (errors_of E.Sink errors.new) result }
     ensures input { streams.new.input ≡ streams.old.input }
 {
     match outcome {
@@ -31,7 +33,8 @@ pub(crate) fn end<R: Source, W: BufferedSink, E: Sink>(
 
 /// The same where a picture is asked for: what is answered in its place is told on the standard error.
 pub(crate) fn end_aside<E: Sink>(alloc: Global, outcome: Answered, errors: &mut E) -> u8
-    ensures { (output : Output) → EndsAside outcome output output (errors_of E.Sink errors.old) (errors_of E.Sink errors.new) result }
+    ensures { (output : Output)
+        → EndsAside outcome output output (errors_of E.Sink errors.old) (errors_of E.Sink errors.new) result }
 {
     match outcome {
         Ok(answer) => print_line(errors, &answer.text, answer.status),
@@ -41,7 +44,8 @@ pub(crate) fn end_aside<E: Sink>(alloc: Global, outcome: Answered, errors: &mut 
 
 /// Prints an answer, and shows it.
 fn print<W: BufferedSink>(answer: &Answer, output: &mut W) -> Outcome<u8>
-    ensures { IsPrinted answer.now (output_of W.Sink W.pending output.old) (output_of W.Sink W.pending output.new) result }
+    ensures { IsPrinted answer.now (output_of W.Sink W.pending output.old)
+        (output_of W.Sink W.pending output.new) result }
 {
     match put_all(output, &answer.text) {
         Ok(()) => match output.flush() {

@@ -15,7 +15,12 @@ ghost use Rattle.cell_drive.specs.InProtocol.{IsDriveIn, IsGoneOnIn, begun_in};
 ghost use Rattle.plan_verifier.specs.Seen.{judged};
 ghost use Rattle.command_run.specs.Drives.{IsLineAnswer, end_of_drive};
 ghost use Rattle.command_run.specs.Resumes.{end_of_rest};
-ghost use Rattle.command_run.specs.Logs.{Begins, BeginsAccepted, BeginsBy, BeginsRun, DrivesByLog, DrivesFitting, DrivesFound, DrivesWithLog, GoesOnWithLog, HasFewLines, IsEmptyLog, IsFoundLog, IsLogFaultPrinted, IsLoggedAnswer, IsReady, IsRecoveredFromLog, IsWrittenBehind, IsHistoryOfFound, IsHistoryOfLog, IsHistoryOfNew, IsHistoryOfOld, IsHistoryOfPath, LacksLog, OpensLog, StepsWith, RecoversRun, ReplaysEvents, bytes_in, digits_in, log_command_fault, logged_command_fault};
+ghost use Rattle.command_run.specs.Logs.{Begins, BeginsAccepted, BeginsBy, BeginsRun, DrivesByLog, DrivesFitting};
+ghost use Rattle.command_run.specs.Logs.{DrivesFound, DrivesWithLog, GoesOnWithLog, HasFewLines, IsEmptyLog};
+ghost use Rattle.command_run.specs.Logs.{IsFoundLog, IsLogFaultPrinted, IsLoggedAnswer, IsReady, IsRecoveredFromLog};
+ghost use Rattle.command_run.specs.Logs.{IsWrittenBehind, IsHistoryOfFound, IsHistoryOfLog, IsHistoryOfNew};
+ghost use Rattle.command_run.specs.Logs.{IsHistoryOfOld, IsHistoryOfPath, LacksLog, OpensLog, StepsWith, RecoversRun};
+ghost use Rattle.command_run.specs.Logs.{ReplaysEvents, bytes_in, digits_in, log_command_fault, logged_command_fault};
 ghost use Rattle.cell_drive.specs.Replay.{replay_text};
 ghost use Rattle.command_run.specs.Program.{RunsLoggedDrive};
 
@@ -163,7 +168,8 @@ fn drive_with<R: Source, W: BufferedSink + Drop, D: LogFile + Drop, B: InitialSt
     requires before { AreInitial B.before (D.seen log) streams.output.written }
     requires line { IfSome B.before (λ told. told.0 ≡ plan_line (digits_in begun.verified.planned)) }
     requires shown { streams.output.pending ≡ [] }
-    ensures drove { StepsWith D.seen D.crash_states D.fault D.written B.before streams result.outcome result.streams result.driven result.log
+    ensures drove { StepsWith D.seen D.crash_states D.fault D.written B.before
+        streams result.outcome result.streams result.driven result.log
         (DrivesWithLog begun.verified.planned [] (IsDriveIn begun.protocol begun.verified) end_of_drive) }
 {
     let Streams { mut input, output } = streams;
@@ -196,7 +202,8 @@ fn go_on_with<R: Source, W: BufferedSink + Drop, D: LogFile + Drop, B: InitialSt
     requires before { AreInitial B.before (D.seen log) streams.output.written }
     requires recoverable { IfSome B.before (λ told. IsRecoveredFromLog run told.0) }
     requires shown { streams.output.pending ≡ [] }
-    ensures went_on { StepsWith D.seen D.crash_states D.fault D.written B.before streams result.outcome result.streams result.driven result.log
+    ensures went_on { StepsWith D.seen D.crash_states D.fault D.written
+        B.before streams result.outcome result.streams result.driven result.log
         (DrivesWithLog (plan_of run) (replayed_events run) (IsGoneOnIn protocol run) end_of_rest) }
 {
     let Streams { mut input, output } = streams;
@@ -221,7 +228,8 @@ fn show_again<W: BufferedSink>(
     protocol: Protocol,
     output: &mut W,
 ) -> Result<Replayed, DriveFault>
-    ensures { ReplaysEvents protocol taken (output_of W.Sink W.pending output.old) (output_of W.Sink W.pending output.new) result }
+    ensures { ReplaysEvents protocol taken (output_of W.Sink W.pending output.old)
+        (output_of W.Sink W.pending output.new) result }
 {
     match replay_in(taken, protocol, output) {
         Ok(run) => match output.flush() {
@@ -244,9 +252,10 @@ fn replay_and_continue<R: Source, W: BufferedSink + Drop, D: LogFile + Drop, B: 
     requires ready { IsReady (D.seen log) (D.crash_states log) (D.fault log) }
     requires seen { IfSome B.before (λ told. D.seen log ≡ Some told.0) }
     requires recoverable { IfSome B.before (λ told. IsRecoveredFromLog recovered_log.recovered told.0) }
-    requires output { IfSome B.before (λ told. IsWrittenBehind streams.output.written (replay_text protocol recovered_log.recovered) told.1) }
-    ensures went_on { StepsWith D.seen D.crash_states D.fault D.written B.before streams result.outcome result.streams result.driven result.log
-        (GoesOnWithLog protocol recovered_log.recovered) }
+    requires output { IfSome B.before
+        (λ told. IsWrittenBehind streams.output.written (replay_text protocol recovered_log.recovered) told.1) }
+    ensures went_on { StepsWith D.seen D.crash_states D.fault D.written B.before streams result.outcome result.streams
+        result.driven result.log (GoesOnWithLog protocol recovered_log.recovered) }
 {
     let RecoveredLog {
         recovered: taken,
@@ -272,8 +281,8 @@ fn replay_and_continue<R: Source, W: BufferedSink + Drop, D: LogFile + Drop, B: 
     }
 }
 
-/// Takes up the run in a log that has bytes by the plan with these digits, and goes on with it; why it isn't taken up is the
-/// answer.
+/// Takes up the run in a log that has bytes by the plan with these digits, and goes on with it; why it isn't taken up
+/// is the answer.
 fn take_up_with<R: Source, W: BufferedSink + Drop, D: LogFile + Drop, B: InitialState>(
     alloc: Global,
     shaped: Shaped,
@@ -291,8 +300,10 @@ fn take_up_with<R: Source, W: BufferedSink + Drop, D: LogFile + Drop, B: Initial
     requires unwritten { D.written log ≡ false }
     requires read { IfSome (D.seen log) (λ file. text.now ≡ file) }
     requires within { length text.now ≤ MAX_INPUT }
-    requires told { IfSome B.before (λ told. (D.seen log ≡ Some text.now) × IsHistoryOfOld shaped protocol at text.now streams.output.written told) }
-    ensures took_up { StepsWith D.seen D.crash_states D.fault D.written B.before streams result.outcome result.streams result.driven result.log (RecoversRun shaped protocol at text.now) }
+    requires told { IfSome B.before (λ told.
+        (D.seen log ≡ Some text.now) × IsHistoryOfOld shaped protocol at text.now streams.output.written told) }
+    ensures took_up { StepsWith D.seen D.crash_states D.fault D.written B.before streams result.outcome result.streams
+        result.driven result.log (RecoversRun shaped protocol at text.now) }
 {
     let mut log = log;
     match recover_log(alloc, shaped, &mut log, text, at, digits) {
@@ -313,8 +324,8 @@ fn take_up_with<R: Source, W: BufferedSink + Drop, D: LogFile + Drop, B: Initial
     }
 }
 
-/// Drives the cell of an accepted plan with the log of this path, which has no bytes, and gets the line of the plan: the one
-/// that was opened, or one that is made.
+/// Drives the cell of an accepted plan with the log of this path, which has no bytes, and gets the line of the plan:
+/// the one that was opened, or one that is made.
 fn drive_new<R: Source, W: BufferedSink + Drop, L: Logs, B: InitialState>(
     alloc: Global,
     begun: Begun,
@@ -327,12 +338,15 @@ fn drive_new<R: Source, W: BufferedSink + Drop, L: Logs, B: InitialState>(
     before: B,
 ) -> LoggedRun<R, W, L::Log>
     requires digits { digits.now ≡ digits_in begun.verified.planned }
-    requires empty { IfSome opened (λ log. IsEmptyLog (L.Log.seen log) (L.Log.crash_states log) (L.Log.fault log) (L.Log.written log) (L.folder logs.old)) }
+    requires empty { IfSome opened (λ log. IsEmptyLog (L.Log.seen log) (L.Log.crash_states log) (L.Log.fault log)
+        (L.Log.written log) (L.folder logs.old)) }
     requires shown { streams.output.pending ≡ [] }
     requires told { IfSome B.before (IsHistoryOfNew (L.folder logs.old) begun.verified.planned streams.output.written) }
-    ensures drove { StepsWith L.Log.seen L.Log.crash_states L.Log.fault L.Log.written B.before streams result.outcome result.streams result.driven result.log
+    ensures drove { StepsWith L.Log.seen L.Log.crash_states L.Log.fault L.Log.written
+        B.before streams result.outcome result.streams result.driven result.log
         (λ step. LacksLog (L.folder logs.old) (L.folder logs.new) path.now begun.verified.planned (is_some opened) step
-        ⊎ BeginsRun (L.folder logs.old) (L.folder logs.new) path.now begun.protocol (is_some opened) begun.verified step) }
+        ⊎ BeginsRun (L.folder logs.old) (L.folder logs.new) path.now begun.protocol
+        (is_some opened) begun.verified step) }
 {
     match new_log(logs, path, opened, digits) {
         Ok(log) => drive_with(alloc, begun, room, log, streams, before),
@@ -371,10 +385,12 @@ fn begin_accepted<R: Source, W: BufferedSink + Drop, L: Logs, B: InitialState>(
     before: B,
 ) -> LoggedRun<R, W, L::Log>
     requires digits { digits.now ≡ digits_in verified.planned }
-    requires empty { IfSome opened (λ log. IsEmptyLog (L.Log.seen log) (L.Log.crash_states log) (L.Log.fault log) (L.Log.written log) (L.folder logs.old)) }
+    requires empty { IfSome opened (λ log. IsEmptyLog (L.Log.seen log) (L.Log.crash_states log) (L.Log.fault log)
+        (L.Log.written log) (L.folder logs.old)) }
     requires shown { streams.output.pending ≡ [] }
     requires told { IfSome B.before (IsHistoryOfNew (L.folder logs.old) verified.planned streams.output.written) }
-    ensures began { StepsWith L.Log.seen L.Log.crash_states L.Log.fault L.Log.written B.before streams result.outcome result.streams result.driven result.log
+    ensures began { StepsWith L.Log.seen L.Log.crash_states L.Log.fault L.Log.written
+        B.before streams result.outcome result.streams result.driven result.log
         (BeginsAccepted (L.folder logs.old) (L.folder logs.new) path.now protocol (is_some opened) verified) }
 {
     match begun_with_room(alloc, verified, protocol) {
@@ -390,8 +406,8 @@ fn begin_accepted<R: Source, W: BufferedSink + Drop, L: Logs, B: InitialState>(
     }
 }
 
-/// Begins a run by a plan that was judged, with the log of this path, which has no bytes: if the plan is accepted; else its
-/// line is the answer, and no log is made.
+/// Begins a run by a plan that was judged, with the log of this path, which has no bytes: if the plan is accepted; else
+/// its line is the answer, and no log is made.
 fn begin_by<R: Source, W: BufferedSink + Drop, L: Logs, B: InitialState>(
     alloc: Global,
     verdict: Verdict,
@@ -404,10 +420,12 @@ fn begin_by<R: Source, W: BufferedSink + Drop, L: Logs, B: InitialState>(
     before: B,
 ) -> LoggedRun<R, W, L::Log>
     requires digits { digits.now ≡ digits_in (judged verdict) }
-    requires empty { IfSome opened (λ log. IsEmptyLog (L.Log.seen log) (L.Log.crash_states log) (L.Log.fault log) (L.Log.written log) (L.folder logs.old)) }
+    requires empty { IfSome opened (λ log. IsEmptyLog (L.Log.seen log) (L.Log.crash_states log) (L.Log.fault log)
+        (L.Log.written log) (L.folder logs.old)) }
     requires shown { streams.output.pending ≡ [] }
     requires told { IfSome B.before (IsHistoryOfNew (L.folder logs.old) (judged verdict) streams.output.written) }
-    ensures began { StepsWith L.Log.seen L.Log.crash_states L.Log.fault L.Log.written B.before streams result.outcome result.streams result.driven result.log
+    ensures began { StepsWith L.Log.seen L.Log.crash_states L.Log.fault L.Log.written
+        B.before streams result.outcome result.streams result.driven result.log
         (BeginsBy (L.folder logs.old) (L.folder logs.new) path.now protocol (is_some opened) verdict) }
 {
     match verdict {
@@ -441,10 +459,12 @@ fn begin<R: Source, W: BufferedSink + Drop, L: Logs, B: InitialState>(
     before: B,
 ) -> LoggedRun<R, W, L::Log>
     requires digits { digits.now ≡ digits_in shaped }
-    requires empty { IfSome opened (λ log. IsEmptyLog (L.Log.seen log) (L.Log.crash_states log) (L.Log.fault log) (L.Log.written log) (L.folder logs.old)) }
+    requires empty { IfSome opened (λ log. IsEmptyLog (L.Log.seen log) (L.Log.crash_states log) (L.Log.fault log)
+        (L.Log.written log) (L.folder logs.old)) }
     requires shown { streams.output.pending ≡ [] }
     requires told { IfSome B.before (IsHistoryOfNew (L.folder logs.old) shaped streams.output.written) }
-    ensures began { StepsWith L.Log.seen L.Log.crash_states L.Log.fault L.Log.written B.before streams result.outcome result.streams result.driven result.log
+    ensures began { StepsWith L.Log.seen L.Log.crash_states L.Log.fault L.Log.written
+        B.before streams result.outcome result.streams result.driven result.log
         (Begins (L.folder logs.old) (L.folder logs.new) path.now protocol shaped (is_some opened)) }
 {
     match verify(alloc, shaped) {
@@ -483,8 +503,8 @@ fn log_found<D: LogFile + Drop>(found: FoundLog<D>) -> Option<D>
     }
 }
 
-/// Drives the cell of a plan with the log that was found by this path: from its start where there is none or it has no bytes,
-/// else from what the log tells. Why it isn't as the words ask is answered before.
+/// Drives the cell of a plan with the log that was found by this path: from its start where there is none or it has no
+/// bytes, else from what the log tells. Why it isn't as the words ask is answered before.
 fn drive_found<R: Source, W: BufferedSink + Drop, L: Logs, B: InitialState>(
     alloc: Global,
     shaped: Shaped,
@@ -501,10 +521,13 @@ fn drive_found<R: Source, W: BufferedSink + Drop, L: Logs, B: InitialState>(
     requires digits { digits.now ≡ digits_in shaped }
     requires at_most { IfSome at (λ present. present ≤ MAX_MOMENT) }
     requires shown { streams.output.pending ≡ [] }
-    requires found { IfSome found (λ there. IsFoundLog (L.Log.seen there.0) (L.Log.crash_states there.0) (L.Log.fault there.0) (L.Log.written there.0) (L.folder logs.old) there.1) }
-    requires told { IfSome B.before (IsHistoryOfFound (L.folder logs.old) shaped protocol at (option_map (λ there. there.1) found) streams.output.written) }
-    ensures drove { StepsWith L.Log.seen L.Log.crash_states L.Log.fault L.Log.written B.before streams result.outcome result.streams result.driven result.log
-        (DrivesFound (L.folder logs.old) (L.folder logs.new) path.now start protocol at shaped (option_map (λ there. there.1) found)) }
+    requires found { IfSome found (λ there. IsFoundLog (L.Log.seen there.0) (L.Log.crash_states there.0)
+        (L.Log.fault there.0) (L.Log.written there.0) (L.folder logs.old) there.1) }
+    requires told { IfSome B.before (IsHistoryOfFound (L.folder logs.old) shaped protocol at
+        (option_map (λ there. there.1) found) streams.output.written) }
+    ensures drove { StepsWith L.Log.seen L.Log.crash_states L.Log.fault L.Log.written B.before streams
+        result.outcome result.streams result.driven result.log (DrivesFound (L.folder logs.old)
+        (L.folder logs.new) path.now start protocol at shaped (option_map (λ there. there.1) found)) }
 {
     match misfit_of(start, run_found(&found), digits) {
         Some(misfit) => LoggedRun {
@@ -535,10 +558,13 @@ fn drive_fitting<R: Source, W: BufferedSink + Drop, L: Logs, B: InitialState>(
     requires digits { digits.now ≡ digits_in shaped }
     requires at_most { IfSome at (λ present. present ≤ MAX_MOMENT) }
     requires shown { streams.output.pending ≡ [] }
-    requires found { IfSome found (λ there. IsFoundLog (L.Log.seen there.0) (L.Log.crash_states there.0) (L.Log.fault there.0) (L.Log.written there.0) (L.folder logs.old) there.1) }
-    requires told { IfSome B.before (IsHistoryOfFound (L.folder logs.old) shaped protocol at (option_map (λ there. there.1) found) streams.output.written) }
-    ensures drove { StepsWith L.Log.seen L.Log.crash_states L.Log.fault L.Log.written B.before streams result.outcome result.streams result.driven result.log
-        (DrivesFitting (L.folder logs.old) (L.folder logs.new) path.now protocol at shaped (option_map (λ there. there.1) found)) }
+    requires found { IfSome found (λ there. IsFoundLog (L.Log.seen there.0) (L.Log.crash_states there.0)
+        (L.Log.fault there.0) (L.Log.written there.0) (L.folder logs.old) there.1) }
+    requires told { IfSome B.before (IsHistoryOfFound (L.folder logs.old) shaped protocol at
+        (option_map (λ there. there.1) found) streams.output.written) }
+    ensures drove { StepsWith L.Log.seen L.Log.crash_states L.Log.fault L.Log.written B.before streams
+        result.outcome result.streams result.driven result.log (DrivesFitting (L.folder logs.old)
+        (L.folder logs.new) path.now protocol at shaped (option_map (λ there. there.1) found)) }
 {
     match found {
         None => begin(
@@ -567,9 +593,12 @@ fn drive_there<R: Source, W: BufferedSink + Drop, L: Logs, B: InitialState>(
     requires digits { digits.now ≡ digits_in shaped }
     requires at_most { IfSome at (λ present. present ≤ MAX_MOMENT) }
     requires shown { streams.output.pending ≡ [] }
-    requires found { IsFoundLog (L.Log.seen log) (L.Log.crash_states log) (L.Log.fault log) (L.Log.written log) (L.folder logs.old) text }
-    requires told { IfSome B.before (IsHistoryOfFound (L.folder logs.old) shaped protocol at (Some text) streams.output.written) }
-    ensures drove { StepsWith L.Log.seen L.Log.crash_states L.Log.fault L.Log.written B.before streams result.outcome result.streams result.driven result.log
+    requires found { IsFoundLog (L.Log.seen log) (L.Log.crash_states log) (L.Log.fault log) (L.Log.written log)
+        (L.folder logs.old) text }
+    requires told { IfSome B.before
+        (IsHistoryOfFound (L.folder logs.old) shaped protocol at (Some text) streams.output.written) }
+    ensures drove { StepsWith L.Log.seen L.Log.crash_states L.Log.fault L.Log.written
+        B.before streams result.outcome result.streams result.driven result.log
         (DrivesFitting (L.folder logs.old) (L.folder logs.new) path.now protocol at shaped (Some text)) }
 {
     if text.is_empty() {
@@ -599,8 +628,10 @@ fn open_and_drive<R: Source, W: BufferedSink + Drop, L: Logs, B: InitialState>(
     requires digits { digits.now ≡ digits_in shaped }
     requires at_most { IfSome at (λ present. present ≤ MAX_MOMENT) }
     requires shown { streams.output.pending ≡ [] }
-    requires told { IfSome B.before (IsHistoryOfPath (L.folder logs.old) path.now shaped protocol at streams.output.written) }
-    ensures drove { StepsWith L.Log.seen L.Log.crash_states L.Log.fault L.Log.written B.before streams result.outcome result.streams result.driven result.log
+    requires told { IfSome B.before
+        (IsHistoryOfPath (L.folder logs.old) path.now shaped protocol at streams.output.written) }
+    ensures drove { StepsWith L.Log.seen L.Log.crash_states L.Log.fault L.Log.written
+        B.before streams result.outcome result.streams result.driven result.log
         (OpensLog (L.folder logs.old) (L.folder logs.new) path.now start protocol at shaped) }
 {
     match open_log(alloc, logs, path) {
@@ -630,8 +661,10 @@ fn drive_by_log<R: Source, W: BufferedSink + Drop, L: Logs, B: InitialState>(
 ) -> LoggedRun<R, W, L::Log>
     requires at_most { IfSome at (λ present. present ≤ MAX_MOMENT) }
     requires shown { streams.output.pending ≡ [] }
-    requires told { IfSome B.before (IsHistoryOfPath (L.folder logs.old) path.now shaped protocol at streams.output.written) }
-    ensures drove { StepsWith L.Log.seen L.Log.crash_states L.Log.fault L.Log.written B.before streams result.outcome result.streams result.driven result.log
+    requires told { IfSome B.before
+        (IsHistoryOfPath (L.folder logs.old) path.now shaped protocol at streams.output.written) }
+    ensures drove { StepsWith L.Log.seen L.Log.crash_states L.Log.fault L.Log.written
+        B.before streams result.outcome result.streams result.driven result.log
         (DrivesByLog (L.folder logs.old) (L.folder logs.new) path.now start protocol at shaped) }
 {
     match run_digits(alloc, shaped.shop(), shaped.plan()) {
@@ -647,8 +680,8 @@ fn drive_by_log<R: Source, W: BufferedSink + Drop, L: Logs, B: InitialState>(
     }
 }
 
-/// Reads a plan, and if it is well shaped drives its cell with the log of this path, to the end of the input; else its first
-/// fault is the answer, and no log is opened.
+/// Reads a plan, and if it is well shaped drives its cell with the log of this path, to the end of the input; else its
+/// first fault is the answer, and no log is opened.
 pub(crate) fn logged_answer<T: Texts, R: Source, W: BufferedSink + Drop, L: Logs, B: InitialState>(
     alloc: Global,
     texts: &mut T,
@@ -663,9 +696,11 @@ pub(crate) fn logged_answer<T: Texts, R: Source, W: BufferedSink + Drop, L: Logs
 ) -> LoggedRun<R, W, L::Log>
     requires at_most { IfSome at (λ present. present ≤ MAX_MOMENT) }
     requires shown { streams.output.pending ≡ [] }
-    requires told { IfSome B.before (IsHistoryOfLog T.gives (L.folder logs.old) pair.now path.now protocol at texts.old streams.output.written) }
-    ensures runs { StepsWith L.Log.seen L.Log.crash_states L.Log.fault L.Log.written B.before streams result.outcome result.streams result.driven result.log
-        (λ step. RunsLoggedDrive T.gives (L.folder logs.old) (L.folder logs.new) path.now start protocol at pair.now texts.old step texts.new) }
+    requires told { IfSome B.before
+        (IsHistoryOfLog T.gives (L.folder logs.old) pair.now path.now protocol at texts.old streams.output.written) }
+    ensures runs { StepsWith L.Log.seen L.Log.crash_states L.Log.fault L.Log.written B.before streams
+        result.outcome result.streams result.driven result.log (λ step. RunsLoggedDrive T.gives (L.folder logs.old)
+        (L.folder logs.new) path.now start protocol at pair.now texts.old step texts.new) }
 {
     match shape_files(alloc, texts, pair) {
         Ok(Ok(shaped)) => drive_by_log(

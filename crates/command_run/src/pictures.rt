@@ -4,7 +4,8 @@ ghost use Rattle.std.specs.Prelude.{◌≤◌, IfSome};
 ghost use Rattle.std.specs.Option.{option_copied};
 ghost use Rattle.shop_base.specs.declared.limits.TheConstants.{MAX_MOMENT};
 ghost use Rattle.command_run.specs.Streams.{output_of};
-ghost use Rattle.command_run.specs.Pictures.{Draws, DrawsTimetable, IsPictureOut, RunsDrawing, RunsTimetable, AnswersMoves};
+ghost use Rattle.command_run.specs.Pictures.{Draws, DrawsTimetable, IsPictureOut, RunsDrawing};
+ghost use Rattle.command_run.specs.Pictures.{RunsTimetable, AnswersMoves};
 
 use crate::devices::Streams;
 use crate::tellings::plan_answer;
@@ -40,7 +41,8 @@ pub(crate) fn timetable_answer<T: Texts, R: Source, W: BufferedSink>(
     streams: &mut Streams<R, W>,
 ) -> Answered
     requires { IfSome at (λ present. present ≤ MAX_MOMENT) }
-    ensures { RunsTimetable T.gives form at pair.now (option_copied names.entry) (option_copied log.entry) texts.old streams.old result texts.new streams.new }
+    ensures { RunsTimetable T.gives form at pair.now (option_copied names.entry)
+        (option_copied log.entry) texts.old streams.old result texts.new streams.new }
 {
     match form {
         Timetable::Moments => {
@@ -64,7 +66,8 @@ fn answer_moves<T: Texts>(
     at: Option<Moment>,
 ) -> Answered
     requires { IfSome at (λ present. present ≤ MAX_MOMENT) }
-    ensures { AnswersMoves T.gives at pair.now (option_copied names.entry) (option_copied log.entry) texts.old result texts.new }
+    ensures { AnswersMoves T.gives at pair.now (option_copied names.entry)
+        (option_copied log.entry) texts.old result texts.new }
 {
     match log {
         Some(log) => rest_moves_answer(alloc, texts, pair, names, log, at),
@@ -82,7 +85,8 @@ fn timetable_drawn<T: Texts>(
     at: Option<Moment>,
 ) -> Outcome<Drawn>
     requires { IfSome at (λ present. present ≤ MAX_MOMENT) }
-    ensures { DrawsTimetable T.gives at pair.now (option_copied names.entry) (option_copied log.entry) texts.old result texts.new }
+    ensures { DrawsTimetable T.gives at pair.now (option_copied names.entry)
+        (option_copied log.entry) texts.old result texts.new }
 {
     match log {
         Some(log) => rest_picture(alloc, texts, pair, names, log, at),
@@ -100,7 +104,8 @@ pub(crate) fn drawing_answer<T: Texts, R: Source, W: BufferedSink>(
     svg: bool,
     streams: &mut Streams<R, W>,
 ) -> Answered
-    ensures { RunsDrawing T.gives svg pair.now (option_copied names.entry) log.now texts.old streams.old result texts.new streams.new }
+    ensures { RunsDrawing T.gives svg pair.now
+        (option_copied names.entry) log.now texts.old streams.old result texts.new streams.new }
 {
     if svg {
         let drawn = log_picture(alloc, texts, pair, names, log);
@@ -134,7 +139,8 @@ fn put_picture<W: BufferedSink>(
     status: u8,
     output: &mut W,
 ) -> Answered
-    ensures { IsPictureOut picture.now status (output_of W.Sink W.pending output.old) (output_of W.Sink W.pending output.new) result }
+    ensures { IsPictureOut picture.now status (output_of W.Sink W.pending output.old)
+        (output_of W.Sink W.pending output.new) result }
 {
     match picture.put(output) {
         Ok(()) => match output.flush() {

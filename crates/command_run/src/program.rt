@@ -5,7 +5,8 @@ ghost use Rattle.command_words.specs.Choice.{IsWithin};
 ghost use Rattle.command_run.specs.Logs.{WithLog};
 ghost use Rattle.command_run.specs.Streams.{errors_of};
 ghost use Rattle.command_run.specs.Ending.{EndsBy};
-ghost use Rattle.command_run.specs.Program.{Commands, Follows, IsHistoryOfChosen, IsHistoryOfWords, RunsProgram, draws_in, kept_log_in, starts_again};
+ghost use Rattle.command_run.specs.Program.{Commands, Follows, IsHistoryOfChosen, IsHistoryOfWords};
+ghost use Rattle.command_run.specs.Program.{RunsProgram, draws_in, kept_log_in, starts_again};
 
 use crate::command::{command, kept_log, pair, protocol};
 use crate::devices::{Devices, Screen, Streams};
@@ -19,8 +20,8 @@ use run_journal::{InitialState, Logs};
 use run_log::Sink;
 use std::alloc::Global;
 
-/// Runs the program on the words of a command line, the program's name first. It gives the status that it ends with, the
-/// devices, and the log that it opened or made, if it did. What is known of that log stands for a type.
+/// Runs the program on the words of a command line, the program's name first. It gives the status that it ends with,
+/// the devices, and the log that it opened or made, if it did. What is known of that log stands for a type.
 pub fn run<
     T: Texts,
     R: Source,
@@ -39,7 +40,8 @@ pub fn run<
     requires told { IfSome B.before (IsHistoryOfWords T.gives (map (λ word. word.now) words.now) devices) }
 
     // What a crash leaves of the log has all that was shown. Where the status is 0 or 1, the log has it on the disk.
-    ensures runs { WithLog L.Log.seen L.Log.crash_states L.Log.fault L.Log.written B.before result.1.streams.output.written (result.0 ≤ 1) result.2
+    ensures runs { WithLog L.Log.seen L.Log.crash_states L.Log.fault L.Log.written
+        B.before result.1.streams.output.written (result.0 ≤ 1) result.2
         (RunsProgram T.gives (map (λ word. word.now) words.now) devices result.0 result.1) }
 {
     let mut devices = devices;
@@ -70,7 +72,8 @@ fn follow<
     requires within { IsWithin chosen.now }
     requires shown { devices.streams.output.pending ≡ [] }
     requires told { IfSome B.before (IsHistoryOfChosen T.gives chosen.now devices) }
-    ensures runs { WithLog L.Log.seen L.Log.crash_states L.Log.fault L.Log.written B.before result.1.streams.output.written (result.0 ≤ 1) result.2
+    ensures runs { WithLog L.Log.seen L.Log.crash_states L.Log.fault L.Log.written
+        B.before result.1.streams.output.written (result.0 ≤ 1) result.2
         (Commands T.gives chosen.now devices result.0 result.1) }
 {
     match kept_log(chosen) {
@@ -95,7 +98,8 @@ fn drive_logged<T: Texts, R: Source, W: BufferedSink + Drop, E: Sink, S, L: Logs
     requires kept { kept_log_in chosen.now ≡ Some path.now }
     requires shown { devices.streams.output.pending ≡ [] }
     requires told { IfSome B.before (IsHistoryOfChosen T.gives chosen.now devices) }
-    ensures runs { WithLog L.Log.seen L.Log.crash_states L.Log.fault L.Log.written B.before result.1.streams.output.written (result.0 ≤ 1) result.2
+    ensures runs { WithLog L.Log.seen L.Log.crash_states L.Log.fault L.Log.written
+        B.before result.1.streams.output.written (result.0 ≤ 1) result.2
         (Commands T.gives chosen.now devices result.0 result.1) }
 {
     let Devices {
@@ -136,8 +140,8 @@ fn drive_logged<T: Texts, R: Source, W: BufferedSink + Drop, E: Sink, S, L: Logs
     (status, devices, log)
 }
 
-/// Whether it is right to start a driven cell with a log again, where it ends with a fault: if the output couldn't be written,
-/// another process has the log, or the input couldn't be read to its end.
+/// Whether it is right to start a driven cell with a log again, where it ends with a fault: if the output couldn't be
+/// written, another process has the log, or the input couldn't be read to its end.
 fn starts_again(outcome: &Answered, driven: bool) -> bool
     ensures { result ≡ starts_again driven outcome.now }
 {
@@ -148,8 +152,8 @@ fn starts_again(outcome: &Answered, driven: bool) -> bool
     }
 }
 
-/// The status that a driven cell with a log ends with, in place of that of a fault: whatever runs it as a service tells by it
-/// whether to start it again.
+/// The status that a driven cell with a log ends with, in place of that of a fault: whatever runs it as a service tells
+/// by it whether to start it again.
 fn status_with_log(own: u8, again: bool) -> u8
     ensures { result ≡ (if own == 5 && again then 6 else own) }
 {
@@ -186,7 +190,8 @@ fn end_chosen<R: Source, W: BufferedSink, E: Sink>(
     streams: &mut Streams<R, W>,
     errors: &mut E,
 ) -> u8
-    ensures ends { EndsBy (draws_in chosen.now) outcome streams.old.output streams.new.output (errors_of E.Sink errors.old) (errors_of E.Sink errors.new) result }
+    ensures ends { EndsBy (draws_in chosen.now) outcome streams.old.output streams.new.output
+        (errors_of E.Sink errors.old) (errors_of E.Sink errors.new) result }
     ensures input { streams.new.input ≡ streams.old.input }
 {
     if draws(chosen) {

@@ -22,7 +22,8 @@ pub(crate) fn plan_answer<T: Texts>(
     wanted: PlanAnswer,
 ) -> Answered
     requires { IfSome at (λ present. present ≤ MAX_MOMENT) }
-    ensures { RunsPlanAnswer T.gives wanted at pair.now (option_copied names.entry) (option_copied log.entry) texts.old result texts.new }
+    ensures { RunsPlanAnswer T.gives wanted at pair.now (option_copied names.entry)
+        (option_copied log.entry) texts.old result texts.new }
 {
     match log {
         Some(log) => rest_answer(alloc, texts, pair, names, log, at, wanted),

@@ -1,5 +1,5 @@
-//! What the calls behind the commands answer, with ample memory, over a shelf of files. What whole commands write is shown
-//! on the built program, by `tests/commands/golden` and `tests/commands/command-lines`.
+//! What the calls behind the commands answer, with ample memory, over a shelf of files. What whole commands write is
+//! shown on the built program, by `tests/commands/golden` and `tests/commands/command-lines`.
 
 use super::shelf::{PAIR, Shelf};
 use super::texts::{IN_TIME, TWO};

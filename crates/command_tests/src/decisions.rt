@@ -1,5 +1,5 @@
-//! What is decided of budgets, over a shelf of files and of a plan alone. Whole answers of other kinds are shown on the built
-//! program, by `tests/commands/golden` and `tests/commands/command-lines`.
+//! What is decided of budgets, over a shelf of files and of a plan alone. Whole answers of other kinds are shown on the
+//! built program, by `tests/commands/golden` and `tests/commands/command-lines`.
 
 use super::answers::tells;
 use super::shelf::{PAIR, Shelf};

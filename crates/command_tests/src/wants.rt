@@ -1,6 +1,6 @@
-//! Calls that are wanting memory, and then are made again. `tests/crashes/refused-memory` runs these tests again and again, and
-//! refuses each request for memory between an announcement and its answer in turn. Where none is refused, they show the
-//! answers of calls that have all memory.
+//! Calls that are wanting memory, and then are made again. `tests/crashes/refused-memory` runs these tests again and
+//! again, and refuses each request for memory between an announcement and its answer in turn. Where none is refused,
+//! they show the answers of calls that have all memory.
 
 use super::decisions::decided;
 use super::texts::{CLEANED, CROSSED, IN_TIME, LATE, TWO};

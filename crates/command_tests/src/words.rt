@@ -1,5 +1,5 @@
-//! What the words of a command line choose, with ample memory. How each command takes its words, and what is said of others,
-//! is shown on the built program, by `tests/commands/command-lines` and `tests/commands/golden`.
+//! What the words of a command line choose, with ample memory. How each command takes its words, and what is said of
+//! others, is shown on the built program, by `tests/commands/command-lines` and `tests/commands/golden`.
 
 use command_words::{CommandName, read_words};
 use std::test::Fail;

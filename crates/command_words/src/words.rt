@@ -1,13 +1,19 @@
 //! The words of the command line, and what they ask for.
 
-ghost use Rattle.std.specs.Prelude.{◌≡◌, ◌≤◌, ◌++◌, [], true, false, IfOk, IfErr, IfSome, MatchOption, OnOk, Some, codes, map, option_map, is_some};
+ghost use Rattle.std.specs.Prelude.{◌≡◌, ◌≤◌, ◌++◌, [], true, false, IfOk, IfErr, IfSome, MatchOption};
+ghost use Rattle.std.specs.Prelude.{OnOk, Some, codes, map, option_map, is_some};
 ghost use Rattle.std.specs.String.{string_bytes};
 ghost use Rattle.text_lines.specs.Numbers.{value_of};
 ghost use Rattle.clap.specs.Words.{first_of, found_of, kind_of, one_of, rows_of, subcommand_rows_of};
 ghost use Rattle.command_words.specs.declared.words.CommandName.{CommandName};
 ghost use Rattle.command_words.specs.CommandLine.{most_rounds, greatest_seed, most_choices, latest_moment};
 ghost use Rattle.command_words.specs.Given.{is_moment, is_number, values_of};
-ghost use Rattle.command_words.specs.Choice.{FitsBetween, IsChoiceOf, IsFit, IsWithin, NamesOneOf, NamesReason, are_both, at_in, choices_in, decision_misfit, are_both_set, files_in, first_given, found_in, is_set, job_in, job_misfit, kept_in, leap_in, leap_misfit, lines_in, lines_misfit, log_given, misfit_in, misfit_of, misfits_of, moves_in, moves_misfit, number_misfit, reasons_in, rounds_in, seed_in, texts_of, version_of, word_of};
+ghost use Rattle.command_words.specs.Choice.{FitsBetween, IsChoiceOf, IsFit, IsWithin, NamesOneOf, NamesReason};
+ghost use Rattle.command_words.specs.Choice.{are_both, at_in, choices_in, decision_misfit, are_both_set, files_in};
+ghost use Rattle.command_words.specs.Choice.{first_given, found_in, is_set, job_in, job_misfit, kept_in, leap_in};
+ghost use Rattle.command_words.specs.Choice.{leap_misfit, lines_in, lines_misfit, log_given, misfit_in, misfit_of};
+ghost use Rattle.command_words.specs.Choice.{misfits_of, moves_in, moves_misfit, number_misfit, reasons_in, rounds_in};
+ghost use Rattle.command_words.specs.Choice.{seed_in, texts_of, version_of, word_of};
 
 mod changes;
 mod command_line;
@@ -186,8 +192,9 @@ impl From<Refusal> for WordsFault {
 /// the choices from 1 to 1,000,000,000, and the moment, a number of 1 to 13 digits, at most 1,000,000,000,000. Exactly
 /// these are refused: what `clap` refuses, a moment that isn't one, or that comes without a log, a version of the lines
 /// or a longest time that isn't one, a job that isn't a number of 1 to 9 digits, or that comes with the least makespan,
-/// moves that come with a picture, a beginning that comes without a log to keep, or of a log that is to be new and to have
-/// begun, a change that isn't one, and a release or a budget that goes with no job that is added, or with one that has it.
+/// moves that come with a picture, a beginning that comes without a log to keep, or of a log that is to be new and to
+/// have begun, a change that isn't one, and a release or a budget that goes with no job that is added, or with one that
+/// has it.
 pub fn read_words(alloc: Global, words: &[&str]) -> Result<Chosen, WordsFault>
     ensures chosen { let given = map (λ word. word.now) words.now in IfOk result (IsChoiceOf given (found_in given)) }
     ensures within { IfOk result IsWithin }
@@ -217,8 +224,10 @@ fn chosen_by(alloc: Global, words: &[&str], matches: &ArgMatches<'_>) -> Result<
     requires { IsFit (subcommand_rows_of matches.now) }
     ensures holds { IfOk result (IsChoiceOf (map (λ word. word.now) words.now) (subcommand_rows_of matches.now)) }
     ensures within { IfOk result IsWithin }
-    ensures fits { IfOk result (λ _. misfit_in (map (λ word. word.now) words.now) (subcommand_rows_of matches.now) ≡ []) }
-    ensures refused { IfErr result (NamesOneOf (misfit_in (map (λ word. word.now) words.now) (subcommand_rows_of matches.now))) }
+    ensures fits { IfOk result
+        (λ _. misfit_in (map (λ word. word.now) words.now) (subcommand_rows_of matches.now) ≡ []) }
+    ensures refused { IfErr result
+        (NamesOneOf (misfit_in (map (λ word. word.now) words.now) (subcommand_rows_of matches.now))) }
 {
     match matches.subcommand() {
         Some((word, matches)) => chosen_of(alloc, words, word, matches),
@@ -254,10 +263,13 @@ fn chosen_of(
     matches: &ArgMatches<'_>,
 ) -> Result<Chosen, WordsFault>
     requires { IsFit (Some (word.now, rows_of (found_of matches.now))) }
-    ensures holds { IfOk result (IsChoiceOf (map (λ given. given.now) words.now) (Some (word.now, rows_of (found_of matches.now)))) }
+    ensures holds { IfOk result
+        (IsChoiceOf (map (λ given. given.now) words.now) (Some (word.now, rows_of (found_of matches.now)))) }
     ensures within { IfOk result IsWithin }
-    ensures fits { IfOk result (λ _. misfit_in (map (λ given. given.now) words.now) (Some (word.now, rows_of (found_of matches.now))) ≡ []) }
-    ensures refused { IfErr result (NamesOneOf (misfit_in (map (λ given. given.now) words.now) (Some (word.now, rows_of (found_of matches.now))))) }
+    ensures fits { IfOk result
+        (λ _. misfit_in (map (λ given. given.now) words.now) (Some (word.now, rows_of (found_of matches.now))) ≡ []) }
+    ensures refused { IfErr result (NamesOneOf
+        (misfit_in (map (λ given. given.now) words.now) (Some (word.now, rows_of (found_of matches.now))))) }
 {
     Ok(Chosen {
         name: name_of(word),
@@ -596,10 +608,13 @@ fn number_given(
     wanted: &str,
 ) -> Result<Option<u64>, WordsFault>
     requires { form.digits ≤ 18 }
-    ensures exact { IfOk result (λ number. number ≡ option_map value_of (first_of name.now (rows_of (found_of matches.now)))) }
+    ensures exact { IfOk result
+        (λ number. number ≡ option_map value_of (first_of name.now (rows_of (found_of matches.now)))) }
     ensures small { IfOk result (λ number. IfSome number (λ n. n ≤ form.most)) }
-    ensures fits { IfOk result (λ _. number_misfit form.digits form.least form.most (first_of name.now (rows_of (found_of matches.now))) ≡ []) }
-    ensures refused { IfErr result (NamesOneOf (number_misfit form.digits form.least form.most (first_of name.now (rows_of (found_of matches.now))))) }
+    ensures fits { IfOk result (λ _.
+        number_misfit form.digits form.least form.most (first_of name.now (rows_of (found_of matches.now))) ≡ []) }
+    ensures refused { IfErr result (NamesOneOf
+        (number_misfit form.digits form.least form.most (first_of name.now (rows_of (found_of matches.now))))) }
 {
     match matches.get_str(name) {
         Some(word) => number_read(alloc, word, form, wanted),
@@ -629,8 +644,8 @@ fn number_read(
 /// The number of this form that the word is.
 fn number_in_form(word: &str, form: NumberForm) -> Option<u64>
     requires { form.digits ≤ 18 }
-    ensures { MatchOption result (is_number form.digits form.least form.most word.now ≡ false)
-        (λ n. (is_number form.digits form.least form.most word.now ≡ true) × (n ≡ value_of word.now) × (n ≤ form.most)) }
+    ensures { MatchOption result (is_number form.digits form.least form.most word.now ≡ false) (λ n.
+        (is_number form.digits form.least form.most word.now ≡ true) × (n ≡ value_of word.now) × (n ≤ form.most)) }
 {
     let Some(number) = number_of(word.as_bytes(), form.digits) else {
         return None;

@@ -1,8 +1,10 @@
-//! The lines of answers that are no events: `late T`, `refused LINE NAME`, `done T`, `unfinished K`. A log passes over them.
+//! The lines of answers that are no events: `late T`, `refused LINE NAME`, `done T`, `unfinished K`. A log passes over
+//! them.
 
 ghost use Rattle.std.specs.Prelude.{◌≡◌, ◌+◌, ◌≤◌, ◌++◌, length};
 ghost use Rattle.event_lines.specs.Words.{words_before};
-ghost use Rattle.event_lines.specs.AnswerLines.{late_words, late_line, refused_line, done_line, unfinished_line, is_passed_over};
+ghost use Rattle.event_lines.specs.AnswerLines.{late_words, late_line, refused_line, done_line};
+ghost use Rattle.event_lines.specs.AnswerLines.{unfinished_line, is_passed_over};
 
 use crate::line_text::LineText;
 use shop_base::Moment;

@@ -96,7 +96,8 @@ fn is_entry_of(shaped: &Shaped, entry: Entry) -> bool
 /// The entry of the shop in this line; no such line is passed over. Each line of a log is read by this.
 #[inline(always)]
 pub fn entry_in(shaped: &Shaped, line: &[u8]) -> Option<Entry>
-    ensures { MatchOption result (ParsesNoEntry shaped.now line.now) (λ entry. LineParses shaped.now line.now (entry ∷ [])) }
+    ensures { MatchOption result (ParsesNoEntry shaped.now line.now)
+        (λ entry. LineParses shaped.now line.now (entry ∷ [])) }
 {
     let entry = entry_of(line)?;
     if is_entry_of(shaped, entry) {

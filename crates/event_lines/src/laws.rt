@@ -3,13 +3,14 @@
 // Nothing is done here: a function's contract is the law, so a check of this crate proves it.
 
 ghost use Rattle.shop_base.specs.Plan.{PlannedShop};
-ghost use Rattle.event_lines.specs.ReadBack.{WhatIsWrittenIsRead, NumberedLinesAreLines, WrittenEntriesParse, OtherAnswersParseNone};
+ghost use Rattle.event_lines.specs.ReadBack.{WhatIsWrittenIsRead, NumberedLinesAreLines};
+ghost use Rattle.event_lines.specs.ReadBack.{WrittenEntriesParse, OtherAnswersParseNone};
 ghost use Rattle.event_lines.specs.ReadBack.{OneEntry, OneReport, OneCellReport, OneRequest, OneCellRequest};
 
 /// A line is written with words: texts of bytes above 32, and numbers below 2^64 with no more digits than they may
-/// have. In front of any text it is the first line, and is read as the same words. A cell's number and a space before it make such a
-/// line too. For a well-shaped plan the line of an event of the shop gives that event, and the lines `late`,
-/// `refused`, `done` and `unfinished` give none.
+/// have. In front of any text it is the first line, and is read as the same words. A cell's number and a space before
+/// it make such a line too. For a well-shaped plan the line of an event of the shop gives that event, and the lines
+/// `late`, `refused`, `done` and `unfinished` give none.
 pub fn what_is_written_is_read()
     ensures words { WhatIsWrittenIsRead }
     ensures numbered { NumberedLinesAreLines }

@@ -2,7 +2,8 @@
 
 ghost use Rattle.std.specs.Prelude.{◌≡◌, MatchOption};
 ghost use Rattle.text_lines.specs.Searches.{SomeIfAny};
-ghost use Rattle.event_lines.specs.Requests.{claimed, IsClaimLine, IsRequestLine, IsNoCleanAfter, IsCellRequest, IsNoCellRequest};
+ghost use Rattle.event_lines.specs.Requests.{claimed, IsClaimLine, IsRequestLine, IsNoCleanAfter};
+ghost use Rattle.event_lines.specs.Requests.{IsCellRequest, IsNoCellRequest};
 
 use crate::sent_reports::report_of;
 use crate::words::{number_and_moment, number_first};
@@ -49,7 +50,8 @@ pub enum Request {
 
 /// The machine, job and moment of `clean M J T`, if the line is one.
 fn clean_after_of(line: &[u8]) -> Option<(MachineNo, JobNo, Moment)>
-    ensures { MatchOption result (IsNoCleanAfter line.now) (λ found. IsClaimLine line.now (Claim.CleanAfter found.0 found.1 found.2)) }
+    ensures { MatchOption result (IsNoCleanAfter line.now)
+        (λ found. IsClaimLine line.now (Claim.CleanAfter found.0 found.1 found.2)) }
 {
     let words = after_prefix(line, b"clean ")?;
     let (machine, rest) = number_first(words, 9)?;

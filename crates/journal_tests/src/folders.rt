@@ -14,7 +14,8 @@ fn a_new_log_has_its_name_on_the_disk(rt: HostRuntime) -> Result<(), Fail> {
             Ok(None) => new_log(&mut logs, "run.log", None, &DIGITS).is_ok(),
             _ => false,
         };
-        // The log that is made counts its own calls from there on, an append and a sync; the name is synced by the folder.
+        // The log that is made counts its own calls from there on, an append and a sync; the name is synced by the
+        // folder.
         assert_eq!(rt; made, calls >= 4);
         assert_eq!(rt; logs.has_log(), (calls >= 2, calls >= 3));
     }

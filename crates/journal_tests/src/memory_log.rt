@@ -31,14 +31,21 @@ impl Model for MemoryLog {
 
     ghost Value = { InMemory };
 
-    ghost view = { λ m. record { seen = take m.len m.most.items; most = m.most.items; least = m.least; synced = m.synced; fault = m.fault; written = m.written } };
+    ghost view = { λ m. record {
+      seen = take m.len m.most.items;
+      most = m.most.items;
+      least = m.least;
+      synced = m.synced;
+      fault = m.fault;
+      written = m.written;
+    } };
 
     ghost invariant = { λ m. (m.least ≤ m.len) × (m.len ≤ length m.most.items) };
 }
 
 impl MemoryLog {
-    /// A file with these bytes, all of them on the disk. So many calls don't fail. The next, if it appends, appends so many
-    /// bytes.
+    /// A file with these bytes, all of them on the disk. So many calls don't fail. The next, if it appends, appends so
+    /// many bytes.
     pub fn new(bytes: Vec<u8>, calls: usize, torn: usize) -> MemoryLog
         ensures seen { result.seen ≡ bytes.items }
         ensures synced { result.synced ≡ true }

@@ -29,7 +29,13 @@ impl Model for MemoryLogs {
 
     ghost Value = { OneLog };
 
-    ghost view = { λ m. record { path = m.path.items; bytes = option_map (λ bytes. bytes.items) m.bytes; named = m.named; fault = m.fault; given = m.given } };
+    ghost view = { λ m. record {
+      path = m.path.items;
+      bytes = option_map (λ bytes. bytes.items) m.bytes;
+      named = m.named;
+      fault = m.fault;
+      given = m.given;
+    } };
 }
 
 /// Whether both have the same bytes.

@@ -11,8 +11,8 @@ use run_journal::{LogFile, UnknownHistory, WritingRoom, read_log};
 use std::alloc::Global;
 use std::test::Fail;
 
-/// The log of the run, each answer of which is shown before the next report comes, behind the line of its plan. So many calls
-/// of it don't fail.
+/// The log of the run, each answer of which is shown before the next report comes, behind the line of its plan. So many
+/// calls of it don't fail.
 fn broken_off(alloc: Global, protocol: Protocol, calls: usize) -> Result<MemoryLog, Fail> {
     let mut reader = FromRead::new(PieceReader { bytes: REPORTS });
     let log = MemoryLog::new(LINE.to_vec(alloc)?, calls, 5);

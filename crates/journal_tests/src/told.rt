@@ -37,7 +37,8 @@ fn drive_from_nothing(
     requires output { ⟦<Buffered<Vec<u8>> as Sink>⟧.written output ≡ Some [] }
     requires shown { ⟦<Buffered<Vec<u8>> as BufferedSink>⟧.pending output ≡ [] }
     ensures crash { KeepsShown [] [] (CrashStates result.log) (⟦<Buffered<Vec<u8>> as Sink>⟧.written result.output) }
-    ensures in_log { IfOk result.end (λ _. IsAllInLog [] [] (Some result.log.seen) (CrashStates result.log) (⟦<Buffered<Vec<u8>> as Sink>⟧.written result.output)) }
+    ensures in_log { IfOk result.end (λ _. IsAllInLog [] [] (Some result.log.seen) (CrashStates result.log)
+        (⟦<Buffered<Vec<u8>> as Sink>⟧.written result.output)) }
 {
     let mut reader = FromRead::new(lines);
     drive_logged(begun, room, &mut reader, log, output, NothingYet)
@@ -56,7 +57,8 @@ fn go_on_from_nothing(
     requires output { ⟦<Buffered<Vec<u8>> as Sink>⟧.written output ≡ Some [] }
     requires shown { ⟦<Buffered<Vec<u8>> as BufferedSink>⟧.pending output ≡ [] }
     ensures crash { KeepsShown [] [] (CrashStates result.log) (⟦<Buffered<Vec<u8>> as Sink>⟧.written result.output) }
-    ensures in_log { IfOk result.end (λ _. IsAllInLog [] [] (Some result.log.seen) (CrashStates result.log) (⟦<Buffered<Vec<u8>> as Sink>⟧.written result.output)) }
+    ensures in_log { IfOk result.end (λ _. IsAllInLog [] [] (Some result.log.seen) (CrashStates result.log)
+        (⟦<Buffered<Vec<u8>> as Sink>⟧.written result.output)) }
 {
     let mut reader = FromRead::new(lines);
     go_on_logged(run, room, protocol, &mut reader, log, output, NothingYet)

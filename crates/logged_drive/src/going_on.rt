@@ -18,8 +18,9 @@ use cell_drive::{Protocol, Replayed, RestEnd, go_on_in};
 use run_journal::laws::a_crash_keeps_what_was_shown;
 use run_journal::{InitialState, LogFile, Logged, WritingRoom};
 
-/// Goes on with a run that was taken up, and whose events were told again, as [`go_on_in`] does, with its log. The mark, the
-/// orders that are due and the answers are put into it as far as a log gets them, and onto the disk, before any of it is shown.
+/// Goes on with a run that was taken up, and whose events were told again, as [`go_on_in`] does, with its log. The
+/// mark, the orders that are due and the answers are put into it as far as a log gets them, and onto the disk, before
+/// any of it is shown.
 ///
 /// `Memory` is never answered. The log and the output are given back, whatever comes.
 pub fn go_on_logged<R: Source, W: BufferedSink + Drop, D: LogFile + Drop, B: InitialState>(
@@ -36,14 +37,18 @@ pub fn go_on_logged<R: Source, W: BufferedSink + Drop, D: LogFile + Drop, B: Ini
     requires whole { IfSome B.before (λ told. whole_lines told.0 ≡ told.0) }
     requires shown { W.pending output ≡ [] }
     requires unfailed { D.fault log ≡ None }
-    ensures went_on { RunsLogged (IsGoneOnIn protocol run) B.before (input_of R.Source reader.old) (W.written output) result.end result.log_failed
-        (input_of R.Source reader.new) (D.seen result.log) (D.crash_states result.log) (output_of W.Sink W.pending result.output) }
+    ensures went_on { RunsLogged (IsGoneOnIn protocol run) B.before (input_of R.Source reader.old)
+        (W.written output) result.end result.log_failed (input_of R.Source reader.new) (D.seen result.log)
+        (D.crash_states result.log) (output_of W.Sink W.pending result.output) }
 
     // Whatever came of it, a crash leaves all that was shown.
-    ensures crash { IfSome B.before (λ told. KeepsShown told.0 told.1 (D.crash_states result.log) (W.written result.output)) }
+    ensures crash { IfSome B.before
+        (λ told. KeepsShown told.0 told.1 (D.crash_states result.log) (W.written result.output)) }
 
-    // From whatever it leaves of the log by which the run was taken up it is taken up again, with all events that were shown.
-    ensures recoverable { IfSome B.before (λ told. (p : PlannedShop) (at : Option ℕ) → IsRecovered p (ended_lines told.0) at run
+    // From whatever it leaves of the log by which the run was taken up it is taken up again, with all events that were
+    // shown.
+    ensures recoverable { IfSome B.before
+        (λ told. (p : PlannedShop) (at : Option ℕ) → IsRecovered p (ended_lines told.0) at run
         → IsRecoveredAfter p (replayed_events run) told.1 (D.crash_states result.log) (W.written result.output)) }
 
     // At the end of the input all of it is in the log.
@@ -52,7 +57,8 @@ pub fn go_on_logged<R: Source, W: BufferedSink + Drop, D: LogFile + Drop, B: Ini
 
     // Whether it was the log that failed. Where it wasn't, and a write failed, it was the output.
     ensures log_fault { D.fault result.log ≡ fault_if result.log_failed }
-    ensures output_failed { result.end ≡ Err DriveFault.Write → result.log_failed ≡ false → W.failed result.output ≡ true }
+    ensures output_failed { result.end ≡ Err DriveFault.Write → result.log_failed ≡ false
+        → W.failed result.output ≡ true }
 
     // All memory was had before.
     ensures memory { result.end ≢ Err DriveFault.Memory }

@@ -4,8 +4,8 @@
 
 ghost use Rattle.logged_drive.specs.CrashLaw.{ADrivenRunIsRecovered, ARecoveredRunIsRecovered};
 
-/// From whatever a crash leaves of the log of a run that began with it, the run is taken up by the same plan, with every
-/// report and every order that was shown.
+/// From whatever a crash leaves of the log of a run that began with it, the run is taken up by the same plan, with
+/// every report and every order that was shown.
 pub fn a_driven_run_is_recovered()
     ensures { ADrivenRunIsRecovered }
 {}

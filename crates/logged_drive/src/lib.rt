@@ -1,8 +1,8 @@
 //! A run that is driven with a log, which survives whatever ends the program or the machine.
 //!
-//! [`drive_logged`] drives a cell from its start: each event is in the log, on the disk, before it is shown. [`recover_log`]
-//! takes the run up from what a crash has left of the log, with all the memory that it goes on with, and [`go_on_logged`] goes on
-//! with it. [`laws`] says that whatever a crash leaves is taken up.
+//! [`drive_logged`] drives a cell from its start: each event is in the log, on the disk, before it is shown.
+//! [`recover_log`] takes the run up from what a crash has left of the log, with all the memory that it goes on with,
+//! and [`go_on_logged`] goes on with it. [`laws`] says that whatever a crash leaves is taken up.
 #![tactic(auto)]
 
 mod going_on;

@@ -46,14 +46,18 @@ pub fn drive_logged<R: Source, W: BufferedSink + Drop, D: LogFile + Drop, B: Ini
     requires whole { IfSome B.before (λ told. whole_lines told.0 ≡ told.0) }
     requires shown { W.pending output ≡ [] }
     requires unfailed { D.fault log ≡ None }
-    ensures drove { RunsLogged (IsDriveIn begun.protocol begun.verified) B.before (input_of R.Source reader.old) (W.written output) result.end result.log_failed
-        (input_of R.Source reader.new) (D.seen result.log) (D.crash_states result.log) (output_of W.Sink W.pending result.output) }
+    ensures drove { RunsLogged (IsDriveIn begun.protocol begun.verified) B.before (input_of R.Source reader.old)
+        (W.written output) result.end result.log_failed (input_of R.Source reader.new) (D.seen result.log)
+        (D.crash_states result.log) (output_of W.Sink W.pending result.output) }
 
     // Whatever came of it, a crash leaves all that was shown.
-    ensures crash { IfSome B.before (λ told. KeepsShown told.0 told.1 (D.crash_states result.log) (W.written result.output)) }
+    ensures crash { IfSome B.before
+        (λ told. KeepsShown told.0 told.1 (D.crash_states result.log) (W.written result.output)) }
 
-    // From whatever it leaves of a log that told no event the run is taken up by the same plan, with all events that were shown.
-    ensures recoverable { IfSome B.before (λ told. LinesParse begun.verified.planned (ended_lines told.0) [] → IsRecoveredAfter begun.verified.planned [] told.1 (D.crash_states result.log) (W.written result.output)) }
+    // From whatever it leaves of a log that told no event the run is taken up by the same plan, with all events that
+    // were shown.
+    ensures recoverable { IfSome B.before (λ told. LinesParse begun.verified.planned (ended_lines told.0) []
+        → IsRecoveredAfter begun.verified.planned [] told.1 (D.crash_states result.log) (W.written result.output)) }
 
     // At the end of the input all of it is in the log.
     ensures in_log { IfOk result.end (λ _. IfSome B.before (λ told.
@@ -61,7 +65,8 @@ pub fn drive_logged<R: Source, W: BufferedSink + Drop, D: LogFile + Drop, B: Ini
 
     // Whether it was the log that failed. Where it wasn't, and a write failed, it was the output.
     ensures log_fault { D.fault result.log ≡ fault_if result.log_failed }
-    ensures output_failed { result.end ≡ Err DriveFault.Write → result.log_failed ≡ false → W.failed result.output ≡ true }
+    ensures output_failed { result.end ≡ Err DriveFault.Write → result.log_failed ≡ false
+        → W.failed result.output ≡ true }
 
     // All memory was had before.
     ensures memory { result.end ≢ Err DriveFault.Memory }

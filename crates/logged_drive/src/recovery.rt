@@ -9,7 +9,8 @@ ghost use Rattle.run_journal.specs.LogFiles.{HasFailed, IsDurable};
 ghost use Rattle.run_journal.specs.LogRuns.{IsNamedFor, IsNamedOrNot};
 ghost use Rattle.run_journal.specs.TornEnds.{is_torn};
 ghost use Rattle.run_journal.specs.WholeLines.{torn_end, whole_lines};
-ghost use Rattle.logged_drive.specs.RecoveredLogs.{IsOfDevice, IsOfText, IsOnlyRecoverFault, IsRecoverFault, file_fault};
+ghost use Rattle.logged_drive.specs.RecoveredLogs.{IsOfDevice, IsOfText, IsOnlyRecoverFault};
+ghost use Rattle.logged_drive.specs.RecoveredLogs.{IsRecoverFault, file_fault};
 
 use crate::recovered_log::{RecoverFault, RecoveredLog};
 use cell_drive::{RecoveredRun, ResumeFault, take_up};
@@ -41,7 +42,8 @@ fn recover_text(
     ensures fault { IfErr result (IsRecoverFault shaped text.now at) }
     ensures only_fault { IfErr result (IsOnlyRecoverFault shaped (ended_lines (whole_lines text.now))) }
     ensures of_text { IfErr result IsOfText }
-    ensures only { IsRecoverable shaped (ended_lines (whole_lines text.now)) at → is_torn (torn_end text.now) ≡ true → IfErr result IsOfDevice }
+    ensures only { IsRecoverable shaped (ended_lines (whole_lines text.now)) at → is_torn (torn_end text.now) ≡ true
+        → IfErr result IsOfDevice }
 {
     let torn = is_torn_end(text.end());
     match take_up(alloc, shaped, text.lines(), at) {
@@ -79,12 +81,14 @@ fn recover_ready(
     at: Option<Moment>,
 ) -> Result<RecoveredLog, RecoverFault>
     requires { IfSome at (λ present. present ≤ MAX_MOMENT) }
-    ensures recovered { IfOk result (λ ready. IsRecovered shaped (ended_lines (whole_lines text.now)) at ready.recovered) }
+    ensures recovered { IfOk result
+        (λ ready. IsRecovered shaped (ended_lines (whole_lines text.now)) at ready.recovered) }
     ensures torn { OnOk result (is_torn (torn_end text.now) ≡ true) }
     ensures fault { IfErr result (IsRecoverFault shaped text.now at) }
     ensures only_fault { IfErr result (IsOnlyRecoverFault shaped (ended_lines (whole_lines text.now))) }
     ensures of_text { IfErr result IsOfText }
-    ensures only { IsRecoverable shaped (ended_lines (whole_lines text.now)) at → is_torn (torn_end text.now) ≡ true → IfErr result IsOfDevice }
+    ensures only { IsRecoverable shaped (ended_lines (whole_lines text.now)) at → is_torn (torn_end text.now) ≡ true
+        → IfErr result IsOfDevice }
 {
     let recovered = recover_text(alloc, shaped, text, at)?;
     match WritingRoom::new(alloc) {
@@ -93,8 +97,8 @@ fn recover_ready(
     }
 }
 
-/// Cuts off the torn end of a log that was read, and puts the line of the plan behind its whole lines, unless it is their last
-/// line of a plan.
+/// Cuts off the torn end of a log that was read, and puts the line of the plan behind its whole lines, unless it is
+/// their last line of a plan.
 fn cut_and_name<D: LogFile>(
     log: &mut D,
     text: &LogText,
@@ -104,20 +108,23 @@ fn cut_and_name<D: LogFile>(
     requires unfailed { D.fault log.old ≡ None }
     requires read { IfSome (D.seen log.old) (λ file. text.now ≡ file) }
     requires digits { AreDigits digits.now }
-    ensures named { OnOk result (IfSome (D.seen log.old) (λ file. (base : List ℕ) × IsNamedFor digits.now (whole_lines file) base × (D.seen log.new ≡ Some base))) }
+    ensures named { OnOk result (IfSome (D.seen log.old)
+        (λ file. (base : List ℕ) × IsNamedFor digits.now (whole_lines file) base × (D.seen log.new ≡ Some base))) }
     ensures durable { OnOk result (IsDurable (D.seen log.new) (D.crash_states log.new)) }
     ensures unfailed { OnOk result (D.fault log.new ≡ None) }
     ensures failed { IfErr result (HasFailed (D.fault log.new)) }
-    ensures crash { IfSome (D.seen log.old) (λ file. (left : List ℕ) → D.crash_states log.new left → IsNamedOrNot digits.now (whole_lines file) (whole_lines left)) }
-    ensures torn_again { IfSome (D.seen log.old) (λ file. is_torn (torn_end file) ≡ true → (left : List ℕ) → D.crash_states log.new left → is_torn (torn_end left) ≡ true) }
+    ensures crash { IfSome (D.seen log.old) (λ file.
+        (left : List ℕ) → D.crash_states log.new left → IsNamedOrNot digits.now (whole_lines file) (whole_lines left)) }
+    ensures torn_again { IfSome (D.seen log.old) (λ file. is_torn (torn_end file) ≡ true → (left : List ℕ)
+        → D.crash_states log.new left → is_torn (torn_end left) ≡ true) }
 {
     cut_end(log, text)?;
     name_plan(log, text, digits)
 }
 
-/// Takes up the run in a log that was read, cuts off its torn end, and puts the line of the plan, which has these digits, behind
-/// its whole lines, unless it is their last line of a plan. All the memory with which the run goes on is taken first:
-/// where it runs out, as where the log's text is at fault, the log stays as it is.
+/// Takes up the run in a log that was read, cuts off its torn end, and puts the line of the plan, which has these
+/// digits, behind its whole lines, unless it is their last line of a plan. All the memory with which the run goes on is
+/// taken first: where it runs out, as where the log's text is at fault, the log stays as it is.
 pub fn recover_log<D: LogFile>(
     alloc: Global,
     shaped: Shaped,
@@ -131,21 +138,26 @@ pub fn recover_log<D: LogFile>(
     requires unfailed { D.fault log.old ≡ None }
     requires read { IfSome (D.seen log.old) (λ file. text.now ≡ file) }
     requires digits { AreDigits digits.now }
-    ensures recovered { IfOk result (λ ready. IsRecovered shaped (ended_lines (whole_lines text.now)) at ready.recovered) }
+    ensures recovered { IfOk result
+        (λ ready. IsRecovered shaped (ended_lines (whole_lines text.now)) at ready.recovered) }
     ensures torn { OnOk result (is_torn (torn_end text.now) ≡ true) }
     ensures fault { IfErr result (IsRecoverFault shaped text.now at) }
     ensures only_fault { IfErr result (IsOnlyRecoverFault shaped (ended_lines (whole_lines text.now))) }
-    ensures only { IsRecoverable shaped (ended_lines (whole_lines text.now)) at → is_torn (torn_end text.now) ≡ true → IfErr result IsOfDevice }
+    ensures only { IsRecoverable shaped (ended_lines (whole_lines text.now)) at → is_torn (torn_end text.now) ≡ true
+        → IfErr result IsOfDevice }
     ensures untouched { IfErr result (λ fault. IsOfText fault → log.new ≡ log.old) }
-    ensures named { OnOk result (IfSome (D.seen log.old) (λ file. (base : List ℕ) × IsNamedFor digits.now (whole_lines file) base × (D.seen log.new ≡ Some base))) }
+    ensures named { OnOk result (IfSome (D.seen log.old)
+        (λ file. (base : List ℕ) × IsNamedFor digits.now (whole_lines file) base × (D.seen log.new ≡ Some base))) }
     ensures durable { OnOk result (IsDurable (D.seen log.new) (D.crash_states log.new)) }
     ensures unfailed { OnOk result (D.fault log.new ≡ None) }
     ensures told { IfErr result (λ fault. D.fault log.new ≡ file_fault fault) }
 
-    // A crash at any moment leaves the same whole lines, with that of the plan or without, and behind them of a torn end a torn
-    // end again.
-    ensures crash { IfSome (D.seen log.old) (λ file. (left : List ℕ) → D.crash_states log.new left → IsNamedOrNot digits.now (whole_lines file) (whole_lines left)) }
-    ensures torn_again { IfSome (D.seen log.old) (λ file. is_torn (torn_end file) ≡ true → (left : List ℕ) → D.crash_states log.new left → is_torn (torn_end left) ≡ true) }
+    // A crash at any moment leaves the same whole lines, with that of the plan or without, and behind them of a torn
+    // end a torn end again.
+    ensures crash { IfSome (D.seen log.old) (λ file.
+        (left : List ℕ) → D.crash_states log.new left → IsNamedOrNot digits.now (whole_lines file) (whole_lines left)) }
+    ensures torn_again { IfSome (D.seen log.old) (λ file. is_torn (torn_end file) ≡ true → (left : List ℕ)
+        → D.crash_states log.new left → is_torn (torn_end left) ≡ true) }
 {
     let ready = recover_ready(alloc, shaped, text, at)?;
     match cut_and_name(log, text, digits) {

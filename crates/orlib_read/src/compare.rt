@@ -7,7 +7,8 @@ use crate::named::Named;
 use shop_base::{Shop, Step};
 
 pub(crate) fn is_same(named: &Named, description: &[u8], shop: &Shop) -> bool
-    ensures { let same = (named.now.description.items ≡ description.now) × (named.now.shop ≡ shop.now) in MatchBool result same (same → ⊥) }
+    ensures { let same = (named.now.description.items ≡ description.now) × (named.now.shop ≡ shop.now) in
+        MatchBool result same (same → ⊥) }
 {
     named.description.as_slice() == description && is_same_shop(&named.shop, shop)
 }

@@ -2,7 +2,8 @@
 
 ghost use Rattle.std.specs.Prelude.{◌≡◌, ◌++◌, Err, IfOk, OnOk, IfErr, MatchBool, decimal};
 ghost use Rattle.orlib_read.specs.Instance.{IsInstance};
-ghost use Rattle.orlib_read.specs.Lines.{instance_lines, description_line, sizes_line, step_text, more_steps, job_line, job_lines};
+ghost use Rattle.orlib_read.specs.Lines.{instance_lines, description_line, sizes_line, step_text};
+ghost use Rattle.orlib_read.specs.Lines.{more_steps, job_line, job_lines};
 
 use crate::compare::{is_same, route_of};
 use crate::not_written::NotWritten;
@@ -27,7 +28,8 @@ pub fn instance_document(
     ensures read_back { OnOk result (IsInstance (instance_lines description.now shop.now) description.now shop.now) }
 
     // A refusal says that they aren't, or that memory ran out.
-    ensures not_read_back { result ≡ Err NotWritten.NotReadBack → IsInstance (instance_lines description.now shop.now) description.now shop.now → ⊥ }
+    ensures not_read_back { result ≡ Err NotWritten.NotReadBack
+        → IsInstance (instance_lines description.now shop.now) description.now shop.now → ⊥ }
 {
     let text = instance_lines(alloc, description, shop)?;
     if is_read_back(alloc, &text, description, shop)? {
@@ -44,7 +46,8 @@ fn is_read_back(
     description: &[u8],
     shop: &Shop,
 ) -> Result<bool, NotWritten>
-    ensures decided { let is = IsInstance text.now description.now shop.now in IfOk result (λ same. MatchBool same is (is → ⊥)) }
+    ensures decided { let is = IsInstance text.now description.now shop.now in
+        IfOk result (λ same. MatchBool same is (is → ⊥)) }
     ensures memory { IfErr result (λ fault. fault ≡ NotWritten.Memory) }
 {
     match read_instance(alloc, text) {

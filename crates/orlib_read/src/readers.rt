@@ -56,7 +56,8 @@ pub fn read_route(alloc: Global, line: &[u8]) -> Result<Vec<Step>, OrFault>
     ensures only { ReadsRoute result (IsJobLine (first_line line.now)) }
 
     // A fault is what is wrong first.
-    ensures fault { IfErr result (λ fault. fault ≢ OrFault.Memory → IsOddLine (first_line line.now) fault ⊎ IsWordLine (first_line line.now) fault) }
+    ensures fault { IfErr result (λ fault.
+        fault ≢ OrFault.Memory → IsOddLine (first_line line.now) fault ⊎ IsWordLine (first_line line.now) fault) }
 {
     route_of(
         alloc,

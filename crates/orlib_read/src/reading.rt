@@ -5,7 +5,8 @@ ghost use Rattle.shop_base.specs.Vectors.{lists_of};
 ghost use Rattle.text_lines.specs.Searches.{GivesFirst};
 ghost use Rattle.orlib_read.specs.Words.{words_of};
 ghost use Rattle.orlib_read.specs.Cursor.{numbered_line, lines_left, with_left};
-ghost use Rattle.orlib_read.specs.Reading.{Gives, GivesExactly, without_titles, head_at, step_at, steps_at, route_at, jobs_at, draft_at};
+ghost use Rattle.orlib_read.specs.Reading.{Gives, GivesExactly, without_titles, head_at, step_at};
+ghost use Rattle.orlib_read.specs.Reading.{steps_at, route_at, jobs_at, draft_at};
 ghost use Rattle.orlib_read.specs.Views.{head_of, content_of};
 
 use crate::draft::{Draft, Head};

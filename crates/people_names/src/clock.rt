@@ -1,7 +1,8 @@
 //! What the clock says at moment 0.
 
 ghost use Rattle.std.specs.Prelude.{◌≡◌, ◌+◌, ◌<◌, ◌≤◌, length, decimal, IfSome, None, Some};
-ghost use Rattle.people_names.specs.Clocks.{is_digit_pair, pair_at, is_pair_below, is_hour_and_minute, is_minute_text, is_second_text, minutes_at, clock_of};
+ghost use Rattle.people_names.specs.Clocks.{is_digit_pair, pair_at, is_pair_below, is_hour_and_minute};
+ghost use Rattle.people_names.specs.Clocks.{is_minute_text, is_second_text, minutes_at, clock_of};
 
 /// What the clock says at moment 0, and how long a moment is.
 #[derive(Clone, Copy, Debug, PartialEq, Eq)]

@@ -2,8 +2,8 @@
 //! the keys `jobs`, `machines` and `begin`, each of which may be missing; and the words that a line has for a job, a
 //! machine and a moment.
 //!
-//! How a key is written in a fault is proved, and a fault's whole text isn't. A TOML document and its table are what the
-//! kit's `toml` reads: nothing is proved of that grammar here.
+//! How a key is written in a fault is proved, and a fault's whole text isn't. A TOML document and its table are what
+//! the kit's `toml` reads: nothing is proved of that grammar here.
 #![tactic(auto)]
 
 mod clock;

@@ -56,7 +56,8 @@ fn push_name(
     requires seen { HasSeen seen.old (map string_bytes names.old.items) }
     requires short { AreShort (map string_bytes names.old.items) }
     ensures faults { Passes (name_faults key place (map string_bytes names.old.items) (view value.now)) result }
-    ensures value { OnOk result (map string_bytes names.new.items ≡ map string_bytes names.old.items ++ text_in (view value.now) ∷ []) }
+    ensures value { OnOk result
+        (map string_bytes names.new.items ≡ map string_bytes names.old.items ++ text_in (view value.now) ∷ []) }
     ensures seen { OnOk result (HasSeen seen.new (map string_bytes names.new.items)) }
     ensures short { OnOk result (AreShort (map string_bytes names.new.items)) }
 {
@@ -68,7 +69,8 @@ fn push_name(
 
 /// Puts the name among those that were seen.
 fn remember(alloc: Global, seen: &mut BTreeSet<String>, name: &str) -> Result<(), AllocError>
-    ensures { OnOk result ((before : List (List ℕ)) → HasSeen seen.old before → HasSeen seen.new (before ++ name.now ∷ [])) }
+    ensures { OnOk result
+        ((before : List (List ℕ)) → HasSeen seen.old before → HasSeen seen.new (before ++ name.now ∷ [])) }
 {
     let copy = String::from_str(alloc, name)?;
     match seen.insert(copy) {
@@ -85,7 +87,8 @@ fn name_of(
     seen: &BTreeSet<String>,
     value: &Value,
 ) -> Result<String, NamesFault>
-    ensures faults { (before : List (List ℕ)) → HasSeen seen.now before → Passes (name_faults key place before (view value.now)) result }
+    ensures faults { (before : List (List ℕ)) → HasSeen seen.now before
+        → Passes (name_faults key place before (view value.now)) result }
     ensures value { IfOk result (λ name. string_bytes name ≡ text_in (view value.now)) }
     ensures short { IfOk result (λ name. length (string_bytes name) ≤ LONGEST_NAME) }
 {

@@ -1,8 +1,11 @@
-ghost use Rattle.std.specs.Prelude.{◌≡◌, ◌+◌, ◌<◌, ◌≤◌, ◌++◌, map, length, slice_get, option_map, string_bytes, true, None};
+ghost use Rattle.std.specs.Prelude.{◌≡◌, ◌+◌, ◌<◌, ◌≤◌, ◌++◌, map, length, slice_get};
+ghost use Rattle.std.specs.Prelude.{option_map, string_bytes, true, None};
 ghost use Rattle.std.specs.List.{All};
 ghost use Rattle.people_names.specs.NameBooks.{no_names};
 ghost use Rattle.people_names.specs.Lists.{AreShort};
-ghost use Rattle.people_names.specs.Words.{word_of, job_word, machine_word, two_digits, hour_and_minute, day_words, minute_words, second_words, moment_by, moment_word, is_budget_printed, is_deadline_printed};
+ghost use Rattle.people_names.specs.Words.{word_of, job_word, machine_word, two_digits, hour_and_minute};
+ghost use Rattle.people_names.specs.Words.{day_words, minute_words, second_words, moment_by, moment_word};
+ghost use Rattle.people_names.specs.Words.{is_budget_printed, is_deadline_printed};
 ghost use Rattle.people_names.specs.declared.names.TheConstants.{LONGEST_NAME, LONGEST_MOMENT};
 
 use crate::clock::Clock;
@@ -45,7 +48,8 @@ impl Model for Names {
       people = names.people;
     } };
 
-    ghost invariant = { λ names. AreShort (map string_bytes names.jobs.items) × AreShort (map string_bytes names.machines.items) };
+    ghost invariant = { λ names.
+        AreShort (map string_bytes names.jobs.items) × AreShort (map string_bytes names.machines.items) };
 }
 
 impl Names {
@@ -135,7 +139,12 @@ pub(crate) fn names_for_people(
 ) -> Names
     requires jobs { AreShort (map string_bytes jobs.items) }
     requires machines { AreShort (map string_bytes machines.items) }
-    ensures { result ≡ record { jobs = map string_bytes jobs.items; machines = map string_bytes machines.items; clock = clock; people = true } }
+    ensures { result ≡ record {
+      jobs = map string_bytes jobs.items;
+      machines = map string_bytes machines.items;
+      clock = clock;
+      people = true;
+    } }
 {
     Names {
         jobs,

@@ -23,7 +23,8 @@ use toml::Table;
 /// The names of a key, where the table has it.
 fn names_at(alloc: Global, table: &Table, key: NamesKey) -> Result<Vec<String>, NamesFault>
     ensures faults { Passes (list_faults key (value_at (table_view table.now) key)) result }
-    ensures value { IfOk result (λ names. map string_bytes names.items ≡ names_at (value_at (table_view table.now) key)) }
+    ensures value { IfOk result
+        (λ names. map string_bytes names.items ≡ names_at (value_at (table_view table.now) key)) }
     ensures short { IfOk result (λ names. AreShort (map string_bytes names.items)) }
 {
     match value_of(table, key.name()) {
@@ -99,7 +100,8 @@ fn table_of(alloc: Global, text: &[u8]) -> Result<Table, NamesFault>
 
 /// Reads names from the text of a TOML document, for a shop with so many jobs and machines.
 ///
-/// Its keys are `jobs` and `machines`, each with an array of the first names, and `begin`, what the clock says at moment
+/// Its keys are `jobs` and `machines`, each with an array of the first names, and `begin`, what the clock says at
+/// moment
 /// 0. An empty text has names for nobody, but it is for people: lines tell them no promises that nobody gave.
 pub fn read_names(
     alloc: Global,

@@ -165,8 +165,8 @@ fn run_phase(
     }
 }
 
-/// Makes a neighbour, and goes on from there if it is within the limit. Else returns an estimate of what it weighs, which is past
-/// the limit.
+/// Makes a neighbour, and goes on from there if it is within the limit. Else returns an estimate of what it weighs,
+/// which is past the limit.
 #[inline(never)]
 fn try_neighbour(
     net: &mut Net,
@@ -230,8 +230,8 @@ fn take(net: &mut Net, pass: &mut Pass, walk: &mut Walk, price: Price) {
     }
 }
 
-/// Finds the arcs that may be turned round. Once the best plan is in time, or the most urgent job of a late one can't be
-/// sooner, the makespan counts too.
+/// Finds the arcs that may be turned round. Once the best plan is in time, or the most urgent job of a late one can't
+/// be sooner, the makespan counts too.
 fn aim_anew(net: &mut Net, pass: &mut Pass, walk: &mut Walk) {
     if walk.least.total == 0 {
         aim_at_makespan(net, pass, walk);

@@ -4,8 +4,8 @@ use crate::net::{Spot, spot_at};
 use crate::timing::{Row, head_in, tail_in};
 use shop_base::Moment;
 
-/// An estimate of what the plan weighs once the job that enters here comes before the one now before it: the length of the
-/// path over both of them, which goes on in that other job, or to the next job on this machine. If the job moves on
+/// An estimate of what the plan weighs once the job that enters here comes before the one now before it: the length of
+/// the path over both of them, which goes on in that other job, or to the next job on this machine. If the job moves on
 /// other machines too, the plan may weigh less.
 pub(crate) fn weight_after_swap(spots: &[Spot], rows: &[Row], entry: u32) -> Moment {
     let enters = spot_at(spots, entry);

@@ -1,7 +1,7 @@
 //! How hot a round is.
 
-/// How hot a round begins. A hot one gets away from a plan that the others can't leave. A cool one keeps most of the plan
-/// that it begins with: if there are many steps, a warm round looks at too few plans to find a better one again.
+/// How hot a round begins. A hot one gets away from a plan that the others can't leave. A cool one keeps most of the
+/// plan that it begins with: if there are many steps, a warm round looks at too few plans to find a better one again.
 #[derive(Clone, Copy, PartialEq, Eq)]
 pub(crate) enum Heat {
     Warm,

@@ -81,8 +81,8 @@ impl Moves {
         self.made = 0;
     }
 
-    /// Lets the job that enters here come before the one before it, if the plan isn't past the limit then. Gives the entry
-    /// of that one, if there is one.
+    /// Lets the job that enters here come before the one before it, if the plan isn't past the limit then. Gives the
+    /// entry of that one, if there is one.
     pub fn turn(&mut self, net: &mut Net, rows: &[Row], entry: u32) -> u32 {
         self.looks = self.looks.wrapping_add(1);
         self.least = self.least.max(weight_after_swap(&net.spots, rows, entry));

@@ -5,8 +5,8 @@ use crate::timing::Row;
 use shop_base::Moment;
 use std::alloc::{AllocError, Global};
 
-/// The machine arcs on the paths that are to be shortened. Each can be turned round in two ways: neighbour 2 `i` moves a
-/// job at arc `i` to the left, and neighbour 2 `i` + 1 one to the right.
+/// The machine arcs on the paths that are to be shortened. Each can be turned round in two ways: neighbour 2 `i` moves
+/// a job at arc `i` to the left, and neighbour 2 `i` + 1 one to the right.
 #[derive(Drop)]
 pub(crate) struct Neighbours {
     /// The arcs by their targets, and how many they are.
@@ -64,8 +64,8 @@ impl Neighbours {
         self.search = self.search.wrapping_add(1);
     }
 
-    /// Adds the machine arcs on a longest path to the node, up to where this search has been, but for those from a job that
-    /// has entered its machine. Nothing is known of these neighbours. Gives how many nodes were looked at.
+    /// Adds the machine arcs on a longest path to the node, up to where this search has been, but for those from a job
+    /// that has entered its machine. Nothing is known of these neighbours. Gives how many nodes were looked at.
     pub fn join(&mut self, spots: &[Spot], rows: &[Row], node: u32) -> u32 {
         let mut to = node;
         for looks in 0..rows.len() {

@@ -27,8 +27,8 @@ pub(crate) struct Spot {
     pub machine: u32,
 }
 
-/// A job: its first and its last node, the machine that it is on before these, and its budget. Or a cleaning that goes on, with
-/// one node.
+/// A job: its first and its last node, the machine that it is on before these, and its budget. Or a cleaning that goes
+/// on, with one node.
 #[derive(Clone, Copy)]
 pub(crate) struct Span {
     pub first: u32,

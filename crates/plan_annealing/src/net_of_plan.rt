@@ -202,8 +202,8 @@ fn entry_of(net: &Net, job: JobNo, machine: MachineNo) -> u32 {
     NONE
 }
 
-/// The orders of the machines in the best plan that was met. Where a run of a plan has begun, they begin with its entries so
-/// far.
+/// The orders of the machines in the best plan that was met. Where a run of a plan has begun, they begin with its
+/// entries so far.
 pub(crate) fn orders_of(
     alloc: Global,
     net: &mut Net,

@@ -1,9 +1,9 @@
 //! The greatest lengths of the paths to the nodes and from them, kept from one plan to its neighbour.
 //!
 //! The nodes are in an order along which all arcs lead. A move changes arcs from nodes and to nodes between two places,
-//! so a pass finds the moments there. A node that is met before the source of an arc to it is put off until that one has
-//! its moment. What follows the later nodes is as it was, so then it is known whether a path is past a limit, and the
-//! later moments are found only if none is.
+//! so a pass finds the moments there. A node that is met before the source of an arc to it is put off until that one
+//! has its moment. What follows the later nodes is as it was, so then it is known whether a path is past a limit, and
+//! the later moments are found only if none is.
 
 use crate::neighbours::Neighbours;
 use crate::net::{NONE, Net, Spot, count, spot_at};

@@ -66,7 +66,8 @@ fn greater_machine(
     machine: MachineNo,
 ) -> Option<(MachineNo, Moment)>
     requires machine { machine < machines shaped.now }
-    requires before { let t = times_of shaped.now in MatchOption greatest (HaveNoBound t machine) (IsGreatestOfMachines t machine) }
+    requires before { let t = times_of shaped.now in
+        MatchOption greatest (HaveNoBound t machine) (IsGreatestOfMachines t machine) }
     ensures { let t = times_of shaped.now in
         MatchOption result (HaveNoBound t (machine + 1)) (IsGreatestOfMachines t (machine + 1)) }
 {

@@ -41,8 +41,8 @@ pub(crate) enum Found {
 }
 
 /// Decides whether any plan with the numbers of this one is accepted, whatever its orders; those that it has aren't
-/// used. A job whose budget is `MAX_MOMENT` has no promise. Each search makes at most so many choices: a pair of jobs on
-/// a machine that is decided one way and, where that fails, the other, is one. The chooser and the watch need not be
+/// used. A job whose budget is `MAX_MOMENT` has no promise. Each search makes at most so many choices: a pair of jobs
+/// on a machine that is decided one way and, where that fails, the other, is one. The chooser and the watch need not be
 /// trusted.
 ///
 /// Where all promises together can't be kept, they exclude each other: each job that its bound excludes is told, before
@@ -91,11 +91,11 @@ pub fn decide<C: Choose, W: Watch>(
     }
 }
 
-/// Decides the same of the rest of the run that the log's whole lines record by this plan, from a moment on, or else from
-/// its last one: of all plans with its releases and cleaning times of which they record a run too. Entries that were made
-/// stay, and jobs that are gone aren't asked for. What goes on ends when it is due, and what is overdue at the present
-/// moment. The bound of a job is then that moment, or the one at which what goes on with it is due, and its nominal times
-/// from there on. Where the log records no event and the moment is 0, that is what `decide` decides.
+/// Decides the same of the rest of the run that the log's whole lines record by this plan, from a moment on, or else
+/// from its last one: of all plans with its releases and cleaning times of which they record a run too. Entries that
+/// were made stay, and jobs that are gone aren't asked for. What goes on ends when it is due, and what is overdue at
+/// the present moment. The bound of a job is then that moment, or the one at which what goes on with it is due, and its
+/// nominal times from there on. Where the log records no event and the moment is 0, that is what `decide` decides.
 pub fn decide_after<C: Choose, W: Watch>(
     alloc: Global,
     shaped: Shaped,
@@ -197,7 +197,8 @@ fn whole_back(found: Found, shaped: Shaped) -> Decided<Verified>
 
 /// What is found of plans for the rest of a run, with the plan that was given.
 fn rest_back(found: Found, shaped: Shaped) -> Decided<Shaped>
-    ensures { (t : Case) (aim : Aim) → IsFound (asked_for t aim) aim found → IsDecided (λ plan. plan) t aim shaped result }
+    ensures { (t : Case) (aim : Aim) → IsFound (asked_for t aim) aim found
+        → IsDecided (λ plan. plan) t aim shaped result }
 {
     match found {
         Found::Kept(kept) => Decided::Kept(kept.into_shaped()),

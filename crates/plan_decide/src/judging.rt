@@ -10,7 +10,8 @@ ghost use Rattle.plan_bounds.specs.Bounds.{times_of};
 ghost use Rattle.shop_base.specs.Report.{IsNextMoment};
 ghost use Rattle.plan_decide.specs.Cases.{nothing, with_budgets, with_budget};
 ghost use Rattle.plan_decide.specs.Decisions.{IsAcceptedWith};
-ghost use Rattle.plan_decide.specs.Settings.{IsSet, case_in, plan_of, FitsPast, IsKeptAs, IsKeptAfter, IsTimely, AreTimesAfter};
+ghost use Rattle.plan_decide.specs.Settings.{IsSet, case_in, plan_of, FitsPast, IsKeptAs};
+ghost use Rattle.plan_decide.specs.Settings.{IsKeptAfter, IsTimely, AreTimesAfter};
 
 use crate::copying::{copy_cleanings, copy_moments, copy_shop};
 use crate::kept::Kept;
@@ -118,7 +119,8 @@ fn accepted_times<P: Planned>(
 ) -> Result<Option<Times>, AllocError>
     requires { IsNextMoment cell.now.cell present }
     ensures { let p = cell.now.plan in let c = cell.now.cell in
-        IfOk result (λ found. IfSome found (λ times. IsAcceptableAhead p c present × AreOrderedAhead p c present times)) }
+        IfOk result
+        (λ found. IfSome found (λ times. IsAcceptableAhead p c present × AreOrderedAhead p c present times)) }
 {
     match verify_after(alloc, cell, present)? {
         Judged::Accepted(times) => Ok(Some(times)),
@@ -133,7 +135,8 @@ pub(crate) fn accepted_by(
     order: Vec<Vec<JobNo>>,
 ) -> Result<Option<Kept>, AllocError>
     requires { IsSet setting.now }
-    ensures accepted { IfOk result (λ found. IfSome found (λ kept. IsAcceptedWith (case_in setting.now) (plan_of kept))) }
+    ensures accepted { IfOk result
+        (λ found. IfSome found (λ kept. IsAcceptedWith (case_in setting.now) (plan_of kept))) }
     ensures fits { IfOk result (λ found. IfSome found (FitsPast (case_in setting.now).past)) }
 {
     let budget = budgets_of(alloc, setting)?;

@@ -185,8 +185,8 @@ pub(crate) fn bound_of_job(setting: &Setting<'_>, job: JobNo) -> Moment
     }
 }
 
-/// The bound of a job that isn't gone: the present moment, or that at which what goes on with it is due, and the nominal
-/// times of the steps that it hasn't entered.
+/// The bound of a job that isn't gone: the present moment, or that at which what goes on with it is due, and the
+/// nominal times of the steps that it hasn't entered.
 fn rest_bound(cell: &WorkCell<&Shaped>, present: Moment, job: JobNo) -> Moment
     requires job { job < jobs cell.now.plan }
     requires in_range { present ≤ MAX_MOMENT }

@@ -16,8 +16,8 @@ use plan_verifier::{Hold, NodeBound, bound_after};
 use shop_base::{JobNo, MachineNo, Moment, Node, Planned, Shaped};
 use std::alloc::AllocError;
 
-/// Adds a line for what holds up the first node, and one for each further node, with the length of the path up to it and
-/// the arc from the node before.
+/// Adds a line for what holds up the first node, and one for each further node, with the length of the path up to it
+/// and the arc from the node before.
 pub(crate) fn push_chain_lines<P: Planned>(
     text: &mut Vec<u8>,
     names: &Names,
@@ -27,7 +27,8 @@ pub(crate) fn push_chain_lines<P: Planned>(
 ) -> Result<(), AllocError>
     requires present { present ≤ MAX_MOMENT }
     requires chain { IsChainOrNone cell.now.plan cell.now.cell present nodes.now }
-    ensures { OnOk result (Adds (AreRestChainLines names.now cell.now.plan cell.now.cell present nodes.now) text.old.items text.new.items) }
+    ensures { OnOk result (Adds (AreRestChainLines names.now cell.now.plan cell.now.cell present nodes.now)
+        text.old.items text.new.items) }
 {
     match nodes.split_first() {
         Some((first, rest)) => push_from(text, names, cell, present, *first, rest),
@@ -45,7 +46,8 @@ fn push_from<P: Planned>(
 ) -> Result<(), AllocError>
     requires present { present ≤ MAX_MOMENT }
     requires chain { IsRestChain cell.now.plan cell.now.cell present (first ∷ rest.now) }
-    ensures { OnOk result (Adds (AreRestChainLines names.now cell.now.plan cell.now.cell present (first ∷ rest.now)) text.old.items text.new.items) }
+    ensures { OnOk result (Adds (AreRestChainLines names.now cell.now.plan cell.now.cell present (first ∷ rest.now))
+        text.old.items text.new.items) }
 {
     let shaped = cell.shaped();
     let Some(bound) = bound_after(cell, present, first) else {

@@ -23,9 +23,9 @@ pub fn explain(alloc: Global, verdict: &Verdict) -> Result<Vec<u8>, AllocError>
 
 /// Why a plan is accepted or refused. After [`crate::first_line`] come the arcs of a cycle; or each job's leaving, its
 /// budget and what is left to it or by how much it is late, and the arcs of a chain: the one to the leaving of the job
-/// that is asked for; else the one to the late job's leaving that the first line gives, or a longest one to the leaving of
-/// the least job that leaves last. A refusal has the evidence that `verify` gave. Behind the first line jobs, machines and
-/// moments are told by names and clock.
+/// that is asked for; else the one to the late job's leaving that the first line gives, or a longest one to the leaving
+/// of the least job that leaves last. A refusal has the evidence that `verify` gave. Behind the first line jobs,
+/// machines and moments are told by names and clock.
 pub fn explain_for(
     alloc: Global,
     names: &Names,

@@ -27,8 +27,8 @@ const USUAL_LINE: usize = 48;
 /// the arcs of a cycle; or each job's leaving, its budget and what is left to it or by how much it is late, and when it
 /// left if it is gone; and what the first node of a chain waits for, followed by the chain's arcs. The chain is the one
 /// to the leaving of the job that is asked for; else the one to the late job's leaving that the first line gives, or a
-/// longest one to the leaving of the least job that leaves last of those that aren't gone. To the leaving of a job that is
-/// gone there is no chain. Behind the first line jobs, machines and moments are told by names and clock.
+/// longest one to the leaving of the least job that leaves last of those that aren't gone. To the leaving of a job that
+/// is gone there is no chain. Behind the first line jobs, machines and moments are told by names and clock.
 pub fn explain_after<P: Planned>(
     alloc: Global,
     names: &Names,
@@ -40,7 +40,8 @@ pub fn explain_after<P: Planned>(
     requires present { present ≤ MAX_MOMENT }
     requires job { IfSome job (λ j. j < jobs cell.now.plan) }
     requires judged { IsRestJudged cell.now.plan cell.now.cell present (lent verdict) }
-    ensures { let c = cell.now in IfOk result (λ text. IsRestExplained names.now job c.plan c.cell present (lent verdict.entry) text.items) }
+    ensures { let c = cell.now in
+        IfOk result (λ text. IsRestExplained names.now job c.plan c.cell present (lent verdict.entry) text.items) }
 {
     let mut text = first_line_after(alloc, cell, verdict)?;
     push_lines_behind(alloc, &mut text, names, job, cell, present, verdict)?;
@@ -60,7 +61,8 @@ fn push_lines_behind<P: Planned>(
     requires job { IfSome job (λ j. j < jobs cell.now.plan) }
     requires judged { IsRestJudged cell.now.plan cell.now.cell present (lent verdict) }
     ensures { let c = cell.now in
-        OnOk result (Adds (AreRestBehind names.now job c.plan c.cell present (lent verdict.entry)) text.old.items text.new.items) }
+        OnOk result
+        (Adds (AreRestBehind names.now job c.plan c.cell present (lent verdict.entry)) text.old.items text.new.items) }
 {
     match verdict {
         Seen::Accepted(times) => {
@@ -102,7 +104,8 @@ fn push_moment_lines<P: Planned>(
     requires ordered { AreOrderedAhead cell.now.plan cell.now.cell present times.now }
     requires chain { IsChainOrNone cell.now.plan cell.now.cell present chain.now }
     ensures { let c = cell.now in
-        OnOk result (Adds (AreLinesOf names.now c.plan c.cell present (leaves_in c.plan times.now) chain.now) text.old.items text.new.items) }
+        OnOk result (Adds (AreLinesOf names.now c.plan c.cell present (leaves_in c.plan times.now) chain.now)
+        text.old.items text.new.items) }
 {
     // So that a long text isn't copied again and again as it grows.
     text.reserve(chain.len().saturating_mul(USUAL_LINE))?;
@@ -110,8 +113,8 @@ fn push_moment_lines<P: Planned>(
     push_chain_lines(text, names, cell, present, chain)
 }
 
-/// The chain of an accepted rest: that to the leaving of the job that is asked for, else to that of the least job that leaves
-/// last of those that aren't gone, if there is one.
+/// The chain of an accepted rest: that to the leaving of the job that is asked for, else to that of the least job that
+/// leaves last of those that aren't gone, if there is one.
 fn accepted_chain<P: Planned>(
     alloc: Global,
     cell: &WorkCell<P>,
@@ -121,7 +124,8 @@ fn accepted_chain<P: Planned>(
     requires ranks { AreRanks cell.now.plan times.now }
     requires asked { IfSome asked (λ j. j < jobs cell.now.plan) }
     ensures { (t : ℕ) → let p = cell.now.plan in let c = cell.now.cell in
-        AreOrderedAhead p c t times.now → IfOk result (λ nodes. IsFound p c t times.now (IsChosen (IsChainTo p c t) asked (IsChainToLastAhead p c t)) nodes.items) }
+        AreOrderedAhead p c t times.now → IfOk result
+        (λ nodes. IsFound p c t times.now (IsChosen (IsChainTo p c t) asked (IsChainToLastAhead p c t)) nodes.items) }
 {
     match asked {
         Some(job) => chain_to(alloc, cell, times, job),
@@ -142,7 +146,8 @@ fn chain_to<P: Planned>(
     requires ranks { AreRanks cell.now.plan times.now }
     requires job { job < jobs cell.now.plan }
     ensures { (t : ℕ) → let p = cell.now.plan in let c = cell.now.cell in
-        AreOrderedAhead p c t times.now → IfOk result (λ nodes. IsFound p c t times.now (IsChainTo p c t job) nodes.items) }
+        AreOrderedAhead p c t times.now
+        → IfOk result (λ nodes. IsFound p c t times.now (IsChainTo p c t job) nodes.items) }
 {
     if cell.step_count(job) < cell.job_state(job).made {
         return Ok(Vec::new(alloc));

@@ -5,7 +5,8 @@ ghost use Rattle.shop_base.specs.{NodeText.node_text, Plan.jobs};
 ghost use Rattle.alt_graph.specs.Times.{AreRanks};
 ghost use Rattle.plan_verifier.specs.{Leavings.leaves_in, Seen.lent};
 ghost use Rattle.plan_explain.specs.Added.{Adds};
-ghost use Rattle.plan_explain.specs.FirstLines.{node_words, moment_words, cycle_line, late_words, refused_late_line, refused_line, moments_below, IsAcceptedText, IsFirstLine};
+ghost use Rattle.plan_explain.specs.FirstLines.{node_words, moment_words, cycle_line, late_words, refused_late_line};
+ghost use Rattle.plan_explain.specs.FirstLines.{refused_line, moments_below, IsAcceptedText, IsFirstLine};
 ghost use Rattle.plan_explain.specs.RestFirstLines.{IsLineByTimes, IsRestFirstLine};
 ghost use Rattle.plan_explain.specs.RestVerdicts.{HasRanks, IsRestJudged};
 

@@ -4,7 +4,8 @@
 // Nothing is done here: a function's contract is the law, so a check of this crate proves it.
 
 ghost use Rattle.plan_explain.specs.StartTexts.{TheStartIsExplainedAsThePlan};
-ghost use Rattle.plan_explain.specs.LineLaws.{ArcsAreExact, EachLineIsItsPath, TheLastLineIsTheLength, TheLinesOfACycleClose, AVerdictHasOneFirstLine};
+ghost use Rattle.plan_explain.specs.LineLaws.{ArcsAreExact, EachLineIsItsPath, TheLastLineIsTheLength};
+ghost use Rattle.plan_explain.specs.LineLaws.{TheLinesOfACycleClose, AVerdictHasOneFirstLine};
 
 /// A job arc is shown by its job, the machine and the nominal time of its step. A blocking arc is shown by its machine,
 /// the job that leaves it, the one that enters and its cleaning time. The time shown is the length of the arc.
@@ -41,8 +42,8 @@ pub fn a_verdict_has_one_first_line()
     ensures { AVerdictHasOneFirstLine }
 {}
 
-/// From the cell at the start and moment 0 on, just what is told of the plan is told of the rest of a run: the same first
-/// line, and the same explanations.
+/// From the cell at the start and moment 0 on, just what is told of the plan is told of the rest of a run: the same
+/// first line, and the same explanations.
 pub fn the_start_is_explained_as_the_plan()
     ensures { TheStartIsExplainedAsThePlan }
 {}

@@ -25,7 +25,8 @@ pub(crate) fn push_leaving_lines<P: Planned>(
 ) -> Result<(), AllocError>
     requires { AreRanks cell.now.plan times.now }
     ensures { let p = cell.now.plan in
-        OnOk result (text.new.items ≡ text.old.items ++ rest_leaving_lines names.now p cell.now.cell (leaves_in p times.now)) }
+        OnOk result
+        (text.new.items ≡ text.old.items ++ rest_leaving_lines names.now p cell.now.cell (leaves_in p times.now)) }
 {
     for job in 0..cell.job_count() {
         let leaves = leave_time(cell, times, job);
@@ -34,8 +35,8 @@ pub(crate) fn push_leaving_lines<P: Planned>(
     Ok(())
 }
 
-/// Adds the line of a job: `job J left L budget B` of one that is gone; else `job J leaves L budget B slack S`, or `.. late D`
-/// where L is past B by D.
+/// Adds the line of a job: `job J left L budget B` of one that is gone; else `job J leaves L budget B slack S`, or
+/// `.. late D` where L is past B by D.
 fn push_job_line<P: Planned>(
     text: &mut Vec<u8>,
     names: &Names,
@@ -44,7 +45,8 @@ fn push_job_line<P: Planned>(
     leaves: Moment,
 ) -> Result<(), AllocError>
     requires { job < jobs cell.now.plan }
-    ensures { OnOk result (text.new.items ≡ text.old.items ++ rest_leaving_line names.now cell.now.plan cell.now.cell job leaves) }
+    ensures { OnOk result
+        (text.new.items ≡ text.old.items ++ rest_leaving_line names.now cell.now.plan cell.now.cell job leaves) }
 {
     let budget = cell.shaped().budget_of(job);
     let mut line = Line::ended();

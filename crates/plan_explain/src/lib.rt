@@ -1,7 +1,8 @@
 //! Verdicts that explain themselves: the first line of a verdict, and after it the arcs of its evidence in
 //! lines that name machines and jobs.
 //!
-//! All is told of the rest of a run, from a cell and a present moment on; a whole plan is that of a run that hasn't begun.
+//! All is told of the rest of a run, from a cell and a present moment on; a whole plan is that of a run that hasn't
+//! begun.
 #![tactic(auto)]
 
 mod arcs;

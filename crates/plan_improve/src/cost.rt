@@ -7,7 +7,8 @@ use shop_base::Moment;
 /// How late a plan is, and how long it takes.
 #[derive(Clone, Copy)]
 pub struct Cost {
-    /// What all jobs' earliest leavings together are past their budgets: the sum over the jobs, where one in time counts 0.
+    /// What all jobs' earliest leavings together are past their budgets: the sum over the jobs, where one in time
+    /// counts 0.
     pub late: Moment,
     /// The latest of all jobs' earliest leavings.
     pub makespan: Moment,

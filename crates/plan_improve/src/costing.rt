@@ -24,7 +24,8 @@ pub(crate) fn cost_from<P: Planned>(
     present: Moment,
 ) -> Result<Option<Cost>, AllocError>
     requires { present ≤ MAX_MOMENT }
-    ensures { IfOk result (λ cost. MatchOption cost (HasCycle cell.now.plan) (IsCostFrom cell.now.plan cell.now.cell present)) }
+    ensures { IfOk result
+        (λ cost. MatchOption cost (HasCycle cell.now.plan) (IsCostFrom cell.now.plan cell.now.cell present)) }
 {
     // Both called for their clauses alone: the cell is sound, and its cleanings began within the limit.
     let _plan = cell.shaped();

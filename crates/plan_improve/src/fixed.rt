@@ -18,8 +18,8 @@ pub(crate) enum Fixed<'a> {
     Nothing {
         at_least: Moment,
     },
-    /// The run that a log's whole lines record, which are read once, before: a plan is improved for the rest of it from a
-    /// present moment on, and this is what it has left.
+    /// The run that a log's whole lines record, which are read once, before: a plan is improved for the rest of it from
+    /// a present moment on, and this is what it has left.
     Run {
         log: &'a [u8],
         present: Moment,

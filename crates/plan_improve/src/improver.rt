@@ -14,8 +14,8 @@ pub trait Improver: Drop {
 
     /// An order for each machine of the shop, or none, where the plan is the best one so far. What a run has left of it
     /// is given too; `None` where no run has begun. Rounds are numbered from 0, so that an improver that is asked again
-    /// can look elsewhere. Nothing is required of an answer: orders that don't fit the shop, don't begin with the entries
-    /// so far, make a cycle or are no better are passed over.
+    /// can look elsewhere. Nothing is required of an answer: orders that don't fit the shop, don't begin with the
+    /// entries so far, make a cycle or are no better are passed over.
     fn improve(
         &self,
         alloc: Global,

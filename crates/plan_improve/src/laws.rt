@@ -7,7 +7,8 @@
 
 ghost use Rattle.plan_improve.specs.Laws.{AcceptedPlansStayAccepted, TheirMakespansNeverGrow, ASecondSearchIsNoWorse};
 ghost use Rattle.plan_improve.specs.Laws.{NoWorseIsPassedOn, NobodyBettersIt, EachOrderHasOneCell};
-ghost use Rattle.plan_improve.specs.Laws.{ALogIsKeptByTheEntries, AcceptedRestsStayAccepted, TheRestOfTheStartCostsThePlan};
+ghost use Rattle.plan_improve.specs.Laws.{ALogIsKeptByTheEntries, AcceptedRestsStayAccepted};
+ghost use Rattle.plan_improve.specs.Laws.{TheRestOfTheStartCostsThePlan};
 
 /// A plan that is no worse than an accepted one is accepted, and its makespan is no greater.
 pub fn accepted_plans_stay_accepted()
@@ -34,8 +35,8 @@ pub fn a_log_has_one_cell()
     ensures { EachOrderHasOneCell }
 {}
 
-/// Lines that record a run of a plan record one of another that differs in its orders alone exactly where each machine's
-/// other order begins with those that have entered it.
+/// Lines that record a run of a plan record one of another that differs in its orders alone exactly where each
+/// machine's other order begins with those that have entered it.
 pub fn a_log_is_kept_by_the_entries()
     ensures { ALogIsKeptByTheEntries }
 {}

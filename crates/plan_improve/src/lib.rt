@@ -1,6 +1,6 @@
 //! Better plans, and never a worse one: untrusted improvers are asked for orders, and the best plan so far is kept. A
-//! whole plan is improved, or one for the rest of a run, from what its log records and a present moment on; then the log
-//! still records a run of the best plan.
+//! whole plan is improved, or one for the rest of a run, from what its log records and a present moment on; then the
+//! log still records a run of the best plan.
 #![tactic(auto)]
 
 mod annealing_improver;

@@ -21,8 +21,8 @@ pub(crate) enum Recast {
     Stays(WorkCell<Shaped>),
 }
 
-/// The cell by its plan with other orders, if they fit the shop and begin with the entries so far: then what has happened
-/// is a run of that plan too, which leads to the same cell. Takes no memory.
+/// The cell by its plan with other orders, if they fit the shop and begin with the entries so far: then what has
+/// happened is a run of that plan too, which leads to the same cell. Takes no memory.
 pub(crate) fn reorder(cell: WorkCell<Shaped>, order: Vec<Vec<JobNo>>) -> Recast
     requires { IsReached cell.plan cell.cell }
     ensures { IsRecast cell (lists_of order.items) result }

@@ -13,7 +13,8 @@ ghost use Rattle.plan_improve.specs.Settings.{rest_after};
 ghost use Rattle.plan_improve.specs.Faults.{IsImproveRestFault};
 ghost use Rattle.plan_improve.specs.RestCosts.{IsCellOf};
 ghost use Rattle.plan_improve.specs.Runs.{ReportedRounds, Rounds};
-ghost use Rattle.plan_improve.specs.Improved.{HasNoRestBegin, IsNeverWorse, IsFound, IsFoundReported, IsVerdictOn, present_of};
+ghost use Rattle.plan_improve.specs.Improved.{HasNoRestBegin, IsNeverWorse, IsFound};
+ghost use Rattle.plan_improve.specs.Improved.{IsFoundReported, IsVerdictOn, present_of};
 ghost use Rattle.plan_improve.specs.RestKeeping.{IsBegun, IsImprovedReported};
 
 use crate::begun::{Begun, begun_at};
@@ -62,10 +63,11 @@ pub fn improve_after<W: Watch>(
     ensures found { let lines = ended_lines log.now in IfOk result (λ found. (c : Cell) → IsCellOf lines start c
         → HasNoRestBegin lines start ⊎ IsFound (rest_after lines (present_of at c.last))
         (Rounds (rest_after lines (present_of at c.last)) (λ b. may b) improvers.now rounds) start found.shaped) }
-    ensures reported { let lines = ended_lines log.now in IfOk result (λ found. (c : Cell) → IsCellOf lines start c
-        → HasNoRestBegin lines start
+    ensures reported { let lines = ended_lines log.now in
+        IfOk result (λ found. (c : Cell) → IsCellOf lines start c → HasNoRestBegin lines start
         ⊎ IsFoundReported (rest_after lines (present_of at c.last)) (W.reported watch.old) (W.reported watch.new)
-        (ReportedRounds (rest_after lines (present_of at c.last)) (λ b. may b) improvers.now rounds) start found.shaped) }
+        (ReportedRounds (rest_after lines (present_of at c.last)) (λ b. may b) improvers.now rounds) start
+        found.shaped) }
     ensures verdict { IfOk result (λ found. (c : Cell) → IsCellOf (ended_lines log.now) start c
         → IsVerdictOn found.shaped c (present_of at c.last) found.verdict) }
     ensures stays_accepted { IfOk result (λ found. (c : Cell) → IsCellOf (ended_lines log.now) start c

@@ -15,8 +15,8 @@ use cell_tables::WorkCell;
 use shop_base::Shaped;
 use std::alloc::{AllocError, Global};
 
-/// The cell by the best plan that is met from its own on; the cell itself if there is no plan to begin with. On a fault some
-/// plan that differs in its orders alone comes back.
+/// The cell by the best plan that is met from its own on; the cell itself if there is no plan to begin with. On a fault
+/// some plan that differs in its orders alone comes back.
 pub(crate) fn search<W: Watch>(
     alloc: Global,
     start: WorkCell<Shaped>,

@@ -13,5 +13,6 @@ pub trait Watch {
     /// run the bound is 0.
     fn round(&mut self, round: u32, late: Moment, makespan: Moment, at_least: Moment)
         ensures reported { ReportsMore (reported self.old)
-            (record { round = round; cost = record { late = late; makespan = makespan }; at_least = at_least } ∷ []) (reported self.new) };
+            (record { round = round; cost = record { late = late; makespan = makespan }; at_least = at_least } ∷ [])
+            (reported self.new) };
 }

@@ -12,8 +12,8 @@ use cell_tables::WorkCell;
 use shop_base::{MachineNo, Node, Planned};
 use std::alloc::{AllocError, Global};
 
-/// The arcs from each place of a job to its next, as long as the step's nominal time, and those from the leaving of a job
-/// that is on a machine to the entries of the others, as long as its cleaning time.
+/// The arcs from each place of a job to its next, as long as the step's nominal time, and those from the leaving of a
+/// job that is on a machine to the entries of the others, as long as its cleaning time.
 pub(crate) fn fixed_arcs<P: Planned>(
     alloc: Global,
     cell: &WorkCell<P>,

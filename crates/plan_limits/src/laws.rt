@@ -6,9 +6,9 @@
 ghost use Rattle.plan_limits.specs.LimitsLaw.{EveryPlanGivesMoments, AcceptablePlansKeepLimits, NeverIsNeverAccepted};
 ghost use Rattle.plan_limits.specs.LimitsLaw.{NeverIsNeverAcceptedFromThere, TheStartIsEveryPlan};
 
-/// Every plan that goes on from a cell and keeps limits gives moments that respect what goes on and every arc of a job, by
-/// which, of any two jobs on a machine, one enters after the other has left and the machine is clean, and by which each
-/// job that has a limit and isn't gone leaves within it.
+/// Every plan that goes on from a cell and keeps limits gives moments that respect what goes on and every arc of a job,
+/// by which, of any two jobs on a machine, one enters after the other has left and the machine is clean, and by which
+/// each job that has a limit and isn't gone leaves within it.
 pub fn every_plan_gives_moments()
     ensures { EveryPlanGivesMoments }
 {}
@@ -19,8 +19,8 @@ pub fn acceptable_plans_keep_limits()
 {}
 
 /// Where no plan keeps the limits, no plan of this shop with these releases and cleaning times is to be accepted that
-/// has, for the jobs that have a limit, no budget above it, and none is verified; and where none does that goes on from a
-/// cell, no rest from there is to be accepted by such a plan.
+/// has, for the jobs that have a limit, no budget above it, and none is verified; and where none does that goes on from
+/// a cell, no rest from there is to be accepted by such a plan.
 pub fn never_is_never_accepted()
     ensures whole { NeverIsNeverAccepted }
     ensures from_there { NeverIsNeverAcceptedFromThere }

@@ -24,7 +24,8 @@ pub(crate) fn first_moments<P: Planned>(
 ) -> Result<Vec<Moment>, AllocError>
     requires numbered { AreNumbered (times_of cell.now.plan) cell.now.cell nodes.now }
     requires in_range { present ≤ MAX_MOMENT }
-    ensures first { IfOk result (λ first. AreFirst (stage_of cell.now.plan cell.now.cell present) nodes.now first.items) }
+    ensures first { IfOk result
+        (λ first. AreFirst (stage_of cell.now.plan cell.now.cell present) nodes.now first.items) }
     ensures count { IfOk result (λ first. length first.items ≡ length nodes.now) }
 {
     let mut first = Vec::new(alloc);
@@ -34,8 +35,8 @@ pub(crate) fn first_moments<P: Planned>(
     Ok(first)
 }
 
-/// The first moment of a node: the present one or that at which what goes on with its job is due, if it is the job's next
-/// node, and that at which the cleaning of the machine that its job enters by it is due.
+/// The first moment of a node: the present one or that at which what goes on with its job is due, if it is the job's
+/// next node, and that at which the cleaning of the machine that its job enters by it is due.
 fn first_of<P: Planned>(cell: &WorkCell<P>, present: Moment, node: Node) -> Moment
     requires place { IsPlace (times_of cell.now.plan) cell.now.cell node }
     requires in_range { present ≤ MAX_MOMENT }
@@ -62,7 +63,8 @@ fn begun_of<P: Planned>(cell: &WorkCell<P>, present: Moment, node: Node) -> Mome
 /// The first moment of an entry, by the cleaning of its machine.
 fn cleaned_of<P: Planned>(cell: &WorkCell<P>, node: Node) -> Moment
     requires { IsPlace (times_of cell.now.plan) cell.now.cell node }
-    ensures { (present : ℕ) (w : Node → ℕ) → AreFineMoments (stage_of cell.now.plan cell.now.cell present) w → result ≤ w node }
+    ensures { (present : ℕ) (w : Node → ℕ)
+        → AreFineMoments (stage_of cell.now.plan cell.now.cell present) w → result ≤ w node }
 {
     // Called for its clause alone: the plan is well shaped.
     let _plan = cell.shaped();

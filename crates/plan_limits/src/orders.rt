@@ -9,7 +9,8 @@ use shop_base::{JobNo, Moment, Node, Planned, Shaped};
 use std::alloc::{AllocError, Global};
 
 /// The orders in which the jobs that are asked for, and those in the cell, enter the machines at these moments, behind
-/// those that have entered, the lesser job first where two are the same; the other jobs stand behind, in ascending order.
+/// those that have entered, the lesser job first where two are the same; the other jobs stand behind, in ascending
+/// order.
 pub(crate) fn orders_by<P: Planned>(
     alloc: Global,
     cell: &WorkCell<P>,

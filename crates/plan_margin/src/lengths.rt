@@ -7,7 +7,8 @@ ghost use Rattle.alt_graph.specs.LatestRows.{HasRows, moment_in};
 ghost use Rattle.alt_graph.specs.Sources.{IsJobArc};
 ghost use Rattle.plan_margin.specs.declared.margin.TheConstants.{MAX_MARGIN};
 ghost use Rattle.plan_margin.specs.Longer.{longer};
-ghost use Rattle.plan_margin.specs.Lengths.{AreLengths, AreReached, IsLength, AreShort, AreAllWithin, IsFirstOver, MAX_LENGTH};
+ghost use Rattle.plan_margin.specs.Lengths.{AreLengths, AreReached, IsLength, AreShort};
+ghost use Rattle.plan_margin.specs.Lengths.{AreAllWithin, IsFirstOver, MAX_LENGTH};
 ghost use Rattle.plan_margin.specs.Order.{IsInOrder};
 
 use alt_graph::{ArcIn, Graph, job_source};
@@ -42,7 +43,8 @@ fn length_to(graph: &Graph<'_>, lengths: &[Moment], node: Node, thousandths: u32
     requires rows { HasRows graph.now.plan graph.now.firsts lengths.now }
     requires most { thousandths ≤ MAX_MARGIN }
     requires short { AreShort graph.now.plan (moment_in graph.now.firsts lengths.now) node }
-    ensures { let p = graph.now.plan in IsLength p thousandths (moment_in graph.now.firsts lengths.now) (Arc p) node result }
+    ensures { let p = graph.now.plan in
+        IsLength p thousandths (moment_in graph.now.firsts lengths.now) (Arc p) node result }
 {
     let along = length_in_job(graph, lengths, node, thousandths);
     match graph.blocking_source(node) {
@@ -57,7 +59,8 @@ fn length_in_job(graph: &Graph<'_>, lengths: &[Moment], node: Node, thousandths:
     requires rows { HasRows graph.now.plan graph.now.firsts lengths.now }
     requires most { thousandths ≤ MAX_MARGIN }
     requires short { AreShort graph.now.plan (moment_in graph.now.firsts lengths.now) node }
-    ensures { let p = graph.now.plan in IsLength p thousandths (moment_in graph.now.firsts lengths.now) (IsJobArc p) node result }
+    ensures { let p = graph.now.plan in
+        IsLength p thousandths (moment_in graph.now.firsts lengths.now) (IsJobArc p) node result }
 {
     match job_source(graph.shaped(), node) {
         Some(source) => length_over(graph, lengths, source, thousandths),

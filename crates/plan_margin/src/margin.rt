@@ -27,10 +27,10 @@ pub struct Margin {
     pub then: Option<JobNo>,
 }
 
-/// The margin of an accepted plan: the greatest number of thousandths by which each nominal and each cleaning time can be
-/// longer, not rounded, so that each job's earliest leaving keeps its budget. While each job has come by its release, and
-/// nothing takes longer than that, every job is out by its budget. Linear in the nodes, the arcs and the machines, some
-/// fifteen times over; fails only when out of memory.
+/// The margin of an accepted plan: the greatest number of thousandths by which each nominal and each cleaning time can
+/// be longer, not rounded, so that each job's earliest leaving keeps its budget. While each job has come by its
+/// release, and nothing takes longer than that, every job is out by its budget. Linear in the nodes, the arcs and the
+/// machines, some fifteen times over; fails only when out of memory.
 pub fn find_margin(alloc: Global, verified: &Verified) -> Result<Margin, AllocError>
     ensures exact { IfOk result (IsMargin verified.now.planned) }
     ensures in_time { IfOk result (λ margin. IsInTimeWithin verified.now.planned margin.thousandths) }
@@ -49,7 +49,8 @@ pub fn find_margin(alloc: Global, verified: &Verified) -> Result<Margin, AllocEr
     }
 }
 
-/// The first job that is late where everything takes so many thousandths longer, if one is. The lengths are written anew.
+/// The first job that is late where everything takes so many thousandths longer, if one is. The lengths are written
+/// anew.
 fn late_with(
     graph: &Graph<'_>,
     nodes: &[Option<Node>],
@@ -59,7 +60,8 @@ fn late_with(
     requires order { IsInOrder graph.now.plan nodes.now }
     requires rows { HasRows graph.now.plan graph.now.firsts lengths.old }
     requires most { thousandths ≤ MAX_MARGIN }
-    ensures late { let p = graph.now.plan in MatchOption result (HasLongerSchedule p thousandths) (IsFirstPast p thousandths) }
+    ensures late { let p = graph.now.plan in
+        MatchOption result (HasLongerSchedule p thousandths) (IsFirstPast p thousandths) }
     ensures rows { HasRows graph.now.plan graph.now.firsts lengths.new }
 {
     fill_lengths(graph, nodes, lengths, thousandths);

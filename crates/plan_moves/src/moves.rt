@@ -13,11 +13,11 @@ use cell_tables::WorkCell;
 use shop_base::{Moment, MoveOrder, Shaped};
 use std::alloc::{AllocError, Global};
 
-/// The moves from a cell and a present moment on, where every report comes when its activity is due, and what is overdue
-/// at the present moment ends at it, in the order in which a controller gives them. Of reports at one moment that of the
-/// least job comes first, and behind those of all jobs that of the least machine that is being cleaned. They end with the
-/// latest moment that a report may have. The plan must have no cycle; budgets aren't asked for. Of a whole plan the cell
-/// is the start and the present moment 0.
+/// The moves from a cell and a present moment on, where every report comes when its activity is due, and what is
+/// overdue at the present moment ends at it, in the order in which a controller gives them. Of reports at one moment
+/// that of the least job comes first, and behind those of all jobs that of the least machine that is being cleaned.
+/// They end with the latest moment that a report may have. The plan must have no cycle; budgets aren't asked for. Of a
+/// whole plan the cell is the start and the present moment 0.
 pub fn moves_from(
     alloc: Global,
     cell: WorkCell<Shaped>,
@@ -47,7 +47,8 @@ fn run_on<D: Dues>(
     requires { IsOnTime controller.old.planned present controller.old.cell }
     ensures plan { controller.new.planned ≡ controller.old.planned }
     ensures over { OnOk result (IsOver controller.new.planned present controller.new.cell) }
-    ensures runs { OnOk result (RunsOn controller.old.planned present controller.old.cell moves.old.items controller.new.cell moves.new.items) }
+    ensures runs { OnOk result (RunsOn controller.old.planned present controller.old.cell moves.old.items
+        controller.new.cell moves.new.items) }
 {
     'next: while let Some(report) = next_report(controller, present) {
         // Called for its clause alone: the plan is well shaped, the cell sound and at rest.

@@ -3,7 +3,8 @@
 ghost use Rattle.std.specs.Prelude.{ℕ, ◌+◌, ◌<◌, MatchBool, MatchOption};
 ghost use Rattle.shop_base.specs.Plan.{jobs, machines};
 ghost use Rattle.plan_moves.specs.NextReports.{IsNextReport, IsOver};
-ghost use Rattle.plan_moves.specs.Soonest.{IsSoonest, IsIdleBelow, IsPassedOver, IsFirstAt, ComesFirst, IsDueOnlyAt, IsDueAt, IsTurn, IsReportAt};
+ghost use Rattle.plan_moves.specs.Soonest.{IsSoonest, IsIdleBelow, IsPassedOver, IsFirstAt, ComesFirst};
+ghost use Rattle.plan_moves.specs.Soonest.{IsDueOnlyAt, IsDueAt, IsTurn, IsReportAt};
 
 use cell_control::{Dues, RestController};
 use shop_base::limits::MAX_MOMENT;
@@ -82,7 +83,8 @@ fn is_first<D: Dues>(controller: &RestController<D>, present: Moment, due: Momen
     !controller.is_late(due)
 }
 
-/// When the activity of a turn is due: of a job, or behind the jobs of a machine's cleaning. None if nothing goes on there.
+/// When the activity of a turn is due: of a job, or behind the jobs of a machine's cleaning. None if nothing goes on
+/// there.
 fn due_at<D: Dues>(controller: &RestController<D>, turn: u32) -> Option<Moment>
     requires { turn < jobs controller.now.planned + machines controller.now.planned }
     ensures { let p = controller.now.planned in let c = controller.now.cell in

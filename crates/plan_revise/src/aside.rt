@@ -38,7 +38,8 @@ fn is_aside(shaped: &Shaped, last: MachineNo) -> bool
 /// Whether each job that visits the machine is one that could be put aside there.
 fn are_aside(shaped: &Shaped, machine: MachineNo) -> bool
     requires { machine < machines shaped.now }
-    ensures { IsTrue result ↔ ((a : ℕ) → a < length (order shaped.now machine) → IsAsideJob shaped.now (job_at shaped.now machine a)) }
+    ensures { IsTrue result
+        ↔ ((a : ℕ) → a < length (order shaped.now machine) → IsAsideJob shaped.now (job_at shaped.now machine a)) }
 {
     let _plan = shaped.plan();
     for place in 0..shaped.order_of(machine).len() {

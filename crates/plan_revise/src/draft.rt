@@ -25,7 +25,10 @@ impl Model for Draft {
 
     ghost Value = { PlannedShop };
 
-    ghost view = { λ d. record { shop = record { machines = d.machines; routes = lists_of d.routes.items }; plan = plan_of d.release d.budget d.order d.clean } };
+    ghost view = { λ d. record {
+      shop = record { machines = d.machines; routes = lists_of d.routes.items };
+      plan = plan_of d.release d.budget d.order d.clean;
+    } };
 }
 
 impl Draft {

@@ -34,7 +34,8 @@ impl Draft {
         self.budget[job as usize] = NO_PROMISE;
     }
 
-    /// Gives the job, which is in no order, a route, a release and a budget, and puts it last in each order of the route.
+    /// Gives the job, which is in no order, a route, a release and a budget, and puts it last in each order of the
+    /// route.
     pub(crate) fn place(
         &mut self,
         job: JobNo,

@@ -2,7 +2,9 @@
 
 // Nothing is done here: a function's contract is the law, so a check of this crate proves it.
 
-ghost use Rattle.plan_revise.specs.RevisedLaw.{TheRunSoFarStays, NoCycleComes, NobodyElseIsLater, NoPartComesToAMachineThatIsDown, NoDeadlineComesSooner, AcceptedRestsStayAccepted};
+ghost use Rattle.plan_revise.specs.RevisedLaw.{TheRunSoFarStays, NoCycleComes, NobodyElseIsLater};
+ghost use Rattle.plan_revise.specs.RevisedLaw.{NoPartComesToAMachineThatIsDown, NoDeadlineComesSooner};
+ghost use Rattle.plan_revise.specs.RevisedLaw.{AcceptedRestsStayAccepted};
 
 use control_laws::laws::a_kept_run_is_one_of_the_other_plan;
 

@@ -30,7 +30,8 @@ impl Draft {
         requires revision { IsRevision run.now self.old }
         requires plant { machine < run.now.plant }
         ensures done { OnOk result (self.new ≡ without_machine run.now self.old machine (jobs self.old)) }
-        ensures room { OnOk result ((j k : ℕ) → moves_made run.now j ≡ 0 → Visits self.old j k machine → HasRoom run.now self.old) }
+        ensures room { OnOk result
+            ((j k : ℕ) → moves_made run.now j ≡ 0 → Visits self.old j k machine → HasRoom run.now self.old) }
         ensures refused { IfErr result (UnlessMemory (IsDownFault run.now self.old machine)) }
     {
         // Called for its clause alone: what changes are judged by is sound.
@@ -51,8 +52,10 @@ impl Draft {
     ) -> Result<(), Refusal>
         requires revision { IsRevision run.now self.old }
         requires job { job < jobs self.old }
-        ensures done { OnOk result (self.new ≡ stopped_at run.now self.old job (place_on machine (route self.old job))) }
-        ensures room { OnOk result ((k : ℕ) → moves_made run.now job ≡ 0 → Visits self.old job k machine → HasRoom run.now self.old) }
+        ensures done { OnOk result
+            (self.new ≡ stopped_at run.now self.old job (place_on machine (route self.old job))) }
+        ensures room { OnOk result
+            ((k : ℕ) → moves_made run.now job ≡ 0 → Visits self.old job k machine → HasRoom run.now self.old) }
         ensures refused { IfErr result (UnlessMemory (IsNoRoomFor run.now self.old job machine)) }
     {
         let Some(place) = place_of(machine, &self.routes[job as usize]) else {

@@ -18,8 +18,8 @@ use shop_base::{JobNo, JobState, MachineNo, Moment, Node, Planned, Step};
 use std::alloc::{AllocError, Global};
 use std::marker::Model;
 
-/// The rest of a run from a cell and the present moment on, with the earliest moment of each node ahead, and its deadlines
-/// if it is accepted. Passed nodes have moments that no line shows.
+/// The rest of a run from a cell and the present moment on, with the earliest moment of each node ahead, and its
+/// deadlines if it is accepted. Passed nodes have moments that no line shows.
 #[derive(Drop)]
 pub(crate) struct Calendar<'a, P: Planned> {
     cell: &'a WorkCell<P>,
@@ -35,9 +35,11 @@ impl<'a, P: Planned> Model for Calendar<'a, P> {
 
     ghost Value = { PlanCalendar };
 
-    ghost view = { λ c. calendar_of c.cell.now.plan c.cell.now.cell c.present c.times.now (seen c.deadlines (λ d. d.now)) };
+    ghost view = { λ c.
+        calendar_of c.cell.now.plan c.cell.now.cell c.present c.times.now (seen c.deadlines (λ d. d.now)) };
 
-    ghost invariant = { λ c. (c.graph.plan ≡ c.cell.now.plan) × IsCalendar (calendar_of c.cell.now.plan c.cell.now.cell c.present c.times.now (seen c.deadlines (λ d. d.now))) };
+    ghost invariant = { λ c. (c.graph.plan ≡ c.cell.now.plan) × IsCalendar
+        (calendar_of c.cell.now.plan c.cell.now.cell c.present c.times.now (seen c.deadlines (λ d. d.now))) };
 }
 
 impl<'a, P: Planned> Calendar<'a, P> {
@@ -52,7 +54,8 @@ impl<'a, P: Planned> Calendar<'a, P> {
         requires present { IsNextMoment cell.now.cell present }
         requires ordered { AreOrderedAhead cell.now.plan cell.now.cell present times.now }
         requires deadlines { HasDeadlines cell.now.plan (seen deadlines (λ d. d.now)) }
-        ensures { IfOk result (λ k. k ≡ calendar_of cell.now.plan cell.now.cell present times.now (seen deadlines.entry (λ d. d.now))) }
+        ensures { IfOk result
+            (λ k. k ≡ calendar_of cell.now.plan cell.now.cell present times.now (seen deadlines.entry (λ d. d.now))) }
     {
         // Called for its clause alone: sums with these moments fit.
         cleanings_in_range(cell);
@@ -255,7 +258,8 @@ impl<'a, P: Planned> Calendar<'a, P> {
         (since + self.cell.shaped().clean_of(machine)).max(self.present)
     }
 
-    /// The deadline of the entry of the machine by the next job in its order, if there is one, and the rest is accepted.
+    /// The deadline of the entry of the machine by the next job in its order, if there is one, and the rest is
+    /// accepted.
     fn next_due(&self, machine: MachineNo) -> Option<Moment>
         requires { machine < machines self.now.plan }
         ensures { let k = self.now in IsNextDue k.plan k.cell (due_at k) machine result }

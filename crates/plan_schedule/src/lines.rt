@@ -2,15 +2,16 @@
 
 ghost use Rattle.std.specs.Prelude.{◌≡◌, ◌+◌, ◌≤◌, ◌++◌, length, OnOk, Some};
 ghost use Rattle.plan_explain.specs.Arcs.{before};
-ghost use Rattle.plan_schedule.specs.Lines.{due_words, arrival_line, ending_words, visit_line, cleaning_line, left_line, arrived_line};
+ghost use Rattle.plan_schedule.specs.Lines.{due_words, arrival_line, ending_words, visit_line};
+ghost use Rattle.plan_schedule.specs.Lines.{cleaning_line, left_line, arrived_line};
 
 use people_names::Names;
 use plan_explain::{Line, push_job_at, push_line, put_job};
 use shop_base::{JobNo, MachineNo, Moment};
 use std::alloc::AllocError;
 
-/// A visit of a job to a machine: when its operation begins and ends, its deadline, whether it is done, and when the job
-/// leaves.
+/// A visit of a job to a machine: when its operation begins and ends, its deadline, whether it is done, and when the
+/// job leaves.
 #[derive(Clone, Copy)]
 pub(crate) struct Visit {
     pub job: JobNo,
@@ -46,8 +47,8 @@ pub(crate) fn push_arrival_line(
     push_job_at(text, names, &mut line, job, b" arrives ", release)
 }
 
-/// Adds `job J on machine M from E to F by D leaves L`; of a visit that the job is in `.. since E to F by D leaves L`, or
-/// `.. since E done leaves L`.
+/// Adds `job J on machine M from E to F by D leaves L`; of a visit that the job is in `.. since E to F by D leaves L`,
+/// or `.. since E done leaves L`.
 #[inline(always)]
 pub(crate) fn push_visit_line(
     text: &mut Vec<u8>,
@@ -85,7 +86,8 @@ fn put_ending(line: &mut Line, names: &Names, visit: Visit)
     }
 }
 
-/// Adds `machine M cleaned from L to C by D`, or `.. since L to C by D` if the cleaning goes on; nothing if there is none.
+/// Adds `machine M cleaned from L to C by D`, or `.. since L to C by D` if the cleaning goes on; nothing if there is
+/// none.
 pub(crate) fn push_cleaning_line(
     text: &mut Vec<u8>,
     names: &Names,

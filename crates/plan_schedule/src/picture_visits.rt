@@ -5,7 +5,9 @@ ghost use Rattle.shop_base.specs.{Report.IsNextMoment, Plan.jobs, Plan.steps, Ce
 ghost use Rattle.alt_graph.specs.Times.{earliest_of, AreRanks};
 ghost use Rattle.plan_verifier.specs.Rest.{AreOrderedAhead};
 ghost use Rattle.plan_schedule.specs.Calendars.{at_of};
-ghost use Rattle.plan_schedule.specs.DrawnVisits.{known_cleaning, drawn_visit, job_visits, place_inside, cleaning_end, ended_cleaning, left_visit, going_visit, staying_visit, ended_visit, job_ahead, visits_ahead, leavings_by, IsDrawnRun};
+ghost use Rattle.plan_schedule.specs.DrawnVisits.{known_cleaning, drawn_visit, job_visits, place_inside, cleaning_end};
+ghost use Rattle.plan_schedule.specs.DrawnVisits.{ended_cleaning, left_visit, going_visit, staying_visit, ended_visit};
+ghost use Rattle.plan_schedule.specs.DrawnVisits.{job_ahead, visits_ahead, leavings_by, IsDrawnRun};
 
 use crate::calendar::Calendar;
 use crate::lines::Cleaning;
@@ -26,9 +28,9 @@ pub struct DrawnRun {
 }
 
 /// The run that goes on from a cell and the present moment, by the earliest moments ahead: first the visits that are
-/// told so far, in their order, with their ends, and then those ahead, the jobs ascending, each job's visits in the order
-/// of its route. What is overdue is taken to end at the present moment. A whole plan is such a run from the start on, of
-/// which nothing is told. Fails only when out of memory.
+/// told so far, in their order, with their ends, and then those ahead, the jobs ascending, each job's visits in the
+/// order of its route. What is overdue is taken to end at the present moment. A whole plan is such a run from the start
+/// on, of which nothing is told. Fails only when out of memory.
 pub fn drawn_run<'a, P: Planned>(
     alloc: Global,
     cell: &'a WorkCell<P>,
@@ -55,7 +57,8 @@ fn leavings_by<P: Planned>(
     times: &Times,
 ) -> Result<Vec<Option<Moment>>, AllocError>
     requires { AreRanks cell.now.plan times.now }
-    ensures { IfOk result (λ leavings. leavings.items ≡ leavings_by cell.now.plan (earliest_of times.now) (jobs cell.now.plan)) }
+    ensures { IfOk result
+        (λ leavings. leavings.items ≡ leavings_by cell.now.plan (earliest_of times.now) (jobs cell.now.plan)) }
 {
     let mut leavings = Vec::new(alloc);
     for job in 0..cell.job_count() {
@@ -71,7 +74,8 @@ fn push_drawn<P: Planned>(
     drawn: &[DrawnVisit],
 ) -> Result<(), AllocError>
     ensures { let k = calendar.now in
-        OnOk result (visits.new.items ≡ visits.old.items ++ map (ended_visit k.plan k.cell k.present (at_of k)) drawn.now) }
+        OnOk result
+        (visits.new.items ≡ visits.old.items ++ map (ended_visit k.plan k.cell k.present (at_of k)) drawn.now) }
 {
     for visit in drawn {
         visits.push(ended_visit(calendar, *visit))?;
@@ -209,7 +213,8 @@ fn push_job<P: Planned>(
     job: JobNo,
 ) -> Result<(), AllocError>
     requires { job < jobs calendar.now.plan }
-    ensures { let k = calendar.now in OnOk result (visits.new.items ≡ visits.old.items ++ job_ahead k.plan k.cell (at_of k) job) }
+    ensures { let k = calendar.now in
+        OnOk result (visits.new.items ≡ visits.old.items ++ job_ahead k.plan k.cell (at_of k) job) }
 {
     let made = calendar.state(job).made;
     if calendar.steps(job) < made {
@@ -229,7 +234,8 @@ fn push_visits<P: Planned>(
     requires first { first ≤ steps calendar.now.plan job }
     requires ahead { made calendar.now.cell job ≤ first }
     ensures { let k = calendar.now in
-        OnOk result (visits.new.items ≡ visits.old.items ++ job_visits k.plan (at_of k) job first (steps k.plan job - first)) }
+        OnOk result
+        (visits.new.items ≡ visits.old.items ++ job_visits k.plan (at_of k) job first (steps k.plan job - first)) }
 {
     for place in first..calendar.steps(job) {
         visits.push(drawn_visit(calendar, job, place))?;

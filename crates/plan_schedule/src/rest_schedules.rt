@@ -22,8 +22,8 @@ use std::alloc::{AllocError, Global};
 /// When what is left of a run begins and ends, and how late it may end, from a cell and the present moment on: after
 /// the verdict's first line the lines of each job in ascending order, and then the lines of the cleanings that go on.
 /// What is overdue is taken to end at the present moment. Moments are whole time units, the earliest for each move
-/// ahead. If the rest is accepted, the deadlines follow them. A plan with a cycle has only its first line. Behind the first
-/// line jobs, machines and moments are told by names and clock.
+/// ahead. If the rest is accepted, the deadlines follow them. A plan with a cycle has only its first line. Behind the
+/// first line jobs, machines and moments are told by names and clock.
 pub fn schedule_after<P: Planned>(
     alloc: Global,
     names: &Names,
@@ -33,7 +33,8 @@ pub fn schedule_after<P: Planned>(
 ) -> Result<Vec<u8>, AllocError>
     requires present { IsNextMoment cell.now.cell present }
     requires judged { IsRestJudged cell.now.plan cell.now.cell present (lent verdict) }
-    ensures { IfOk result (λ text. IsRestScheduled names.now cell.now.plan cell.now.cell present (lent verdict.entry) text.items) }
+    ensures { IfOk result
+        (λ text. IsRestScheduled names.now cell.now.plan cell.now.cell present (lent verdict.entry) text.items) }
 {
     let mut text = first_line_after(alloc, cell, verdict)?;
     push_lines_behind(alloc, &mut text, names, cell, present, verdict)?;
@@ -52,7 +53,8 @@ fn push_lines_behind<P: Planned>(
     requires present { IsNextMoment cell.now.cell present }
     requires judged { IsRestJudged cell.now.plan cell.now.cell present (lent verdict) }
     ensures { let p = cell.now.plan in
-        OnOk result (Adds (AreRestScheduledBehind names.now p cell.now.cell present (lent verdict.entry)) text.old.items text.new.items) }
+        OnOk result (Adds (AreRestScheduledBehind names.now p cell.now.cell present (lent verdict.entry))
+        text.old.items text.new.items) }
 {
     match verdict {
         Seen::Accepted(times) => {
@@ -84,8 +86,8 @@ fn push_lines<'a, P: Planned>(
     requires present { IsNextMoment cell.now.cell present }
     requires ordered { AreOrderedAhead cell.now.plan cell.now.cell present times.now }
     requires deadlines { HasDeadlines cell.now.plan (seen deadlines (λ d. d.now)) }
-    ensures { OnOk result (Adds (AreRestLines names.now cell.now.plan cell.now.cell present (earliest_of times.now) (due_in (seen deadlines.entry (λ d. d.now))))
-        text.old.items text.new.items) }
+    ensures { OnOk result (Adds (AreRestLines names.now cell.now.plan cell.now.cell present (earliest_of times.now)
+        (due_in (seen deadlines.entry (λ d. d.now)))) text.old.items text.new.items) }
 {
     let calendar = Calendar::new(alloc, cell, present, times, deadlines)?;
     push_all(text, names, &calendar)

@@ -22,7 +22,8 @@ pub(crate) fn push_all<P: Planned>(
     calendar: &Calendar<'_, P>,
 ) -> Result<(), AllocError>
     ensures { let k = calendar.now in
-        OnOk result (Adds (AreRestLines names.now k.plan k.cell k.present (at_of k) (due_at k)) text.old.items text.new.items) }
+        OnOk result
+        (Adds (AreRestLines names.now k.plan k.cell k.present (at_of k) (due_at k)) text.old.items text.new.items) }
 {
     push_jobs(text, names, calendar)?;
     push_cleanings(text, names, calendar)
@@ -48,7 +49,8 @@ fn push_cleanings<P: Planned>(
     calendar: &Calendar<'_, P>,
 ) -> Result<(), AllocError>
     ensures { let k = calendar.now in
-        OnOk result (Adds (AreTextsFrom (IsCleanedTextBy names.now k) 0 (machines k.plan)) text.old.items text.new.items) }
+        OnOk result
+        (Adds (AreTextsFrom (IsCleanedTextBy names.now k) 0 (machines k.plan)) text.old.items text.new.items) }
 {
     for machine in 0..calendar.machines() {
         let cleaning = calendar.cleaning_on(machine);
@@ -90,7 +92,8 @@ fn push_arrival<P: Planned>(
 ) -> Result<(), AllocError>
     requires { job < jobs calendar.now.plan }
     ensures { let k = calendar.now in
-        OnOk result (text.new.items ≡ text.old.items ++ arrival_after names.now k.plan k.cell k.present (due_at k) job) }
+        OnOk result
+        (text.new.items ≡ text.old.items ++ arrival_after names.now k.plan k.cell k.present (due_at k) job) }
 {
     if calendar.state(job).ready {
         return push_arrived_line(text, names, job);
@@ -110,8 +113,9 @@ fn push_visits<P: Planned>(
     requires job { job < jobs calendar.now.plan }
     requires first { first ≤ steps calendar.now.plan job }
     requires ahead { made calendar.now.cell job ≤ first }
-    ensures { let k = calendar.now in OnOk result (Adds
-        (AreVisitsFrom names.now k.plan (at_of k) (due_at k) job first (steps k.plan job)) text.old.items text.new.items) }
+    ensures { let k = calendar.now in
+        OnOk result (Adds (AreVisitsFrom names.now k.plan (at_of k) (due_at k) job first (steps k.plan job))
+        text.old.items text.new.items) }
 {
     for place in first..calendar.steps(job) {
         let visit = calendar.visit(job, place);
@@ -120,8 +124,8 @@ fn push_visits<P: Planned>(
     Ok(())
 }
 
-/// Adds the lines of a visit by the step at a place of its job's route: its own and, if there is a cleaning, the cleaning's
-/// after it.
+/// Adds the lines of a visit by the step at a place of its job's route: its own and, if there is a cleaning, the
+/// cleaning's after it.
 #[inline(always)]
 fn push_visit<P: Planned>(
     text: &mut Vec<u8>,
@@ -135,7 +139,8 @@ fn push_visit<P: Planned>(
     requires job { visit.job < jobs calendar.now.plan }
     requires place { place < steps calendar.now.plan visit.job }
     requires left { made calendar.now.cell visit.job ≤ place + 1 }
-    ensures { OnOk result (Adds (IsVisitTextBy names.now calendar.now begins.now visit place) text.old.items text.new.items) }
+    ensures { OnOk result
+        (Adds (IsVisitTextBy names.now calendar.now begins.now visit place) text.old.items text.new.items) }
 {
     push_visit_line(text, names, begins, visit)?;
     let behind = calendar.cleaning(visit.job, place);

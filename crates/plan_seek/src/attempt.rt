@@ -25,7 +25,8 @@ pub(crate) enum Attempt {
 
 /// Shapes and verifies the plan with these orders.
 pub(crate) fn try_orders(alloc: Global, task: Task, order: Vec<Vec<JobNo>>) -> Attempt
-    ensures { IsOutcome task (λ found. found ≡ lists_of order.items) (IsInVain task (Some (lists_of order.items))) result }
+    ensures { IsOutcome task (λ found. found ≡ lists_of order.items)
+        (IsInVain task (Some (lists_of order.items))) result }
 {
     let (shop, plan) = task.with_order(order);
     match shape(shop, plan) {

@@ -4,8 +4,8 @@ use crate::simulated_cell::SimulatedCell;
 use shop_base::{JobNo, Moment, Shop};
 use std::alloc::{AllocError, Global};
 
-/// How many choices looking ahead makes at most. So many moves and waits no shop takes: there are 20,200 moves at most, and
-/// 20,000 ends of operations to wait for.
+/// How many choices looking ahead makes at most. So many moves and waits no shop takes: there are 20,200 moves at most,
+/// and 20,000 ends of operations to wait for.
 const MAX_CHOICES: u32 = 100_000;
 
 /// A planner that simulates the cell at nominal times, as if all releases were 0 and no machine had to be cleaned. At

@@ -16,7 +16,8 @@ pub(crate) fn orders_from(
     first: JobNo,
 ) -> Result<Vec<Vec<JobNo>>, AllocError>
     requires { first < length shop.now.routes }
-    ensures { IfOk result (λ orders. lists_of orders.items ≡ orders_along shop.now (jobs_from (length shop.now.routes) first)) }
+    ensures { IfOk result
+        (λ orders. lists_of orders.items ≡ orders_along shop.now (jobs_from (length shop.now.routes) first)) }
 {
     let mut orders = Vec::new(alloc);
     for machine in 0..shop.machines() {
@@ -33,7 +34,8 @@ fn order_from(
     machine: MachineNo,
 ) -> Result<Vec<JobNo>, AllocError>
     requires { first < length shop.now.routes }
-    ensures { IfOk result (λ order. order.items ≡ visitors shop.now (jobs_from (length shop.now.routes) first) machine) }
+    ensures { IfOk result
+        (λ order. order.items ≡ visitors shop.now (jobs_from (length shop.now.routes) first) machine) }
 {
     let mut order = Vec::new(alloc);
     add_visitors(shop, machine, first, shop.jobs(), &mut order)?;
@@ -51,7 +53,8 @@ fn add_visitors(
 ) -> Result<(), AllocError>
     requires ascending { from ≤ to }
     requires inside { to ≤ length shop.now.routes }
-    ensures { OnOk result (order.new.items ≡ order.old.items ++ visitors shop.now (range_with_len from (to - from)) machine) }
+    ensures { OnOk result
+        (order.new.items ≡ order.old.items ++ visitors shop.now (range_with_len from (to - from)) machine) }
 {
     for job in from..to {
         if is_visitor(shop, job, machine) {

@@ -26,9 +26,9 @@ pub fn the_most_rounds_in_numbers()
 
 /// Looks for an accepted plan with these numbers. In each round, from 0 on, it asks the proposers in order, and returns
 /// the first proposal that is accepted; last it tries the serial plan, in which each machine takes its jobs in
-/// ascending order. If the numbers have a fault, or else if the rounds are too many, that is the answer, and no proposer
-/// is asked (which no clause says). If no plan is found, everything is given back. `Exhausted` means that each turn may
-/// have failed, and that the serial plan is late.
+/// ascending order. If the numbers have a fault, or else if the rounds are too many, that is the answer, and no
+/// proposer is asked (which no clause says). If no plan is found, everything is given back. `Exhausted` means that each
+/// turn may have failed, and that the serial plan is late.
 pub fn seek(
     alloc: Global,
     shop: Shop,
@@ -38,11 +38,14 @@ pub fn seek(
     proposers: &[Box<dyn Proposer>],
     rounds: u32,
 ) -> Result<Verified, NotFound>
-    ensures same { IfOk result (λ verified. verified.planned ≡ with_order (task_of shop release budget clean) verified.planned.plan.order) }
+    ensures same { IfOk result
+        (λ verified. verified.planned ≡ with_order (task_of shop release budget clean) verified.planned.plan.order) }
     ensures accepted { IfOk result (λ verified. IsAccepted verified.planned) }
     ensures few_rounds { OnOk result (rounds ≤ MAX_ROUNDS) }
-    ensures sought { IfOk result (IsSoughtPlan (search_by (λ b. may b) proposers.now (task_of shop release budget clean)) rounds) }
-    ensures refused { IfErr result (IsSearchRefused (search_by (λ b. may b) proposers.now (task_of shop release budget clean)) rounds) }
+    ensures sought { IfOk result
+        (IsSoughtPlan (search_by (λ b. may b) proposers.now (task_of shop release budget clean)) rounds) }
+    ensures refused { IfErr result
+        (IsSearchRefused (search_by (λ b. may b) proposers.now (task_of shop release budget clean)) rounds) }
     ensures given_back { IfErr result (λ refused. task_given_back refused ≡ task_of shop release budget clean) }
 {
     let task = Task {

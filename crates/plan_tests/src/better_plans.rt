@@ -94,8 +94,8 @@ const SILENT: Answer = Answer::Silent;
 
 const SERIAL: Answer = Answer::Serial;
 
-/// A plan, the improvers, the rounds, the plan that comes out or back, whether it is accepted or the fault, how many rounds
-/// are told to the watch, and how often improvers are asked.
+/// A plan, the improvers, the rounds, the plan that comes out or back, whether it is accepted or the fault, how many
+/// rounds are told to the watch, and how often improvers are asked.
 type Search = (
     &'static [u8],
     [Answer; 3],

@@ -1,5 +1,6 @@
 //! Plans that are read and written again. Texts that are no plans, the spellings of TOML and the
-//! greatest plan stand in `tests/commands/command-lines`; usual plans are read and written in `wants.rt` of `command_tests`.
+//! greatest plan stand in `tests/commands/command-lines`; usual plans are read and written in `wants.rt` of
+//! `command_tests`.
 
 use crate::plans::{IN_SERIES, is_text};
 use plan_text::{PlanFault, plan_document, read_plan};

@@ -125,8 +125,8 @@ const HUNGRY: Answer = Answer::Hungry;
 /// Planners that propose nothing that is accepted.
 const WRONG: [Answer; 3] = [Answer::Short, Answer::Stranger, Answer::Crossed];
 
-/// The numbers of a plan, the planners, the first round in which they propose something, the rounds, the answer, and how
-/// often planners are asked.
+/// The numbers of a plan, the planners, the first round in which they propose something, the rounds, the answer, and
+/// how often planners are asked.
 type Search = (&'static [u8], [Answer; 3], u32, u32, &'static str, u32);
 
 const SEARCHES: &[Search] = &[

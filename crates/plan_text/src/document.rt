@@ -3,7 +3,8 @@
 ghost use Rattle.std.specs.Prelude.{◌≡◌, ◌⊎◌, ◌++◌, Err, IfOk, OnOk, IfErr, MatchBool, string_bytes};
 ghost use Rattle.shop_base.specs.Vectors.{lists_of};
 ghost use Rattle.plan_text.specs.Documents.{IsPlanText};
-ghost use Rattle.plan_text.specs.Lines.{list_text, after_first, numbers_text, rows_text, key_line, three_lines, version_line, plan_lines};
+ghost use Rattle.plan_text.specs.Lines.{list_text, after_first, numbers_text, rows_text, key_line};
+ghost use Rattle.plan_text.specs.Lines.{three_lines, version_line, plan_lines};
 
 use crate::compare::is_same;
 use crate::plan_fault::PlanFault;
@@ -43,7 +44,8 @@ fn push_numbers<I: Integer>(text: &mut String, numbers: &[I]) -> Result<(), Allo
 }
 
 fn push_more_rows(text: &mut String, rows: &[Vec<JobNo>]) -> Result<(), AllocError>
-    ensures { OnOk result (string_bytes text.new ≡ string_bytes text.old ++ after_first numbers_text (lists_of rows.now)) }
+    ensures { OnOk result
+        (string_bytes text.new ≡ string_bytes text.old ++ after_first numbers_text (lists_of rows.now)) }
 {
     for row in rows {
         text.push_str(", ")?;
@@ -74,7 +76,8 @@ fn push_line(text: &mut String, key: PlanKey, numbers: &[Moment]) -> Result<(), 
 }
 
 fn push_order_line(text: &mut String, rows: &[Vec<JobNo>]) -> Result<(), AllocError>
-    ensures { OnOk result (string_bytes text.new ≡ string_bytes text.old ++ key_line PlanKey.Order (rows_text (lists_of rows.now))) }
+    ensures { OnOk result
+        (string_bytes text.new ≡ string_bytes text.old ++ key_line PlanKey.Order (rows_text (lists_of rows.now))) }
 {
     text.push_str(PlanKey::Order.name())?;
     text.push_str(" = ")?;
@@ -137,7 +140,8 @@ pub fn plan_document(alloc: Global, plan: &Plan) -> Result<String, PlanFault>
 
 /// Whether a text is read as this plan.
 fn is_read_back(alloc: Global, text: &[u8], plan: &Plan) -> Result<bool, PlanFault>
-    ensures decided { IfOk result (λ same. MatchBool same (IsPlanText text.now plan.now) (IsPlanText text.now plan.now → ⊥)) }
+    ensures decided { IfOk result
+        (λ same. MatchBool same (IsPlanText text.now plan.now) (IsPlanText text.now plan.now → ⊥)) }
     ensures memory { IfErr result (λ fault. fault ≡ PlanFault.Memory) }
 {
     match read_plan(alloc, text) {

@@ -8,7 +8,8 @@ ghost use Rattle.toml.specs.Data.{get_member};
 ghost use Rattle.toml.specs.View.{view, table_view};
 ghost use Rattle.plan_text.specs.Keys.{name_of, value_at, version_in};
 ghost use Rattle.plan_text.specs.Answers.{PassesExactly};
-ghost use Rattle.plan_text.specs.Listing.{version_faults, has_cleaning, is_common_key, is_known_key, key_faults, missing_faults, missing_keys};
+ghost use Rattle.plan_text.specs.Listing.{version_faults, has_cleaning, is_common_key, is_known_key};
+ghost use Rattle.plan_text.specs.Listing.{key_faults, missing_faults, missing_keys};
 
 use crate::plan_fault::PlanFault;
 use crate::plan_key::{PlanKey, VERSION};

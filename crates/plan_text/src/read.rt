@@ -34,7 +34,8 @@ fn moments_at(alloc: Global, table: &Table, key: PlanKey) -> Result<Vec<Moment>,
 /// The rows of the order, where the table has one.
 fn rows_at(alloc: Global, table: &Table) -> Result<Vec<Vec<JobNo>>, PlanFault>
     ensures faults { Passes (faults_at order_faults (value_at (table_view table.now) PlanKey.Order)) result }
-    ensures value { IfOk result (λ rows. lists_of rows.items ≡ list_at rows_in (value_at (table_view table.now) PlanKey.Order)) }
+    ensures value { IfOk result
+        (λ rows. lists_of rows.items ≡ list_at rows_in (value_at (table_view table.now) PlanKey.Order)) }
 {
     match value_of(table, PlanKey::Order.name()) {
         Some(value) => rows_in(alloc, value),

@@ -11,9 +11,9 @@ use cell_tables::WorkCell;
 use shop_base::{Moment, Node, Planned};
 
 /// The length of a path ahead, from a cell and a present moment: the greatest moment before which its first node isn't
-/// reached, and the lengths of its arcs. It is confirmed from the cell alone. None for a list that isn't such a path, or has
-/// more nodes than there are. Where the path ends in a job's leaving, no controller has that job out earlier, as long as each
-/// activity takes its full time.
+/// reached, and the lengths of its arcs. It is confirmed from the cell alone. None for a list that isn't such a path,
+/// or has more nodes than there are. Where the path ends in a job's leaving, no controller has that job out earlier, as
+/// long as each activity takes its full time.
 pub fn check_chain_after<P: Planned>(
     cell: &WorkCell<P>,
     present: Moment,
@@ -22,7 +22,8 @@ pub fn check_chain_after<P: Planned>(
     requires { present ≤ MAX_MOMENT }
     ensures exact { (n : ℕ) → (result ≡ Some n) ↔ IsChainAhead cell.now.plan cell.now.cell present nodes.now n }
     ensures no_faster { let p = cell.now.plan in
-        IfSome result (λ n. (j : ℕ) → EndsIn nodes.now (leaving p j) → IsNeverGoneBeforeFrom p cell.now.cell present j n) }
+        IfSome result
+        (λ n. (j : ℕ) → EndsIn nodes.now (leaving p j) → IsNeverGoneBeforeFrom p cell.now.cell present j n) }
 {
     let rest = CellBounds { cell, present };
     check_chain_from(cell.shaped(), &PathBounds { rest }, nodes)

@@ -13,8 +13,9 @@ use std::alloc::{AllocError, Global};
 
 /// The latest moments of the nodes of a cell's plan. If a rest's earliest moments meet the budgets, the nodes ahead
 /// have them as its deadlines: while every activity ends by the deadline of the move that it holds up, every job that
-/// isn't gone is out by its budget, however long it took, and the rest stays accepted. They depend on the plan alone, so
-/// a node has the same one in every rest that has it ahead. Linear in the nodes, the arcs and the machines; fails only when out of memory.
+/// isn't gone is out by its budget, however long it took, and the rest stays accepted. They depend on the plan alone,
+/// so a node has the same one in every rest that has it ahead. Linear in the nodes, the arcs and the machines; fails
+/// only when out of memory.
 pub fn deadlines_after<P: Planned>(
     alloc: Global,
     cell: &WorkCell<P>,

@@ -38,7 +38,8 @@ fn late(alloc: Global, shaped: &Shaped, times: Times, job: JobNo) -> Result<Judg
     requires ranks { AreRanks shaped.now times }
     requires job { job < jobs shaped.now }
     ensures { let p = shaped.now in
-        (b : NodeBounds) → AreOrderedFrom p b times → IsFirstPastFrom p b (earliest_of times) job → IfOk result (IsJudgedFrom p b) }
+        (b : NodeBounds) → AreOrderedFrom p b times → IsFirstPastFrom p b (earliest_of times) job
+        → IfOk result (IsJudgedFrom p b) }
 {
     let leaves = leave_time(shaped, &times, job);
     match times.chain(alloc, leaving_of(shaped, job))? {

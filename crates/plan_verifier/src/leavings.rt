@@ -10,8 +10,8 @@ use alt_graph::{Bounds, Times};
 use cell_tables::WorkCell;
 use shop_base::{JobNo, Moment, Node, Planned, Shaped};
 
-/// The earliest moment at which the job can have left, in whole time units from moment 0: the greatest length of a path to
-/// its leaving. Of the rest of a run, and a job that is gone, it is the moment at which that left.
+/// The earliest moment at which the job can have left, in whole time units from moment 0: the greatest length of a path
+/// to its leaving. Of the rest of a run, and a job that is gone, it is the moment at which that left.
 pub fn leave_time<P: Planned>(plan: &P, times: &Times, job: JobNo) -> Moment
     requires ranks { AreRanks (P.planned plan.now) times.now }
     requires job { job < jobs (P.planned plan.now) }
@@ -74,7 +74,8 @@ fn is_late<B: Bounds>(shaped: &Shaped, bounds: &B, times: &Times, job: JobNo) ->
     requires ranks { AreRanks shaped.now times.now }
     requires job { job < jobs shaped.now }
     ensures { let p = shaped.now in
-        IsTrue result ↔ (IsAheadOf (B.bounds bounds.now) (leaving p job) × (budget p job < earliest_of times.now (leaving p job))) }
+        IsTrue result
+        ↔ (IsAheadOf (B.bounds bounds.now) (leaving p job) × (budget p job < earliest_of times.now (leaving p job))) }
 {
     if !bounds.is_ahead(leaving_of(shaped, job)) {
         return false;

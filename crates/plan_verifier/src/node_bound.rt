@@ -34,7 +34,8 @@ pub enum Hold {
         job: JobNo,
         machine: MachineNo,
     },
-    /// The machine that the node's job enters by it, as the next, is being cleaned since a moment, for its cleaning time.
+    /// The machine that the node's job enters by it, as the next, is being cleaned since a moment, for its cleaning
+    /// time.
     Cleaned {
         machine: MachineNo,
         since: Moment,
@@ -59,7 +60,8 @@ pub struct NodeBound {
 pub fn bound_after<P: Planned>(cell: &WorkCell<P>, present: Moment, node: Node) -> Option<NodeBound>
     requires node { IsNode cell.now.plan node }
     requires in_range { present ≤ MAX_MOMENT }
-    ensures { MatchOption result (IsHeldUp cell.now.plan cell.now.cell node → ⊥) (IsBoundOf cell.now.plan cell.now.cell present node) }
+    ensures { MatchOption result (IsHeldUp cell.now.plan cell.now.cell node → ⊥)
+        (IsBoundOf cell.now.plan cell.now.cell present node) }
 {
     // Called for its clause alone: the cell is sound.
     let _plan = cell.shaped();
@@ -78,8 +80,8 @@ pub fn bound_after<P: Planned>(cell: &WorkCell<P>, present: Moment, node: Node) 
     }
 }
 
-/// The bound of a node by the cleaning of the machine that its job enters by it, if it is the next entry there and the machine is
-/// being cleaned.
+/// The bound of a node by the cleaning of the machine that its job enters by it, if it is the next entry there and the
+/// machine is being cleaned.
 fn cleaning_bound<P: Planned>(cell: &WorkCell<P>, present: Moment, node: Node) -> Option<NodeBound>
     requires node { IsNode cell.now.plan node }
     requires in_range { present ≤ MAX_MOMENT }
@@ -107,7 +109,8 @@ fn job_bound<P: Planned>(cell: &WorkCell<P>, present: Moment, job: JobNo) -> Nod
     requires job { job < jobs cell.now.plan }
     requires here { made cell.now.cell job ≤ steps cell.now.plan job }
     ensures { let c = cell.now.cell in
-        IsBoundBy cell.now.plan c present (next_node c job) (due_of_job cell.now.plan job (job_in c job)) (job_turn c job) result }
+        IsBoundBy cell.now.plan c present (next_node c job) (due_of_job cell.now.plan job (job_in c job))
+        (job_turn c job) result }
 {
     bound_by(present, job_hold(cell, job), cell.job_due(job))
 }

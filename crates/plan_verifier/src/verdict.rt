@@ -16,12 +16,12 @@ pub enum Verdict {
     Refused(Shaped, Why),
 }
 
-/// What is to be said of what is ahead of a cell, by a plan that stays where it is: of the rest of a run, from a present
-/// moment on, or of a whole plan.
+/// What is to be said of what is ahead of a cell, by a plan that stays where it is: of the rest of a run, from a
+/// present moment on, or of a whole plan.
 #[derive(Debug, Drop)]
 pub enum Judged {
-    /// No arcs lead in a circle, and no path ahead to the leaving of a job that isn't gone is longer than its budget: the
-    /// ranks of all nodes, and the earliest moments of those ahead.
+    /// No arcs lead in a circle, and no path ahead to the leaving of a job that isn't gone is longer than its budget:
+    /// the ranks of all nodes, and the earliest moments of those ahead.
     Accepted(Times),
     /// There is such a circle, which lies ahead, or such a path.
     Refused(Why),

@@ -2,7 +2,8 @@ ghost use Rattle.std.specs.Prelude.{◌≡◌, ◌<◌, ◌≤◌, ◌↔◌, Ok
 ghost use Rattle.shop_base.specs.{Plan.jobs, declared.node.Node.Node, Cell.start, Graph.leaving, Graph.IsNode};
 ghost use Rattle.shop_base.specs.{Deadlines.AreDeadlines, ExactLaw.IsNeverGoneBefore};
 ghost use Rattle.alt_graph.specs.{Times.AreOrdered, Latest.HasMoment, Latest.moment_of};
-ghost use Rattle.plan_verifier.specs.Accepted.{IsVerified, IsGreatest, IsLongestTo, IsMakespan, IsNeverGoneAfter, IsGoneJustAt, IsPathToLeaving, kept_at};
+ghost use Rattle.plan_verifier.specs.Accepted.{IsVerified, IsGreatest, IsLongestTo, IsMakespan, IsNeverGoneAfter};
+ghost use Rattle.plan_verifier.specs.Accepted.{IsGoneJustAt, IsPathToLeaving, kept_at};
 ghost use Rattle.plan_verifier.specs.ByDeadlines.{FitBudgets, AreEnough, AreEnoughAtTheEnd, AreTheLatest};
 
 use crate::leavings::{leave_time, leaving_of, makespan};
@@ -73,15 +74,17 @@ impl Verified {
     }
 
     /// The deadlines of all nodes: the latest moments for their moves that leave each move after them its nominal and
-    /// cleaning times, and each job its budget. As long as every activity ends by the deadline of the move that it holds
-    /// up, every job is out by its budget, however long it took. Each call finds them anew, in time and memory linear in
-    /// the nodes and machines; it fails only when out of memory.
+    /// cleaning times, and each job its budget. As long as every activity ends by the deadline of the move that it
+    /// holds up, every job is out by its budget, however long it took. Each call finds them anew, in time and memory
+    /// linear in the nodes and machines; it fails only when out of memory.
     pub fn deadlines(&self, alloc: Global) -> Result<Deadlines, AllocError>
         ensures nodes { IfOk result (λ found. (v : Node) → IsNode self.now.planned v ↔ HasMoment found v) }
-        ensures deadlines { let p = self.now.planned in IfOk result (λ found. AreDeadlines p (start p) (moment_of found)) }
+        ensures deadlines { let p = self.now.planned in
+            IfOk result (λ found. AreDeadlines p (start p) (moment_of found)) }
         ensures fit { IfOk result (λ found. FitBudgets self.now.planned (moment_of found)) }
         ensures latest { IfOk result (λ found. AreTheLatest self.now.planned (moment_of found)) }
-        ensures not_before { IfOk result (λ found. (v : Node) → IsNode self.now.planned v → kept_at self.now v ≤ moment_of found v) }
+        ensures not_before { IfOk result
+            (λ found. (v : Node) → IsNode self.now.planned v → kept_at self.now v ≤ moment_of found v) }
         ensures out { IfOk result (λ found. AreEnoughAtTheEnd self.now.planned (moment_of found)) }
         ensures in_time { IfOk result (λ found. AreEnough self.now.planned (moment_of found)) }
     {

@@ -6,11 +6,14 @@ ghost use Rattle.shop_base.specs.{Report.IsNextMoment, Graph.leaving, ExactLaw.I
 ghost use Rattle.shop_base.specs.CycleLaw.{IsNeverDone, AreNeverMade};
 ghost use Rattle.alt_graph.specs.Times.{earliest_of};
 ghost use Rattle.plan_verifier.specs.Accepted.{IsAcceptable};
-ghost use Rattle.plan_verifier.specs.Verdicts.{SaysAccepted, OnAccepted, OnRefused, OnCycle, OnLate, IsReason, IsNeverInBudget};
+ghost use Rattle.plan_verifier.specs.Verdicts.{SaysAccepted, OnAccepted, OnRefused, OnCycle, OnLate};
+ghost use Rattle.plan_verifier.specs.Verdicts.{IsReason, IsNeverInBudget};
 ghost use Rattle.plan_verifier.specs.FromBounds.{IsJudgedWhole};
-ghost use Rattle.plan_verifier.specs.FromThere.{IsNeverStuckFrom, IsInTimeFrom, IsNeverGoneAfterFrom, IsNeverGoneBeforeFrom, IsJustInTimeFrom};
+ghost use Rattle.plan_verifier.specs.FromThere.{IsNeverStuckFrom, IsInTimeFrom, IsNeverGoneAfterFrom};
+ghost use Rattle.plan_verifier.specs.FromThere.{IsNeverGoneBeforeFrom, IsJustInTimeFrom};
 ghost use Rattle.plan_verifier.specs.FromThere.{IsNeverInBudgetFrom, IsNeverDoneFrom};
-ghost use Rattle.plan_verifier.specs.RestVerdicts.{IsAcceptableAhead, IsAcceptedAhead, IsReasonAhead, IsRestAccepted, OnRestRefused, OnRestCycle, OnRestTimes};
+ghost use Rattle.plan_verifier.specs.RestVerdicts.{IsAcceptableAhead, IsAcceptedAhead, IsReasonAhead, IsRestAccepted};
+ghost use Rattle.plan_verifier.specs.RestVerdicts.{OnRestRefused, OnRestCycle, OnRestTimes};
 
 use crate::cell_bounds::CellBounds;
 use crate::judging::judge;
@@ -63,15 +66,20 @@ pub fn verify_after<P: Planned>(
     requires { IsNextMoment cell.now.cell present }
     ensures accepted { IfOk result (IsAcceptedAhead cell.now.plan cell.now.cell present) }
     ensures refused { IfOk result (IsReasonAhead cell.now.plan cell.now.cell present) }
-    ensures exact { IfOk result (λ verdict. IsRestAccepted verdict ↔ IsAcceptableAhead cell.now.plan cell.now.cell present) }
+    ensures exact { IfOk result
+        (λ verdict. IsRestAccepted verdict ↔ IsAcceptableAhead cell.now.plan cell.now.cell present) }
     ensures never_stuck { IfOk result (OnRestTimes (λ times. IsNeverStuckFrom cell.now.plan cell.now.cell present)) }
     ensures in_time { IfOk result (OnRestTimes (λ times. IsInTimeFrom cell.now.plan cell.now.cell present)) }
     ensures no_later { let p = cell.now.plan in
-        IfOk result (OnRestTimes (λ times. (j : ℕ) → j < jobs p → IsNeverGoneAfterFrom p cell.now.cell present j (earliest_of times (leaving p j)))) }
+        IfOk result (OnRestTimes (λ times.
+        (j : ℕ) → j < jobs p → IsNeverGoneAfterFrom p cell.now.cell present j (earliest_of times (leaving p j)))) }
     ensures no_faster { let p = cell.now.plan in let c = cell.now.cell in
-        IfOk result (OnRestTimes (λ times. (j : ℕ) → j < jobs p → (IsGone p c j → ⊥) → IsNeverGoneBeforeFrom p c present j (earliest_of times (leaving p j)))) }
-    ensures just_in_time { IfOk result (OnRestTimes (λ times. IsJustInTimeFrom cell.now.plan cell.now.cell present (earliest_of times))) }
-    ensures stops { IfOk result (OnRestCycle (λ nodes. AreNeverMade cell.now.plan nodes × IsNeverDoneFrom cell.now.plan cell.now.cell)) }
+        IfOk result (OnRestTimes (λ times. (j : ℕ) → j < jobs p → (IsGone p c j → ⊥)
+        → IsNeverGoneBeforeFrom p c present j (earliest_of times (leaving p j)))) }
+    ensures just_in_time { IfOk result
+        (OnRestTimes (λ times. IsJustInTimeFrom cell.now.plan cell.now.cell present (earliest_of times))) }
+    ensures stops { IfOk result
+        (OnRestCycle (λ nodes. AreNeverMade cell.now.plan nodes × IsNeverDoneFrom cell.now.plan cell.now.cell)) }
     ensures just { IfOk result (OnRestRefused (IsNeverInBudgetFrom cell.now.plan cell.now.cell present)) }
 {
     judge_rest(alloc, cell, present)

@@ -4,17 +4,27 @@
 //! a driven run. For `audit`, `gantt` and `--after` `good_files_are_answered` takes a well shaped plan. The clause of
 //! `run` says what else they do.
 
-// Nothing is done here, but that a law of another crate is called: a function's contract is the law, so a check of this crate
-// proves it.
+// Nothing is done here, but that a law of another crate is called: a function's contract is the law, so a check of this
+// crate proves it.
 
-ghost use Rattle.command_run.specs.Laws.{FactsReadsInstanceFirst, ShapeReadsInstanceFirst, DigestReadsInstanceFirst, CheckReadsInstanceFirst, ExplainReadsInstanceFirst, ScheduleReadsInstanceFirst, BoundsReadsInstanceFirst, MarginReadsInstanceFirst};
-ghost use Rattle.command_run.specs.Laws.{MovesReadsInstanceFirst, RestMovesReadsInstanceFirst, LogReadsInstanceFirst, RestReadsInstanceFirst, PlanReadsInstanceFirst, ImproveReadsInstanceFirst, ImproveRestReadsInstanceFirst};
+ghost use Rattle.command_run.specs.Laws.{FactsReadsInstanceFirst, ShapeReadsInstanceFirst};
+ghost use Rattle.command_run.specs.Laws.{DigestReadsInstanceFirst, CheckReadsInstanceFirst};
+ghost use Rattle.command_run.specs.Laws.{ExplainReadsInstanceFirst, ScheduleReadsInstanceFirst};
+ghost use Rattle.command_run.specs.Laws.{BoundsReadsInstanceFirst, MarginReadsInstanceFirst};
+ghost use Rattle.command_run.specs.Laws.{MovesReadsInstanceFirst, RestMovesReadsInstanceFirst};
+ghost use Rattle.command_run.specs.Laws.{LogReadsInstanceFirst, RestReadsInstanceFirst, PlanReadsInstanceFirst};
+ghost use Rattle.command_run.specs.Laws.{ImproveReadsInstanceFirst, ImproveRestReadsInstanceFirst};
 ghost use Rattle.command_run.specs.Laws.{DriveReadsInstanceFirst, ResumeReadsInstanceFirst, HubReadsInstanceFirst};
-ghost use Rattle.command_run.specs.Laws.{ScheduleDrawsInstanceFirst, RestDrawsInstanceFirst, LogDrawsInstanceFirst, ScheduleIsDrawn, RestIsDrawn, LogIsDrawn};
-ghost use Rattle.command_run.specs.Laws.{FactsAnswerShop, ShapeAnswersPlan, DigestAnswersPlan, CheckAnswersPlan, ExplainAnswersPlan, ScheduleAnswersPlan, BoundsAnswerPlan, MarginAnswersPlan, MovesAnswerPlan, RestMovesAreAnswered, LogIsAnswered, RestIsAnswered};
-ghost use Rattle.command_run.specs.Laws.{PlanAnswersPlan, ImproveAnswersPlan, ImproveAnswersRest, DriveDrivesPlan, ResumeGoesOn};
+ghost use Rattle.command_run.specs.Laws.{ScheduleDrawsInstanceFirst, RestDrawsInstanceFirst};
+ghost use Rattle.command_run.specs.Laws.{LogDrawsInstanceFirst, ScheduleIsDrawn, RestIsDrawn, LogIsDrawn};
+ghost use Rattle.command_run.specs.Laws.{FactsAnswerShop, ShapeAnswersPlan, DigestAnswersPlan, CheckAnswersPlan};
+ghost use Rattle.command_run.specs.Laws.{ExplainAnswersPlan, ScheduleAnswersPlan, BoundsAnswerPlan, MarginAnswersPlan};
+ghost use Rattle.command_run.specs.Laws.{MovesAnswerPlan, RestMovesAreAnswered, LogIsAnswered, RestIsAnswered};
+ghost use Rattle.command_run.specs.Laws.{PlanAnswersPlan, ImproveAnswersPlan, ImproveAnswersRest};
+ghost use Rattle.command_run.specs.Laws.{DriveDrivesPlan, ResumeGoesOn};
 ghost use Rattle.command_run.specs.Laws.{HubDrivesPlans, InputAnswersShop};
-ghost use Rattle.command_run.specs.Laws.{DriveAnswersByCheck, ResumeAnswersUnshaped, ResumeAnswersByCheck, HubAnswersByCheck, DriveWritesTheSame};
+ghost use Rattle.command_run.specs.Laws.{DriveAnswersByCheck, ResumeAnswersUnshaped, ResumeAnswersByCheck};
+ghost use Rattle.command_run.specs.Laws.{HubAnswersByCheck, DriveWritesTheSame};
 ghost use Rattle.command_run.specs.Laws.{FaultsArePrinted, NothingIsHeldBack, WhatFailsIsNoAnswer};
 ghost use Rattle.program_laws.specs.ResumeLaw.{ResumeWritesTheSame, ResumeWritesAsDrive};
 ghost use Rattle.program_laws.specs.OneLogLaw.{ANewLogIsOfOneRun, ARecoveredLogIsOfOneRun};
@@ -26,8 +36,9 @@ use command_answers::Texts;
 use logged_drive::laws::{a_driven_run_is_recovered, a_recovered_run_is_recovered};
 
 /// In each command over files, `drive` without `--log`: if the text of the instance is refused, its first fault is
-/// reported, unless memory runs out, and no other file is asked for. `drive`, `resume`, `hub` and a command with `--svg`
-/// then read and write no byte. (For `plan` and `improve` memory may also run out before any file is asked for.)
+/// reported, unless memory runs out, and no other file is asked for. `drive`, `resume`, `hub` and a command with
+/// `--svg` then read and write no byte. (For `plan` and `improve` memory may also run out before any file is asked
+/// for.)
 pub fn instance_first()
     ensures facts { FactsReadsInstanceFirst }
     ensures shape { ShapeReadsInstanceFirst }
@@ -87,8 +98,8 @@ pub fn good_files_are_answered()
 /// Let the files give a plan that isn't accepted. Then `drive` without `--log` answers the line of `check`, unless
 /// memory runs out. It asks for no further file, and drives no cell: up to this line no byte is read or written. The
 /// same holds for the first plan of `hub` that isn't accepted: its number comes before that line, and no plan after it
-/// is asked for. By `resume` it holds for a plan that isn't well shaped; and once the log has been asked for and records
-/// a run, for a plan with a cycle, or one that isn't accepted where that run has no event.
+/// is asked for. By `resume` it holds for a plan that isn't well shaped; and once the log has been asked for and
+/// records a run, for a plan with a cycle, or one that isn't accepted where that run has no event.
 pub fn no_cell_of_a_refused_plan()
     ensures drive { DriveAnswersByCheck }
     ensures unshaped { ResumeAnswersUnshaped }
@@ -103,9 +114,9 @@ pub fn drive_writes_the_same()
     ensures { DriveWritesTheSame }
 {}
 
-/// The same holds of `resume`, where the plan is well shaped and the log can be taken up by it. If the log tells no event, the plan
-/// is accepted and no present moment is given, `resume` writes an empty line, and then what `drive` writes with the same
-/// files, the same input and the same manner of the lines.
+/// The same holds of `resume`, where the plan is well shaped and the log can be taken up by it. If the log tells no
+/// event, the plan is accepted and no present moment is given, `resume` writes an empty line, and then what `drive`
+/// writes with the same files, the same input and the same manner of the lines.
 pub fn resume_writes_the_same()
     ensures same { ResumeWritesTheSame }
     ensures as_drive { ResumeWritesAsDrive }
@@ -127,8 +138,8 @@ pub fn nothing_is_held_back<T: Texts>()
 
 /// If a run ends with 2 or more, only what driven cells answered was written on the output (for a run that was
 /// taken up, its events once more before that), or a picture, whole or up to a write that failed. They are the cells of
-/// the plans, and the picture of the plan or the log, in the files that the words name. Such a plan is accepted, or a run
-/// was taken up by it. After that come at most the first bytes of the command's answer, if a write of it failed.
+/// the plans, and the picture of the plan or the log, in the files that the words name. Such a plan is accepted, or a
+/// run was taken up by it. After that come at most the first bytes of the command's answer, if a write of it failed.
 pub fn what_fails_is_no_answer<T: Texts>()
     ensures { WhatFailsIsNoAnswer T.gives }
 {}
@@ -141,23 +152,24 @@ pub fn a_log_has_history<T: Texts>()
     ensures old_log { OldLogHasHistory }
 {}
 
-/// Let the whole lines of a log name a plan last. By a plan with other digits no cell is driven with this log, unless the words
-/// ask for a hand-over. (By [`run_journal::laws::a_crash_keeps_the_plan`] what a crash leaves of a log that is driven names the
-/// same plan.)
+/// Let the whole lines of a log name a plan last. By a plan with other digits no cell is driven with this log, unless
+/// the words ask for a hand-over. (By [`run_journal::laws::a_crash_keeps_the_plan`] what a crash leaves of a log that
+/// is driven names the same plan.)
 pub fn no_other_plan_drives<T: Texts>()
     ensures { NoOtherPlanDrives T.gives }
 {}
 
-/// A run that ends with 4, since memory ran out, has changed no byte of its log: it appended none, and cut none off. (What a log
-/// that is held at the end has is said by the clause of `run`, and *written* of [`run_journal::LogFile`] is what that tells.)
+/// A run that ends with 4, since memory ran out, has changed no byte of its log: it appended none, and cut none off.
+/// (What a log that is held at the end has is said by the clause of `run`, and *written* of [`run_journal::LogFile`] is
+/// what that tells.)
 pub fn want_of_memory_changes_no_log<T: Texts>()
     ensures { WantOfMemoryChangesNoLog T.gives }
 {}
 
-/// However often a crash cuts its log and the run is taken up from there, by its own plan and with no moment given, all its
-/// events are one controlled run: what a crash leaves of the log tells the first of them, and the orders that are due are the
-/// next. So by [`drive_laws::laws::a_driven_run_goes_on_as_one`] an accepted plan's budgets are kept as if there had been no
-/// crash.
+/// However often a crash cuts its log and the run is taken up from there, by its own plan and with no moment given, all
+/// its events are one controlled run: what a crash leaves of the log tells the first of them, and the orders that are
+/// due are the next. So by [`drive_laws::laws::a_driven_run_goes_on_as_one`] an accepted plan's budgets are kept as if
+/// there had been no crash.
 pub fn a_log_is_of_one_run()
     ensures new_log { ANewLogIsOfOneRun }
     ensures recoverable { ARecoveredLogIsOfOneRun }

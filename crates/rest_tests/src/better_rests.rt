@@ -1,4 +1,5 @@
-//! A better plan for the rest of a run, found by the annealing where there is memory enough; and the plan given back on a fault.
+//! A better plan for the rest of a run, found by the annealing where there is memory enough; and the plan given back on
+//! a fault.
 
 use crate::rests::shaped_as;
 use crate::told::Told;

@@ -1,4 +1,5 @@
-//! The rest of a run that hasn't begun, where there is memory enough: from moment 0 on it is the whole plan, and later it is late.
+//! The rest of a run that hasn't begun, where there is memory enough: from moment 0 on it is the whole plan, and later
+//! it is late.
 
 ghost use Rattle.std.specs.Prelude.{IfOk, IfSome};
 ghost use Rattle.plan_verifier.specs.RestVerdicts.{IsAcceptedAhead};

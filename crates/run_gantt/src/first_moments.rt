@@ -10,7 +10,8 @@ use std::alloc::{AllocError, Global};
 
 /// A table of this size, with no moment noted yet.
 pub(crate) fn no_moments(alloc: Global, size: u32) -> Result<Vec<Option<Moment>>, AllocError>
-    ensures { (moment_in : ℕ → Entry → Option ℕ) → IfOk result (λ moments. AreFirstMoments moment_in size moments.items []) }
+    ensures { (moment_in : ℕ → Entry → Option ℕ)
+        → IfOk result (λ moments. AreFirstMoments moment_in size moments.items []) }
 {
     let mut moments = Vec::with_capacity(alloc, size as usize)?;
     for _i in 0..size {
@@ -21,7 +22,8 @@ pub(crate) fn no_moments(alloc: Global, size: u32) -> Result<Vec<Option<Moment>>
 
 /// Notes an entry, which comes before all those noted so far, in the table of the machines' cleanings.
 pub(crate) fn note_cleaning_end(ends: &mut Vec<Option<Moment>>, entry: Entry)
-    ensures { (n : ℕ) (later : List Entry) → AreCleaningEnds n ends.old.items later → AreCleaningEnds n ends.new.items (entry ∷ later) }
+    ensures { (n : ℕ) (later : List Entry) → AreCleaningEnds n ends.old.items later
+        → AreCleaningEnds n ends.new.items (entry ∷ later) }
 {
     if let Entry::Report(Report::Clean { machine, at }) = entry {
         let place = machine as usize;
@@ -33,7 +35,8 @@ pub(crate) fn note_cleaning_end(ends: &mut Vec<Option<Moment>>, entry: Entry)
 
 /// Notes an entry, which comes before all those noted so far, in the table of the jobs' leavings.
 pub(crate) fn note_leaving(leavings: &mut Vec<Option<Moment>>, entry: Entry)
-    ensures { (n : ℕ) (later : List Entry) → AreLeavingsAhead n leavings.old.items later → AreLeavingsAhead n leavings.new.items (entry ∷ later) }
+    ensures { (n : ℕ) (later : List Entry) → AreLeavingsAhead n leavings.old.items later
+        → AreLeavingsAhead n leavings.new.items (entry ∷ later) }
 {
     let Entry::Order(order) = entry else {
         return;

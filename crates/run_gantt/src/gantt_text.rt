@@ -1,9 +1,11 @@
 //! The Gantt text of a run's events: each machine's visits, and a bar of which job is on it when.
 
-ghost use Rattle.std.specs.Prelude.{◌≡◌, ℕ, ◌<◌, ◌≤◌, length, map, flat_map, slice_index_or, None, Some, decimal, string_bytes, IfOk, OnOk};
+ghost use Rattle.std.specs.Prelude.{◌≡◌, ℕ, ◌<◌, ◌≤◌, length, map, flat_map, slice_index_or, None};
+ghost use Rattle.std.specs.Prelude.{Some, decimal, string_bytes, IfOk, OnOk};
 ghost use Rattle.shop_base.specs.Plan.{machines};
 ghost use Rattle.run_gantt.specs.Visits.{first_of, last_of, entry_moment};
-ghost use Rattle.run_gantt.specs.GanttText.{gantt_text, scale_for, columns_for, row_lines, visit_word, moment_or_unknown, sign_of, column_sign};
+ghost use Rattle.run_gantt.specs.GanttText.{gantt_text, scale_for, columns_for, row_lines, visit_word};
+ghost use Rattle.run_gantt.specs.GanttText.{moment_or_unknown, sign_of, column_sign};
 ghost use Rattle.people_names.specs.NameBooks.{no_names};
 ghost use Rattle.people_names.specs.Words.{job_word, machine_word, moment_word};
 ghost use Rattle.run_gantt.specs.Pushing.{IsPushed, all_lines, visits_to, SignsToo};
@@ -30,8 +32,8 @@ pub fn gantt(alloc: Global, shaped: &Shaped, entries: &[Entry]) -> Result<String
 /// shop its visits as ` JOB:ENTER-FINISH-LEAVE` and its bar of at most 60 columns.
 ///
 /// A column shows the job that is on the machine at the column's first moment, by the last digit of its number, or
-/// `=` once its operation has ended. Any entries are taken, whether they are a run's or not. But for the bar and the scale,
-/// jobs, machines and moments are told by names and clock.
+/// `=` once its operation has ended. Any entries are taken, whether they are a run's or not. But for the bar and the
+/// scale, jobs, machines and moments are told by names and clock.
 pub fn gantt_for(
     alloc: Global,
     names: &Names,
@@ -150,8 +152,10 @@ impl Visits {
         requires machine { machine < length self.now }
         requires above { 0 < scale }
         requires below { scale ≤ MAX_SCALE }
-        ensures text { OnOk result (IsPushed text.old text.new (flat_map (visit_word names.now) (visits_to self.now machine))) }
-        ensures bar { OnOk result (SignsToo scale (λ t. first_of (sign_of t) (visits_to self.now machine)) bar.old bar.new) }
+        ensures text { OnOk result
+            (IsPushed text.old text.new (flat_map (visit_word names.now) (visits_to self.now machine))) }
+        ensures bar { OnOk result
+            (SignsToo scale (λ t. first_of (sign_of t) (visits_to self.now machine)) bar.old bar.new) }
     {
         let mut next = self.first[machine as usize];
         while let Some(place) = next {

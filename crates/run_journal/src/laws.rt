@@ -13,8 +13,8 @@ pub fn a_crash_keeps_what_was_shown()
     ensures { ACrashKeepsWhatWasShown }
 {}
 
-/// Let the whole lines of a log name a plan last. What a crash leaves of the log, behind whatever was given to it since, names
-/// the same plan last.
+/// Let the whole lines of a log name a plan last. What a crash leaves of the log, behind whatever was given to it
+/// since, names the same plan last.
 pub fn a_crash_keeps_the_plan()
     ensures { ACrashKeepsThePlan }
 {}
@@ -31,8 +31,8 @@ pub fn unwritten_lines_are_torn()
     ensures { UnwrittenLinesAreTorn }
 {}
 
-/// Of the answer to a report, if it has at most 16,384 bytes, no byte is shown before all of it is gathered. So by the clauses
-/// of [`Logged`](crate::Logged) what a log gets of it is written and synced first.
+/// Of the answer to a report, if it has at most 16,384 bytes, no byte is shown before all of it is gathered. So by the
+/// clauses of [`Logged`](crate::Logged) what a log gets of it is written and synced first.
 pub fn an_answer_is_buffered_whole()
     ensures { AnAnswerIsBufferedWhole }
 {}

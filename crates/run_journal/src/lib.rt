@@ -1,7 +1,7 @@
 //! A log that is on the disk before what it records is shown.
 //!
-//! [`open_log`] and [`cut_end`] open a log that a crash may have left. [`Logged`] goes on with it: of what is written the
-//! lines of events are put into the log, which is synced, and only then all of it is shown.
+//! [`open_log`] and [`cut_end`] open a log that a crash may have left. [`Logged`] goes on with it: of what is written
+//! the lines of events are put into the log, which is synced, and only then all of it is shown.
 #![tactic(auto)]
 
 mod file_fault;

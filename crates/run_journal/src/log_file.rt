@@ -1,4 +1,5 @@
-ghost use Rattle.std.specs.Prelude.{◌≡◌, ℕ, ◌≤◌, ◌<◌, ◌++◌, List, length, take, Option, None, Some, Bool, true, false, IfOk, IfErr, IfSome, OnOk};
+ghost use Rattle.std.specs.Prelude.{◌≡◌, ℕ, ◌≤◌, ◌<◌, ◌++◌, List, length, take, Option, None, Some};
+ghost use Rattle.std.specs.Prelude.{Bool, true, false, IfOk, IfErr, IfSome, OnOk};
 ghost use Rattle.run_journal.specs.declared.file_fault.FileFault.{FileFault};
 ghost use Rattle.run_journal.specs.LogFiles.{Leaves, IsDurable, LeavesNoMore, IsReadFault, HasFailed};
 
@@ -7,10 +8,10 @@ use std::alloc::Global;
 
 /// A file that is appended to, and what a crash may leave of it: of the program, or of the machine.
 ///
-/// Each call may fail, and from any call on all of them may; once an append, a cut or a sync has failed, none of these is
-/// called any more. So a crash in the middle of some code is one of the runs that its contract covers: the run in which
-/// each call after the crash fails and does nothing. A crash in the middle of a call leaves what it may leave before that
-/// call or after it.
+/// Each call may fail, and from any call on all of them may; once an append, a cut or a sync has failed, none of these
+/// is called any more. So a crash in the middle of some code is one of the runs that its contract covers: the run in
+/// which each call after the crash fails and does nothing. A crash in the middle of a call leaves what it may leave
+/// before that call or after it.
 pub trait LogFile {
     // The bytes that a read gives, where they are told.
     ghost seen: { Self → Option (List ℕ) };
@@ -28,7 +29,8 @@ pub trait LogFile {
     fn read(&mut self, alloc: Global, most: usize) -> Result<Vec<u8>, FileFault>
         ensures bytes { IfOk result (λ bytes. IfSome (seen self.old) (λ file. bytes.items ≡ file)) }
         ensures within { IfOk result (λ bytes. length bytes.items ≤ most) }
-        ensures too_long { IfErr result (λ told. told ≡ FileFault.TooLong → IfSome (seen self.old) (λ file. most < length file)) }
+        ensures too_long { IfErr result
+            (λ told. told ≡ FileFault.TooLong → IfSome (seen self.old) (λ file. most < length file)) }
         ensures seen { seen self.new ≡ seen self.old }
         ensures crash { LeavesNoMore (crash_states self.old) (crash_states self.new) }
         ensures written { written self.new ≡ written self.old }
@@ -41,7 +43,8 @@ pub trait LogFile {
         requires durable { IsDurable (seen self.old) (crash_states self.old) }
         requires unfailed { fault self.old ≡ None }
         ensures appended { OnOk result (IfSome (seen self.old) (λ file. seen self.new ≡ Some (file ++ bytes.now))) }
-        ensures crash { IfSome (seen self.old) (λ file. Leaves (crash_states self.new) (length file) (file ++ bytes.now)) }
+        ensures crash { IfSome (seen self.old)
+            (λ file. Leaves (crash_states self.new) (length file) (file ++ bytes.now)) }
         ensures written { written self.new ≡ true }
         ensures unfailed { OnOk result (fault self.new ≡ None) }
         ensures failed { IfErr result (HasFailed (fault self.new)) };

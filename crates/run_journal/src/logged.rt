@@ -1,6 +1,7 @@
 //! An output whose events a log gets, on the disk, before they are shown.
 
-ghost use Rattle.std.specs.Prelude.{◌≡◌, ◌+◌, ◌<◌, ◌≤◌, ◌++◌, [], length, take, None, Some, Err, true, false, IfOk, IfErr, IfSome, OnErr, OnOk};
+ghost use Rattle.std.specs.Prelude.{◌≡◌, ◌+◌, ◌<◌, ◌≤◌, ◌++◌, [], length, take, None, Some, Err, true};
+ghost use Rattle.std.specs.Prelude.{false, IfOk, IfErr, IfSome, OnErr, OnOk};
 ghost use Rattle.std.specs.Io.KnownBytes.{Appends, Keeps, WriteAppends, append_known};
 ghost use Rattle.run_journal.specs.declared.file_fault.FileFault.{FileFault};
 ghost use Rattle.run_journal.specs.LogFiles.{HasFailed, IsDurable, Leaves};
@@ -38,9 +39,9 @@ impl InitialState for UnknownHistory {
     ghost before = { None };
 }
 
-/// An output with a log. Bytes are gathered until they are to be shown, or don't fit. Then the lines among them that a log
-/// gets are appended to it, it is synced, and only then all of them are shown. After a fault nothing more is appended or
-/// shown.
+/// An output with a log. Bytes are gathered until they are to be shown, or don't fit. Then the lines among them that a
+/// log gets are appended to it, it is synced, and only then all of them are shown. After a fault nothing more is
+/// appended or shown.
 #[derive(Drop)]
 pub struct Logged<W: BufferedSink, D: LogFile, B: InitialState> {
     log: D,
@@ -62,9 +63,15 @@ impl<W: BufferedSink, D: LogFile, B: InitialState> Model for Logged<W, D, B> {
 
     ghost Value = { Held };
 
-    ghost view = { λ l. record { written = W.written l.output; pending = drop l.sent l.buffered.items; failed = l.failed; log_failed = l.log_failed } };
+    ghost view = { λ l. record {
+      written = W.written l.output;
+      pending = drop l.sent l.buffered.items;
+      failed = l.failed;
+      log_failed = l.log_failed;
+    } };
 
-    ghost invariant = { λ l. IsSound B.before (D.seen l.log) (D.crash_states l.log) (W.written l.output) l.buffered.items (vec_capacity l.buffered) (vec_capacity l.events) l.sent l.failed l.selection
+    ghost invariant = { λ l. IsSound B.before (D.seen l.log) (D.crash_states l.log) (W.written l.output)
+        l.buffered.items (vec_capacity l.buffered) (vec_capacity l.events) l.sent l.failed l.selection
         × HoldsNothing (W.pending l.output) (W.failed l.output)
         × AreFaultsKnown l.failed l.log_failed (D.fault l.log) (W.failed l.output) };
 }
@@ -142,7 +149,8 @@ impl<W: BufferedSink, D: LogFile, B: InitialState> Sink for Logged<W, D, B> {
     fn put(&mut self, bytes: &[u8]) -> Result<usize, WriteFault>
         requires { 0 < length bytes.now }
         ensures count { IfOk result (λ count. (0 < count) × (count ≤ length bytes.now)) }
-        ensures written { WriteAppends (append_known self.old.written self.old.pending) (append_known self.new.written self.new.pending) result bytes.now }
+        ensures written { WriteAppends (append_known self.old.written self.old.pending)
+            (append_known self.new.written self.new.pending) result bytes.now }
         ensures unfailed { OnOk result (self.new.failed ≡ self.old.failed) }
         ensures failed { OnErr result (self.new.failed ≡ true) }
         ensures buffered { IfOk result (λ count. IsBuffered self.old bytes.now count self.new) }
@@ -174,7 +182,8 @@ impl<W: BufferedSink, D: LogFile, B: InitialState> Logged<W, D, B> {
     /// Shows all, once the log has what it gets of it. No call has failed before.
     fn flush_all(&mut self) -> Result<(), WriteFault>
         requires unfailed { self.old.failed ≡ false }
-        ensures written { Keeps (append_known self.old.written self.old.pending) (append_known self.new.written self.new.pending) }
+        ensures written { Keeps (append_known self.old.written self.old.pending)
+            (append_known self.new.written self.new.pending) }
         ensures shown { OnOk result (self.new.pending ≡ []) }
         ensures unfailed { OnOk result (self.new.failed ≡ false) }
         ensures failed { OnErr result (self.new.failed ≡ true) }
@@ -243,7 +252,8 @@ fn keep_and_pass_on<W: BufferedSink, D: LogFile>(
     ensures kept { OnKept result (IfSome (D.seen log.old) (λ file. D.seen log.new ≡ Some (file ++ events.now))) }
     ensures durable { OnKept result (IsDurable (D.seen log.new) (D.crash_states log.new)) }
     ensures unfailed { OnKept result (D.fault log.new ≡ None) }
-    ensures crash { IfSome (D.seen log.old) (λ file. Leaves (D.crash_states log.new) (length file) (file ++ events.now)) }
+    ensures crash { IfSome (D.seen log.old)
+        (λ file. Leaves (D.crash_states log.new) (length file) (file ++ events.now)) }
     ensures within { OnKept result (sent.new ≤ length bytes.now) }
     ensures written { OnKept result (Appends (W.written output.old) (W.written output.new) (take sent.new bytes.now)) }
     ensures shown { OnKept result (HoldsNothing (W.pending output.new) (W.failed output.new)) }
@@ -265,7 +275,8 @@ pub(crate) fn keep<D: LogFile>(log: &mut D, bytes: &[u8]) -> Result<(), FileFaul
     requires unfailed { D.fault log.old ≡ None }
     ensures durable { OnOk result (IsDurable (D.seen log.new) (D.crash_states log.new)) }
     ensures kept { OnOk result (IfSome (D.seen log.old) (λ file. D.seen log.new ≡ Some (file ++ bytes.now))) }
-    ensures crash { IfSome (D.seen log.old) (λ file. Leaves (D.crash_states log.new) (length file) (file ++ bytes.now)) }
+    ensures crash { IfSome (D.seen log.old)
+        (λ file. Leaves (D.crash_states log.new) (length file) (file ++ bytes.now)) }
     ensures none { bytes.now ≡ [] → log.new ≡ log.old }
     ensures unfailed { OnOk result (D.fault log.new ≡ None) }
     ensures failed { IfErr result (HasFailed (D.fault log.new)) }

@@ -1,5 +1,7 @@
-ghost use Rattle.std.specs.Prelude.{◌≡◌, ◌⊎◌, [], None, Some, is_some, option_map, true, false, IfOk, IfErr, IfSome, OnOk};
-ghost use Rattle.run_journal.specs.Folders.{Folder, handed, handed_if, held, is_named, IsDiskFault, IsOpenFault, with_fault, with_made, with_name};
+ghost use Rattle.std.specs.Prelude.{◌≡◌, ◌⊎◌, [], None, Some, is_some, option_map, true};
+ghost use Rattle.std.specs.Prelude.{false, IfOk, IfErr, IfSome, OnOk};
+ghost use Rattle.run_journal.specs.Folders.{Folder, handed, handed_if, held, is_named, IsDiskFault};
+ghost use Rattle.run_journal.specs.Folders.{IsOpenFault, with_fault, with_made, with_name};
 ghost use Rattle.run_journal.specs.LogFiles.{IsDurable};
 
 use crate::file_fault::FileFault;
@@ -15,11 +17,13 @@ pub trait Logs {
 
     /// Opens the log of this path, and locks it; none where there isn't one. No byte of it is changed.
     fn open(&mut self, path: &str) -> Result<Option<Self::Log>, FileFault>
-        ensures found { IfOk result (λ opened. IfSome (folder self.old).logs (λ logs. option_map Self.Log.seen opened ≡ option_map Some (held logs path.now))) }
+        ensures found { IfOk result (λ opened. IfSome (folder self.old).logs
+            (λ logs. option_map Self.Log.seen opened ≡ option_map Some (held logs path.now))) }
         ensures unfailed { IfOk result (λ opened. IfSome opened (λ log. Self.Log.fault log ≡ None)) }
         ensures unwritten { IfOk result (λ opened. IfSome opened (λ log. Self.Log.written log ≡ false)) }
         ensures opened { IfOk result (λ opened. folder self.new ≡ handed_if (is_some opened) (folder self.old)) }
-        ensures failed { IfErr result (λ told. IsOpenFault told × (folder self.new ≡ with_fault told (folder self.old))) };
+        ensures failed { IfErr result
+            (λ told. IsOpenFault told × (folder self.new ≡ with_fault told (folder self.old))) };
 
     /// Makes a log of this path, where there is none: it has no bytes, and is locked.
     fn make(&mut self, path: &str) -> Result<Self::Log, FileFault>
@@ -37,5 +41,6 @@ pub trait Logs {
     fn sync_name(&mut self, path: &str) -> Result<(), FileFault>
         ensures named { OnOk result (IfSome (folder self.new).logs (λ logs. is_named logs path.now ≡ true)) }
         ensures others { OnOk result (folder self.new ≡ with_name path.now (folder self.old)) }
-        ensures failed { IfErr result (λ told. IsDiskFault told × (folder self.new ≡ with_fault told (folder self.old))) };
+        ensures failed { IfErr result
+            (λ told. IsDiskFault told × (folder self.new ≡ with_fault told (folder self.old))) };
 }

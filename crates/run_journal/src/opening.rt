@@ -1,13 +1,15 @@
 //! The opening of a log that a crash may have left.
 
-ghost use Rattle.std.specs.Prelude.{◌≡◌, ◌<◌, ◌≤◌, ◌↔◌, [], ◌∷◌, List, ℕ, length, take, None, Some, option_map, is_some, true, false, IfErr, IfOk, IfSome, IsTrue, MatchOption, OnOk};
+ghost use Rattle.std.specs.Prelude.{◌≡◌, ◌<◌, ◌≤◌, ◌↔◌, [], ◌∷◌, List, ℕ, length, take, None, Some, option_map};
+ghost use Rattle.std.specs.Prelude.{is_some, true, false, IfErr, IfOk, IfSome, IsTrue, MatchOption, OnOk};
 ghost use Rattle.text_lines.specs.declared.limits.TheConstants.{MAX_INPUT};
 ghost use Rattle.text_lines.specs.Lines.{lines_of};
 ghost use Rattle.event_lines.specs.RunDigits.{AreDigits, plan_line};
 ghost use Rattle.run_journal.specs.LogFiles.{HasFailed, IsDurable, LeavesNoMore};
 ghost use Rattle.run_journal.specs.LogRuns.{IsNamedFor, IsNamedOrNot, IsRunOf};
 ghost use Rattle.run_journal.specs.Openings.{IsFound, IsOfLog, IsUnmade, IsUnnamed};
-ghost use Rattle.run_journal.specs.Folders.{Folder, handed, handed_if, held, is_named, IsOpenFault, with_fault, with_log, with_name};
+ghost use Rattle.run_journal.specs.Folders.{Folder, handed, handed_if, held, is_named, IsOpenFault};
+ghost use Rattle.run_journal.specs.Folders.{with_fault, with_log, with_name};
 ghost use Rattle.run_journal.specs.TornEnds.{is_torn};
 ghost use Rattle.run_journal.specs.WholeLines.{whole_lines, torn_end};
 
@@ -101,7 +103,8 @@ pub fn read_log<D: LogFile>(alloc: Global, log: &mut D) -> Result<LogText, FileF
     ensures unwritten { D.written log.new ≡ D.written log.old }
     ensures unfailed { OnOk result (D.fault log.new ≡ None) }
     ensures failed { IfErr result (IsOfLog (D.fault log.new)) }
-    ensures too_long { IfErr result (λ told. told ≡ FileFault.TooLong → IfSome (D.seen log.old) (λ file. MAX_INPUT < length file)) }
+    ensures too_long { IfErr result
+        (λ told. told ≡ FileFault.TooLong → IfSome (D.seen log.old) (λ file. MAX_INPUT < length file)) }
 {
     // A process that was killed may have left bytes that are read, but aren't on the disk yet.
     log.sync()?;
@@ -118,8 +121,8 @@ fn read_opened<D: LogFile + Drop>(alloc: Global, log: D) -> Result<(D, LogText),
     ensures durable { IfOk result (λ there. IsDurable (D.seen there.0) (D.crash_states there.0)) }
     ensures unwritten { IfOk result (λ there. D.written there.0 ≡ D.written log) }
     ensures unfailed { IfOk result (λ there. D.fault there.0 ≡ None) }
-    ensures unread { IfErr result (λ back. MatchOption back.log ⊥
-        (λ unread. IsOfLog (D.fault unread) back.fault × (D.seen unread ≡ D.seen log) × (D.written unread ≡ D.written log))) }
+    ensures unread { IfErr result (λ back. MatchOption back.log ⊥ (λ unread.
+        IsOfLog (D.fault unread) back.fault × (D.seen unread ≡ D.seen log) × (D.written unread ≡ D.written log))) }
 {
     let mut log = log;
     match read_log(alloc, &mut log) {
@@ -131,27 +134,33 @@ fn read_opened<D: LogFile + Drop>(alloc: Global, log: D) -> Result<(D, LogText),
     }
 }
 
-/// Opens the log of this path, locks it, and reads it. It is then on the disk. None where there isn't one. One that can't be
-/// read is given back with no byte of it changed.
+/// Opens the log of this path, locks it, and reads it. It is then on the disk. None where there isn't one. One that
+/// can't be read is given back with no byte of it changed.
 pub fn open_log<L: Logs>(
     alloc: Global,
     logs: &mut L,
     path: &str,
 ) -> Result<Option<(L::Log, LogText)>, Unopened<L::Log>>
-    ensures text { IfOk result (λ opened. IfSome opened (λ there. IfSome (L.Log.seen there.0) (λ file. there.1 ≡ file))) }
+    ensures text { IfOk result
+        (λ opened. IfSome opened (λ there. IfSome (L.Log.seen there.0) (λ file. there.1 ≡ file))) }
     ensures within { IfOk result (λ opened. IfSome opened (λ there. length there.1 ≤ MAX_INPUT)) }
-    ensures durable { IfOk result (λ opened. IfSome opened (λ there. IsDurable (L.Log.seen there.0) (L.Log.crash_states there.0))) }
+    ensures durable { IfOk result
+        (λ opened. IfSome opened (λ there. IsDurable (L.Log.seen there.0) (L.Log.crash_states there.0))) }
     ensures unwritten { IfOk result (λ opened. IfSome opened (λ there. L.Log.written there.0 ≡ false)) }
     ensures unfailed { IfOk result (λ opened. IfSome opened (λ there. L.Log.fault there.0 ≡ None)) }
-    ensures told { IfOk result (λ opened. IfSome opened (λ there. IfSome (L.folder logs.old).logs (λ _. L.Log.seen there.0 ≡ Some there.1))) }
-    ensures found { IfOk result (λ opened. IfSome (L.folder logs.old).logs (λ logs. option_map (λ there. there.1) opened ≡ held logs path.now)) }
+    ensures told { IfOk result
+        (λ opened. IfSome opened (λ there. IfSome (L.folder logs.old).logs (λ _. L.Log.seen there.0 ≡ Some there.1))) }
+    ensures found { IfOk result (λ opened.
+        IfSome (L.folder logs.old).logs (λ logs. option_map (λ there. there.1) opened ≡ held logs path.now)) }
     ensures opened { IfOk result (λ opened. L.folder logs.new ≡ handed_if (is_some opened) (L.folder logs.old)) }
 
-    // Why not is what the folder tells, and then no log was opened; or what the log tells, which is given back as it was found.
+    // Why not is what the folder tells, and then no log was opened; or what the log tells, which is given back as it
+    // was found.
     ensures unopened { IfErr result (λ back. MatchOption back.log
         (IsOpenFault back.fault × (L.folder logs.new ≡ with_fault back.fault (L.folder logs.old)))
         (λ log. IsOfLog (L.Log.fault log) back.fault × (L.folder logs.new ≡ handed (L.folder logs.old)))) }
-    ensures unread { IfErr result (λ back. IfSome back.log (λ log. IsFound (L.folder logs.old) path.now (L.Log.seen log) (L.Log.written log))) }
+    ensures unread { IfErr result
+        (λ back. IfSome back.log (λ log. IsFound (L.folder logs.old) path.now (L.Log.seen log) (L.Log.written log))) }
 {
     match logs.open(path) {
         Ok(None) => Ok(None),
@@ -163,8 +172,8 @@ pub fn open_log<L: Logs>(
     }
 }
 
-/// The log of this path, with the line of the plan alone, and with its name on the disk: the one that was opened, which has
-/// no bytes, or one that is made.
+/// The log of this path, with the line of the plan alone, and with its name on the disk: the one that was opened, which
+/// has no bytes, or one that is made.
 pub fn new_log<L: Logs>(
     logs: &mut L,
     path: &str,
@@ -177,16 +186,19 @@ pub fn new_log<L: Logs>(
     requires told { IfSome opened (λ log. IfSome (L.folder logs.old).logs (λ _. L.Log.seen log ≡ Some [])) }
     ensures durable { IfOk result (λ log. IsDurable (L.Log.seen log) (L.Log.crash_states log)) }
     ensures unfailed { IfOk result (λ log. L.Log.fault log ≡ None) }
-    ensures told { IfOk result (λ log. IfSome (L.folder logs.old).logs (λ _. L.Log.seen log ≡ Some (plan_line digits.now))) }
+    ensures told { IfOk result
+        (λ log. IfSome (L.folder logs.old).logs (λ _. L.Log.seen log ≡ Some (plan_line digits.now))) }
     ensures named { OnOk result (IfSome (L.folder logs.new).logs (λ logs. is_named logs path.now ≡ true)) }
 
     // A log is made only where none was opened, and nothing else changes.
-    ensures made { OnOk result (L.folder logs.new ≡ with_name path.now (with_log (is_some opened) path.now (L.folder logs.old))) }
+    ensures made { OnOk result
+        (L.folder logs.new ≡ with_name path.now (with_log (is_some opened) path.now (L.folder logs.old))) }
 
     // Why not is what the folder or the log tells, which has no byte but those of the line.
     ensures unnamed { IfErr result (λ back. MatchOption back.log
         (IsUnmade (is_some opened) path.now (L.folder logs.old) (L.folder logs.new) back.fault)
-        (λ log. IsUnnamed path.now digits.now (with_log (is_some opened) path.now (L.folder logs.old)) (L.folder logs.new) (L.Log.seen log) (L.Log.crash_states log) (L.Log.fault log) back.fault)) }
+        (λ log. IsUnnamed path.now digits.now (with_log (is_some opened) path.now (L.folder logs.old))
+        (L.folder logs.new) (L.Log.seen log) (L.Log.crash_states log) (L.Log.fault log) back.fault)) }
 
     // Where it wasn't the log that failed, no byte of it was changed.
     ensures unwritten { IfSome opened (λ had. L.Log.written had ≡ false)
@@ -212,7 +224,8 @@ fn had_or_made<L: Logs>(
     ensures told { IfOk result (λ log. IfSome (L.folder logs.old).logs (λ _. L.Log.seen log ≡ Some [])) }
     ensures made { OnOk result (L.folder logs.new ≡ with_log (is_some opened) path.now (L.folder logs.old)) }
     ensures unmade { IfErr result (IsUnmade (is_some opened) path.now (L.folder logs.old) (L.folder logs.new)) }
-    ensures unwritten { IfSome opened (λ had. L.Log.written had ≡ false) → IfOk result (λ log. L.Log.written log ≡ false) }
+    ensures unwritten { IfSome opened (λ had. L.Log.written had ≡ false)
+        → IfOk result (λ log. L.Log.written log ≡ false) }
 {
     match opened {
         Some(log) => Ok(log),
@@ -232,12 +245,15 @@ fn named_log<L: Logs>(
     requires told { IfSome (L.folder logs.old).logs (λ _. L.Log.seen log ≡ Some []) }
     ensures durable { IfOk result (λ named. IsDurable (L.Log.seen named) (L.Log.crash_states named)) }
     ensures unfailed { IfOk result (λ named. L.Log.fault named ≡ None) }
-    ensures told { IfOk result (λ named. IfSome (L.folder logs.old).logs (λ _. L.Log.seen named ≡ Some (plan_line digits.now))) }
+    ensures told { IfOk result
+        (λ named. IfSome (L.folder logs.old).logs (λ _. L.Log.seen named ≡ Some (plan_line digits.now))) }
     ensures named { OnOk result (IfSome (L.folder logs.new).logs (λ there. is_named there path.now ≡ true)) }
     ensures made { OnOk result (L.folder logs.new ≡ with_name path.now (L.folder logs.old)) }
     ensures unnamed { IfErr result (λ back. MatchOption back.log ⊥
-        (λ unnamed. IsUnnamed path.now digits.now (L.folder logs.old) (L.folder logs.new) (L.Log.seen unnamed) (L.Log.crash_states unnamed) (L.Log.fault unnamed) back.fault)) }
-    ensures unwritten { IfErr result (λ back. IfSome back.log (λ unnamed. L.Log.fault unnamed ≡ None → L.Log.written unnamed ≡ L.Log.written log)) }
+        (λ unnamed. IsUnnamed path.now digits.now (L.folder logs.old) (L.folder logs.new) (L.Log.seen unnamed)
+        (L.Log.crash_states unnamed) (L.Log.fault unnamed) back.fault)) }
+    ensures unwritten { IfErr result
+        (λ back. IfSome back.log (λ unnamed. L.Log.fault unnamed ≡ None → L.Log.written unnamed ≡ L.Log.written log)) }
 {
     let mut log = log;
     match logs.sync_name(path) {
@@ -266,8 +282,10 @@ pub fn cut_end<D: LogFile>(log: &mut D, text: &LogText) -> Result<(), FileFault>
     ensures failed { IfErr result (HasFailed (D.fault log.new)) }
 
     // A crash at any moment leaves the same whole lines, and behind them of a torn end a torn end again.
-    ensures crash { IfSome (D.seen log.old) (λ file. (left : List ℕ) → D.crash_states log.new left → whole_lines left ≡ whole_lines file) }
-    ensures torn_again { IfSome (D.seen log.old) (λ file. is_torn (torn_end file) ≡ true → (left : List ℕ) → D.crash_states log.new left → is_torn (torn_end left) ≡ true) }
+    ensures crash { IfSome (D.seen log.old)
+        (λ file. (left : List ℕ) → D.crash_states log.new left → whole_lines left ≡ whole_lines file) }
+    ensures torn_again { IfSome (D.seen log.old) (λ file. is_torn (torn_end file) ≡ true → (left : List ℕ)
+        → D.crash_states log.new left → is_torn (torn_end left) ≡ true) }
 {
     // A file that may be appended to but not cut serves as long as nothing is to be cut off.
     if text.end().is_empty() {
@@ -278,7 +296,8 @@ pub fn cut_end<D: LogFile>(log: &mut D, text: &LogText) -> Result<(), FileFault>
     log.sync()
 }
 
-/// Puts the line of the plan behind the whole lines of a log, to which it was cut, unless it is their last line of a plan.
+/// Puts the line of the plan behind the whole lines of a log, to which it was cut, unless it is their last line of a
+/// plan.
 pub fn name_plan<D: LogFile>(
     log: &mut D,
     text: &LogText,
@@ -287,14 +306,18 @@ pub fn name_plan<D: LogFile>(
     requires durable { IsDurable (D.seen log.old) (D.crash_states log.old) }
     requires unfailed { D.fault log.old ≡ None }
     requires digits { AreDigits digits.now }
-    ensures named { OnOk result (IfSome (D.seen log.old) (λ file. file ≡ whole_lines text.now → (base : List ℕ) × IsNamedFor digits.now file base × (D.seen log.new ≡ Some base))) }
+    ensures named { OnOk result (IfSome (D.seen log.old) (λ file. file ≡ whole_lines text.now
+        → (base : List ℕ) × IsNamedFor digits.now file base × (D.seen log.new ≡ Some base))) }
     ensures durable { OnOk result (IsDurable (D.seen log.new) (D.crash_states log.new)) }
     ensures unfailed { OnOk result (D.fault log.new ≡ None) }
     ensures failed { IfErr result (HasFailed (D.fault log.new)) }
 
-    // A crash at any moment leaves these lines, with that of the plan or without, and behind them at most the beginning of it.
-    ensures crash { IfSome (D.seen log.old) (λ file. file ≡ whole_lines text.now → (left : List ℕ) → D.crash_states log.new left → IsNamedOrNot digits.now file (whole_lines left)) }
-    ensures torn { IfSome (D.seen log.old) (λ file. file ≡ whole_lines text.now → (left : List ℕ) → D.crash_states log.new left → is_torn (torn_end left) ≡ true) }
+    // A crash at any moment leaves these lines, with that of the plan or without, and behind them at most the beginning
+    // of it.
+    ensures crash { IfSome (D.seen log.old) (λ file. file ≡ whole_lines text.now → (left : List ℕ)
+        → D.crash_states log.new left → IsNamedOrNot digits.now file (whole_lines left)) }
+    ensures torn { IfSome (D.seen log.old) (λ file.
+        file ≡ whole_lines text.now → (left : List ℕ) → D.crash_states log.new left → is_torn (torn_end left) ≡ true) }
 {
     if text.run().names(digits) {
         // Its last line of a plan is this one.

@@ -7,7 +7,8 @@ ghost use Rattle.run_journal.specs.Selecting.{at_first, decided, with_byte, got_
 use std::alloc::{AllocError, Global};
 use std::marker::Model;
 
-/// How many bytes of a line decide whether a log gets it, at most: as many as the longest of its first words and a space.
+/// How many bytes of a line decide whether a log gets it, at most: as many as the longest of its first words and a
+/// space.
 pub(crate) const DECIDING: usize = 7;
 
 /// Whether a log gets the line that is being written.

@@ -1,13 +1,14 @@
 //! What a crash can leave after the whole lines of a log: the beginning of a line that the log gets, and zeros.
 
 ghost use Rattle.std.specs.Prelude.{◌≡◌, ◌≤◌, length, take};
-ghost use Rattle.run_journal.specs.TornEnds.{digits_of, stands_for, stands_for_one, begins, begins_report, begins_order, begins_late, begins_plan, without_zeros, is_torn};
+ghost use Rattle.run_journal.specs.TornEnds.{digits_of, stands_for, stands_for_one, begins, begins_report};
+ghost use Rattle.run_journal.specs.TornEnds.{begins_order, begins_late, begins_plan, without_zeros, is_torn};
 
-/// Whether a crash can have left these bytes after the whole lines: the beginning of some line of a report, of an order, of a
-/// late report or of a plan, or nothing, and then zeros, or none.
+/// Whether a crash can have left these bytes after the whole lines: the beginning of some line of a report, of an
+/// order, of a late report or of a plan, or nothing, and then zeros, or none.
 ///
-/// Zeros before other bytes aren't taken for that, though a file system may leave them; of what stands there nothing was
-/// shown, so it may be cut off by hand.
+/// Zeros before other bytes aren't taken for that, though a file system may leave them; of what stands there nothing
+/// was shown, so it may be cut off by hand.
 pub fn is_torn_end(end: &[u8]) -> bool
     ensures { result ≡ is_torn end.now }
 {
@@ -53,8 +54,8 @@ fn begins_plan(bytes: &[u8]) -> bool
     )
 }
 
-/// Whether a line of this form, in which `#` stands for a moment, `%` for another number and `@` for a hexadecimal digit,
-/// begins with these bytes.
+/// Whether a line of this form, in which `#` stands for a moment, `%` for another number and `@` for a hexadecimal
+/// digit, begins with these bytes.
 fn begins(form: &[u8], bytes: &[u8]) -> bool
     ensures { result ≡ begins form.now bytes.now }
 {

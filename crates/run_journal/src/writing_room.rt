@@ -3,8 +3,8 @@ use crate::selection::{DECIDING, Selection};
 use std::alloc::{AllocError, Global};
 use std::marker::Model;
 
-/// All memory of an output with a log: the room for what it gathers, and for what the log gets of that. So it can be had before
-/// the log is touched. One is as good as any other.
+/// All memory of an output with a log: the room for what it gathers, and for what the log gets of that. So it can be
+/// had before the log is touched. One is as good as any other.
 #[derive(Drop)]
 pub struct WritingRoom {
     pub(crate) buffered: Vec<u8>,

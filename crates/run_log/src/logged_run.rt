@@ -4,7 +4,8 @@ ghost use Rattle.std.specs.Prelude.{◌≡◌, ◌*◌, ◌≤◌, [], length, v
 ghost use Rattle.shop_base.specs.Ends.{stated_number};
 ghost use Rattle.text_lines.specs.Lines.{lines_of, ended_lines};
 ghost use Rattle.event_lines.specs.LogLines.{LinesParse};
-ghost use Rattle.run_log.specs.Audits.{IsReplayed, IsLineFault, IsFirstBad, IsAuditFault, ParseAsRun, fault_line, room_for};
+ghost use Rattle.run_log.specs.Audits.{IsReplayed, IsLineFault, IsFirstBad, IsAuditFault};
+ghost use Rattle.run_log.specs.Audits.{ParseAsRun, fault_line, room_for};
 ghost use Rattle.run_log.specs.Auditing.{IsLineReplayed, HasRoomForNext};
 
 use crate::audit_fault::AuditFault;
@@ -39,7 +40,8 @@ pub fn run_of_log<P: Planned>(
     ensures tells { IfOk result (λ run. LinesParse (P.planned basis) (ended_lines text.now) run.entries.items) }
     ensures replayed { IfOk result (λ run. IsReplayed (P.planned basis) run.cell.cell run.entries.items) }
     ensures fault { IfErr result (IsAuditFault (P.planned basis) (ended_lines text.now)) }
-    ensures only { ParseAsRun (P.planned basis) (ended_lines text.now) → IfErr result (λ fault. fault ≡ AuditFault.Memory) }
+    ensures only { ParseAsRun (P.planned basis) (ended_lines text.now)
+        → IfErr result (λ fault. fault ≡ AuditFault.Memory) }
     ensures room { IfOk result (λ run. vec_capacity run.entries ≡ 2 * stated_number (P.planned basis)) }
 {
     let room = most_entries(basis.shaped());
@@ -55,7 +57,8 @@ pub fn run_if_replayed<P: Planned>(
     ensures plan { IfOk result (λ found. IfSome found (λ run. run.cell.plan ≡ P.planned basis)) }
     ensures tells { IfOk result (λ found. IfSome found (λ run.
         LinesParse (P.planned basis) (ended_lines text.now) run.entries.items)) }
-    ensures replayed { IfOk result (λ found. IfSome found (λ run. IsReplayed (P.planned basis) run.cell.cell run.entries.items)) }
+    ensures replayed { IfOk result
+        (λ found. IfSome found (λ run. IsReplayed (P.planned basis) run.cell.cell run.entries.items)) }
     ensures none { IfOk result (λ found. IfNone found (ParseAsRun (P.planned basis) (ended_lines text.now) → ⊥)) }
 {
     let room = most_entries(basis.shaped());
@@ -129,7 +132,8 @@ impl<P: Planned> LoggedRun<P> {
     /// Takes the entry in the line of this number, if it isn't passed over.
     fn take_line(&mut self, line: &[u8], number: usize) -> Result<(), AuditFault>
         requires replayed { IsReplayed self.old.cell.plan self.old.cell.cell self.old.entries.items }
-        requires room { HasRoomForNext self.old.cell.plan (length self.old.entries.items) (vec_capacity self.old.entries) }
+        requires room { HasRoomForNext self.old.cell.plan (length self.old.entries.items)
+            (vec_capacity self.old.entries) }
         ensures same_basis { OnOk result (self.new.cell.basis ≡ self.old.cell.basis) }
         ensures same_plan { OnOk result (self.new.cell.plan ≡ self.old.cell.plan) }
         ensures replayed { OnOk result (IsReplayed self.old.cell.plan self.new.cell.cell self.new.entries.items) }

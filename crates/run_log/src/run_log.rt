@@ -1,4 +1,5 @@
-ghost use Rattle.std.specs.Prelude.{◌≡◌, ◌+◌, ◌*◌, ◌<◌, ◌≤◌, ◌↔◌, [], ◌∷◌, ◌++◌, length, map, vec_len, vec_capacity, IfOk, OnOk, OnErr, IsErr};
+ghost use Rattle.std.specs.Prelude.{◌≡◌, ◌+◌, ◌*◌, ◌<◌, ◌≤◌, ◌↔◌, [], ◌∷◌, ◌++◌, length, map, vec_len};
+ghost use Rattle.std.specs.Prelude.{vec_capacity, IfOk, OnOk, OnErr, IsErr};
 ghost use Rattle.shop_base.specs.Ends.{stated_number};
 
 use crate::entry_room::most_entries;

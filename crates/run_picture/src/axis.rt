@@ -3,7 +3,8 @@
 ghost use Rattle.std.specs.Prelude.{◌≡◌, ℕ, ◌+◌, ◌*◌, ◌<◌, ◌≤◌, nat_lt, length, slice_index, MatchOption, true, false};
 ghost use Rattle.std.specs.List.{list_all};
 ghost use Rattle.run_picture.specs.Axis.{x_at, short_steps, long_unit, begin_of, ticks_by, AreTicks};
-ghost use Rattle.run_picture.specs.Steps.{moments_by, AreMany, AreAllMany, IsFirstTick, IsFirstShort, IsFirstLong, IsStep};
+ghost use Rattle.run_picture.specs.Steps.{moments_by, AreMany, AreAllMany, IsFirstTick};
+ghost use Rattle.run_picture.specs.Steps.{IsFirstShort, IsFirstLong, IsStep};
 
 use crate::frame::{LEFT, WIDTH};
 use people_names::Clock;
@@ -174,7 +175,8 @@ fn has_few(begin: u64, last: Moment, step: Moment) -> bool
 /// How many multiples of the step there are up to the last moment, of which this is the first one.
 fn tick_count(first: Moment, last: Moment, step: Moment) -> u128
     requires { 0 < step }
-    ensures count { (begin : ℕ) → IsFirstTick begin step first → ticks_by begin last step ≡ moments_by first step result }
+    ensures count { (begin : ℕ) → IsFirstTick begin step first
+        → ticks_by begin last step ≡ moments_by first step result }
     ensures within { (i : ℕ) → i < result → first + i * step ≤ last }
     ensures far { 10 < result → step * 10 ≤ last }
 {

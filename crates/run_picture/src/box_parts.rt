@@ -1,7 +1,8 @@
 //! The parts of a box's text, each written before what there is.
 
 ghost use Rattle.std.specs.Prelude.{◌≡◌, ◌+◌, ◌≤◌, length};
-ghost use Rattle.run_picture.specs.BoxText.{class_onto, late_onto, thin_onto, path_onto, edge_onto, numbers_onto, kind_onto, title_onto, name_onto, over_onto, label_onto};
+ghost use Rattle.run_picture.specs.BoxText.{class_onto, late_onto, thin_onto, path_onto, edge_onto, numbers_onto};
+ghost use Rattle.run_picture.specs.BoxText.{kind_onto, title_onto, name_onto, over_onto, label_onto};
 ghost use Rattle.run_picture.specs.declared.box_parts.TheConstants.{BOX_ROOM};
 
 use crate::drawn_box::{BoxKind, DrawnBox};

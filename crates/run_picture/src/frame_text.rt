@@ -1,7 +1,8 @@
 //! What is around the boxes, in text.
 
 ghost use Rattle.std.specs.Prelude.{◌≡◌, ◌+◌, ◌≤◌, ◌++◌, length, Some};
-ghost use Rattle.run_picture.specs.PictureText.{style_text, colour_text, left_edge, size_text, ground_text, end_word, head_words, words_text, moment_text, row_text, mark_text, present_text};
+ghost use Rattle.run_picture.specs.PictureText.{style_text, colour_text, left_edge, size_text, ground_text, end_word};
+ghost use Rattle.run_picture.specs.PictureText.{head_words, words_text, moment_text, row_text, mark_text, present_text};
 
 use crate::axis::x_at;
 use crate::frame::{bottom_of, foot_of, height_for, rows_end};

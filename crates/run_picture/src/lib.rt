@@ -1,5 +1,5 @@
-//! A run as a picture: the visits of jobs to machines as boxes along an axis of time, in one SVG document, with marks of
-//! the jobs that leave past their budgets.
+//! A run as a picture: the visits of jobs to machines as boxes along an axis of time, in one SVG document, with marks
+//! of the jobs that leave past their budgets.
 #![tactic(auto)]
 
 mod axis;

@@ -4,7 +4,8 @@ ghost use Rattle.std.specs.Prelude.{◌≡◌, ◌≤◌, flat_map, OnOk};
 ghost use Rattle.run_picture.specs.Late.{is_late};
 ghost use Rattle.run_picture.specs.BoxText.{box_text};
 ghost use Rattle.run_picture.specs.Boxes.{if_any};
-ghost use Rattle.run_picture.specs.PictureText.{frame_text, axis_text, rows_text, visit_text, visits_text, marks_text, present_text, picture_text, IsPicture};
+ghost use Rattle.run_picture.specs.PictureText.{frame_text, axis_text, rows_text, visit_text, visits_text};
+ghost use Rattle.run_picture.specs.PictureText.{marks_text, present_text, picture_text, IsPicture};
 ghost use Rattle.byte_streams.specs.Lent.{WroteTo};
 
 use crate::axis::Ticks;
@@ -44,8 +45,8 @@ impl Model for Picture {
 
 impl Picture {
     /// The picture of these visits to machines numbered from 0. Each machine has a row with its name, else its number,
-    /// and the axis of time goes from 0 to the last moment. The boxes come in the order of the visits. The late leavings
-    /// are told by job: those of such a job have red outlines, and its leaving a red mark.
+    /// and the axis of time goes from 0 to the last moment. The boxes come in the order of the visits. The late
+    /// leavings are told by job: those of such a job have red outlines, and its leaving a red mark.
     pub fn new(
         names: Names,
         sheet: Sheet,
@@ -88,7 +89,8 @@ fn put_picture<W: Sink>(
     late: &[Option<LateLeaving>],
     ticks: &Ticks,
 ) -> Result<(), WriteFault>
-    ensures wrote { WroteTo W.Sink result output.old output.new (picture_text names.now sheet visits.now late.now ticks.now) }
+    ensures wrote { WroteTo W.Sink result output.old output.new
+        (picture_text names.now sheet visits.now late.now ticks.now) }
     ensures unfailed { OnOk result (W.failed output.new ≡ W.failed output.old) }
 {
     let margin = left_margin(names, sheet.machines);

@@ -8,23 +8,32 @@
 
 // Nothing is done here: a function's contract is the law, so a check of this crate proves it.
 
-ghost use Rattle.shop_base.specs.StepLaw.{OneListOfMovesFitsAReport, EveryListHasOneControlledRun, NoTwoJobsAreOnOneMachine, AControlledRunIsARun};
+ghost use Rattle.shop_base.specs.StepLaw.{OneListOfMovesFitsAReport, EveryListHasOneControlledRun};
+ghost use Rattle.shop_base.specs.StepLaw.{NoTwoJobsAreOnOneMachine, AControlledRunIsARun};
 ghost use Rattle.shop_base.specs.StepLaw.{EveryRunIsSound, AMoveEntersItsTarget, NoJobMovesTwice};
 ghost use Rattle.shop_base.specs.NeverStuckLaw.{NeverStuck};
-ghost use Rattle.shop_base.specs.EndsLaw.{EndsOnTheStatedNumber, ReportsAddUpToTheStatedNumber, OrdersNeverOutnumberReports, MovesNeverOutnumberReports};
+ghost use Rattle.shop_base.specs.EndsLaw.{EndsOnTheStatedNumber, ReportsAddUpToTheStatedNumber};
+ghost use Rattle.shop_base.specs.EndsLaw.{OrdersNeverOutnumberReports, MovesNeverOutnumberReports};
 ghost use Rattle.shop_base.specs.InTimeLaw.{InTime, InTimeAtTheEnd};
 ghost use Rattle.shop_base.specs.CycleLaw.{ACycleStopsEveryRun};
 ghost use Rattle.shop_base.specs.ExactLaw.{NoExactRunIsFaster, NoExactMoveIsEarlier, JustInTime};
 ghost use Rattle.shop_base.specs.SerialLaw.{TheSerialPlanHasNoCycle};
 ghost use Rattle.shop_base.specs.AtMostOnceLaw.{NoEndIsAcceptedTwice};
-ghost use Rattle.shop_base.specs.AheadLaw.{NeverStuckFromThere, EndsOnTheReportsLeft, ReportsLeftAddUp, EveryCellSettlesOnce, NoJobSettlesTwice};
-ghost use Rattle.shop_base.specs.AheadLaw.{ACutStepSettlesAsItWas, EveryListGoesOn, EveryCellHasASchedule, InTimeFromThere, NoContinuationIsFaster};
-ghost use Rattle.shop_base.specs.AheadLaw.{JustInTimeFromThere, SomeContinuationIsExact, ACycleStopsEveryContinuation, NoArcLeadsBack, TheStartIsACaseOfThese};
-ghost use Rattle.shop_base.specs.WithinLaw.{InTimeWithin, EachMoveIsInTime, MomentsStillFit, AReportInTimeIsPossible, PunctualReportsAreWithin};
+ghost use Rattle.shop_base.specs.AheadLaw.{NeverStuckFromThere, EndsOnTheReportsLeft, ReportsLeftAddUp};
+ghost use Rattle.shop_base.specs.AheadLaw.{EveryCellSettlesOnce, NoJobSettlesTwice};
+ghost use Rattle.shop_base.specs.AheadLaw.{ACutStepSettlesAsItWas, EveryListGoesOn, EveryCellHasASchedule};
+ghost use Rattle.shop_base.specs.AheadLaw.{InTimeFromThere, NoContinuationIsFaster};
+ghost use Rattle.shop_base.specs.AheadLaw.{JustInTimeFromThere, SomeContinuationIsExact};
+ghost use Rattle.shop_base.specs.AheadLaw.{ACycleStopsEveryContinuation, NoArcLeadsBack, TheStartIsACaseOfThese};
+ghost use Rattle.shop_base.specs.WithinLaw.{InTimeWithin, EachMoveIsInTime, MomentsStillFit};
+ghost use Rattle.shop_base.specs.WithinLaw.{AReportInTimeIsPossible, PunctualReportsAreWithin};
 ghost use Rattle.shop_base.specs.WithinLaw.{TheirOwnAreEnough};
-ghost use Rattle.shop_base.specs.DeadlinesLaw.{OutByTheDeadlines, InTimeToTheDeadlines, EachSuchPlanHasDeadlines, DeadlinesExist, DeadlinesAreTheLatest};
-ghost use Rattle.shop_base.specs.DeadlinesLaw.{DeadlinesAreTheSame, DeadlinesStay, NoDeadlineIsTooEarly, InTimeByDeadlines, EachMoveIsByItsDeadline};
-ghost use Rattle.shop_base.specs.DeadlinesLaw.{TheRestStaysAccepted, AllOutByDeadlines, DeadlinesAreTight, ALateEndIsTooLate};
+ghost use Rattle.shop_base.specs.DeadlinesLaw.{OutByTheDeadlines, InTimeToTheDeadlines};
+ghost use Rattle.shop_base.specs.DeadlinesLaw.{EachSuchPlanHasDeadlines, DeadlinesExist, DeadlinesAreTheLatest};
+ghost use Rattle.shop_base.specs.DeadlinesLaw.{DeadlinesAreTheSame, DeadlinesStay, NoDeadlineIsTooEarly};
+ghost use Rattle.shop_base.specs.DeadlinesLaw.{InTimeByDeadlines, EachMoveIsByItsDeadline};
+ghost use Rattle.shop_base.specs.DeadlinesLaw.{TheRestStaysAccepted, AllOutByDeadlines};
+ghost use Rattle.shop_base.specs.DeadlinesLaw.{DeadlinesAreTight, ALateEndIsTooLate};
 
 /// From each sound cell at rest, exactly one list of moves that keep the plan and end at rest follows a possible
 /// report. The end of every run is sound (`every_run_is_sound`), and so is the cell of every controller. So a

@@ -2,7 +2,8 @@
 
 ghost use Rattle.std.specs.Prelude.{◌≡◌, ◌<◌, ◌≤◌, MatchOption, IfSome};
 ghost use Rattle.shop_base.specs.Shop.{step_at};
-ghost use Rattle.shop_base.specs.Plan.{jobs, machines, route, steps, order, release, budget, clean, Visits, IsWellShaped};
+ghost use Rattle.shop_base.specs.Plan.{jobs, machines, route, steps, order, release, budget};
+ghost use Rattle.shop_base.specs.Plan.{clean, Visits, IsWellShaped};
 
 use crate::limits::{MAX_JOBS, MAX_MACHINES};
 use crate::shaped::Shaped;

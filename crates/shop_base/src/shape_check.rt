@@ -82,7 +82,8 @@ fn check_places(
     requires reached { IsMachineReached (record { shop = shop.now; plan = plan.now }) machine }
     requires marked { AreVisits visits.now shop.now.routes }
     ensures good { OnOk result (AreGoodPlaces (record { shop = shop.now; plan = plan.now }) machine) }
-    ensures listed { IfOk result (λ listed. AreMarks listed (IsListed (record { shop = shop.now; plan = plan.now }) machine)) }
+    ensures listed { IfOk result
+        (λ listed. AreMarks listed (IsListed (record { shop = shop.now; plan = plan.now }) machine)) }
     ensures first_fault { IfErr result (IsFirstShapeFault (record { shop = shop.now; plan = plan.now })) }
 {
     let order = order_of(plan, machine);

@@ -41,8 +41,10 @@ pub fn shape(shop: Shop, plan: Plan) -> Result<Shaped, NotShaped>
     ensures shaped { IfOk result (λ shaped. shaped ≡ record { shop = shop; plan = plan }) }
     ensures well_shaped { OnOk result (IsWellShaped (record { shop = shop; plan = plan })) }
     ensures exact { IsOk result ↔ IsWellShaped (record { shop = shop; plan = plan }) }
-    ensures first_fault { IfErr result (λ refused. IsFirstShapeFault (record { shop = shop; plan = plan }) refused.fault) }
-    ensures only_fault { IfErr result (λ refused. IsOnlyShapeFault (record { shop = shop; plan = plan }) refused.fault) }
+    ensures first_fault { IfErr result
+        (λ refused. IsFirstShapeFault (record { shop = shop; plan = plan }) refused.fault) }
+    ensures only_fault { IfErr result
+        (λ refused. IsOnlyShapeFault (record { shop = shop; plan = plan }) refused.fault) }
     ensures same_shop { IfErr result (λ refused. refused.shop ≡ shop) }
     ensures same_plan { IfErr result (λ refused. refused.plan ≡ plan) }
 {

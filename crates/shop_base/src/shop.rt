@@ -1,4 +1,5 @@
-ghost use Rattle.std.specs.Prelude.{◌≡◌, ◌↔◌, ◌^◌, ◌<◌, ◌≤◌, MatchOption, sum_by, IfOk, IfErr, IsOk, OnOk, length, slice_get, Some};
+ghost use Rattle.std.specs.Prelude.{◌≡◌, ◌↔◌, ◌^◌, ◌<◌, ◌≤◌, MatchOption, sum_by, IfOk, IfErr};
+ghost use Rattle.std.specs.Prelude.{IsOk, OnOk, length, slice_get, Some};
 ghost use Rattle.shop_base.specs.Shop.{IsShop, IsRoute, AreCounts, IsSoundStep, operations_of, route_at};
 ghost use Rattle.shop_base.specs.Vectors.{lists_of};
 ghost use Rattle.shop_base.specs.Work.{work_of, route_work};
@@ -93,7 +94,8 @@ impl Shop {
 
     /// The route of a job, none for a number that is no job's.
     pub fn route(&self, job: JobNo) -> Option<&[Step]>
-        ensures { MatchOption result (length self.now.routes ≤ job) (λ route. slice_get self.now.routes job ≡ Some route.now) }
+        ensures { MatchOption result (length self.now.routes ≤ job)
+            (λ route. slice_get self.now.routes job ≡ Some route.now) }
     {
         self.routes.get(job as usize).map(|route| route.as_slice())
     }

@@ -24,9 +24,11 @@ ghost use Rattle.shop_base.specs.Graph.{RanksRise, MomentsFit, MeetBudgets, IsSc
 ghost use Rattle.shop_base.specs.Ahead.{HoldsUp, PathAhead, GoesOnTo};
 ghost use Rattle.shop_base.specs.Within.{AreByTheirOwn};
 ghost use Rattle.shop_base.specs.Deadlines.{AreDeadlines};
-ghost use Rattle.shop_base.specs.Examples.{in_series, with_cleaning, with_room, with_releases, crossed, in_flow, in_ring, instant};
+ghost use Rattle.shop_base.specs.Examples.{in_series, with_cleaning, with_room, with_releases};
+ghost use Rattle.shop_base.specs.Examples.{crossed, in_flow, in_ring, instant};
 ghost use Rattle.shop_base.specs.Examples.{arrive, finish, tidy, go, exchange};
-ghost use Rattle.shop_base.specs.Examples.{series_moments, series_ranks, cleaned_moments, released_moments, crossed_moments};
+ghost use Rattle.shop_base.specs.Examples.{series_moments, series_ranks, cleaned_moments};
+ghost use Rattle.shop_base.specs.Examples.{released_moments, crossed_moments};
 ghost use Rattle.shop_base.specs.Examples.{series_reports, series_log, series_after, series_end};
 ghost use Rattle.shop_base.specs.Examples.{late_reports, late_log, late_after, late_end};
 ghost use Rattle.shop_base.specs.Examples.{waiting_reports, waiting_log, waiting_after, waiting_end};
@@ -157,7 +159,8 @@ pub fn paths_of_two_jobs_in_series()
     ensures second_longest { (nodes : List Node) (n : ℕ) → Path in_series nodes (leaving in_series 1) n → n ≤ 10 }
     ensures cleaned { Path with_cleaning (node 0 0 ∷ node 0 1 ∷ node 0 2 ∷ node 1 0 ∷ node 1 1 ∷ node 1 2 ∷ [])
         (leaving with_cleaning 1) 12 }
-    ensures longest_cleaned { (nodes : List Node) (n : ℕ) → Path with_cleaning nodes (leaving with_cleaning 1) n → n ≤ 12 }
+    ensures longest_cleaned { (nodes : List Node) (n : ℕ)
+        → Path with_cleaning nodes (leaving with_cleaning 1) n → n ≤ 12 }
     ensures cleaning_arc { Arc with_cleaning (node 0 2) (node 1 0) 2 }
     ensures bare_arc { Arc in_series (node 0 2) (node 1 0) 0 }
     ensures not_from_entry { HasArc in_series (node 0 0) (node 1 1) → ⊥ }
@@ -224,9 +227,9 @@ pub fn cleaning_delays_the_entry()
     ensures last { cleaned_end.last ≡ 13 }
 {}
 
-/// The deadlines of a plan with room in its budgets. In a run in which each activity ends by its deadline, some past their
-/// due moments, both jobs are out by their budgets, and no sooner. Where one ends past its deadline, and one after it
-/// early, the job may still be out.
+/// The deadlines of a plan with room in its budgets. In a run in which each activity ends by its deadline, some past
+/// their due moments, both jobs are out by their budgets, and no sooner. Where one ends past its deadline, and one
+/// after it early, the job may still be out.
 pub fn each_activity_ends_by_its_deadline()
     ensures shaped { IsWellShaped with_room }
     ensures schedule { IsSchedule with_room series_ranks cleaned_moments }
@@ -246,7 +249,8 @@ pub fn each_activity_ends_by_its_deadline()
     ensures still_out { IsOutByBudget with_room hasty_end 0 }
 {}
 
-/// From cells in mid-run: what holds up which node, paths ahead, and runs that go on, from a cell in which an order is due.
+/// From cells in mid-run: what holds up which node, paths ahead, and runs that go on, from a cell in which an order is
+/// due.
 pub fn a_run_goes_on_from_there()
     ensures arrival { HoldsUp with_room (start with_room) (Arrival 1) (node 1 0) }
     ensures operation { HoldsUp with_room (slow_after 5) (Operation 0 1) (node 0 2) }
@@ -255,7 +259,8 @@ pub fn a_run_goes_on_from_there()
     ensures none_waits { (v : Node) → HoldsUp with_room (slow_after 11) (Cleaning 1) v → ⊥ }
     ensures path { PathAhead with_room (slow_after 5) 8 (node 0 2 ∷ node 1 0 ∷ node 1 1 ∷ node 1 2 ∷ [])
         (leaving with_room 1) 16 }
-    ensures longest { (nodes : List Node) (n : ℕ) → PathAhead with_room (slow_after 5) 8 nodes (leaving with_room 1) n → n ≤ 16 }
+    ensures longest { (nodes : List Node) (n : ℕ)
+        → PathAhead with_room (slow_after 5) 8 nodes (leaving with_room 1) n → n ≤ 16 }
     ensures overdue { PathAhead with_room (slow_after 5) 10 (node 0 2 ∷ node 1 0 ∷ node 1 1 ∷ node 1 2 ∷ [])
         (leaving with_room 1) 17 }
     ensures passed { (nodes : List Node) (n : ℕ) → PathAhead with_room (slow_after 5) 8 nodes (node 0 1) n → ⊥ }

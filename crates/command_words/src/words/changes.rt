@@ -5,7 +5,10 @@ ghost use Rattle.std.specs.List.{list_all};
 ghost use Rattle.clap.specs.Words.{found_of, rows_of};
 ghost use Rattle.command_words.specs.Given.{is_moment, is_short, values_of};
 ghost use Rattle.text_lines.specs.Numbers.{value_of};
-ghost use Rattle.command_words.specs.Changes.{all_asked, asked_by, attached_misfit, change_seen, changes_in, ends_name, form_misfit, forms_misfit, is_such, is_until, kind_in, kind_of_until, moment_at, moment_with, option_of, owners_in, owners_used, placed_misfit, revision_misfit, rises, uses};
+ghost use Rattle.command_words.specs.Changes.{all_asked, asked_by, attached_misfit, change_seen, changes_in, ends_name};
+ghost use Rattle.command_words.specs.Changes.{form_misfit, forms_misfit, is_such, is_until, kind_in, kind_of_until};
+ghost use Rattle.command_words.specs.Changes.{moment_at, moment_with, option_of, owners_in, owners_used, placed_misfit};
+ghost use Rattle.command_words.specs.Changes.{revision_misfit, rises, uses};
 ghost use Rattle.command_words.specs.Choice.{NamesOneOf, NamesReason};
 
 use crate::words::{
@@ -71,8 +74,10 @@ pub(crate) fn changes_of(
 ) -> Result<Vec<AskedChange>, WordsFault>
     ensures exact { IfOk result (λ changes. map change_seen changes.items
         ≡ changes_in (map (λ word. word.now) words.now) (rows_of (found_of matches.now))) }
-    ensures fits { IfOk result (λ _. revision_misfit (map (λ word. word.now) words.now) (rows_of (found_of matches.now)) ≡ []) }
-    ensures refused { IfErr result (NamesOneOf (revision_misfit (map (λ word. word.now) words.now) (rows_of (found_of matches.now)))) }
+    ensures fits { IfOk result
+        (λ _. revision_misfit (map (λ word. word.now) words.now) (rows_of (found_of matches.now)) ≡ []) }
+    ensures refused { IfErr result
+        (NamesOneOf (revision_misfit (map (λ word. word.now) words.now) (rows_of (found_of matches.now)))) }
 {
     let released = attached_to(alloc, words, matches, "release", "--release")?;
     let promised = attached_to(alloc, words, matches, "budget", "--budget")?;
@@ -137,9 +142,10 @@ fn attached_to(
 ) -> Result<Vec<usize>, WordsFault>
     ensures exact { IfOk result (λ owners. owners.items
         ≡ owners_used name.now flag.now (map (λ word. word.now) words.now) (rows_of (found_of matches.now))) }
-    ensures fits { IfOk result (λ _. attached_misfit name.now flag.now (map (λ word. word.now) words.now) (rows_of (found_of matches.now)) ≡ []) }
-    ensures refused { IfErr result
-        (NamesOneOf (attached_misfit name.now flag.now (map (λ word. word.now) words.now) (rows_of (found_of matches.now)))) }
+    ensures fits { IfOk result (λ _.
+        attached_misfit name.now flag.now (map (λ word. word.now) words.now) (rows_of (found_of matches.now)) ≡ []) }
+    ensures refused { IfErr result (NamesOneOf
+        (attached_misfit name.now flag.now (map (λ word. word.now) words.now) (rows_of (found_of matches.now)))) }
 {
     if !matches.contains_id(name) {
         return Ok(Vec::new(alloc));
@@ -250,8 +256,8 @@ fn add_changes(
     promised: &[usize],
     form: ChangeForm,
 ) -> Result<(), WordsFault>
-    ensures added { OnOk result (map change_seen changes.new.items
-        ≡ map change_seen changes.old.items ++ asked_by released.now promised.now (rows_of (found_of matches.now)) form) }
+    ensures added { OnOk result (map change_seen changes.new.items ≡ map change_seen changes.old.items
+        ++ asked_by released.now promised.now (rows_of (found_of matches.now)) form) }
     ensures fits { OnOk result (form_misfit (rows_of (found_of matches.now)) form ≡ []) }
     ensures refused { IfErr result (NamesOneOf (form_misfit (rows_of (found_of matches.now)) form)) }
 {
@@ -274,7 +280,8 @@ fn add_change(
     word: &str,
     kind: ChangeKind,
 ) -> Result<(), AllocError>
-    ensures { OnOk result (map change_seen changes.new.items ≡ map change_seen changes.old.items ++ (word.now, kind) ∷ []) }
+    ensures { OnOk result
+        (map change_seen changes.new.items ≡ map change_seen changes.old.items ++ (word.now, kind) ∷ []) }
 {
     let value = String::from_str(alloc, word)?;
     changes.push(AskedChange { value, kind })?;
@@ -326,7 +333,8 @@ fn kind_of(
 
 /// The moment until which something lasts on a machine, `M=T`.
 fn until_of(word: &str) -> Option<ChangeKind>
-    ensures { MatchOption result (is_until word.now ≡ false) (λ kind. (is_until word.now ≡ true) × (kind ≡ kind_of_until word.now)) }
+    ensures { MatchOption result (is_until word.now ≡ false)
+        (λ kind. (is_until word.now ≡ true) × (kind ≡ kind_of_until word.now)) }
 {
     let Some((machine, moment)) = word.split_once('=') else {
         return None;
@@ -342,7 +350,8 @@ fn until_of(word: &str) -> Option<ChangeKind>
 
 /// The number of 1 to 9 digits that the word is.
 fn short_number(word: &str) -> Option<u32>
-    ensures { MatchOption result (is_short word.now ≡ false) (λ n. (is_short word.now ≡ true) × (n ≡ value_of word.now)) }
+    ensures { MatchOption result (is_short word.now ≡ false)
+        (λ n. (is_short word.now ≡ true) × (n ≡ value_of word.now)) }
 {
     let form = NumberForm {
         digits: 9,

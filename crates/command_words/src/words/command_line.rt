@@ -2,7 +2,11 @@
 
 ghost use Rattle.std.specs.Prelude.{◌≡◌, IfOk, [], ◌∷◌, false, codes};
 ghost use Rattle.clap.specs.Words.{rule_of};
-ghost use Rattle.command_words.specs.CommandLine.{Describes, adding_rules, bare_program, choices_rule, command, command_line, described, file_rule, leaf, lengthening_rules, log_command, log_rules, names_rule, option_rule, plan_command, plans_rule, program_with, repeated_rule, rest_command, rounds_rule, seed_rule, switch_rule};
+ghost use Rattle.command_words.specs.CommandLine.{Describes, adding_rules, bare_program, choices_rule, command};
+ghost use Rattle.command_words.specs.CommandLine.{command_line, described, file_rule, leaf, lengthening_rules};
+ghost use Rattle.command_words.specs.CommandLine.{log_command, log_rules, names_rule, option_rule, plan_command};
+ghost use Rattle.command_words.specs.CommandLine.{plans_rule, program_with, repeated_rule, rest_command, rounds_rule};
+ghost use Rattle.command_words.specs.CommandLine.{seed_rule, switch_rule};
 
 use crate::words::CommandName;
 use clap::builder::ValueParser;

@@ -2,7 +2,8 @@
 
 ghost use Rattle.std.specs.Prelude.{◌≡◌, [], IfOk, IfErr};
 ghost use Rattle.clap.specs.Words.{found_of, rows_of};
-ghost use Rattle.command_words.specs.Choice.{NamesOneOf, goes_on, is_asked, is_twofold, lacks_log, start_in, start_misfit};
+ghost use Rattle.command_words.specs.Choice.{NamesOneOf, goes_on, is_asked, is_twofold};
+ghost use Rattle.command_words.specs.Choice.{lacks_log, start_in, start_misfit};
 
 use crate::words::{WordsFault, has_log, is_set, no_both, no_log};
 use clap::ArgMatches;
