@@ -133,7 +133,8 @@ def make(path, begin):
 
 
 def back(lines):
-    """Prints the lines of `schedule` as a table: visits, cleanings (without a job) and arrivals (without a machine)."""
+    """Prints the lines of `schedule` as a table: visits, cleanings (without a job) and arrivals (without a machine). A job that is gone
+    has only its leaving, one that has arrived and is outside no moment."""
     table = csv.writer(sys.stdout, lineterminator="\n")
     table.writerow(["job", "machine", "from", "to", "by", "leaves"])
     for line in lines:
@@ -141,6 +142,8 @@ def back(lines):
         visit = re.fullmatch(r"job (\S+) on machine (\S+) (?:from|since) (\S+)(?: to (\S+)(?: by (\S+))?| done) leaves (\S+)", line)
         cleaned = re.fullmatch(r"machine (\S+) cleaned (?:from|since) (\S+) to (\S+)(?: by (\S+))?", line)
         arrives = re.fullmatch(r"job (\S+) arrives (\S+)(?: by (\S+))?", line)
+        left = re.fullmatch(r"job (\S+) left (\S+)", line)
+        arrived = re.fullmatch(r"job (\S+) has arrived", line)
         if visit:
             job, machine, begins, ends, by, leaves = visit.groups("")
             table.writerow([job, machine, begins, ends, by, leaves])
@@ -150,6 +153,10 @@ def back(lines):
         elif arrives:
             job, comes, by = arrives.groups("")
             table.writerow([job, "", comes, comes, by, ""])
+        elif left:
+            table.writerow([left[1], "", "", "", "", left[2]])
+        elif arrived:
+            table.writerow([arrived[1], "", "", "", "", ""])
 
 
 def main():
