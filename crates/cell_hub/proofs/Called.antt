@@ -6,7 +6,7 @@ use Rattle.slab.specs.Slab.{Slab, get, Updates}
 use Rattle.plan_verifier.specs.Accepted.{VerifiedPlan}
 use Rattle.cell_control.specs.{Control.{Control, at_start}, Reports.IsFirstReason, declared.ack.Ack.Ack}
 use Rattle.cell_control.proofs.OneReason.{only_reason}
-use Rattle.cell_hub.specs.{declared.ticket.Ticket.Ticket, declared.slots.Placed.Placed}
+use Rattle.cell_hub.specs.{declared.slots.Ticket.Ticket, declared.slots.Placed.Placed}
 use Rattle.cell_hub.specs.declared.hub_fault.HubFault.{HubFault}
 use Rattle.cell_hub.specs.declared.hub_fault.HubFault.TheVariants.{NoSuchCell, SerialsSpent, Memory, Cell}
 use Rattle.cell_hub.specs.{Hub.{HubState, cell_at, Puts}, Slots.hub_of}

@@ -6,7 +6,7 @@ use Rattle.shop_base.specs.{Report.CanReport, declared.report.Report.TheVariants
 use Rattle.cell_control.specs.{declared.ack.Ack.Ack, declared.report_fault.ReportFault.ReportFault}
 use Rattle.cell_control.specs.{Control.{Control, IsControl}, Reports.{CanCleanAfter, IsFirstCleanReason}}
 use Rattle.cell_control.proofs.CleanReasons.{can_clean, only_clean_reason}
-use Rattle.cell_hub.specs.{declared.ticket.Ticket.Ticket, declared.hub_fault.HubFault.HubFault}
+use Rattle.cell_hub.specs.{declared.slots.Ticket.Ticket, declared.hub_fault.HubFault.HubFault}
 use Rattle.cell_hub.specs.declared.hub_fault.HubFault.TheVariants.{NoSuchCell, SerialsSpent, Memory, Cell}
 use Rattle.cell_hub.specs.{Hub.{HubState, cell_at}, Calls.{Reported, IsCall, IsOnlyCleanRefusal, cleaning_call}}
 

@@ -5,7 +5,7 @@ use Rattle.shop_base.specs.declared.report.Report.{Report}
 use Rattle.slab.specs.Slab.{Slab, get, with_value, Updates}
 use Rattle.slab.proofs.SlabLemmas.{Updates-with_value}
 use Rattle.cell_control.specs.{declared.ack.Ack.Ack, Control.{Control, IsAnswered}}
-use Rattle.cell_hub.specs.{declared.ticket.Ticket.Ticket, declared.slots.Placed.Placed, Hub.{cell_at, Puts}}
+use Rattle.cell_hub.specs.{declared.slots.Ticket.Ticket, declared.slots.Placed.Placed, Hub.{cell_at, Puts}}
 use Rattle.cell_hub.specs.{Slots.hub_of, Calls.{IsReported, IsDismissed}}
 use Rattle.cell_hub.proofs.{Tickets.{in_slot, cell_at-slot}, Puts.{HasSerial, slot_puts}}
 

@@ -5,7 +5,7 @@ use Rattle.std.specs.declared.result.Result.TheVariants.{Ok, Err}
 use Rattle.shop_base.specs.declared.report.Report.{Report}
 use Rattle.plan_verifier.specs.Accepted.{VerifiedPlan}
 use Rattle.cell_control.specs.{declared.ack.Ack.Ack, Control.{Control, at_start, IsAnswered}, Reports.IsFirstReason}
-use Rattle.cell_hub.specs.{declared.ticket.Ticket.Ticket, declared.hub_fault.HubFault.HubFault}
+use Rattle.cell_hub.specs.{declared.slots.Ticket.Ticket, declared.hub_fault.HubFault.HubFault}
 use Rattle.cell_hub.specs.declared.hub_fault.HubFault.TheVariants.{NoSuchCell, SerialsSpent, Memory, Cell}
 use Rattle.cell_hub.specs.Hub.{HubState, hub_from, cell_at, Puts, AreSerialsBelow}
 use Rattle.cell_hub.specs.Calls as call

@@ -3,7 +3,7 @@ use Rattle.std.proofs.Common.{◌≡◌, ◌≢◌, ℕ, ◌<◌, ◌≤◌, Opt
 use Rattle.std.proofs.lemmas.Bool.{cases_eq, ne_eqb}
 use Rattle.slab.specs.Slab.{Slab, get, Updates}
 use Rattle.cell_control.specs.Control.{Control}
-use Rattle.cell_hub.specs.{declared.ticket.Ticket.Ticket, declared.slots.Placed.Placed}
+use Rattle.cell_hub.specs.{declared.slots.Ticket.Ticket, declared.slots.Placed.Placed}
 use Rattle.cell_hub.specs.{Hub.{HubState, cell_at, Puts, AreSerialsBelow}, Slots.hub_of}
 use Rattle.cell_hub.proofs.Tickets.{same_ticket, in_slot, cell_at-slot}
 

@@ -9,7 +9,7 @@ use Rattle.cell_control.specs.{declared.ack.Ack.Ack, Control.{Control, at_start,
 use Rattle.cell_control.specs.Promises as promise
 use Rattle.cell_control.specs.Promises.{AreCalled}
 use Rattle.cell_control.proofs.{Promises.calls_make_the_controlled_run, Reasons.reason-cannot}
-use Rattle.cell_hub.specs.{declared.ticket.Ticket.Ticket, declared.hub_fault.HubFault.TheVariants.Cell, Hub.is_ticket}
+use Rattle.cell_hub.specs.{declared.slots.Ticket.Ticket, declared.hub_fault.HubFault.TheVariants.Cell, Hub.is_ticket}
 use Rattle.cell_hub.specs.Calls.{HubCall, Admitted, Reported, Shown, Dismissed}
 use Rattle.cell_hub.specs.Laws as law
 use Rattle.cell_hub.specs.Laws.{Life, not_given, stands, dismissed, content_in, Lives, AreLived, FindsNoCell, IsOnTicket, reports_on, CallsMakeTheControlledRuns}

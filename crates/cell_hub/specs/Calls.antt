@@ -9,7 +9,7 @@ use Rattle.plan_verifier.specs.Accepted.{VerifiedPlan}
 use Rattle.cell_control.specs.declared.ack.Ack.{Ack}
 use Rattle.cell_control.specs.Control.{Control, at_start, IsAnswered}
 use Rattle.cell_control.specs.Reports.{IsFirstReason, IsFirstCleanReason}
-use Rattle.cell_hub.specs.declared.ticket.Ticket.{Ticket}
+use Rattle.cell_hub.specs.declared.slots.Ticket.{Ticket}
 use Rattle.cell_hub.specs.declared.hub_fault.HubFault.{HubFault}
 use Rattle.cell_hub.specs.declared.hub_fault.HubFault.TheVariants.{NoSuchCell, SerialsSpent, Memory, Cell}
 use Rattle.cell_hub.specs.Hub.{HubState, cell_at, Puts}

@@ -1,7 +1,7 @@
 -- What a hub holds.
 use Rattle.std.specs.Prelude.{◌≡◌, ◌≢◌, ℕ, ◌<◌, List, [], ◌∷◌, Option, None, Some, Bool, ◌&&◌, eqb, if◌then◌else◌}
 use Rattle.cell_control.specs.Control.{Control}
-use Rattle.cell_hub.specs.declared.ticket.Ticket.{Ticket}
+use Rattle.cell_hub.specs.declared.slots.Ticket.{Ticket}
 
 -- for each ticket that has a cell the content of its controller, and the serial of the next ticket
 pub record HubState : Type 0 where

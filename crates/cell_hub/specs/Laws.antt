@@ -9,7 +9,7 @@ use Rattle.cell_control.specs.declared.report_fault.ReportFault.{ReportFault}
 use Rattle.cell_control.specs.Control.{Control, at_start, IsAnswered}
 use Rattle.cell_control.specs.Reports.{IsFirstReason}
 use Rattle.cell_control.specs.Promises.{IsControllerAfter}
-use Rattle.cell_hub.specs.declared.ticket.Ticket.{Ticket}
+use Rattle.cell_hub.specs.declared.slots.Ticket.{Ticket}
 use Rattle.cell_hub.specs.declared.hub_fault.HubFault.TheVariants.{NoSuchCell, Cell}
 use Rattle.cell_hub.specs.Hub.{HubState, hub_from, is_ticket, cell_at}
 use Rattle.cell_hub.specs.Calls.{HubCall, Admitted, Reported, Shown, Dismissed, AreCalls}

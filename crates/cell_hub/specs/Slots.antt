@@ -4,7 +4,7 @@ use Rattle.shop_base.specs.declared.report.Report.{Report}
 use Rattle.slab.specs.Slab.{Slab, entries}
 use Rattle.cell_control.specs.declared.ack.Ack.{Ack}
 use Rattle.cell_control.specs.Control.{Control}
-use Rattle.cell_hub.specs.declared.ticket.Ticket.{Ticket}
+use Rattle.cell_hub.specs.declared.slots.Ticket.{Ticket}
 use Rattle.cell_hub.specs.declared.slots.Placed.{Placed}
 use Rattle.cell_hub.specs.Hub.{HubState, cell_at}
 use Rattle.cell_hub.specs.Calls.{IsReported, IsDismissed}

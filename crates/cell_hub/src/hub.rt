@@ -7,8 +7,7 @@ ghost use Rattle.cell_hub.specs.Calls.{IsOnlyRefusal, IsOnlyCleanRefusal, EndsNo
 ghost use Rattle.cell_hub.specs.Calls.{cleaning_call, Admitted, Reported, Shown, Dismissed};
 
 use crate::hub_fault::HubFault;
-use crate::slots::{Placed, cell_in, report_in, reserve_slot, take_from};
-use crate::ticket::Ticket;
+use crate::slots::{Placed, Ticket, cell_in, report_in, reserve_slot, take_from};
 use cell_control::{Ack, Controller, Dues, Report};
 use plan_verifier::Verified;
 use shop_base::{JobNo, MachineNo, Moment};

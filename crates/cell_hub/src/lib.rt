@@ -10,8 +10,7 @@ mod hub;
 mod hub_fault;
 pub mod laws;
 mod slots;
-mod ticket;
 
 pub use hub::Hub;
 pub use hub_fault::HubFault;
-pub use ticket::Ticket;
+pub use slots::Ticket;

@@ -1,4 +1,4 @@
-//! The cells in their slots, each with the serial of its ticket.
+//! The tickets of cells, and the cells in their slots, each with the serial of its ticket.
 
 ghost use Rattle.std.specs.Prelude.{◌≡◌, ◌↔◌, ℕ, None, option_copied, IfOk, IfErr, IsOk, OnOk, OnErr};
 ghost use Rattle.slab.specs.Slab.{HasRoomFor};
@@ -7,10 +7,20 @@ ghost use Rattle.cell_hub.specs.{Hub.cell_at, Slots.hub_of, Slots.IfCell, Slots.
 ghost use Rattle.cell_hub.specs.Calls.{IsNotReported, EndsNow};
 
 use crate::hub_fault::HubFault;
-use crate::ticket::Ticket;
 use cell_control::{Ack, Controller, Dues, Report};
 use slab::Slab;
 use std::alloc::AllocError;
+
+/// Names a cell of a hub. A hub gives no ticket twice, even if a slot is used again. It doesn't notice that a
+/// ticket is another hub's.
+#[derive(Clone, Copy, Debug, PartialEq, Eq)]
+pub struct Ticket {
+    /// Where the cell is.
+    pub slot: usize,
+    /// Which of the hub's admissions it is: the number of admissions before it, from the hub's first
+    /// serial on.
+    pub serial: u64,
+}
 
 /// A cell, with the serial of its ticket.
 #[derive(Debug, Drop)]

@@ -1,12 +1,14 @@
 //! A reader and a writer that fail once, and what comes of a call over them.
 
+ghost use Rattle.std.specs.Prelude.{◌≡◌};
+
 use super::cells::{Texts, accepted};
 use super::driven_inputs::{Driven, Driver, End};
-use super::echo::Echo;
 use super::one_byte_writer::OneByteWriter;
 use super::piece_reader::PieceReader;
-use cell_drive::{Buffered, DriveFault, FromRead, drive, drive_hub, stream};
+use cell_drive::{Buffered, DriveFault, FromRead, LineHandler, drive, drive_hub, stream};
 use plan_verifier::Verified;
+use run_log::{Sink, WriteFault, put_all};
 use std::alloc::Global;
 use std::cell::Cell;
 use std::test::Fail;
@@ -40,7 +42,7 @@ type Writer<'a> = Buffered<OneByteWriter<'a>>;
 /// What came of a call: its answer, whether all that was written is the beginning of the answers, how much that is and
 /// how much of it was out before the last read, and how many reads were made.
 #[derive(Clone, Copy)]
-pub(super) struct Outcome {
+struct Outcome {
     pub(super) end: Result<End, DriveFault>,
     pub(super) alike: bool,
     pub(super) count: usize,
@@ -129,4 +131,37 @@ pub(super) fn driven_over(alloc: Global, driven: &Driven, limits: Limits) -> Res
         before_last_read: giver.written_at_last,
         reads: giver.calls,
     })
+}
+
+/// Answers a line by its number's last digit, its bytes and a bar, an empty line by nothing, and ends by a full stop.
+#[derive(Drop)]
+pub(super) struct Echo;
+
+impl LineHandler for Echo {
+    ghost answers = { λ s number line text end. end ≡ s };
+
+    ghost closes = { λ s text. s ≡ s };
+
+    fn answer<W: Sink>(
+        &mut self,
+        number: u64,
+        line: &[u8],
+        writer: &mut W,
+    ) -> Result<(), WriteFault> {
+        if line.is_empty() {
+            return put_all(writer, b"");
+        }
+        let mut text = [b'|'; 65];
+        text[0] = b'0' + (number % 10) as u8;
+        text[1..line.len() + 1].copy_from_slice(line);
+        put_all(writer, &text[..line.len() + 2])
+    }
+
+    fn answer_long<W: Sink>(&mut self, _number: u64, writer: &mut W) -> Result<(), WriteFault> {
+        put_all(writer, b"long|")
+    }
+
+    fn put_closing<W: Sink>(&self, writer: &mut W) -> Result<(), WriteFault> {
+        put_all(writer, b".")
+    }
 }

@@ -20,8 +20,6 @@ mod driven_inputs;
 #[cfg(test)]
 mod dues;
 #[cfg(test)]
-mod echo;
-#[cfg(test)]
 mod events;
 #[cfg(test)]
 mod faults;

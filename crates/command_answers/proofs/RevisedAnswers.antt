@@ -9,11 +9,11 @@ use Rattle.shop_base.specs.Run.{ends_in}
 use Rattle.text_lines.specs.Lines.{ended_lines}
 use Rattle.cell_tables.specs.Events.{events_of}
 use Rattle.run_log.specs.Audits.{ParseAsRun}
-use Rattle.orlib_read.specs.declared.not_written.NotWritten.{NotWritten}
-use Rattle.orlib_read.specs.declared.not_written.NotWritten.TheVariants.{NotReadBack as NotRead, Memory as WantOfMemory}
+use Rattle.orlib_read.specs.declared.document.NotWritten.{NotWritten}
+use Rattle.orlib_read.specs.declared.document.NotWritten.TheVariants.{NotReadBack as NotRead, Memory as WantOfMemory}
 use Rattle.plan_revise.specs.declared.change.Change.{Change}
-use Rattle.plan_revise.specs.declared.not_revised.NotRevised.{NotRevised}
-use Rattle.plan_revise.specs.declared.not_revised.NotRevised.TheVariants.{Refused, Memory as NoMemory}
+use Rattle.plan_revise.specs.declared.change_fault.NotRevised.{NotRevised}
+use Rattle.plan_revise.specs.declared.change_fault.NotRevised.TheVariants.{Refused, Memory as NoMemory}
 use Rattle.plan_revise.specs.Revised.{IsReason}
 use Rattle.command_answers.specs.declared.answer.Answer.{Answer}
 use Rattle.command_answers.specs.declared.command_fault.CommandFault.{CommandFault}

@@ -13,7 +13,7 @@ use Rattle.plan_decide.specs.declared.decide_fault.DecideFault.TheVariants.{JobO
 use Rattle.plan_decide.specs.declared.decided.Decided.{Decided}
 use Rattle.plan_decide.specs.declared.decided.Decided.TheVariants.{Kept, Best, Never, Open}
 use Rattle.plan_decide.specs.declared.decided.Within.{Within}
-use Rattle.plan_decide.specs.declared.excluded.Excluded.{Excluded}
+use Rattle.plan_decide.specs.declared.decided.Excluded.{Excluded}
 use Rattle.plan_decide.specs.Cases.{Case, job_count}
 use Rattle.plan_decide.specs.Promises.{asked_for}
 use Rattle.plan_decide.specs.Excluding.{AreExclusions, NoneIsAlone}

@@ -4,8 +4,8 @@ use Rattle.std.specs.List.{flat_map}
 use Rattle.people_names.specs.NameBooks.{NameBook}
 use Rattle.people_names.specs.Words.{job_word}
 use Rattle.plan_decide.specs.declared.decided.Within.{Within}
-use Rattle.plan_decide.specs.declared.excluded.Excluded.{Excluded}
-use Rattle.plan_decide.specs.declared.excluded.Excluded.TheVariants.{Alone, Pair, Several}
+use Rattle.plan_decide.specs.declared.decided.Excluded.{Excluded}
+use Rattle.plan_decide.specs.declared.decided.Excluded.TheVariants.{Alone, Pair, Several}
 use Rattle.plan_decide.specs.Excluding.{jobs_in}
 
 -- the words of the jobs, with a blank before each

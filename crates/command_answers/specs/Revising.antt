@@ -12,14 +12,14 @@ use Rattle.cell_tables.specs.Events.{events_of}
 use Rattle.run_log.specs.Audits.{ParseAsRun}
 use Rattle.orlib_read.specs.Instance.{IsInstance}
 use Rattle.orlib_read.specs.Lines.{instance_lines}
-use Rattle.orlib_read.specs.declared.not_written.NotWritten.{NotWritten}
-use Rattle.orlib_read.specs.declared.not_written.NotWritten.TheVariants.{NotReadBack as NotRead, Memory as WantOfMemory}
+use Rattle.orlib_read.specs.declared.document.NotWritten.{NotWritten}
+use Rattle.orlib_read.specs.declared.document.NotWritten.TheVariants.{NotReadBack as NotRead, Memory as WantOfMemory}
 use Rattle.plan_text.specs.declared.plan_fault.PlanFault.TheVariants.{NotReadBack}
 use Rattle.plan_revise.specs.declared.change.Change.{Change}
 use Rattle.plan_revise.specs.declared.change.Change.TheVariants.{Until, Add, Scrap, Down}
 use Rattle.plan_revise.specs.declared.change_fault.ChangeFault.{ChangeFault}
-use Rattle.plan_revise.specs.declared.not_revised.NotRevised.{NotRevised}
-use Rattle.plan_revise.specs.declared.not_revised.NotRevised.TheVariants.{Refused, Memory as NoMemory}
+use Rattle.plan_revise.specs.declared.change_fault.NotRevised.{NotRevised}
+use Rattle.plan_revise.specs.declared.change_fault.NotRevised.TheVariants.{Refused, Memory as NoMemory}
 use Rattle.plan_revise.specs.Names.{fault_name}
 use Rattle.plan_revise.specs.Revised.{IsRevised, IsRefusedAt}
 use Rattle.command_answers.specs.declared.answer.Answer.{Answer}

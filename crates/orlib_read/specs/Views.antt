@@ -3,8 +3,8 @@ use Rattle.std.specs.Prelude.{ℕ, List}
 use Rattle.shop_base.specs.declared.shop.Step.{Step}
 use Rattle.shop_base.specs.Vectors.{lists_of}
 use Rattle.shop_base.specs.ShopFault.{IsFirstFault}
-use Rattle.orlib_read.specs.declared.draft.Head.{Head}
-use Rattle.orlib_read.specs.declared.draft.Draft.{Draft}
+use Rattle.orlib_read.specs.declared.named.Head.{Head}
+use Rattle.orlib_read.specs.declared.named.Draft.{Draft}
 use Rattle.orlib_read.specs.declared.or_fault.OrFault.{OrFault}
 use Rattle.orlib_read.specs.declared.or_fault.OrFault.TheVariants.{Shop}
 use Rattle.orlib_read.specs.Reading as readings

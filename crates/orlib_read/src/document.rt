@@ -2,16 +2,38 @@
 
 ghost use Rattle.std.specs.Prelude.{◌≡◌, ◌++◌, Err, IfOk, OnOk, IfErr, MatchBool, decimal};
 ghost use Rattle.orlib_read.specs.Instance.{IsInstance};
-ghost use Rattle.orlib_read.specs.Lines.{instance_lines, description_line, sizes_line, step_text};
-ghost use Rattle.orlib_read.specs.Lines.{more_steps, job_line, job_lines};
+ghost use Rattle.orlib_read.specs.Lines.{instance_lines, description_line, sizes_line, step_text, more_steps};
+ghost use Rattle.orlib_read.specs.Lines.{job_line, job_lines};
 
 use crate::compare::{is_same, route_of};
-use crate::not_written::NotWritten;
 use crate::or_fault::OrFault;
 use crate::readers::read_instance;
 use itoa::Buffer;
 use shop_base::{Shop, Step};
 use std::alloc::{AllocError, Global};
+use thiserror::Error;
+
+/// Why an instance isn't written.
+#[derive(Clone, Copy, Debug, PartialEq, Eq, Error)]
+pub enum NotWritten {
+    /// The text would be read as another instance, or as none.
+    #[error("NotReadBack")]
+    NotReadBack,
+    /// Out of memory.
+    #[error("Memory")]
+    Memory,
+}
+
+impl From<AllocError> for NotWritten {
+    ghost use Rattle.std.specs.Prelude.{◌≡◌};
+    ghost use Rattle.orlib_read.specs.declared.document.NotWritten.TheVariants.{Memory};
+
+    ghost from_gives = { λ _ fault. fault ≡ Memory };
+
+    fn from(_error: AllocError) -> NotWritten {
+        NotWritten::Memory
+    }
+}
 
 /// Writes an instance: a line for the description where it has bytes, the sizes, and a line per job with machine and
 /// nominal time by turns, one blank between.

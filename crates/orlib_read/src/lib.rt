@@ -5,18 +5,15 @@
 
 mod compare;
 mod document;
-mod draft;
 mod kinds;
 mod lines;
 mod named;
-mod not_written;
 mod or_fault;
 mod readers;
 mod reading;
 mod words;
 
-pub use document::{instance_document, instance_lines};
+pub use document::{NotWritten, instance_document, instance_lines};
 pub use named::Named;
-pub use not_written::NotWritten;
 pub use or_fault::OrFault;
 pub use readers::{read_from_collection, read_instance, read_route};

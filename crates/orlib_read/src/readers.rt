@@ -11,9 +11,8 @@ ghost use Rattle.orlib_read.specs.Answers.{ReadsEach, ReadsRoute, IsRefused, Ans
 ghost use Rattle.orlib_read.specs.Reading.{Content, Gives, instance_at, section_at};
 ghost use Rattle.orlib_read.specs.Views.{content_of, IsShopFault};
 
-use crate::draft::Draft;
 use crate::lines::{Line, Lines};
-use crate::named::Named;
+use crate::named::{Draft, Named};
 use crate::or_fault::OrFault;
 use crate::reading::{read_draft, route_of};
 use shop_base::{Shop, Step};

@@ -9,9 +9,9 @@ ghost use Rattle.orlib_read.specs.Reading.{Gives, GivesExactly, without_titles, 
 ghost use Rattle.orlib_read.specs.Reading.{steps_at, route_at, jobs_at, draft_at};
 ghost use Rattle.orlib_read.specs.Views.{head_of, content_of};
 
-use crate::draft::{Draft, Head};
 use crate::kinds::{is_instance_line, sizes_of};
 use crate::lines::{Line, Lines};
+use crate::named::{Draft, Head};
 use crate::or_fault::OrFault;
 use crate::words::{next_word, number_of, word_count};
 use shop_base::Step;

@@ -6,7 +6,7 @@ use Rattle.toml.specs.Data.{item}
 use Rattle.toml.specs.View.{view, items_view}
 use Rattle.toml.specs.declared.value.Value.{Value}
 use Rattle.people_names.specs.declared.names.TheConstants.{LONGEST_NAME}
-use Rattle.people_names.specs.declared.names_key.NamesKey.{NamesKey}
+use Rattle.people_names.specs.declared.keys.NamesKey.{NamesKey}
 use Rattle.people_names.specs.declared.names_fault.NamesFault.{NamesFault}
 use Rattle.people_names.specs.Documents.{IsFirstOf}
 use Rattle.people_names.specs.Faults.{name_faults, each_faults}

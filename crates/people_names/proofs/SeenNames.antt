@@ -9,7 +9,7 @@ use Rattle.std.specs.Ordering.{nat_cmp}
 use Rattle.std.specs.Str.{bytes_eq}
 use Rattle.std.specs.String.{string_cmp}
 use Rattle.toml.specs.Data.{Data, string, integer, float, boolean, datetime, array, table, as_str}
-use Rattle.people_names.specs.declared.names_key.NamesKey.{NamesKey}
+use Rattle.people_names.specs.declared.keys.NamesKey.{NamesKey}
 use Rattle.people_names.specs.declared.names_fault.NamesFault.TheVariants.{NameTwice}
 use Rattle.people_names.specs.Documents.{IsFirstOf}
 use Rattle.people_names.specs.NameTexts.{is_name}

@@ -3,8 +3,8 @@ use Rattle.std.specs.Prelude.{ℕ, ◌+◌, nat_le, Bool, not, is_some, if◌the
 use Rattle.std.specs.List.{list_any}
 use Rattle.std.specs.Str.{bytes_eq}
 use Rattle.toml.specs.Data.{Data, string, array, Items, no_items, item, Members, no_members, member}
-use Rattle.people_names.specs.declared.names_key.NamesKey.{NamesKey}
-use Rattle.people_names.specs.declared.names_key.NamesKey.TheVariants.{Jobs, Machines}
+use Rattle.people_names.specs.declared.keys.NamesKey.{NamesKey}
+use Rattle.people_names.specs.declared.keys.NamesKey.TheVariants.{Jobs, Machines}
 use Rattle.people_names.specs.declared.names_fault.NamesFault.{NamesFault}
 use Rattle.people_names.specs.declared.names_fault.NamesFault.TheVariants.{UnknownKey, NotArray, NotText, BadName, NameTwice, BadClock, TooManyNames}
 use Rattle.people_names.specs.Keys.{value_at, begin_in, is_known_key, printable_part}

@@ -3,8 +3,8 @@ use Rattle.std.specs.Prelude.{ℕ, ◌==◌, Bool, ◌||◌, if◌then◌else◌
 use Rattle.std.specs.Char.{is_ascii_graphic}
 use Rattle.std.specs.Str.{bytes_eq}
 use Rattle.toml.specs.Data.{Data, Members, get_member}
-use Rattle.people_names.specs.declared.names_key.NamesKey.{NamesKey}
-use Rattle.people_names.specs.declared.names_key.NamesKey.TheVariants.{Jobs, Machines}
+use Rattle.people_names.specs.declared.keys.NamesKey.{NamesKey}
+use Rattle.people_names.specs.declared.keys.NamesKey.TheVariants.{Jobs, Machines}
 
 -- the key as it stands in a text
 abbrev pub name_of : NamesKey → List ℕ

@@ -2,7 +2,7 @@
 use Rattle.std.specs.Prelude.{ℕ, true, List, [], ◌∷◌, Option, None, Some}
 use Rattle.toml.specs.Data.{Data, string, array, Items, no_items, item, Members}
 use Rattle.people_names.specs.declared.clock.Clock.{Clock}
-use Rattle.people_names.specs.declared.names_key.NamesKey.TheVariants.{Jobs, Machines}
+use Rattle.people_names.specs.declared.keys.NamesKey.TheVariants.{Jobs, Machines}
 use Rattle.people_names.specs.Keys.{value_at, begin_in}
 use Rattle.people_names.specs.Clocks.{clock_of}
 use Rattle.people_names.specs.NameBooks.{NameBook}

@@ -1,19 +1,51 @@
-//! The keys of a table.
+//! The keys of a text of names.
 
-ghost use Rattle.std.specs.Prelude.{◌≡◌, not, option_map, string_bytes};
+ghost use Rattle.std.specs.Prelude.{◌≡◌, not, option_map, string_bytes, Some};
 ghost use Rattle.std.specs.BTreeMap.{keys};
 ghost use Rattle.std.specs.List.{find};
 ghost use Rattle.std.specs.Option.{option_copied};
 ghost use Rattle.toml.specs.Data.{get_member};
 ghost use Rattle.toml.specs.View.{view, table_view};
-ghost use Rattle.people_names.specs.Keys.{is_known_key};
+ghost use Rattle.people_names.specs.Keys.{is_known_key, name_of};
 ghost use Rattle.people_names.specs.Answers.{Passes};
 ghost use Rattle.people_names.specs.Faults.{key_faults};
 
 use crate::names_fault::{KeyText, NamesFault};
-use crate::names_key::{BEGIN, NamesKey};
 use std::alloc::Global;
+use std::fmt;
 use toml::{Table, Value};
+
+/// The key of a text of names that holds what the clock says at moment 0.
+pub(crate) const BEGIN: &str = "begin";
+
+/// The keys of a text of names that hold lists.
+#[derive(Clone, Copy, Debug, PartialEq, Eq)]
+pub enum NamesKey {
+    /// The name of each job.
+    Jobs,
+    /// The name of each machine.
+    Machines,
+}
+
+impl NamesKey {
+    /// The key as it is in a text.
+    pub fn name(self) -> &'static str
+        ensures { result.now ≡ name_of self }
+    {
+        match self {
+            NamesKey::Jobs => "jobs",
+            NamesKey::Machines => "machines",
+        }
+    }
+}
+
+impl fmt::Display for NamesKey {
+    ghost output = { λ key. Some (name_of key) };
+
+    fn fmt<W: fmt::Write>(&self, f: &mut fmt::Formatter<W>) -> fmt::Result {
+        f.write_str(self.name())
+    }
+}
 
 /// The value of a key, if the table has one.
 pub(crate) fn value_of<'a>(table: &'a Table, key: &str) -> Option<&'a Value>

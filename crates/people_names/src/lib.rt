@@ -13,11 +13,10 @@ mod lists;
 mod name_texts;
 mod names;
 mod names_fault;
-mod names_key;
 mod read;
 
 pub use clock::{Clock, clock_of};
+pub use keys::NamesKey;
 pub use names::{LONGEST_MOMENT, LONGEST_NAME, Names};
 pub use names_fault::{KeyText, NamesFault};
-pub use names_key::NamesKey;
 pub use read::read_names;

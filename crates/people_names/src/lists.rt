@@ -8,9 +8,9 @@ ghost use Rattle.people_names.specs.Lists.{AreShort, HasSeen};
 ghost use Rattle.people_names.specs.declared.names.TheConstants.{LONGEST_NAME};
 ghost use Rattle.people_names.specs.Reading.{text_in, texts_in, names_at};
 
+use crate::keys::NamesKey;
 use crate::name_texts::is_name;
 use crate::names_fault::NamesFault;
-use crate::names_key::NamesKey;
 use std::alloc::{AllocError, Global};
 use std::collections::BTreeSet;
 use toml::Value;

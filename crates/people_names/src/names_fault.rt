@@ -1,7 +1,7 @@
 ghost use Rattle.std.specs.Prelude.{◌≡◌, Some, IfOk, string_bytes};
 ghost use Rattle.people_names.specs.Keys.{is_printable, printable_part};
 
-use crate::names_key::NamesKey;
+use crate::keys::NamesKey;
 use std::alloc::{AllocError, Global};
 use std::fmt;
 use std::marker::Model;

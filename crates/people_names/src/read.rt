@@ -12,11 +12,10 @@ ghost use Rattle.people_names.specs.Reading.{names_at, clock_in, names_in};
 ghost use Rattle.people_names.specs.Faults.{list_faults, clock_faults, unless, value_faults, faults_of};
 
 use crate::clock::{Clock, clock_of};
-use crate::keys::{check_known, value_of};
+use crate::keys::{BEGIN, NamesKey, check_known, value_of};
 use crate::lists::names_of;
 use crate::names::{Names, names_for_people};
 use crate::names_fault::NamesFault;
-use crate::names_key::{BEGIN, NamesKey};
 use std::alloc::Global;
 use toml::Table;
 

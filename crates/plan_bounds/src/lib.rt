@@ -2,12 +2,10 @@
 //! for a shop with given releases and cleaning times. No call of this crate can run out of memory.
 #![tactic(auto)]
 
-mod jobs;
+mod bounds;
 pub mod laws;
-mod machines;
 mod makespan;
 mod visits;
 
-pub use jobs::job_bound;
-pub use machines::machine_bound;
+pub use bounds::{job_bound, machine_bound};
 pub use makespan::{By, LeastMakespan, least_makespan};

@@ -6,8 +6,7 @@ ghost use Rattle.plan_bounds.specs.Bounds.{times_of};
 ghost use Rattle.plan_bounds.specs.Greatest.{HaveNoBound, IsGreatestOfMachines, IsGreatestOfJobs};
 ghost use Rattle.plan_bounds.specs.Makespan.{IsLeastMakespan};
 
-use crate::jobs::job_bound;
-use crate::machines::machine_bound;
+use crate::bounds::{job_bound, machine_bound};
 use shop_base::{JobNo, MachineNo, Moment, Shaped};
 
 /// Whose bound it is.

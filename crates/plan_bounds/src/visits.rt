@@ -5,7 +5,7 @@ ghost use Rattle.shop_base.specs.Plan.{jobs, IsWellShaped};
 ghost use Rattle.plan_bounds.specs.Bounds.{times_of};
 ghost use Rattle.plan_bounds.specs.Seen.{AreVisits, IsNoVisitor, IsNowhereOn, IsPlaceOn, IsVisitOf, lesser_of, plus};
 
-use crate::jobs::work;
+use crate::bounds::work;
 use shop_base::{JobNo, MachineNo, Moment, Shaped, Step};
 
 /// A job's visit of a machine: its head, its nominal time there, and its tail, in whole time units.

@@ -25,8 +25,8 @@ use Rattle.plan_verifier.specs.Accepted.{VerifiedPlan, IsGreatest, IsMakespan}
 use Rattle.plan_verifier.specs.Leavings.{leaves_in, IsLastLeaving}
 use Rattle.plan_verifier.specs.RestVerdicts.{IsAcceptableAhead}
 use Rattle.plan_bounds.specs.Bounds.{ShopTimes, times_of}
-use Rattle.plan_limits.specs.declared.answer.Answer.{Answer}
-use Rattle.plan_limits.specs.declared.answer.Answer.TheVariants.{Never, Orders, Open}
+use Rattle.plan_limits.specs.declared.asking.Answer.{Answer}
+use Rattle.plan_limits.specs.declared.asking.Answer.TheVariants.{Never, Orders, Open}
 use Rattle.plan_limits.specs.Stages.{stage_of}
 use Rattle.plan_limits.specs.Limits.{NoPlanKeepsFrom}
 use Rattle.plan_limits.specs.Answered.{OnNever}

@@ -8,7 +8,7 @@ use Rattle.shop_base.specs.Plan.{PlannedShop, jobs}
 use Rattle.plan_bounds.specs.Bounds.{times_of}
 use Rattle.plan_limits.specs.Limits.{limit_of}
 use Rattle.plan_decide.specs.declared.asked.Asked.TheVariants.{All as AllAsked}
-use Rattle.plan_decide.specs.declared.excluded.Excluded.TheVariants.{Several}
+use Rattle.plan_decide.specs.declared.decided.Excluded.TheVariants.{Several}
 use Rattle.plan_decide.specs.declared.leaving_out.Left.{Left}
 use Rattle.plan_decide.specs.Cases.{Case, IsOutWithin, is_waiting, job_count, budget_in, times_in, with_budgets}
 use Rattle.plan_decide.specs.Promises.{IsPromised}

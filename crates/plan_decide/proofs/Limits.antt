@@ -6,8 +6,8 @@ use Rattle.shop_base.specs.declared.limits.TheConstants.{MAX_MOMENT}
 use Rattle.shop_base.specs.Plan.{PlannedShop, jobs, IsWellShaped}
 use Rattle.shop_base.specs.Cell.{Cell, IsGone, start}
 use Rattle.plan_bounds.specs.Bounds.{times_of}
-use Rattle.plan_limits.specs.declared.answer.Answer.{Answer}
-use Rattle.plan_limits.specs.declared.answer.Answer.TheVariants.{Never, Orders, Open}
+use Rattle.plan_limits.specs.declared.asking.Answer.{Answer}
+use Rattle.plan_limits.specs.declared.asking.Answer.TheVariants.{Never, Orders, Open}
 use Rattle.plan_limits.specs.Stages.{stage_of}
 use Rattle.plan_limits.specs.Limits.{limit_of, NoPlanKeepsFrom}
 use Rattle.plan_limits.specs.Answered.{OnNever}

@@ -4,8 +4,8 @@ use Rattle.std.proofs.lemmas.Bool.{cases_eq}
 use Rattle.std.proofs.lemmas.List.{length_push, nil_from_length}
 use Rattle.std.proofs.lemmas.List.Elements.{All-nil, All-cons, All-push, All-weaker, Contains-append_left, Contains-push}
 use Rattle.std.proofs.lemmas.List.Kept.{AllPairs-cons}
-use Rattle.plan_decide.specs.declared.excluded.Excluded.{Excluded}
-use Rattle.plan_decide.specs.declared.excluded.Excluded.TheVariants.{Alone, Pair, Several}
+use Rattle.plan_decide.specs.declared.decided.Excluded.{Excluded}
+use Rattle.plan_decide.specs.declared.decided.Excluded.TheVariants.{Alone, Pair, Several}
 use Rattle.plan_decide.specs.declared.asked.Asked.TheVariants.{Both}
 use Rattle.plan_decide.specs.Cases.{Case, job_count, budget_in}
 use Rattle.plan_decide.specs.Promises.{IsPromised}

@@ -4,8 +4,8 @@ use Rattle.shop_base.specs.declared.limits.TheConstants.{MAX_MOMENT}
 use Rattle.shop_base.specs.Plan.{PlannedShop, jobs, budget}
 use Rattle.plan_verifier.specs.Accepted.{HasNoCycle}
 use Rattle.plan_bounds.specs.Bounds.{times_of}
-use Rattle.plan_decide.specs.declared.excluded.Excluded.{Excluded}
-use Rattle.plan_decide.specs.declared.excluded.Excluded.TheVariants.{Alone, Pair, Several}
+use Rattle.plan_decide.specs.declared.decided.Excluded.{Excluded}
+use Rattle.plan_decide.specs.declared.decided.Excluded.TheVariants.{Alone, Pair, Several}
 use Rattle.plan_decide.specs.Cases.{Case, IsOutWithin, IsPlanOf, IsAccepted, bound_in, budget_in, times_in}
 use Rattle.plan_decide.specs.Promises.{IsPromised}
 

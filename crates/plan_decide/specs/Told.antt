@@ -1,7 +1,7 @@
 -- What is told of promises that can't be kept, while it is collected.
 use Rattle.std.specs.Prelude.{ℕ, ◌<◌, ◌≤◌, List, All, AllPairs, Contains, length}
-use Rattle.plan_decide.specs.declared.excluded.Excluded.{Excluded}
-use Rattle.plan_decide.specs.declared.excluded.Excluded.TheVariants.{Alone}
+use Rattle.plan_decide.specs.declared.decided.Excluded.{Excluded}
+use Rattle.plan_decide.specs.declared.decided.Excluded.TheVariants.{Alone}
 use Rattle.plan_decide.specs.declared.promises.Reply.{Reply}
 use Rattle.plan_decide.specs.declared.promises.Reply.TheVariants.{Orders, Never, Open}
 use Rattle.plan_decide.specs.Cases.{Case}

@@ -8,7 +8,7 @@ ghost use Rattle.plan_decide.specs.Excluding.{IsNeverInTime, IsInDoubt};
 ghost use Rattle.plan_decide.specs.Told.{AreAllAlone};
 
 use crate::asked::promise_to;
-use crate::excluded::Excluded;
+use crate::decided::Excluded;
 use crate::setting::{Setting, bound_of_job};
 use shop_base::JobNo;
 use std::alloc::{AllocError, Global};

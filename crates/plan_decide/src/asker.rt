@@ -9,11 +9,17 @@ ghost use Rattle.plan_decide.specs.Settings.{IsSet, case_in};
 use crate::asked::{Asked, limits_for};
 use crate::decided::Within;
 use crate::setting::{Past, Setting};
-use crate::watch::Watch;
 use arc_choice::{Choose, Question, Side, State};
 use plan_limits::{Answer, ask};
 use shop_base::Moment;
 use std::alloc::{AllocError, Global};
+
+/// A watcher that gets how far the searches have come. It changes nothing in them.
+pub trait Watch {
+    /// Called before each choice, with how many the search made before it and how many it may make, and once a plan was
+    /// found, with what is known of the objective.
+    fn choice(&mut self, choices: u64, limit: u64, found: Option<Within>);
+}
 
 /// The most choices of a search for a plan that keeps the promises to two jobs, even where more are allowed.
 pub const PAIR_CHOICES: u64 = 1_000;

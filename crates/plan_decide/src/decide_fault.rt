@@ -1,5 +1,7 @@
+//! Why nothing is decided.
+
 use run_log::AuditFault;
-use shop_base::Moment;
+use shop_base::{Moment, Shaped};
 use std::alloc::AllocError;
 use thiserror::Error;
 
@@ -46,4 +48,11 @@ impl From<AuditFault> for DecideFault {
             _ => DecideFault::Log(audit),
         }
     }
+}
+
+/// The plan that came in, given back as it was, with the reason why nothing is decided.
+#[derive(Drop)]
+pub struct Undecided {
+    pub fault: DecideFault,
+    pub shaped: Shaped,
 }

@@ -1,5 +1,6 @@
-use crate::excluded::Excluded;
-use shop_base::{Moment, Shaped};
+//! What is decided.
+
+use shop_base::{JobNo, Moment, Shaped};
 
 /// What is decided. A plan is given as `K`: a whole one as `Verified`, one for the rest of a run as `Shaped`.
 #[derive(Drop)]
@@ -26,4 +27,17 @@ pub struct Within {
     pub at_most: Moment,
     /// Whether a search for something better ended open. Where none did, both moments are the same.
     pub ended_open: bool,
+}
+
+/// Promised jobs that exclude each other: in no plan are all of them out by their budgets, even if all others are late.
+#[derive(Debug, Drop)]
+pub enum Excluded {
+    /// A job whose bound is past its budget.
+    Alone(JobNo),
+    /// Two jobs, the lesser first. Neither's bound is past its budget.
+    Pair(JobNo, JobNo),
+    /// The jobs that remain where of all the promised ones those are left out, the greatest number first, without which
+    /// the others still exclude each other. They ascend. Where no search of this ended open, each of them is needed:
+    /// the promises of the others can be kept.
+    Several { jobs: Vec<JobNo>, or_fewer: bool },
 }

@@ -9,12 +9,11 @@ ghost use Rattle.plan_decide.specs.Halves.{IsFree, IsFoundWith, IsLooked, IsHalf
 
 use crate::aim::Objective;
 use crate::asked::Asked;
-use crate::asker::Asker;
+use crate::asker::{Asker, Watch};
 use crate::decided::Within;
 use crate::judging::{accepted_at, accepted_by};
 use crate::kept::{Kept, leaving_in, makespan_of};
 use crate::setting::{Past, Setting, bound_of_job, is_waiting};
-use crate::watch::Watch;
 use arc_choice::Choose;
 use plan_bounds::least_makespan;
 use plan_improve::copy_orders;

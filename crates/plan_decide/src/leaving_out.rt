@@ -7,11 +7,10 @@ ghost use Rattle.plan_decide.specs.Settings.{IsSet, case_in};
 ghost use Rattle.plan_decide.specs.Excluding.{IsExclusion};
 ghost use Rattle.plan_decide.specs.LeftOut.{ArePromised, IsSpared, IsLeft, AreLimited, cap};
 
-use crate::asker::Asker;
-use crate::excluded::Excluded;
+use crate::asker::{Asker, Watch};
+use crate::decided::Excluded;
 use crate::judging::accepted_with;
 use crate::setting::Setting;
-use crate::watch::Watch;
 use arc_choice::Choose;
 use plan_limits::Answer;
 use shop_base::limits::MAX_MOMENT;

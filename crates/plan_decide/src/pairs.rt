@@ -2,17 +2,16 @@
 
 ghost use Rattle.std.specs.Prelude.{◌+◌, ◌<◌, OnOk};
 ghost use Rattle.shop_base.specs.Plan.{jobs};
-ghost use Rattle.plan_decide.specs.declared.excluded.Excluded.TheVariants.{Pair};
+ghost use Rattle.plan_decide.specs.declared.decided.Excluded.TheVariants.{Pair};
 ghost use Rattle.plan_decide.specs.Excluding.{IsInDoubt};
 ghost use Rattle.plan_decide.specs.Settings.{IsSet, case_in};
 ghost use Rattle.plan_decide.specs.Told.{AreOrderedExclusions, AreExclusionsBefore, AddsExclusions};
 
 use crate::alone::is_in_doubt;
 use crate::asked::Asked;
-use crate::asker::Asker;
-use crate::excluded::Excluded;
+use crate::asker::{Asker, Watch};
+use crate::decided::Excluded;
 use crate::setting::Setting;
-use crate::watch::Watch;
 use arc_choice::Choose;
 use plan_limits::Answer;
 use shop_base::JobNo;

@@ -9,12 +9,11 @@ ghost use Rattle.plan_decide.specs.Told.{IsReply};
 
 use crate::alone::all_alone;
 use crate::asked::{Asked, limits_for};
-use crate::asker::Asker;
-use crate::excluded::Excluded;
+use crate::asker::{Asker, Watch};
+use crate::decided::Excluded;
 use crate::leaving_out::leave_out;
 use crate::pairs::add_pairs;
 use crate::setting::Setting;
-use crate::watch::Watch;
 use arc_choice::Choose;
 use plan_limits::Answer;
 use shop_base::{JobNo, Moment};

@@ -9,7 +9,7 @@ use Rattle.arc_choice.specs.declared.outcome.Outcome.TheVariants.{Never, Chosen,
 use Rattle.arc_choice.specs.Choices.{IsArc, IsSound, IsImpossible, arc_at, pair_at}
 use Rattle.arc_choice.specs.Outcomes.{OnNever}
 use Rattle.plan_bounds.specs.Bounds.{times_of}
-use Rattle.plan_limits.specs.declared.sizes.TheConstants.{MAX_NODES}
+use Rattle.plan_limits.specs.declared.questions.TheConstants.{MAX_NODES}
 use Rattle.plan_limits.specs.Stages.{Stage, stage_of, IsTimed}
 use Rattle.plan_limits.specs.Limits.{NoPlanKeepsFrom}
 use Rattle.plan_limits.specs.Asked.{by_number, AreNumbered, AreFirst, AreLast, AreFixedArcs, AreMachinePairs, Asks}

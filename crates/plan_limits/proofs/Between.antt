@@ -11,7 +11,7 @@ use Rattle.shop_base.specs.Ahead.{IsAhead, next_node}
 use Rattle.shop_base.proofs.Visits.{visits-stands, visits-order, stands_same}
 use Rattle.plan_bounds.specs.Bounds.{times_of, IsVisit}
 use Rattle.plan_verifier.specs.Held.{later_than}
-use Rattle.plan_limits.specs.declared.fine.TheConstants.{FINE}
+use Rattle.plan_limits.specs.declared.moments.TheConstants.{FINE}
 use Rattle.plan_limits.specs.Stages.{stage_of}
 use Rattle.plan_limits.specs.LimitsLaw.{AreFineMoments}
 

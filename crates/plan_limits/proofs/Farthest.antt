@@ -19,7 +19,7 @@ use Rattle.plan_verifier.specs.CellBounds.{cleaned_at}
 use Rattle.plan_verifier.specs.Held.{later_than}
 use Rattle.plan_verifier.proofs.PathsAhead.{begun_at, begun_next, beginning_in_table, beginning_ahead, beginning_path}
 use Rattle.plan_verifier.proofs.Tables.{later_is, later_above, later_other, cleaned_holds, holds_cleaned}
-use Rattle.plan_limits.specs.declared.fine.TheConstants.{FINE}
+use Rattle.plan_limits.specs.declared.moments.TheConstants.{FINE}
 use Rattle.plan_limits.specs.Stages.{Stage, stage_of, IsTimed}
 use Rattle.plan_limits.specs.Limits.{KeepsLimitsFrom}
 use Rattle.plan_limits.specs.LimitsLaw.{AreFineMoments, LeaveWithin, EveryPlanGivesMoments}

@@ -12,7 +12,7 @@ use Rattle.arc_choice.specs.declared.question.Arc.{Arc}
 use Rattle.arc_choice.specs.declared.question.Pair.{Pair}
 use Rattle.arc_choice.specs.Choices.{Keeps, KeepsOne, IsArc, no_arc}
 use Rattle.plan_bounds.specs.Bounds.{ShopTimes, times_of, IsVisit}
-use Rattle.plan_limits.specs.declared.fine.TheConstants.{FINE}
+use Rattle.plan_limits.specs.declared.moments.TheConstants.{FINE}
 use Rattle.plan_limits.specs.Stages.{Stage, stage_of}
 use Rattle.plan_limits.specs.LimitsLaw.{AreFineMoments}
 use Rattle.plan_limits.specs.Asked.{by_number, pair_between, AreNumbered, IsFollowed, IsRouteArc, IsHolderArc, AreFixedArcs, IsEntry, IsMachinePair}

@@ -6,7 +6,7 @@ use Rattle.shop_base.specs.Cell.{made}
 use Rattle.shop_base.specs.Graph.{node}
 use Rattle.alt_graph.specs.Places.{node_at}
 use Rattle.plan_bounds.specs.Bounds.{route_in}
-use Rattle.plan_limits.specs.declared.fine.TheConstants.{FINE}
+use Rattle.plan_limits.specs.declared.moments.TheConstants.{FINE}
 use Rattle.plan_limits.specs.Stages.{Stage}
 use Rattle.plan_limits.specs.LimitsLaw.{AreFineMoments, LeaveWithin}
 use Rattle.plan_limits.specs.Asked.{by_number, IsPlace, IsWithinLimit, AreLast}

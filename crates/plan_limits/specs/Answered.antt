@@ -1,6 +1,6 @@
 -- What an answer says.
-use Rattle.plan_limits.specs.declared.answer.Answer.{Answer}
-use Rattle.plan_limits.specs.declared.answer.Answer.TheVariants.{Never, Orders, Open}
+use Rattle.plan_limits.specs.declared.asking.Answer.{Answer}
+use Rattle.plan_limits.specs.declared.asking.Answer.TheVariants.{Never, Orders, Open}
 
 -- a fact that holds at `Never`
 abbrev pub OnNever : Type 0 → Answer → Type 0

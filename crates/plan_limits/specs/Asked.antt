@@ -14,7 +14,7 @@ use Rattle.arc_choice.specs.declared.question.Pair.{Pair}
 use Rattle.arc_choice.specs.declared.question.Question.{Question}
 use Rattle.arc_choice.specs.Choices.{Answers, no_arc, no_pair}
 use Rattle.plan_bounds.specs.Bounds.{ShopTimes, job_count, route_in, IsVisit}
-use Rattle.plan_limits.specs.declared.fine.TheConstants.{FINE}
+use Rattle.plan_limits.specs.declared.moments.TheConstants.{FINE}
 use Rattle.plan_limits.specs.Stages.{Stage}
 use Rattle.plan_limits.specs.Limits.{limit_of}
 use Rattle.plan_limits.specs.LimitsLaw.{AreFineMoments, LeaveWithin}

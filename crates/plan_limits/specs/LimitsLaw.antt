@@ -11,7 +11,7 @@ use Rattle.plan_verifier.specs.Accepted.{VerifiedPlan, IsVerified, IsAcceptable}
 use Rattle.plan_verifier.specs.Held.{later_than}
 use Rattle.plan_verifier.specs.RestVerdicts.{IsAcceptableAhead}
 use Rattle.plan_bounds.specs.Bounds.{ShopTimes, times_of, job_count, route_in, IsVisit}
-use Rattle.plan_limits.specs.declared.fine.TheConstants.{FINE}
+use Rattle.plan_limits.specs.declared.moments.TheConstants.{FINE}
 use Rattle.plan_limits.specs.Stages.{Stage, bare, at_start, IsTimed, GoesOnFrom}
 use Rattle.plan_limits.specs.Limits.{limit_of, KeepsLimits, KeepsLimitsFrom, NoPlanKeeps, NoPlanKeepsFrom}
 

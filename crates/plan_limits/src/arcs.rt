@@ -5,8 +5,8 @@ ghost use Rattle.shop_base.specs.Plan.{jobs};
 ghost use Rattle.plan_bounds.specs.Bounds.{times_of, IsVisit};
 ghost use Rattle.plan_limits.specs.Asked.{AreNumbered, AreFixedArcs, IsHeld};
 
-use crate::fine::FINE;
-use crate::sizes::MAX_NODES;
+use crate::moments::FINE;
+use crate::questions::MAX_NODES;
 use arc_choice::Arc;
 use cell_tables::WorkCell;
 use shop_base::{MachineNo, Node, Planned};

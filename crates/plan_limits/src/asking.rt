@@ -7,16 +7,26 @@ ghost use Rattle.plan_limits.specs.Stages.{stage_of};
 ghost use Rattle.plan_limits.specs.Limits.{NoPlanKeepsFrom};
 ghost use Rattle.plan_limits.specs.Answered.{OnNever};
 
-use crate::answer::Answer;
 use crate::numbering::asked_nodes;
 use crate::orders::orders_by;
-use crate::questions::question_of;
-use crate::sizes::{MAX_NODES, MAX_PAIRS};
+use crate::questions::{MAX_NODES, MAX_PAIRS, question_of};
 use arc_choice::{Choose, Outcome, explore};
 use cell_tables::WorkCell;
 use plan_verifier::cleanings_in_range;
-use shop_base::{Moment, Planned};
+use shop_base::{JobNo, Moment, Planned};
 use std::alloc::{AllocError, Global};
+
+/// What a question about limits is answered by.
+#[derive(Debug, Drop)]
+pub enum Answer {
+    /// No plan of the shop with these releases and cleaning times has all jobs that are asked for out by their limits.
+    Never,
+    /// An order for each machine, by which there may be such a plan: whoever asks shapes the plan and judges it. Jobs
+    /// that aren't asked for stand behind the others, in ascending order.
+    Orders(Vec<Vec<JobNo>>),
+    /// Not decided: within the choices that were allowed, or since the question is too large.
+    Open,
+}
 
 /// Asks whether any plan of this shop, with these releases and cleaning times, of which some run has led to the cell,
 /// has no cycle and has each job that has a limit and isn't gone out by it, from the present moment on: what goes on

@@ -2,18 +2,13 @@
 //! complete search over alternative graphs (Mascis and Pacciarelli, EJOR 143, 2002), which knows no shop.
 #![tactic(auto)]
 
-mod answer;
 mod arcs;
 mod asking;
-mod fine;
 pub mod laws;
 mod moments;
 mod numbering;
 mod orders;
 mod pairs;
 mod questions;
-mod rows;
-mod sizes;
 
-pub use answer::Answer;
-pub use asking::ask;
+pub use asking::{Answer, ask};

@@ -9,11 +9,13 @@ ghost use Rattle.plan_limits.specs.Stages.{stage_of};
 ghost use Rattle.plan_limits.specs.LimitsLaw.{AreFineMoments};
 ghost use Rattle.plan_limits.specs.Asked.{IsPlace, IsWithinLimit, AreNumbered, AreFirst, AreLast};
 
-use crate::fine::FINE;
 use cell_tables::WorkCell;
 use plan_verifier::later;
 use shop_base::{JobNo, Moment, Node, Planned};
 use std::alloc::{AllocError, Global};
+
+/// How many fine units a time unit has: more than a shop within the limits has nodes.
+pub(crate) const FINE: u64 = 32_768;
 
 /// The first moments of the nodes.
 pub(crate) fn first_moments<P: Planned>(

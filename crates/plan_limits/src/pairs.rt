@@ -3,11 +3,10 @@
 ghost use Rattle.std.specs.Prelude.{◌≡◌, ◌+◌, ◌<◌, ◌≤◌, IfOk, OnOk, length};
 ghost use Rattle.shop_base.specs.Plan.{IsWellShaped};
 ghost use Rattle.plan_bounds.specs.Bounds.{times_of};
-ghost use Rattle.plan_limits.specs.Asked.{AreMachinePairs, AreEntries, pair_between};
+ghost use Rattle.plan_limits.specs.Asked.{AreMachinePairs, AreEntries, pair_between, AreEmpty};
 
-use crate::fine::FINE;
-use crate::rows::empty_rows;
-use crate::sizes::MAX_NODES;
+use crate::moments::FINE;
+use crate::questions::MAX_NODES;
 use arc_choice::{Arc, Pair};
 use shop_base::{Node, Shaped};
 use std::alloc::{AllocError, Global};
@@ -76,4 +75,16 @@ fn pair_of(one: u32, other: u32, length: u64) -> Pair
             length,
         },
     }
+}
+
+/// So many empty rows.
+fn empty_rows(alloc: Global, count: u32) -> Result<Vec<Vec<u32>>, AllocError>
+    ensures count { IfOk result (λ rows. length rows.items ≡ count) }
+    ensures empty { IfOk result (λ rows. AreEmpty rows.items) }
+{
+    let mut rows = Vec::new(alloc);
+    for _ in 0..count {
+        rows.push(Vec::new(alloc))?;
+    }
+    Ok(rows)
 }

@@ -1,4 +1,4 @@
-//! The question that is put to the search.
+//! The question that is put to the search, and how large it may be.
 
 ghost use Rattle.std.specs.Prelude.{◌≡◌, ◌≤◌, IfOk, length};
 ghost use Rattle.shop_base.specs.declared.limits.TheConstants.{MAX_MOMENT};
@@ -11,11 +11,16 @@ ghost use Rattle.plan_limits.specs.Asked.{AreNumbered, Asks};
 use crate::arcs::fixed_arcs;
 use crate::moments::{first_moments, last_moments};
 use crate::pairs::machine_pairs;
-use crate::sizes::MAX_NODES;
 use arc_choice::Question;
 use cell_tables::WorkCell;
 use shop_base::{Moment, Node, Planned};
 use std::alloc::{AllocError, Global};
+
+/// The most nodes of the jobs that are asked for: a job has one for each step, and its leaving.
+pub(crate) const MAX_NODES: usize = 1_024;
+
+/// The most pairs of jobs that are asked for on a machine.
+pub(crate) const MAX_PAIRS: usize = 16_384;
 
 /// The question for these nodes. All moments that are looked for answer it, so `Never` is never wrong. A question from
 /// which an arc or a pair is missing would be so too: no contract sees one that is left out.

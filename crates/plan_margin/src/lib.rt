@@ -6,7 +6,6 @@
 mod lengths;
 mod line;
 mod margin;
-mod order;
 
 pub use line::push_margin_line;
 pub use margin::{MAX_MARGIN, Margin, find_margin};

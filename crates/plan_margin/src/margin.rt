@@ -7,10 +7,10 @@ ghost use Rattle.plan_margin.specs.Longer.{IsFirstPast};
 ghost use Rattle.plan_margin.specs.Margins.{IsMargin};
 ghost use Rattle.plan_margin.specs.Order.{IsInOrder};
 ghost use Rattle.plan_margin.specs.WithinMargin.{IsInTimeWithin, IsInTimeAtTheEndWithin};
+ghost use Rattle.alt_graph.specs.Evidence.{node_count};
 
 use crate::lengths::{fill_lengths, first_past};
-use crate::order::in_order;
-use alt_graph::Graph;
+use alt_graph::{Graph, by_rank};
 use plan_verifier::Verified;
 use shop_base::{JobNo, Moment, Node};
 use std::alloc::{AllocError, Global};
@@ -92,4 +92,18 @@ fn halved(graph: &Graph<'_>, nodes: &[Option<Node>], lengths: &mut [Moment], job
         thousandths: kept,
         then: Some(then),
     }
+}
+
+/// The nodes of an accepted plan, so that no arc leads to an earlier one.
+fn in_order(
+    alloc: Global,
+    verified: &Verified,
+    count: usize,
+) -> Result<Vec<Option<Node>>, AllocError>
+    requires count { count ≡ node_count verified.now.planned }
+    requires few { count ≤ 20200 }
+    ensures size { IfOk result (λ nodes. length nodes.items ≡ count) }
+    ensures order { IfOk result (λ nodes. IsInOrder verified.now.planned nodes.items) }
+{
+    by_rank(alloc, verified.shaped(), verified.times(), count)
 }

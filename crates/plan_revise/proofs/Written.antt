@@ -16,10 +16,10 @@ use Rattle.shop_base.proofs.Visits.{visits_job, visits-stands}
 use Rattle.shop_base.proofs.Keeping.{alone_on}
 use Rattle.plan_revise.specs.declared.change.Change.{Change}
 use Rattle.plan_revise.specs.declared.change_fault.ChangeFault.{ChangeFault}
-use Rattle.plan_revise.specs.declared.not_revised.NotRevised.{NotRevised}
-use Rattle.plan_revise.specs.declared.not_revised.NotRevised.TheVariants.{Refused, Memory as NoMemory}
-use Rattle.plan_revise.specs.declared.refusal.Refusal.{Refusal}
-use Rattle.plan_revise.specs.declared.refusal.Refusal.TheVariants.{Fault, Memory}
+use Rattle.plan_revise.specs.declared.change_fault.NotRevised.{NotRevised}
+use Rattle.plan_revise.specs.declared.change_fault.NotRevised.TheVariants.{Refused, Memory as NoMemory}
+use Rattle.plan_revise.specs.declared.change_fault.Refusal.{Refusal}
+use Rattle.plan_revise.specs.declared.change_fault.Refusal.TheVariants.{Fault, Memory}
 use Rattle.plan_revise.specs.Orders.{changed_at, removed, put_last}
 use Rattle.plan_revise.specs.Promises.{no_promise}
 use Rattle.plan_revise.specs.Ended.{ended}

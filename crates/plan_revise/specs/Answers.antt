@@ -6,11 +6,11 @@ use Rattle.shop_base.specs.Shop.{IsRoute}
 use Rattle.shop_base.specs.Plan.{PlannedShop, jobs, Visits}
 use Rattle.plan_revise.specs.declared.change_fault.ChangeFault.{ChangeFault}
 use Rattle.plan_revise.specs.declared.change_fault.ChangeFault.TheVariants.{TooManyMachines}
-use Rattle.plan_revise.specs.declared.refusal.Refusal.{Refusal}
-use Rattle.plan_revise.specs.declared.refusal.Refusal.TheVariants.{Fault, Memory}
+use Rattle.plan_revise.specs.declared.change_fault.Refusal.{Refusal}
+use Rattle.plan_revise.specs.declared.change_fault.Refusal.TheVariants.{Fault, Memory}
 use Rattle.plan_revise.specs.declared.change.Change.{Change}
-use Rattle.plan_revise.specs.declared.not_revised.NotRevised.{NotRevised}
-use Rattle.plan_revise.specs.declared.not_revised.NotRevised.TheVariants.{Refused, Memory as NoMemory}
+use Rattle.plan_revise.specs.declared.change_fault.NotRevised.{NotRevised}
+use Rattle.plan_revise.specs.declared.change_fault.NotRevised.TheVariants.{Refused, Memory as NoMemory}
 use Rattle.plan_revise.specs.Revised.{IsFirstRefused}
 use Rattle.plan_revise.specs.Settings.{Setting, moves_made, IsAtWork}
 use Rattle.plan_revise.specs.Aside.{HasRoom}

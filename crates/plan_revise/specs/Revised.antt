@@ -4,8 +4,8 @@ use Rattle.shop_base.specs.Plan.{PlannedShop}
 use Rattle.shop_base.specs.Cell.{Cell}
 use Rattle.plan_revise.specs.declared.change.Change.{Change}
 use Rattle.plan_revise.specs.declared.change_fault.ChangeFault.{ChangeFault}
-use Rattle.plan_revise.specs.declared.not_revised.NotRevised.{NotRevised}
-use Rattle.plan_revise.specs.declared.not_revised.NotRevised.TheVariants.{Refused, Memory}
+use Rattle.plan_revise.specs.declared.change_fault.NotRevised.{NotRevised}
+use Rattle.plan_revise.specs.declared.change_fault.NotRevised.TheVariants.{Refused, Memory}
 use Rattle.plan_revise.specs.Settings.{Setting, setting}
 use Rattle.plan_revise.specs.Aside.{IsPlant}
 use Rattle.plan_revise.specs.Changes.{Becomes}

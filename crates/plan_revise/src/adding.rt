@@ -11,11 +11,10 @@ ghost use Rattle.plan_revise.specs.Refusals.{IsAddFault, IsStepsFault, IsLineFau
 ghost use Rattle.plan_revise.specs.Fits.{IsFit, IsRevision};
 ghost use Rattle.plan_revise.specs.Answers.{UnlessMemory, AreFitFor};
 
-use crate::change_fault::ChangeFault;
+use crate::change_fault::{ChangeFault, Refusal};
 use crate::checking::check_route;
 use crate::draft::Draft;
 use crate::ending::NO_PROMISE;
-use crate::refusal::Refusal;
 use crate::run_so_far::RunSoFar;
 use orlib_read::{OrFault, read_route};
 use shop_base::limits::{MAX_JOBS, MAX_MOMENT, MAX_RELEASE};

@@ -1,6 +1,9 @@
+//! Why a change isn't made, and a run isn't revised.
+
 ghost use Rattle.std.specs.Prelude.{◌≡◌};
 ghost use Rattle.plan_revise.specs.Names.{fault_name};
 
+use std::alloc::AllocError;
 use thiserror::Error;
 
 /// Why a change can't be: the first reason, in the order in which those of its kind are told.
@@ -71,5 +74,45 @@ impl ChangeFault {
             ChangeFault::JobGone => "JobGone",
             ChangeFault::TooManyMachines => "TooManyMachines",
         }
+    }
+}
+
+/// Why one change isn't made.
+#[derive(Clone, Copy, Debug)]
+pub(crate) enum Refusal {
+    Fault(ChangeFault),
+    Memory,
+}
+
+impl From<AllocError> for Refusal {
+    ghost use Rattle.std.specs.Prelude.{◌≡◌};
+    ghost use Rattle.plan_revise.specs.declared.change_fault.Refusal.TheVariants.{Memory};
+
+    ghost from_gives = { λ _ refusal. refusal ≡ Memory };
+
+    fn from(_error: AllocError) -> Refusal {
+        Refusal::Memory
+    }
+}
+
+/// Why a run isn't revised. What was given is as it was.
+#[derive(Clone, Copy, Debug, PartialEq, Eq, Error)]
+pub enum NotRevised {
+    /// The change at this place of the list, from 0, is the first that can't be.
+    #[error("change {change} {fault}")]
+    Refused { change: usize, fault: ChangeFault },
+    /// Out of memory.
+    #[error("Memory")]
+    Memory,
+}
+
+impl From<AllocError> for NotRevised {
+    ghost use Rattle.std.specs.Prelude.{◌≡◌};
+    ghost use Rattle.plan_revise.specs.declared.change_fault.NotRevised.TheVariants.{Memory};
+
+    ghost from_gives = { λ _ answer. answer ≡ Memory };
+
+    fn from(_error: AllocError) -> NotRevised {
+        NotRevised::Memory
     }
 }

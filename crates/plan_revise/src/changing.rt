@@ -7,9 +7,8 @@ ghost use Rattle.plan_revise.specs.Fits.{IsRevision};
 ghost use Rattle.plan_revise.specs.Answers.{UnlessMemory};
 
 use crate::change::Change;
-use crate::change_fault::ChangeFault;
+use crate::change_fault::{ChangeFault, Refusal};
 use crate::draft::Draft;
-use crate::refusal::Refusal;
 use crate::run_so_far::RunSoFar;
 use shop_base::limits::MAX_NOMINAL;
 use shop_base::{JobNo, MachineNo, Moment, Planned};

@@ -13,14 +13,11 @@ mod checking;
 mod draft;
 mod ending;
 pub mod laws;
-mod not_revised;
 mod orders;
-mod refusal;
 mod revising;
 mod run_so_far;
 mod stopping;
 
 pub use change::Change;
-pub use change_fault::ChangeFault;
-pub use not_revised::NotRevised;
+pub use change_fault::{ChangeFault, NotRevised};
 pub use revising::revise;

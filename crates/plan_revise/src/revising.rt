@@ -6,9 +6,8 @@ ghost use Rattle.plan_revise.specs.Fits.{IsRevision};
 ghost use Rattle.plan_revise.specs.Answers.{refused_at, ParsesFirst};
 
 use crate::change::Change;
+use crate::change_fault::{NotRevised, Refusal};
 use crate::draft::Draft;
-use crate::not_revised::NotRevised;
-use crate::refusal::Refusal;
 use crate::run_so_far::RunSoFar;
 use cell_tables::WorkCell;
 use shop_base::{Moment, Planned, Shaped};

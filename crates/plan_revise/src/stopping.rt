@@ -10,10 +10,9 @@ ghost use Rattle.plan_revise.specs.Refusals.{IsDownFault};
 ghost use Rattle.plan_revise.specs.Fits.{IsRevision};
 ghost use Rattle.plan_revise.specs.Answers.{IsNoRoom, IsNoRoomFor, UnlessMemory};
 
-use crate::change_fault::ChangeFault;
+use crate::change_fault::{ChangeFault, Refusal};
 use crate::draft::Draft;
 use crate::ending::NO_PROMISE;
-use crate::refusal::Refusal;
 use crate::run_so_far::RunSoFar;
 use shop_base::limits::{MAX_MACHINES, MAX_RELEASE};
 use shop_base::{JobNo, MachineNo, Planned, Step};

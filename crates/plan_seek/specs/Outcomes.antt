@@ -4,7 +4,7 @@ use Rattle.shop_base.specs.Plan.{PlannedShop}
 use Rattle.plan_verifier.specs.Accepted.{VerifiedPlan}
 use Rattle.plan_seek.specs.declared.attempt.Attempt.{Attempt}
 use Rattle.plan_seek.specs.declared.attempt.Attempt.TheVariants.{Accepted, InVain, WantsMemory}
-use Rattle.plan_seek.specs.declared.not_found.NotFound.{NotFound}
+use Rattle.plan_seek.specs.declared.seek_fault.NotFound.{NotFound}
 use Rattle.plan_seek.specs.declared.seek_fault.SeekFault.{SeekFault}
 use Rattle.plan_seek.specs.declared.seek_fault.SeekFault.TheVariants.{BadNumbers, Exhausted, TooManyRounds, Memory}
 use Rattle.plan_seek.specs.Orders.{Proposal}

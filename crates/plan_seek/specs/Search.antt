@@ -5,7 +5,7 @@ use Rattle.shop_base.specs.Plan.{IsWellShaped}
 use Rattle.shop_base.specs.ShapeFault.{IsFirstShapeFault}
 use Rattle.plan_verifier.specs.Accepted.{VerifiedPlan}
 use Rattle.plan_verifier.specs.Verdicts.{IsFirstLate}
-use Rattle.plan_seek.specs.declared.not_found.NotFound.{NotFound}
+use Rattle.plan_seek.specs.declared.seek_fault.NotFound.{NotFound}
 use Rattle.plan_seek.specs.declared.search.TheConstants.{MAX_ROUNDS}
 use Rattle.plan_seek.specs.declared.seek_fault.SeekFault.{SeekFault}
 use Rattle.plan_seek.specs.declared.seek_fault.SeekFault.TheVariants.{BadNumbers, Exhausted, TooManyRounds, Memory}

@@ -5,7 +5,7 @@ use Rattle.shop_base.specs.Shop.{JobShop}
 use Rattle.shop_base.specs.Plan.{PlannedShop, IsWellShaped}
 use Rattle.shop_base.specs.Vectors.{list_of}
 use Rattle.plan_verifier.specs.Accepted.{IsAcceptable}
-use Rattle.plan_seek.specs.declared.not_found.NotFound.{NotFound}
+use Rattle.plan_seek.specs.declared.seek_fault.NotFound.{NotFound}
 use Rattle.plan_seek.specs.Orders.{serial_order}
 
 -- a shop, and the numbers of a plan for it, whose orders are sought

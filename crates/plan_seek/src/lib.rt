@@ -4,8 +4,6 @@
 
 mod attempt;
 mod greedy;
-mod not_found;
-mod numbers;
 mod orders;
 mod proposer;
 mod rounds;
@@ -18,9 +16,8 @@ mod simulated_cell;
 mod task;
 
 pub use greedy::GreedyProposer;
-pub use not_found::NotFound;
 pub use proposer::Proposer;
 pub use search::{MAX_ROUNDS, seek, the_most_rounds_in_numbers};
-pub use seek_fault::SeekFault;
+pub use seek_fault::{NotFound, SeekFault};
 pub use serial::serial_orders;
 pub use shift::ShiftProposer;

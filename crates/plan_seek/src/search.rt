@@ -6,10 +6,9 @@ ghost use Rattle.plan_seek.specs.Turns.{search_by};
 ghost use Rattle.plan_seek.specs.Search.{IsSoughtPlan, IsSearchRefused, IsBegun};
 
 use crate::attempt::Attempt;
-use crate::not_found::NotFound;
 use crate::proposer::Proposer;
 use crate::rounds::try_rounds;
-use crate::seek_fault::SeekFault;
+use crate::seek_fault::{NotFound, SeekFault};
 use crate::serial::try_serial;
 use crate::task::Task;
 use plan_verifier::Verified;

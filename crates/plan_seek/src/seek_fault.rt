@@ -1,4 +1,6 @@
-use shop_base::ShapeFault;
+//! Why no plan was found.
+
+use shop_base::{Moment, ShapeFault, Shop};
 use std::alloc::AllocError;
 use thiserror::Error;
 
@@ -29,4 +31,14 @@ impl From<AllocError> for SeekFault {
     fn from(_error: AllocError) -> SeekFault {
         SeekFault::Memory
     }
+}
+
+/// The shop and the numbers for which no plan was found, given back with the reason.
+#[derive(Debug, Drop)]
+pub struct NotFound {
+    pub fault: SeekFault,
+    pub shop: Shop,
+    pub release: Vec<Moment>,
+    pub budget: Vec<Moment>,
+    pub clean: Option<Vec<Moment>>,
 }

@@ -8,9 +8,8 @@ ghost use Rattle.plan_seek.specs.Tasks.{PlanTask, serial_plan};
 ghost use Rattle.plan_seek.specs.Search.{AreSoundNumbers};
 ghost use Rattle.plan_seek.specs.Outcomes.{IsSerialOutcome};
 
-use crate::not_found::NotFound;
 use crate::orders::orders_from;
-use crate::seek_fault::SeekFault;
+use crate::seek_fault::{NotFound, SeekFault};
 use crate::task::Task;
 use plan_verifier::{Verdict, Verified, verify};
 use shop_base::{JobNo, Shaped, Shop, shape};

@@ -1,10 +1,13 @@
-ghost use Rattle.std.specs.Prelude.{◌≡◌};
-ghost use Rattle.shop_base.specs.Vectors.{lists_of};
-ghost use Rattle.plan_seek.specs.Tasks.{with_order, task_given_back};
+//! What is sought: orders for a shop and numbers, which are checked first.
 
-use crate::not_found::NotFound;
-use crate::seek_fault::SeekFault;
-use shop_base::{JobNo, Moment, Plan, Shaped, Shop};
+ghost use Rattle.std.specs.Prelude.{◌≡◌, OnOk, IfErr};
+ghost use Rattle.shop_base.specs.Vectors.{lists_of};
+ghost use Rattle.plan_seek.specs.Tasks.{with_order, task_given_back, serial_plan};
+ghost use Rattle.shop_base.specs.Plan.{HasCounts, IsWellShaped};
+ghost use Rattle.shop_base.specs.ShapeFault.{IsFirstShapeFault};
+
+use crate::seek_fault::{NotFound, SeekFault};
+use shop_base::{JobNo, Moment, Plan, ShapeFault, Shaped, Shop, check_limits};
 use std::marker::Model;
 
 /// A shop, and the numbers of a plan for it, whose orders are sought.
@@ -89,6 +92,38 @@ impl Task {
             release,
             budget,
             clean,
+        }
+    }
+}
+
+impl Task {
+    /// The first fault of the numbers, if there is one.
+    fn check_numbers(&self) -> Result<(), ShapeFault>
+        ensures sound { OnOk result (IsWellShaped (serial_plan self.now)) }
+        ensures first_fault { IfErr result (IsFirstShapeFault (serial_plan self.now)) }
+    {
+        // Called for its clause alone: the shop is sound.
+        let _jobs = self.shop.jobs();
+        self.check_counts()?;
+        check_limits(&self.release, &self.budget, &self.clean)?;
+        Ok(())
+    }
+
+    fn check_counts(&self) -> Result<(), ShapeFault>
+        ensures sound { OnOk result (HasCounts (serial_plan self.now)) }
+        ensures first_fault { IfErr result (IsFirstShapeFault (serial_plan self.now)) }
+    {
+        if self.release.len() != self.shop.jobs() as usize {
+            return Err(ShapeFault::ReleaseCount);
+        }
+        if self.budget.len() != self.shop.jobs() as usize {
+            return Err(ShapeFault::BudgetCount);
+        }
+        match &self.clean {
+            Some(times) if times.len() != self.shop.machines() as usize => {
+                Err(ShapeFault::CleanCount)
+            }
+            _ => Ok(()),
         }
     }
 }

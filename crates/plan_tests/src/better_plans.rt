@@ -1,16 +1,34 @@
 //! What the search for a better plan makes of the answers of its improvers. What the annealing finds stands in
 //! `tests/commands/command-lines`.
 
+ghost use Rattle.std.specs.Prelude.{None};
+
 use crate::plans::{CROSSED, IN_SERIES, TWO, is_text, planned};
 use crate::scripted::{ASKED, Answer, Scripted};
-use crate::watched::Watched;
-use plan_improve::{ImproveFault, Improver, NotImproved, improve};
+use plan_improve::{ImproveFault, Improver, NotImproved, Watch, improve};
 use plan_text::PlanFault;
 use plan_verifier::Verdict;
+use shop_base::Moment;
 use std::alloc::{AllocError, Global};
 use std::cell::Cell;
 use std::rc::Rc;
 use std::test::Fail;
+
+/// Counts the rounds that it is told of.
+#[derive(Drop)]
+struct Watched {
+    /// How many there were. One that is told out of turn counts as a million.
+    rounds: u32,
+}
+
+impl Watch for Watched {
+    ghost reported = { λ _. None };
+
+    fn round(&mut self, round: u32, _late: Moment, _makespan: Moment, _at_least: Moment) {
+        let told = if round == self.rounds { 1 } else { 1_000_000 };
+        self.rounds = self.rounds.saturating_add(told);
+    }
+}
 
 /// The improvers, each in its place.
 fn improvers(

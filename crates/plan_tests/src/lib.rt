@@ -27,5 +27,3 @@ mod searches;
 mod shapes;
 #[cfg(test)]
 mod solutions;
-#[cfg(test)]
-mod watched;

@@ -2,8 +2,8 @@
 use Rattle.std.proofs.Common.{◌≡◌, ℕ, ◌+◌, ◌<◌, ◌≤◌, ◌==◌, ◌||◌, nat_lt, ℤ, pos, negsuc, Bool, true, false, List, [], ◌∷◌, ◌++◌, Option, Some, None, refl, sym, ap, ◌∙◌, inl, inr, arith}
 use Rattle.std.proofs.lemmas.Bool.{cases_Bool, ltb-true, ltb-false, eqb-true, eq-eqb, or_cases, or_left, or_right, false≢true}
 use Rattle.toml.specs.Data.{Data, string, integer, float, boolean, datetime, array, table, Items, get_item, Members, no_members, member}
-use Rattle.plan_text.specs.declared.plan_key.PlanKey.{PlanKey}
-use Rattle.plan_text.specs.declared.plan_key.PlanKey.TheVariants.{Release, Budget, Order, Clean}
+use Rattle.plan_text.specs.declared.keys.PlanKey.{PlanKey}
+use Rattle.plan_text.specs.declared.keys.PlanKey.TheVariants.{Release, Budget, Order, Clean}
 use Rattle.plan_text.specs.declared.plan_fault.PlanFault.{PlanFault}
 use Rattle.plan_text.specs.declared.plan_fault.PlanFault.TheVariants.{NotToml, BadVersion, UnknownKey, MissingKey, NotArray, NotWhole, OutOfRange, Memory, NotReadBack}
 use Rattle.plan_text.specs.Keys.{limit_of, value_at, version_in}

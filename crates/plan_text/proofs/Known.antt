@@ -8,7 +8,7 @@ use Rattle.std.specs.Map.{keys_of}
 use Rattle.toml.specs.Data.{Members, no_members, member}
 use Rattle.toml.specs.View.{members_view}
 use Rattle.toml.specs.declared.value.Value.{Value}
-use Rattle.plan_text.specs.declared.plan_key.PlanKey.TheVariants.{Release, Budget, Order, Clean}
+use Rattle.plan_text.specs.declared.keys.PlanKey.TheVariants.{Release, Budget, Order, Clean}
 use Rattle.plan_text.specs.declared.plan_fault.PlanFault.TheVariants.{UnknownKey}
 use Rattle.plan_text.specs.Keys.{name_of, version_key}
 use Rattle.plan_text.specs.Plans.{IsCommonKey, IsKeyOf, HasOnlyKeys}

@@ -2,7 +2,7 @@
 use Rattle.std.proofs.Common.{◌≡◌, [], ◌++◌, None, refl}
 use Rattle.shop_base.specs.Plan.{ShopPlan}
 use Rattle.toml.specs.Data.{Members}
-use Rattle.plan_text.specs.declared.plan_key.PlanKey.TheVariants.{Release, Budget, Order}
+use Rattle.plan_text.specs.declared.keys.PlanKey.TheVariants.{Release, Budget, Order}
 use Rattle.plan_text.specs.Keys.{value_at, version_in}
 use Rattle.plan_text.specs.Plans.{IsPlanTable}
 use Rattle.plan_text.specs.Listing.{version_faults, has_cleaning, key_faults, missing_faults, missing_keys, list_faults, order_faults, faults_at, list_values, content_faults, faults_of}

@@ -1,8 +1,8 @@
 -- The listed faults stand in the order of their turns.
 use Rattle.std.proofs.Common.{◌≡◌, ◌⊎◌, ℕ, ◌+◌, ◌<◌, ◌≤◌, nat_lt, pos, negsuc, Bool, true, false, List, [], ◌∷◌, ◌++◌, Option, Some, None, refl, sym, ap, ◌∙◌, inl, inr, arith}
 use Rattle.toml.specs.Data.{Data, string, integer, float, boolean, datetime, array, table, Items, no_items, item, Members}
-use Rattle.plan_text.specs.declared.plan_key.PlanKey.{PlanKey}
-use Rattle.plan_text.specs.declared.plan_key.PlanKey.TheVariants.{Release, Budget, Order, Clean}
+use Rattle.plan_text.specs.declared.keys.PlanKey.{PlanKey}
+use Rattle.plan_text.specs.declared.keys.PlanKey.TheVariants.{Release, Budget, Order, Clean}
 use Rattle.plan_text.specs.declared.plan_fault.PlanFault.{PlanFault}
 use Rattle.plan_text.specs.declared.plan_fault.PlanFault.TheVariants.{BadVersion, UnknownKey, MissingKey, NotArray, NotWhole, OutOfRange}
 use Rattle.plan_text.specs.Keys.{limit_of, value_at, version_in}

@@ -2,7 +2,7 @@
 use Rattle.std.proofs.Common.{◌≡◌, ℕ, ◌==◌, pos, negsuc, Bool, true, false, List, [], Option, Some, None, refl, ap, inl, inr}
 use Rattle.std.proofs.lemmas.Bool.{cases_Bool, eqb-true}
 use Rattle.toml.specs.Data.{Data, string, integer, float, boolean, datetime, array, table, Members}
-use Rattle.plan_text.specs.declared.plan_key.PlanKey.TheVariants.{Clean}
+use Rattle.plan_text.specs.declared.keys.PlanKey.TheVariants.{Clean}
 use Rattle.plan_text.specs.Keys.{value_at}
 use Rattle.plan_text.specs.Plans.{IsVersionOf, IsCleanArray}
 use Rattle.plan_text.specs.Listing.{version_faults, has_cleaning, if_cleaning, missing_faults, list_faults, faults_at}

@@ -1,8 +1,8 @@
 -- The keys of a plan text.
 use Rattle.std.specs.Prelude.{ℕ, ◌^◌, List, codes, Option}
 use Rattle.toml.specs.Data.{Data, Members, get_member}
-use Rattle.plan_text.specs.declared.plan_key.PlanKey.{PlanKey}
-use Rattle.plan_text.specs.declared.plan_key.PlanKey.TheVariants.{Release, Budget, Order, Clean}
+use Rattle.plan_text.specs.declared.keys.PlanKey.{PlanKey}
+use Rattle.plan_text.specs.declared.keys.PlanKey.TheVariants.{Release, Budget, Order, Clean}
 
 -- the key as it stands in a text
 abbrev pub name_of : PlanKey → List ℕ

@@ -2,8 +2,8 @@
 use Rattle.std.specs.Prelude.{ℕ, List, [], ◌∷◌, ◌++◌, codes, decimal, Option, None, Some}
 use Rattle.std.specs.List.{flat_map}
 use Rattle.shop_base.specs.Plan.{ShopPlan}
-use Rattle.plan_text.specs.declared.plan_key.PlanKey.{PlanKey}
-use Rattle.plan_text.specs.declared.plan_key.PlanKey.TheVariants.{Release, Budget, Order, Clean}
+use Rattle.plan_text.specs.declared.keys.PlanKey.{PlanKey}
+use Rattle.plan_text.specs.declared.keys.PlanKey.TheVariants.{Release, Budget, Order, Clean}
 use Rattle.plan_text.specs.Keys.{name_of, version_key}
 
 -- the elements behind the first one, each with a comma and a space before it

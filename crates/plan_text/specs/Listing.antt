@@ -2,8 +2,8 @@
 use Rattle.std.specs.Prelude.{ℕ, ◌+◌, ◌==◌, ◌||◌, nat_lt, pos, negsuc, Bool, true, false, if◌then◌else◌, List, [], ◌∷◌, ◌++◌, Option, None, Some}
 use Rattle.std.specs.Str.{bytes_eq}
 use Rattle.toml.specs.Data.{Data, integer, array, Items, no_items, item, Members, no_members, member}
-use Rattle.plan_text.specs.declared.plan_key.PlanKey.{PlanKey}
-use Rattle.plan_text.specs.declared.plan_key.PlanKey.TheVariants.{Release, Budget, Order, Clean}
+use Rattle.plan_text.specs.declared.keys.PlanKey.{PlanKey}
+use Rattle.plan_text.specs.declared.keys.PlanKey.TheVariants.{Release, Budget, Order, Clean}
 use Rattle.plan_text.specs.declared.plan_fault.PlanFault.{PlanFault}
 use Rattle.plan_text.specs.declared.plan_fault.PlanFault.TheVariants.{BadVersion, UnknownKey, MissingKey, NotArray, NotWhole, OutOfRange}
 use Rattle.plan_text.specs.Keys.{name_of, version_key, limit_of, value_at, version_in}

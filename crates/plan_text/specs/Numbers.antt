@@ -1,8 +1,8 @@
 -- Arrays of whole numbers in a TOML table.
 use Rattle.std.specs.Prelude.{◌≡◌, ℕ, ◌<◌, pos, List, [], ◌∷◌, Option, Some}
 use Rattle.toml.specs.Data.{Data, integer, array, Items, no_items, item}
-use Rattle.plan_text.specs.declared.plan_key.PlanKey.{PlanKey}
-use Rattle.plan_text.specs.declared.plan_key.PlanKey.TheVariants.{Order}
+use Rattle.plan_text.specs.declared.keys.PlanKey.{PlanKey}
+use Rattle.plan_text.specs.declared.keys.PlanKey.TheVariants.{Order}
 use Rattle.plan_text.specs.Keys.{limit_of}
 
 -- the items are these, one by one

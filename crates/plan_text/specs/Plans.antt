@@ -2,7 +2,7 @@
 use Rattle.std.specs.Prelude.{◌≡◌, ℕ, ◌⊎◌, pos, List, Option, None, Some}
 use Rattle.shop_base.specs.Plan.{ShopPlan}
 use Rattle.toml.specs.Data.{Data, integer, Members, no_members, member}
-use Rattle.plan_text.specs.declared.plan_key.PlanKey.TheVariants.{Release, Budget, Order, Clean}
+use Rattle.plan_text.specs.declared.keys.PlanKey.TheVariants.{Release, Budget, Order, Clean}
 use Rattle.plan_text.specs.Keys.{name_of, version_key, value_at, version_in}
 use Rattle.plan_text.specs.Numbers.{IsNumberArray, IsRowArray}
 

@@ -7,8 +7,8 @@ ghost use Rattle.plan_text.specs.Lines.{list_text, after_first, numbers_text, ro
 ghost use Rattle.plan_text.specs.Lines.{three_lines, version_line, plan_lines};
 
 use crate::compare::is_same;
+use crate::keys::{PlanKey, VERSION};
 use crate::plan_fault::PlanFault;
-use crate::plan_key::{PlanKey, VERSION};
 use crate::read::read_plan;
 use itoa::{Buffer, Integer};
 use shop_base::{JobNo, Moment, Plan};

@@ -1,4 +1,4 @@
-//! The keys of a table.
+//! The keys of a plan text.
 
 ghost use Rattle.std.specs.Prelude.{◌≡◌, IfOk, Some, option_map, string_bytes};
 ghost use Rattle.std.specs.List.{list_all};
@@ -8,12 +8,50 @@ ghost use Rattle.toml.specs.Data.{get_member};
 ghost use Rattle.toml.specs.View.{view, table_view};
 ghost use Rattle.plan_text.specs.Keys.{name_of, value_at, version_in};
 ghost use Rattle.plan_text.specs.Answers.{PassesExactly};
-ghost use Rattle.plan_text.specs.Listing.{version_faults, has_cleaning, is_common_key, is_known_key};
-ghost use Rattle.plan_text.specs.Listing.{key_faults, missing_faults, missing_keys};
+ghost use Rattle.plan_text.specs.Listing.{version_faults, has_cleaning, is_common_key, is_known_key, key_faults};
+ghost use Rattle.plan_text.specs.Listing.{missing_faults, missing_keys};
 
 use crate::plan_fault::PlanFault;
-use crate::plan_key::{PlanKey, VERSION};
+use std::fmt;
 use toml::{Table, Value};
+
+/// The key of a plan text that holds its version.
+pub(crate) const VERSION: &str = "version";
+
+/// The keys of a plan text that hold lists.
+#[derive(Clone, Copy, Debug, PartialEq, Eq)]
+pub enum PlanKey {
+    /// The release of each job.
+    Release,
+    /// The budget of each job.
+    Budget,
+    /// The order of each machine.
+    Order,
+    /// The cleaning time of each machine, in version 2.
+    Clean,
+}
+
+impl PlanKey {
+    /// The key as it is in a text.
+    pub fn name(self) -> &'static str
+        ensures { result.now ≡ name_of self }
+    {
+        match self {
+            PlanKey::Release => "release",
+            PlanKey::Budget => "budget",
+            PlanKey::Order => "order",
+            PlanKey::Clean => "clean",
+        }
+    }
+}
+
+impl fmt::Display for PlanKey {
+    ghost output = { λ key. Some (name_of key) };
+
+    fn fmt<W: fmt::Write>(&self, f: &mut fmt::Formatter<W>) -> fmt::Result {
+        f.write_str(self.name())
+    }
+}
 
 /// The value of a key, if the table has one.
 pub(crate) fn value_of<'a>(table: &'a Table, key: &str) -> Option<&'a Value>

@@ -9,11 +9,10 @@ mod compare;
 mod document;
 mod keys;
 mod plan_fault;
-mod plan_key;
 mod read;
 mod values;
 
 pub use document::{plan_document, plan_lines};
+pub use keys::PlanKey;
 pub use plan_fault::PlanFault;
-pub use plan_key::PlanKey;
 pub use read::read_plan;

@@ -1,7 +1,7 @@
 ghost use Rattle.std.specs.Prelude.{Some};
 ghost use Rattle.plan_text.specs.RowText.{row_text};
 
-use crate::plan_key::PlanKey;
+use crate::keys::PlanKey;
 use std::alloc::AllocError;
 use std::fmt;
 use thiserror::Error;

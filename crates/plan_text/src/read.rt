@@ -11,9 +11,8 @@ ghost use Rattle.plan_text.specs.Answers.{IsRead, IsRefused, Passes};
 ghost use Rattle.plan_text.specs.Reading.{numbers_in, rows_in, list_at, clean_in, plan_with, plan_in};
 ghost use Rattle.plan_text.specs.Listing.{list_faults, order_faults, faults_at, clean_faults, list_values, faults_of};
 
-use crate::keys::{check_known, check_missing, check_version, value_of};
+use crate::keys::{PlanKey, check_known, check_missing, check_version, value_of};
 use crate::plan_fault::PlanFault;
-use crate::plan_key::PlanKey;
 use crate::values::{moments_in, rows_in};
 use shop_base::{JobNo, Moment, Plan};
 use std::alloc::Global;

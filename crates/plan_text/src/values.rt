@@ -7,8 +7,8 @@ ghost use Rattle.plan_text.specs.Answers.{Passes, PassesExactly};
 ghost use Rattle.plan_text.specs.Reading.{number_in, numbers_in, rows_in, each_item};
 ghost use Rattle.plan_text.specs.Listing.{number_faults, list_faults, row_faults, order_faults, each_faults};
 
+use crate::keys::PlanKey;
 use crate::plan_fault::PlanFault;
-use crate::plan_key::PlanKey;
 use shop_base::{JobNo, Moment};
 use std::alloc::{AllocError, Global};
 use toml::Value;

@@ -1,19 +1,50 @@
 //! A better plan for the rest of a run, found by the annealing where there is memory enough; and the plan given back on
 //! a fault.
 
+ghost use Rattle.std.specs.Prelude.{None};
+
 use crate::rests::shaped_as;
-use crate::told::Told;
 use plan_improve::{
-    AnnealingImprover, ImproveFault, Improved, Improver, MAX_ROUNDS, Rest, improve_after,
+    AnnealingImprover, ImproveFault, Improved, Improver, MAX_ROUNDS, Rest, Watch, improve_after,
 };
 use plan_text::{PlanFault, plan_document};
 use plan_verifier::Judged;
 use run_log::AuditFault;
-use shop_base::{JobNo, Shaped};
+use shop_base::{JobNo, Moment, Shaped};
 use std::alloc::{AllocError, Global};
 use std::cell::Cell;
 use std::rc::Rc;
 use std::test::Fail;
+
+/// Notes what it is told in each of two rounds.
+#[derive(Drop)]
+struct Told {
+    /// The total lateness and the makespan of the best plan before each round.
+    costs: [(Moment, Moment); 2],
+}
+
+impl Told {
+    /// Nothing is told yet.
+    fn nothing() -> Told {
+        Told {
+            costs: [(0, 0), (0, 0)],
+        }
+    }
+
+    fn costs(&self) -> [(Moment, Moment); 2] {
+        self.costs
+    }
+}
+
+impl Watch for Told {
+    ghost reported = { λ _. None };
+
+    fn round(&mut self, round: u32, late: Moment, makespan: Moment, _at_least: Moment) {
+        if let Some(cost) = self.costs.get_mut(round as usize) {
+            *cost = (late, makespan);
+        }
+    }
+}
 
 /// Job 0 goes over both machines, job 1 the other way round, and job 2 over machine 0 alone.
 const RUSH: &[u8] = b"rush\n3 2\n0 3 1 2\n1 4 0 1\n0 2\n";

@@ -10,5 +10,3 @@ mod driven_on;
 mod logs;
 #[cfg(test)]
 mod rests;
-#[cfg(test)]
-mod told;

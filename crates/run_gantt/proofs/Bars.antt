@@ -5,7 +5,7 @@ use Rattle.std.proofs.lemmas.List.{get_or-replicate, get_or_past, ext_get_or, ge
 use Rattle.std.proofs.lemmas.List.FromFn.{get_or-map-range_with_len, length-map-range_with_len}
 use Rattle.std.proofs.lemmas.Nat.{mul-le}
 use Rattle.std.proofs.lemmas.Grind.{div_ceil_times}
-use Rattle.run_gantt.specs.declared.visit.Visit.{Visit}
+use Rattle.run_gantt.specs.declared.visits.Visit.{Visit}
 use Rattle.std.specs.Option.{option_or}
 use Rattle.run_gantt.specs.Visits.{first_of}
 use Rattle.run_gantt.specs.GanttText.{is_before, digit_of, sign_of, column_sign, bar_of}

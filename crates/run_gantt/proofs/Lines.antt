@@ -6,7 +6,7 @@ use Rattle.std.proofs.lemmas.List.{map-id, flat_map_more}
 use Rattle.std.proofs.lemmas.List.FromFn.{map-range_with_len_more}
 use Rattle.cell_tables.specs.declared.entry.Entry.{Entry}
 use Rattle.people_names.specs.NameBooks.{NameBook}
-use Rattle.run_gantt.specs.declared.visit.Visit.{Visit}
+use Rattle.run_gantt.specs.declared.visits.Visit.{Visit}
 use Rattle.run_gantt.specs.Visits.{last_of, machine_visits}
 use Rattle.run_gantt.specs.GanttText.{scale_for, columns_for, visit_lines, machine_lines, row_lines, gantt_text}
 use Rattle.run_gantt.proofs.MachineVisits.{machine_visits-at}

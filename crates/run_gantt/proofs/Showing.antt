@@ -3,7 +3,7 @@ use Rattle.std.proofs.Common.{◌≡◌, ℕ, ◌+◌, ◌*◌, ◌<◌, List, [
 use Rattle.std.proofs.lemmas.List.Concat.{flat_map-cons}
 use Rattle.std.specs.Prelude.{flat_map}
 use Rattle.people_names.specs.NameBooks.{NameBook}
-use Rattle.run_gantt.specs.declared.visit.Visit.{Visit}
+use Rattle.run_gantt.specs.declared.visits.Visit.{Visit}
 use Rattle.run_gantt.specs.declared.visits.LinkedVisit.{LinkedVisit}
 use Rattle.std.specs.Option.{option_or}
 use Rattle.run_gantt.specs.Visits.{first_of}

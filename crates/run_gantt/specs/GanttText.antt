@@ -5,7 +5,7 @@ use Rattle.cell_tables.specs.declared.entry.Entry.{Entry}
 use Rattle.people_names.specs.NameBooks.{NameBook}
 use Rattle.people_names.specs.Words.{job_word, machine_word, moment_word}
 use Rattle.run_gantt.specs.declared.bar.TheConstants.{MAX_COLUMNS}
-use Rattle.run_gantt.specs.declared.visit.Visit.{Visit}
+use Rattle.run_gantt.specs.declared.visits.Visit.{Visit}
 use Rattle.run_gantt.specs.Visits.{first_of, last_of, visits_to}
 
 -- how long a column of a bar is, so that at most MAX_COLUMNS columns reach to the last moment

@@ -1,7 +1,7 @@
 -- The visits to all machines in one table, in which those to a machine follow each other, and what one entry more makes of them.
 use Rattle.std.specs.Prelude.{◌≡◌, ℕ, zero, suc, ◌<◌, List, [], ◌∷◌, length, map, slice_index_or, Option, None, Some}
 use Rattle.cell_tables.specs.declared.entry.Entry.{Entry}
-use Rattle.run_gantt.specs.declared.visit.Visit.{Visit}
+use Rattle.run_gantt.specs.declared.visits.Visit.{Visit}
 use Rattle.run_gantt.specs.declared.visits.LinkedVisit.{LinkedVisit}
 use Rattle.run_gantt.specs.Visits.{machine_visits}
 

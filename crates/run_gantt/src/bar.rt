@@ -6,7 +6,7 @@ ghost use Rattle.std.specs.Option.{option_or};
 ghost use Rattle.run_gantt.specs.GanttText.{is_before, digit_of, sign_of};
 ghost use Rattle.run_gantt.specs.Pushing.{SignsToo};
 
-use crate::visit::Visit;
+use crate::visits::Visit;
 use shop_base::Moment;
 
 /// The greatest number of columns.

@@ -12,8 +12,7 @@ ghost use Rattle.run_gantt.specs.Pushing.{IsPushed, all_lines, visits_to, SignsT
 ghost use Rattle.run_gantt.specs.declared.bar.TheConstants.{MAX_COLUMNS, MAX_SCALE};
 
 use crate::bar::{Bar, MAX_COLUMNS, sign_visit};
-use crate::visit::Visit;
-use crate::visits::{Visits, visits_of};
+use crate::visits::{Visit, Visits, visits_of};
 use cell_tables::Entry;
 use itoa::Buffer;
 use people_names::{LONGEST_MOMENT, Names};

@@ -7,7 +7,6 @@ mod first_moments;
 mod gantt_text;
 mod job_leavings;
 mod picture_visits;
-mod visit;
 mod visit_ends;
 mod visits;
 

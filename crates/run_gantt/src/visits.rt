@@ -6,16 +6,25 @@ ghost use Rattle.run_gantt.specs.Visits.{machine_visits};
 ghost use Rattle.run_gantt.specs.VisitEnds.{AreVisitEnds};
 ghost use Rattle.run_gantt.specs.LinkedVisits.{AreVisitsBefore};
 
-use crate::visit::Visit;
 use crate::visit_ends::{VisitEnd, no_visit_ends, note_visit_end, visit_end_at};
 use cell_tables::Entry;
-use shop_base::{MachineNo, Shaped, Spot};
+use shop_base::{JobNo, MachineNo, Moment, Shaped, Spot};
 use std::alloc::{AllocError, Global};
 use std::marker::Model;
 
+/// A visit of a job to a machine: when the job enters, when its operation ends and when it leaves, each of
+/// the last two only if it is known.
+#[derive(Clone, Copy)]
+pub(crate) struct Visit {
+    pub job: JobNo,
+    pub enter: Moment,
+    pub finish: Option<Moment>,
+    pub leave: Option<Moment>,
+}
+
 /// A visit, with the place of the next one to the same machine.
 #[derive(Clone, Copy)]
-pub(crate) struct LinkedVisit {
+struct LinkedVisit {
     pub visit: Visit,
     pub next: Option<usize>,
 }
@@ -29,7 +38,7 @@ pub(crate) struct Visits {
 
 impl Model for Visits {
     ghost use Rattle.std.specs.Prelude.{List};
-    ghost use Rattle.run_gantt.specs.declared.visit.Visit.{Visit};
+    ghost use Rattle.run_gantt.specs.declared.visits.Visit.{Visit};
     ghost use Rattle.run_gantt.specs.LinkedVisits.{rows_of, AreAllLinked};
 
     ghost Value = { List (List Visit) };

@@ -3,22 +3,17 @@
 #![tactic(auto)]
 
 mod audit_fault;
-mod audit_result;
 mod auditing;
 mod ended;
 mod entry_check;
-mod entry_room;
-mod log_fault;
 mod log_text;
 mod logged_run;
 mod run_log;
 
 pub use audit_fault::AuditFault;
-pub use audit_result::Audit;
-pub use auditing::audit;
+pub use auditing::{Audit, audit};
 pub use byte_streams::{IntoSink, Sink, WriteFault, put_all};
 pub use cell_tables::Entry;
-pub use log_fault::LogFault;
 pub use log_text::write_lines;
 pub use logged_run::{LoggedRun, run_if_replayed, run_of_log};
-pub use run_log::RunLog;
+pub use run_log::{LogFault, RunLog};

@@ -10,7 +10,7 @@ ghost use Rattle.run_log.specs.Auditing.{IsLineReplayed, HasRoomForNext};
 
 use crate::audit_fault::AuditFault;
 use crate::entry_check::{check_entry, follow_entry};
-use crate::entry_room::most_entries;
+use crate::run_log::most_entries;
 use cell_tables::{Entry, WorkCell};
 use event_lines::{entry_in, is_passed_over};
 use shop_base::Planned;

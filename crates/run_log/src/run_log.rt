@@ -1,13 +1,22 @@
-ghost use Rattle.std.specs.Prelude.{◌≡◌, ◌+◌, ◌*◌, ◌<◌, ◌≤◌, ◌↔◌, [], ◌∷◌, ◌++◌, length, map, vec_len};
-ghost use Rattle.std.specs.Prelude.{vec_capacity, IfOk, OnOk, OnErr, IsErr};
+//! How many entries a run can have.
+
+ghost use Rattle.std.specs.Prelude.{◌≡◌, ◌+◌, ◌*◌, ◌<◌, ◌≤◌, ◌↔◌, [], ◌∷◌, ◌++◌, length, map, vec_len, vec_capacity};
+ghost use Rattle.std.specs.Prelude.{IfOk, OnOk, OnErr, IsErr};
 ghost use Rattle.shop_base.specs.Ends.{stated_number};
 
-use crate::entry_room::most_entries;
-use crate::log_fault::LogFault;
 use cell_tables::Entry;
-use shop_base::{MoveOrder, Planned, Report};
+use shop_base::{MoveOrder, Planned, Report, Shaped};
 use std::alloc::{AllocError, Global};
 use std::marker::Model;
+use thiserror::Error;
+
+/// Why nothing was noted.
+#[derive(Clone, Copy, Debug, PartialEq, Eq, Error)]
+pub enum LogFault {
+    /// The reserved entries can't take all.
+    #[error("Full")]
+    Full,
+}
 
 /// The events of a run, in the order in which they happened. It reserves all its memory when it is made.
 #[derive(Debug, Drop)]
@@ -87,4 +96,12 @@ fn push_orders(entries: &mut Vec<Entry>, orders: &[MoveOrder])
     for order in orders {
         entries.push_reserved(Entry::Order(*order));
     }
+}
+
+/// For how many entries a log of a run of the plan needs room: two for each report.
+pub(crate) fn most_entries(shaped: &Shaped) -> usize
+    ensures { result ≡ 2 * stated_number shaped.now }
+{
+    let _shop = shaped.shop();
+    2 * shaped.report_count() as usize
 }

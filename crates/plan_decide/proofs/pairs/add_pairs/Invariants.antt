@@ -1,5 +1,5 @@
 use Rattle.plan_decide.specs.Settings.{case_in}
-use Rattle.plan_decide.specs.declared.excluded.Excluded.TheVariants.{Pair}
+use Rattle.plan_decide.specs.declared.decided.Excluded.TheVariants.{Pair}
 use Rattle.plan_decide.specs.Told.{AreExclusionsBefore, AddsExclusions}
 use Rattle.plan_decide.proofs.pairs.add_pairs.Given as goal
 

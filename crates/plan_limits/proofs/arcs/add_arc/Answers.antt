@@ -2,7 +2,7 @@ use Rattle.std.proofs.Common.{◌+◌, ◌*◌, inl, ap}
 use Rattle.shop_base.specs.declared.shop.Step.{Step}
 use Rattle.arc_choice.specs.declared.question.Arc.{Arc}
 use Rattle.plan_bounds.specs.Bounds.{times_of}
-use Rattle.plan_limits.specs.declared.fine.TheConstants.{FINE}
+use Rattle.plan_limits.specs.declared.moments.TheConstants.{FINE}
 use Rattle.plan_limits.specs.Asked.{IsRouteArc}
 use Rattle.plan_limits.proofs.KeptArcs.{fixed_push}
 use Rattle.plan_limits.proofs.arcs.add_arc.Goals as goal

@@ -3,7 +3,7 @@ use Rattle.shop_base.proofs.Visits.{visits_machine}
 use Rattle.alt_graph.specs.Places.{node_at}
 use Rattle.arc_choice.specs.Choices.{no_pair}
 use Rattle.plan_bounds.specs.Bounds.{times_of}
-use Rattle.plan_limits.specs.declared.fine.TheConstants.{FINE}
+use Rattle.plan_limits.specs.declared.moments.TheConstants.{FINE}
 use Rattle.plan_limits.specs.Asked.{IsEntry, IsMachinePair, AreMachinePairs, pair_between}
 use Rattle.plan_limits.proofs.Numbered.{pushed}
 use Rattle.plan_limits.proofs.Entries.{row_of, row_at, entry_at, entries_push}

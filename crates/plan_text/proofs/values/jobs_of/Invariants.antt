@@ -2,7 +2,7 @@ use Rattle.std.proofs.Common.{◌≡◌, ◌++◌, drop, Some}
 use Rattle.toml.specs.View.{items_view}
 use Rattle.plan_text.specs.Listing.{number_faults, each_faults}
 use Rattle.plan_text.specs.Reading.{number_in, each_item}
-use Rattle.plan_text.specs.declared.plan_key.PlanKey.TheVariants.{Order}
+use Rattle.plan_text.specs.declared.keys.PlanKey.TheVariants.{Order}
 use Rattle.plan_text.proofs.values.jobs_of.Given as goal
 
 abbrev pub invariant-loop-place : goal.invariant-loop-place

@@ -1,5 +1,5 @@
 use Rattle.std.proofs.Common.{◌<◌, ◌≤◌, List, [], ◌∷◌, length, get_or, set, sym, ap, ◌∙◌, arith}
-use Rattle.run_gantt.specs.declared.visit.Visit.{Visit}
+use Rattle.run_gantt.specs.declared.visits.Visit.{Visit}
 use Rattle.run_gantt.specs.declared.visit_ends.VisitEnd.{VisitEnd}
 use Rattle.run_gantt.specs.Visits.{visit_of}
 use Rattle.run_gantt.proofs.MachineVisits.{machine_visits-count, machine_visits-passed, machine_visits-noted}
