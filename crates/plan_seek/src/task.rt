@@ -98,7 +98,7 @@ impl Task {
 
 impl Task {
     /// The first fault of the numbers, if there is one.
-    fn check_numbers(&self) -> Result<(), ShapeFault>
+    pub(crate) fn check_numbers(&self) -> Result<(), ShapeFault>
         ensures sound { OnOk result (IsWellShaped (serial_plan self.now)) }
         ensures first_fault { IfErr result (IsFirstShapeFault (serial_plan self.now)) }
     {
