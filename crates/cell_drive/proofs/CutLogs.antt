@@ -36,25 +36,25 @@ run_of_leads p reports entries end shaped run =
     (reports, subst (IsControlledRun p reports (events_of entries)) (controlled_to_run p reports (events_of entries) end shaped run).1 run)
 
 pub a_cut_log_is_recovered : ACutLogIsRecovered
-a_cut_log_is_recovered p cut lost entries tells run =
+a_cut_log_is_recovered p cut lost entries parses run =
     let (more, lines) = ended-more cut lost in
-    let (a, b, first, second, parts) = parse-parts p (ended_lines cut) more entries (subst (λ (ls : List (List ℕ)). LinesParse p ls entries) lines tells) in
+    let (a, b, first, second, parts) = parse-parts p (ended_lines cut) more entries (subst (λ (ls : List (List ℕ)). LinesParse p ls entries) lines parses) in
     let events : events_of entries ≡ events_of a ++ events_of b = ap events_of parts ∙ events-join a b in
-    record { told = a; tells = first; run = front_events p (start p) (events_of a) (events_of b) (subst (IsRun p) events run); later = b; whole = parts }
+    record { recorded = a; parses = first; run = front_events p (start p) (events_of a) (events_of b) (subst (IsRun p) events run); later = b; whole = parts }
 
 pub a_cut_log_has_its_orders : ACutLogHasItsOrders
-a_cut_log_has_its_orders p cut lost entries shaped tells run =
+a_cut_log_has_its_orders p cut lost entries shaped parses run =
     let (more, lines) = ended-more cut lost in
-    let (a, b, first, second, parts) = parse-parts p (ended_lines cut) more entries (subst (λ (ls : List (List ℕ)). LinesParse p ls entries) lines tells) in
+    let (a, b, first, second, parts) = parse-parts p (ended_lines cut) more entries (subst (λ (ls : List (List ℕ)). LinesParse p ls entries) lines parses) in
     let events : events_of entries ≡ events_of a ++ events_of b = ap events_of parts ∙ events-join a b in
     let leads : Leads p (start p) run.0 (events_of a ++ events_of b) (cell_after p entries) = subst (λ es. Leads p (start p) run.0 es (cell_after p entries)) events run.1 in
     let cut_run = cut_of_run (length (events_of a)) p (start p) (cell_after p entries) run.0 (events_of a) (events_of b) (omega arith) leads in
     let (later, split, rest) = entries_moved b cut_run.due cut_run.rest cut_run.split in
     record {
-      told = a;
+      recorded = a;
       due = cut_run.due;
       log = record {
-        tells = first;
+        parses = first;
         run = own_run p (a ++ map OrderEntry cut_run.due) (run_of_leads p cut_run.reports (a ++ map OrderEntry cut_run.due) cut_run.end shaped
             (subst (λ es. Leads p (start p) cut_run.reports es cut_run.end) (sym (due_events a cut_run.due)) cut_run.leads));
       };
@@ -135,6 +135,6 @@ closing_part p end closing (inr closes) = closing_parses p end closing closes
 
 -- the log of a cell that was led so is cut at any byte
 pub cut_of_led : (p : PlannedShop) (cut lost : List ℕ) (end : DrivenCell) → IsWellShaped p → LinesParse p (lines_of (cut ++ lost)) end.entries → AreLed p (undriven p) end → IsCutFrom p cut end.entries
-cut_of_led p cut lost end shaped tells led =
-    a_cut_log_has_its_orders p cut lost end.entries shaped tells
+cut_of_led p cut lost end shaped parses led =
+    a_cut_log_has_its_orders p cut lost end.entries shaped parses
     (run_of_leads p led.reports end.entries end.cell shaped (subst (λ (es : List Entry). IsControlledRun p led.reports (events_of es) end.cell) (sym led.entries) led.leads))

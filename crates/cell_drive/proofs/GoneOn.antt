@@ -14,15 +14,15 @@ use Rattle.cell_drive.proofs.CellTexts.{took_first, took_second}
 
 module _ (protocol : Protocol) (recovered : Recovered) where
   -- a text was written, and then the run has gone on
-  pub gone_on_behind : (before : Streams) (middle : Output) (after : Streams) (outcome : Result RestEnd DriveFault) (told rest : List ℕ)
-      → Appends before.output.written middle.written told → middle.failed ≡ before.output.failed
-      → WritesAndGoesOn protocol rest recovered (record { input = before.input; output = middle }) after outcome → WritesAndGoesOn protocol (told ++ rest) recovered before after outcome
-  gone_on_behind before middle after outcome told rest wrote unfailed (inl cut) =
-      inl (cut.0, cut.1, cut.2, took_second before.output.written middle.written after.output.written told rest wrote cut.3)
-  gone_on_behind before middle after outcome told rest wrote unfailed (inr on) = inr (record {
+  pub gone_on_behind : (before : Streams) (middle : Output) (after : Streams) (outcome : Result RestEnd DriveFault) (replayed rest : List ℕ)
+      → Appends before.output.written middle.written replayed → middle.failed ≡ before.output.failed
+      → WritesAndGoesOn protocol rest recovered (record { input = before.input; output = middle }) after outcome → WritesAndGoesOn protocol (replayed ++ rest) recovered before after outcome
+  gone_on_behind before middle after outcome replayed rest wrote unfailed (inl cut) =
+      inl (cut.0, cut.1, cut.2, took_second before.output.written middle.written after.output.written replayed rest wrote cut.3)
+  gone_on_behind before middle after outcome replayed rest wrote unfailed (inr on) = inr (record {
     from = on.from;
     middle = on.middle;
-    again = Appends-trans before.output.written middle.written on.middle.written told rest wrote on.again;
+    again = Appends-trans before.output.written middle.written on.middle.written replayed rest wrote on.again;
     unfailed = on.unfailed ∙ unfailed;
     end = on.end;
     streamed = on.streamed;
@@ -46,4 +46,4 @@ not_replayed T protocol recovered before after Memory text rest cut unread = abs
 
 -- memory doesn't run out by that
 pub never_replayed : (T : Type 0) (text : List ℕ) (before after : SinkState) (fault : DriveFault) → fault ≡ Memory → IsReplayWritten {T = T} text before after (Err fault) → ⊥
-never_replayed T text before after fault is told = subst (λ (f : DriveFault). IsReplayWritten {T = T} text before after (Err f)) is told
+never_replayed T text before after fault is replayed = subst (λ (f : DriveFault). IsReplayWritten {T = T} text before after (Err f)) is replayed

@@ -79,8 +79,8 @@ module _ (protocol : Protocol) (controls : List Control) (number k : ℕ) where
 -- what is asked of a cell by a line
 pub asked_of : (protocol : Protocol) (controls ends : List Control) (number : ℕ) (line text : List ℕ) (cell : ℕ) (request : Request) → (line ≡ [] → ⊥) → AsksCell protocol.version_2 line cell request
     → CellsReply protocol (planned_cells controls) number (record { cell = cell; request = request }) text (planned_cells ends) → AnsweredByCells protocol controls number line ends text
-asked_of protocol controls ends number line text cell request some asked told = record {
-  answer = asked_line (AsksOf protocol.version_2) (CellsReply protocol) (planned_cells controls) number line text (record { cell = cell; request = request }) (planned_cells ends) some asked told;
+asked_of protocol controls ends number line text cell request some asked replied = record {
+  answer = asked_line (AsksOf protocol.version_2) (CellsReply protocol) (planned_cells controls) number line text (record { cell = cell; request = request }) (planned_cells ends) some asked replied;
   protocol = refl;
 }
 
@@ -92,4 +92,4 @@ unchanged protocol cells number line text answer = record { answer = answer; pro
 -- each is as it can be in a run
 pub still_in_run : (protocol : Protocol) (controls ends : List Control) (number cell : ℕ) (request : Request) (text : List ℕ) → AreInRun (planned_cells controls)
     → CellsReply protocol (planned_cells controls) number (record { cell = cell; request = request }) text (planned_cells ends) → AreInRun (planned_cells ends)
-still_in_run protocol controls ends number cell request text in_run told = replies_keep protocol (planned_cells controls) number (record { cell = cell; request = request }) text (planned_cells ends) in_run told
+still_in_run protocol controls ends number cell request text in_run replied = replies_keep protocol (planned_cells controls) number (record { cell = cell; request = request }) text (planned_cells ends) in_run replied

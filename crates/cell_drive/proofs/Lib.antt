@@ -19,7 +19,7 @@ pub mod LateOnes
 pub mod FollowedEvents
 pub mod OneFault
 pub mod Recovering
-pub mod ToldAgain
+pub mod V1Replay
 pub mod ReplayLines
 pub mod StateTexts
 pub mod ProtocolParses

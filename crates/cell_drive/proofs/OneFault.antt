@@ -63,16 +63,16 @@ module _ (p : PlannedShop) (c : Cell) where
   -- ---- a target has one fault
 
   clear_of_job : (spot : Spot) → IsOccupied p c spot → IsUnclean p c spot → ⊥
-  clear_of_job Out taken unclean = taken
-  clear_of_job (At m) taken unclean = taken unclean.0
+  clear_of_job Out occupied unclean = occupied
+  clear_of_job (At m) occupied unclean = occupied unclean.0
 
   clear_of_turn : (spot : Spot) (j : ℕ) → IsOutOfTurn p c spot j → (IsOccupied p c spot → ⊥) × (IsUnclean p c spot → ⊥)
   clear_of_turn Out j out = absurd out
-  clear_of_turn (At m) j out = ((λ taken. taken out.0), λ unclean. let (s, is) = unclean.1 in let none = out.1 in cc)
+  clear_of_turn (At m) j out = ((λ occupied. occupied out.0), λ unclean. let (s, is) = unclean.1 in let none = out.1 in cc)
 
   open_for : (spot : Spot) (j : ℕ) → IsOpen p c spot j → (IsOccupied p c spot → ⊥) × (IsUnclean p c spot → ⊥) × (IsOutOfTurn p c spot j → ⊥)
-  open_for Out j open_there = ((λ taken. taken), (λ unclean. unclean), λ out. out)
-  open_for (At m) j open_there = ((λ taken. taken open_there.0), (λ unclean. let (s, is) = unclean.1 in let none = open_there.1 in cc), λ out. out.2 open_there.2)
+  open_for Out j open_there = ((λ occupied. occupied), (λ unclean. unclean), λ out. out)
+  open_for (At m) j open_there = ((λ occupied. occupied open_there.0), (λ unclean. let (s, is) = unclean.1 in let none = open_there.1 in cc), λ out. out.2 open_there.2)
 
   -- ---- so has an entry
 
@@ -123,7 +123,7 @@ module _ (p : PlannedShop) (c : Cell) where
   first_against (OrderEntry o) (Backwards line) fault = (fault, past_more (OrderEntry o) 1 (past_none (OrderEntry o)) (λ has. has))
   first_against (OrderEntry o) (NotReady line) fault = (fault.1, past_backwards o fault.0)
   first_against (OrderEntry o) (Occupied line) fault = (fault.1, past_ready o fault.0)
-  first_against (OrderEntry o) (NotClean line) fault = (fault.1, past_more (OrderEntry o) 4 (past_ready o fault.0) (λ taken. clear_of_job o.target taken fault.1))
+  first_against (OrderEntry o) (NotClean line) fault = (fault.1, past_more (OrderEntry o) 4 (past_ready o fault.0) (λ occupied. clear_of_job o.target occupied fault.1))
   first_against (OrderEntry o) (OutOfOrder line) fault =
       let clear = clear_of_turn o.target o.job fault.1 in (fault.1, past_more (OrderEntry o) 5 (past_more (OrderEntry o) 4 (past_ready o fault.0) clear.0) clear.1)
   first_against (OrderEntry o) (WrongPlace line) fault =
@@ -159,10 +159,10 @@ module _ (p : PlannedShop) (c : Cell) where
 
   line_kinds : (line : List ℕ) (f g : AuditFault) → FoundIn line f → FoundIn line g → kind f ≡ kind g
   line_kinds line f g (inl one) (inl two) = one.0 ∙ sym two.0
-  line_kinds line f g (inl one) (inr (entry, tells, fault)) = absurd (one.1.none_printed entry tells.1 tells.2)
-  line_kinds line f g (inr (entry, tells, fault)) (inl two) = absurd (two.1.none_printed entry tells.1 tells.2)
-  line_kinds line f g (inr (a, tells, fault)) (inr (b, also, other)) =
-      let lists = one_parse p line (a ∷ []) (b ∷ []) tells also in
+  line_kinds line f g (inl one) (inr (entry, parses, fault)) = absurd (one.1.none_printed entry parses.1 parses.2)
+  line_kinds line f g (inr (entry, parses, fault)) (inl two) = absurd (two.1.none_printed entry parses.1 parses.2)
+  line_kinds line f g (inr (a, parses, fault)) (inr (b, also, other)) =
+      let lists = one_parse p line (a ∷ []) (b ∷ []) parses also in
       let heads : b ≡ a = cc in
       entry_kinds a f g fault (subst (λ (e : Entry). IsFaultOf p c e g) heads other)
 
@@ -175,8 +175,8 @@ module _ (p : PlannedShop) (lines : List (List ℕ)) where
       let line_is : x ≡ other.line = cc in
       let front : one.before ≡ other.before ++ other.line ∷ rest = longer ∙ ap (λ l. other.before ++ l ∷ rest) line_is in
       first_bad-no_run p one.before g
-      (record { before = other.before; line = other.line; after = rest; split = front; number = other.number; told = other.told; tells = other.tells; run = other.run; is_fault = other.is_fault })
-      (one.told, one.tells, one.run)
+      (record { before = other.before; line = other.line; after = rest; split = front; number = other.number; recorded = other.recorded; parses = other.parses; run = other.run; is_fault = other.is_fault })
+      (one.recorded, one.parses, one.run)
 
   one_bad : (f g : AuditFault) → IsFirstBad p lines f → IsFirstBad p lines g → g ≡ f
   one_bad f g one other = elim (append_parts one.before (one.line ∷ one.after) other.before (other.line ∷ other.after) (sym one.split ∙ other.split)) [
@@ -186,10 +186,10 @@ module _ (p : PlannedShop) (lines : List (List ℕ)) where
     where
       same : one.before ≡ other.before → one.line ≡ other.line → g ≡ f
       same befores line_is =
-          let told : other.told ≡ one.told = one_reading p one.before other.told one.told (subst (λ (ls : List (List ℕ)). LinesParse p ls other.told) (sym befores) other.tells) one.tells in
-          let fault : IsLineFault p (ends_in p (events_of one.told)) one.line g =
-          subst (λ (l : List ℕ). IsLineFault p (ends_in p (events_of one.told)) l g) (sym line_is) (subst (λ (es : List Entry). IsLineFault p (ends_in p (events_of es)) other.line g) told other.is_fault) in
-          let c = ends_in p (events_of one.told) in
+          let recorded : other.recorded ≡ one.recorded = one_reading p one.before other.recorded one.recorded (subst (λ (ls : List (List ℕ)). LinesParse p ls other.recorded) (sym befores) other.parses) one.parses in
+          let fault : IsLineFault p (ends_in p (events_of one.recorded)) one.line g =
+          subst (λ (l : List ℕ). IsLineFault p (ends_in p (events_of one.recorded)) l g) (sym line_is) (subst (λ (es : List Entry). IsLineFault p (ends_in p (events_of es)) other.line g) recorded other.is_fault) in
+          let c = ends_in p (events_of one.recorded) in
           same_fault f g (line_kinds p c one.line f g (found_in p c one.line f one.is_fault) (found_in p c one.line g fault)) (omega (arith, one.number, other.number, ap length befores))
 
       go : (rest : List (List ℕ)) → one.before ≡ other.before ++ rest → other.line ∷ other.after ≡ rest ++ one.line ∷ one.after → g ≡ f

@@ -33,8 +33,8 @@ pub run_of_own : (p : PlannedShop) (entries : List Entry) → IsOwnRun p entries
 run_of_own p entries own = (reported (events_of entries), own)
 
 -- the events of a log with the orders that are due
-pub due_events : (told : List Entry) (due : List MoveOrder) → events_of (told ++ map OrderEntry due) ≡ events_of told ++ moved due
-due_events told due = events-join told (map OrderEntry due) ∙ ap (λ es. events_of told ++ es) (events-orders due)
+pub due_events : (recorded : List Entry) (due : List MoveOrder) → events_of (recorded ++ map OrderEntry due) ≡ events_of recorded ++ moved due
+due_events recorded due = events-join recorded (map OrderEntry due) ∙ ap (λ es. events_of recorded ++ es) (events-orders due)
 
 -- the first events of some that can happen can happen
 pub front_events : (p : PlannedShop) (c : Cell) (a b : List Event) → AreEvents p c (a ++ b) → AreEvents p c a

@@ -45,18 +45,18 @@ module _ (p : PlannedShop) where
   texts_parse text k (suc n) each = parses_both p (text k) (texts_from text (suc k) n) [] [] (each k) (texts_parse text (suc k) n each)
 
   standing_parses : (standing : Standing) → ParsesFirst p (standing_part [] standing) []
-  standing_parses standing = told (is_over standing)
+  standing_parses standing = chosen (is_over standing)
     where
-      told : (over : Bool) → ParsesFirst p (cond over [] (unfinished_standing_line standing)) []
-      told true = parses_none p
-      told false = (others_parse_none p).stands standing
+      chosen : (over : Bool) → ParsesFirst p (cond over [] (unfinished_standing_line standing)) []
+      chosen true = parses_none p
+      chosen false = (others_parse_none p).stands standing
 
   closing_line_parses : (c : Cell) → ParsesFirst p (closing_line p c) []
-  closing_line_parses c = told (reports_left p c == 0)
+  closing_line_parses c = chosen (reports_left p c == 0)
     where
-      told : (ended : Bool) → ParsesFirst p (cond ended (done_line c.last) (unfinished_line (reports_left p c))) []
-      told true = (others_parse_none p).done c.last
-      told false = (others_parse_none p).unfinished (reports_left p c)
+      chosen : (ended : Bool) → ParsesFirst p (cond ended (done_line c.last) (unfinished_line (reports_left p c))) []
+      chosen true = (others_parse_none p).done c.last
+      chosen false = (others_parse_none p).unfinished (reports_left p c)
 
   state_parses : (c : Cell) → ParsesFirst p (state_text [] p c) []
   state_parses c =
@@ -81,7 +81,7 @@ module _ (p : PlannedShop) where
         → RequestAnswer p protocol [] before.cell number request text more end.cell → AreParsed p shaped before text end
     request_parses before number (ClaimRequest claim) text end more sound entries (inl is) = record {
       more = [];
-      tells = subst (λ (t : List ℕ). ParsesFirst p t []) (sym (is.text_is ∙ ap (λ (prefix : List ℕ). prefix ++ refused_detail_line number (refusal_word is.refusal) (refusal_detail protocol p before.cell (claimed claim) is.refusal)) (no_prefix protocol)))
+      parses = subst (λ (t : List ℕ). ParsesFirst p t []) (sym (is.text_is ∙ ap (λ (prefix : List ℕ). prefix ++ refused_detail_line number (refusal_word is.refusal) (refusal_detail protocol p before.cell (claimed claim) is.refusal)) (no_prefix protocol)))
           ((others_parse_none p).refused_for number (refusal_word is.refusal) (refusal_detail protocol p before.cell (claimed claim) is.refusal) (word_spaceless is.refusal));
       entries = entries ∙ ap (λ (es : List Entry). before.entries ++ es) is.events_are;
       events = tt;
@@ -103,7 +103,7 @@ module _ (p : PlannedShop) where
         (entries ∙ ap (λ (es : List Entry). before.entries ++ es) is.events_are) is.next_is
     request_parses before number Status text end more sound entries is = record {
       more = [];
-      tells = subst (λ (t : List ℕ). ParsesFirst p t []) (sym is.text_is) (state_parses before.cell);
+      parses = subst (λ (t : List ℕ). ParsesFirst p t []) (sym is.text_is) (state_parses before.cell);
       entries = entries ∙ ap (λ (es : List Entry). before.entries ++ es) is.events_are;
       events = tt;
       cell = is.next_is;

@@ -57,15 +57,15 @@ module _ (p : PlannedShop) where
     -- what was answered tells what came between the cells before and behind it
     pub record AreParsed (before : DrivenCell) (text : List ℕ) (end : DrivenCell) : Type 0 where
       pub more : List Entry
-      pub tells : ParsesFirst p text more
+      pub parses : ParsesFirst p text more
       pub entries : end.entries ≡ before.entries ++ more
       pub events : AreEvents p before.cell (events_of more)
       pub cell : end.cell ≡ after_all p before.cell (events_of more)
 
     pub nothing_parsed : (before : DrivenCell) (text line : List ℕ) (end : DrivenCell) → end ≡ before → text ≡ line → ParsesFirst p line [] → AreParsed before text end
-    nothing_parsed before text line end same text_is tells = record {
+    nothing_parsed before text line end same text_is parses = record {
       more = [];
-      tells = subst (λ (t : List ℕ). ParsesFirst p t []) (sym text_is) tells;
+      parses = subst (λ (t : List ℕ). ParsesFirst p t []) (sym text_is) parses;
       entries = ap (λ (d : DrivenCell). d.entries) same ∙ sym (append-nil before.entries);
       events = tt;
       cell = ap (λ (d : DrivenCell). d.cell) same;
@@ -74,13 +74,13 @@ module _ (p : PlannedShop) where
     pub step_parses : (before : DrivenCell) (report : Report) (text : List ℕ) (end : DrivenCell) (movers : List ℕ) → IsSound p before.cell → IsStep p before.cell report movers
         → ParsesFirst p text (ReportEntry report ∷ map OrderEntry (step_orders p before.cell report movers))
         → end.entries ≡ before.entries ++ ReportEntry report ∷ map OrderEntry (step_orders p before.cell report movers) → end.cell ≡ after_step p before.cell report movers → AreParsed before text end
-    step_parses before report text end movers sound step tells entries next_is =
+    step_parses before report text end movers sound step parses entries next_is =
         let c = before.cell in
         let next = after_report c report in
         let moves : events_of (map OrderEntry (step_orders p c report movers)) ≡ moved (step_orders p c report movers) = events-orders (step_orders p c report movers) in
         record {
           more = ReportEntry report ∷ map OrderEntry (step_orders p c report movers);
-          tells = tells;
+          parses = parses;
           entries = entries;
           events = (step.can, subst (AreEvents p next) (sym moves) (moves-events p next (at report) movers step.moves));
           cell = next_is ∙ sym (ap (after_all p next) moves ∙ after_all-moves p next (at report) movers);
@@ -98,17 +98,17 @@ module _ (p : PlannedShop) where
     -- lines, whatever is answered to each
     module _ (answers : DrivenCell → ℕ → Option (List ℕ) → List ℕ → DrivenCell → Type 0)
         (keeps : (before : DrivenCell) (number : ℕ) (line : Option (List ℕ)) (text : List ℕ) (end : DrivenCell) → IsOnCourse p before.cell → answers before number line text end → IsOnCourse p end.cell)
-        (told : (before : DrivenCell) (number : ℕ) (line : Option (List ℕ)) (text : List ℕ) (end : DrivenCell) → IsSound p before.cell → answers before number line text end → AreParsed before text end) where
+        (parsed : (before : DrivenCell) (number : ℕ) (line : Option (List ℕ)) (text : List ℕ) (end : DrivenCell) → IsSound p before.cell → answers before number line text end → AreParsed before text end) where
       pub all_parsed : (lines : List (Option (List ℕ))) (before end : DrivenCell) (number : ℕ) (text : List ℕ) → IsOnCourse p before.cell
           → AnswerAll answers before number lines text end → AreParsed before text end
       all_parsed [] before end number text on all = nothing_parsed before text [] end all.1 all.0 (parses_none p)
       all_parsed (line ∷ lines) before end number text on all =
-          let first = told before number line all.0 all.2 on.sound all.3 in
+          let first = parsed before number line all.0 all.2 on.sound all.3 in
           let others = all_parsed lines all.2 end (number + 1) all.1 (keeps before number line all.0 all.2 on all.3) all.4 in
           let joined = events-join first.more others.more in
           record {
             more = first.more ++ others.more;
-            tells = subst (λ (t : List ℕ). ParsesFirst p t (first.more ++ others.more)) (sym all.5) (parses_both p all.0 all.1 first.more others.more first.tells others.tells);
+            parses = subst (λ (t : List ℕ). ParsesFirst p t (first.more ++ others.more)) (sym all.5) (parses_both p all.0 all.1 first.more others.more first.parses others.parses);
             entries = others.entries ∙ ap (λ (es : List Entry). es ++ others.more) first.entries ∙ append_assoc before.entries first.more others.more;
             events = subst (AreEvents p before.cell) (sym joined)
                 (events_join p before.cell (events_of first.more) (events_of others.more) first.events (subst (λ (x : Cell). AreEvents p x (events_of others.more)) first.cell others.events));
@@ -119,13 +119,13 @@ module _ (p : PlannedShop) where
 -- answers from the start of a run on, and the closing line, are a log
 pub log_of_parsed : (p : PlannedShop) (shaped : IsWellShaped p) (answers closing text : List ℕ) (end : DrivenCell) → AreParsed p shaped (undriven p) answers end → CellCloses p end closing
     → text ≡ answers ++ closing → IsLogOf p text end
-log_of_parsed p shaped answers closing text end told closes whole =
-    let tells : LinesParse p (lines_of ((answers ++ closing) ++ [])) ((told.more ++ []) ++ []) =
-    parses_both p answers closing told.more [] told.tells (closing_parses p end closing closes) [] [] refl in
+log_of_parsed p shaped answers closing text end parsed closes whole =
+    let parses : LinesParse p (lines_of ((answers ++ closing) ++ [])) ((parsed.more ++ []) ++ []) =
+    parses_both p answers closing parsed.more [] parsed.parses (closing_parses p end closing closes) [] [] refl in
     let same_text : (answers ++ closing) ++ [] ≡ text = append-nil (answers ++ closing) ∙ sym whole in
-    let same_entries : (told.more ++ []) ++ [] ≡ end.entries = append-nil (told.more ++ []) ∙ append-nil told.more ∙ sym told.entries in
+    let same_entries : (parsed.more ++ []) ++ [] ≡ end.entries = append-nil (parsed.more ++ []) ∙ append-nil parsed.more ∙ sym parsed.entries in
     record {
-      tells = subst (λ (t : List ℕ). LinesParse p (lines_of t) end.entries) same_text (subst (λ (es : List Entry). LinesParse p (lines_of ((answers ++ closing) ++ [])) es) same_entries tells);
-      run = subst (λ (es : List Entry). IsRun p (events_of es)) (sym told.entries) told.events;
-      cell = told.cell ∙ ap (λ (es : List Entry). ends_in p (events_of es)) (sym told.entries);
+      parses = subst (λ (t : List ℕ). LinesParse p (lines_of t) end.entries) same_text (subst (λ (es : List Entry). LinesParse p (lines_of ((answers ++ closing) ++ [])) es) same_entries parses);
+      run = subst (λ (es : List Entry). IsRun p (events_of es)) (sym parsed.entries) parsed.events;
+      cell = parsed.cell ∙ ap (λ (es : List Entry). ends_in p (events_of es)) (sym parsed.entries);
     }

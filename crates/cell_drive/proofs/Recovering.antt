@@ -18,7 +18,7 @@ use Rattle.event_lines.proofs.Readings.{one_reading}
 use Rattle.run_log.specs.Log.{Noted}
 use Rattle.run_log.specs.Audits.{IsReplayed, IsAuditFault}
 use Rattle.run_log.specs.declared.audit_fault.AuditFault.{AuditFault}
-use Rattle.run_log.specs.declared.audit_fault.AuditFault.TheVariants.{BadLine, NotExpected, Backwards, NotReady, Occupied, OutOfOrder, WrongPlace, NotClean, Memory as WantOfMemory}
+use Rattle.run_log.specs.declared.audit_fault.AuditFault.TheVariants.{BadLine, NotExpected, Backwards, NotReady, Occupied, OutOfOrder, WrongPlace, NotClean, Memory as OutOfMemory}
 use Rattle.run_log.proofs.Audits.{run-few, first_bad-no_run}
 use Rattle.cell_control.specs.Control.{Control, IsControl}
 use Rattle.cell_control.specs.Begun.{IsBegun}
@@ -70,18 +70,18 @@ module _ (control : Control) (entries : List Entry) (late : List Bool) (run : Is
   pub recovered_run : (log : Noted) → IsWellShaped p → IsControl control → log.entries ≡ with_orders → log.reserved ≡ 2 * stated_number p → AreLate p (start p) entries late
       → IsRecoveredRun (recovered_by control log late)
   recovered_run log shaped is_control noted reserved are =
-      let told : take (length late) log.entries ≡ entries = ap (take (length late)) noted ∙ replayed_first are in
+      let recorded : take (length late) log.entries ≡ entries = ap (take (length late)) noted ∙ replayed_first are in
       record {
         kept = record {
           shaped = shaped;
           control = is_control;
-          told = subst (λ (es : List Entry). IsReplayed p control.cell es) (sym noted) replayed_with_orders;
+          replayed = subst (λ (es : List Entry). IsReplayed p control.cell es) (sym noted) replayed_with_orders;
           reserved = reserved;
         };
-        begun = subst (λ (es : List Entry). IsBegun p (cell_after p es) control.began control) (sym told) begun;
-        due = noted ∙ ap (λ (es : List Entry). es ++ map OrderEntry control.orders) (sym told);
+        begun = subst (λ (es : List Entry). IsBegun p (cell_after p es) control.began control) (sym recorded) begun;
+        due = noted ∙ ap (λ (es : List Entry). es ++ map OrderEntry control.orders) (sym recorded);
         within = omega (arith, late_length p (start p) entries late are, ap length noted, length-append entries (map OrderEntry control.orders));
-        are_late = subst (λ (es : List Entry). AreLate p (start p) es late) (sym told) are;
+        are_late = subst (λ (es : List Entry). AreLate p (start p) es late) (sym recorded) are;
       }
 
 -- ---- faults
@@ -89,7 +89,7 @@ module _ (control : Control) (entries : List Entry) (late : List Bool) (run : Is
 module _ (p : PlannedShop) (lines : List (List ℕ)) (at : Option ℕ) where
   -- the first fault of the lines is that of taking up
   pub log_fault_is : (fault : AuditFault) → IsAuditFault p lines fault → IsResumeFault p lines at (log_fault fault)
-  log_fault_is WantOfMemory is = tt
+  log_fault_is OutOfMemory is = tt
   log_fault_is (BadLine n) is = is
   log_fault_is (NotExpected n) is = is
   log_fault_is (Backwards n) is = is
@@ -100,29 +100,29 @@ module _ (p : PlannedShop) (lines : List (List ℕ)) (at : Option ℕ) where
   log_fault_is (WrongPlace n) is = is
 
   -- so is that of the run that they tell
-  pub run_fault_is : (told : List Entry) (fault : ResumeFault) → LinesParse p lines told → IsRun p (events_of told) → IsRunFault p told at fault → IsResumeFault p lines at fault
-  run_fault_is told (Log fault) tells run is = absurd is
-  run_fault_is told (Past last) tells run is = (told, tells, run, is)
-  run_fault_is told (Refused back why) tells run is = (told, tells, run, is)
-  run_fault_is told Memory tells run is = tt
+  pub run_fault_is : (recorded : List Entry) (fault : ResumeFault) → LinesParse p lines recorded → IsRun p (events_of recorded) → IsRunFault p recorded at fault → IsResumeFault p lines at fault
+  run_fault_is recorded (Log fault) parses run is = absurd is
+  run_fault_is recorded (Past last) parses run is = (recorded, parses, run, is)
+  run_fault_is recorded (Refused back why) parses run is = (recorded, parses, run, is)
+  run_fault_is recorded Memory parses run is = tt
 
   -- what can be taken up is refused for want of memory alone
   pub only_want : (fault : ResumeFault) → IsResumeFault p lines at fault → IsRecoverable p lines at → fault ≡ Memory
   only_want Memory is can = refl
-  only_want (Log fault) is can = absurd (first_bad-no_run p lines fault is (can.told, can.tells, can.is_run))
-  only_want (Past last) (told, tells, run, is) can =
-      let same : told ≡ can.told = one_reading p lines told can.told tells can.tells in
-      let here : last ≡ (cell_after p can.told).last = is.0 ∙ ap (λ (es : List Entry). (cell_after p es).last) same in
-      let past_there : unwrap_or at (cell_after p can.told).last < (cell_after p can.told).last = subst (λ n. unwrap_or at n < n) here is.1 in
+  only_want (Log fault) is can = absurd (first_bad-no_run p lines fault is (can.recorded, can.parses, can.is_run))
+  only_want (Past last) (recorded, parses, run, is) can =
+      let same : recorded ≡ can.recorded = one_reading p lines recorded can.recorded parses can.parses in
+      let here : last ≡ (cell_after p can.recorded).last = is.0 ∙ ap (λ (es : List Entry). (cell_after p es).last) same in
+      let past_there : unwrap_or at (cell_after p can.recorded).last < (cell_after p can.recorded).last = subst (λ n. unwrap_or at n < n) here is.1 in
       absurd (omega (arith, past_there, can.not_past))
-  only_want (Refused back (Cycle nodes)) (told, tells, run, is) can = absurd (can.acyclic nodes.items (cycle_simple p nodes.items is.2))
-  only_want (Refused back (Late job leaves chain times)) (told, tells, run, is) can =
-      let same : told ≡ can.told = one_reading p lines told can.told tells can.tells in
+  only_want (Refused back (Cycle nodes)) (recorded, parses, run, is) can = absurd (can.acyclic nodes.items (cycle_simple p nodes.items is.2))
+  only_want (Refused back (Late job leaves chain times)) (recorded, parses, run, is) can =
+      let same : recorded ≡ can.recorded = one_reading p lines recorded can.recorded parses can.parses in
       let acceptable = can.accepted (sym same ∙ is.2.0) in
       let late = is.2.1.0 in
       absurd (omega (arith, late.past, acceptable.budgets job late.job chain.items leaves late.path))
 
   -- so is whatever is said of the run that they tell
-  pub only_want_of : {T : Type 0} (told : List Entry) (r : Result T ResumeFault) → LinesParse p lines told → IsRun p (events_of told) → IfErr r (IsRunFault p told at) → IsRecoverable p lines at → IfErr r (λ fault. fault ≡ Memory)
-  only_want_of told (Ok x) tells run is can = tt
-  only_want_of told (Err fault) tells run is can = only_want fault (run_fault_is told fault tells run is) can
+  pub only_want_of : {T : Type 0} (recorded : List Entry) (r : Result T ResumeFault) → LinesParse p lines recorded → IsRun p (events_of recorded) → IfErr r (IsRunFault p recorded at) → IsRecoverable p lines at → IfErr r (λ fault. fault ≡ Memory)
+  only_want_of recorded (Ok x) parses run is can = tt
+  only_want_of recorded (Err fault) parses run is can = only_want fault (run_fault_is recorded fault parses run is) can

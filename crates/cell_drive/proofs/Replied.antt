@@ -44,7 +44,7 @@ module _ (protocol : Protocol) (v : Control) where
     next_is = ap (λ (w : Control). w.cell) stays;
   })
   claim_answer prefix number claim (Accepted report late overdue ended) new (accepted, same, answered, overdue_is, ended_is) =
-      let told = printed_overdue protocol v.planned v.cell (claimed claim) in
+      let are_overdue = printed_overdue protocol v.planned v.cell (claimed claim) in
       inr (record {
         accepted = accepted;
         movers = answered.movers;
@@ -53,8 +53,8 @@ module _ (protocol : Protocol) (v : Control) where
         late_is = answered.late;
         text_is = ap (λ (r : reports.Report). acceptance_lines prefix r late overdue new.orders ended) same
             ∙ ap (λ (o : Option Overdue). acceptance_lines prefix (claimed claim) late o new.orders ended) overdue_is
-            ∙ ap (λ (os : List MoveOrder). acceptance_lines prefix (claimed claim) late told os ended) answered.orders
-            ∙ ap (acceptance_lines prefix (claimed claim) late told _) (ended_is ∙ ap (λ (p : PlannedShop). prints_end protocol p new.cell) answered.planned);
+            ∙ ap (λ (os : List MoveOrder). acceptance_lines prefix (claimed claim) late are_overdue os ended) answered.orders
+            ∙ ap (acceptance_lines prefix (claimed claim) late are_overdue _) (ended_is ∙ ap (λ (p : PlannedShop). prints_end protocol p new.cell) answered.planned);
         events_are = ap (λ (r : reports.Report). ReportEntry r ∷ map OrderEntry new.orders) same ∙ ap (λ (os : List MoveOrder). ReportEntry (claimed claim) ∷ map OrderEntry os) answered.orders;
         next_is = answered.cell;
       })

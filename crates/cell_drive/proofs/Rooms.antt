@@ -28,20 +28,20 @@ use Rattle.cell_drive.proofs.Parts.{events-orders}
 -- events behind a run that was told
 pub replayed_on : (p : PlannedShop) (c : Cell) (entries more : List Entry) → IsReplayed p c entries → AreEvents p c (events_of more)
     → IsReplayed p (after_all p c (events_of more)) (entries ++ more)
-replayed_on p c entries more told events =
+replayed_on p c entries more replayed events =
     let joined : events_of (entries ++ more) ≡ events_of entries ++ events_of more = events-join entries more in
     record {
-      run = subst (IsRun p) (sym joined) (events_join p (start p) (events_of entries) (events_of more) told.run (subst (λ (d : Cell). AreEvents p d (events_of more)) told.cell events));
-      cell = ap (λ (d : Cell). after_all p d (events_of more)) told.cell ∙ sym (after_all_join p (start p) (events_of entries) (events_of more)) ∙ ap (after_all p (start p)) (sym joined);
+      run = subst (IsRun p) (sym joined) (events_join p (start p) (events_of entries) (events_of more) replayed.run (subst (λ (d : Cell). AreEvents p d (events_of more)) replayed.cell events));
+      cell = ap (λ (d : Cell). after_all p d (events_of more)) replayed.cell ∙ sym (after_all_join p (start p) (events_of entries) (events_of more)) ∙ ap (after_all p (start p)) (sym joined);
     }
 
 -- moves behind it
 pub replayed_moves : (p : PlannedShop) (c : Cell) (t : ℕ) (js : List ℕ) (entries : List Entry) (orders : List MoveOrder) → IsReplayed p c entries → AreEvents p c (moved (orders_for p c t js))
     → orders ≡ orders_for p c t js → IsReplayed p (after_moves p c t js) (entries ++ map OrderEntry orders)
-replayed_moves p c t js entries orders told events are =
+replayed_moves p c t js entries orders replayed events are =
     let same : events_of (map OrderEntry orders) ≡ moved (orders_for p c t js) = events-orders orders ∙ ap moved are in
     subst (λ (d : Cell). IsReplayed p d (entries ++ map OrderEntry orders)) (ap (after_all p c) same ∙ after_all-moves p c t js)
-    (replayed_on p c entries (map OrderEntry orders) told (subst (AreEvents p c) (sym same) events))
+    (replayed_on p c entries (map OrderEntry orders) replayed (subst (AreEvents p c) (sym same) events))
 
 module _ (control : Control) (log : Noted) (report : Report) (ack : Ack) (after : Control) (kept : IsKept control log) (answered : IsAnswered control report ack after) where
   abbrev p : PlannedShop
@@ -58,7 +58,7 @@ module _ (control : Control) (log : Noted) (report : Report) (ack : Ack) (after 
       let events : AreEvents p c (events_of new_entries) =
       (answered.step.can, subst (AreEvents p next) (sym same) (moves-events p next (at report) answered.movers answered.step.moves)) in
       subst (λ (d : Cell). IsReplayed p d (log.entries ++ new_entries)) (ap (after_all p next) same ∙ after_all-moves p next (at report) answered.movers ∙ sym answered.cell)
-      (replayed_on p c log.entries new_entries kept.told events)
+      (replayed_on p c log.entries new_entries kept.replayed events)
 
   -- the log has room for it
   pub room_for : length log.entries + length new_entries ≤ log.reserved
@@ -74,7 +74,7 @@ module _ (control : Control) (log : Noted) (report : Report) (ack : Ack) (after 
       record {
         shaped = subst IsWellShaped (sym same_plan) kept.shaped;
         control = still;
-        told = subst (λ (q : PlannedShop). IsReplayed q after.cell longer.entries) (sym same_plan)
+        replayed = subst (λ (q : PlannedShop). IsReplayed q after.cell longer.entries) (sym same_plan)
             (subst (λ (es : List Entry). IsReplayed p after.cell es) (sym notes.entries) replayed_after);
         reserved = notes.reserved ∙ kept.reserved ∙ ap (λ (q : PlannedShop). 2 * stated_number q) (sym same_plan);
       }
@@ -84,8 +84,8 @@ pub so_far : (control : Control) (log : Noted) → IsKept control log → (is_do
     → left ≡ reports_left control.planned control.cell → IsSoFar control.planned log.entries is_done last left
 so_far control log kept is_done last left ended moment count_is =
     let p = control.planned in
-    let cell_is : control.cell ≡ cell_after p log.entries = kept.told.cell in
-    let count = run-stated_number p (events_of log.entries) kept.shaped kept.told.run in
+    let cell_is : control.cell ≡ cell_after p log.entries = kept.replayed.cell in
+    let count = run-stated_number p (events_of log.entries) kept.shaped kept.replayed.run in
     let left_there : reports_left p (cell_after p log.entries) ≡ left = ap (reports_left p) (sym cell_is) ∙ sym count_is in
     record {
       ended = ((λ is. subst (HasEnded p) cell_is (ended.0 is)), λ has. ended.1 (subst (HasEnded p) (sym cell_is) has));
@@ -100,6 +100,6 @@ so_far control log kept is_done last left ended moment count_is =
 -- it was never full
 pub never_full : (control : Control) (log : Noted) → IsKept control log → IsNeverFull control.planned log
 never_full control log kept =
-    let few = run-few control.planned log.entries kept.shaped kept.told.run in
+    let few = run-few control.planned log.entries kept.shaped kept.replayed.run in
     let reserved = kept.reserved in
     record { reserved = reserved; fits = omega (arith, few, reserved) }

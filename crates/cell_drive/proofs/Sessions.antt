@@ -108,7 +108,7 @@ module _ (v : VerifiedPlan) (protocol : Protocol) (e : SessionState) (lines : Li
         log = log;
         plan = plan ∙ same;
         run = subst (λ (l : Noted). IsRunOf p l.entries) (sym log) (run_of_leads p led.reports entries e.control.cell is_verified.schedule.shaped run);
-        cell = subst (λ (l : Noted). e.control.cell ≡ cell_after p l.entries) (sym log) (subst (λ (q : PlannedShop). e.control.cell ≡ cell_after q entries) same_plan kept.told.cell);
+        cell = subst (λ (l : Noted). e.control.cell ≡ cell_after p l.entries) (sym log) (subst (λ (q : PlannedShop). e.control.cell ≡ cell_after q entries) same_plan kept.replayed.cell);
         so_far = subst (λ (l : Noted). IsSoFar p l.entries end.done end.last end.left) (sym log)
             (subst (λ (q : PlannedShop). IsSoFar q entries end.done end.last end.left) same_plan (so_far e.control e.log kept end.done end.last end.left ended moment left));
         never_full = subst (IsNeverFull p) (sym log) (subst (λ (q : PlannedShop). IsNeverFull q e.log) same_plan (never_full e.control e.log kept));
@@ -136,8 +136,8 @@ rest_end_of protocol v log kept end same ended moment count =
     let is_so_far = so_far v log kept end.done end.last end.left ended moment (count ∙ kept.control.counted) in
     record {
       log = same;
-      run = subst (λ (l : Noted). IsRun v.planned (events_of l.entries)) (sym same) kept.told.run;
-      cell = subst (λ (l : Noted). v.cell ≡ cell_after v.planned l.entries) (sym same) kept.told.cell;
+      run = subst (λ (l : Noted). IsRun v.planned (events_of l.entries)) (sym same) kept.replayed.run;
+      cell = subst (λ (l : Noted). v.cell ≡ cell_after v.planned l.entries) (sym same) kept.replayed.cell;
       so_far = subst (λ (l : Noted). IsSoFar v.planned l.entries end.done end.last end.left) (sym same) is_so_far;
       never_full = subst (IsNeverFull v.planned) (sym same) (never_full v log kept);
     }

@@ -15,7 +15,7 @@ use Rattle.cell_drive.specs.ProtocolText.{IsProtocolText}
 
 -- the lines of the text tell exactly what was accepted and ordered, which is a run of the plan that leads to the cell
 pub record IsLogOf (p : PlannedShop) (text : List ℕ) (end : DrivenCell) : Type 0 where
-  pub tells : LinesParse p (lines_of text) end.entries
+  pub parses : LinesParse p (lines_of text) end.entries
   pub run : IsRun p (events_of end.entries)
   pub cell : end.cell ≡ cell_after p end.entries
 
@@ -25,7 +25,7 @@ AnAnswerTextIsALog = (p : PlannedShop) (protocol : Protocol) (input text : List 
 
 -- the audit has found what driving came to: the same events, so many reports that exactly those are left, and the end of the run exactly where it was done
 pub record IsFoundAgain (p : PlannedShop) (entries : List Entry) (done : Bool) (last left : ℕ) (audit : Audit) : Type 0 where
-  pub told : audit.entries.items ≡ entries
+  pub recorded : audit.entries.items ≡ entries
   pub reports : audit.reports + left ≡ stated_number p
   pub orders : audit.orders ≡ moves_in (events_of entries)
   pub moment : audit.last ≡ last

@@ -22,11 +22,11 @@ use Rattle.cell_drive.specs.Resuming.{again_text, driven_so_far, IsRunToRest}
 
 -- the ended lines of these bytes tell a run, the first of these events
 pub record IsRunPrefix (p : PlannedShop) (cut : List ℕ) (entries : List Entry) : Type 0 where
-  pub told : List Entry
-  pub tells : LinesParse p (ended_lines cut) told
-  pub run : IsRun p (events_of told)
+  pub recorded : List Entry
+  pub parses : LinesParse p (ended_lines cut) recorded
+  pub run : IsRun p (events_of recorded)
   pub later : List Entry
-  pub whole : entries ≡ told ++ later
+  pub whole : entries ≡ recorded ++ later
 
 -- so do those of the log of a run that is cut at any byte
 abbrev pub ACutLogIsRecovered : Type 0
@@ -55,11 +55,11 @@ WhatWasResumedIsRecoverable = (p : PlannedShop) (protocol : Protocol) (log : Lis
 
 -- the ended lines of these bytes tell events that are, with the orders that are due, the first of these, which are a controlled run
 pub record IsCutFrom (p : PlannedShop) (cut : List ℕ) (entries : List Entry) : Type 0 where
-  pub told : List Entry
+  pub recorded : List Entry
   pub due : List MoveOrder
-  pub log : IsCutLog p (ended_lines cut) told due
+  pub log : IsCutLog p (ended_lines cut) recorded due
   pub later : List Entry
-  pub whole : entries ≡ (told ++ map OrderEntry due) ++ later
+  pub whole : entries ≡ (recorded ++ map OrderEntry due) ++ later
 
 -- so do those of the log of a controlled run that is cut at any byte
 abbrev pub ACutLogHasItsOrders : Type 0
@@ -73,9 +73,9 @@ WhatWasDrivenHasItsOrders = (p : PlannedShop) (protocol : Protocol) (lines : Lis
 
 -- such a log can be taken up by a plan that is to be accepted
 abbrev pub ItIsRecoverable : Type 0
-ItIsRecoverable = (p : PlannedShop) (lines : List (List ℕ)) (told : List Entry) (due : List MoveOrder) → IsWellShaped p → IsAcceptable p → IsCutLog p lines told due → IsRecoverable p lines None
+ItIsRecoverable = (p : PlannedShop) (lines : List (List ℕ)) (recorded : List Entry) (due : List MoveOrder) → IsWellShaped p → IsAcceptable p → IsCutLog p lines recorded due → IsRecoverable p lines None
 
 -- and it is taken up, without a moment, with just the orders that were due
 abbrev pub ItIsRecoveredWithItsOrders : Type 0
-ItIsRecoveredWithItsOrders = (p : PlannedShop) (lines : List (List ℕ)) (told : List Entry) (due : List MoveOrder) (recovered : Recovered) → IsWellShaped p
-    → IsCutLog p lines told due → IsRecovered p lines None recovered → (replayed_events recovered ≡ told) × (recovered.control.orders ≡ due)
+ItIsRecoveredWithItsOrders = (p : PlannedShop) (lines : List (List ℕ)) (recorded : List Entry) (due : List MoveOrder) (recovered : Recovered) → IsWellShaped p
+    → IsCutLog p lines recorded due → IsRecovered p lines None recovered → (replayed_events recovered ≡ recorded) × (recovered.control.orders ≡ due)

@@ -57,25 +57,25 @@ abbrev pub AreAtStart : PlannedShop → Tables → Type 0
 AreAtStart p tables = AreSound p tables × (cell_of p tables ≡ start p)
 
 -- it was taken up by this plan behind these events, at the moment that was given or else at their last one; where there are no events, the plan is to be accepted
-pub record IsRecoveredFrom (p : PlannedShop) (told : List Entry) (at : Option ℕ) (recovered : Recovered) : Type 0 where
+pub record IsRecoveredFrom (p : PlannedShop) (recorded : List Entry) (at : Option ℕ) (recovered : Recovered) : Type 0 where
   pub run : IsRecoveredRun recovered
   pub planned : plan_of recovered ≡ p
-  pub replayed_is : replayed_events recovered ≡ told
-  pub began : recovered.control.began ≡ unwrap_or at (cell_after p told).last
-  pub accepted : told ≡ [] → IsAcceptable p
+  pub replayed_is : replayed_events recovered ≡ recorded
+  pub began : recovered.control.began ≡ unwrap_or at (cell_after p recorded).last
+  pub accepted : recorded ≡ [] → IsAcceptable p
 
 -- so behind the events that these lines tell, which are a run of the plan
 pub record IsRecovered (p : PlannedShop) (lines : List (List ℕ)) (at : Option ℕ) (recovered : Recovered) : Type 0 where
-  pub told : List Entry
-  pub tells : LinesParse p lines told
-  pub is_run : IsRun p (events_of told)
-  pub recovered_from : IsRecoveredFrom p told at recovered
+  pub recorded : List Entry
+  pub parses : LinesParse p lines recorded
+  pub is_run : IsRun p (events_of recorded)
+  pub recovered_from : IsRecoveredFrom p recorded at recovered
 
 -- the lines tell a run that can be taken up by this plan: the moment isn't before its last one, the plan has no cycle, and where there are no events, it is to be accepted
 pub record IsRecoverable (p : PlannedShop) (lines : List (List ℕ)) (at : Option ℕ) : Type 0 where
-  pub told : List Entry
-  pub tells : LinesParse p lines told
-  pub is_run : IsRun p (events_of told)
-  pub not_past : (cell_after p told).last ≤ unwrap_or at (cell_after p told).last
+  pub recorded : List Entry
+  pub parses : LinesParse p lines recorded
+  pub is_run : IsRun p (events_of recorded)
+  pub not_past : (cell_after p recorded).last ≤ unwrap_or at (cell_after p recorded).last
   pub acyclic : HasNoCycle p
-  pub accepted : told ≡ [] → IsAcceptable p
+  pub accepted : recorded ≡ [] → IsAcceptable p

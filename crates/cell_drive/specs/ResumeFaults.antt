@@ -10,7 +10,7 @@ use Rattle.cell_tables.specs.declared.entry.Entry.{Entry}
 use Rattle.cell_tables.specs.Events.{events_of}
 use Rattle.event_lines.specs.LogLines.{LinesParse}
 use Rattle.run_log.specs.declared.audit_fault.AuditFault.{AuditFault}
-use Rattle.run_log.specs.declared.audit_fault.AuditFault.TheVariants.{Memory as WantOfMemory}
+use Rattle.run_log.specs.declared.audit_fault.AuditFault.TheVariants.{Memory as OutOfMemory}
 use Rattle.run_log.specs.Audits.{IsFirstBad}
 use Rattle.cell_drive.specs.OneRun.{cell_after}
 use Rattle.cell_drive.specs.declared.resume_fault.ResumeFault.{ResumeFault}
@@ -18,7 +18,7 @@ use Rattle.cell_drive.specs.declared.resume_fault.ResumeFault.TheVariants.{Log, 
 
 -- the fault that a fault of an audit is
 abbrev pub log_fault : AuditFault → ResumeFault
-log_fault WantOfMemory = Memory
+log_fault OutOfMemory = Memory
 log_fault fault = Log fault
 
 -- by this reason a plan is refused: a cycle always, a late job where its run only starts
@@ -35,16 +35,16 @@ IsRefusal p starts Memory = Unit {0}
 
 -- the fault of a run that was told by these events: the moment that was given is past; or it isn't, and the plan is refused
 abbrev pub IsRunFault : PlannedShop → List Entry → Option ℕ → ResumeFault → Type 0
-IsRunFault p told at (Log fault) = ⊥
-IsRunFault p told at (Past last) = (last ≡ (cell_after p told).last) × (unwrap_or at last < last)
-IsRunFault p told at (Refused back why) = ((cell_after p told).last ≤ unwrap_or at (cell_after p told).last) × (back ≡ p) × IsRefusedFor p (told ≡ []) why
-IsRunFault p told at Memory = Unit {0}
+IsRunFault p recorded at (Log fault) = ⊥
+IsRunFault p recorded at (Past last) = (last ≡ (cell_after p recorded).last) × (unwrap_or at last < last)
+IsRunFault p recorded at (Refused back why) = ((cell_after p recorded).last ≤ unwrap_or at (cell_after p recorded).last) × (back ≡ p) × IsRefusedFor p (recorded ≡ []) why
+IsRunFault p recorded at Memory = Unit {0}
 
 -- out of memory; or the first fault of the lines; or they tell a run, and this is its fault
 abbrev pub IsResumeFault : PlannedShop → List (List ℕ) → Option ℕ → ResumeFault → Type 0
 IsResumeFault p lines at Memory = Unit {0}
 IsResumeFault p lines at (Log fault) = IsFirstBad p lines fault
-IsResumeFault p lines at fault = (told : List Entry) × LinesParse p lines told × IsRun p (events_of told) × IsRunFault p told at fault
+IsResumeFault p lines at fault = (recorded : List Entry) × LinesParse p lines recorded × IsRun p (events_of recorded) × IsRunFault p recorded at fault
 
 -- where this is the fault of the log, no other is the first of its lines
 abbrev pub IsOnlyLogFault : PlannedShop → List (List ℕ) → ResumeFault → Type 0

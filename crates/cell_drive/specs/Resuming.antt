@@ -11,7 +11,7 @@ use Rattle.cell_tables.specs.declared.entry.Entry.{Entry}
 use Rattle.cell_tables.specs.Events.{events_of}
 use Rattle.run_log.specs.declared.auditing.Audit.{Audit}
 use Rattle.run_log.specs.declared.audit_fault.AuditFault.{AuditFault}
-use Rattle.run_log.specs.declared.audit_fault.AuditFault.TheVariants.{Memory as WantOfMemory}
+use Rattle.run_log.specs.declared.audit_fault.AuditFault.TheVariants.{Memory as OutOfMemory}
 use Rattle.run_log.specs.Audits.{IsAudit, ParseAsRun}
 use Rattle.event_lines.specs.EventLines.{entry_lines}
 use Rattle.byte_streams.specs.Sinks.{TookPart}
@@ -108,8 +108,8 @@ AnAuditKeepsWhatWasResumed = (protocol : Protocol) (recovered : Recovered) (end 
     → WritesAndGoesOn protocol (again_of protocol recovered) recovered before after (Ok end)
     → before.output.written ≡ Some start → after.output.written ≡ Some (start ++ text)
     → IfOk outcome (IsAudit (plan_of recovered) (lines_of text))
-    → (ParseAsRun (plan_of recovered) (lines_of text) → IfErr outcome (λ fault. fault ≡ WantOfMemory))
-    → MatchResult outcome (IsFoundAgain (plan_of recovered) end.log.entries end.done end.last end.left) (λ fault. fault ≡ WantOfMemory)
+    → (ParseAsRun (plan_of recovered) (lines_of text) → IfErr outcome (λ fault. fault ≡ OutOfMemory))
+    → MatchResult outcome (IsFoundAgain (plan_of recovered) end.log.entries end.done end.last end.left) (λ fault. fault ≡ OutOfMemory)
 
 -- after the events that the log told come those of the controlled run that goes on from their cell, at the moment at which the controller began
 pub record GoesOnFrom (recovered : Recovered) (end : RestEnd) : Type 0 where

@@ -35,7 +35,7 @@ session_start protocol v = session_by protocol (at_start v) (record { entries = 
 pub record IsKept (v : Control) (log : Noted) : Type 0 where
   pub shaped : IsWellShaped v.planned
   pub control : IsControl v
-  pub told : IsReplayed v.planned v.cell log.entries
+  pub replayed : IsReplayed v.planned v.cell log.entries
   pub reserved : log.reserved ≡ 2 * stated_number v.planned
 
 -- its cell, and what was accepted and ordered in the whole run

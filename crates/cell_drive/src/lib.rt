@@ -19,7 +19,7 @@ mod resume;
 mod resume_fault;
 mod session;
 mod states;
-mod told_again;
+mod v1_replay;
 
 pub use begin::{Begun, DriveEnd, begin_in, drive, drive_begun, drive_in};
 pub use byte_streams::{

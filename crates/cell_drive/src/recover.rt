@@ -16,7 +16,7 @@ ghost use Rattle.cell_drive.specs.Recovered.{IsRecoverable, replayed_events};
 ghost use Rattle.cell_drive.specs.ResumeFaults.{IsResumeFault, IsOnlyLogFault, IsRunFault, IsRefusal};
 
 use crate::lateness::late_events;
-use crate::resume_fault::{ResumeFault, WantForRest};
+use crate::resume_fault::{AllocFailure, ResumeFault};
 use byte_streams::reading_room;
 use cell_control::{RestController, RestFault, TourneyDues};
 use cell_tables::{Tables, WorkCell};
@@ -107,7 +107,7 @@ fn recover_run(
     room: Vec<u8>,
 ) -> Result<RecoveredRun, ResumeFault>
     requires at_most { IfSome at (λ present. present ≤ MAX_MOMENT) }
-    requires told { IsReplayed run.cell.plan run.cell.cell run.entries.items }
+    requires replayed { IsReplayed run.cell.plan run.cell.cell run.entries.items }
     requires reserved { vec_capacity run.entries ≡ 2 * stated_number run.cell.plan }
     requires room { vec_len room ≡ MAX_PIECE }
     ensures recovered { IfOk result (IsRecoveredFrom run.cell.plan run.entries.items at) }
@@ -216,7 +216,7 @@ fn rest_fault(fault: RestFault, cell: WorkCell<Shaped>, present: Moment) -> Resu
 {
     match fault {
         RestFault::Cycle(nodes) => ResumeFault::Refused(cell.into_basis(), Why::Cycle(nodes)),
-        fault @ RestFault::Memory => ResumeFault::from(WantForRest { fault }),
+        fault @ RestFault::Memory => ResumeFault::from(AllocFailure { fault }),
         RestFault::MomentTooLarge
         | RestFault::IncompatiblePlan
         | RestFault::Backwards { last: _ } => { unreachable!() }
@@ -238,7 +238,7 @@ fn with_due(
     requires late { AreLate controller.planned (start controller.planned) log.entries late.items }
     requires room { vec_len room ≡ MAX_PIECE }
     ensures control { result.control ≡ controller }
-    ensures told { replayed_events result ≡ log.entries }
+    ensures replayed { replayed_events result ≡ log.entries }
     ensures run { IsRecoveredRun result }
 {
     // Called for its clause alone: what holds of every such controller.

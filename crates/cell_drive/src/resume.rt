@@ -11,7 +11,7 @@ use crate::protocol::Protocol;
 use crate::recover::{RecoveredRun, Replayed};
 use crate::replay::put_replay_events;
 use crate::session::Session;
-use crate::told_again::put_told;
+use crate::v1_replay::put_v1_replay;
 use byte_streams::{BufferedSink, DriveFault, Source, stream};
 use cell_control::{Held, TourneyDues};
 use cell_tables::{Entry, Tables, WorkCell};
@@ -48,7 +48,7 @@ fn put_replay_in<W: Sink>(
         let cell = WorkCell::of_parts(run.controller.shaped(), start);
         put_replay_events(protocol, cell, entries, &run.late, writer)
     } else {
-        put_told(entries, &run.late, writer)
+        put_v1_replay(entries, &run.late, writer)
     }
 }
 
@@ -59,7 +59,7 @@ pub fn replay_in<W: Sink>(
     protocol: Protocol,
     writer: &mut W,
 ) -> Result<Replayed, DriveFault>
-    ensures told { IsReplayedIn protocol recovered (sink_state W.Sink writer.old)
+    ensures replayed { IsReplayedIn protocol recovered (sink_state W.Sink writer.old)
         (sink_state W.Sink writer.new) result }
     ensures run { IfOk result (λ run. run ≡ recovered) }
 {
@@ -71,13 +71,13 @@ pub fn replay_in<W: Sink>(
 }
 
 /// Writes an empty line, and the events behind so many.
-fn put_others<W: Sink>(entries: &[Entry], told: usize, writer: &mut W) -> Result<(), WriteFault>
-    requires { told ≤ length entries.now }
-    ensures wrote { WroteTo W.Sink result writer.old writer.new (10 ∷ entry_lines (drop told entries.now)) }
+fn put_others<W: Sink>(entries: &[Entry], replayed: usize, writer: &mut W) -> Result<(), WriteFault>
+    requires { replayed ≤ length entries.now }
+    ensures wrote { WroteTo W.Sink result writer.old writer.new (10 ∷ entry_lines (drop replayed entries.now)) }
     ensures unfailed { OnOk result (W.failed writer.new ≡ W.failed writer.old) }
 {
     put_all(writer, b"\n")?;
-    write_lines(&entries[told..], writer)
+    write_lines(&entries[replayed..], writer)
 }
 
 /// Writes an empty line, the mark, and the orders that are due.

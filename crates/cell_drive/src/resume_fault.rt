@@ -39,23 +39,23 @@ impl From<AuditFault> for ResumeFault {
     ghost use Rattle.std.specs.Prelude.{◌≡◌};
     ghost use Rattle.cell_drive.specs.ResumeFaults.{log_fault};
 
-    ghost from_gives = { λ told fault. fault ≡ log_fault told };
+    ghost from_gives = { λ cause fault. fault ≡ log_fault cause };
 
-    fn from(told: AuditFault) -> ResumeFault {
-        match told {
+    fn from(cause: AuditFault) -> ResumeFault {
+        match cause {
             AuditFault::Memory => ResumeFault::Memory,
-            _ => ResumeFault::Log(told),
+            _ => ResumeFault::Log(cause),
         }
     }
 }
 
 /// A want of memory for the rest of a run.
 #[derive(Drop)]
-pub(crate) struct WantForRest {
+pub(crate) struct AllocFailure {
     pub(crate) fault: RestFault,
 }
 
-impl Model for WantForRest {
+impl Model for AllocFailure {
     ghost use Rattle.std.specs.Prelude.{◌≡◌};
     ghost use Rattle.cell_control.specs.declared.rest_fault.RestFault.{RestFault};
     ghost use Rattle.cell_control.specs.declared.rest_fault.RestFault.TheVariants.{Memory};
@@ -67,14 +67,14 @@ impl Model for WantForRest {
     ghost invariant = { λ w. w.fault ≡ Memory };
 }
 
-impl From<WantForRest> for ResumeFault {
+impl From<AllocFailure> for ResumeFault {
     ghost use Rattle.std.specs.Prelude.{◌≡◌};
     ghost use Rattle.cell_drive.specs.declared.resume_fault.ResumeFault.TheVariants.{Memory};
 
     ghost from_gives = { λ _ fault. fault ≡ Memory };
 
-    fn from(told: WantForRest) -> ResumeFault {
-        match told.fault {
+    fn from(cause: AllocFailure) -> ResumeFault {
+        match cause.fault {
             RestFault::Memory => ResumeFault::Memory,
             RestFault::MomentTooLarge
             | RestFault::IncompatiblePlan

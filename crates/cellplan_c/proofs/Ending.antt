@@ -52,13 +52,13 @@ number_high WrongKind = omega arith
 number_high (WrongMachine actual) = omega arith
 
 -- what a refusal comes to
-pub refused_told : (old : Control) (ended : Ended) (fault : ReportFault) (number detail : ℕ) (late : Bool) (new : Control) (Taken : Type 0) → (Taken → ⊥) → Taken ↔ CanEnd old ended
-    → IsFirstFor old ended fault → IsOnlyFor old ended fault → Calls old ended new → IfGoesOnNow old ended Taken → number ≡ fault_number fault → detail ≡ fault_detail fault
+pub refused_answer : (old : Control) (ended : Ended) (fault : ReportFault) (number detail : ℕ) (late : Bool) (new : Control) (Accepted : Type 0) → (Accepted → ⊥) → Accepted ↔ CanEnd old ended
+    → IsFirstFor old ended fault → IsOnlyFor old ended fault → Calls old ended new → IfGoesOnNow old ended Accepted → number ≡ fault_number fault → detail ≡ fault_detail fault
     → IsReportAnswered number late detail old ended new
-refused_told old ended fault number detail late new Taken refused possible first only called goes number_is detail_is = record {
+refused_answer old ended fault number detail late new Accepted refused possible first only called goes number_is detail_is = record {
   possible = ((λ good. absurd (omega (arith, good, number_is, number_high fault))), λ can. absurd (refused (possible.1 can)));
   answered = λ good. absurd (omega (arith, good, number_is, number_high fault));
   reason = λ bad. (fault, number_is, detail_is, first, only);
   called = called;
-  never_refused = goes_further old ended Taken (number ≡ 0) (λ taken. absurd (refused taken)) goes;
+  never_refused = goes_further old ended Accepted (number ≡ 0) (λ taken. absurd (refused taken)) goes;
 }

@@ -38,8 +38,8 @@ module _ (old : Control) (t : ℕ) where
       let by : IsHandedOver old q t new = subst (λ (p : PlannedShop). IsHandedOver old p t new) is.0 handed in
       takes_over refl (may_take_over q new is.1 by) (acyclic q new by)
 
-  pub taken_by : (shaped : PlannedShop) (new : Control) → IsHandedOver old shaped t new → (q : PlannedShop) → IsShapedOrNot q (Ok shaped) → IsHandedOver old q t new
-  taken_by shaped new handed q is = subst (λ (p : PlannedShop). IsHandedOver old p t new) is.0 handed
+  pub handed_by : (shaped : PlannedShop) (new : Control) → IsHandedOver old shaped t new → (q : PlannedShop) → IsShapedOrNot q (Ok shaped) → IsHandedOver old q t new
+  handed_by shaped new handed q is = subst (λ (p : PlannedShop). IsHandedOver old p t new) is.0 handed
 
   -- it isn't well shaped
   pub misshapen : (fault : ShapeFault) (q : PlannedShop) → IsShapedOrNot q (Err fault) → IsHandOverStatus old q t 1

@@ -11,14 +11,14 @@ use Rattle.command_answers.specs.Plans.{IsRightOfBoth, IsPlanRefusal}
 use Rattle.command_answers.specs.Readings.{AreTextsAnswered}
 use Rattle.command_answers.specs.Statuses.{status_of}
 use Rattle.cellplan_c.specs.Calls.{IsPut, Answers, IsTextFaultReport, IsTextsReport, AreTextsReported}
-use Rattle.cellplan_c.specs.Untold.{HasNoLine}
+use Rattle.cellplan_c.specs.FaultsWithoutLine.{HasNoLine}
 
-put_told : (Is : Answer → Type 0) (told : Result Answer CommandFault) (result : ℕ) (old new : List ℕ) (needed : ℕ)
+put_result : (Is : Answer → Type 0) (told : Result Answer CommandFault) (result : ℕ) (old new : List ℕ) (needed : ℕ)
     → IfErr told (λ fault. (result ≡ status_of fault) × (needed ≡ 0) × (new ≡ old))
     → IfOk told (λ answer. IsPut answer.text.items answer.status result old new needed)
     → IfErr told (λ fault. fault ≡ Memory) → IfOk told Is → Answers result old new needed Is
-put_told Is (Err fault) result old new needed unsaid put memory is = inl (unsaid.0 ∙ ap status_of memory, unsaid.1, unsaid.2)
-put_told Is (Ok answer) result old new needed unsaid put memory is = inr (answer, is, put)
+put_result Is (Err fault) result old new needed unsaid put memory is = inl (unsaid.0 ∙ ap status_of memory, unsaid.1, unsaid.2)
+put_result Is (Ok answer) result old new needed unsaid put memory is = inr (answer, is, put)
 
 memory_no_line : (Is : Answer → Type 0) (told : Result Answer CommandFault) → IfOk told (IsTextFaultReport Memory) → IfOk told Is
 memory_no_line Is (Err fault) line = tt
@@ -122,7 +122,7 @@ module _ (instance : List ℕ) (name : Option (List ℕ)) (plan : List ℕ) (Is 
   }
     where
       answers : (Tells : Answer → Type 0) → IfOk told Tells → Answers result old new needed Tells
-      answers Tells is = put_told Tells told result old new needed unsaid put memory is
+      answers Tells is = put_result Tells told result old new needed unsaid put memory is
 
   -- what two texts are answered, told and put
   pub found_and_put : (answered told : Result Answer CommandFault) (result : ℕ) (old new : List ℕ) (needed : ℕ)

@@ -5,7 +5,7 @@ ghost use Rattle.command_answers.specs.Checks.{IsCheckLine};
 ghost use Rattle.command_answers.specs.Explains.{IsExplanation};
 ghost use Rattle.cellplan_c.specs.Told.{named};
 ghost use Rattle.cellplan_c.specs.Calls.{Answers, AreTextsReported, IsTextFaultReport};
-ghost use Rattle.cellplan_c.specs.Untold.{HasNoLine};
+ghost use Rattle.cellplan_c.specs.FaultsWithoutLine.{HasNoLine};
 
 use crate::faults::fault_answer;
 use crate::instances::name_in;

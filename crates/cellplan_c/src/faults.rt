@@ -3,7 +3,7 @@
 ghost use Rattle.std.specs.Prelude.{◌≡◌, ◌++◌, ℕ, List, IfOk, IfErr, codes};
 ghost use Rattle.command_answers.specs.declared.command_fault.CommandFault.TheVariants.{Memory};
 ghost use Rattle.cellplan_c.specs.Calls.{IsTextFaultReport};
-ghost use Rattle.cellplan_c.specs.Untold.{HasNoLine};
+ghost use Rattle.cellplan_c.specs.FaultsWithoutLine.{HasNoLine};
 
 use crate::statuses::FAULT;
 use command_answers::{Answer, CommandFault};

@@ -12,7 +12,7 @@ use Rattle.plan_decide.specs.declared.aim.Aim.{Aim}
 use Rattle.plan_decide.specs.declared.aim.Aim.TheVariants.{Promises, Least}
 use Rattle.plan_decide.specs.declared.aim.Objective.TheVariants.{Makespan, Leaving}
 use Rattle.plan_decide.specs.declared.decide_fault.DecideFault.{DecideFault}
-use Rattle.plan_decide.specs.declared.decide_fault.DecideFault.TheVariants.{JobOutOfRange, Log as LogFault, Past as EarlierMoment, MomentTooLarge, Memory as WantOfMemory}
+use Rattle.plan_decide.specs.declared.decide_fault.DecideFault.TheVariants.{JobOutOfRange, Log as LogFault, Past as EarlierMoment, MomentTooLarge, Memory as OutOfMemory}
 use Rattle.plan_decide.specs.declared.decided.Decided.{Decided}
 use Rattle.plan_decide.specs.declared.decided.Decided.TheVariants.{Kept, Best, Never, Open}
 use Rattle.plan_decide.specs.declared.decided.Within.{Within}
@@ -89,7 +89,7 @@ rest_is_answerable at lines start (Least (Leaving j)) JobOutOfRange early is = t
 rest_is_answerable at lines start aim (LogFault fault) early is = tt
 rest_is_answerable at lines start aim (EarlierMoment last) early is = tt
 rest_is_answerable at lines start aim MomentTooLarge early is = never_large at is.1.0.last early is.1.2
-rest_is_answerable at lines start aim WantOfMemory early is = tt
+rest_is_answerable at lines start aim OutOfMemory early is = tt
 
 module _ (names : NameBook) (at : Option ℕ) (lines : List (List ℕ)) (start : PlannedShop) where
   -- a line, or that memory ran out
@@ -110,4 +110,4 @@ module _ (names : NameBook) (at : Option ℕ) (lines : List (List ℕ)) (start :
       let before = past_given at why.1.0.last last why.1.2 in
       line_is aim _ outcome (λ answer line. inr (inr (inr (record { cell = why.1.0; run = why.1.1; before = before.0; line = subst (λ n. IsPastLine n answer) before.1 line })))) told
   rest_undecided_is aim MomentTooLarge outcome early why told = absurd (never_large at why.1.0.last early why.1.2)
-  rest_undecided_is aim WantOfMemory outcome early why told = subst (IsRestDecisionAnswer names at lines start aim) (sym told) tt
+  rest_undecided_is aim OutOfMemory outcome early why told = subst (IsRestDecisionAnswer names at lines start aim) (sym told) tt

@@ -7,7 +7,7 @@ use Rattle.plan_verifier.specs.declared.verdict.Verdict.TheVariants.{Accepted, R
 use Rattle.plan_verifier.specs.Verdicts.{SaysAccepted}
 use Rattle.plan_seek.specs.declared.search.TheConstants.{MAX_ROUNDS}
 use Rattle.plan_improve.specs.declared.improve_fault.ImproveFault.{ImproveFault}
-use Rattle.plan_improve.specs.declared.improve_fault.ImproveFault.TheVariants.{TooManyRounds, Log as LogFault, Past, MomentTooLarge, Memory as WantOfMemory}
+use Rattle.plan_improve.specs.declared.improve_fault.ImproveFault.TheVariants.{TooManyRounds, Log as LogFault, Past, MomentTooLarge, Memory as OutOfMemory}
 use Rattle.plan_improve.specs.Runs.{Asked}
 use Rattle.plan_verifier.specs.Seen.{judged}
 use Rattle.plan_improve.specs.Faults.{IsImproveFault}
@@ -48,7 +48,7 @@ module _ (made : Asked) (rounds : ℕ) (start : PlannedShop) where
   pub no_best_is : (fault : ImproveFault) (outcome : Result Answer CommandFault) → IsImproveFault rounds fault → IsUnfoundAnswer fault outcome → IsBestAnswer made rounds start outcome
   no_best_is TooManyRounds (Ok answer) many line = inr (record { many_rounds = many; line = line.0; refused = line.1 })
   no_best_is TooManyRounds (Err fault) many line = rw line tt
-  no_best_is WantOfMemory outcome many line = rw line tt
+  no_best_is OutOfMemory outcome many line = rw line tt
   no_best_is (LogFault fault) outcome many line = absurd many
   no_best_is (Past last) outcome many line = absurd many
   no_best_is MomentTooLarge outcome many line = absurd many

@@ -21,7 +21,7 @@ use Rattle.plan_verifier.specs.declared.verdict.Judged.TheVariants.{Accepted, Re
 use Rattle.plan_verifier.specs.declared.verdict.Why.TheVariants.{Cycle, Late}
 use Rattle.plan_verifier.specs.RestVerdicts.{IsAcceptableAhead, IsRestAccepted}
 use Rattle.plan_improve.specs.declared.improve_fault.ImproveFault.{ImproveFault}
-use Rattle.plan_improve.specs.declared.improve_fault.ImproveFault.TheVariants.{TooManyRounds, Log, Past, MomentTooLarge, Memory as WantOfMemory}
+use Rattle.plan_improve.specs.declared.improve_fault.ImproveFault.TheVariants.{TooManyRounds, Log, Past, MomentTooLarge, Memory as OutOfMemory}
 use Rattle.plan_improve.specs.RestCosts.{IsCellOf}
 use Rattle.plan_improve.specs.Faults.{IsImproveRestFault, IsMomentFault}
 use Rattle.plan_improve.specs.Improved.{HasNoRestBegin, IsFound, IsNeverWorse, IsVerdictOn, present_of}
@@ -154,7 +154,7 @@ module _ (made : RestAsked) (at : Option ℕ) (rounds : ℕ) (lines : List (List
       let before = past_given at why.1.0.last last why.1.2 in
       line_is _ outcome (λ answer line. inl (why.0, inr (inr (inr (record { cell = why.1.0; run = why.1.1; before = before.0; line = subst (λ n. IsPastLine n answer) before.1 line }))))) told
   unfound_is MomentTooLarge outcome early why told = absurd (never_large at why.1.0.last early why.1.2)
-  unfound_is WantOfMemory outcome early why told = subst (IsRestAnswer made at rounds lines start) (sym told) tt
+  unfound_is OutOfMemory outcome early why told = subst (IsRestAnswer made at rounds lines start) (sym told) tt
 
   pub not_large : (fault : ImproveFault) → IfSome at (λ n. n ≤ MAX_MOMENT) → IsImproveRestFault lines at rounds start fault → fault ≡ MomentTooLarge → ⊥
   not_large fault early why is =

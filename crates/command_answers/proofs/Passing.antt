@@ -6,7 +6,7 @@ use Rattle.orlib_read.specs.declared.named.Named.{Named}
 use Rattle.orlib_read.specs.declared.or_fault.OrFault.{OrFault}
 use Rattle.orlib_read.specs.declared.or_fault.OrFault.TheVariants.{Memory as WantOfReader}
 use Rattle.plan_text.specs.declared.plan_fault.PlanFault.{PlanFault}
-use Rattle.plan_text.specs.declared.plan_fault.PlanFault.TheVariants.{Memory as WantOfMemory}
+use Rattle.plan_text.specs.declared.plan_fault.PlanFault.TheVariants.{Memory as OutOfMemory}
 use Rattle.people_names.specs.declared.names_fault.NamesFault.{NamesFault}
 use Rattle.people_names.specs.declared.names_fault.NamesFault.TheVariants.{Memory as WantOfNames}
 use Rattle.command_answers.specs.declared.command_fault.CommandFault.{CommandFault}
@@ -29,10 +29,10 @@ passed_instance (Ok a) told fault same passed = absurd passed
 passed_instance (Err answered) WantOfReader fault same passed = rw passed tt
 passed_instance (Err answered) told fault same passed = rw passed (same (λ memory. cc memory))
 
-pub passed_plan : {A : Type 0} (answer : Result A CommandFault) (told fault : PlanFault) → (told ≢ WantOfMemory → told ≡ fault)
+pub passed_plan : {A : Type 0} (answer : Result A CommandFault) (told fault : PlanFault) → (told ≢ OutOfMemory → told ≡ fault)
     → IsErrAnd answer (λ passed. passed ≡ plan_command_fault told) → IsPlanRefusal answer fault
 passed_plan (Ok a) told fault same passed = absurd passed
-passed_plan (Err answered) WantOfMemory fault same passed = rw passed tt
+passed_plan (Err answered) OutOfMemory fault same passed = rw passed tt
 passed_plan (Err answered) told fault same passed = rw passed (same (λ memory. cc memory))
 
 pub passed_names : {A : Type 0} (answer : Result A CommandFault) (told fault : NamesFault) → (told ≢ WantOfNames → told ≡ fault)

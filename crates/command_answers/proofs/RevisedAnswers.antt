@@ -10,7 +10,7 @@ use Rattle.text_lines.specs.Lines.{ended_lines}
 use Rattle.cell_tables.specs.Events.{events_of}
 use Rattle.run_log.specs.Audits.{ParseAsRun}
 use Rattle.orlib_read.specs.declared.document.NotWritten.{NotWritten}
-use Rattle.orlib_read.specs.declared.document.NotWritten.TheVariants.{NotReadBack as NotRead, Memory as WantOfMemory}
+use Rattle.orlib_read.specs.declared.document.NotWritten.TheVariants.{NotReadBack as NotRead, Memory as OutOfMemory}
 use Rattle.plan_revise.specs.declared.change.Change.{Change}
 use Rattle.plan_revise.specs.declared.change_fault.NotRevised.{NotRevised}
 use Rattle.plan_revise.specs.declared.change_fault.NotRevised.TheVariants.{Refused, Memory as NoMemory}
@@ -71,5 +71,5 @@ module _ (shop : JobShop) where
   -- where none is written
   pub unwritten : (told : NotWritten) (description : List ℕ) (fault : CommandFault) → fault ≡ unwritten_fault told → (told ≡ NotRead → IsUnread description shop × IsUnread [] shop)
       → IsInstanceAnswer description shop (Err fault)
-  unwritten WantOfMemory description fault same unread = rw same tt
+  unwritten OutOfMemory description fault same unread = rw same tt
   unwritten NotRead description fault same unread = (let both = unread refl in rw same (refl, both.0, both.1))

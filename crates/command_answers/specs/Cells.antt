@@ -7,7 +7,7 @@ use Rattle.command_answers.specs.declared.cells.Cells.TheVariants.{Accepted as A
 use Rattle.command_answers.specs.declared.command_fault.CommandFault.{CommandFault}
 use Rattle.command_answers.specs.declared.command_fault.CommandFault.TheVariants.{Memory}
 use Rattle.command_answers.specs.declared.loading.Loaded.{Loaded}
-use Rattle.command_answers.specs.Steps.{Then, Told, IsOrMemory}
+use Rattle.command_answers.specs.Steps.{Then, Concludes, IsOrMemory}
 use Rattle.command_answers.specs.Texts.{Asks}
 use Rattle.command_answers.specs.Readings.{IsInstanceRead}
 use Rattle.command_answers.specs.Checks.{IsLineOf, IsLoaded, accepted_in}
@@ -38,7 +38,7 @@ paths_of paths = map string_bytes paths
 module _ {W : Type 0} (gives : W → List ℕ → Result (List ℕ) CommandFault → W → Type 0) where
   -- the instance is read from its text, and then the plan's file is asked for
   abbrev pub LoadsOne : List ℕ → Option (List ℕ) → List ℕ → W → Result Loaded CommandFault → W → Type 0
-  LoadsOne text name path = Then (Told (IsInstanceRead text name)) (λ named. Then (ReadsPlan gives path) (λ plan. Told (IsOrMemory (IsLoaded (record { shop = named.shop; plan = plan })))))
+  LoadsOne text name path = Then (Concludes (IsInstanceRead text name)) (λ named. Then (ReadsPlan gives path) (λ plan. Concludes (IsOrMemory (IsLoaded (record { shop = named.shop; plan = plan })))))
 
   -- the plans are loaded one after another, after these
   abbrev pub LoadsEach : List ℕ → Option (List ℕ) → List VerifiedPlan → List (List ℕ) → W → Result Cells CommandFault → W → Type 0

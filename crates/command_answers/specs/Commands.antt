@@ -15,7 +15,7 @@ use Rattle.people_names.specs.NameBooks.{NameBook}
 use Rattle.command_answers.specs.declared.answer.Answer.{Answer}
 use Rattle.command_answers.specs.declared.command_fault.CommandFault.{CommandFault}
 use Rattle.command_answers.specs.declared.loading.Loaded.{Loaded}
-use Rattle.command_answers.specs.Steps.{Then, Told, IsOrMemory}
+use Rattle.command_answers.specs.Steps.{Then, Concludes, IsOrMemory}
 use Rattle.command_answers.specs.Texts.{Asks}
 use Rattle.command_answers.specs.Naming.{ReadsNames}
 use Rattle.command_answers.specs.Readings.{IsInstanceRead, IsPlanRead, AreFactsAnswered}
@@ -52,15 +52,15 @@ pub record PairOfFiles : Type 0 where
 module _ {W : Type 0} (gives : W → List ℕ → Result (List ℕ) CommandFault → W → Type 0) where
   -- the file of an instance is asked for, and then read
   abbrev pub ReadsInstance : List ℕ → Option (List ℕ) → W → Result Named CommandFault → W → Type 0
-  ReadsInstance path name = Then (Asks gives path) (λ text. Told (IsInstanceRead text name))
+  ReadsInstance path name = Then (Asks gives path) (λ text. Concludes (IsInstanceRead text name))
 
   -- the file of a plan is asked for, and then read
   abbrev pub ReadsPlan : List ℕ → W → Result ShopPlan CommandFault → W → Type 0
-  ReadsPlan path = Then (Asks gives path) (λ text. Told (IsPlanRead text))
+  ReadsPlan path = Then (Asks gives path) (λ text. Concludes (IsPlanRead text))
 
   -- both are read, the instance before the plan is asked for
   abbrev pub ReadsBoth : PairOfFiles → W → Result PlannedShop CommandFault → W → Type 0
-  ReadsBoth pair = Then (ReadsInstance pair.path pair.name) (λ named. Then (ReadsPlan pair.plan) (λ plan. Told (λ read. read ≡ Ok (record { shop = named.shop; plan = plan }))))
+  ReadsBoth pair = Then (ReadsInstance pair.path pair.name) (λ named. Then (ReadsPlan pair.plan) (λ plan. Concludes (λ read. read ≡ Ok (record { shop = named.shop; plan = plan }))))
 
   -- both are read, and then there is this step
   abbrev pub WithBoth : {B : Type 0} → PairOfFiles → (PlannedShop → W → Result B CommandFault → W → Type 0) → W → Result B CommandFault → W → Type 0
@@ -68,36 +68,36 @@ module _ {W : Type 0} (gives : W → List ℕ → Result (List ℕ) CommandFault
 
   -- `facts`: the file of the instance is asked for, and its facts are answered
   abbrev pub RunsFacts : List ℕ → Option (List ℕ) → W → Result Answer CommandFault → W → Type 0
-  RunsFacts path name = Then (Asks gives path) (λ text. Told (AreFactsAnswered text name))
+  RunsFacts path name = Then (Asks gives path) (λ text. Concludes (AreFactsAnswered text name))
 
   -- `shape`: both are read, and whether the plan is well shaped is answered
   abbrev pub RunsShape : PairOfFiles → W → Result Answer CommandFault → W → Type 0
-  RunsShape pair = WithBoth pair (λ p. Told (IsOrMemory (IsShapeLine p)))
+  RunsShape pair = WithBoth pair (λ p. Concludes (IsOrMemory (IsShapeLine p)))
 
   -- `digest`: both are read, and the digits of a well-shaped plan and its shop are answered
   abbrev pub RunsDigest : PairOfFiles → W → Result Answer CommandFault → W → Type 0
-  RunsDigest pair = WithBoth pair (λ p. Told (IsOrMemory (IsDigestAnswer p)))
+  RunsDigest pair = WithBoth pair (λ p. Concludes (IsOrMemory (IsDigestAnswer p)))
 
   -- `check`: both are read, and the verdict is answered
   abbrev pub RunsCheck : PairOfFiles → W → Result Answer CommandFault → W → Type 0
-  RunsCheck pair = WithBoth pair (λ p. Told (IsOrMemory (IsCheckLine p)))
+  RunsCheck pair = WithBoth pair (λ p. Concludes (IsOrMemory (IsCheckLine p)))
 
   -- where a plan is well shaped there is this step; else its first fault is answered
   abbrev pub IfShaped : PlannedShop → (W → Result Answer CommandFault → W → Type 0) → W → Result Answer CommandFault → W → Type 0
-  IfShaped p next before outcome after = (IsWellShaped p × next before outcome after) ⊎ Told (IsOrMemory (IsNotShapedLine p)) before outcome after
+  IfShaped p next before outcome after = (IsWellShaped p × next before outcome after) ⊎ Concludes (IsOrMemory (IsNotShapedLine p)) before outcome after
 
   -- where the job that is asked for is one of the shop, or none is asked for, there is this step; else its line is answered
   abbrev pub IfThere : Option ℕ → PlannedShop → (W → Result Answer CommandFault → W → Type 0) → W → Result Answer CommandFault → W → Type 0
   IfThere None p next before outcome after = next before outcome after
-  IfThere (Some j) p next before outcome after = ((j < jobs p) × next before outcome after) ⊎ ((jobs p ≤ j) × Told (IsOrMemory (IsNoJobLine j)) before outcome after)
+  IfThere (Some j) p next before outcome after = ((j < jobs p) × next before outcome after) ⊎ ((jobs p ≤ j) × Concludes (IsOrMemory (IsNoJobLine j)) before outcome after)
 
   -- names for the plan's shop are read, and then this comes of them
   abbrev pub WithNames : {B : Type 0} → Option (List ℕ) → PlannedShop → (NameBook → Result B CommandFault → Type 0) → W → Result B CommandFault → W → Type 0
-  WithNames names p Comes = Then (ReadsNames gives names p) (λ book. Told (Comes book))
+  WithNames names p Comes = Then (ReadsNames gives names p) (λ book. Concludes (Comes book))
 
   -- so names and then a log
   abbrev pub WithNamesAndLog : {B : Type 0} → Option (List ℕ) → List ℕ → PlannedShop → (NameBook → List ℕ → B → Type 0) → W → Result B CommandFault → W → Type 0
-  WithNamesAndLog names path p IsLine = Then (ReadsNames gives names p) (λ book. Then (Asks gives path) (λ log. Told (IsOrMemory (IsLine book log))))
+  WithNamesAndLog names path p IsLine = Then (ReadsNames gives names p) (λ book. Then (Asks gives path) (λ log. Concludes (IsOrMemory (IsLine book log))))
 
   -- `explain`: both are read, then the names, and the verdict is explained
   abbrev pub RunsExplain : PairOfFiles → Option (List ℕ) → Option ℕ → W → Result Answer CommandFault → W → Type 0
@@ -113,7 +113,7 @@ module _ {W : Type 0} (gives : W → List ℕ → Result (List ℕ) CommandFault
 
   -- where the numbers of a plan are sound, whatever its orders, there is this step; else their first fault is answered
   abbrev pub IfSound : PlannedShop → (W → Result Answer CommandFault → W → Type 0) → W → Result Answer CommandFault → W → Type 0
-  IfSound p next before outcome after = (IsWellShaped (serially p) × next before outcome after) ⊎ Told (IsOrMemory (IsBadNumbersLine p)) before outcome after
+  IfSound p next before outcome after = (IsWellShaped (serially p) × next before outcome after) ⊎ Concludes (IsOrMemory (IsBadNumbersLine p)) before outcome after
 
   -- so names are read, and then this comes of them
   abbrev pub WithSoundNames : (NameBook → Result Answer CommandFault → Type 0) → Option (List ℕ) → PlannedShop → W → Result Answer CommandFault → W → Type 0
@@ -129,15 +129,15 @@ module _ {W : Type 0} (gives : W → List ℕ → Result (List ℕ) CommandFault
 
   -- both are read, and what is to be said of the plan is found
   abbrev pub Loads : PairOfFiles → W → Result Loaded CommandFault → W → Type 0
-  Loads pair = WithBoth pair (λ p. Told (IsOrMemory (IsLoaded p)))
+  Loads pair = WithBoth pair (λ p. Concludes (IsOrMemory (IsLoaded p)))
 
   -- both are read, and it is found whether the plan is well shaped
   abbrev pub Shapes : PairOfFiles → W → Result (Result PlannedShop ShapeFault) CommandFault → W → Type 0
-  Shapes pair = WithBoth pair (λ p. Told (IsOrMemory (IsShapedOrNot p)))
+  Shapes pair = WithBoth pair (λ p. Concludes (IsOrMemory (IsShapedOrNot p)))
 
   -- `plan`: both are read, and the search for a plan with these numbers is answered
   abbrev pub RunsPlan : (PlanTask → PlanSearch) → ℕ → PairOfFiles → W → Result Answer CommandFault → W → Type 0
-  RunsPlan search rounds pair = WithBoth pair (λ p. Told (IsSearchAnswer (search (task_in p)) rounds))
+  RunsPlan search rounds pair = WithBoth pair (λ p. Concludes (IsSearchAnswer (search (task_in p)) rounds))
 
   -- the same with these proposers, by what each of them may propose
   abbrev pub RunsPlanWith : {B : Type 0} → (B → JobShop → ℕ → Proposal → Type 0) → List B → ℕ → PairOfFiles → W → Result Answer CommandFault → W → Type 0
@@ -145,7 +145,7 @@ module _ {W : Type 0} (gives : W → List ℕ → Result (List ℕ) CommandFault
 
   -- `improve`: both are read, and what the search from this plan comes to is answered, or from the serial plan where it has no orders at all
   abbrev pub RunsImprove : Asked → ℕ → PairOfFiles → W → Result Answer CommandFault → W → Type 0
-  RunsImprove made rounds pair = WithBoth pair (λ p. Told (IsImproveAnswer made rounds (ordered p)))
+  RunsImprove made rounds pair = WithBoth pair (λ p. Concludes (IsImproveAnswer made rounds (ordered p)))
 
   -- `decide`: both are read, then the names, and what is decided of the plan's budgets is answered
   abbrev pub RunsDecide : Aim → PairOfFiles → Option (List ℕ) → W → Result Answer CommandFault → W → Type 0
@@ -153,7 +153,7 @@ module _ {W : Type 0} (gives : W → List ℕ → Result (List ℕ) CommandFault
 
   -- the log of a well-shaped plan is asked for, and then this comes of it; any other plan is answered by its first fault
   abbrev pub WithLogOf : (PlannedShop → List ℕ → Result Answer CommandFault → Type 0) → List ℕ → PlannedShop → W → Result Answer CommandFault → W → Type 0
-  WithLogOf Comes path p = IfShaped p (Then (Asks gives path) (λ log. Told (Comes p log)))
+  WithLogOf Comes path p = IfShaped p (Then (Asks gives path) (λ log. Concludes (Comes p log)))
 
   -- `audit` and `gantt`: both are read, then the names, and then the log
   abbrev pub RunsLog : LogAnswer → PairOfFiles → Option (List ℕ) → List ℕ → W → Result Answer CommandFault → W → Type 0
@@ -175,8 +175,8 @@ module _ {W : Type 0} (gives : W → List ℕ → Result (List ℕ) CommandFault
   -- `decide` of the rest of a run: both are read, then the names, and then its log
   abbrev pub WithRestDecision : Aim → Option ℕ → Option (List ℕ) → List ℕ → PlannedShop → W → Result Answer CommandFault → W → Type 0
   WithRestDecision aim at names path p before outcome after =
-      (IsWellShaped p × Then (ReadsNames gives names p) (λ book. Then (Asks gives path) (λ log. Told (IsRestDecisionAnswer book at (ended_lines log) p aim))) before outcome after)
-      ⊎ Told (IsOrMemory (IsUnfitLine p)) before outcome after
+      (IsWellShaped p × Then (ReadsNames gives names p) (λ book. Then (Asks gives path) (λ log. Concludes (IsRestDecisionAnswer book at (ended_lines log) p aim))) before outcome after)
+      ⊎ Concludes (IsOrMemory (IsUnfitLine p)) before outcome after
 
   abbrev pub RunsDecideRest : Aim → Option ℕ → PairOfFiles → Option (List ℕ) → List ℕ → W → Result Answer CommandFault → W → Type 0
   RunsDecideRest aim at pair names log = WithBoth pair (λ p. WithRestDecision aim at names log (ordered p))

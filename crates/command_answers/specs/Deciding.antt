@@ -9,7 +9,7 @@ use Rattle.plan_decide.specs.declared.aim.Aim.{Aim}
 use Rattle.plan_decide.specs.declared.aim.Aim.TheVariants.{Promises, Least}
 use Rattle.plan_decide.specs.declared.aim.Objective.TheVariants.{Makespan, Leaving}
 use Rattle.plan_decide.specs.declared.decide_fault.DecideFault.{DecideFault}
-use Rattle.plan_decide.specs.declared.decide_fault.DecideFault.TheVariants.{JobOutOfRange, Log, Past, MomentTooLarge, Memory as WantOfMemory}
+use Rattle.plan_decide.specs.declared.decide_fault.DecideFault.TheVariants.{JobOutOfRange, Log, Past, MomentTooLarge, Memory as OutOfMemory}
 use Rattle.plan_decide.specs.declared.decided.Decided.{Decided}
 use Rattle.plan_decide.specs.declared.decided.Decided.TheVariants.{Kept, Best, Never, Open}
 use Rattle.plan_decide.specs.declared.decided.Within.{Within}
@@ -64,7 +64,7 @@ pub record IsOutOfRangeLine (t : Case) (aim : Aim) (answer : Answer) : Type 0 wh
 
 -- the fault of a command that the decision's is, if memory ran out
 abbrev pub decide_command_fault : DecideFault → Option CommandFault
-decide_command_fault WantOfMemory = Some Memory
+decide_command_fault OutOfMemory = Some Memory
 decide_command_fault fault = None
 
 -- what is printed where the numbers are sound
@@ -121,4 +121,4 @@ IsUndecidedAnswer aim JobOutOfRange outcome = IsOrMemory (IsLineRefused (out_of_
 IsUndecidedAnswer aim (Log fault) outcome = IsLogFaultAnswer fault outcome
 IsUndecidedAnswer aim (Past last) outcome = IsOrMemory (IsPastLine last) outcome
 IsUndecidedAnswer aim MomentTooLarge outcome = Unit {0}
-IsUndecidedAnswer aim WantOfMemory outcome = outcome ≡ Err Memory
+IsUndecidedAnswer aim OutOfMemory outcome = outcome ≡ Err Memory

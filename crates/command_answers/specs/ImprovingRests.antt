@@ -21,7 +21,7 @@ use Rattle.plan_verifier.specs.declared.verdict.Judged.TheVariants.{Accepted, Re
 use Rattle.plan_verifier.specs.declared.verdict.Why.TheVariants.{Cycle, Late}
 use Rattle.plan_verifier.specs.RestVerdicts.{IsAcceptableAhead}
 use Rattle.plan_improve.specs.declared.improve_fault.ImproveFault.{ImproveFault}
-use Rattle.plan_improve.specs.declared.improve_fault.ImproveFault.TheVariants.{TooManyRounds, Log, Past, MomentTooLarge, Memory as WantOfMemory}
+use Rattle.plan_improve.specs.declared.improve_fault.ImproveFault.TheVariants.{TooManyRounds, Log, Past, MomentTooLarge, Memory as OutOfMemory}
 use Rattle.plan_improve.specs.RestCosts.{IsCellOf}
 use Rattle.plan_improve.specs.Improved.{HasNoRestBegin, IsFound, IsNeverWorse, present_of}
 use Rattle.command_answers.specs.declared.answer.Answer.{Answer}
@@ -115,7 +115,7 @@ IsJudgedAnswer best (Refused (Late job leaves chain times)) outcome = IsDocument
 
 -- the fault of a command that the search's is, if memory ran out
 abbrev pub improve_command_fault : ImproveFault → Option CommandFault
-improve_command_fault WantOfMemory = Some Memory
+improve_command_fault OutOfMemory = Some Memory
 improve_command_fault fault = None
 
 -- what is answered where no plan is given
@@ -124,4 +124,4 @@ IsUnfoundAnswer TooManyRounds outcome = IsOrMemory (λ answer. (answer.text.item
 IsUnfoundAnswer (Log fault) outcome = IsLogFaultAnswer fault outcome
 IsUnfoundAnswer (Past last) outcome = IsOrMemory (IsPastLine last) outcome
 IsUnfoundAnswer MomentTooLarge outcome = Unit {0}
-IsUnfoundAnswer WantOfMemory outcome = outcome ≡ Err Memory
+IsUnfoundAnswer OutOfMemory outcome = outcome ≡ Err Memory

@@ -2,7 +2,7 @@
 use Rattle.std.specs.Prelude.{◌≡◌, ◌≢◌, ℕ, List, Option, None, Some, Result, Ok, Err}
 use Rattle.shop_base.specs.Shop.{JobShop}
 use Rattle.orlib_read.specs.declared.or_fault.OrFault.{OrFault}
-use Rattle.orlib_read.specs.declared.or_fault.OrFault.TheVariants.{Memory as WantOfMemory}
+use Rattle.orlib_read.specs.declared.or_fault.OrFault.TheVariants.{Memory as OutOfMemory}
 use Rattle.orlib_read.specs.Instance.{IsInstance, IsInstanceOf}
 use Rattle.orlib_read.specs.Faults.{IsInstanceFault, IsInstanceOfFault}
 use Rattle.command_answers.specs.declared.command_fault.CommandFault.{CommandFault}
@@ -20,12 +20,12 @@ IsFirstInstanceFault text (Some name) fault = IsInstanceOfFault text name fault
 
 -- the fault of a reader of instances as a command's
 abbrev pub instance_command_fault : OrFault → CommandFault
-instance_command_fault WantOfMemory = Memory
+instance_command_fault OutOfMemory = Memory
 instance_command_fault fault = Instance fault
 
 -- the fault is the text's, or that memory ran out
 abbrev pub IsRightInstanceFault : List ℕ → Option (List ℕ) → CommandFault → Type 0
-IsRightInstanceFault text name (Instance fault) = (fault ≢ WantOfMemory) × IsFirstInstanceFault text name fault
+IsRightInstanceFault text name (Instance fault) = (fault ≢ OutOfMemory) × IsFirstInstanceFault text name fault
 IsRightInstanceFault text name Memory = Unit {0}
 IsRightInstanceFault text name other = ⊥
 

@@ -11,7 +11,7 @@ use Rattle.people_names.specs.NameBooks.{NameBook}
 use Rattle.run_gantt.specs.GanttText.{gantt_text}
 use Rattle.command_answers.specs.declared.answer.Answer.{Answer}
 use Rattle.command_answers.specs.declared.command_fault.CommandFault.{CommandFault}
-use Rattle.command_answers.specs.declared.command_fault.CommandFault.TheVariants.{Memory as WantOfMemory}
+use Rattle.command_answers.specs.declared.command_fault.CommandFault.TheVariants.{Memory as OutOfMemory}
 use Rattle.command_answers.specs.declared.logs.LogAnswer.{LogAnswer}
 use Rattle.command_answers.specs.declared.logs.LogAnswer.TheVariants.{Numbers, Drawing}
 use Rattle.command_answers.specs.Steps.{IsOrMemory}
@@ -59,10 +59,10 @@ IsLogLine names wanted p log answer = IsLogKept names wanted p log answer ⊎ Is
 
 -- the fault of a command that the audit's is, if memory ran out
 abbrev pub audit_command_fault : AuditFault → Option CommandFault
-audit_command_fault Memory = Some WantOfMemory
+audit_command_fault Memory = Some OutOfMemory
 audit_command_fault fault = None
 
 -- out of memory is a fault of the command, and any other fault is answered by its line, unless memory runs out
 abbrev pub IsLogFaultAnswer : AuditFault → Result Answer CommandFault → Type 0
-IsLogFaultAnswer Memory outcome = outcome ≡ Err WantOfMemory
+IsLogFaultAnswer Memory outcome = outcome ≡ Err OutOfMemory
 IsLogFaultAnswer fault outcome = IsOrMemory (IsFaultLine fault) outcome

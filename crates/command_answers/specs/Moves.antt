@@ -14,7 +14,7 @@ use Rattle.plan_moves.specs.MovesFrom.{AreMovesFrom}
 use Rattle.plan_moves.specs.MoveLines.{move_lines}
 use Rattle.command_answers.specs.declared.answer.Answer.{Answer}
 use Rattle.command_answers.specs.declared.command_fault.CommandFault.{CommandFault}
-use Rattle.command_answers.specs.declared.command_fault.CommandFault.TheVariants.{Memory as WantOfMemory}
+use Rattle.command_answers.specs.declared.command_fault.CommandFault.TheVariants.{Memory as OutOfMemory}
 use Rattle.command_answers.specs.Rests.{IsLogAnswer, rest_status}
 
 -- a line for each of the moves from cell c and moment t on
@@ -29,7 +29,7 @@ AreLinesBelow names p c t lines = (HasCycle p × (lines ≡ [])) ⊎ ((HasCycle 
 
 -- the fault of a command that a fault of the moves is, if memory ran out
 abbrev pub moves_command_fault : RestFault → Option CommandFault
-moves_command_fault Memory = Some WantOfMemory
+moves_command_fault Memory = Some OutOfMemory
 moves_command_fault fault = None
 
 -- what is told of the moves from cell c and moment t on: the first line of the verdict on the rest, with its status, and the moves below it

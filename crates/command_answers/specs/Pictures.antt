@@ -29,7 +29,7 @@ use Rattle.command_answers.specs.declared.answer.Answer.{Answer}
 use Rattle.command_answers.specs.declared.command_fault.CommandFault.{CommandFault}
 use Rattle.command_answers.specs.declared.pictures.Drawn.{Drawn}
 use Rattle.command_answers.specs.declared.pictures.Drawn.TheVariants.{Picture, Line}
-use Rattle.command_answers.specs.Steps.{Told, IsOrMemory}
+use Rattle.command_answers.specs.Steps.{Concludes, IsOrMemory}
 use Rattle.command_answers.specs.Shapes.{IsNotShapedLine}
 use Rattle.command_answers.specs.LogLines.{IsLogRefused}
 use Rattle.command_answers.specs.Rests.{IsPastLine, present_at}
@@ -131,7 +131,7 @@ IsRestDrawing at names p log drawn = IsRestOfLogDrawn at names p log drawn ⊎ I
 
 -- where a plan is well shaped there is this step; else the line of its first fault
 abbrev pub IfDrawable : {W : Type 0} → PlannedShop → (W → Result Drawn CommandFault → W → Type 0) → W → Result Drawn CommandFault → W → Type 0
-IfDrawable p next before outcome after = (IsWellShaped p × next before outcome after) ⊎ Told (IsOrMemory (IsUnshapedDrawn p)) before outcome after
+IfDrawable p next before outcome after = (IsWellShaped p × next before outcome after) ⊎ Concludes (IsOrMemory (IsUnshapedDrawn p)) before outcome after
 
 module _ {W : Type 0} (gives : W → List ℕ → Result (List ℕ) CommandFault → W → Type 0) where
   -- `gantt --svg`: both are read, then the names, and then the log

@@ -3,7 +3,7 @@ use Rattle.std.specs.Prelude.{◌≡◌, ◌≢◌, ℕ, List, Option, Result, O
 use Rattle.shop_base.specs.Shop.{JobShop}
 use Rattle.shop_base.specs.Plan.{PlannedShop}
 use Rattle.plan_text.specs.declared.plan_fault.PlanFault.{PlanFault}
-use Rattle.plan_text.specs.declared.plan_fault.PlanFault.TheVariants.{Memory as WantOfMemory}
+use Rattle.plan_text.specs.declared.plan_fault.PlanFault.TheVariants.{Memory as OutOfMemory}
 use Rattle.plan_text.specs.Documents.{IsPlanText, IsFirstPlanFault}
 use Rattle.command_answers.specs.declared.command_fault.CommandFault.{CommandFault}
 use Rattle.command_answers.specs.declared.command_fault.CommandFault.TheVariants.{Instance, Plan, Memory}
@@ -11,12 +11,12 @@ use Rattle.command_answers.specs.Instances.{ParsesAs, IsRightInstanceFault}
 
 -- the fault of the reader of plans as a command's
 abbrev pub plan_command_fault : PlanFault → CommandFault
-plan_command_fault WantOfMemory = Memory
+plan_command_fault OutOfMemory = Memory
 plan_command_fault fault = Plan fault
 
 -- the fault is the plan text's, or that memory ran out
 abbrev pub IsRightPlanFault : List ℕ → CommandFault → Type 0
-IsRightPlanFault text (Plan fault) = (fault ≢ WantOfMemory) × IsFirstPlanFault text fault
+IsRightPlanFault text (Plan fault) = (fault ≢ OutOfMemory) × IsFirstPlanFault text fault
 IsRightPlanFault text Memory = Unit {0}
 IsRightPlanFault text other = ⊥
 

@@ -13,7 +13,7 @@ use Rattle.run_log.specs.Audits.{ParseAsRun}
 use Rattle.orlib_read.specs.Instance.{IsInstance}
 use Rattle.orlib_read.specs.Lines.{instance_lines}
 use Rattle.orlib_read.specs.declared.document.NotWritten.{NotWritten}
-use Rattle.orlib_read.specs.declared.document.NotWritten.TheVariants.{NotReadBack as NotRead, Memory as WantOfMemory}
+use Rattle.orlib_read.specs.declared.document.NotWritten.TheVariants.{NotReadBack as NotRead, Memory as OutOfMemory}
 use Rattle.plan_text.specs.declared.plan_fault.PlanFault.TheVariants.{NotReadBack}
 use Rattle.plan_revise.specs.declared.change.Change.{Change}
 use Rattle.plan_revise.specs.declared.change.Change.TheVariants.{Until, Add, Scrap, Down}
@@ -63,7 +63,7 @@ change_refused_line change value fault = codes "change refused " ++ change_word 
 
 -- the fault of a command where no instance is written
 abbrev pub unwritten_fault : NotWritten → CommandFault
-unwritten_fault WantOfMemory = Memory
+unwritten_fault OutOfMemory = Memory
 unwritten_fault NotRead = Plan NotReadBack
 
 -- why nothing is changed, of which want of memory is a fault of the command

@@ -5,7 +5,7 @@ use Rattle.plan_text.specs.declared.plan_fault.PlanFault.TheVariants.{NotReadBac
 use Rattle.plan_text.specs.Lines.{plan_lines}
 use Rattle.plan_text.specs.Documents.{IsPlanText}
 use Rattle.plan_seek.specs.declared.seek_fault.SeekFault.{SeekFault}
-use Rattle.plan_seek.specs.declared.seek_fault.SeekFault.TheVariants.{BadNumbers, Exhausted, TooManyRounds, Memory as WantOfMemory}
+use Rattle.plan_seek.specs.declared.seek_fault.SeekFault.TheVariants.{BadNumbers, Exhausted, TooManyRounds, Memory as OutOfMemory}
 use Rattle.plan_seek.specs.Tasks.{with_order, IsAccepted}
 use Rattle.plan_seek.specs.Turns.{PlanSearch}
 use Rattle.plan_seek.specs.Search.{IsSought, IsSeekFault}
@@ -29,7 +29,7 @@ pub record IsFoundText (s : PlanSearch) (rounds : ℕ) (answer : Answer) : Type 
 
 -- the fault of a command that the search's is, if memory ran out
 abbrev pub search_command_fault : SeekFault → Option CommandFault
-search_command_fault WantOfMemory = Some Memory
+search_command_fault OutOfMemory = Some Memory
 search_command_fault fault = None
 
 -- the line that says why there is no plan
@@ -37,7 +37,7 @@ abbrev pub IsNoPlanLine : SeekFault → Answer → Type 0
 IsNoPlanLine (BadNumbers fault) answer = IsLineOfFault (codes "bad numbers ") answer
 IsNoPlanLine Exhausted answer = (answer.text.items ≡ codes "exhausted\n") × (answer.status ≡ 1)
 IsNoPlanLine TooManyRounds answer = (answer.text.items ≡ codes "too many rounds\n") × (answer.status ≡ 1)
-IsNoPlanLine WantOfMemory answer = ⊥
+IsNoPlanLine OutOfMemory answer = ⊥
 
 -- what is answered where there is no plan: the line that says why, or that memory ran out
 abbrev pub IsNoPlanAnswer : SeekFault → Result Answer CommandFault → Type 0

@@ -17,8 +17,8 @@ pub record Then {W A B : Type 0} (first : W → Result A CommandFault → W → 
   pub goes_on : GoesOn next came mid outcome after
 
 -- a step that asks for nothing outside
-abbrev pub Told : {W A : Type 0} → (Result A CommandFault → Type 0) → W → Result A CommandFault → W → Type 0
-Told Is before outcome after = Is outcome × (after ≡ before)
+abbrev pub Concludes : {W A : Type 0} → (Result A CommandFault → Type 0) → W → Result A CommandFault → W → Type 0
+Concludes Is before outcome after = Is outcome × (after ≡ before)
 
 -- the answer is one of these, or memory ran out
 abbrev pub IsOrMemory : {A : Type 0} → (A → Type 0) → Result A CommandFault → Type 0

@@ -77,43 +77,43 @@ impl From<io::Error> for CommandFault {
 }
 
 impl From<OrFault> for CommandFault {
-    ghost from_gives = { λ told fault. fault ≡ instance_command_fault told };
+    ghost from_gives = { λ cause fault. fault ≡ instance_command_fault cause };
 
-    fn from(told: OrFault) -> CommandFault {
-        match told {
+    fn from(cause: OrFault) -> CommandFault {
+        match cause {
             OrFault::Memory => CommandFault::Memory,
-            _ => CommandFault::Instance(told),
+            _ => CommandFault::Instance(cause),
         }
     }
 }
 
 impl From<PlanFault> for CommandFault {
-    ghost from_gives = { λ told fault. fault ≡ plan_command_fault told };
+    ghost from_gives = { λ cause fault. fault ≡ plan_command_fault cause };
 
-    fn from(told: PlanFault) -> CommandFault {
-        match told {
+    fn from(cause: PlanFault) -> CommandFault {
+        match cause {
             PlanFault::Memory => CommandFault::Memory,
-            _ => CommandFault::Plan(told),
+            _ => CommandFault::Plan(cause),
         }
     }
 }
 
 impl From<NamesFault> for CommandFault {
-    ghost from_gives = { λ told fault. fault ≡ names_command_fault told };
+    ghost from_gives = { λ cause fault. fault ≡ names_command_fault cause };
 
-    fn from(told: NamesFault) -> CommandFault {
-        match told {
+    fn from(cause: NamesFault) -> CommandFault {
+        match cause {
             NamesFault::Memory => CommandFault::Memory,
-            _ => CommandFault::Names(told),
+            _ => CommandFault::Names(cause),
         }
     }
 }
 
 impl From<NotWritten> for CommandFault {
-    ghost from_gives = { λ told fault. fault ≡ unwritten_fault told };
+    ghost from_gives = { λ cause fault. fault ≡ unwritten_fault cause };
 
-    fn from(told: NotWritten) -> CommandFault {
-        match told {
+    fn from(cause: NotWritten) -> CommandFault {
+        match cause {
             NotWritten::Memory => CommandFault::Memory,
             NotWritten::NotReadBack => CommandFault::Plan(PlanFault::NotReadBack),
         }
@@ -128,10 +128,10 @@ pub(crate) enum Unrevised {
 }
 
 impl From<NotRevised> for Unrevised {
-    ghost from_gives = { λ told unrevised. unrevised ≡ unrevised_of told };
+    ghost from_gives = { λ cause unrevised. unrevised ≡ unrevised_of cause };
 
-    fn from(told: NotRevised) -> Unrevised {
-        match told {
+    fn from(cause: NotRevised) -> Unrevised {
+        match cause {
             NotRevised::Memory => Unrevised::Ends(CommandFault::Memory),
             NotRevised::Refused { change, fault } => Unrevised::Refused { change, fault },
         }
@@ -144,10 +144,10 @@ impl From<NotRevised> for Unrevised {
 pub(crate) struct Unanswered(pub Option<CommandFault>);
 
 impl From<SeekFault> for Unanswered {
-    ghost from_gives = { λ told unanswered. unanswered.0 ≡ search_command_fault told };
+    ghost from_gives = { λ cause unanswered. unanswered.0 ≡ search_command_fault cause };
 
-    fn from(told: SeekFault) -> Unanswered {
-        match told {
+    fn from(cause: SeekFault) -> Unanswered {
+        match cause {
             SeekFault::Memory => Unanswered(Some(CommandFault::Memory)),
             _ => Unanswered(None),
         }
@@ -155,10 +155,10 @@ impl From<SeekFault> for Unanswered {
 }
 
 impl From<ImproveFault> for Unanswered {
-    ghost from_gives = { λ told unanswered. unanswered.0 ≡ improve_command_fault told };
+    ghost from_gives = { λ cause unanswered. unanswered.0 ≡ improve_command_fault cause };
 
-    fn from(told: ImproveFault) -> Unanswered {
-        match told {
+    fn from(cause: ImproveFault) -> Unanswered {
+        match cause {
             ImproveFault::Memory => Unanswered(Some(CommandFault::Memory)),
             _ => Unanswered(None),
         }
@@ -166,10 +166,10 @@ impl From<ImproveFault> for Unanswered {
 }
 
 impl From<DecideFault> for Unanswered {
-    ghost from_gives = { λ told unanswered. unanswered.0 ≡ decide_command_fault told };
+    ghost from_gives = { λ cause unanswered. unanswered.0 ≡ decide_command_fault cause };
 
-    fn from(told: DecideFault) -> Unanswered {
-        match told {
+    fn from(cause: DecideFault) -> Unanswered {
+        match cause {
             DecideFault::Memory => Unanswered(Some(CommandFault::Memory)),
             _ => Unanswered(None),
         }
@@ -177,10 +177,10 @@ impl From<DecideFault> for Unanswered {
 }
 
 impl From<AuditFault> for Unanswered {
-    ghost from_gives = { λ told unanswered. unanswered.0 ≡ audit_command_fault told };
+    ghost from_gives = { λ cause unanswered. unanswered.0 ≡ audit_command_fault cause };
 
-    fn from(told: AuditFault) -> Unanswered {
-        match told {
+    fn from(cause: AuditFault) -> Unanswered {
+        match cause {
             AuditFault::Memory => Unanswered(Some(CommandFault::Memory)),
             _ => Unanswered(None),
         }
@@ -188,10 +188,10 @@ impl From<AuditFault> for Unanswered {
 }
 
 impl From<RestFault> for Unanswered {
-    ghost from_gives = { λ told unanswered. unanswered.0 ≡ moves_command_fault told };
+    ghost from_gives = { λ cause unanswered. unanswered.0 ≡ moves_command_fault cause };
 
-    fn from(told: RestFault) -> Unanswered {
-        match told {
+    fn from(cause: RestFault) -> Unanswered {
+        match cause {
             RestFault::Memory => Unanswered(Some(CommandFault::Memory)),
             _ => Unanswered(None),
         }

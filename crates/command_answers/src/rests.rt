@@ -110,13 +110,13 @@ fn answer_rest_of_log(
     ensures { IsOrMemory (IsRestLine names.now wanted at shaped log.now) result }
 {
     match run_of_log(alloc, shaped, log) {
-        Ok(run) => Ok(cell_told(alloc, names, &run.cell, at, wanted)?),
+        Ok(run) => Ok(cell_answered(alloc, names, &run.cell, at, wanted)?),
         Err(fault) => log_fault_answer(alloc, fault),
     }
 }
 
 /// What is answered for the rest from a cell on, if the present moment isn't before its last one.
-fn cell_told(
+fn cell_answered(
     alloc: Global,
     names: &Names,
     cell: &WorkCell<Shaped>,

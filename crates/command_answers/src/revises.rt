@@ -170,7 +170,7 @@ fn changed(
 {
     match revise(alloc, cell, present, wanted.changes) {
         Ok(shaped) => printed(alloc, &shaped, description, wanted.prints),
-        Err(told) => unrevised(alloc, Unrevised::from(told), wanted),
+        Err(cause) => unrevised(alloc, Unrevised::from(cause), wanted),
     }
 }
 

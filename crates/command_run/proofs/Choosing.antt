@@ -24,12 +24,12 @@ module _ {W : Type 0} (gives : W → List ℕ → Result (List ℕ) CommandFault
       (subst (λ (m : Protocol). RunsLoggedDrive gives before.folder after.folder path chosen.start m chosen.at (pair_in chosen) before.texts (step_of before.streams outcome mid end) after.texts) same_manner
       (subst (λ (q : PairOfFiles). RunsLoggedDrive gives before.folder after.folder path chosen.start protocol chosen.at q before.texts (step_of before.streams outcome mid end) after.texts) same_pair runs))
 
-  pub history_of_path : (chosen : Chosen) (before : Devices W) (path : List ℕ) (told : Option (List ℕ × List ℕ)) → kept_log_in chosen ≡ Some path → IfSome told (IsHistoryOfChosen gives chosen before)
-      → IfSome told (IsHistoryOfLog gives before.folder (pair_in chosen) path (manner_in chosen) chosen.at before.texts before.streams.output.written)
+  pub history_of_path : (chosen : Chosen) (before : Devices W) (path : List ℕ) (known : Option (List ℕ × List ℕ)) → kept_log_in chosen ≡ Some path → IfSome known (IsHistoryOfChosen gives chosen before)
+      → IfSome known (IsHistoryOfLog gives before.folder (pair_in chosen) path (manner_in chosen) chosen.at before.texts before.streams.output.written)
   history_of_path chosen before path None keeps is = tt
   history_of_path chosen before path (Some t) keeps is = is path keeps
 
-  pub history_of_chosen : (words : List (List ℕ)) (chosen : Chosen) (before : Devices W) (told : Option (List ℕ × List ℕ)) → IsChoiceOf words (found_in words) chosen → IfSome told (IsHistoryOfWords gives words before)
-      → IfSome told (IsHistoryOfChosen gives chosen before)
+  pub history_of_chosen : (words : List (List ℕ)) (chosen : Chosen) (before : Devices W) (known : Option (List ℕ × List ℕ)) → IsChoiceOf words (found_in words) chosen → IfSome known (IsHistoryOfWords gives words before)
+      → IfSome known (IsHistoryOfChosen gives chosen before)
   history_of_chosen words chosen before None choice is = tt
   history_of_chosen words chosen before (Some t) choice is = is chosen choice

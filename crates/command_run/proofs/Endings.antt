@@ -8,7 +8,7 @@ use Rattle.cell_drive.specs.declared.begin.DriveEnd.{DriveEnd}
 use Rattle.cell_drive.specs.declared.resume.RestEnd.{RestEnd}
 use Rattle.cell_drive.specs.declared.hub.HubEnd.{HubEnd}
 use Rattle.byte_streams.specs.declared.drive_fault.DriveFault.{DriveFault}
-use Rattle.byte_streams.specs.declared.drive_fault.DriveFault.TheVariants.{Read as NotRead, Write as NotWritten, InputTooLong as TooLong, Memory as WantOfMemory}
+use Rattle.byte_streams.specs.declared.drive_fault.DriveFault.TheVariants.{Read as NotRead, Write as NotWritten, InputTooLong as TooLong, Memory as OutOfMemory}
 use Rattle.byte_streams.specs.Streams.{IsStreamed}
 use Rattle.plan_verifier.specs.Accepted.{VerifiedPlan}
 use Rattle.cell_drive.specs.OneRun.{IsStreamedFrom}
@@ -161,10 +161,10 @@ module _ {W : Type 0} (gives : W → List ℕ → Result (List ℕ) CommandFault
       inr (inr (inr (inl (refl, record { cells = cells.items; loaded = Ok (AllAccepted cells); later = later; loads = loads; accepted = refl; end = is.end; are = is.are }))))
 
   module _ (p : PlannedShop) (mid : W) (shapes : Shapes gives (pair_in chosen) texts (Ok (Ok p)) mid) (later : W) (outcome : Result Answer CommandFault) where
-    recovered_written : (text : List ℕ) (taken : Result Recovered ResumeFault) → Asks gives (file_at chosen 2) mid (Ok text) later → IsRecovery p chosen.at text taken
-        → ResumesRecovered (manner_in chosen) taken before after outcome → WereDriven gives Resume chosen texts before after
+    recovered_written : (text : List ℕ) (recovered : Result Recovered ResumeFault) → Asks gives (file_at chosen 2) mid (Ok text) later → IsRecovery p chosen.at text recovered
+        → ResumesRecovered (manner_in chosen) recovered before after outcome → WereDriven gives Resume chosen texts before after
     recovered_written text (Ok t) asks takes is =
-        inr (inr (inl (refl, record { plan = p; mid = mid; shapes = shapes; text = text; later = later; asks = asks; taken = t; takes = takes; end = is.end; is = is.is })))
+        inr (inr (inl (refl, record { plan = p; mid = mid; shapes = shapes; text = text; later = later; asks = asks; recovered = t; takes = takes; end = is.end; is = is.is })))
     recovered_written text (Err fault) asks takes is = kept Resume is.1
 
     text_written : (text : Result (List ℕ) CommandFault) → Asks gives (file_at chosen 2) mid text later
@@ -232,7 +232,7 @@ streamed_shown answers closes start last before after (Ok end) is = inl is.shown
 streamed_shown answers closes start last before after (Err NotRead) is = inl is.shown
 streamed_shown answers closes start last before after (Err NotWritten) is = inr is.comes_to.0
 streamed_shown answers closes start last before after (Err TooLong) is = inl is.shown
-streamed_shown answers closes start last before after (Err WantOfMemory) is = absurd is.comes_to
+streamed_shown answers closes start last before after (Err OutOfMemory) is = absurd is.comes_to
 
 streamed_from_shown : {S T : Type 0} (answers : S → ℕ → Option (List ℕ) → List ℕ → S → Type 0) (closes : S → List ℕ → Type 0) (start last : S) (before after : Streams) (outcome : Result T DriveFault)
     → IsStreamedFrom answers closes start outcome last before after → before.output.pending ≡ [] → HoldsNothing after.output
@@ -240,7 +240,7 @@ streamed_from_shown answers closes start last before after (Ok end) is none = st
 streamed_from_shown answers closes start last before after (Err NotRead) is none = streamed_shown answers closes start last before after (Err NotRead) is
 streamed_from_shown answers closes start last before after (Err NotWritten) is none = streamed_shown answers closes start last before after (Err NotWritten) is
 streamed_from_shown answers closes start last before after (Err TooLong) is none = streamed_shown answers closes start last before after (Err TooLong) is
-streamed_from_shown answers closes start last before after (Err WantOfMemory) is none = inl (ap (λ (s : Streams). s.output.pending) is ∙ none)
+streamed_from_shown answers closes start last before after (Err OutOfMemory) is none = inl (ap (λ (s : Streams). s.output.pending) is ∙ none)
 
 resume_shown : (protocol : Protocol) (t : Recovered) (before after : Streams) (end : Result RestEnd DriveFault) → IsResumeIn protocol t before after end → before.output.pending ≡ [] → HoldsNothing after.output
 resume_shown protocol t before after end (inl cut) none = inr cut.1
@@ -263,7 +263,7 @@ driven_shown gives chosen texts before after name (inl same) none = inl (ap (λ 
 driven_shown gives chosen texts before after name (inr (inl (is, inr drove))) none = logged_shown gives (manner_in chosen) (pair_in chosen) texts before after drove none
 driven_shown gives chosen texts before after name (inr (inl (is, inl drove))) none =
     drive_shown (manner_in chosen) drove.cell before after drove.end drove.is none
-driven_shown gives chosen texts before after name (inr (inr (inl (is, drove)))) none = resume_shown (manner_in chosen) drove.taken before after drove.end drove.is none
+driven_shown gives chosen texts before after name (inr (inr (inl (is, drove)))) none = resume_shown (manner_in chosen) drove.recovered before after drove.end drove.is none
 driven_shown gives chosen texts before after name (inr (inr (inr (inl (is, drove))))) none =
     hub_shown (manner_in chosen) drove.cells before after drove.end drove.are none
 driven_shown gives chosen texts before after name (inr (inr (inr (inr (inl (is, drew)))))) none = picture_shown drew.picture drew.status before.output after.output drew.outcome drew.out
@@ -324,8 +324,8 @@ module _ {W : Type 0} (gives : W → List ℕ → Result (List ℕ) CommandFault
   -- a command that was run, as a part of the program's run
   ran : (chosen : Chosen) → reasons_in words ≡ [] → IsChoiceOf words (found_in words) chosen → (outcome : Result Answer CommandFault) (mid : Streams)
       → RunsChosen gives (kept_log_in chosen) chosen before outcome mid after end → Ran gives words before outcome mid after end
-  ran chosen taken is outcome mid runs =
-      inl (record { chosen = chosen; taken = taken; is = is; runs = runs; driven = chosen_written gives chosen before after outcome mid end (kept_log_in chosen) refl runs })
+  ran chosen accepted is outcome mid runs =
+      inl (record { chosen = chosen; accepted = accepted; is = is; runs = runs; driven = chosen_written gives chosen before after outcome mid end (kept_log_in chosen) refl runs })
 
   -- words that choose no command
   chose_none : (fault : WordsFault) → NamesOneOf (reasons_in words) fault → (outcome : Result Answer CommandFault) → IsOutcomeOfWords fault outcome → Ran gives words before outcome before.streams after end
@@ -339,16 +339,16 @@ module _ {W : Type 0} (gives : W → List ℕ → Result (List ℕ) CommandFault
   ends_printed outcome mid own rel ran (inr good) = inr (subst (λ (n : ℕ). n ≤ 1) (sym (low_own own status rel good.0)) good.0, inl good.1)
 
   -- of a command
-  command_printed : (chosen : Chosen) (taken : reasons_in words ≡ []) (is : IsChoiceOf words (found_in words) chosen) (outcome : Result Answer CommandFault) (mid : Streams) (own : ℕ) → IsOwnOr own status
+  command_printed : (chosen : Chosen) (accepted : reasons_in words ≡ []) (is : IsChoiceOf words (found_in words) chosen) (outcome : Result Answer CommandFault) (mid : Streams) (own : ℕ) → IsOwnOr own status
       → RunsChosen gives (kept_log_in chosen) chosen before outcome mid after end
       → EndsWellBy (draws_in chosen) outcome after.streams.output before.errors after.errors own → EndsOnTime gives words before status after end
-  command_printed chosen taken is outcome mid own rel runs (inl well) = ends_printed outcome mid own rel (ran chosen taken is outcome mid runs) well
-  command_printed chosen taken is outcome mid own rel runs (inr (low, (answer, same, draws, told, answered))) =
+  command_printed chosen accepted is outcome mid own rel runs (inl well) = ends_printed outcome mid own rel (ran chosen accepted is outcome mid runs) well
+  command_printed chosen accepted is outcome mid own rel runs (inr (low, (answer, same, draws, told, answered))) =
       let run : RunsChosen gives (kept_log_in chosen) chosen before (Ok answer) mid after end =
       subst (λ (o : Result Answer CommandFault). RunsChosen gives (kept_log_in chosen) chosen before o mid after end) same runs in
       let here : RanCommand gives words before (Ok answer) mid after end = record {
         chosen = chosen;
-        taken = taken;
+        accepted = accepted;
         is = is;
         runs = run;
         driven = chosen_written gives chosen before after (Ok answer) mid end (kept_log_in chosen) refl run;
@@ -358,7 +358,7 @@ module _ {W : Type 0} (gives : W → List ℕ → Result (List ℕ) CommandFault
 
   pub follows_ends : (read : Result Chosen WordsFault) → AreWordsRead words read → Follows gives read before status after end → EndsOnTime gives words before status after end
   follows_ends (Ok chosen) are is =
-      command_printed chosen are.taken are.chosen is.outcome is.mid is.own (own_or (kept_log_in chosen) end is.outcome is.own status is.status_is) is.runs
+      command_printed chosen are.accepted are.chosen is.outcome is.mid is.own (own_or (kept_log_in chosen) end is.outcome is.own status is.status_is) is.runs
       (by_ends (draws_in chosen) is.outcome is.mid.output after.streams.output before.errors after.errors is.own (chosen_low gives chosen before after is.outcome is.mid end (kept_log_in chosen) is.runs) is.ends)
   follows_ends (Err (Usage true text)) are is =
       ends_printed (Ok is.help) before.streams status (inl refl) (chose_none (Usage true text) are.refused (Ok is.help) (is.help, refl, is.text_is.0))
@@ -383,7 +383,7 @@ module _ {W : Type 0} (gives : W → List ℕ → Result (List ℕ) CommandFault
       inr (record {
         outcome = is.outcome;
         mid = is.mid;
-        ran = ran chosen are.taken are.chosen is.outcome is.mid is.runs;
+        ran = ran chosen are.accepted are.chosen is.outcome is.mid is.runs;
         unanswered = aside_no_more (draws_in chosen) is.outcome is.mid.output after.streams.output before.errors after.errors is.own
             (chosen_low gives chosen before after is.outcome is.mid end (kept_log_in chosen) is.runs) (own_high is.own status (own_or (kept_log_in chosen) end is.outcome is.own status is.status_is) high) is.ends;
       })

@@ -27,19 +27,19 @@ use Rattle.command_run.specs.Resumes.{end_of_rest}
 use Rattle.command_run.specs.Logs.{Found, IsEmptyLog, IsFoundLog, IsHeldAfter, IsLoggedAnswer, IsNewLogFault, IsHistoryOfNew, KeepsInLog, LogEnd, Unlined, Unread, WithLog, digits_in, is_driven, left_if}
 
 -- where none is
-pub none_held : {D : Type 0} (seen : D → Option (List ℕ)) (crash_states : D → List ℕ → Type 0) (fault : D → Option FileFault) (written : D → Bool) (told : Option (List ℕ × List ℕ)) (taken : Option (List ℕ)) (good : Type 0) (done : Option LogEnd → Type 0)
-    → done None → WithLog seen crash_states fault written told taken good None done
-none_held seen crash_states fault written told taken good done is = record { end = None; is = is; held = tt }
+pub none_held : {D : Type 0} (seen : D → Option (List ℕ)) (crash_states : D → List ℕ → Type 0) (fault : D → Option FileFault) (written : D → Bool) (known : Option (List ℕ × List ℕ)) (printed : Option (List ℕ)) (good : Type 0) (done : Option LogEnd → Type 0)
+    → done None → WithLog seen crash_states fault written known printed good None done
+none_held seen crash_states fault written known printed good done is = record { end = None; is = is; held = tt }
 
 -- what was done is something else, too
-pub held_as : {D : Type 0} (seen : D → Option (List ℕ)) (crash_states : D → List ℕ → Type 0) (fault : D → Option FileFault) (written : D → Bool) (told : Option (List ℕ × List ℕ)) (taken : Option (List ℕ)) (good : Type 0) (log : Option D)
-    (one other : Option LogEnd → Type 0) → ((end : Option LogEnd) → one end → other end) → WithLog seen crash_states fault written told taken good log one → WithLog seen crash_states fault written told taken good log other
-held_as seen crash_states fault written told taken good log one other becomes done = record { end = done.end; is = becomes done.end done.is; held = done.held }
+pub held_as : {D : Type 0} (seen : D → Option (List ℕ)) (crash_states : D → List ℕ → Type 0) (fault : D → Option FileFault) (written : D → Bool) (known : Option (List ℕ × List ℕ)) (printed : Option (List ℕ)) (good : Type 0) (log : Option D)
+    (one other : Option LogEnd → Type 0) → ((end : Option LogEnd) → one end → other end) → WithLog seen crash_states fault written known printed good log one → WithLog seen crash_states fault written known printed good log other
+held_as seen crash_states fault written known printed good log one other becomes done = record { end = done.end; is = becomes done.end done.is; held = done.held }
 
 -- all that is said of a log with which a cell was driven
-module _ (seen : Option (List ℕ)) (crash_states : List ℕ → Type 0) (taken : Option (List ℕ)) (good : Type 0) (p : PlannedShop) (events : List Entry) (held : Held) where
-  pub keeps_in_log : (told : Option (List ℕ × List ℕ)) → StayInStep told seen crash_states held → IfSome told (λ t. KeepsShown t.0 t.1 crash_states taken)
-      → IfSome told (λ t. IsRecoveredAfter p events t.1 crash_states taken) → (good → IfSome told (λ t. IsAllInLog t.0 t.1 seen crash_states taken)) → IfSome told (KeepsInLog seen crash_states taken good p events held)
+module _ (seen : Option (List ℕ)) (crash_states : List ℕ → Type 0) (printed : Option (List ℕ)) (good : Type 0) (p : PlannedShop) (events : List Entry) (held : Held) where
+  pub keeps_in_log : (known : Option (List ℕ × List ℕ)) → StayInStep known seen crash_states held → IfSome known (λ t. KeepsShown t.0 t.1 crash_states printed)
+      → IfSome known (λ t. IsRecoveredAfter p events t.1 crash_states printed) → (good → IfSome known (λ t. IsAllInLog t.0 t.1 seen crash_states printed)) → IfSome known (KeepsInLog seen crash_states printed good p events held)
   keeps_in_log None steps crash up all = tt
   keeps_in_log (Some t) steps crash up all = record { in_step = steps; crash = crash; recoverable = up; in_log = all }
 
@@ -57,20 +57,20 @@ gone_on_to_end log_failed (Ok end) outcome answer x good = x
 gone_on_to_end log_failed (Err fault) outcome answer x good = at_good_end log_failed (Err fault) outcome answer x good
 
 -- a log with the line of the plan alone has whole lines alone, and tells no event
-pub line_whole : (p : PlannedShop) (told : Option (List ℕ × List ℕ)) → IfSome told (λ t. t.0 ≡ plan_line (digits_in p)) → IfSome told (λ t. whole_lines t.0 ≡ t.0)
+pub line_whole : (p : PlannedShop) (known : Option (List ℕ × List ℕ)) → IfSome known (λ t. t.0 ≡ plan_line (digits_in p)) → IfSome known (λ t. whole_lines t.0 ≡ t.0)
 line_whole p None line = tt
 line_whole p (Some t) line = subst (λ (l : List ℕ). whole_lines l ≡ l) (sym line) (whole_plan (digits_in p))
 
-pub line_unprinted : (p : PlannedShop) (told : Option (List ℕ × List ℕ)) → IfSome told (λ t. t.0 ≡ plan_line (digits_in p)) → IfSome told (λ t. LinesParse p (ended_lines t.0) [])
+pub line_unprinted : (p : PlannedShop) (known : Option (List ℕ × List ℕ)) → IfSome known (λ t. t.0 ≡ plan_line (digits_in p)) → IfSome known (λ t. LinesParse p (ended_lines t.0) [])
 line_unprinted p None line = tt
 line_unprinted p (Some t) line = subst (λ (l : List ℕ). LinesParse p (ended_lines l) []) (sym line) (plan_parses p (digits_in p) (digits_are p.shop p.plan))
 
 -- from what is told to something else
-pub known_as : {P Q : List ℕ × List ℕ → Type 0} (told : Option (List ℕ × List ℕ)) → ((t : List ℕ × List ℕ) → P t → Q t) → IfSome told P → IfSome told Q
+pub known_as : {P Q : List ℕ × List ℕ → Type 0} (known : Option (List ℕ × List ℕ)) → ((t : List ℕ × List ℕ) → P t → Q t) → IfSome known P → IfSome known Q
 known_as None becomes is = tt
 known_as (Some t) becomes is = becomes t is
 
-pub known_both : {P Q R : List ℕ × List ℕ → Type 0} (told : Option (List ℕ × List ℕ)) → ((t : List ℕ × List ℕ) → P t → Q t → R t) → IfSome told P → IfSome told Q → IfSome told R
+pub known_both : {P Q R : List ℕ × List ℕ → Type 0} (known : Option (List ℕ × List ℕ)) → ((t : List ℕ × List ℕ) → P t → Q t → R t) → IfSome known P → IfSome known Q → IfSome known R
 known_both None becomes one other = tt
 known_both (Some t) becomes one other = becomes t one other
 
@@ -82,34 +82,34 @@ pub undriven : (there : Bool) → false ≡ is_driven (left_if there)
 undriven true = refl
 undriven false = refl
 
-pub left_held : {D : Type 0} (seen : D → Option (List ℕ)) (crash_states : D → List ℕ → Type 0) (fault : D → Option FileFault) (written : D → Bool) (folder : Folder) (p : PlannedShop) (told : Option (List ℕ × List ℕ)) (start taken : Option (List ℕ)) (good : Type 0)
-    (opened : Option D) → IfSome opened (λ log. IsEmptyLog (seen log) (crash_states log) (fault log) (written log) folder) → IfSome told (IsHistoryOfNew folder p start)
-    → IsHeldAfter seen crash_states fault written told taken good opened (left_if (is_some opened))
-left_held seen crash_states fault written folder p told start taken good None empty is_new = tt
-left_held seen crash_states fault written folder p told start taken good (Some log) empty is_new =
-    (empty.ready.unfailed, empty.unwritten, known_as told (λ t is. (at_known folder.logs is.logs (λ _. seen log ≡ Some []) is.there empty.told, empty.ready.durable)) is_new)
+pub left_held : {D : Type 0} (seen : D → Option (List ℕ)) (crash_states : D → List ℕ → Type 0) (fault : D → Option FileFault) (written : D → Bool) (folder : Folder) (p : PlannedShop) (known : Option (List ℕ × List ℕ)) (start printed : Option (List ℕ)) (good : Type 0)
+    (opened : Option D) → IfSome opened (λ log. IsEmptyLog (seen log) (crash_states log) (fault log) (written log) folder) → IfSome known (IsHistoryOfNew folder p start)
+    → IsHeldAfter seen crash_states fault written known printed good opened (left_if (is_some opened))
+left_held seen crash_states fault written folder p known start printed good None empty is_new = tt
+left_held seen crash_states fault written folder p known start printed good (Some log) empty is_new =
+    (empty.ready.unfailed, empty.unwritten, known_as known (λ t is. (at_known folder.logs is.logs (λ _. seen log ≡ Some []) is.there empty.known, empty.ready.durable)) is_new)
 
 -- so is one that was found, with its bytes
 pub undriven_found : (there : Option (List ℕ)) → false ≡ is_driven (option_map Found there)
 undriven_found None = refl
 undriven_found (Some bytes) = refl
 
-pub found_held : {D : Type 0} (seen : D → Option (List ℕ)) (crash_states : D → List ℕ → Type 0) (fault : D → Option FileFault) (written : D → Bool) (folder : Folder) (told : Option (List ℕ × List ℕ)) (taken : Option (List ℕ))
+pub found_held : {D : Type 0} (seen : D → Option (List ℕ)) (crash_states : D → List ℕ → Type 0) (fault : D → Option FileFault) (written : D → Bool) (folder : Folder) (known : Option (List ℕ × List ℕ)) (printed : Option (List ℕ))
     (good : Type 0) (found : Option (D × List ℕ)) → IfSome found (λ there. IsFoundLog (seen there.0) (crash_states there.0) (fault there.0) (written there.0) folder there.1)
-    → IfSome told (λ t. (logs : List NamedLog) × (folder.logs ≡ Some logs))
-    → IsHeldAfter seen crash_states fault written told taken good (option_map (λ there. there.0) found) (option_map Found (option_map (λ there. there.1) found))
-found_held seen crash_states fault written folder told taken good None is logs = tt
-found_held seen crash_states fault written folder told taken good (Some there) is logs =
-    (is.ready.unfailed, is.unwritten, known_as told (λ t has. (at_known folder.logs has.0 (λ _. seen there.0 ≡ Some there.1) has.1 is.told, is.ready.durable)) logs)
+    → IfSome known (λ t. (logs : List NamedLog) × (folder.logs ≡ Some logs))
+    → IsHeldAfter seen crash_states fault written known printed good (option_map (λ there. there.0) found) (option_map Found (option_map (λ there. there.1) found))
+found_held seen crash_states fault written folder known printed good None is logs = tt
+found_held seen crash_states fault written folder known printed good (Some there) is logs =
+    (is.ready.unfailed, is.unwritten, known_as known (λ t has. (at_known folder.logs has.0 (λ _. seen there.0 ≡ Some there.1) has.1 is.known, is.ready.durable)) logs)
 
 -- where a new log can't be had
-module _ {D : Type 0} (seen : D → Option (List ℕ)) (crash_states : D → List ℕ → Type 0) (fault : D → Option FileFault) (written : D → Bool) (folder after : Folder) (path : List ℕ) (p : PlannedShop) (there : Bool) (told : Option (List ℕ × List ℕ)) (start taken : Option (List ℕ)) (good : Type 0) (why : FileFault)
-    (is_new : IfSome told (IsHistoryOfNew folder p start)) where
+module _ {D : Type 0} (seen : D → Option (List ℕ)) (crash_states : D → List ℕ → Type 0) (fault : D → Option FileFault) (written : D → Bool) (folder after : Folder) (path : List ℕ) (p : PlannedShop) (there : Bool) (known : Option (List ℕ × List ℕ)) (start printed : Option (List ℕ)) (good : Type 0) (why : FileFault)
+    (is_new : IfSome known (IsHistoryOfNew folder p start)) where
   pub record LacksHeld (log : Option D) : Type 0 where
     pub end : Option LogEnd
     pub driven : false ≡ is_driven end
     pub why_is : IsNewLogFault folder after path p there why end
-    pub held : IsHeldAfter seen crash_states fault written told taken good log end
+    pub held : IsHeldAfter seen crash_states fault written known printed good log end
 
   pub lacks_held : (log : Option D) → MatchOption log (IsUnmade there path folder after why) (λ l. IsUnnamed path (digits_in p) (with_log there path folder) after (seen l) (crash_states l) (fault l) why)
       → IfSome log (λ l. fault l ≡ None → written l ≡ false) → LacksHeld log
@@ -118,7 +118,7 @@ module _ {D : Type 0} (seen : D → Option (List ℕ)) (crash_states : D → Lis
     end = Some (Found []);
     driven = refl;
     why_is = inr (inl (is.is, is.own, refl));
-    held = (is.unfailed, unwritten is.unfailed, known_as told (λ t new. (at_known folder.logs new.logs (λ _. seen log ≡ Some []) new.there (logs_before there path folder (seen log ≡ Some []) is.empty), is.durable)) is_new);
+    held = (is.unfailed, unwritten is.unfailed, known_as known (λ t new. (at_known folder.logs new.logs (λ _. seen log ≡ Some []) new.there (logs_before there path folder (seen log ≡ Some []) is.empty), is.durable)) is_new);
   }
   lacks_held (Some log) (inr is) unwritten = record {
     end = Some (Unlined p);
@@ -127,23 +127,23 @@ module _ {D : Type 0} (seen : D → Option (List ℕ)) (crash_states : D → Lis
     held = (
       is.is.1,
       tt,
-      known_as told (λ t new.
+      known_as known (λ t new.
           at_known folder.logs new.logs (λ _. Leaves (crash_states log) 0 (plan_line (digits_in p))) new.there (logs_before there path folder (Leaves (crash_states log) 0 (plan_line (digits_in p))) is.crash)) is_new,
     );
   }
 
 -- where one can't be opened or read
-module _ {D : Type 0} (seen : D → Option (List ℕ)) (crash_states : D → List ℕ → Type 0) (fault : D → Option FileFault) (written : D → Bool) (folder after : Folder) (told : Option (List ℕ × List ℕ)) (taken : Option (List ℕ)) (good : Type 0) (why : FileFault) where
+module _ {D : Type 0} (seen : D → Option (List ℕ)) (crash_states : D → List ℕ → Type 0) (fault : D → Option FileFault) (written : D → Bool) (folder after : Folder) (known : Option (List ℕ × List ℕ)) (printed : Option (List ℕ)) (good : Type 0) (why : FileFault) where
   pub record UnopenedHeld (log : Option D) : Type 0 where
     pub end : Option LogEnd
     pub driven : false ≡ is_driven end
     pub why_is : (IsOpenFault why × (after ≡ with_fault why folder) × (end ≡ None)) ⊎ (((why ≡ Log) ⊎ IsReadFault why) × (after ≡ handed folder) × (end ≡ Some (Unread why)))
-    pub held : IsHeldAfter seen crash_states fault written told taken good log end
+    pub held : IsHeldAfter seen crash_states fault written known printed good log end
 
   pub unopened_held : (path : List ℕ) (log : Option D) → MatchOption log (IsOpenFault why × (after ≡ with_fault why folder)) (λ l. IsOfLog (fault l) why × (after ≡ handed folder))
       → IfSome log (λ l. IsFound folder path (seen l) (written l)) → UnopenedHeld log
   unopened_held path None is found = record { end = None; driven = refl; why_is = inl (is.0, is.1, refl); held = tt }
-  unopened_held path (Some log) is found = record { end = Some (Unread why); driven = refl; why_is = inr (is.0.0, is.1, refl); held = (is.0.1, found.unwritten, unread told) }
+  unopened_held path (Some log) is found = record { end = Some (Unread why); driven = refl; why_is = inr (is.0.0, is.1, refl); held = (is.0.1, found.unwritten, unread known) }
     where
       unread : (o : Option (List ℕ × List ℕ)) → IfSome o (λ t. Unit {0})
       unread None = tt

@@ -10,7 +10,7 @@ use Rattle.command_answers.specs.declared.answer.Answer.{Answer}
 use Rattle.command_answers.specs.declared.command_fault.CommandFault.{CommandFault}
 use Rattle.command_answers.specs.declared.command_fault.CommandFault.TheVariants.{Instance, Plan, Names, Read, Write, InputTooLong, Log, LogInUse, Memory}
 use Rattle.command_answers.specs.Improving.{IsBest, IsBestAnswer, IsImproveAnswer, ordered}
-use Rattle.command_answers.specs.Steps.{Told}
+use Rattle.command_answers.specs.Steps.{Concludes}
 use Rattle.command_answers.specs.Commands.{PairOfFiles, ReadsBoth, RunsImprove}
 use Rattle.command_run.specs.Improvers.{MayImprove, AsksOne}
 use Rattle.command_run.proofs.Planning.{then_more}
@@ -47,7 +47,7 @@ runs_more : {W : Type 0} (gives : W → List ℕ → Result (List ℕ) CommandFa
     → (rounds : ℕ) (pair : PairOfFiles) (before : W) (outcome : Result Answer CommandFault) (after : W)
     → RunsImprove gives made rounds pair before outcome after → RunsImprove gives more rounds pair before outcome after
 runs_more gives made more less rounds pair before outcome after =
-    then_more (ReadsBoth gives pair) (λ p. Told (IsImproveAnswer made rounds (ordered p))) (λ p. Told (IsImproveAnswer more rounds (ordered p))) before outcome after
+    then_more (ReadsBoth gives pair) (λ p. Concludes (IsImproveAnswer made rounds (ordered p))) (λ p. Concludes (IsImproveAnswer more rounds (ordered p))) before outcome after
     (λ p last is. (answer_more made more rounds less (ordered p) outcome is.0, is.1))
 
 pub stands_alone : (who : Unit {0}) (n : ℕ) → n < 1 → slice_get (who ∷ []) n ≡ Some who

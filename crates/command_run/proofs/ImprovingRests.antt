@@ -10,7 +10,7 @@ use Rattle.command_answers.specs.declared.command_fault.CommandFault.{CommandFau
 use Rattle.command_answers.specs.declared.command_fault.CommandFault.TheVariants.{Instance, Plan, Names, Read, Write, InputTooLong, Log, LogInUse, Memory}
 use Rattle.command_answers.specs.Improving.{ordered}
 use Rattle.command_answers.specs.ImprovingRests.{RestAsked, RestRoundsOf, IsBestRest, IsRestAnswer}
-use Rattle.command_answers.specs.Steps.{Told}
+use Rattle.command_answers.specs.Steps.{Concludes}
 use Rattle.command_answers.specs.Texts.{Asks}
 use Rattle.command_answers.specs.Commands.{PairOfFiles, ReadsBoth, WithRest, RunsImproveRest}
 use Rattle.command_run.specs.Improvers.{MayImprove, AsksOneForRest}
@@ -63,7 +63,7 @@ module _ (made more : RestAsked) (less : (lines : List (List ℕ)) (t : ℕ) (p 
     with_more log p before outcome after (inl (shaped, run)) =
         inl (
           shaped,
-          then_more (Asks gives log) (λ text. Told (IsRestAnswer made at rounds (ended_lines text) p)) (λ text. Told (IsRestAnswer more at rounds (ended_lines text) p)) before outcome after
+          then_more (Asks gives log) (λ text. Concludes (IsRestAnswer made at rounds (ended_lines text) p)) (λ text. Concludes (IsRestAnswer more at rounds (ended_lines text) p)) before outcome after
               (λ text last is. (answer_more (ended_lines text) p outcome is.0, is.1)) run,
         )
     with_more log p before outcome after (inr line) = inr line

@@ -55,15 +55,15 @@ whole_length : (bytes : List ℕ) → length (whole_lines bytes) ≤ length byte
 whole_length [] = omega arith
 whole_length (byte ∷ bytes) = with_byte_length (byte == 10) byte (whole_lines bytes) (length bytes) (whole_length bytes)
 
-module _ (p : PlannedShop) (protocol : Protocol) (at : Option ℕ) (text : List ℕ) (taken : Option (List ℕ)) where
-  pub old_recovered : (told : Option (List ℕ × List ℕ)) → IfSome told (IsHistoryOfOld p protocol at text taken) → (t : Recovered) → IsRecovered p (ended_lines (whole_lines text)) at t → IfSome told (λ b. IsRecoveredFromLog t b.0)
+module _ (p : PlannedShop) (protocol : Protocol) (at : Option ℕ) (text : List ℕ) (printed : Option (List ℕ)) where
+  pub old_recovered : (known : Option (List ℕ × List ℕ)) → IfSome known (IsHistoryOfOld p protocol at text printed) → (t : Recovered) → IsRecovered p (ended_lines (whole_lines text)) at t → IfSome known (λ b. IsRecoveredFromLog t b.0)
   old_recovered None is t up = tt
   old_recovered (Some b) is t up =
       let lines = whole_lines text in
       let whole = whole_again text in
       let again : IsRecovered p (ended_lines b.0) at t = record {
-        told = up.told;
-        tells = named_parses p (digits_in p) lines b.0 up.told (digits_are p.shop p.plan) whole is.log up.tells;
+        recorded = up.recorded;
+        parses = named_parses p (digits_in p) lines b.0 up.recorded (digits_are p.shop p.plan) whole is.log up.parses;
         is_run = up.is_run;
         recovered_from = up.recovered_from;
       } in (
@@ -80,10 +80,10 @@ named_same digits lines one other (inr is) (inl also) = absurd (is.0 also.0)
 named_same digits lines one other (inr is) (inr also) = is.1 ∙ sym also.1
 
 -- what the log has once it is taken up is what is told of it
-pub old_named : (p : PlannedShop) (protocol : Protocol) (at : Option ℕ) (text : List ℕ) (taken seen now : Option (List ℕ)) (told : Option (List ℕ × List ℕ))
-    → IfSome told (λ b. (seen ≡ Some text) × IsHistoryOfOld p protocol at text taken b) → IfSome seen (λ file. (base : List ℕ) × IsNamedFor (digits_in p) (whole_lines file) base × (now ≡ Some base)) → IfSome told (λ b. now ≡ Some b.0)
-old_named p protocol at text taken seen now None is named = tt
-old_named p protocol at text taken seen now (Some b) is named =
+pub old_named : (p : PlannedShop) (protocol : Protocol) (at : Option ℕ) (text : List ℕ) (printed seen now : Option (List ℕ)) (known : Option (List ℕ × List ℕ))
+    → IfSome known (λ b. (seen ≡ Some text) × IsHistoryOfOld p protocol at text printed b) → IfSome seen (λ file. (base : List ℕ) × IsNamedFor (digits_in p) (whole_lines file) base × (now ≡ Some base)) → IfSome known (λ b. now ≡ Some b.0)
+old_named p protocol at text printed seen now None is named = tt
+old_named p protocol at text printed seen now (Some b) is named =
     let has = subst (λ (s : Option (List ℕ)). IfSome s (λ file. (base : List ℕ) × IsNamedFor (digits_in p) (whole_lines file) base × (now ≡ Some base))) is.0 named in
     has.2 ∙ ap Some (named_same (digits_in p) (whole_lines text) has.0 b.0 has.1 is.1.log)
 
@@ -107,30 +107,30 @@ module _ (folder folder_after : Folder) (path : List ℕ) (protocol : Protocol) 
   bytes_written [] some is same = absurd (some refl)
   bytes_written (byte ∷ bytes) some is same = (is, same)
 
-module _ (folder : Folder) (p : PlannedShop) (protocol : Protocol) (at : Option ℕ) (taken : Option (List ℕ)) (t : List ℕ × List ℕ) where
-  pub new_known : (text : List ℕ) → text ≡ [] → IsHistoryOf folder p protocol at (Some text) taken t → IsHistoryOfNew folder p taken t
-  new_known text empty is = subst (λ (xs : List ℕ). IsHistoryOf folder p protocol at (Some xs) taken t) empty is
+module _ (folder : Folder) (p : PlannedShop) (protocol : Protocol) (at : Option ℕ) (printed : Option (List ℕ)) (t : List ℕ × List ℕ) where
+  pub new_known : (text : List ℕ) → text ≡ [] → IsHistoryOf folder p protocol at (Some text) printed t → IsHistoryOfNew folder p printed t
+  new_known text empty is = subst (λ (xs : List ℕ). IsHistoryOf folder p protocol at (Some xs) printed t) empty is
 
-  pub old_known : (text : List ℕ) → (text ≡ [] → ⊥) → IsHistoryOf folder p protocol at (Some text) taken t → IsHistoryOfOld p protocol at text taken t
+  pub old_known : (text : List ℕ) → (text ≡ [] → ⊥) → IsHistoryOf folder p protocol at (Some text) printed t → IsHistoryOfOld p protocol at text printed t
   old_known [] some is = absurd (some refl)
   old_known (byte ∷ bytes) some is = is
 
-  replayed_events : (mid : Folder) (there : Option (List ℕ)) → mid.logs ≡ folder.logs → IsHistoryOf folder p protocol at there taken t → IsHistoryOf mid p protocol at there taken t
+  replayed_events : (mid : Folder) (there : Option (List ℕ)) → mid.logs ≡ folder.logs → IsHistoryOf folder p protocol at there printed t → IsHistoryOf mid p protocol at there printed t
   replayed_events mid None same is = record { logs = is.logs; there = same ∙ is.there; log = is.log; output = is.output }
   replayed_events mid (Some []) same is = record { logs = is.logs; there = same ∙ is.there; log = is.log; output = is.output }
   replayed_events mid (Some (byte ∷ bytes)) same is = is
 
 -- so is what was found by the path
-pub path_known : {D : Type 0} (folder mid : Folder) (path : List ℕ) (p : PlannedShop) (protocol : Protocol) (at : Option ℕ) (taken : Option (List ℕ)) (found : Option (D × List ℕ)) → mid ≡ handed_if (is_some found) folder
-    → IfSome folder.logs (λ logs. option_map (λ there. there.1) found ≡ held logs path) → (t : List ℕ × List ℕ) → IsHistoryOfPath folder path p protocol at taken t
-    → IsHistoryOfFound mid p protocol at (option_map (λ there. there.1) found) taken t
-path_known folder mid path p protocol at taken found opened there t is =
+pub path_known : {D : Type 0} (folder mid : Folder) (path : List ℕ) (p : PlannedShop) (protocol : Protocol) (at : Option ℕ) (printed : Option (List ℕ)) (found : Option (D × List ℕ)) → mid ≡ handed_if (is_some found) folder
+    → IfSome folder.logs (λ logs. option_map (λ there. there.1) found ≡ held logs path) → (t : List ℕ × List ℕ) → IsHistoryOfPath folder path p protocol at printed t
+    → IsHistoryOfFound mid p protocol at (option_map (λ there. there.1) found) printed t
+path_known folder mid path p protocol at printed found opened there t is =
     let same : mid.logs ≡ folder.logs = ap (λ (f : Folder). f.logs) opened ∙ logs_handed (is_some found) folder in
     let here = at_known folder.logs is.logs (λ logs. option_map (λ there. there.1) found ≡ held logs path) is.there there in
     record {
       logs = is.logs;
       in_folder = same ∙ is.there;
-      is = replayed_events folder p protocol at taken t mid (option_map (λ there. there.1) found) same (subst (λ (o : Option (List ℕ)). IsHistoryOf folder p protocol at o taken t) (sym here) is.is);
+      is = replayed_events folder p protocol at printed t mid (option_map (λ there. there.1) found) same (subst (λ (o : Option (List ℕ)). IsHistoryOf folder p protocol at o printed t) (sym here) is.is);
     }
 
 -- ---- the log that was found
@@ -145,20 +145,20 @@ module _ (seen : Option (List ℕ)) (crash_states : List ℕ → Type 0) (fault 
     ready = is.ready;
     unwritten = is.unwritten;
     empty = read_empty seen text empty is.read;
-    told = subst (λ (xs : List ℕ). IfSome folder.logs (λ _. seen ≡ Some xs)) empty is.told;
+    known = subst (λ (xs : List ℕ). IfSome folder.logs (λ _. seen ≡ Some xs)) empty is.known;
   }
 
 pub opened_found : {D : Type 0} (seen : D → Option (List ℕ)) (crash_states : D → List ℕ → Type 0) (fault : D → Option FileFault) (written : D → Bool) (folder mid : Folder) (found : Option (D × List ℕ)) → mid ≡ handed_if (is_some found) folder
     → IfSome found (λ there. IfSome (seen there.0) (λ file. there.1 ≡ file)) → IfSome found (λ there. length there.1 ≤ MAX_INPUT) → IfSome found (λ there. IsDurable (seen there.0) (crash_states there.0))
     → IfSome found (λ there. fault there.0 ≡ None) → IfSome found (λ there. written there.0 ≡ false)
     → IfSome found (λ there. IfSome folder.logs (λ _. seen there.0 ≡ Some there.1)) → IfSome found (λ there. IsFoundLog (seen there.0) (crash_states there.0) (fault there.0) (written there.0) mid there.1)
-opened_found seen crash_states fault written folder mid None opened read within durable unfailed unwritten told = tt
-opened_found seen crash_states fault written folder mid (Some there) opened read within durable unfailed unwritten told = record {
+opened_found seen crash_states fault written folder mid None opened read within durable unfailed unwritten known = tt
+opened_found seen crash_states fault written folder mid (Some there) opened read within durable unfailed unwritten known = record {
   ready = record { durable = durable; unfailed = unfailed };
   unwritten = unwritten;
   read = read;
   within = within;
-  told = subst (λ (f : Folder). IfSome f.logs (λ _. seen there.0 ≡ Some there.1)) (sym opened) told;
+  known = subst (λ (f : Folder). IfSome f.logs (λ _. seen there.0 ≡ Some there.1)) (sym opened) known;
 }
 
 -- the folder in which it was opened

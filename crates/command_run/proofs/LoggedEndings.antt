@@ -5,7 +5,7 @@ use Rattle.shop_base.specs.Plan.{PlannedShop}
 use Rattle.plan_verifier.specs.declared.verdict.Verdict.{Verdict}
 use Rattle.plan_verifier.specs.declared.verdict.Verdict.TheVariants.{Accepted, Refused}
 use Rattle.byte_streams.specs.declared.drive_fault.DriveFault.{DriveFault}
-use Rattle.byte_streams.specs.declared.drive_fault.DriveFault.TheVariants.{Read as NotRead, Write as NotWritten, InputTooLong as TooLong, Memory as WantOfMemory}
+use Rattle.byte_streams.specs.declared.drive_fault.DriveFault.TheVariants.{Read as NotRead, Write as NotWritten, InputTooLong as TooLong, Memory as OutOfMemory}
 use Rattle.run_log.specs.declared.audit_fault.AuditFault.TheVariants.{BadLine}
 use Rattle.cell_drive.specs.declared.protocol.Protocol.{Protocol}
 use Rattle.cell_drive.specs.Recovered.{Recovered}
@@ -50,18 +50,18 @@ module _ (folder folder_after : Folder) (path : List ℕ) (protocol : Protocol) 
   low_begins p there step (inl (verdict, is, by)) = low_begun there verdict step by
   low_begins p there step (inr wanting) = subst IsLow (sym wanting.0) tt
 
-  low_after : (t : Recovered) (mid : Output) (told : Result Recovered DriveFault) (step : Step) → GoesOnAfter protocol t mid told step → IsLow step.outcome
+  low_after : (t : Recovered) (mid : Output) (replay : Result Recovered DriveFault) (step : Step) → GoesOnAfter protocol t mid replay step → IsLow step.outcome
   low_after t mid (Ok done) step run = low_logged_end run.log_failed (end_of_rest run.end) step.outcome run.answer
   low_after t mid (Err fault) step is = subst IsLow (sym is.0) tt
 
-  low_recovered_run : (p : PlannedShop) (text : List ℕ) (taken : Result Recovered RecoverFault) (step : Step) → ContinuesRecovered p protocol text taken step → IsLow step.outcome
-  low_recovered_run p text (Ok t) step on = low_after t on.mid on.told step on.goes_on
+  low_recovered_run : (p : PlannedShop) (text : List ℕ) (recovered : Result Recovered RecoverFault) (step : Step) → ContinuesRecovered p protocol text recovered step → IsLow step.outcome
+  low_recovered_run p text (Ok t) step on = low_after t on.mid on.replay step on.goes_on
   low_recovered_run p text (Err fault) step is = low_log_unrecovered fault step.outcome is.0
 
   low_fitting : (p : PlannedShop) (there : Option (List ℕ)) (step : Step) → DrivesFitting folder folder_after path protocol at p there step → IsLow step.outcome
   low_fitting p None step is = low_begins p false step is
   low_fitting p (Some []) step is = low_begins p true step is
-  low_fitting p (Some (byte ∷ bytes)) step is = low_recovered_run p (byte ∷ bytes) is.0.taken step is.0.goes_on
+  low_fitting p (Some (byte ∷ bytes)) step is = low_recovered_run p (byte ∷ bytes) is.0.recovered step is.0.goes_on
 
   low_as : (misfit : Option Misfit) (p : PlannedShop) (there : Option (List ℕ)) (step : Step) → DrivesAs folder folder_after path misfit protocol at p there step → IsLow step.outcome
   low_as (Some misfit) p there step is = low_or (IsMisfitLine misfit) step.outcome (λ answer line. omega (arith, line.1)) is.0
@@ -102,7 +102,7 @@ module _ {W : Type 0} (gives : W → List ℕ → Result (List ℕ) CommandFault
     begins folder folder_after path there (inl (verdict, is, by)) = begun folder folder_after path there verdict is by
     begins folder folder_after path there (inr wanting) = unwritten wanting.1.same
 
-    recoverable : (at : Option ℕ) (text : List ℕ) (taken : Result Recovered RecoverFault) → RecoversLog p at text taken → ContinuesRecovered p protocol text taken (step_of before outcome after end) → Written
+    recoverable : (at : Option ℕ) (text : List ℕ) (recovered : Result Recovered RecoverFault) → RecoversLog p at text recovered → ContinuesRecovered p protocol text recovered (step_of before outcome after end) → Written
     recoverable at text (Ok t) takes on =
         inr (record { plan = p; later = later; shapes = shapes; outcome = outcome; log = end; is = inr (t, takes.is.recovered_from.planned, on) })
     recoverable at text (Err fault) takes is = unwritten is.1.same
@@ -110,7 +110,7 @@ module _ {W : Type 0} (gives : W → List ℕ → Result (List ℕ) CommandFault
     fitting : (folder folder_after : Folder) (path : List ℕ) (at : Option ℕ) (there : Option (List ℕ)) → DrivesFitting folder folder_after path protocol at p there (step_of before outcome after end) → Written
     fitting folder folder_after path at None is = begins folder folder_after path false is
     fitting folder folder_after path at (Some []) is = begins folder folder_after path true is
-    fitting folder folder_after path at (Some (byte ∷ bytes)) is = recoverable at (byte ∷ bytes) is.0.taken is.0.takes is.0.goes_on
+    fitting folder folder_after path at (Some (byte ∷ bytes)) is = recoverable at (byte ∷ bytes) is.0.recovered is.0.takes is.0.goes_on
 
     as_asked : (folder folder_after : Folder) (path : List ℕ) (at : Option ℕ) (misfit : Option Misfit) (there : Option (List ℕ)) → DrivesAs folder folder_after path misfit protocol at p there (step_of before outcome after end) → Written
     as_asked folder folder_after path at (Some misfit) there is = unwritten is.1.same
@@ -131,22 +131,22 @@ module _ {W : Type 0} (gives : W → List ℕ → Result (List ℕ) CommandFault
 -- ---- what is shown
 
 plan_answer_shown : (protocol : Protocol) (t : Recovered) (before mid : Output) (fault : DriveFault) → ReplaysEvents protocol t before mid (Err fault) → HoldsNothing mid
-plan_answer_shown protocol t before mid NotWritten tells = inr tells.is.0
-plan_answer_shown protocol t before mid WantOfMemory tells = absurd tells.is
-plan_answer_shown protocol t before mid NotRead tells = absurd tells.is
-plan_answer_shown protocol t before mid TooLong tells = absurd tells.is
+plan_answer_shown protocol t before mid NotWritten parses = inr parses.is.0
+plan_answer_shown protocol t before mid OutOfMemory parses = absurd parses.is
+plan_answer_shown protocol t before mid NotRead parses = absurd parses.is
+plan_answer_shown protocol t before mid TooLong parses = absurd parses.is
 
-gone_on_shown : (protocol : Protocol) (t : Recovered) (mid : Output) (told : Result Recovered DriveFault) (step : Step) → ReplaysEvents protocol t step.before.output mid told → GoesOnAfter protocol t mid told step
+gone_on_shown : (protocol : Protocol) (t : Recovered) (mid : Output) (replay : Result Recovered DriveFault) (step : Step) → ReplaysEvents protocol t step.before.output mid replay → GoesOnAfter protocol t mid replay step
     → HoldsNothing step.after.output
-gone_on_shown protocol t mid (Ok done) step tells run = run.shows.shown
-gone_on_shown protocol t mid (Err fault) step tells is =
-    subst (λ (s : Streams). HoldsNothing s.output) (sym is.1) (plan_answer_shown protocol t step.before.output mid fault tells)
+gone_on_shown protocol t mid (Ok done) step parses run = run.shows.shown
+gone_on_shown protocol t mid (Err fault) step parses is =
+    subst (λ (s : Streams). HoldsNothing s.output) (sym is.1) (plan_answer_shown protocol t step.before.output mid fault parses)
 
 pub logged_shown : {W : Type 0} (gives : W → List ℕ → Result (List ℕ) CommandFault → W → Type 0) (protocol : Protocol) (pair : PairOfFiles) (texts : W) (before after : Streams)
     (drove : DroveWithLog gives protocol pair texts before after) → before.output.pending ≡ [] → HoldsNothing after.output
 logged_shown gives protocol pair texts before after drove none = elim drove.is [
   | inl (v, same, run) ↦ run.shows.shown
-  | inr (t, same, on) ↦ gone_on_shown protocol t on.mid on.told (step_of before drove.outcome after drove.log) on.tells on.goes_on
+  | inr (t, same, on) ↦ gone_on_shown protocol t on.mid on.replay (step_of before drove.outcome after drove.log) on.replays on.goes_on
 ]
 
 -- ---- what is answered where a cell was driven with the log
@@ -158,7 +158,7 @@ IsSilent outcome = IfOk outcome (λ answer. answer.text.items ≡ [])
 -- a cell was driven with it
 abbrev pub IsDriven : Option LogEnd → Type 0
 IsDriven None = ⊥
-IsDriven (Some (Driven p told held)) = Unit {0}
+IsDriven (Some (Driven p recorded held)) = Unit {0}
 IsDriven (Some (NotRecovered p text fault)) = ⊥
 IsDriven (Some Left) = ⊥
 IsDriven (Some (Found bytes)) = ⊥
@@ -195,18 +195,18 @@ module _ (folder folder_after : Folder) (path : List ℕ) (protocol : Protocol) 
   silent_begins p there step (inl (Accepted v, is, inr (inr run))) = λ driven. silent_end run.drove.log_failed (end_of_drive run.drove.end) step.outcome run.drove.answer
   silent_begins p there step (inr wanting) = nothing_driven (left_if there) step (left_undriven there) wanting.1
 
-  silent_after : (t : Recovered) (mid : Output) (told : Result Recovered DriveFault) (step : Step) → GoesOnAfter protocol t mid told step → IsSilent step.outcome
+  silent_after : (t : Recovered) (mid : Output) (replay : Result Recovered DriveFault) (step : Step) → GoesOnAfter protocol t mid replay step → IsSilent step.outcome
   silent_after t mid (Ok done) step run = silent_end run.log_failed (end_of_rest run.end) step.outcome run.answer
   silent_after t mid (Err fault) step is = silent_fault _ step.outcome is.0
 
-  silent_recovered : (p : PlannedShop) (text : List ℕ) (taken : Result Recovered RecoverFault) (step : Step) → ContinuesRecovered p protocol text taken step → IsDriven step.log → IsSilent step.outcome
-  silent_recovered p text (Ok t) step on = λ driven. silent_after t on.mid on.told step on.goes_on
+  silent_recovered : (p : PlannedShop) (text : List ℕ) (recovered : Result Recovered RecoverFault) (step : Step) → ContinuesRecovered p protocol text recovered step → IsDriven step.log → IsSilent step.outcome
+  silent_recovered p text (Ok t) step on = λ driven. silent_after t on.mid on.replay step on.goes_on
   silent_recovered p text (Err fault) step is = nothing_driven (Some (NotRecovered p text fault)) step (λ bad. bad) is.1
 
   silent_fitting : (p : PlannedShop) (there : Option (List ℕ)) (step : Step) → DrivesFitting folder folder_after path protocol at p there step → IsDriven step.log → IsSilent step.outcome
   silent_fitting p None step is = silent_begins p false step is
   silent_fitting p (Some []) step is = silent_begins p true step is
-  silent_fitting p (Some (byte ∷ bytes)) step is = silent_recovered p (byte ∷ bytes) is.0.taken step is.0.goes_on
+  silent_fitting p (Some (byte ∷ bytes)) step is = silent_recovered p (byte ∷ bytes) is.0.recovered step is.0.goes_on
 
   silent_as : (misfit : Option Misfit) (p : PlannedShop) (there : Option (List ℕ)) (step : Step) → DrivesAs folder folder_after path misfit protocol at p there step → IsDriven step.log → IsSilent step.outcome
   silent_as (Some misfit) p there step is = nothing_driven (option_map Found there) step (found_undriven there) is.1

@@ -37,13 +37,13 @@ abbrev IsGood : Result Answer CommandFault → Type 0
 IsGood outcome = IsOk outcome
 
 -- so the log has at the end what it had before
-moved : (seen : Option (List ℕ)) (crash_states : List ℕ → Type 0) (before after : Option (List ℕ)) (one other : Type 0) (p : PlannedShop) (events : List Entry) (held : Held) (told : List ℕ × List ℕ)
-    → after ≡ before → (other → one) → KeepsInLog seen crash_states before one p events held told → KeepsInLog seen crash_states after other p events held told
-moved seen crash_states before after one other p events held told same is_good keeps = record {
+moved : (seen : Option (List ℕ)) (crash_states : List ℕ → Type 0) (before after : Option (List ℕ)) (one other : Type 0) (p : PlannedShop) (events : List Entry) (held : Held) (known : List ℕ × List ℕ)
+    → after ≡ before → (other → one) → KeepsInLog seen crash_states before one p events held known → KeepsInLog seen crash_states after other p events held known
+moved seen crash_states before after one other p events held known same is_good keeps = record {
   in_step = keeps.in_step;
-  crash = subst (KeepsShown told.0 told.1 crash_states) (sym same) keeps.crash;
-  recoverable = subst (IsRecoveredAfter p events told.1 crash_states) (sym same) keeps.recoverable;
-  in_log = λ good. subst (IsAllInLog told.0 told.1 seen crash_states) (sym same) (keeps.in_log (is_good good));
+  crash = subst (KeepsShown known.0 known.1 crash_states) (sym same) keeps.crash;
+  recoverable = subst (IsRecoveredAfter p events known.1 crash_states) (sym same) keeps.recoverable;
+  in_log = λ good. subst (IsAllInLog known.0 known.1 seen crash_states) (sym same) (keeps.in_log (is_good good));
 }
 
 too_low : (own status : ℕ) → 2 ≤ own → status ≤ 1 → IsOwnOr own status → ⊥
@@ -51,19 +51,19 @@ too_low own status high low (inl same) = omega (arith, high, low, same)
 too_low own status high low (inr (five, six)) = omega (arith, low, six)
 
 kept_one : (seen : Option (List ℕ)) (crash_states : List ℕ → Type 0) (outcome : Result Answer CommandFault) (before after : Output) (printed_before printed_after : Errors) (own status : ℕ)
-    (p : PlannedShop) (events : List Entry) (held : Held) (told : List ℕ × List ℕ) → IfOk outcome (λ answer. answer.text.items ≡ []) → Ends outcome before after printed_before printed_after own → IsOwnOr own status
-    → KeepsInLog seen crash_states before.written (IsOk outcome) p events held told → KeepsInLog seen crash_states after.written (status ≤ 1) p events held told
-kept_one seen crash_states (Ok answer) before after printed_before printed_after own status p events held told none ends rel keeps =
-    moved seen crash_states before.written after.written (IsGood (Ok answer)) (status ≤ 1) p events held told
+    (p : PlannedShop) (events : List Entry) (held : Held) (known : List ℕ × List ℕ) → IfOk outcome (λ answer. answer.text.items ≡ []) → Ends outcome before after printed_before printed_after own → IsOwnOr own status
+    → KeepsInLog seen crash_states before.written (IsOk outcome) p events held known → KeepsInLog seen crash_states after.written (status ≤ 1) p events held known
+kept_one seen crash_states (Ok answer) before after printed_before printed_after own status p events held known none ends rel keeps =
+    moved seen crash_states before.written after.written (IsGood (Ok answer)) (status ≤ 1) p events held known
     (silent_print answer ends.printed before after _ keeps.crash.output none ends.is) (λ low. refl) keeps
-kept_one seen crash_states (Err fault) before after printed_before printed_after own status p events held told none ends rel keeps =
+kept_one seen crash_states (Err fault) before after printed_before printed_after own status p events held known none ends rel keeps =
     let high = (fault_ends fault after printed_before printed_after own ends.1).high in
-    moved seen crash_states before.written after.written (IsGood (Err fault)) (status ≤ 1) p events held told
+    moved seen crash_states before.written after.written (IsGood (Err fault)) (status ≤ 1) p events held known
     (ap (λ (o : Output). o.written) ends.0) (λ low. absurd (too_low own status high low rel)) keeps
 
-kept_at_end : (told : Option (List ℕ × List ℕ)) (seen : Option (List ℕ)) (crash_states : List ℕ → Type 0) (outcome : Result Answer CommandFault) (before after : Output) (printed_before printed_after : Errors) (own status : ℕ)
+kept_at_end : (known : Option (List ℕ × List ℕ)) (seen : Option (List ℕ)) (crash_states : List ℕ → Type 0) (outcome : Result Answer CommandFault) (before after : Output) (printed_before printed_after : Errors) (own status : ℕ)
     (end : LogEnd) → (IsDriven (Some end) → IfOk outcome (λ answer. answer.text.items ≡ [])) → Ends outcome before after printed_before printed_after own → IsOwnOr own status
-    → IfSome told (IsLogAfter seen crash_states before.written (IsOk outcome) end) → IfSome told (IsLogAfter seen crash_states after.written (status ≤ 1) end)
+    → IfSome known (IsLogAfter seen crash_states before.written (IsOk outcome) end) → IfSome known (IsLogAfter seen crash_states after.written (status ≤ 1) end)
 kept_at_end None seen crash_states outcome before after printed_before printed_after own status end silent ends rel is = tt
 kept_at_end (Some t) seen crash_states outcome before after printed_before printed_after own status (Driven p events held) silent ends rel keeps =
     kept_one seen crash_states outcome before after printed_before printed_after own status p events held t (silent tt) ends rel keeps
@@ -74,12 +74,12 @@ kept_at_end (Some t) seen crash_states outcome before after printed_before print
 kept_at_end (Some t) seen crash_states outcome before after printed_before printed_after own status (Unlined p) silent ends rel is = is
 
 -- of the log that is held
-pub held_at_end : {D : Type 0} (seen : D → Option (List ℕ)) (crash_states : D → List ℕ → Type 0) (fault : D → Option FileFault) (written : D → Bool) (told : Option (List ℕ × List ℕ)) (outcome : Result Answer CommandFault)
+pub held_at_end : {D : Type 0} (seen : D → Option (List ℕ)) (crash_states : D → List ℕ → Type 0) (fault : D → Option FileFault) (written : D → Bool) (known : Option (List ℕ × List ℕ)) (outcome : Result Answer CommandFault)
     (before after : Output) (printed_before printed_after : Errors) (own status : ℕ) (log : Option D) (end : Option LogEnd) → (IsDriven end → IfOk outcome (λ answer. answer.text.items ≡ []))
-    → Ends outcome before after printed_before printed_after own → IsOwnOr own status → IsHeldAfter seen crash_states fault written told before.written (IsOk outcome) log end
-    → IsHeldAfter seen crash_states fault written told after.written (status ≤ 1) log end
-held_at_end seen crash_states fault written told outcome before after printed_before printed_after own status None None silent ends rel is = tt
-held_at_end seen crash_states fault written told outcome before after printed_before printed_after own status None (Some end) silent ends rel is = is
-held_at_end seen crash_states fault written told outcome before after printed_before printed_after own status (Some l) None silent ends rel is = is
-held_at_end seen crash_states fault written told outcome before after printed_before printed_after own status (Some l) (Some end) silent ends rel is =
-    (is.0, is.1, kept_at_end told (seen l) (crash_states l) outcome before after printed_before printed_after own status end silent ends rel is.2)
+    → Ends outcome before after printed_before printed_after own → IsOwnOr own status → IsHeldAfter seen crash_states fault written known before.written (IsOk outcome) log end
+    → IsHeldAfter seen crash_states fault written known after.written (status ≤ 1) log end
+held_at_end seen crash_states fault written known outcome before after printed_before printed_after own status None None silent ends rel is = tt
+held_at_end seen crash_states fault written known outcome before after printed_before printed_after own status None (Some end) silent ends rel is = is
+held_at_end seen crash_states fault written known outcome before after printed_before printed_after own status (Some l) None silent ends rel is = is
+held_at_end seen crash_states fault written known outcome before after printed_before printed_after own status (Some l) (Some end) silent ends rel is =
+    (is.0, is.1, kept_at_end known (seen l) (crash_states l) outcome before after printed_before printed_after own status end silent ends rel is.2)

@@ -46,7 +46,7 @@ use Rattle.command_answers.specs.declared.cells.Cells.TheVariants.{Accepted as A
 use Rattle.command_answers.specs.declared.command_fault.CommandFault.{CommandFault}
 use Rattle.command_answers.specs.declared.loading.Loaded.{Loaded}
 use Rattle.command_answers.specs.declared.loading.Loaded.TheVariants.{NotShaped, Judged}
-use Rattle.command_answers.specs.Steps.{Then, GoesOn, Told, IsOrMemory}
+use Rattle.command_answers.specs.Steps.{Then, GoesOn, Concludes, IsOrMemory}
 use Rattle.command_answers.specs.Readings.{AreFactsAnswered}
 use Rattle.command_answers.specs.Shapes.{IsShapeLine, IsNotShapedLine}
 use Rattle.command_answers.specs.Checks.{IsCheckLine, IsLineOf, accepted_in, verdict_status}
@@ -357,7 +357,7 @@ low_unrecovered (Log fault) outcome is = low_log_fault fault outcome is
 low_unrecovered (Past last) outcome is = low_or (IsPastLine last) outcome (λ answer line. one_low answer.status line.1) is
 low_unrecovered (RefusedRun back why) outcome is = low_or (IsLineOf (Judged (Refused back why))) outcome (low_line_of (Judged (Refused back why))) is
 
-low_recovered : (protocol : Protocol) (taken : Result Recovered ResumeFault) (before after : Streams) (outcome : Result Answer CommandFault) → ResumesRecovered protocol taken before after outcome → IsLow outcome
+low_recovered : (protocol : Protocol) (recovered : Result Recovered ResumeFault) (before after : Streams) (outcome : Result Answer CommandFault) → ResumesRecovered protocol recovered before after outcome → IsLow outcome
 low_recovered protocol (Ok t) before after outcome is = low_end (end_of_rest is.end) outcome is.answer
 low_recovered protocol (Err fault) before after outcome is = low_unrecovered fault outcome is.0
 
@@ -410,7 +410,7 @@ module _ {W : Type 0} (gives : W → List ℕ → Result (List ℕ) CommandFault
   low_with_log_of : (Comes : PlannedShop → List ℕ → Result Answer CommandFault → Type 0) → ((p : PlannedShop) (text : List ℕ) (outcome : Result Answer CommandFault) → Comes p text outcome → IsLow outcome)
       → (log : List ℕ) (p : PlannedShop) (mid : W) (outcome : Result Answer CommandFault) (after : W) → WithLogOf gives Comes log p mid outcome after → IsLow outcome
   low_with_log_of Comes each log p mid outcome after (inl (shaped, run)) =
-      held IsLow _ (λ text. Told (Comes p text)) mid outcome after low_failed (λ text later on. each p text outcome on.0) run
+      held IsLow _ (λ text. Concludes (Comes p text)) mid outcome after low_failed (λ text later on. each p text outcome on.0) run
   low_with_log_of Comes each log p mid outcome after (inr told) = low_or (IsNotShapedLine p) outcome (low_not_shaped p) told.0
 
   -- what comes of a plan that is well shaped
@@ -428,13 +428,13 @@ module _ {W : Type 0} (gives : W → List ℕ → Result (List ℕ) CommandFault
 
   low_with_names : (Comes : NameBook → Result Answer CommandFault → Type 0) → ((book : NameBook) (outcome : Result Answer CommandFault) → Comes book outcome → IsLow outcome)
       → (names : Option (List ℕ)) (p : PlannedShop) (mid : W) (outcome : Result Answer CommandFault) (after : W) → WithNames gives names p Comes mid outcome after → IsLow outcome
-  low_with_names Comes each names p mid outcome after run = held IsLow _ (λ book. Told (Comes book)) mid outcome after low_failed (λ book later on. each book outcome on.0) run
+  low_with_names Comes each names p mid outcome after run = held IsLow _ (λ book. Concludes (Comes book)) mid outcome after low_failed (λ book later on. each book outcome on.0) run
 
   low_names_and_log : (IsLine : NameBook → List ℕ → Answer → Type 0) → ((book : NameBook) (text : List ℕ) (answer : Answer) → IsLine book text answer → answer.status ≤ 1)
       → (names : Option (List ℕ)) (log : List ℕ) (p : PlannedShop) (mid : W) (outcome : Result Answer CommandFault) (after : W) → WithNamesAndLog gives names log p IsLine mid outcome after → IsLow outcome
   low_names_and_log IsLine each names log p mid outcome after run =
-      held IsLow _ (λ book. Then (Asks gives log) (λ text. Told (IsOrMemory (IsLine book text)))) mid outcome after low_failed
-      (λ book later on. held IsLow _ (λ text. Told (IsOrMemory (IsLine book text))) later outcome after low_failed
+      held IsLow _ (λ book. Then (Asks gives log) (λ text. Concludes (IsOrMemory (IsLine book text)))) mid outcome after low_failed
+      (λ book later on. held IsLow _ (λ text. Concludes (IsOrMemory (IsLine book text))) later outcome after low_failed
       (λ text last said. low_or (IsLine book text) outcome (each book text) said.0) on) run
 
   -- a line for a plan that is well shaped, with names
@@ -463,7 +463,7 @@ module _ {W : Type 0} (gives : W → List ℕ → Result (List ℕ) CommandFault
       (low_if_there (job_asked wanted) (WithNamesAndLog gives names log p (λ book. IsRestLine book wanted at p)) p mid outcome after
       (low_names_and_log (λ book. IsRestLine book wanted at p) (λ book. low_rest book wanted at p) names log p mid outcome after)) on) run
   low_answer_by OfVerdict at pair names None texts outcome after run =
-      low_both pair (λ p. Told (IsOrMemory (IsCheckLine p))) texts outcome after (λ p mid on. low_or (IsCheckLine p) outcome (low_check p) on.0) run
+      low_both pair (λ p. Concludes (IsOrMemory (IsCheckLine p))) texts outcome after (λ p mid on. low_or (IsCheckLine p) outcome (low_check p) on.0) run
   low_answer_by (Reasons told) at pair names None texts outcome after run =
       low_both pair (λ p. IfShaped gives p (IfThere gives told p (WithNames gives names p (λ book. IsOrMemory (IsPlanExplained book told p))))) texts outcome after
       (λ p mid on. low_if_shaped (IfThere gives told p (WithNames gives names p (λ book. IsOrMemory (IsPlanExplained book told p)))) p mid outcome after
@@ -484,14 +484,14 @@ module _ {W : Type 0} (gives : W → List ℕ → Result (List ℕ) CommandFault
   low_named_log : (IsDrawing : NameBook → List ℕ → Drawn → Type 0) → ((book : NameBook) (text : List ℕ) (drawn : Result Drawn CommandFault) → IsOrMemory (IsDrawing book text) drawn → IsLowDrawn drawn)
       → (names : Option (List ℕ)) (log : List ℕ) (p : PlannedShop) (mid : W) (drawn : Result Drawn CommandFault) (after : W) → WithNamesAndLog gives names log p IsDrawing mid drawn after → IsLowDrawn drawn
   low_named_log IsDrawing each names log p mid drawn after run =
-      held IsLowDrawn _ (λ book. Then (Asks gives log) (λ text. Told (IsOrMemory (IsDrawing book text)))) mid drawn after low_drawn_failed
-      (λ book later on. held IsLowDrawn _ (λ text. Told (IsOrMemory (IsDrawing book text))) later drawn after low_drawn_failed (λ text last said. each book text drawn said.0) on) run
+      held IsLowDrawn _ (λ book. Then (Asks gives log) (λ text. Concludes (IsOrMemory (IsDrawing book text)))) mid drawn after low_drawn_failed
+      (λ book later on. held IsLowDrawn _ (λ text. Concludes (IsOrMemory (IsDrawing book text))) later drawn after low_drawn_failed (λ text last said. each book text drawn said.0) on) run
 
   low_schedule_picture : (pair : PairOfFiles) (names : Option (List ℕ)) (texts : W) (drawn : Result Drawn CommandFault) (after : W) → DrawsSchedule gives pair names texts drawn after → IsLowDrawn drawn
   low_schedule_picture pair names texts drawn after came =
       held IsLowDrawn _ (λ p. IfDrawable p (WithNames gives names p (λ book. IsOrMemory (IsPlanDrawn book p)))) texts drawn after low_drawn_failed
       (λ p mid on. low_drawable (WithNames gives names p (λ book. IsOrMemory (IsPlanDrawn book p))) p mid drawn after
-      (λ run. held IsLowDrawn _ (λ book. Told (IsOrMemory (IsPlanDrawn book p))) mid drawn after low_drawn_failed (λ book later said. low_plan_drawn book p drawn said.0) run) on) came
+      (λ run. held IsLowDrawn _ (λ book. Concludes (IsOrMemory (IsPlanDrawn book p))) mid drawn after low_drawn_failed (λ book later said. low_plan_drawn book p drawn said.0) run) on) came
 
   low_rest_picture : (at : Option ℕ) (pair : PairOfFiles) (names : Option (List ℕ)) (log : List ℕ) (texts : W) (drawn : Result Drawn CommandFault) (after : W) → DrawsRest gives at pair names log texts drawn after → IsLowDrawn drawn
   low_rest_picture at pair names log texts drawn after came =
@@ -526,13 +526,13 @@ module _ {W : Type 0} (gives : W → List ℕ → Result (List ℕ) CommandFault
   low_seeks : (rounds : ℕ) (pair : PairOfFiles) (texts : W) (outcome : Result Answer CommandFault) (after : W)
       → SeeksPlan gives rounds pair texts outcome after → IsLow outcome
   low_seeks rounds pair texts outcome after (inl run) =
-      low_both pair (λ p. Told (IsSearchAnswer (search_by_two (task_in p)) rounds)) texts outcome after (λ p mid on. low_sought (search_by_two (task_in p)) rounds outcome on.0) run
+      low_both pair (λ p. Concludes (IsSearchAnswer (search_by_two (task_in p)) rounds)) texts outcome after (λ p mid on. low_sought (search_by_two (task_in p)) rounds outcome on.0) run
   low_seeks rounds pair texts outcome after (inr wanting) = subst IsLow (sym wanting.0) tt
 
   low_improves : (rounds : ℕ) (pair : PairOfFiles) (texts : W) (outcome : Result Answer CommandFault) (after : W)
       → ImprovesPlan gives rounds pair texts outcome after → IsLow outcome
   low_improves rounds pair texts outcome after (inl run) =
-      low_both pair (λ p. Told (IsImproveAnswer (AsksOne rounds) rounds (ordered p))) texts outcome after (λ p mid on. low_improved (AsksOne rounds) rounds (ordered p) outcome on.0) run
+      low_both pair (λ p. Concludes (IsImproveAnswer (AsksOne rounds) rounds (ordered p))) texts outcome after (λ p mid on. low_improved (AsksOne rounds) rounds (ordered p) outcome on.0) run
   low_improves rounds pair texts outcome after (inr wanting) = subst IsLow (sym wanting.0) tt
 
   low_with_rest : (at : Option ℕ) (rounds : ℕ) (log : List ℕ) (p : PlannedShop) (mid : W) (outcome : Result Answer CommandFault) (after : W)
@@ -563,14 +563,14 @@ module _ {W : Type 0} (gives : W → List ℕ → Result (List ℕ) CommandFault
   -- what comes of a plan whose numbers are sound, with names
   low_sound : (Comes : NameBook → Result Answer CommandFault → Type 0) (names : Option (List ℕ)) (p : PlannedShop) (mid : W) (outcome : Result Answer CommandFault) (after : W)
       → ((book : NameBook) → Comes book outcome → IsLow outcome) → WithSoundNames gives Comes names p mid outcome after → IsLow outcome
-  low_sound Comes names p mid outcome after each (inl (sound, is)) = held IsLow _ (λ book. Told (Comes book)) mid outcome after low_failed (λ book later on. each book on.0) is
+  low_sound Comes names p mid outcome after each (inl (sound, is)) = held IsLow _ (λ book. Concludes (Comes book)) mid outcome after low_failed (λ book later on. each book on.0) is
   low_sound Comes names p mid outcome after each (inr told) = low_or (IsBadNumbersLine p) outcome (λ answer line. one_low answer.status line.line.refused) told.0
 
   low_with_decision : (aim : Aim) (at : Option ℕ) (names : Option (List ℕ)) (log : List ℕ) (p : PlannedShop) (mid : W) (outcome : Result Answer CommandFault) (after : W)
       → WithRestDecision gives aim at names log p mid outcome after → IsLow outcome
   low_with_decision aim at names log p mid outcome after (inl (shaped, is)) =
       held IsLow _ _ mid outcome after low_failed
-      (λ book named on. held IsLow _ (λ text. Told (IsRestDecisionAnswer book at (ended_lines text) p aim)) named outcome after low_failed
+      (λ book named on. held IsLow _ (λ text. Concludes (IsRestDecisionAnswer book at (ended_lines text) p aim)) named outcome after low_failed
       (λ text later goes. low_rest_decided book at (ended_lines text) p aim outcome goes.0) on) is
   low_with_decision aim at names log p mid outcome after (inr told) = low_or (IsUnfitLine p) outcome (λ answer line. one_low answer.status line.line.refused) told.0
 
@@ -593,11 +593,11 @@ module _ {W : Type 0} (gives : W → List ℕ → Result (List ℕ) CommandFault
   pub low : (name : CommandName) (chosen : Chosen) (texts : W) (before : Streams) (outcome : Result Answer CommandFault) (texts_after : W) (after : Streams)
       → RunsCommand gives name chosen texts before outcome texts_after after → IsLow outcome
   low NoWords chosen texts before outcome texts_after after run =
-      held IsLow _ (λ text. Told (AreFactsAnswered text None)) before.input outcome after.input low_failed (λ text mid on. low_facts text None outcome on.0) run.0
+      held IsLow _ (λ text. Concludes (AreFactsAnswered text None)) before.input outcome after.input low_failed (λ text mid on. low_facts text None outcome on.0) run.0
   low Facts chosen texts before outcome texts_after after run =
-      held IsLow _ (λ text. Told (AreFactsAnswered text (name_in chosen))) texts outcome texts_after low_failed (λ text mid on. low_facts text (name_in chosen) outcome on.0) run.0
+      held IsLow _ (λ text. Concludes (AreFactsAnswered text (name_in chosen))) texts outcome texts_after low_failed (λ text mid on. low_facts text (name_in chosen) outcome on.0) run.0
   low Shape chosen texts before outcome texts_after after run =
-      low_both (pair_in chosen) (λ p. Told (IsOrMemory (IsShapeLine p))) texts outcome texts_after (λ p mid on. low_or (IsShapeLine p) outcome (low_shape p) on.0) run.0
+      low_both (pair_in chosen) (λ p. Concludes (IsOrMemory (IsShapeLine p))) texts outcome texts_after (λ p mid on. low_or (IsShapeLine p) outcome (low_shape p) on.0) run.0
   low Check chosen texts before outcome texts_after after run =
       low_answer_by OfVerdict chosen.at (pair_in chosen) (names_in chosen) (log_in chosen) texts outcome texts_after run.0
   low Explain chosen texts before outcome texts_after after run =
@@ -618,7 +618,7 @@ module _ {W : Type 0} (gives : W → List ℕ → Result (List ℕ) CommandFault
       low_drives_all (manner_in chosen) run.loaded before after outcome
       (held IsLowLine _ (λ text. LoadsEach gives text (name_in chosen) [] (plans_in chosen)) texts run.loaded texts_after low_line_failed (λ text mid on. low_loaded gives text (name_in chosen) [] (plans_in chosen) mid run.loaded texts_after on) run.loads) run.drives
   low Digest chosen texts before outcome texts_after after run =
-      low_both (pair_in chosen) (λ p. Told (IsOrMemory (IsDigestAnswer p))) texts outcome texts_after (λ p mid on. low_or (IsDigestAnswer p) outcome (low_digest p) on.0) run.0
+      low_both (pair_in chosen) (λ p. Concludes (IsOrMemory (IsDigestAnswer p))) texts outcome texts_after (λ p mid on. low_or (IsDigestAnswer p) outcome (low_digest p) on.0) run.0
   low Audit chosen texts before outcome texts_after after run =
       low_named_and_logged (λ book. IsLogLine book Numbers) (λ book. low_log book Numbers) (pair_in chosen) None (file_at chosen 2) texts outcome texts_after run.0
   low Gantt chosen texts before outcome texts_after after run = low_drawing chosen.svg (pair_in chosen) (names_in chosen) (file_at chosen 2) texts before outcome texts_after after run

@@ -4,7 +4,7 @@ use Rattle.std.proofs.lemmas.Option.{slice_get_within}
 use Rattle.shop_base.specs.Shop.{JobShop}
 use Rattle.shop_base.specs.Plan.{ShopPlan}
 use Rattle.plan_seek.specs.declared.seek_fault.SeekFault.{SeekFault}
-use Rattle.plan_seek.specs.declared.seek_fault.SeekFault.TheVariants.{BadNumbers, Exhausted, TooManyRounds, Memory as WantOfMemory}
+use Rattle.plan_seek.specs.declared.seek_fault.SeekFault.TheVariants.{BadNumbers, Exhausted, TooManyRounds, Memory as OutOfMemory}
 use Rattle.plan_seek.specs.Orders.{Proposal, shifted_order}
 use Rattle.plan_seek.specs.Tasks.{PlanTask, task_in}
 use Rattle.plan_seek.specs.Turns.{Turn, Proposals, MayPropose, MayFail, EachMayFail, PlanSearch, search_by}
@@ -13,7 +13,7 @@ use Rattle.command_answers.specs.declared.answer.Answer.{Answer}
 use Rattle.command_answers.specs.declared.command_fault.CommandFault.{CommandFault}
 use Rattle.command_answers.specs.declared.command_fault.CommandFault.TheVariants.{Instance, Plan, Names, Read, Write, InputTooLong, Log, LogInUse, Memory}
 use Rattle.command_answers.specs.Search.{IsFound, IsSearchLine, IsSearchAnswer}
-use Rattle.command_answers.specs.Steps.{Then, GoesOn, Told}
+use Rattle.command_answers.specs.Steps.{Then, GoesOn, Concludes}
 use Rattle.command_answers.specs.Commands.{PairOfFiles, ReadsBoth, RunsPlan}
 use Rattle.command_run.specs.Planners.{MayPlanAt, search_by_two}
 
@@ -44,7 +44,7 @@ module _ (t : PlanTask) (proposers : ℕ) (may wide : Proposals) (within : (turn
   fault_more (BadNumbers fault) is = is
   fault_more TooManyRounds is = is
   fault_more Exhausted is = (is.0, each_more is.1, is.2)
-  fault_more WantOfMemory is = is
+  fault_more OutOfMemory is = is
 
   line_more : (answer : Answer) → IsSearchLine (search may) rounds answer → IsSearchLine (search wide) rounds answer
   line_more answer (inl text) = inl (record { plan = text.plan; found = found_more text.plan text.found; text = text.text })
@@ -83,7 +83,7 @@ pub runs_more : {W : Type 0} (gives : W → List ℕ → Result (List ℕ) Comma
     → (proposers rounds : ℕ) (pair : PairOfFiles) (before : W) (outcome : Result Answer CommandFault) (after : W)
     → RunsPlan gives (search_with may proposers) rounds pair before outcome after → RunsPlan gives (search_with wide proposers) rounds pair before outcome after
 runs_more gives may wide within proposers rounds pair before outcome after =
-    then_more (ReadsBoth gives pair) (λ p. Told (IsSearchAnswer (search_with may proposers (task_in p)) rounds)) (λ p. Told (IsSearchAnswer (search_with wide proposers (task_in p)) rounds)) before outcome after
+    then_more (ReadsBoth gives pair) (λ p. Concludes (IsSearchAnswer (search_with may proposers (task_in p)) rounds)) (λ p. Concludes (IsSearchAnswer (search_with wide proposers (task_in p)) rounds)) before outcome after
     (λ p last is. (answer_more (task_in p) proposers (may p.shop) (wide p.shop) (within p.shop) rounds outcome is.0, is.1))
 
 module _ {B : Type 0} (may : B → JobShop → ℕ → Proposal → Type 0) (one two : B)

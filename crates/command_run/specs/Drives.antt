@@ -4,7 +4,7 @@ use Rattle.plan_verifier.specs.declared.verdict.Verdict.TheVariants.{Accepted, R
 use Rattle.plan_verifier.specs.Accepted.{VerifiedPlan}
 use Rattle.cell_drive.specs.declared.begin.DriveEnd.{DriveEnd}
 use Rattle.byte_streams.specs.declared.drive_fault.DriveFault.{DriveFault}
-use Rattle.byte_streams.specs.declared.drive_fault.DriveFault.TheVariants.{Read as NotRead, Write as NotWritten, InputTooLong as TooLong, Memory as WantOfMemory}
+use Rattle.byte_streams.specs.declared.drive_fault.DriveFault.TheVariants.{Read as NotRead, Write as NotWritten, InputTooLong as TooLong, Memory as OutOfMemory}
 use Rattle.cell_drive.specs.declared.protocol.Protocol.{Protocol}
 pub use Rattle.cell_drive.specs.InProtocol.{IsDriveIn}
 use Rattle.command_answers.specs.declared.answer.Answer.{Answer}
@@ -21,7 +21,7 @@ abbrev pub drive_command_fault : DriveFault → CommandFault
 drive_command_fault NotRead = Read
 drive_command_fault NotWritten = Write
 drive_command_fault TooLong = InputTooLong
-drive_command_fault WantOfMemory = Memory
+drive_command_fault OutOfMemory = Memory
 
 -- the status of a run: whether it has ended
 abbrev pub status_at : Bool → ℕ

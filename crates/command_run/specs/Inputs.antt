@@ -7,7 +7,7 @@ use Rattle.command_answers.specs.declared.answer.Answer.{Answer}
 use Rattle.command_answers.specs.declared.command_fault.CommandFault.{CommandFault}
 use Rattle.command_answers.specs.declared.command_fault.CommandFault.TheVariants.{Read, InputTooLong, Memory}
 use Rattle.command_answers.specs.Readings.{AreFactsAnswered}
-use Rattle.command_answers.specs.Steps.{Then, Told}
+use Rattle.command_answers.specs.Steps.{Then, Concludes}
 use Rattle.command_run.specs.Streams.{Input}
 
 -- the whole input was read; or a read failed, more bytes came than the limit but no more than one piece, or memory ran out
@@ -20,4 +20,4 @@ IsInputRead before (Err other) after = ⊥
 
 -- the input is read whole, and the facts of the instance that it tells are answered
 abbrev pub RunsInput : Input → Result Answer CommandFault → Input → Type 0
-RunsInput = Then IsInputRead (λ text. Told (AreFactsAnswered text None))
+RunsInput = Then IsInputRead (λ text. Concludes (AreFactsAnswered text None))

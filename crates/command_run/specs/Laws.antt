@@ -378,7 +378,7 @@ HubAnswersByCheck = (protocol : Protocol) (before after : Streams) (content : Li
 
 -- the words ask for `drive` with these files, and for no log of its own
 pub record AskForDrive (words : List (List ℕ)) (pair : PairOfFiles) : Type 0 where
-  pub taken : reasons_in words ≡ []
+  pub accepted : reasons_in words ≡ []
   pub drive : word_found (found_in words) ≡ word_of Drive
   pub log : kept_in (rows_found (found_in words)) ≡ None
   pub path : pair.path ≡ get_or (files_in (rows_found (found_in words))) 0 []
@@ -475,10 +475,10 @@ module _ {W : Type 0} (gives : W → List ℕ → Result (List ℕ) CommandFault
     pub text : List ℕ
     pub later : W
     pub asks : Asks gives log mid (Ok text) later
-    pub taken : Recovered
-    pub takes : IsRecovery plan at text (Ok taken)
+    pub recovered : Recovered
+    pub takes : IsRecovery plan at text (Ok recovered)
     pub end : Result RestEnd DriveFault
-    pub is : IsResumeIn protocol taken before after end
+    pub is : IsResumeIn protocol recovered before after end
 
   -- all plans are accepted, and their cells were driven to this end or up to this fault
   pub record DroveCells (protocol : Protocol) (path : List ℕ) (name : Option (List ℕ)) (plans : List (List ℕ)) (texts : W) (before after : Streams) : Type 0 where
@@ -511,7 +511,7 @@ module _ {W : Type 0} (gives : W → List ℕ → Result (List ℕ) CommandFault
   -- the command that the words choose was run to an outcome
   pub record RanCommand (words : List (List ℕ)) (before : Devices W) (outcome : Result Answer CommandFault) (mid : Streams) (after : Devices W) (log : Option LogEnd) : Type 0 where
     pub chosen : Chosen
-    pub taken : reasons_in words ≡ []
+    pub accepted : reasons_in words ≡ []
     pub is : IsChoiceOf words (found_in words) chosen
     pub runs : RunsChosen gives (kept_log_in chosen) chosen before outcome mid after log
     pub driven : WereDriven chosen.name chosen before.texts before.streams mid

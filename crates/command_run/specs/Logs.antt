@@ -121,7 +121,7 @@ left_if true = Some (Found [])
 left_if false = None
 
 -- a cell was driven so by the plan, behind these events, by a writer that keeps a log, and shows only what the log has got; where a write failed, and not the log's, the output has; memory doesn't run out. The status says whether the run has ended, and the log is held
-pub record DrivesWithLog {T : Type 0} (p : PlannedShop) (told : List Entry) (drives : Streams → Streams → Result T DriveFault → Type 0) (ends : Result T DriveFault → Result Bool DriveFault) (step : Step) : Type 0 where
+pub record DrivesWithLog {T : Type 0} (p : PlannedShop) (known : List Entry) (drives : Streams → Streams → Result T DriveFault → Type 0) (ends : Result T DriveFault → Result Bool DriveFault) (step : Step) : Type 0 where
   pub end : Result T DriveFault
   pub log_failed : Bool
   pub held : Held
@@ -129,7 +129,7 @@ pub record DrivesWithLog {T : Type 0} (p : PlannedShop) (told : List Entry) (dri
   pub output_failed : end ≡ Err NotWritten → log_failed ≡ false → step.after.output.failed ≡ true
   pub memory : end ≢ Err NoMemoryToDrive
   pub answer : IsLoggedAnswer log_failed (ends end) step.outcome
-  pub log : step.log ≡ Some (Driven p told held)
+  pub log : step.log ≡ Some (Driven p known held)
 
 -- the verdict on a plan
 pub record IsVerdict (p : PlannedShop) (verdict : Verdict) : Type 0 where
@@ -178,18 +178,18 @@ module _ (folder folder_after : Folder) (path : List ℕ) where
 -- ---- a log with bytes
 
 -- the log with these bytes is taken up by the plan, at the moment that is given or else at its last one, and its torn end was cut off; or this is why it isn't
-pub record RecoversLog (p : PlannedShop) (at : Option ℕ) (text : List ℕ) (taken : Result Recovered RecoverFault) : Type 0 where
-  pub is : IfOk taken (IsRecovered p (ended_lines (whole_lines text)) at)
-  pub torn : OnOk taken (is_torn (torn_end text) ≡ true)
-  pub fault : IfErr taken (IsRecoverFault p text at)
-  pub only_fault : IfErr taken (IsOnlyRecoverFault p (ended_lines (whole_lines text)))
-  pub only : IsRecoverable p (ended_lines (whole_lines text)) at → is_torn (torn_end text) ≡ true → IfErr taken IsOfDevice
+pub record RecoversLog (p : PlannedShop) (at : Option ℕ) (text : List ℕ) (recovered : Result Recovered RecoverFault) : Type 0 where
+  pub is : IfOk recovered (IsRecovered p (ended_lines (whole_lines text)) at)
+  pub torn : OnOk recovered (is_torn (torn_end text) ≡ true)
+  pub fault : IfErr recovered (IsRecoverFault p text at)
+  pub only_fault : IfErr recovered (IsOnlyRecoverFault p (ended_lines (whole_lines text)))
+  pub only : IsRecoverable p (ended_lines (whole_lines text)) at → is_torn (torn_end text) ≡ true → IfErr recovered IsOfDevice
 
 -- the events in the log were told again, and shown; or that failed
-pub record ReplaysEvents (protocol : Protocol) (t : Recovered) (before after : Output) (told : Result Recovered DriveFault) : Type 0 where
-  pub is : IsReplayedIn protocol t (output_sink before) (output_sink after) told
-  pub same : IfOk told (λ run. run ≡ t)
-  pub shown : OnOk told (after.pending ≡ [])
+pub record ReplaysEvents (protocol : Protocol) (t : Recovered) (before after : Output) (replay : Result Recovered DriveFault) : Type 0 where
+  pub is : IsReplayedIn protocol t (output_sink before) (output_sink after) replay
+  pub same : IfOk replay (λ run. run ≡ t)
+  pub shown : OnOk replay (after.pending ≡ [])
 
 -- an input, with an output that has taken the events
 abbrev pub with_output : Streams → Output → Streams
@@ -206,10 +206,10 @@ GoesOnAfter protocol t mid (Err fault) step = (step.outcome ≡ Err (drive_comma
 
 -- so a run that was taken up goes on
 pub record GoesOnWithLog (protocol : Protocol) (t : Recovered) (step : Step) : Type 0 where
-  pub told : Result Recovered DriveFault
+  pub replay : Result Recovered DriveFault
   pub mid : Output
-  pub tells : ReplaysEvents protocol t step.before.output mid told
-  pub goes_on : GoesOnAfter protocol t mid told step
+  pub replays : ReplaysEvents protocol t step.before.output mid replay
+  pub goes_on : GoesOnAfter protocol t mid replay step
 
 -- what follows the taking up of a log with these bytes: the run goes on with it; of one that isn't taken up the fault is told, with no byte read or written, and it is held
 abbrev pub ContinuesRecovered : PlannedShop → Protocol → List ℕ → Result Recovered RecoverFault → Step → Type 0
@@ -218,9 +218,9 @@ ContinuesRecovered p protocol text (Err fault) step = IsLogFaultPrinted fault st
 
 -- the log with these bytes is taken up, and the run goes on
 pub record RecoversRun (p : PlannedShop) (protocol : Protocol) (at : Option ℕ) (text : List ℕ) (step : Step) : Type 0 where
-  pub taken : Result Recovered RecoverFault
-  pub takes : RecoversLog p at text taken
-  pub goes_on : ContinuesRecovered p protocol text taken step
+  pub recovered : Result Recovered RecoverFault
+  pub takes : RecoversLog p at text recovered
+  pub goes_on : ContinuesRecovered p protocol text recovered step
 
 -- ---- any log
 
@@ -243,7 +243,7 @@ module _ (folder folder_after : Folder) (path : List ℕ) where
   -- what was found is driven, if it is as the words ask, by its whole lines
   pub record DrivesFound (start : LogStart) (protocol : Protocol) (at : Option ℕ) (p : PlannedShop) (there : Option (List ℕ)) (step : Step) : Type 0 where
     pub run : LogRun
-    pub tells : IsRunOf (lines_of (whole_lines (bytes_in there))) run
+    pub parses : IsRunOf (lines_of (whole_lines (bytes_in there))) run
     pub misfit : Option Misfit
     pub is_misfit : SomeIfAny misfit (IsMisfit start run (digits_in p))
     pub drives : DrivesAs misfit protocol at p there step
@@ -279,11 +279,11 @@ DrivesShaped folder folder_after path start protocol at (Ok (Ok p)) step = Drive
 
 -- Of a run of the plan, behind these events, up to what its writer held: the log is in step with the output. What a crash leaves of it has, behind what was told of it before, all that was shown
 -- behind what was told of the output, and the run is taken up from that. At a good end it has all of it.
-pub record KeepsInLog (seen : Option (List ℕ)) (crash_states : List ℕ → Type 0) (taken : Option (List ℕ)) (good : Type 0) (p : PlannedShop) (before : List Entry) (held : Held) (told : List ℕ × List ℕ) : Type 0 where
-  pub in_step : AreInStep told.0 told.1 seen crash_states held.written held.pending held.failed
-  pub crash : KeepsShown told.0 told.1 crash_states taken
-  pub recoverable : IsRecoveredAfter p before told.1 crash_states taken
-  pub in_log : good → IsAllInLog told.0 told.1 seen crash_states taken
+pub record KeepsInLog (seen : Option (List ℕ)) (crash_states : List ℕ → Type 0) (printed : Option (List ℕ)) (good : Type 0) (p : PlannedShop) (before : List Entry) (held : Held) (known : List ℕ × List ℕ) : Type 0 where
+  pub in_step : AreInStep known.0 known.1 seen crash_states held.written held.pending held.failed
+  pub crash : KeepsShown known.0 known.1 crash_states printed
+  pub recoverable : IsRecoveredAfter p before known.1 crash_states printed
+  pub in_log : good → IsAllInLog known.0 known.1 seen crash_states printed
 
 -- a log with these bytes that wasn't taken up by the plan has them still, unless it couldn't be cut or written; what a crash leaves of it has the same whole lines, with the plan's or without, and of a torn end a torn end again
 pub record IsAsItWas (seen : Option (List ℕ)) (crash_states : List ℕ → Type 0) (p : PlannedShop) (text : List ℕ) (fault : RecoverFault) : Type 0 where
@@ -293,12 +293,12 @@ pub record IsAsItWas (seen : Option (List ℕ)) (crash_states : List ℕ → Typ
 
 -- so by what became of it
 abbrev pub IsLogAfter : Option (List ℕ) → (List ℕ → Type 0) → Option (List ℕ) → Type 0 → LogEnd → List ℕ × List ℕ → Type 0
-IsLogAfter seen crash_states taken good (Driven p before held) told = KeepsInLog seen crash_states taken good p before held told
-IsLogAfter seen crash_states taken good (NotRecovered p text fault) told = IsAsItWas seen crash_states p text fault
-IsLogAfter seen crash_states taken good Left told = (seen ≡ Some told.0) × IsDurable seen crash_states
-IsLogAfter seen crash_states taken good (Found bytes) told = (seen ≡ Some bytes) × IsDurable seen crash_states
-IsLogAfter seen crash_states taken good (Unread fault) told = Unit {0}
-IsLogAfter seen crash_states taken good (Unlined p) told = Leaves crash_states 0 (plan_line (digits_in p))
+IsLogAfter seen crash_states printed good (Driven p before held) known = KeepsInLog seen crash_states printed good p before held known
+IsLogAfter seen crash_states printed good (NotRecovered p text fault) known = IsAsItWas seen crash_states p text fault
+IsLogAfter seen crash_states printed good Left known = (seen ≡ Some known.0) × IsDurable seen crash_states
+IsLogAfter seen crash_states printed good (Found bytes) known = (seen ≡ Some bytes) × IsDurable seen crash_states
+IsLogAfter seen crash_states printed good (Unread fault) known = Unit {0}
+IsLogAfter seen crash_states printed good (Unlined p) known = Leaves crash_states 0 (plan_line (digits_in p))
 
 -- the fault that the log itself tells, by what became of it
 abbrev pub fault_of : LogEnd → Option FileFault
@@ -318,17 +318,17 @@ IsUntouched written other = Unit {0}
 
 -- so it is with the log that is held, if one is: it tells just this fault, and where it is told what there was before, it has this
 abbrev pub IsHeldAfter : {D : Type 0} → (D → Option (List ℕ)) → (D → List ℕ → Type 0) → (D → Option FileFault) → (D → Bool) → Option (List ℕ × List ℕ) → Option (List ℕ) → Type 0 → Option D → Option LogEnd → Type 0
-IsHeldAfter seen crash_states fault written told taken good None None = Unit {0}
-IsHeldAfter seen crash_states fault written told taken good None (Some end) = ⊥
-IsHeldAfter seen crash_states fault written told taken good (Some log) None = ⊥
-IsHeldAfter seen crash_states fault written told taken good (Some log) (Some end) = (fault log ≡ fault_of end) × IsUntouched (written log) end × IfSome told (IsLogAfter (seen log) (crash_states log) taken good end)
+IsHeldAfter seen crash_states fault written known printed good None None = Unit {0}
+IsHeldAfter seen crash_states fault written known printed good None (Some end) = ⊥
+IsHeldAfter seen crash_states fault written known printed good (Some log) None = ⊥
+IsHeldAfter seen crash_states fault written known printed good (Some log) (Some end) = (fault log ≡ fault_of end) × IsUntouched (written log) end × IfSome known (IsLogAfter (seen log) (crash_states log) printed good end)
 
 -- something was done with a log, and the log that is held after it, if one is, is as is said of it
-pub record WithLog {D : Type 0} (seen : D → Option (List ℕ)) (crash_states : D → List ℕ → Type 0) (fault : D → Option FileFault) (written : D → Bool) (told : Option (List ℕ × List ℕ)) (taken : Option (List ℕ)) (good : Type 0)
+pub record WithLog {D : Type 0} (seen : D → Option (List ℕ)) (crash_states : D → List ℕ → Type 0) (fault : D → Option FileFault) (written : D → Bool) (known : Option (List ℕ × List ℕ)) (printed : Option (List ℕ)) (good : Type 0)
     (log : Option D) (done : Option LogEnd → Type 0) : Type 0 where
   pub end : Option LogEnd
   pub is : done end
-  pub held : IsHeldAfter seen crash_states fault written told taken good log end
+  pub held : IsHeldAfter seen crash_states fault written known printed good log end
 
 -- whether a cell was driven with it
 abbrev pub is_driven : Option LogEnd → Bool
@@ -337,7 +337,7 @@ is_driven other = false
 
 -- a step was made with a log, and it is known whether a cell was driven
 abbrev pub StepsWith : {D : Type 0} → (D → Option (List ℕ)) → (D → List ℕ → Type 0) → (D → Option FileFault) → (D → Bool) → Option (List ℕ × List ℕ) → Streams → Result Answer CommandFault → Streams → Bool → Option D → (Step → Type 0) → Type 0
-StepsWith seen crash_states fault written told before outcome after driven log makes = WithLog seen crash_states fault written told after.output.written (IsOk outcome) log
+StepsWith seen crash_states fault written known before outcome after driven log makes = WithLog seen crash_states fault written known after.output.written (IsOk outcome) log
     (λ end. (driven ≡ is_driven end) × makes (step_of before outcome after end))
 
 -- ---- what a log is before a run
@@ -352,7 +352,7 @@ pub record IsEmptyLog (seen : Option (List ℕ)) (crash_states : List ℕ → Ty
   pub ready : IsReady seen crash_states fault
   pub unwritten : written ≡ false
   pub empty : IfSome seen (λ file. file ≡ [])
-  pub told : IfSome folder.logs (λ _. seen ≡ Some [])
+  pub known : IfSome folder.logs (λ _. seen ≡ Some [])
 
 -- a log that was opened and read, and not written, with these bytes, which are told where the logs are
 pub record IsFoundLog (seen : Option (List ℕ)) (crash_states : List ℕ → Type 0) (fault : Option FileFault) (written : Bool) (folder : Folder) (text : List ℕ) : Type 0 where
@@ -360,7 +360,7 @@ pub record IsFoundLog (seen : Option (List ℕ)) (crash_states : List ℕ → Ty
   pub unwritten : written ≡ false
   pub read : IfSome seen (λ file. text ≡ file)
   pub within : length text ≤ MAX_INPUT
-  pub told : IfSome folder.logs (λ _. seen ≡ Some text)
+  pub known : IfSome folder.logs (λ _. seen ≡ Some text)
 
 -- the run was taken up from the whole lines that the log has
 abbrev pub IsRecoveredFromLog : Recovered → List ℕ → Type 0
@@ -369,42 +369,42 @@ IsRecoveredFromLog t base = (whole_lines base ≡ base) × (at : Option ℕ) × 
 -- ---- what the log holds before
 
 -- behind what the output has taken stands this text
-pub record IsWrittenBehind (taken : Option (List ℕ)) (text told : List ℕ) : Type 0 where
+pub record IsWrittenBehind (printed : Option (List ℕ)) (text known : List ℕ) : Type 0 where
   pub start : List ℕ
-  pub was : taken ≡ Some start
-  pub is : told ≡ start ++ text
+  pub was : printed ≡ Some start
+  pub is : known ≡ start ++ text
 
 -- what is told of a new log by this plan, in a folder that is told: the line of the plan; and of what the output has taken
-pub record IsHistoryOfNew (folder : Folder) (p : PlannedShop) (taken : Option (List ℕ)) (told : List ℕ × List ℕ) : Type 0 where
+pub record IsHistoryOfNew (folder : Folder) (p : PlannedShop) (printed : Option (List ℕ)) (known : List ℕ × List ℕ) : Type 0 where
   pub logs : List NamedLog
   pub there : folder.logs ≡ Some logs
-  pub log : told.0 ≡ plan_line (digits_in p)
-  pub output : taken ≡ Some told.1
+  pub log : known.0 ≡ plan_line (digits_in p)
+  pub output : printed ≡ Some known.1
 
 -- what is told of the whole lines of a log, with the line of the plan behind them unless it is their last one; and of what the output has taken once the events in it are told again
-pub record IsHistoryOfOld (p : PlannedShop) (protocol : Protocol) (at : Option ℕ) (bytes : List ℕ) (taken : Option (List ℕ)) (told : List ℕ × List ℕ) : Type 0 where
-  pub log : IsNamedFor (digits_in p) (whole_lines bytes) told.0
-  pub output : (t : Recovered) → IsRecovered p (ended_lines (whole_lines bytes)) at t → IsWrittenBehind taken (replay_text protocol t) told.1
+pub record IsHistoryOfOld (p : PlannedShop) (protocol : Protocol) (at : Option ℕ) (bytes : List ℕ) (printed : Option (List ℕ)) (known : List ℕ × List ℕ) : Type 0 where
+  pub log : IsNamedFor (digits_in p) (whole_lines bytes) known.0
+  pub output : (t : Recovered) → IsRecovered p (ended_lines (whole_lines bytes)) at t → IsWrittenBehind printed (replay_text protocol t) known.1
 
 -- so of any log
 abbrev pub IsHistoryOf : Folder → PlannedShop → Protocol → Option ℕ → Option (List ℕ) → Option (List ℕ) → List ℕ × List ℕ → Type 0
-IsHistoryOf folder p protocol at None taken told = IsHistoryOfNew folder p taken told
-IsHistoryOf folder p protocol at (Some []) taken told = IsHistoryOfNew folder p taken told
-IsHistoryOf folder p protocol at (Some (byte ∷ bytes)) taken told = IsHistoryOfOld p protocol at (byte ∷ bytes) taken told
+IsHistoryOf folder p protocol at None printed known = IsHistoryOfNew folder p printed known
+IsHistoryOf folder p protocol at (Some []) printed known = IsHistoryOfNew folder p printed known
+IsHistoryOf folder p protocol at (Some (byte ∷ bytes)) printed known = IsHistoryOfOld p protocol at (byte ∷ bytes) printed known
 
 -- so of one that was found, in a folder that is told
-pub record IsHistoryOfFound (folder : Folder) (p : PlannedShop) (protocol : Protocol) (at : Option ℕ) (there taken : Option (List ℕ)) (told : List ℕ × List ℕ) : Type 0 where
+pub record IsHistoryOfFound (folder : Folder) (p : PlannedShop) (protocol : Protocol) (at : Option ℕ) (there printed : Option (List ℕ)) (known : List ℕ × List ℕ) : Type 0 where
   pub logs : List NamedLog
   pub in_folder : folder.logs ≡ Some logs
-  pub is : IsHistoryOf folder p protocol at there taken told
+  pub is : IsHistoryOf folder p protocol at there printed known
 
 -- so of the log of this path, in a folder that is told
-pub record IsHistoryOfPath (folder : Folder) (path : List ℕ) (p : PlannedShop) (protocol : Protocol) (at : Option ℕ) (taken : Option (List ℕ)) (told : List ℕ × List ℕ) : Type 0 where
+pub record IsHistoryOfPath (folder : Folder) (path : List ℕ) (p : PlannedShop) (protocol : Protocol) (at : Option ℕ) (printed : Option (List ℕ)) (known : List ℕ × List ℕ) : Type 0 where
   pub logs : List NamedLog
   pub there : folder.logs ≡ Some logs
-  pub is : IsHistoryOf folder p protocol at (held logs path) taken told
+  pub is : IsHistoryOf folder p protocol at (held logs path) printed known
 
 -- by each plan that the files tell
 abbrev pub IsHistoryOfLog : {W : Type 0} → (W → List ℕ → Result (List ℕ) CommandFault → W → Type 0) → Folder → PairOfFiles → List ℕ → Protocol → Option ℕ
     → W → Option (List ℕ) → List ℕ × List ℕ → Type 0
-IsHistoryOfLog {W} gives folder pair path protocol at texts taken told = (p : PlannedShop) (mid : W) → Shapes gives pair texts (Ok (Ok p)) mid → IsHistoryOfPath folder path p protocol at taken told
+IsHistoryOfLog {W} gives folder pair path protocol at texts printed known = (p : PlannedShop) (mid : W) → Shapes gives pair texts (Ok (Ok p)) mid → IsHistoryOfPath folder path p protocol at printed known

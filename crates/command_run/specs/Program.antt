@@ -46,7 +46,7 @@ use Rattle.command_run.specs.Ending.{Ends, EndsBy, IsAnswerEnd, WasPrinted}
 pub record AreWordsRead (words : List (List ℕ)) (read : Result Chosen WordsFault) : Type 0 where
   pub chosen : IfOk read (IsChoiceOf words (found_in words))
   pub within : IfOk read IsWithin
-  pub taken : IfOk read (λ _. reasons_in words ≡ [])
+  pub accepted : IfOk read (λ _. reasons_in words ≡ [])
   pub refused : IfErr read (NamesOneOf (reasons_in words))
 
 -- the file at a place of the command line
@@ -253,9 +253,9 @@ module _ {W : Type 0} (gives : W → List ℕ → Result (List ℕ) CommandFault
 
 -- what is told of the log that the command keeps, if it keeps one, and of what the output has taken once the events in that are told again
 abbrev pub IsHistoryOfChosen : {W : Type 0} → (W → List ℕ → Result (List ℕ) CommandFault → W → Type 0) → Chosen → Devices W → List ℕ × List ℕ → Type 0
-IsHistoryOfChosen gives chosen before told = (path : List ℕ) → kept_log_in chosen ≡ Some path
-    → IsHistoryOfLog gives before.folder (pair_in chosen) path (manner_in chosen) chosen.at before.texts before.streams.output.written told
+IsHistoryOfChosen gives chosen before known = (path : List ℕ) → kept_log_in chosen ≡ Some path
+    → IsHistoryOfLog gives before.folder (pair_in chosen) path (manner_in chosen) chosen.at before.texts before.streams.output.written known
 
 -- what is told of the log that the words ask for, and of what the output has taken once the events in that are told again
 abbrev pub IsHistoryOfWords : {W : Type 0} → (W → List ℕ → Result (List ℕ) CommandFault → W → Type 0) → List (List ℕ) → Devices W → List ℕ × List ℕ → Type 0
-IsHistoryOfWords gives words before told = (chosen : Chosen) → IsChoiceOf words (found_in words) chosen → IsHistoryOfChosen gives chosen before told
+IsHistoryOfWords gives words before known = (chosen : Chosen) → IsChoiceOf words (found_in words) chosen → IsHistoryOfChosen gives chosen before known

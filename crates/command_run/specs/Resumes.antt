@@ -8,7 +8,7 @@ use Rattle.byte_streams.specs.declared.drive_fault.DriveFault.{DriveFault}
 use Rattle.cell_drive.specs.declared.protocol.Protocol.{Protocol}
 use Rattle.cell_drive.specs.declared.resume.RestEnd.{RestEnd}
 use Rattle.cell_drive.specs.declared.resume_fault.ResumeFault.{ResumeFault}
-use Rattle.cell_drive.specs.declared.resume_fault.ResumeFault.TheVariants.{Log, Past, Refused, Memory as WantOfMemory}
+use Rattle.cell_drive.specs.declared.resume_fault.ResumeFault.TheVariants.{Log, Past, Refused, Memory as OutOfMemory}
 use Rattle.cell_drive.specs.Recovered.{Recovered, IsRecovered, IsRecoverable}
 use Rattle.cell_drive.specs.ResumeFaults.{IsResumeFault, IsOnlyLogFault}
 use Rattle.cell_drive.specs.InProtocol.{IsResumeIn}
@@ -24,15 +24,15 @@ use Rattle.command_run.specs.Streams.{Streams}
 use Rattle.command_run.specs.Drives.{IsEndAnswer, IsLineAnswer}
 
 -- the text is a log that is taken up by the plan, at the moment that is given or else at its last one, with all that is told of it; or this is its fault, which is want of memory alone where it can be taken up
-pub record IsRecovery (p : PlannedShop) (at : Option ℕ) (text : List ℕ) (taken : Result Recovered ResumeFault) : Type 0 where
-  pub is : IfOk taken (IsRecovered p (ended_lines text) at)
-  pub fault : IfErr taken (IsResumeFault p (ended_lines text) at)
-  pub only : IfErr taken (IsOnlyLogFault p (ended_lines text))
-  pub can : IsRecoverable p (ended_lines text) at → IfErr taken (λ fault. fault ≡ WantOfMemory)
+pub record IsRecovery (p : PlannedShop) (at : Option ℕ) (text : List ℕ) (recovered : Result Recovered ResumeFault) : Type 0 where
+  pub is : IfOk recovered (IsRecovered p (ended_lines text) at)
+  pub fault : IfErr recovered (IsResumeFault p (ended_lines text) at)
+  pub only : IfErr recovered (IsOnlyLogFault p (ended_lines text))
+  pub can : IsRecoverable p (ended_lines text) at → IfErr recovered (λ fault. fault ≡ OutOfMemory)
 
 -- out of memory is a fault of the command; else the first fault of the log is answered by its line, a moment that is past by that, and a plan that is refused by the line of `check`, unless memory runs out
 abbrev pub IsUnrecoveredAnswer : ResumeFault → Result Answer CommandFault → Type 0
-IsUnrecoveredAnswer WantOfMemory outcome = outcome ≡ Err Memory
+IsUnrecoveredAnswer OutOfMemory outcome = outcome ≡ Err Memory
 IsUnrecoveredAnswer (Log fault) outcome = IsLogFaultAnswer fault outcome
 IsUnrecoveredAnswer (Past last) outcome = IsOrMemory (IsPastLine last) outcome
 IsUnrecoveredAnswer (Refused back why) outcome = IsLineAnswer (Judged (RefusedPlan back why)) outcome
@@ -55,7 +55,7 @@ ResumesRecovered protocol (Err fault) before after outcome = IsUnrecoveredAnswer
 
 -- the text of the log that came is taken up, and then driven on
 abbrev pub ResumesText : Protocol → Option ℕ → PlannedShop → Result (List ℕ) CommandFault → Streams → Streams → Result Answer CommandFault → Type 0
-ResumesText protocol at p (Ok text) before after outcome = (taken : Result Recovered ResumeFault) × IsRecovery p at text taken × ResumesRecovered protocol taken before after outcome
+ResumesText protocol at p (Ok text) before after outcome = (recovered : Result Recovered ResumeFault) × IsRecovery p at text recovered × ResumesRecovered protocol recovered before after outcome
 ResumesText protocol at p (Err fault) before after outcome = (outcome ≡ Err fault) × (after ≡ before)
 
 module _ {W : Type 0} (gives : W → List ℕ → Result (List ℕ) CommandFault → W → Type 0) (protocol : Protocol) (at : Option ℕ) (log : List ℕ) where

@@ -16,10 +16,10 @@ use std::alloc::Global;
 pub(crate) struct CommandFaultOf(pub CommandFault);
 
 impl From<DriveFault> for CommandFaultOf {
-    ghost from_gives = { λ told fault. fault.0 ≡ drive_command_fault told };
+    ghost from_gives = { λ cause fault. fault.0 ≡ drive_command_fault cause };
 
-    fn from(told: DriveFault) -> CommandFaultOf {
-        CommandFaultOf(match told {
+    fn from(cause: DriveFault) -> CommandFaultOf {
+        CommandFaultOf(match cause {
             DriveFault::Read => CommandFault::Read,
             DriveFault::Write => CommandFault::Write,
             DriveFault::InputTooLong => CommandFault::InputTooLong,

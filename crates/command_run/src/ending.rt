@@ -123,7 +123,7 @@ fn error_line<'a>(fault: &CommandFault, line: &'a [u8]) -> &'a [u8]
 
 /// Writes as much of a line as can be written, and gives the status.
 pub(crate) fn print_line<E: Sink>(errors: &mut E, line: &[u8], status: u8) -> u8
-    ensures told { WasPrinted line.now (errors_of E.Sink errors.old) (errors_of E.Sink errors.new) }
+    ensures printed { WasPrinted line.now (errors_of E.Sink errors.old) (errors_of E.Sink errors.new) }
     ensures status { result ≡ status }
 {
     let _ = put_all(errors, line);

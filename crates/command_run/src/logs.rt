@@ -54,10 +54,10 @@ use std::alloc::{AllocError, Global};
 struct LogFault(CommandFault);
 
 impl From<FileFault> for LogFault {
-    ghost from_gives = { λ told fault. fault.0 ≡ log_command_fault told };
+    ghost from_gives = { λ cause fault. fault.0 ≡ log_command_fault cause };
 
-    fn from(told: FileFault) -> LogFault {
-        LogFault(match told {
+    fn from(cause: FileFault) -> LogFault {
+        LogFault(match cause {
             FileFault::Log => CommandFault::Log,
             FileFault::InUse => CommandFault::LogInUse,
             FileFault::Read => CommandFault::Read,
@@ -75,13 +75,13 @@ struct LoggedFault {
 }
 
 impl From<LoggedFault> for LogFault {
-    ghost from_gives = { λ told fault. fault.0 ≡ logged_command_fault told.log_failed told.fault };
+    ghost from_gives = { λ cause fault. fault.0 ≡ logged_command_fault cause.log_failed cause.fault };
 
-    fn from(told: LoggedFault) -> LogFault {
-        LogFault(match told.fault {
+    fn from(cause: LoggedFault) -> LogFault {
+        LogFault(match cause.fault {
             DriveFault::Read => CommandFault::Read,
             DriveFault::Write => {
-                if told.log_failed {
+                if cause.log_failed {
                     CommandFault::Log
                 } else {
                     CommandFault::Write
@@ -166,7 +166,7 @@ fn drive_with<R: Source, W: BufferedSink + Drop, D: LogFile + Drop, B: InitialSt
 ) -> LoggedRun<R, W, D>
     requires ready { IsReady (D.seen log) (D.crash_states log) (D.fault log) }
     requires before { AreInitial B.before (D.seen log) streams.output.written }
-    requires line { IfSome B.before (λ told. told.0 ≡ plan_line (digits_in begun.verified.planned)) }
+    requires line { IfSome B.before (λ known. known.0 ≡ plan_line (digits_in begun.verified.planned)) }
     requires shown { streams.output.pending ≡ [] }
     ensures drove { StepsWith D.seen D.crash_states D.fault D.written B.before
         streams result.outcome result.streams result.driven result.log
@@ -200,7 +200,7 @@ fn go_on_with<R: Source, W: BufferedSink + Drop, D: LogFile + Drop, B: InitialSt
 ) -> LoggedRun<R, W, D>
     requires ready { IsReady (D.seen log) (D.crash_states log) (D.fault log) }
     requires before { AreInitial B.before (D.seen log) streams.output.written }
-    requires recoverable { IfSome B.before (λ told. IsRecoveredFromLog run told.0) }
+    requires recoverable { IfSome B.before (λ known. IsRecoveredFromLog run known.0) }
     requires shown { streams.output.pending ≡ [] }
     ensures went_on { StepsWith D.seen D.crash_states D.fault D.written
         B.before streams result.outcome result.streams result.driven result.log
@@ -224,14 +224,14 @@ fn go_on_with<R: Source, W: BufferedSink + Drop, D: LogFile + Drop, B: InitialSt
 
 /// ParsesAs the events of a run that was taken up again, and shows them.
 fn show_again<W: BufferedSink>(
-    taken: RecoveredRun,
+    recovered: RecoveredRun,
     protocol: Protocol,
     output: &mut W,
 ) -> Result<Replayed, DriveFault>
-    ensures { ReplaysEvents protocol taken (output_of W.Sink W.pending output.old)
+    ensures { ReplaysEvents protocol recovered (output_of W.Sink W.pending output.old)
         (output_of W.Sink W.pending output.new) result }
 {
-    match replay_in(taken, protocol, output) {
+    match replay_in(recovered, protocol, output) {
         Ok(run) => match output.flush() {
             Ok(()) => Ok(run),
             Err(_) => Err(DriveFault::Write),
@@ -250,19 +250,16 @@ fn replay_and_continue<R: Source, W: BufferedSink + Drop, D: LogFile + Drop, B: 
     before: B,
 ) -> LoggedRun<R, W, D>
     requires ready { IsReady (D.seen log) (D.crash_states log) (D.fault log) }
-    requires seen { IfSome B.before (λ told. D.seen log ≡ Some told.0) }
-    requires recoverable { IfSome B.before (λ told. IsRecoveredFromLog recovered_log.recovered told.0) }
+    requires seen { IfSome B.before (λ known. D.seen log ≡ Some known.0) }
+    requires recoverable { IfSome B.before (λ known. IsRecoveredFromLog recovered_log.recovered known.0) }
     requires output { IfSome B.before
-        (λ told. IsWrittenBehind streams.output.written (replay_text protocol recovered_log.recovered) told.1) }
+        (λ known. IsWrittenBehind streams.output.written (replay_text protocol recovered_log.recovered) known.1) }
     ensures went_on { StepsWith D.seen D.crash_states D.fault D.written B.before streams result.outcome result.streams
         result.driven result.log (GoesOnWithLog protocol recovered_log.recovered) }
 {
-    let RecoveredLog {
-        recovered: taken,
-        room,
-    } = recovered_log;
+    let RecoveredLog { recovered, room } = recovered_log;
     let Streams { input, mut output } = streams;
-    match show_again(taken, protocol, &mut output) {
+    match show_again(recovered, protocol, &mut output) {
         Ok(run) => go_on_with(
             alloc,
             run,
@@ -300,8 +297,8 @@ fn take_up_with<R: Source, W: BufferedSink + Drop, D: LogFile + Drop, B: Initial
     requires unwritten { D.written log ≡ false }
     requires read { IfSome (D.seen log) (λ file. text.now ≡ file) }
     requires within { length text.now ≤ MAX_INPUT }
-    requires told { IfSome B.before (λ told.
-        (D.seen log ≡ Some text.now) × IsHistoryOfOld shaped protocol at text.now streams.output.written told) }
+    requires known { IfSome B.before (λ known.
+        (D.seen log ≡ Some text.now) × IsHistoryOfOld shaped protocol at text.now streams.output.written known) }
     ensures took_up { StepsWith D.seen D.crash_states D.fault D.written B.before streams result.outcome result.streams
         result.driven result.log (RecoversRun shaped protocol at text.now) }
 {
@@ -341,7 +338,8 @@ fn drive_new<R: Source, W: BufferedSink + Drop, L: Logs, B: InitialState>(
     requires empty { IfSome opened (λ log. IsEmptyLog (L.Log.seen log) (L.Log.crash_states log) (L.Log.fault log)
         (L.Log.written log) (L.folder logs.old)) }
     requires shown { streams.output.pending ≡ [] }
-    requires told { IfSome B.before (IsHistoryOfNew (L.folder logs.old) begun.verified.planned streams.output.written) }
+    requires known { IfSome B.before
+        (IsHistoryOfNew (L.folder logs.old) begun.verified.planned streams.output.written) }
     ensures drove { StepsWith L.Log.seen L.Log.crash_states L.Log.fault L.Log.written
         B.before streams result.outcome result.streams result.driven result.log
         (λ step. LacksLog (L.folder logs.old) (L.folder logs.new) path.now begun.verified.planned (is_some opened) step
@@ -388,7 +386,7 @@ fn begin_accepted<R: Source, W: BufferedSink + Drop, L: Logs, B: InitialState>(
     requires empty { IfSome opened (λ log. IsEmptyLog (L.Log.seen log) (L.Log.crash_states log) (L.Log.fault log)
         (L.Log.written log) (L.folder logs.old)) }
     requires shown { streams.output.pending ≡ [] }
-    requires told { IfSome B.before (IsHistoryOfNew (L.folder logs.old) verified.planned streams.output.written) }
+    requires known { IfSome B.before (IsHistoryOfNew (L.folder logs.old) verified.planned streams.output.written) }
     ensures began { StepsWith L.Log.seen L.Log.crash_states L.Log.fault L.Log.written
         B.before streams result.outcome result.streams result.driven result.log
         (BeginsAccepted (L.folder logs.old) (L.folder logs.new) path.now protocol (is_some opened) verified) }
@@ -423,7 +421,7 @@ fn begin_by<R: Source, W: BufferedSink + Drop, L: Logs, B: InitialState>(
     requires empty { IfSome opened (λ log. IsEmptyLog (L.Log.seen log) (L.Log.crash_states log) (L.Log.fault log)
         (L.Log.written log) (L.folder logs.old)) }
     requires shown { streams.output.pending ≡ [] }
-    requires told { IfSome B.before (IsHistoryOfNew (L.folder logs.old) (judged verdict) streams.output.written) }
+    requires known { IfSome B.before (IsHistoryOfNew (L.folder logs.old) (judged verdict) streams.output.written) }
     ensures began { StepsWith L.Log.seen L.Log.crash_states L.Log.fault L.Log.written
         B.before streams result.outcome result.streams result.driven result.log
         (BeginsBy (L.folder logs.old) (L.folder logs.new) path.now protocol (is_some opened) verdict) }
@@ -462,7 +460,7 @@ fn begin<R: Source, W: BufferedSink + Drop, L: Logs, B: InitialState>(
     requires empty { IfSome opened (λ log. IsEmptyLog (L.Log.seen log) (L.Log.crash_states log) (L.Log.fault log)
         (L.Log.written log) (L.folder logs.old)) }
     requires shown { streams.output.pending ≡ [] }
-    requires told { IfSome B.before (IsHistoryOfNew (L.folder logs.old) shaped streams.output.written) }
+    requires known { IfSome B.before (IsHistoryOfNew (L.folder logs.old) shaped streams.output.written) }
     ensures began { StepsWith L.Log.seen L.Log.crash_states L.Log.fault L.Log.written
         B.before streams result.outcome result.streams result.driven result.log
         (Begins (L.folder logs.old) (L.folder logs.new) path.now protocol shaped (is_some opened)) }
@@ -523,7 +521,7 @@ fn drive_found<R: Source, W: BufferedSink + Drop, L: Logs, B: InitialState>(
     requires shown { streams.output.pending ≡ [] }
     requires found { IfSome found (λ there. IsFoundLog (L.Log.seen there.0) (L.Log.crash_states there.0)
         (L.Log.fault there.0) (L.Log.written there.0) (L.folder logs.old) there.1) }
-    requires told { IfSome B.before (IsHistoryOfFound (L.folder logs.old) shaped protocol at
+    requires known { IfSome B.before (IsHistoryOfFound (L.folder logs.old) shaped protocol at
         (option_map (λ there. there.1) found) streams.output.written) }
     ensures drove { StepsWith L.Log.seen L.Log.crash_states L.Log.fault L.Log.written B.before streams
         result.outcome result.streams result.driven result.log (DrivesFound (L.folder logs.old)
@@ -560,7 +558,7 @@ fn drive_fitting<R: Source, W: BufferedSink + Drop, L: Logs, B: InitialState>(
     requires shown { streams.output.pending ≡ [] }
     requires found { IfSome found (λ there. IsFoundLog (L.Log.seen there.0) (L.Log.crash_states there.0)
         (L.Log.fault there.0) (L.Log.written there.0) (L.folder logs.old) there.1) }
-    requires told { IfSome B.before (IsHistoryOfFound (L.folder logs.old) shaped protocol at
+    requires known { IfSome B.before (IsHistoryOfFound (L.folder logs.old) shaped protocol at
         (option_map (λ there. there.1) found) streams.output.written) }
     ensures drove { StepsWith L.Log.seen L.Log.crash_states L.Log.fault L.Log.written B.before streams
         result.outcome result.streams result.driven result.log (DrivesFitting (L.folder logs.old)
@@ -595,7 +593,7 @@ fn drive_there<R: Source, W: BufferedSink + Drop, L: Logs, B: InitialState>(
     requires shown { streams.output.pending ≡ [] }
     requires found { IsFoundLog (L.Log.seen log) (L.Log.crash_states log) (L.Log.fault log) (L.Log.written log)
         (L.folder logs.old) text }
-    requires told { IfSome B.before
+    requires known { IfSome B.before
         (IsHistoryOfFound (L.folder logs.old) shaped protocol at (Some text) streams.output.written) }
     ensures drove { StepsWith L.Log.seen L.Log.crash_states L.Log.fault L.Log.written
         B.before streams result.outcome result.streams result.driven result.log
@@ -628,7 +626,7 @@ fn open_and_drive<R: Source, W: BufferedSink + Drop, L: Logs, B: InitialState>(
     requires digits { digits.now ≡ digits_in shaped }
     requires at_most { IfSome at (λ present. present ≤ MAX_MOMENT) }
     requires shown { streams.output.pending ≡ [] }
-    requires told { IfSome B.before
+    requires known { IfSome B.before
         (IsHistoryOfPath (L.folder logs.old) path.now shaped protocol at streams.output.written) }
     ensures drove { StepsWith L.Log.seen L.Log.crash_states L.Log.fault L.Log.written
         B.before streams result.outcome result.streams result.driven result.log
@@ -661,7 +659,7 @@ fn drive_by_log<R: Source, W: BufferedSink + Drop, L: Logs, B: InitialState>(
 ) -> LoggedRun<R, W, L::Log>
     requires at_most { IfSome at (λ present. present ≤ MAX_MOMENT) }
     requires shown { streams.output.pending ≡ [] }
-    requires told { IfSome B.before
+    requires known { IfSome B.before
         (IsHistoryOfPath (L.folder logs.old) path.now shaped protocol at streams.output.written) }
     ensures drove { StepsWith L.Log.seen L.Log.crash_states L.Log.fault L.Log.written
         B.before streams result.outcome result.streams result.driven result.log
@@ -696,7 +694,7 @@ pub(crate) fn logged_answer<T: Texts, R: Source, W: BufferedSink + Drop, L: Logs
 ) -> LoggedRun<R, W, L::Log>
     requires at_most { IfSome at (λ present. present ≤ MAX_MOMENT) }
     requires shown { streams.output.pending ≡ [] }
-    requires told { IfSome B.before
+    requires known { IfSome B.before
         (IsHistoryOfLog T.gives (L.folder logs.old) pair.now path.now protocol at texts.old streams.output.written) }
     ensures runs { StepsWith L.Log.seen L.Log.crash_states L.Log.fault L.Log.written B.before streams
         result.outcome result.streams result.driven result.log (λ step. RunsLoggedDrive T.gives (L.folder logs.old)

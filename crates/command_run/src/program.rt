@@ -37,7 +37,7 @@ pub fn run<
     before: B,
 ) -> (u8, Devices<T, R, W, E, S, L>, Option<L::Log>)
     requires shown { devices.streams.output.pending ≡ [] }
-    requires told { IfSome B.before (IsHistoryOfWords T.gives (map (λ word. word.now) words.now) devices) }
+    requires known { IfSome B.before (IsHistoryOfWords T.gives (map (λ word. word.now) words.now) devices) }
 
     // What a crash leaves of the log has all that was shown. Where the status is 0 or 1, the log has it on the disk.
     ensures runs { WithLog L.Log.seen L.Log.crash_states L.Log.fault L.Log.written
@@ -71,7 +71,7 @@ fn follow<
 ) -> (u8, Devices<T, R, W, E, S, L>, Option<L::Log>)
     requires within { IsWithin chosen.now }
     requires shown { devices.streams.output.pending ≡ [] }
-    requires told { IfSome B.before (IsHistoryOfChosen T.gives chosen.now devices) }
+    requires known { IfSome B.before (IsHistoryOfChosen T.gives chosen.now devices) }
     ensures runs { WithLog L.Log.seen L.Log.crash_states L.Log.fault L.Log.written
         B.before result.1.streams.output.written (result.0 ≤ 1) result.2
         (Commands T.gives chosen.now devices result.0 result.1) }
@@ -97,7 +97,7 @@ fn drive_logged<T: Texts, R: Source, W: BufferedSink + Drop, E: Sink, S, L: Logs
     requires within { IsWithin chosen.now }
     requires kept { kept_log_in chosen.now ≡ Some path.now }
     requires shown { devices.streams.output.pending ≡ [] }
-    requires told { IfSome B.before (IsHistoryOfChosen T.gives chosen.now devices) }
+    requires known { IfSome B.before (IsHistoryOfChosen T.gives chosen.now devices) }
     ensures runs { WithLog L.Log.seen L.Log.crash_states L.Log.fault L.Log.written
         B.before result.1.streams.output.written (result.0 ≤ 1) result.2
         (Commands T.gives chosen.now devices result.0 result.1) }

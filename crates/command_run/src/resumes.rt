@@ -57,8 +57,8 @@ fn resume_log<T: Texts, R: Source, W: BufferedSink>(
 {
     let text = texts.text(alloc, log)?;
     match recoverable(alloc, shaped, text, at) {
-        Ok(taken) => {
-            let end = resume_in(taken, protocol, &mut streams.input, &mut streams.output);
+        Ok(recovered) => {
+            let end = resume_in(recovered, protocol, &mut streams.input, &mut streams.output);
             rest_answer(alloc, end)
         }
         Err(fault) => unrecovered_answer(alloc, fault),
@@ -128,8 +128,8 @@ impl From<Wanting> for CommandFault {
 
     ghost from_gives = { λ _ fault. fault ≡ Memory };
 
-    fn from(told: Wanting) -> CommandFault {
-        match told.fault {
+    fn from(cause: Wanting) -> CommandFault {
+        match cause.fault {
             ResumeFault::Memory => CommandFault::Memory,
             ResumeFault::Log(_) | ResumeFault::Past { last: _ } | ResumeFault::Refused(_, _) =>
                 unreachable!(),

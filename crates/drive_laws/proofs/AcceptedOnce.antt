@@ -37,13 +37,13 @@ module _ (p : PlannedShop) (protocol : Protocol) (shaped : IsWellShaped p) where
   abbrev answers : DrivenCell → ℕ → Option (List ℕ) → List ℕ → DrivenCell → Type 0
   answers = ProtocolAnswers p protocol
 
-  pub told : (lines : List (Option (List ℕ))) (before end : DrivenCell) (number : ℕ) (text : List ℕ) → IsOnCourse p before.cell → AnswerAll answers before number lines text end → AreParsed p shaped before text end
-  told lines before end number text on all = all_parsed p shaped answers (protocol_lines_keep p protocol) (protocol_line_parses p shaped protocol) lines before end number text on all
+  pub answers_parsed : (lines : List (Option (List ℕ))) (before end : DrivenCell) (number : ℕ) (text : List ℕ) → IsOnCourse p before.cell → AnswerAll answers before number lines text end → AreParsed p shaped before text end
+  answers_parsed lines before end number text on all = all_parsed p shaped answers (protocol_lines_keep p protocol) (protocol_line_parses p shaped protocol) lines before end number text on all
 
   module _ (before after end : DrivenCell) (claim again : Claim) (ended : NamedEnd) (texts text others : List ℕ) where
-    taken_once : (first : AreParsed p shaped (undriven p) texts before) (events : List Entry) (is : IsClaimAccepted p protocol [] before.cell claim text events after.cell) (then_replayed : AreParsed p shaped after others end)
+    accepted_once : (first : AreParsed p shaped (undriven p) texts before) (events : List Entry) (is : IsClaimAccepted p protocol [] before.cell claim text events after.cell) (then_replayed : AreParsed p shaped after others end)
         → named claim ≡ Some ended → named again ≡ Some ended → CanClaim p end.cell again → ⊥
-    taken_once first events is then_replayed names names_again can =
+    accepted_once first events is then_replayed names names_again can =
         let c = before.cell in
         let r = claimed claim in
         let es = events_of first.more in
@@ -64,8 +64,8 @@ module _ (p : PlannedShop) (protocol : Protocol) (shaped : IsWellShaped p) where
     accepted_or_not : (number : ℕ) (events : List Entry) → IsOnCourse p before.cell → IsAdmissible protocol p before.cell claim → AreParsed p shaped (undriven p) texts before
         → IsClaimRefused p protocol (refusal_prefix protocol []) before.cell number claim text events after.cell ⊎ IsClaimAccepted p protocol [] before.cell claim text events after.cell → AreParsed p shaped after others end
         → named claim ≡ Some ended → named again ≡ Some ended → CanClaim p end.cell again → ⊥
-    accepted_or_not number events on is_taken first (inl is) then_replayed names names_again can = refused_or_admissible p before.cell shaped on.sound protocol claim is.refusal is.first is_taken
-    accepted_or_not number events on is_taken first (inr is) then_replayed names names_again can = taken_once first events is then_replayed names names_again can
+    accepted_or_not number events on is_accepted first (inl is) then_replayed names names_again can = refused_or_admissible p before.cell shaped on.sound protocol claim is.refusal is.first is_accepted
+    accepted_or_not number events on is_accepted first (inr is) then_replayed names names_again can = accepted_once first events is then_replayed names names_again can
 
 lines_on_course : (p : PlannedShop) (protocol : Protocol) (lines : List (Option (List ℕ))) (before end : DrivenCell) (number : ℕ) (text : List ℕ) → IsOnCourse p before.cell
     → AnswerAll (ProtocolAnswers p protocol) before number lines text end → IsOnCourse p end.cell
@@ -78,5 +78,5 @@ nothing_is_accepted_twice p protocol lines later before after end number next te
     let on = start_on_course p shaped in
     let on_before = lines_on_course p protocol lines (undriven p) before 1 texts on answered in
     let on_after = request_keeps p protocol [] before.cell number on_before (ClaimRequest claim) text requested.more after.cell requested.answer in
-    accepted_or_not p protocol shaped before after end claim again ended texts text others number requested.more on_before accepted (told p protocol shaped lines (undriven p) before 1 texts on answered) requested.answer
-    (told p protocol shaped later after end next others on_after further) names names_again can
+    accepted_or_not p protocol shaped before after end claim again ended texts text others number requested.more on_before accepted (answers_parsed p protocol shaped lines (undriven p) before 1 texts on answered) requested.answer
+    (answers_parsed p protocol shaped later after end next others on_after further) names names_again can

@@ -115,7 +115,7 @@ module _ (p : PlannedShop) (protocol : Protocol) where
   step_text c report js late = acceptance_lines [] report late (printed_overdue protocol p c report) (step_orders p c report js) (prints_end protocol p (after_step p c report js))
 
   some_words : (version_2 : Bool) (line : List ℕ) (claim : Claim) → AsksFor version_2 line (ClaimRequest claim) → line ≡ [] → ⊥
-  some_words tells line claim asked none = go tells claim (subst (λ (l : List ℕ). AsksFor version_2 l (ClaimRequest claim)) none asked)
+  some_words parses line claim asked none = go parses claim (subst (λ (l : List ℕ). AsksFor version_2 l (ClaimRequest claim)) none asked)
     where
       go : (t : Bool) (q : Claim) → AsksFor t [] (ClaimRequest q) → ⊥
       go true (Report report) is = some_line [] report is refl
@@ -127,13 +127,13 @@ module _ (p : PlannedShop) (protocol : Protocol) where
   claim_answered : (c : Cell) (before : List Entry) (number : ℕ) (line : List ℕ) (claim : Claim) (report : reports.Report) (js : List ℕ) (late : Bool) → claimed claim ≡ report
       → AsksFor protocol.version_2 line (ClaimRequest claim) → IsAdmissible protocol p c claim → IsStep p c report js → ((late ≡ false) ↔ IsPunctual p c report)
       → ProtocolAnswers p protocol (driven_to c before) number (Some line) (step_text c report js late) (driven_to (after_step p c report js) (before ++ step_entries c report js))
-  claim_answered c before number line claim report js late same asked taken step late_is =
+  claim_answered c before number line claim report js late same asked is_accepted step late_is =
       subst (λ (q : reports.Report). ProtocolAnswers p protocol (driven_to c before) number (Some line) (step_text c q js late) (driven_to (after_step p c q js) (before ++ step_entries c q js))) same
       (asked_line (AsksFor protocol.version_2) (CellRequests p protocol) (driven_to c before) number line (step_text c own js late) (ClaimRequest claim) (driven_to (after_step p c own js) (before ++ step_entries c own js))
       (some_words protocol.version_2 line claim asked) asked (record {
         more = step_entries c own js;
         answer = inr (record {
-          accepted = taken;
+          accepted = is_accepted;
           movers = js;
           step = subst (λ (q : reports.Report). IsStep p c q js) (sym same) step;
           late = late;
@@ -190,7 +190,7 @@ module _ (p : PlannedShop) (protocol : Protocol) where
     answered _ _ _ _ (accepted c r js rs es end step leads) on [] late lines number before same are say = absurd (cc)
     answered _ _ _ _ (accepted c r js rs es end step leads) on (OrderEntry order ∷ entries) late lines number before same are say = absurd (cc)
     answered _ _ _ _ (accepted c r js rs es end step leads) on (ReportEntry report ∷ entries) [] lines number before same are say = absurd are
-    answered _ _ _ _ (accepted c r js rs es end step leads) on (ReportEntry report ∷ entries) (f ∷ fs) lines number before same are (line, claim, rest, asked, is_claimed, taken, says, whole) =
+    answered _ _ _ _ (accepted c r js rs es end step leads) on (ReportEntry report ∷ entries) (f ∷ fs) lines number before same are (line, claim, rest, asked, is_claimed, is_accepted, says, whole) =
         let os : List MoveOrder = step_orders p c r js in
         let same_report : report ≡ r = cc in
         let tails : events_of entries ≡ moved os ++ es = cc in
@@ -212,17 +212,17 @@ module _ (p : PlannedShop) (protocol : Protocol) where
         subst (λ (q : reports.Report). ProtocolAnswers p protocol (driven_to c before) number (Some line)
         (report_line report ++ (lateness ++ (order_lines (step_orders p c q js) ++ end_part [] (at report) (prints_end protocol p (after_step p c q js)))))
         (driven_to (after_step p c q js) (before ++ ReportEntry report ∷ map OrderEntry (step_orders p c q js)))) same_report
-        (claim_answered c before number line claim report js f is_claimed asked taken (subst (λ (q : reports.Report). IsStep p c q js) (sym same_report) step) are.0) in
+        (claim_answered c before number line claim report js f is_claimed asked is_accepted (subst (λ (q : reports.Report). IsStep p c q js) (sym same_report) step) are.0) in
         let text_then : List ℕ = replay_lines p protocol next later behind.rest ++ end_behind later end in
         let others = answered next end rs es leads (keeps c r js on step) later behind.rest rest (number + 1) entries_then events are_later says_later in
         let joined : entries_then ++ later ≡ before ++ ReportEntry report ∷ entries =
         append_assoc before (ReportEntry report ∷ map OrderEntry os) later ∙ ap (λ (xs : List Entry). before ++ ReportEntry report ∷ xs) (sym split) in
-        let told : replay_lines p protocol c (ReportEntry report ∷ entries) (f ∷ fs) ≡ (report_line report ++ lateness) ++ (order_lines os ++ replay_lines p protocol next later behind.rest) =
+        let replay_is : replay_lines p protocol c (ReportEntry report ∷ entries) (f ∷ fs) ≡ (report_line report ++ lateness) ++ (order_lines os ++ replay_lines p protocol next later behind.rest) =
         ap (λ (xs : List Entry). (report_line report ++ lateness) ++ replay_lines p protocol (after_report c report) xs fs) split
         ∙ ap (λ (t : List ℕ). (report_line report ++ lateness) ++ t) (behind.text ∙ ap (λ (d : Cell). order_lines os ++ replay_lines p protocol d later behind.rest) led) in
         let ending : List ℕ = end_part [] end.last (prints_end protocol p end) in
         let whole_text : replay_lines p protocol c (ReportEntry report ∷ entries) (f ∷ fs) ++ ending ≡ text ++ text_then =
-        ap (λ (t : List ℕ). t ++ ending) told
+        ap (λ (t : List ℕ). t ++ ending) replay_is
         ∙ replayed_step (report_line report) lateness (order_lines os) ended (replay_lines p protocol next later behind.rest) ending text_then
         (end_in_turn next end rs later behind.rest (at report) (keeps c r js on step) (subst (λ (xs : List Event). Leads p next rs xs end) (sym events) leads) now) in
         subst (λ (ls : List (Option (List ℕ))). AnswerAll (ProtocolAnswers p protocol) (driven_to c before) number ls (replay_lines p protocol c (ReportEntry report ∷ entries) (f ∷ fs) ++ ending) (driven_to end (before ++ ReportEntry report ∷ entries))) (sym whole) (
@@ -234,19 +234,19 @@ module _ (p : PlannedShop) (protocol : Protocol) where
           whole_text,
         )
 
-    pub told_again : (log : List (List ℕ)) (entries : List Entry) (late : List Bool) (lines : List (Option (List ℕ))) → On (start p)
+    pub answered_again : (log : List (List ℕ)) (entries : List Entry) (late : List Bool) (lines : List (Option (List ℕ))) → On (start p)
         → IsCutLogOf p log entries (length late) → AreLate p (start p) (take (length late) entries) late → AreClaimLines p protocol (start p) lines entries
         → AreProtocolAnswers p protocol lines (replay_lines p protocol (start p) (take (length late) entries) late ++ (entry_lines (drop (length late) entries) ++ end_behind entries (cell_after p entries))) (driven_so_far p entries)
-    told_again log entries late lines on taken are says =
+    answered_again log entries late lines on cut are says =
         let n : ℕ = length late in
-        let run : IsOwnRun p entries = subst (λ (es : List Entry). IsOwnRun p es) (sym taken.whole) taken.log.run in
-        let are_all : AreLate p (start p) entries (late ++ on_time taken.due) =
-        subst (λ (es : List Entry). AreLate p (start p) es (late ++ on_time taken.due)) (sym taken.whole) (late_due (start p) (take n entries) late taken.due are) in
-        let due : drop n entries ≡ map OrderEntry taken.due = append_cancel_left (take n entries) (drop n entries) (map OrderEntry taken.due) (take-append-drop n entries ∙ taken.whole) in
+        let run : IsOwnRun p entries = subst (λ (es : List Entry). IsOwnRun p es) (sym cut.whole) cut.log.run in
+        let are_all : AreLate p (start p) entries (late ++ on_time cut.due) =
+        subst (λ (es : List Entry). AreLate p (start p) es (late ++ on_time cut.due)) (sym cut.whole) (late_due (start p) (take n entries) late cut.due are) in
+        let due : drop n entries ≡ map OrderEntry cut.due = append_cancel_left (take n entries) (drop n entries) (map OrderEntry cut.due) (take-append-drop n entries ∙ cut.whole) in
         let ending : List ℕ = end_behind entries (cell_after p entries) in
-        let text : replay_lines p protocol (start p) entries (late ++ on_time taken.due) ++ ending ≡ replay_lines p protocol (start p) (take n entries) late ++ (entry_lines (drop n entries) ++ ending) =
-        ap (λ (es : List Entry). replay_lines p protocol (start p) es (late ++ on_time taken.due) ++ ending) taken.whole
-        ∙ ap (λ (t : List ℕ). t ++ ending) (replayed_due (start p) (take n entries) late taken.due are ∙ ap (λ (es : List Entry). replay_lines p protocol (start p) (take n entries) late ++ entry_lines es) (sym due))
+        let text : replay_lines p protocol (start p) entries (late ++ on_time cut.due) ++ ending ≡ replay_lines p protocol (start p) (take n entries) late ++ (entry_lines (drop n entries) ++ ending) =
+        ap (λ (es : List Entry). replay_lines p protocol (start p) es (late ++ on_time cut.due) ++ ending) cut.whole
+        ∙ ap (λ (t : List ℕ). t ++ ending) (replayed_due (start p) (take n entries) late cut.due are ∙ ap (λ (es : List Entry). replay_lines p protocol (start p) (take n entries) late ++ entry_lines es) (sym due))
         ∙ append_assoc (replay_lines p protocol (start p) (take n entries) late) (entry_lines (drop n entries)) ending in
         subst (λ (t : List ℕ). AreProtocolAnswers p protocol lines t (driven_so_far p entries)) text
-        (answered (start p) (cell_after p entries) _ (events_of entries) run on entries (late ++ on_time taken.due) lines 1 [] refl are_all says)
+        (answered (start p) (cell_after p entries) _ (events_of entries) run on entries (late ++ on_time cut.due) lines 1 [] refl are_all says)

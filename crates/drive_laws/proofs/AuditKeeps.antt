@@ -36,16 +36,16 @@ same_answer false true one other = absurd (false≢true (one.1 (other.0 refl)))
 found_again : (p : PlannedShop) (entries : List Entry) (done : Bool) (last left : ℕ) (text : List ℕ) (audit : Audit)
     → LinesParse p (lines_of text) entries → IsSoFar p entries done last left → IsAudit p (lines_of text) audit
     → IsFoundAgain p entries done last left audit
-found_again p entries done last left text audit tells so_far is_audit =
-    let told : audit.entries.items ≡ entries = one_reading p (lines_of text) audit.entries.items entries is_audit.tells tells in
-    let counted : audit.reports ≡ reports_in (events_of entries) = is_audit.reports ∙ ap (λ (es : List Entry). reports_in (events_of es)) told in
+found_again p entries done last left text audit parses so_far is_audit =
+    let recorded : audit.entries.items ≡ entries = one_reading p (lines_of text) audit.entries.items entries is_audit.parses parses in
+    let counted : audit.reports ≡ reports_in (events_of entries) = is_audit.reports ∙ ap (λ (es : List Entry). reports_in (events_of es)) recorded in
     let ended : (audit.complete ≡ true) ↔ HasEnded p (cell_after p entries) =
-    subst (λ (es : List Entry). (audit.complete ≡ true) ↔ HasEnded p (cell_after p es)) told is_audit.complete in
+    subst (λ (es : List Entry). (audit.complete ≡ true) ↔ HasEnded p (cell_after p es)) recorded is_audit.complete in
     record {
-      told = told;
+      recorded = recorded;
       reports = omega (arith, counted, so_far.rest);
-      orders = is_audit.orders ∙ ap (λ (es : List Entry). moves_in (events_of es)) told;
-      moment = is_audit.last ∙ ap (λ (es : List Entry). (cell_after p es).last) told ∙ sym so_far.moment;
+      orders = is_audit.orders ∙ ap (λ (es : List Entry). moves_in (events_of es)) recorded;
+      moment = is_audit.last ∙ ap (λ (es : List Entry). (cell_after p es).last) recorded ∙ sym so_far.moment;
       complete = same_answer audit.complete done ended so_far.ended;
     }
 
@@ -53,8 +53,8 @@ pub found_where : (p : PlannedShop) (entries : List Entry) (done : Bool) (last l
     → LinesParse p (lines_of text) entries → IsSoFar p entries done last left
     → IfOk outcome (IsAudit p (lines_of text)) → IfErr outcome (λ fault. fault ≡ Memory)
     → MatchResult outcome (IsFoundAgain p entries done last left) (λ fault. fault ≡ Memory)
-found_where p entries done last left text (Ok audit) tells so_far kept only = found_again p entries done last left text audit tells so_far kept
-found_where p entries done last left text (Err fault) tells so_far kept only = only
+found_where p entries done last left text (Ok audit) parses so_far kept only = found_again p entries done last left text audit parses so_far kept
+found_where p entries done last left text (Err fault) parses so_far kept only = only
 
 -- what was appended to bytes that are told
 pub appended : (before after : Option (List ℕ)) (start text out : List ℕ) → before ≡ Some start → after ≡ Some (start ++ text) → Appends before after out → start ++ text ≡ start ++ out
@@ -69,9 +69,9 @@ pub found_of : (p : PlannedShop) (entries noted : List Entry) (cell : Cell) (don
 found_of p entries noted cell done last left before after start text whole outcome written log same_entries so_far from to kept only =
     let same : whole ≡ text = append_cancel_left start whole text (sym (appended before.output.written after.output.written start text whole from to written)) in
     let is_log : IsLogOf p text (record { cell = cell; entries = noted }) = subst (λ (t : List ℕ). IsLogOf p t (record { cell = cell; entries = noted })) same log in
-    let tells : LinesParse p (lines_of text) entries = subst (LinesParse p (lines_of text)) same_entries is_log.tells in
+    let parses : LinesParse p (lines_of text) entries = subst (LinesParse p (lines_of text)) same_entries is_log.parses in
     let run : IsRun p (events_of entries) = subst (λ (es : List Entry). IsRun p (events_of es)) same_entries is_log.run in
-    found_where p entries done last left text outcome tells so_far kept (only (entries, tells, run))
+    found_where p entries done last left text outcome parses so_far kept (only (entries, parses, run))
 
 pub an_audit_keeps_what_was_driven : AnAuditKeepsWhatWasDriven
 an_audit_keeps_what_was_driven v protocol end before after start text outcome shaped is from to kept only =

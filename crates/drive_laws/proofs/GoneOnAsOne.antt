@@ -47,41 +47,41 @@ module _ (p : PlannedShop) (recovered : Recovered) (is : IsRecoveredByItsPlan p 
   shaped_there : IsWellShaped p
   shaped_there = (recovered_to_rest p is.lines None recovered is.up).0
 
-  entries_there : recovered.log.entries ≡ is.told ++ map OrderEntry is.due
+  entries_there : recovered.log.entries ≡ is.recorded ++ map OrderEntry is.due
   entries_there =
-      let with_orders = it_is_recovered_with_its_orders p is.lines is.told is.due recovered shaped_there is.log is.up in
+      let with_orders = it_is_recovered_with_its_orders p is.lines is.recorded is.due recovered shaped_there is.log is.up in
       is.up.recovered_from.run.due ∙ ap₂ (λ (es : List Entry) (os : List MoveOrder). es ++ map OrderEntry os) with_orders.0 with_orders.1
 
   -- its log and the orders that were due
   abbrev whole : List Entry
-  whole = is.told ++ map OrderEntry is.due
+  whole = is.recorded ++ map OrderEntry is.due
 
   one_there : IsRunOf p whole
   one_there = run_of_own p whole is.log.run
 
   abbrev replayed_end : Cell
-  replayed_end = cell_after p is.told
+  replayed_end = cell_after p is.recorded
 
   -- it settles by these orders
   settled_there : (js : List ℕ) → Settles p replayed_end replayed_end.last js → orders_for p replayed_end replayed_end.last js ≡ is.due
   settled_there js settles =
       let reports : List Report = reported (events_of whole) in
-      let leads : Leads p (start p) reports (events_of is.told ++ moved is.due) (cell_after p whole) =
-      subst (λ es. Leads p (start p) reports es (cell_after p whole)) (due_events is.told is.due) is.log.run in
-      cut_settles p shaped_there (length (events_of is.told)) (start p) (cell_after p whole) reports (events_of is.told) is.due js (omega arith) (start-sound p shaped_there) (start_at_rest p) leads replayed_end refl settles
+      let leads : Leads p (start p) reports (events_of is.recorded ++ moved is.due) (cell_after p whole) =
+      subst (λ es. Leads p (start p) reports es (cell_after p whole)) (due_events is.recorded is.due) is.log.run in
+      cut_settles p shaped_there (length (events_of is.recorded)) (start p) (cell_after p whole) reports (events_of is.recorded) is.due js (omega arith) (start-sound p shaped_there) (start_at_rest p) leads replayed_end refl settles
 
   -- as one with what goes on from there
-  gone_on : (reports : List Report) (events : List Event) (end : Cell) → GoesOnTo p replayed_end replayed_end.last reports events end → (later : List Entry) → events_of later ≡ events → IsRunOf p (is.told ++ later)
+  gone_on : (reports : List Report) (events : List Event) (end : Cell) → GoesOnTo p replayed_end replayed_end.last reports events end → (later : List Entry) → events_of later ≡ events → IsRunOf p (is.recorded ++ later)
   gone_on _ _ _ (settled js reports events end settles leads) later same =
       let orders = settled_there js settles in
       let there : cell_after p whole ≡ after_moves p replayed_end replayed_end.last js =
-      ap (after_all p (start p)) (due_events is.told is.due) ∙ after_all_join p (start p) (events_of is.told) (moved is.due)
+      ap (after_all p (start p)) (due_events is.recorded is.due) ∙ after_all_join p (start p) (events_of is.recorded) (moved is.due)
       ∙ ap (λ (os : List MoveOrder). after_all p replayed_end (moved os)) (sym orders) ∙ after_all-moves p replayed_end replayed_end.last js in
       let (rest, split, behind) = entries_moved later is.due events (same ∙ ap (λ (os : List MoveOrder). moved os ++ events) orders) in
       let leads_on : Leads p (cell_after p whole) reports (events_of rest) end =
       subst (λ (c : Cell). Leads p c reports (events_of rest) end) (sym there)
       (subst (λ es. Leads p (after_moves p replayed_end replayed_end.last js) reports es end) (sym behind) leads) in
-      subst (IsRunOf p) (append_assoc is.told (map OrderEntry is.due) rest ∙ ap (λ (es : List Entry). is.told ++ es) (sym split))
+      subst (IsRunOf p) (append_assoc is.recorded (map OrderEntry is.due) rest ∙ ap (λ (es : List Entry). is.recorded ++ es) (sym split))
       (run_behind p whole rest reports end shaped_there one_there leads_on)
 
 pub it_is_recovered_as_one : ItIsRecoveredAsOne
@@ -92,15 +92,15 @@ a_driven_run_goes_on_as_one p recovered end is on =
     let from = is.up.recovered_from in
     let began = recovered.control.began in
     let last : Cell = cell_after (plan_of recovered) end.log.entries in
-    let same : is.up.told ≡ is.told = one_reading p is.lines is.up.told is.told is.up.tells is.log.tells in
-    let told : replayed_events recovered ≡ is.told = from.replayed_is ∙ same in
-    let here : replayed_cell recovered ≡ cell_after p is.told = ap (λ (q : PlannedShop). cell_after q (replayed_events recovered)) from.planned ∙ ap (cell_after p) told in
-    let now : began ≡ (cell_after p is.told).last = from.began ∙ ap (λ (es : List Entry). (cell_after p es).last) same in
-    let goes_on : GoesOnTo p (cell_after p is.told) (cell_after p is.told).last on.reports (events_of on.later) last =
-    subst (λ t. GoesOnTo p (cell_after p is.told) t on.reports (events_of on.later) last) now
+    let same : is.up.recorded ≡ is.recorded = one_reading p is.lines is.up.recorded is.recorded is.up.parses is.log.parses in
+    let recorded : replayed_events recovered ≡ is.recorded = from.replayed_is ∙ same in
+    let here : replayed_cell recovered ≡ cell_after p is.recorded = ap (λ (q : PlannedShop). cell_after q (replayed_events recovered)) from.planned ∙ ap (cell_after p) recorded in
+    let now : began ≡ (cell_after p is.recorded).last = from.began ∙ ap (λ (es : List Entry). (cell_after p es).last) same in
+    let goes_on : GoesOnTo p (cell_after p is.recorded) (cell_after p is.recorded).last on.reports (events_of on.later) last =
+    subst (λ t. GoesOnTo p (cell_after p is.recorded) t on.reports (events_of on.later) last) now
     (subst (λ (c : Cell). GoesOnTo p c began on.reports (events_of on.later) last) here
     (subst (λ (q : PlannedShop). GoesOnTo q (replayed_cell recovered) began on.reports (events_of on.later) last) from.planned on.goes_on)) in
-    subst (IsRunOf p) (sym (on.whole ∙ ap (λ (es : List Entry). es ++ on.later) told)) (gone_on p recovered is on.reports (events_of on.later) last goes_on on.later refl)
+    subst (IsRunOf p) (sym (on.whole ∙ ap (λ (es : List Entry). es ++ on.later) recorded)) (gone_on p recovered is on.reports (events_of on.later) last goes_on on.later refl)
 
 pub it_stays_as_promised : ItStaysAsPromised
 it_stays_as_promised v recovered end verified is on =
@@ -111,17 +111,17 @@ it_stays_as_promised v recovered end verified is on =
 
 pub the_first_events_have_their_orders : TheFirstEventsHaveTheirOrders
 the_first_events_have_their_orders p log entries shaped run from =
-    let a = from.told in
+    let a = from.recorded in
     let b = from.later in
     let events : events_of entries ≡ events_of a ++ events_of b = ap events_of from.whole ∙ events-join a b in
     let leads : Leads p (start p) run.0 (events_of a ++ events_of b) (cell_after p entries) = subst (λ es. Leads p (start p) run.0 es (cell_after p entries)) events run.1 in
     let cut_run = cut_of_run (length (events_of a)) p (start p) (cell_after p entries) run.0 (events_of a) (events_of b) (omega arith) leads in
     let (later, split, rest) = entries_moved b cut_run.due cut_run.rest cut_run.split in
     record {
-      told = a;
+      recorded = a;
       due = cut_run.due;
       log = record {
-        tells = from.tells;
+        parses = from.parses;
         run = own_run p (a ++ map OrderEntry cut_run.due) (run_of_leads p cut_run.reports (a ++ map OrderEntry cut_run.due) cut_run.end shaped
             (subst (λ es. Leads p (start p) cut_run.reports es cut_run.end) (sym (due_events a cut_run.due)) cut_run.leads));
       };

@@ -18,7 +18,7 @@ module _ (p : PlannedShop) (c : Cell) where
   inside_printed j k false = refl
 
   gone_or_not : (j k : ℕ) (inside : Bool) → is_over (cond inside (inside_standing p c j k (ready c j)) (Gone j (since c j))) ≡ true → inside ≡ false
-  gone_or_not j k true over = let told = inside_printed j k (ready c j) in absurd (cc)
+  gone_or_not j k true over = let printed = inside_printed j k (ready c j) in absurd (cc)
   gone_or_not j k false over = refl
 
   gone_is_over : (j k : ℕ) (inside : Bool) → inside ≡ false → is_over (cond inside (inside_standing p c j k (ready c j)) (Gone j (since c j))) ≡ true
@@ -26,7 +26,7 @@ module _ (p : PlannedShop) (c : Cell) where
   gone_is_over j k false gone = refl
 
   left_out : (j made : ℕ) → (is_over (standing_after p c j made) ≡ true) ↔ (steps p j < made)
-  left_out j zero = ((λ over. let told = outside_printed j (ready c j) in absurd (cc)), λ gone. absurd (omega (arith, gone)))
+  left_out j zero = ((λ over. let printed = outside_printed j (ready c j) in absurd (cc)), λ gone. absurd (omega (arith, gone)))
   left_out j (suc k) = (
     (λ over. let past = ltb-false k (steps p j) (gone_or_not j k (nat_lt k (steps p j)) over) in omega (arith, past)),
     λ gone. gone_is_over j k (nat_lt k (steps p j)) (le-ltb k (steps p j) (omega (arith, gone))),

@@ -67,12 +67,12 @@ module _ (p : PlannedShop) (max_gap : Option ℕ) (from : ℕ) where
   plain_text : (entries : List Entry) (late : List Bool) (text other : List ℕ) → IsPlainText text other
       → IsPlainText (again_text p (in_version true max_gap from) entries late ++ text) (again_text p (in_version false max_gap from) entries late ++ other)
   plain_text entries late text other plain =
-      let told = take (length late) entries in
+      let recorded = take (length late) entries in
       let due = entry_lines (drop (length late) entries) in
-      subst (λ (t : List ℕ). IsPlainText (again_text p (in_version true max_gap from) entries late ++ text) ((t ++ (10 ∷ due)) ++ other)) (sym (plain_replay p (in_version false max_gap from) (start p) told late refl))
-      (subst (λ (t : List ℕ). IsPlainText t ((plain_lines told late ++ (10 ∷ due)) ++ other)) (sym (append_assoc (replay_lines p (in_version true max_gap from) (start p) told late) (10 ∷ due) text))
-      (subst (λ (t : List ℕ). IsPlainText (replay_lines p (in_version true max_gap from) (start p) told late ++ (10 ∷ (due ++ text))) t) (sym (append_assoc (plain_lines told late) (10 ∷ due) other))
-      (plain_again (start p) told late (10 ∷ (due ++ text)) (10 ∷ (due ++ other)) (empty_line (due ++ text) (due ++ other) (plain_entries (drop (length late) entries) text other plain)))))
+      subst (λ (t : List ℕ). IsPlainText (again_text p (in_version true max_gap from) entries late ++ text) ((t ++ (10 ∷ due)) ++ other)) (sym (plain_replay p (in_version false max_gap from) (start p) recorded late refl))
+      (subst (λ (t : List ℕ). IsPlainText t ((plain_lines recorded late ++ (10 ∷ due)) ++ other)) (sym (append_assoc (replay_lines p (in_version true max_gap from) (start p) recorded late) (10 ∷ due) text))
+      (subst (λ (t : List ℕ). IsPlainText (replay_lines p (in_version true max_gap from) (start p) recorded late ++ (10 ∷ (due ++ text))) t) (sym (append_assoc (plain_lines recorded late) (10 ∷ due) other))
+      (plain_again (start p) recorded late (10 ∷ (due ++ text)) (10 ∷ (due ++ other)) (empty_line (due ++ text) (due ++ other) (plain_entries (drop (length late) entries) text other plain)))))
 
 pub resuming_only_adds : ResumingOnlyAdds
 resuming_only_adds p max_gap from entries late lines text end of all =

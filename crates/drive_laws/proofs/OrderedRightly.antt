@@ -64,19 +64,19 @@ module _ (floor : Floor) (p : PlannedShop) (shaped : IsWellShaped p) where
 
   -- which is what a report of it tells
   own_replayed : (c : Cell) (r : Report) (what : NamedEnd) (j : ℕ) → ReportsEnd p c r what → IsOwn c j (ended r) → what ≡ end_at j (source p c j)
-  own_replayed c r (Arrived i) j tells (inl (is, out)) = let same : i ≡ j = cc in ap Arrived same ∙ ap (end_at j) (sym out)
-  own_replayed c r (Arrived i) j tells (inr (m, is, at)) = absurd (cc)
-  own_replayed c r (Finished i n) j tells (inl (is, out)) = absurd (cc)
-  own_replayed c r (Finished i n) j tells (inr (m, is, at)) = let same : Finished i n ≡ Finished j m = cc in same ∙ ap (end_at j) (sym at)
-  own_replayed c r (Cleaned n i) j (tells, cleaned) (inl (is, out)) = absurd (cc)
-  own_replayed c r (Cleaned n i) j (tells, cleaned) (inr (m, is, at)) = absurd (cc)
+  own_replayed c r (Arrived i) j parses (inl (is, out)) = let same : i ≡ j = cc in ap Arrived same ∙ ap (end_at j) (sym out)
+  own_replayed c r (Arrived i) j parses (inr (m, is, at)) = absurd (cc)
+  own_replayed c r (Finished i n) j parses (inl (is, out)) = absurd (cc)
+  own_replayed c r (Finished i n) j parses (inr (m, is, at)) = let same : Finished i n ≡ Finished j m = cc in same ∙ ap (end_at j) (sym at)
+  own_replayed c r (Cleaned n i) j (parses, cleaned) (inl (is, out)) = absurd (cc)
+  own_replayed c r (Cleaned n i) j (parses, cleaned) (inr (m, is, at)) = absurd (cc)
 
   -- of each ready job it has ended
   abbrev IsKnown : Cell → Type 0
   IsKnown c = (j : ℕ) → ready c j ≡ true → HasEndedBy floor (end_at j (source p c j)) c.last
 
   known_report : (c : Cell) (r : Report) → IsSound p c → CanReport p c r → IsTrueReport floor p c r → IsKnown c → IsKnown (after_report c r)
-  known_report c r sound can (what, tells, by) known j now =
+  known_report c r sound can (what, parses, by) known j now =
       let new = after_report c r in
       let same : source p new j ≡ source p c j = same_source p c new j ((after_report-like p c r sound can).made_same j) in
       let last : new.last ≡ at r = after_report-last c r in
@@ -85,7 +85,7 @@ module _ (floor : Floor) (p : PlannedShop) (shaped : IsWellShaped p) where
       go : (ready c j ≡ true) ⊎ (ready c j ≡ false) → HasEndedBy floor (end_at j (source p c j)) (at r)
       go (inl was) = later_by (end_at j (source p c j)) c.last (at r) can.moment.in_order (known j was)
       go (inr idle) =
-          subst (λ e. HasEndedBy floor e (at r)) (own_replayed c r what j tells (ended_own c (ended r) can.going.0 (at r) j sound can.going.1 idle now)) by
+          subst (λ e. HasEndedBy floor e (at r)) (own_replayed c r what j parses (ended_own c (ended r) can.going.0 (at r) j sound can.going.1 idle now)) by
 
   known_move : (c : Cell) (o : MoveOrder) → IsSound p c → CanObey p c o → IsKnown c → IsKnown (after_move p c o.job o.at)
   known_move c o sound can known j now = go (cases_eq j o.job)
@@ -120,7 +120,7 @@ module _ (floor : Floor) (p : PlannedShop) (shaped : IsWellShaped p) where
 
     cleaned_report : (c : Cell) (r : Report) → IsSound p c → CanReport p c r → IsTrueReport floor p c r → IsCleanedSince c → IsCleanedSince (after_report c r)
     cleaned_report c r sound can truth (inr by) = inr (later_by (Cleaned m j) c.last (after_report c r).last (last_grows c (Reported r) can) by)
-    cleaned_report c r sound can (what, tells, by) (inl was) = go what tells by
+    cleaned_report c r sound can (what, parses, by) (inl was) = go what parses by
       where
         of : Activity → Type 0
         of a = IsCleanedSince (after_end c a (at r))

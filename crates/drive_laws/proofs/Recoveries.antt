@@ -66,20 +66,20 @@ module _ (p : PlannedShop) where
   same_late c (entry ∷ entries) (f ∷ one) (g ∷ other) are also =
       ap₂ (λ (x : Bool) (xs : List Bool). x ∷ xs) (same_late_event c entry f g are.0 also.0) (same_late (after p c (event_of entry)) entries one other are.1 also.1)
 
-  module _ (told : List Entry) (at : Option ℕ) (recovered : Recovered) (from : IsRecoveredFrom p told at recovered) where
-    settled_behind : HasSettled p (unwrap_or at (cell_after p told).last) (cell_after p told) recovered.control.orders recovered.control.cell
+  module _ (recorded : List Entry) (at : Option ℕ) (recovered : Recovered) (from : IsRecoveredFrom p recorded at recovered) where
+    settled_behind : HasSettled p (unwrap_or at (cell_after p recorded).last) (cell_after p recorded) recovered.control.orders recovered.control.cell
     settled_behind =
         let control = recovered.control in
-        subst (λ t. HasSettled p t (cell_after p told) control.orders control.cell) from.began
+        subst (λ t. HasSettled p t (cell_after p recorded) control.orders control.cell) from.began
         (subst (λ (es : List Entry). HasSettled p control.began (cell_after p es) control.orders control.cell) from.replayed_is
         (subst (λ (q : PlannedShop). HasSettled q control.began (cell_after q (replayed_events recovered)) control.orders control.cell) from.planned from.run.begun.settled))
 
-    late_behind : AreLate p (start p) told recovered.late
+    late_behind : AreLate p (start p) recorded recovered.late
     late_behind =
         subst (λ (es : List Entry). AreLate p (start p) es recovered.late) from.replayed_is
         (subst (λ (q : PlannedShop). AreLate q (start q) (replayed_events recovered) recovered.late) from.planned from.run.are_late)
 
-    entries_behind : recovered.log.entries ≡ told ++ map OrderEntry recovered.control.orders
+    entries_behind : recovered.log.entries ≡ recorded ++ map OrderEntry recovered.control.orders
     entries_behind = from.run.due ∙ ap (λ (es : List Entry). es ++ map OrderEntry recovered.control.orders) from.replayed_is
 
     shaped_behind : IsWellShaped p
@@ -87,19 +87,19 @@ module _ (p : PlannedShop) where
 
 pub one_recovery : OneRecovery
 one_recovery p lines at recovered other up also =
-    let told = up.told in
-    let c : Cell = cell_after p told in
+    let recorded = up.recorded in
+    let c : Cell = cell_after p recorded in
     let t : ℕ = unwrap_or at c.last in
     let from = up.recovered_from in
-    let from_too : IsRecoveredFrom p told at other = subst (λ (es : List Entry). IsRecoveredFrom p es at other) (one_reading p lines also.told told also.tells up.tells) also.recovered_from in
-    let one = settled_behind p told at recovered from in
-    let two = settled_behind p told at other from_too in
+    let from_too : IsRecoveredFrom p recorded at other = subst (λ (es : List Entry). IsRecoveredFrom p es at other) (one_reading p lines also.recorded recorded also.parses up.parses) also.recovered_from in
+    let one = settled_behind p recorded at recovered from in
+    let two = settled_behind p recorded at other from_too in
     let movers : two.movers ≡ one.movers = same_movers p c t two.movers one.movers two.in_order one.in_order two.settles.quiescent one.settles.quiescent in
     let orders : other.control.orders ≡ recovered.control.orders = two.orders_are ∙ ap (orders_for p c t) movers ∙ sym one.orders_are in
     let cells : other.control.cell ≡ recovered.control.cell = two.leads ∙ ap (after_moves p c t) movers ∙ sym one.leads in
     let entries : other.log.entries ≡ recovered.log.entries =
-    entries_behind p told at other from_too ∙ ap (λ (os : List MoveOrder). told ++ map OrderEntry os) orders ∙ sym (entries_behind p told at recovered from) in
-    (ap₂ (λ (d : Cell) (es : List Entry). let seen : DrivenCell = record { cell = d; entries = es } in seen) cells entries, same_late p (start p) told other.late recovered.late (late_behind p told at other from_too) (late_behind p told at recovered from))
+    entries_behind p recorded at other from_too ∙ ap (λ (os : List MoveOrder). recorded ++ map OrderEntry os) orders ∙ sym (entries_behind p recorded at recovered from) in
+    (ap₂ (λ (d : Cell) (es : List Entry). let seen : DrivenCell = record { cell = d; entries = es } in seen) cells entries, same_late p (start p) recorded other.late recovered.late (late_behind p recorded at other from_too) (late_behind p recorded at recovered from))
 
 module _ (p : PlannedShop) (lines : List (List ℕ)) (at : Option ℕ) (recovered other : Recovered) (up : IsRecovered p lines at recovered) (also : IsRecovered p lines at other) where
   same_entries : other.log.entries ≡ recovered.log.entries
@@ -109,10 +109,10 @@ module _ (p : PlannedShop) (lines : List (List ℕ)) (at : Option ℕ) (recovere
   same_late_ones = (one_recovery p lines at recovered other up also).1
 
   shaped_there : IsWellShaped p
-  shaped_there = shaped_behind p up.told at taken up.recovered_from
+  shaped_there = shaped_behind p up.recorded at recovered up.recovered_from
 
   run_there : IsRunToRest p recovered.log.entries
-  run_there = subst (λ (q : PlannedShop). IsRunToRest q recovered.log.entries) up.recovered_from.planned (to_rest taken up.recovered_from.run)
+  run_there = subst (λ (q : PlannedShop). IsRunToRest q recovered.log.entries) up.recovered_from.planned (to_rest recovered up.recovered_from.run)
 
 pub one_text_from_a_log : OneTextFromALog
 one_text_from_a_log p protocol lines at recovered other input text other_text end last up also is is_too =
@@ -126,10 +126,10 @@ one_text_from_a_log p protocol lines at recovered other input text other_text en
 nothing_recovered : (p : PlannedShop) (lines : List (List ℕ)) (recovered : Recovered) → LinesParse p lines [] → IsRecovered p lines None recovered → (recovered.log.entries ≡ []) × (recovered.late ≡ [])
 nothing_recovered p lines recovered none up =
     let from = up.recovered_from in
-    let (replayed_none, due_none) = it_is_recovered_with_its_orders p lines [] [] recovered (shaped_behind p up.told None recovered from) (record { tells = none; run = done (start p) }) up in
-    let replayed_is : up.told ≡ [] = sym from.replayed_is ∙ replayed_none in (
+    let (replayed_none, due_none) = it_is_recovered_with_its_orders p lines [] [] recovered (shaped_behind p up.recorded None recovered from) (record { parses = none; run = done (start p) }) up in
+    let replayed_is : up.recorded ≡ [] = sym from.replayed_is ∙ replayed_none in (
       from.run.due ∙ ap₂ (λ (es : List Entry) (os : List MoveOrder). es ++ map OrderEntry os) replayed_none due_none,
-      subst (λ (es : List Entry). AreLate p (start p) es recovered.late) replayed_is (late_behind p up.told None recovered from),
+      subst (λ (es : List Entry). AreLate p (start p) es recovered.late) replayed_is (late_behind p up.recorded None recovered from),
     )
 
 pub a_log_without_events_is_driven : ALogWithoutEventsIsDriven

@@ -29,7 +29,7 @@ use Rattle.cell_drive.specs.Replay.{replay_lines}
 use Rattle.cell_drive.specs.ProtocolText.{AreProtocolAnswers, prints_end, end_part}
 use Rattle.cell_drive.specs.PlainLines.{plain_lines}
 use Rattle.drive_laws.specs.AnswerLaw.{AreReportLines, AreClaimLines, ReplayAsAnswered, ReplayInProtocol, end_behind_log}
-use Rattle.drive_laws.proofs.AnsweredAgain.{end_behind, told_again}
+use Rattle.drive_laws.proofs.AnsweredAgain.{end_behind, answered_again}
 use Rattle.cell_drive.proofs.ReplayLines.{plain_replay}
 use Rattle.drive_laws.proofs.Plainly.{plainly_as_ever}
 
@@ -61,9 +61,9 @@ module _ (p : PlannedShop) (protocol : Protocol) (shaped : IsWellShaped p) where
   end_is (e ∷ entries) = refl
 
 pub replay_in_protocol : ReplayInProtocol
-replay_in_protocol p protocol log entries late lines shaped taken are says =
+replay_in_protocol p protocol log entries late lines shaped cut are says =
     subst (λ (t : List ℕ). AreProtocolAnswers p protocol lines (replay_lines p protocol (start p) (take (length late) entries) late ++ (entry_lines (drop (length late) entries) ++ t)) (driven_so_far p entries)) (end_is p protocol shaped entries)
-    (told_again p protocol (IsSound p) (keeps p protocol shaped) (goes p protocol shaped) log entries late lines (start-sound p shaped) taken are says)
+    (answered_again p protocol (IsSound p) (keeps p protocol shaped) (goes p protocol shaped) log entries late lines (start-sound p shaped) cut are says)
 
 -- ---- in version 1
 
@@ -91,14 +91,14 @@ module _ (p : PlannedShop) where
   no_end (e ∷ entries) end = refl
 
 pub replay_as_answered : ReplayAsAnswered
-replay_as_answered p log entries late lines taken are says =
-    let told = take (length late) entries in
+replay_as_answered p log entries late lines cut are says =
+    let recorded = take (length late) entries in
     let due = entry_lines (drop (length late) entries) in
-    let replayed_part = replay_lines p plain (start p) told late in
-    let run : IsOwnRun p entries = subst (IsOwnRun p) (sym taken.whole) taken.log.run in
+    let replayed_part = replay_lines p plain (start p) recorded late in
+    let run : IsOwnRun p entries = subst (IsOwnRun p) (sym cut.whole) cut.log.run in
     let events = leads_happen p (start p) (cell_after p entries) (reported (events_of entries)) (events_of entries) run in
-    let stated = told_again p plain (λ c. Unit {0}) (λ c r js on step. tt) (λ c r on can. refl) log entries late lines tt taken are (claims_of p (start p) entries lines events says) in
-    let text : replayed_part ++ (due ++ end_behind p plain entries (cell_after p entries)) ≡ plain_lines told late ++ due =
+    let stated = answered_again p plain (λ c. Unit {0}) (λ c r js on step. tt) (λ c r on can. refl) log entries late lines tt cut are (claims_of p (start p) entries lines events says) in
+    let text : replayed_part ++ (due ++ end_behind p plain entries (cell_after p entries)) ≡ plain_lines recorded late ++ due =
     ap (λ (t : List ℕ). replayed_part ++ (due ++ t)) (no_end p entries (cell_after p entries)) ∙ ap (λ (t : List ℕ). replayed_part ++ t) (append-nil due)
-    ∙ ap (λ (t : List ℕ). t ++ due) (plain_replay p plain (start p) told late refl) in
-    plainly_as_ever p 0 1 lines (plain_lines told late ++ due) (undriven p) (driven_so_far p entries) (subst (λ (t : List ℕ). AreProtocolAnswers p plain lines t (driven_so_far p entries)) text stated)
+    ∙ ap (λ (t : List ℕ). t ++ due) (plain_replay p plain (start p) recorded late refl) in
+    plainly_as_ever p 0 1 lines (plain_lines recorded late ++ due) (undriven p) (driven_so_far p entries) (subst (λ (t : List ℕ). AreProtocolAnswers p plain lines t (driven_so_far p entries)) text stated)

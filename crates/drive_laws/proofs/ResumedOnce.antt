@@ -15,24 +15,24 @@ use Rattle.cell_drive.specs.ProtocolLaw.{NothingOfARunIsClaimedAgain}
 use Rattle.drive_laws.specs.ResumedLaw.{NothingOfALogIsAcceptedAgain}
 use Rattle.cell_drive.proofs.Refusing.{can_report}
 use Rattle.drive_laws.proofs.Resumes.{rests_on_course}
-use Rattle.drive_laws.proofs.AcceptedOnce.{ends_named, told}
+use Rattle.drive_laws.proofs.AcceptedOnce.{ends_named, answers_parsed}
 
 pub nothing_of_a_run_is_claimed_again : NothingOfARunIsClaimedAgain
-nothing_of_a_run_is_claimed_again p before after report again ended shaped run tells names can =
+nothing_of_a_run_is_claimed_again p before after report again ended shaped run parses names can =
     let whole : events_of (before ++ ReportEntry report ∷ after) ≡ events_of before ++ Reported report ∷ events_of after = events-join before (ReportEntry report ∷ after) in
     let can_then : CanClaim p (after_all p (start p) (events_of before ++ Reported report ∷ events_of after)) again =
     subst (λ (es : List Event). CanClaim p (after_all p (start p) es) again) whole can in
-    once p (events_of before) (events_of after) report (claimed again) ended shaped (subst (IsRun p) whole run) tells
+    once p (events_of before) (events_of after) report (claimed again) ended shaped (subst (IsRun p) whole run) parses
     (ends_named p (after_all p (start p) (events_of before ++ Reported report ∷ events_of after)) again ended names can_then)
     (can_report p (after_all p (start p) (events_of before ++ Reported report ∷ events_of after)) again can_then)
 
 pub nothing_of_a_log_is_accepted_again : NothingOfALogIsAcceptedAgain
-nothing_of_a_log_is_accepted_again p protocol before after report lines number text end again ended shaped run tells answered names can =
+nothing_of_a_log_is_accepted_again p protocol before after report lines number text end again ended shaped run parses answered names can =
     let entries = before ++ ReportEntry report ∷ after in
-    let further = told p protocol shaped lines (driven_so_far p entries) end number text (rests_on_course p entries shaped run) answered in
+    let further = answers_parsed p protocol shaped lines (driven_so_far p entries) end number text (rests_on_course p entries shaped run) answered in
     let all = before ++ ReportEntry report ∷ (after ++ further.more) in
     let parts : entries ++ further.more ≡ all = append_assoc before (ReportEntry report ∷ after) further.more in
     let joined : events_of entries ++ events_of further.more ≡ events_of all = sym (events-join entries further.more) ∙ ap events_of parts in
     let is_run : IsRun p (events_of all) = subst (IsRun p) joined (events_join p (start p) (events_of entries) (events_of further.more) run.0 further.events) in
     let to_end : end.cell ≡ cell_after p all = further.cell ∙ sym (after_all_join p (start p) (events_of entries) (events_of further.more)) ∙ ap (after_all p (start p)) joined in
-    nothing_of_a_run_is_claimed_again p before (after ++ further.more) report again ended shaped is_run tells names (subst (λ (x : Cell). CanClaim p x again) to_end can)
+    nothing_of_a_run_is_claimed_again p before (after ++ further.more) report again ended shaped is_run parses names (subst (λ (x : Cell). CanClaim p x again) to_end can)

@@ -46,12 +46,12 @@ use Rattle.cell_drive.proofs.ProtocolParses.{lateness_parses}
 use Rattle.cell_drive.proofs.CutLogs.{AreLed, a_cut_log_is_recovered, closing_part, cut_of_led, protocol_answers_lead}
 use Rattle.cell_drive.proofs.Sessions.{a_session_answers_so, seen_closes}
 use Rattle.drive_laws.proofs.AuditKeeps.{found_of}
-use Rattle.drive_laws.proofs.AcceptedOnce.{told}
+use Rattle.drive_laws.proofs.AcceptedOnce.{answers_parsed}
 
 -- ---- the lines of a run
 
 pub empty_line : (p : PlannedShop) → ParsesFirst p (10 ∷ []) []
-empty_line p rest later tells = ([], later, refl, tells, refl)
+empty_line p rest later parses = ([], later, refl, parses, refl)
 
 module _ (p : PlannedShop) (shaped : IsWellShaped p) where
   pub run_parses : (c : Cell) (entries : List Entry) → IsSound p c → AreEvents p c (events_of entries) → ParsesFirst p (entry_lines entries) entries
@@ -66,23 +66,23 @@ module _ (p : PlannedShop) (shaped : IsWellShaped p) where
 
 module _ (p : PlannedShop) (shaped : IsWellShaped p) (protocol : Protocol) where
   -- the lines of events that are told again, and an empty line and those of others behind them
-  replay_parses : (c : Cell) (told : List Entry) (late : List Bool) (rest : List Entry) → length told ≡ length late → IsSound p c → AreEvents p c (events_of (told ++ rest))
-      → ParsesFirst p (replay_lines p protocol c told late ++ (10 ∷ entry_lines rest)) (told ++ rest)
+  replay_parses : (c : Cell) (recorded : List Entry) (late : List Bool) (rest : List Entry) → length recorded ≡ length late → IsSound p c → AreEvents p c (events_of (recorded ++ rest))
+      → ParsesFirst p (replay_lines p protocol c recorded late ++ (10 ∷ entry_lines rest)) (recorded ++ rest)
   replay_parses c [] late rest same sound events = parses_both p (10 ∷ []) (entry_lines rest) [] rest (empty_line p) (run_parses p shaped c rest sound events)
-  replay_parses c (entry ∷ told) [] rest same sound events = absurd (omega (arith, same))
-  replay_parses c (ReportEntry r ∷ told) (was_late ∷ late) rest same sound events =
+  replay_parses c (entry ∷ recorded) [] rest same sound events = absurd (omega (arith, same))
+  replay_parses c (ReportEntry r ∷ recorded) (was_late ∷ late) rest same sound events =
       let next = after p c (Reported r) in
       let overdue = printed_overdue protocol p c r in
-      subst (λ (t : List ℕ). ParsesFirst p t (ReportEntry r ∷ (told ++ rest))) (sym (append_assoc (replay_line p protocol c (ReportEntry r) was_late) (replay_lines p protocol next told late) (10 ∷ entry_lines rest)))
-      (parses_both p (replay_line p protocol c (ReportEntry r) was_late) (replay_lines p protocol next told late ++ (10 ∷ entry_lines rest)) (ReportEntry r ∷ []) (told ++ rest)
+      subst (λ (t : List ℕ). ParsesFirst p t (ReportEntry r ∷ (recorded ++ rest))) (sym (append_assoc (replay_line p protocol c (ReportEntry r) was_late) (replay_lines p protocol next recorded late) (10 ∷ entry_lines rest)))
+      (parses_both p (replay_line p protocol c (ReportEntry r) was_late) (replay_lines p protocol next recorded late ++ (10 ∷ entry_lines rest)) (ReportEntry r ∷ []) (recorded ++ rest)
       (parses_both p (entry_line (ReportEntry r)) (lateness_part [] (at r) was_late overdue) (ReportEntry r ∷ []) [] (parses_entry p shaped (ReportEntry r) (report_of_shop p c r shaped sound events.0)) (lateness_parses p (at r) was_late overdue))
-      (replay_parses next told late rest (omega (arith, same)) (after_report-sound p c r shaped sound events.0) events.1))
-  replay_parses c (OrderEntry o ∷ told) (was_late ∷ late) rest same sound events =
+      (replay_parses next recorded late rest (omega (arith, same)) (after_report-sound p c r shaped sound events.0) events.1))
+  replay_parses c (OrderEntry o ∷ recorded) (was_late ∷ late) rest same sound events =
       let next = after p c (Moved o) in
       let is_of : IsEntryOf p (OrderEntry o) = subst (λ (q : MoveOrder). IsEntryOf p (OrderEntry q)) (sym events.0.0.is_move) (order_of_shop p c o.job o.at shaped sound events.0.0.can) in
-      subst (λ (t : List ℕ). ParsesFirst p t (OrderEntry o ∷ (told ++ rest))) (sym (append_assoc (entry_line (OrderEntry o)) (replay_lines p protocol next told late) (10 ∷ entry_lines rest)))
-      (parses_both p (entry_line (OrderEntry o)) (replay_lines p protocol next told late ++ (10 ∷ entry_lines rest)) (OrderEntry o ∷ []) (told ++ rest) (parses_entry p shaped (OrderEntry o) is_of)
-      (replay_parses next told late rest (omega (arith, same)) (after_move-sound p c o.job o.at shaped sound events.0.0.can events.0.1) events.1))
+      subst (λ (t : List ℕ). ParsesFirst p t (OrderEntry o ∷ (recorded ++ rest))) (sym (append_assoc (entry_line (OrderEntry o)) (replay_lines p protocol next recorded late) (10 ∷ entry_lines rest)))
+      (parses_both p (entry_line (OrderEntry o)) (replay_lines p protocol next recorded late ++ (10 ∷ entry_lines rest)) (OrderEntry o ∷ []) (recorded ++ rest) (parses_entry p shaped (OrderEntry o) is_of)
+      (replay_parses next recorded late rest (omega (arith, same)) (after_move-sound p c o.job o.at shaped sound events.0.0.can events.0.1) events.1))
 
   again_parses : (entries : List Entry) (late : List Bool) → AreEvents p (start p) (events_of entries) → length late ≤ length entries → ParsesFirst p (again_text p protocol entries late) entries
   again_parses entries late events few =
@@ -96,13 +96,13 @@ pub log_behind : (p : PlannedShop) (shaped : IsWellShaped p) (entries : List Ent
 log_behind p shaped entries again answers closing end events first on closes =
     let both : ParsesFirst p (again ++ (answers ++ closing)) (entries ++ (on.more ++ [])) =
     parses_both p again (answers ++ closing) entries (on.more ++ []) first
-    (parses_both p answers closing on.more [] on.tells (closing_part p end closing closes)) in
-    let tells : LinesParse p (lines_of ((again ++ (answers ++ closing)) ++ [])) ((entries ++ (on.more ++ [])) ++ []) = both [] [] refl in
+    (parses_both p answers closing on.more [] on.parses (closing_part p end closing closes)) in
+    let parses : LinesParse p (lines_of ((again ++ (answers ++ closing)) ++ [])) ((entries ++ (on.more ++ [])) ++ []) = both [] [] refl in
     let same_entries : (entries ++ (on.more ++ [])) ++ [] ≡ end.entries = append-nil (entries ++ (on.more ++ [])) ∙ ap (λ (es : List Entry). entries ++ es) (append-nil on.more) ∙ sym on.entries in
     let joined : events_of end.entries ≡ events_of entries ++ events_of on.more = ap events_of on.entries ∙ events-join entries on.more in
     record {
-      tells = subst (λ (t : List ℕ). LinesParse p (lines_of t) end.entries) (append-nil (again ++ (answers ++ closing)))
-          (subst (λ (es : List Entry). LinesParse p (lines_of ((again ++ (answers ++ closing)) ++ [])) es) same_entries tells);
+      parses = subst (λ (t : List ℕ). LinesParse p (lines_of t) end.entries) (append-nil (again ++ (answers ++ closing)))
+          (subst (λ (es : List Entry). LinesParse p (lines_of ((again ++ (answers ++ closing)) ++ [])) es) same_entries parses);
       run = subst (IsRun p) (sym joined) (events_join p (start p) (events_of entries) (events_of on.more) events on.events);
       cell = on.cell ∙ sym (after_all_join p (start p) (events_of entries) (events_of on.more)) ∙ ap (after_all p (start p)) (sym joined);
     }
@@ -117,7 +117,7 @@ goes_on : (p : PlannedShop) (protocol : Protocol) (entries : List Entry) (late :
     → (closing ≡ []) ⊎ CellCloses p end closing → IsLogOf p (again_text p protocol entries late ++ (answers ++ closing)) end
 goes_on p protocol entries late lines answers closing end shaped run few are closes =
     log_behind p shaped entries (again_text p protocol entries late) answers closing end run.0 (again_parses p shaped protocol entries late run.0 few)
-    (told p protocol shaped lines (driven_so_far p entries) end 1 answers (rests_on_course p entries shaped run) are) closes
+    (answers_parsed p protocol shaped lines (driven_so_far p entries) end 1 answers (rests_on_course p entries shaped run) are) closes
 
 pub a_resumed_text_is_a_log : AResumedTextIsALog
 a_resumed_text_is_a_log p protocol entries late input text end shaped run few is =
@@ -126,13 +126,13 @@ a_resumed_text_is_a_log p protocol entries late input text end shaped run few is
 -- ---- cut at any byte
 
 cut_of_log : (p : PlannedShop) (text cut lost : List ℕ) (end : DrivenCell) → text ≡ cut ++ lost → IsLogOf p text end → IsRunPrefix p cut end.entries
-cut_of_log p text cut lost end whole log = a_cut_log_is_recovered p cut lost end.entries (subst (λ (t : List ℕ). LinesParse p (lines_of t) end.entries) whole log.tells) log.run
+cut_of_log p text cut lost end whole log = a_cut_log_is_recovered p cut lost end.entries (subst (λ (t : List ℕ). LinesParse p (lines_of t) end.entries) whole log.parses) log.run
 
 protocol_text_log : (p : PlannedShop) (protocol : Protocol) (lines : List (Option (List ℕ))) (answers closing : List ℕ) (end : DrivenCell) → IsWellShaped p
     → AreProtocolAnswers p protocol lines answers end → (closing ≡ []) ⊎ CellCloses p end closing → IsLogOf p (answers ++ closing) end
 protocol_text_log p protocol lines answers closing end shaped are closes =
     let run : IsRunToRest p [] = (tt, start_at_rest p) in
-    log_behind p shaped [] [] answers closing end tt (parses_none p) (told p protocol shaped lines (driven_so_far p []) end 1 answers (rests_on_course p [] shaped run) are) closes
+    log_behind p shaped [] [] answers closing end tt (parses_none p) (answers_parsed p protocol shaped lines (driven_so_far p []) end 1 answers (rests_on_course p [] shaped run) are) closes
 
 pub what_was_driven_is_recovered : WhatWasDrivenIsRecovered
 what_was_driven_is_recovered p protocol lines answers closing cut lost end shaped are closes whole =
@@ -141,7 +141,7 @@ what_was_driven_is_recovered p protocol lines answers closing cut lost end shape
 pub what_was_driven_has_its_orders : WhatWasDrivenHasItsOrders
 what_was_driven_has_its_orders p protocol lines answers closing cut lost end shaped are closes whole =
     let log = protocol_text_log p protocol lines answers closing end shaped are closes in
-    cut_of_led p cut lost end shaped (subst (λ (t : List ℕ). LinesParse p (lines_of t) end.entries) whole log.tells) (protocol_answers_lead p protocol lines (undriven p) end 1 answers are)
+    cut_of_led p cut lost end shaped (subst (λ (t : List ℕ). LinesParse p (lines_of t) end.entries) whole log.parses) (protocol_answers_lead p protocol lines (undriven p) end 1 answers are)
 
 pub what_was_resumed_is_recovered : WhatWasResumedIsRecovered
 what_was_resumed_is_recovered p protocol entries late lines answers closing cut lost end shaped run few are closes whole =
@@ -158,10 +158,10 @@ one_resumed_text p protocol entries late input text other end last shaped run is
 
 -- its cell is that after its events, and at rest
 pub seen_from : (protocol : Protocol) (recovered : Recovered) → IsRecoveredRun recovered → seen (session_from protocol recovered) ≡ driven_so_far (plan_of recovered) recovered.log.entries
-seen_from protocol recovered run = ap (λ (c : Cell). let d : DrivenCell = record { cell = c; entries = recovered.log.entries } in d) run.kept.told.cell
+seen_from protocol recovered run = ap (λ (c : Cell). let d : DrivenCell = record { cell = c; entries = recovered.log.entries } in d) run.kept.replayed.cell
 
 pub to_rest : (recovered : Recovered) → IsRecoveredRun recovered → IsRunToRest (plan_of recovered) recovered.log.entries
-to_rest recovered run = (run.kept.told.run, subst (IsAtRest (plan_of recovered)) run.kept.told.cell run.kept.control.at_rest)
+to_rest recovered run = (run.kept.replayed.run, subst (IsAtRest (plan_of recovered)) run.kept.replayed.cell run.kept.control.at_rest)
 
 pub resumed_text : WhatWasResumedIsSuchAText
 resumed_text protocol recovered end before after is =
@@ -197,22 +197,22 @@ is_recoverable p log at recovered cut entries up again which =
     let from = up.recovered_from in
     let ranks : AreRanks p recovered.control.times = subst (λ (q : PlannedShop). AreRanks q recovered.control.times) from.planned from.run.kept.control.ranks in
     record {
-      told = again.told;
-      tells = again.tells;
+      recorded = again.recorded;
+      parses = again.parses;
       is_run = again.run;
       not_past = omega arith;
       acyclic = λ nodes cycle. ranks_exclude_cycle p (rank_of recovered.control.times) nodes ranks.rise cycle;
       accepted = accepted which;
     }
   where
-    accepted : IsAcceptable p ⊎ (LinesParse p (ended_lines cut) [] → replayed_events recovered ≡ []) → again.told ≡ [] → IsAcceptable p
+    accepted : IsAcceptable p ⊎ (LinesParse p (ended_lines cut) [] → replayed_events recovered ≡ []) → again.recorded ≡ [] → IsAcceptable p
     accepted (inl acceptable) none = acceptable
     accepted (inr only) none =
-        up.recovered_from.accepted (sym up.recovered_from.replayed_is ∙ only (subst (λ (es : List Entry). LinesParse p (ended_lines cut) es) none again.tells))
+        up.recovered_from.accepted (sym up.recovered_from.replayed_is ∙ only (subst (λ (es : List Entry). LinesParse p (ended_lines cut) es) none again.parses))
 
 -- its events are a run to rest of the plan by which it was taken up
 pub recovered_to_rest : (p : PlannedShop) (log : List (List ℕ)) (at : Option ℕ) (recovered : Recovered) → IsRecovered p log at recovered → IsWellShaped p × IsRunToRest p recovered.log.entries
-recovered_to_rest p log at taken up =
+recovered_to_rest p log at recovered up =
     let from = up.recovered_from in (
       subst IsWellShaped from.planned from.run.kept.shaped,
       subst (λ (q : PlannedShop). IsRunToRest q recovered.log.entries) from.planned (to_rest recovered from.run),
@@ -222,7 +222,7 @@ recovered_to_rest p log at taken up =
 
 pub what_was_resumed_is_recoverable : WhatWasResumedIsRecoverable
 what_was_resumed_is_recoverable p protocol log at recovered lines answers closing cut lost end up are closes whole which =
-    let to = recovered_to_rest p log at taken up in
+    let to = recovered_to_rest p log at recovered up in
     is_recoverable p log at recovered cut end.entries up
     (what_was_resumed_is_recovered p protocol recovered.log.entries recovered.late lines answers closing cut lost end to.0 to.1 up.recovered_from.run.within are closes whole) which
 

@@ -150,18 +150,18 @@ module _ (p : PlannedShop) (protocol : Protocol) where
     abbrev GoesTheSame : Cell → List Entry → Cell → Type 0
     GoesTheSame c events end = (before : List Entry) (number : ℕ) (reports : List (Option (List ℕ))) → AreReportLines reports events → AnswersBy any_text (driven_to c before) number reports (driven_to end (before ++ events))
 
-    none_taken : (c next end : Cell) (events more : List Entry) → events ≡ [] → next ≡ c → GoesTheSame next more end → GoesTheSame c (events ++ more) end
-    none_taken c next end events more none unmoved on =
+    none_accepted : (c next end : Cell) (events more : List Entry) → events ≡ [] → next ≡ c → GoesTheSame next more end → GoesTheSame c (events ++ more) end
+    none_accepted c next end events more none unmoved on =
         subst (λ (es : List Entry). GoesTheSame c (es ++ more) end) (sym none) (subst (λ (x : Cell). GoesTheSame x more end) unmoved on)
 
     request_goes : (c next end : Cell) (number : ℕ) (request : Request) (text : List ℕ) (events more : List Entry) → RequestAnswer p protocol (cell_prefix k) c number request text events next → GoesTheSame next more end
         → GoesTheSame c (events ++ more) end
-    request_goes c next end number (ClaimRequest claim) text events more (inl is) on = none_taken c next end events more is.events_are is.next_is on
+    request_goes c next end number (ClaimRequest claim) text events more (inl is) on = none_accepted c next end events more is.events_are is.next_is on
     request_goes c next end number (ClaimRequest claim) text events more (inr is) on = λ before first reports are.
         report_first (cell_prefix k) (driven_to c before) (driven_to next (before ++ events)) claim text events is refl (driven_to end (before ++ (events ++ more))) more first reports any_text any_text are
         (λ rest says. subst (λ (es : List Entry). AnswersBy any_text (driven_to next (before ++ events)) (first + 1) rest (driven_to end es)) (append_assoc before events more) (on (before ++ events) (first + 1) rest says))
         (λ others so. tt)
-    request_goes c next end number Status text events more is on = none_taken c next end events more is.events_are is.next_is on
+    request_goes c next end number Status text events more is on = none_accepted c next end events more is.events_are is.next_is on
 
     sees_goes : (number : ℕ) (c : Cell) (lines : List (Option (List ℕ))) (events : List Entry) (end : Cell) → SeesLines p protocol k number c lines events end → GoesTheSame c events end
     sees_goes _ c _ _ _ (none_left number same) = λ before first reports are.

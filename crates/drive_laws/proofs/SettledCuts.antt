@@ -152,37 +152,37 @@ module _ (p : PlannedShop) where
         go (inr first) again = found first again
 
 -- the run of the events that a log told
-pub run_of_cut : (p : PlannedShop) (told : List Entry) (due : List MoveOrder) (lines : List (List ℕ)) → IsWellShaped p → IsCutLog p lines told due → IsRun p (events_of told)
-run_of_cut p told due lines shaped log =
-    front_events p (start p) (events_of told) (moved due) (subst (IsRun p) (due_events told due) (controlled_to_run p _ _ _ shaped log.run).0)
+pub run_of_cut : (p : PlannedShop) (recorded : List Entry) (due : List MoveOrder) (lines : List (List ℕ)) → IsWellShaped p → IsCutLog p lines recorded due → IsRun p (events_of recorded)
+run_of_cut p recorded due lines shaped log =
+    front_events p (start p) (events_of recorded) (moved due) (subst (IsRun p) (due_events recorded due) (controlled_to_run p _ _ _ shaped log.run).0)
 
 pub it_is_recoverable : ItIsRecoverable
-it_is_recoverable p lines told due shaped acceptable log = record {
-  told = told;
-  tells = log.tells;
-  is_run = run_of_cut p told due lines shaped log;
+it_is_recoverable p lines recorded due shaped acceptable log = record {
+  recorded = recorded;
+  parses = log.parses;
+  is_run = run_of_cut p recorded due lines shaped log;
   not_past = omega arith;
   acyclic = acceptable.acyclic;
   accepted = λ none. acceptable;
 }
 
 pub it_is_recovered_with_its_orders : ItIsRecoveredWithItsOrders
-it_is_recovered_with_its_orders p lines told due recovered shaped log up =
+it_is_recovered_with_its_orders p lines recorded due recovered shaped log up =
     let from = up.recovered_from in
-    let same : up.told ≡ told = one_reading p lines up.told told up.tells log.tells in
-    let replayed_is : replayed_events recovered ≡ told = from.replayed_is ∙ same in
+    let same : up.recorded ≡ recorded = one_reading p lines up.recorded recorded up.parses log.parses in
+    let replayed_is : replayed_events recovered ≡ recorded = from.replayed_is ∙ same in
     let control = recovered.control in
-    let here : cell_after (plan_of recovered) (replayed_events recovered) ≡ cell_after p told =
+    let here : cell_after (plan_of recovered) (replayed_events recovered) ≡ cell_after p recorded =
     ap (λ (q : PlannedShop). cell_after q (replayed_events recovered)) from.planned ∙ ap (cell_after p) replayed_is in
-    let began : control.began ≡ (cell_after p told).last = from.began ∙ ap (λ (es : List Entry). (cell_after p es).last) same in
+    let began : control.began ≡ (cell_after p recorded).last = from.began ∙ ap (λ (es : List Entry). (cell_after p es).last) same in
     let settled = from.run.begun.settled in
-    let settles : Settles p (cell_after p told) (cell_after p told).last settled.movers =
-    subst (λ t. Settles p (cell_after p told) t settled.movers) began (subst (λ (c : Cell). Settles p c control.began settled.movers) here
+    let settles : Settles p (cell_after p recorded) (cell_after p recorded).last settled.movers =
+    subst (λ t. Settles p (cell_after p recorded) t settled.movers) began (subst (λ (c : Cell). Settles p c control.began settled.movers) here
     (subst (λ (q : PlannedShop). Settles q (cell_after (plan_of recovered) (replayed_events recovered)) control.began settled.movers) from.planned settled.settles)) in
-    let orders : control.orders ≡ orders_for p (cell_after p told) (cell_after p told).last settled.movers =
+    let orders : control.orders ≡ orders_for p (cell_after p recorded) (cell_after p recorded).last settled.movers =
     settled.orders_are ∙ ap (λ (q : PlannedShop). orders_for q (cell_after (plan_of recovered) (replayed_events recovered)) control.began settled.movers) from.planned
-    ∙ ap (λ (c : Cell). orders_for p c control.began settled.movers) here ∙ ap (λ t. orders_for p (cell_after p told) t settled.movers) began in
-    let whole : List Entry = told ++ map OrderEntry due in
-    let leads : Leads p (start p) (reported (events_of whole)) (events_of told ++ moved due) (cell_after p whole) =
-    subst (λ es. Leads p (start p) (reported (events_of whole)) es (cell_after p whole)) (due_events told due) log.run in
-    (replayed_is, orders ∙ cut_settles p shaped (length (events_of told)) (start p) (cell_after p whole) (reported (events_of whole)) (events_of told) due settled.movers (omega arith) (start-sound p shaped) (start_at_rest p) leads (cell_after p told) refl settles)
+    ∙ ap (λ (c : Cell). orders_for p c control.began settled.movers) here ∙ ap (λ t. orders_for p (cell_after p recorded) t settled.movers) began in
+    let whole : List Entry = recorded ++ map OrderEntry due in
+    let leads : Leads p (start p) (reported (events_of whole)) (events_of recorded ++ moved due) (cell_after p whole) =
+    subst (λ es. Leads p (start p) (reported (events_of whole)) es (cell_after p whole)) (due_events recorded due) log.run in
+    (replayed_is, orders ∙ cut_settles p shaped (length (events_of recorded)) (start p) (cell_after p whole) (reported (events_of whole)) (events_of recorded) due settled.movers (omega arith) (start-sound p shaped) (start_at_rest p) leads (cell_after p recorded) refl settles)

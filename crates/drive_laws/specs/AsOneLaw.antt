@@ -18,9 +18,9 @@ use Rattle.cell_drive.specs.ProtocolText.{ProtocolAnswers}
 -- a run was taken up by its own plan: from the log of a controlled run of that, which may be cut, and without a moment
 pub record IsRecoveredByItsPlan (p : PlannedShop) (recovered : Recovered) : Type 0 where
   pub lines : List (List ℕ)
-  pub told : List Entry
+  pub recorded : List Entry
   pub due : List MoveOrder
-  pub log : IsCutLog p lines told due
+  pub log : IsCutLog p lines recorded due
   pub up : IsRecovered p lines None recovered
 
 -- ---- one run

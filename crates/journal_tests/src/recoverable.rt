@@ -29,11 +29,11 @@ fn recoverable(alloc: Global, protocol: Protocol, left: Vec<u8>) -> Result<Vec<u
     let text = read_log(alloc, &mut log)?;
     let shaped = shaped(alloc)?;
     let Ok(ready) = recover_log(alloc, shaped, &mut log, &text, None, &DIGITS) else {
-        return Err("the run isn't taken up".into());
+        return Err("the run isn't recovered up".into());
     };
-    let RecoveredLog { taken, room } = ready;
+    let RecoveredLog { recovered, room } = ready;
     let mut output = Buffered::new(alloc, 16, Vec::new(alloc))?;
-    let run = replay_in(taken, protocol, &mut output)?;
+    let run = replay_in(recovered, protocol, &mut output)?;
     output.flush()?;
     let mut reader = FromRead::new(REPORTS);
     let mut run = go_on_logged(

@@ -118,7 +118,7 @@ pub fn gone_on_from_nothing(
 {
     let mut log = MemoryLog::new(Vec::new(alloc), 1000, 0);
     let text = read_log(alloc, &mut log)?;
-    let Ok(taken) = take_up(alloc, shaped, text.lines(), None) else {
+    let Ok(recovered) = take_up(alloc, shaped, text.lines(), None) else {
         return Err(FileFault::Log);
     };
     let Ok(output) = Buffered::new(alloc, 16, Vec::new(alloc)) else {
@@ -128,10 +128,10 @@ pub fn gone_on_from_nothing(
         return Err(FileFault::Memory);
     };
     // There is nothing to be told again.
-    let Ok(taken) = replay_in(taken, protocol, &mut IntoSink::new(Vec::new(alloc))) else {
+    let Ok(recovered) = replay_in(recovered, protocol, &mut IntoSink::new(Vec::new(alloc))) else {
         return Err(FileFault::Log);
     };
-    let run = go_on_from_nothing(taken, room, protocol, lines, log, output);
+    let run = go_on_from_nothing(recovered, room, protocol, lines, log, output);
     match run.end {
         Ok(_) => both_at_end(alloc, run.log, run.output),
         Err(_) => Err(FileFault::Log),

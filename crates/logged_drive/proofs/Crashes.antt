@@ -45,31 +45,31 @@ none_in_front [] back none = refl
 none_in_front (entry ∷ front) back none = absurd (cc none)
 
 -- a text tells events behind those of whole lines, with which they are a run; of its first bytes some were shown
-module _ (p : PlannedShop) (base : List ℕ) (told : List Entry) (text shown pending lost left : List ℕ) (all : List Entry) where
-  again : whole_lines base ≡ base → LinesParse p (ended_lines base) told → LinesParse p (lines_of text) all → IsRun p (events_of (told ++ all)) → IsFormed text → text ≡ (shown ++ pending) ++ lost
-      → IsLeft (length (base ++ logged shown)) (base ++ logged (shown ++ pending)) left → HasNoCycle p → (told ≡ [] → IsAcceptable p) → IsRecoveredAgain p told all shown left
-  again whole tells_base parses_text run formed split is acyclic accepted =
+module _ (p : PlannedShop) (base : List ℕ) (recorded : List Entry) (text shown pending lost left : List ℕ) (all : List Entry) where
+  again : whole_lines base ≡ base → LinesParse p (ended_lines base) recorded → LinesParse p (lines_of text) all → IsRun p (events_of (recorded ++ all)) → IsFormed text → text ≡ (shown ++ pending) ++ lost
+      → IsLeft (length (base ++ logged shown)) (base ++ logged (shown ++ pending)) left → HasNoCycle p → (recorded ≡ [] → IsAcceptable p) → IsRecoveredAgain p recorded all shown left
+  again whole parses_base parses_text run formed split is acyclic accepted =
       let came = shown ++ pending in
       let (more, lines) = ended-more came lost in
       let (a, b, first, second, parts) = parse-parts p (ended_lines came) more all (subst (λ (ls : List (List ℕ)). LinesParse p ls all) (ap lines_of split ∙ lines) parses_text) in
-      let log = left_log p base shown pending left told a whole is tells_base first in
+      let log = left_log p base shown pending left recorded a whole is parses_base first in
       let all_is : all ≡ log.kept ++ (log.lost ++ b) = parts ∙ ap (λ (es : List Entry). es ++ b) log.came_so ∙ append_assoc log.kept log.lost b in
-      let both : told ++ all ≡ (told ++ log.kept) ++ (log.lost ++ b) = ap (λ (es : List Entry). told ++ es) all_is ∙ sym (append_assoc told log.kept (log.lost ++ b)) in
-      let events : events_of (told ++ all) ≡ events_of (told ++ log.kept) ++ events_of (log.lost ++ b) = ap events_of both ∙ events-join (told ++ log.kept) (log.lost ++ b) in
-      let tells = subst (λ (ls : List (List ℕ)). LinesParse p ls (told ++ log.kept)) (sym (ended_whole left)) log.tells in
+      let both : recorded ++ all ≡ (recorded ++ log.kept) ++ (log.lost ++ b) = ap (λ (es : List Entry). recorded ++ es) all_is ∙ sym (append_assoc recorded log.kept (log.lost ++ b)) in
+      let events : events_of (recorded ++ all) ≡ events_of (recorded ++ log.kept) ++ events_of (log.lost ++ b) = ap events_of both ∙ events-join (recorded ++ log.kept) (log.lost ++ b) in
+      let parses = subst (λ (ls : List (List ℕ)). LinesParse p ls (recorded ++ log.kept)) (sym (ended_whole left)) log.parses in
       record {
         kept = log.kept;
         lost = log.lost ++ b;
         came_so = all_is;
-        tells = tells;
+        parses = parses;
         has_shown = log.has_shown;
         can = record {
-          told = told ++ log.kept;
-          tells = tells;
-          is_run = front_events p (start p) (events_of (told ++ log.kept)) (events_of (log.lost ++ b)) (subst (IsRun p) events run);
+          recorded = recorded ++ log.kept;
+          parses = parses;
+          is_run = front_events p (start p) (events_of (recorded ++ log.kept)) (events_of (log.lost ++ b)) (subst (IsRun p) events run);
           not_past = omega arith;
           acyclic = acyclic;
-          accepted = λ none. accepted (none_in_front told log.kept none);
+          accepted = λ none. accepted (none_in_front recorded log.kept none);
         };
         torn = left_torn base shown pending lost text left whole formed split is;
       }
@@ -84,26 +84,26 @@ module _ (p : PlannedShop) (shaped : IsWellShaped p) (protocol : Protocol) where
   answered_formed before end lines text on all = all_formed p shaped (ProtocolAnswers p protocol) (protocol_lines_keep p protocol) (protocol_formed p shaped protocol) lines before end 1 text on all
 
 whole_text : (p : PlannedShop) (text : List ℕ) (entries : List Entry) → ParsesFirst p text entries → LinesParse p (lines_of text) entries
-whole_text p text entries tells =
-    subst (λ (t : List ℕ). LinesParse p (lines_of t) entries) (append-nil text) (subst (λ (es : List Entry). LinesParse p (lines_of (text ++ [])) es) (append-nil entries) (tells [] [] refl))
+whole_text p text entries parses =
+    subst (λ (t : List ℕ). LinesParse p (lines_of t) entries) (append-nil text) (subst (λ (es : List Entry). LinesParse p (lines_of (text ++ [])) es) (append-nil entries) (parses [] [] refl))
 
 pub driven_run : ADrivenRunIsRecovered
 driven_run p protocol base lines answers closing shown pending left end shaped acceptable whole none are given is =
     let on = start_on_course p shaped in
-    let told = answered_parse p shaped protocol (undriven p) end lines answers on are in
+    let parsed = answered_parse p shaped protocol (undriven p) end lines answers on are in
     let text = answers ++ closing in
-    let tells : ParsesFirst p text (told.more ++ []) = parses_both p answers closing told.more [] told.tells (closing_part p end closing given.closes) in
-    let entries : told.more ++ [] ≡ end.entries = append-nil told.more ∙ sym told.entries in
+    let parses : ParsesFirst p text (parsed.more ++ []) = parses_both p answers closing parsed.more [] parsed.parses (closing_part p end closing given.closes) in
+    let entries : parsed.more ++ [] ≡ end.entries = append-nil parsed.more ∙ sym parsed.entries in
     again p base [] text shown pending given.lost left end.entries whole none
-    (subst (λ (es : List Entry). LinesParse p (lines_of text) es) entries (whole_text p text (told.more ++ []) tells))
-    (subst (λ (es : List Entry). IsRun p (events_of es)) (sym told.entries) told.events)
+    (subst (λ (es : List Entry). LinesParse p (lines_of text) es) entries (whole_text p text (parsed.more ++ []) parses))
+    (subst (λ (es : List Entry). IsRun p (events_of es)) (sym parsed.entries) parsed.events)
     (formed-both answers closing (answered_formed p shaped protocol (undriven p) end lines answers on are) (last_formed p shaped end closing given.closes))
     given.given is acceptable.acyclic (λ none. acceptable)
 
 -- ---- a run that was taken up
 
 empty_line : (p : PlannedShop) → ParsesFirst p (10 ∷ []) []
-empty_line p rest later tells = ([], later, refl, tells, refl)
+empty_line p rest later parses = ([], later, refl, parses, refl)
 
 lines_of_orders : (orders : List MoveOrder) → entry_lines (map OrderEntry orders) ≡ order_lines orders
 lines_of_orders [] = refl
@@ -131,8 +131,8 @@ module _ (recovered : Recovered) (run : IsRecoveredRun recovered) where
   orders_parse is_run =
       let settled = run.begun.settled in
       let t = recovered.control.began in
-      let tells = parses_moves p run.kept.shaped (replayed_cell recovered) t settled.movers (replayed_sound is_run) settled.settles.moves in
-      let lines = subst (λ (os : List MoveOrder). ParsesFirst p (order_lines os) (map OrderEntry os)) (sym settled.orders_are) tells in
+      let parses = parses_moves p run.kept.shaped (replayed_cell recovered) t settled.movers (replayed_sound is_run) settled.settles.moves in
+      let lines = subst (λ (os : List MoveOrder). ParsesFirst p (order_lines os) (map OrderEntry os)) (sym settled.orders_are) parses in
       subst (λ (l : List ℕ). ParsesFirst p l (map OrderEntry orders)) (sym due_is) (parses_both p (10 ∷ []) (order_lines orders) [] (map OrderEntry orders) (empty_line p) lines)
 
   orders_formed : IsRun p (events_of (replayed_events recovered)) → IsFormed (due_text recovered)
@@ -145,8 +145,8 @@ module _ (recovered : Recovered) (run : IsRecoveredRun recovered) where
   on_course : IsOnCourse p (driven_so_far p noted).cell
   on_course = record {
     shaped = run.kept.shaped;
-    sound = run-sound p (events_of noted) run.kept.shaped run.kept.told.run;
-    rest = subst (IsAtRest p) run.kept.told.cell run.kept.control.at_rest;
+    sound = run-sound p (events_of noted) run.kept.shaped run.kept.replayed.run;
+    rest = subst (IsAtRest p) run.kept.replayed.cell run.kept.control.at_rest;
   }
 
   recovers_again : (protocol : Protocol) (base : List ℕ) (at : Option ℕ) (lines : List (Option (List ℕ))) (answers closing shown pending left : List ℕ) (end : DrivenCell)
@@ -160,17 +160,17 @@ module _ (recovered : Recovered) (run : IsRecoveredRun recovered) where
       let came = map OrderEntry orders ++ on.more in
       let all : end.entries ≡ replayed_events recovered ++ came = on.entries ∙ ap (λ (es : List Entry). es ++ on.more) run.due ∙ append_assoc (replayed_events recovered) (map OrderEntry orders) on.more in
       let joined : events_of end.entries ≡ events_of noted ++ events_of on.more = ap events_of on.entries ∙ events-join noted on.more in
-      let run_all : IsRun p (events_of end.entries) = subst (IsRun p) (sym joined) (events_join p (start p) (events_of noted) (events_of on.more) run.kept.told.run on.events) in
+      let run_all : IsRun p (events_of end.entries) = subst (IsRun p) (sym joined) (events_join p (start p) (events_of noted) (events_of on.more) run.kept.replayed.run on.events) in
       let text = (due_text recovered ++ answers) ++ closing in
-      let tells : ParsesFirst p text (came ++ []) =
-      parses_both p (due_text recovered ++ answers) closing came [] (parses_both p (due_text recovered) answers (map OrderEntry orders) on.more (orders_parse is_run) on.tells) (closing_part p end closing given.closes) in
+      let parses : ParsesFirst p text (came ++ []) =
+      parses_both p (due_text recovered ++ answers) closing came [] (parses_both p (due_text recovered) answers (map OrderEntry orders) on.more (orders_parse is_run) on.parses) (closing_part p end closing given.closes) in
       let ranks = run.kept.control.ranks in
       record {
         came = came;
         whole = all;
         again = again p base (replayed_events recovered) text shown pending given.lost left came whole
-            (subst (λ (es : List Entry). LinesParse p (ended_lines base) es) (sym from.replayed_is) up.tells)
-            (subst (λ (es : List Entry). LinesParse p (lines_of text) es) (append-nil came) (whole_text p text (came ++ []) tells))
+            (subst (λ (es : List Entry). LinesParse p (ended_lines base) es) (sym from.replayed_is) up.parses)
+            (subst (λ (es : List Entry). LinesParse p (lines_of text) es) (append-nil came) (whole_text p text (came ++ []) parses))
             (subst (λ (es : List Entry). IsRun p (events_of es)) all run_all)
             (formed-both (due_text recovered ++ answers) closing (formed-both (due_text recovered) answers (orders_formed is_run) (answered_formed p shaped protocol (driven_so_far p noted) end lines answers on_course are))
             (last_formed p shaped end closing given.closes))
@@ -186,4 +186,4 @@ TakesAgain recovered protocol base at lines answers closing shown pending left e
 pub recovered_again_run : ARecoveredRunIsRecovered
 recovered_again_run p protocol base at recovered lines answers closing shown pending left end whole up are given is =
     subst (TakesAgain recovered protocol base at lines answers closing shown pending left end) up.recovered_from.planned
-    (λ up_so are_so given_so. recovers_again taken up.recovered_from.run protocol base at lines answers closing shown pending left end whole up_so are_so given_so is) up are given
+    (λ up_so are_so given_so. recovers_again recovered up.recovered_from.run protocol base at lines answers closing shown pending left end whole up_so are_so given_so is) up are given

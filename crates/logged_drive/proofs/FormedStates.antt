@@ -90,12 +90,12 @@ one_more_few at most (Some overdue) standing is fits few = (few.0, few.1, omega 
 
 with_one_few : (at most : ℕ) (found : Option Overdue) (standing : Standing) → FitsAt at standing → AreFew at most found → AreFew at (most + 1) (with_one at found standing)
 with_one_few at most found standing fits few = elim (cases_Bool (is_overdue standing at)) [
-  | inl is ↦ subst (λ (o : Option Overdue). AreFew at (most + 1) o) (sym (taken is)) (one_more_few at most found standing is fits few)
+  | inl is ↦ subst (λ (o : Option Overdue). AreFew at (most + 1) o) (sym (one_added is)) (one_more_few at most found standing is fits few)
   | inr not ↦ subst (λ (o : Option Overdue). AreFew at (most + 1) o) (sym (left not)) (more_few at most found few)
 ]
   where
-    taken : is_overdue standing at ≡ true → with_one at found standing ≡ one_more found standing
-    taken is = rw is refl
+    one_added : is_overdue standing at ≡ true → with_one at found standing ≡ one_more found standing
+    one_added is = rw is refl
 
     left : is_overdue standing at ≡ false → with_one at found standing ≡ found
     left not = rw not refl
@@ -240,11 +240,11 @@ module _ (p : PlannedShop) (shaped : IsWellShaped p) (protocol : Protocol) where
   end_formed at false = formed-none
 
   printed_few : (c : Cell) (report : Report) → at report ≤ MAX_MOMENT → IsEntryOf p (ReportEntry report) → AreFew (at report) (jobs p + machines p) (printed_overdue protocol p c report)
-  printed_few c report in_range of_shop = told protocol.version_2
+  printed_few c report in_range of_shop = either_version protocol.version_2
     where
-      told : (tells : Bool) → AreFew (at report) (jobs p + machines p) (cond tells (overdue_in p c (standing_of p c report) (at report)) None)
-      told true = overdue_few p shaped c (at report) in_range (standing_of p c report) (own_fits p shaped c (at report) in_range report of_shop)
-      told false = tt
+      either_version : (version_2 : Bool) → AreFew (at report) (jobs p + machines p) (cond version_2 (overdue_in p c (standing_of p c report) (at report)) None)
+      either_version true = overdue_few p shaped c (at report) in_range (standing_of p c report) (own_fits p shaped c (at report) in_range report of_shop)
+      either_version false = tt
 
   request_formed : (before : DrivenCell) (number : ℕ) (request : Request) (text : List ℕ) (end : DrivenCell) (more : List Entry) → IsSound p before.cell
       → RequestAnswer p protocol [] before.cell number request text more end.cell → IsFormed text

@@ -50,7 +50,7 @@ module _ (protocol : Protocol) (recovered : Recovered) where
 
   -- the cell that was taken up is that after its events
   seen_from : IsRecoveredRun recovered → seen_in recovered ≡ driven_so_far p recovered.log.entries
-  seen_from run = ap (λ (c : Cell). let d : DrivenCell = record { cell = c; entries = recovered.log.entries } in d) run.kept.told.cell
+  seen_from run = ap (λ (c : Cell). let d : DrivenCell = record { cell = c; entries = recovered.log.entries } in d) run.kept.replayed.cell
 
   cut_first : (before after : Option (List ℕ)) → TookPart before after (due_text recovered) → IsFirstOfRest p protocol recovered before after
   cut_first before after part = record {
@@ -88,14 +88,14 @@ module _ (protocol : Protocol) (recovered : Recovered) where
   first_of_plan q before after same first = subst (λ (x : PlannedShop). IsFirstOfRest x protocol recovered before after) same first
 
   written_once_more : (before : Option (List ℕ × List ℕ)) (seen : Option (List ℕ)) (crash_states : List ℕ → Type 0) (held : Held) (writer after : Option (List ℕ)) → after ≡ held.written
-      → IfSome before (λ told. writer ≡ Some told.1) → IfSome before (λ told. whole_lines told.0 ≡ told.0) → IsFirstOfRest p protocol recovered (append_known writer []) (append_known held.written held.pending)
+      → IfSome before (λ known. writer ≡ Some known.1) → IfSome before (λ known. whole_lines known.0 ≡ known.0) → IsFirstOfRest p protocol recovered (append_known writer []) (append_known held.written held.pending)
       → StayInStep before seen crash_states held
-      → IfSome before (λ told. (q : PlannedShop) (at : Option ℕ) → IsRecovered q (ended_lines told.0) at recovered → law.IsRecoveredAfter q (replayed_events recovered) told.1 crash_states after)
+      → IfSome before (λ known. (q : PlannedShop) (at : Option ℕ) → IsRecovered q (ended_lines known.0) at recovered → law.IsRecoveredAfter q (replayed_events recovered) known.1 crash_states after)
   written_once_more None seen crash_states held writer after same start whole written steps = start
-  written_once_more (Some told) seen crash_states held writer after same start whole written step = λ q at up.
+  written_once_more (Some known) seen crash_states held writer after same start whole written step = λ q at up.
       let first = first_of_plan q _ _ up.recovered_from.planned written in
-      let out = is_given writer held.written told.1 step.shown held.pending first.out start step.output first.written in
-      let once = λ (left : List ℕ). λ (is : crash_states left). recovered_again_run q protocol told.0 at recovered first.lines first.text first.closing step.shown held.pending left first.end whole up first.are
+      let out = is_given writer held.written known.1 step.shown held.pending first.out start step.output first.written in
+      let once = λ (left : List ℕ). λ (is : crash_states left). recovered_again_run q protocol known.0 at recovered first.lines first.text first.closing step.shown held.pending left first.end whole up first.are
       (record { closes = first.closes; lost = first.lost; given = first.whole ∙ ap (λ (l : List ℕ). l ++ first.lost) out }) (step.crash left is) in
       record {
         shown = step.shown;
@@ -106,9 +106,9 @@ module _ (protocol : Protocol) (recovered : Recovered) where
       }
 
   pub recovered_once_more : (before : Option (List ℕ × List ℕ)) (seen : Option (List ℕ)) (crash_states : List ℕ → Type 0) (held : Held) (writer after : Option (List ℕ)) (input input_after : Input)
-      (outcome : Result RestEnd DriveFault) → after ≡ held.written → IfSome before (λ told. writer ≡ Some told.1) → IfSome before (λ told. whole_lines told.0 ≡ told.0)
+      (outcome : Result RestEnd DriveFault) → after ≡ held.written → IfSome before (λ known. writer ≡ Some known.1) → IfSome before (λ known. whole_lines known.0 ≡ known.0)
       → IsGoneOnIn protocol recovered (record { input = input; output = output_held (nothing_held writer) }) (record { input = input_after; output = output_held held }) outcome
       → StayInStep before seen crash_states held
-      → IfSome before (λ told. (q : PlannedShop) (at : Option ℕ) → IsRecovered q (ended_lines told.0) at recovered → law.IsRecoveredAfter q (replayed_events recovered) told.1 crash_states after)
+      → IfSome before (λ known. (q : PlannedShop) (at : Option ℕ) → IsRecovered q (ended_lines known.0) at recovered → law.IsRecoveredAfter q (replayed_events recovered) known.1 crash_states after)
   recovered_once_more before seen crash_states held writer after input input_after outcome same start whole went steps =
       written_once_more before seen crash_states held writer after same start whole (goes_first _ _ outcome went) steps

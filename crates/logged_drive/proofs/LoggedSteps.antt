@@ -17,8 +17,8 @@ use Rattle.run_journal.specs.Logged.{Held, AreInitial, StayInStep}
 use Rattle.run_journal.specs.Laws.{ACrashKeepsWhatWasShown}
 use Rattle.logged_drive.specs.LoggedRuns.{IsAllInLog, KeepsShown, RunsLogged, nothing_held, output_held}
 
-told : {X : Type 0} (o : Option X) (x : X) (P : X → Type 0) → o ≡ Some x → IfSome o P → P x
-told o x P is p = subst (λ o. IfSome o P) is p
+known : {X : Type 0} (o : Option X) (x : X) (P : X → Type 0) → o ≡ Some x → IfSome o P → P x
+known o x P is p = subst (λ o. IfSome o P) is p
 
 if_some-map : {X : Type 0} {P Q : X → Type 0} (o : Option X) → ((x : X) → P x → Q x) → IfSome o P → IfSome o Q
 if_some-map None f none = none
@@ -30,27 +30,27 @@ if_some-both (Some x) f p q = f x p q
 
 -- ---- what a crash leaves
 
-pub keeps_shown : ACrashKeepsWhatWasShown → (before : Option (List ℕ × List ℕ)) (seen : Option (List ℕ)) (crash_states : List ℕ → Type 0) (held : Held) (taken : Option (List ℕ)) → taken ≡ held.written
-    → IfSome before (λ told. whole_lines told.0 ≡ told.0) → StayInStep before seen crash_states held → IfSome before (λ told. KeepsShown told.0 told.1 crash_states taken)
-keeps_shown law before seen crash_states held taken is whole steps = if_some-both before (λ b base step. record {
+pub keeps_shown : ACrashKeepsWhatWasShown → (before : Option (List ℕ × List ℕ)) (seen : Option (List ℕ)) (crash_states : List ℕ → Type 0) (held : Held) (printed : Option (List ℕ)) → printed ≡ held.written
+    → IfSome before (λ known. whole_lines known.0 ≡ known.0) → StayInStep before seen crash_states held → IfSome before (λ known. KeepsShown known.0 known.1 crash_states printed)
+keeps_shown law before seen crash_states held printed is whole steps = if_some-both before (λ b base step. record {
   shown = step.shown;
   output = is ∙ step.output;
   pending = held.pending;
   crash = λ left leaves. law b.0 step.shown held.pending left base (step.crash left leaves);
 }) whole steps
 
-pub all_in_log : (before : Option (List ℕ × List ℕ)) (seen : Option (List ℕ)) (crash_states : List ℕ → Type 0) (held : Held) (taken : Option (List ℕ)) → taken ≡ held.written → held.failed ≡ false
-    → IsDurable seen crash_states → StayInStep before seen crash_states held → IfSome before (λ told. IsAllInLog told.0 told.1 seen crash_states taken)
-all_in_log before seen crash_states held taken is unfailed durable steps = if_some-map before (λ b step. record {
+pub all_in_log : (before : Option (List ℕ × List ℕ)) (seen : Option (List ℕ)) (crash_states : List ℕ → Type 0) (held : Held) (printed : Option (List ℕ)) → printed ≡ held.written → held.failed ≡ false
+    → IsDurable seen crash_states → StayInStep before seen crash_states held → IfSome before (λ known. IsAllInLog known.0 known.1 seen crash_states printed)
+all_in_log before seen crash_states held printed is unfailed durable steps = if_some-map before (λ b step. record {
   shown = step.shown;
   output = is ∙ step.output;
   log = step.log unfailed;
-  on_disk = told seen (b.0 ++ logged step.shown) (λ f. (left : List ℕ) → crash_states left → left ≡ f) (step.log unfailed) durable;
+  on_disk = known seen (b.0 ++ logged step.shown) (λ f. (left : List ℕ) → crash_states left → left ≡ f) (step.log unfailed) durable;
 }) steps
 
 -- what the output had taken as the writer began
-pub at_start : (before : Option (List ℕ × List ℕ)) (seen taken same : Option (List ℕ)) → same ≡ taken → AreInitial before seen taken → IfSome before (λ told. same ≡ Some told.1)
-at_start before seen taken same is are = if_some-map before (λ b both. is ∙ both.1) are
+pub at_start : (before : Option (List ℕ × List ℕ)) (seen printed same : Option (List ℕ)) → same ≡ printed → AreInitial before seen printed → IfSome before (λ known. same ≡ Some known.1)
+at_start before seen printed same is are = if_some-map before (λ b both. is ∙ both.1) are
 
 -- ---- a run that went to the end of its input
 
@@ -85,37 +85,37 @@ module _ {T : Type 0} (drives : Streams → Streams → Result T DriveFault → 
       → drives (record { input = input; output = output_held held }) after outcome → drives (record { input = input; output = output_held (nothing_held held.written) }) after outcome
   began input held after outcome none unfailed drove = subst (λ (o : Output). drives (record { input = input; output = o }) after outcome) (fresh held none unfailed) drove
 
-  pub rewritten : (before : Option (List ℕ × List ℕ)) (input : Input) (taken same : Option (List ℕ)) (outcome : Result T DriveFault) (log_failed : Bool) (input_after : Input) (seen : Option (List ℕ)) (crash_states : List ℕ → Type 0) (output_after : Output)
-      → taken ≡ same → RunsLogged drives before input taken outcome log_failed input_after seen crash_states output_after → RunsLogged drives before input same outcome log_failed input_after seen crash_states output_after
-  rewritten before input taken same outcome log_failed input_after seen crash_states output_after is run =
+  pub rewritten : (before : Option (List ℕ × List ℕ)) (input : Input) (printed same : Option (List ℕ)) (outcome : Result T DriveFault) (log_failed : Bool) (input_after : Input) (seen : Option (List ℕ)) (crash_states : List ℕ → Type 0) (output_after : Output)
+      → printed ≡ same → RunsLogged drives before input printed outcome log_failed input_after seen crash_states output_after → RunsLogged drives before input same outcome log_failed input_after seen crash_states output_after
+  rewritten before input printed same outcome log_failed input_after seen crash_states output_after is run =
       subst (λ (t : Option (List ℕ)). RunsLogged drives before input t outcome log_failed input_after seen crash_states output_after) is run
 
 -- ---- a run that goes on
 
-on-unfailed : (protocol : Protocol) (taken : Recovered) (before after : Streams) (end : RestEnd) → IsGoneOnIn protocol taken before after (Ok end) → after.output.failed ≡ before.output.failed
-on-unfailed protocol taken before after end (inl cut) = (let bad : Ok end ≡ Err Write = cut.0 in absurd (cc bad))
-on-unfailed protocol taken before after end (inr on) = on.streamed.comes_to.write_unfailed ∙ on.unfailed
+on-unfailed : (protocol : Protocol) (recovered : Recovered) (before after : Streams) (end : RestEnd) → IsGoneOnIn protocol recovered before after (Ok end) → after.output.failed ≡ before.output.failed
+on-unfailed protocol recovered before after end (inl cut) = (let bad : Ok end ≡ Err Write = cut.0 in absurd (cc bad))
+on-unfailed protocol recovered before after end (inr on) = on.streamed.comes_to.write_unfailed ∙ on.unfailed
 
-on-write_failed : (protocol : Protocol) (taken : Recovered) (before after : Streams) → IsGoneOnIn protocol taken before after (Err Write) → after.output.failed ≡ true
-on-write_failed protocol taken before after (inl cut) = cut.1
-on-write_failed protocol taken before after (inr on) = on.streamed.comes_to.0
+on-write_failed : (protocol : Protocol) (recovered : Recovered) (before after : Streams) → IsGoneOnIn protocol recovered before after (Err Write) → after.output.failed ≡ true
+on-write_failed protocol recovered before after (inl cut) = cut.1
+on-write_failed protocol recovered before after (inr on) = on.streamed.comes_to.0
 
-on-memory : (protocol : Protocol) (taken : Recovered) (before after : Streams) → IsGoneOnIn protocol taken before after (Err Memory) → ⊥
-on-memory protocol taken before after (inl cut) = (let bad : Err Memory ≡ Err Write = cut.0 in cc bad)
-on-memory protocol taken before after (inr on) = on.streamed.comes_to
+on-memory : (protocol : Protocol) (recovered : Recovered) (before after : Streams) → IsGoneOnIn protocol recovered before after (Err Memory) → ⊥
+on-memory protocol recovered before after (inl cut) = (let bad : Err Memory ≡ Err Write = cut.0 in cc bad)
+on-memory protocol recovered before after (inr on) = on.streamed.comes_to
 
-module _ (protocol : Protocol) (taken : Recovered) (before after : Streams) (outcome : Result RestEnd DriveFault) where
-  went : (same : Result RestEnd DriveFault) → outcome ≡ same → IsGoneOnIn protocol taken before after outcome → IsGoneOnIn protocol taken before after same
-  went same is on = subst (λ (r : Result RestEnd DriveFault). IsGoneOnIn protocol taken before after r) is on
+module _ (protocol : Protocol) (recovered : Recovered) (before after : Streams) (outcome : Result RestEnd DriveFault) where
+  went : (same : Result RestEnd DriveFault) → outcome ≡ same → IsGoneOnIn protocol recovered before after outcome → IsGoneOnIn protocol recovered before after same
+  went same is on = subst (λ (r : Result RestEnd DriveFault). IsGoneOnIn protocol recovered before after r) is on
 
   -- no write has failed at its end
-  pub unfailed_behind : (end : RestEnd) → outcome ≡ Ok end → IsGoneOnIn protocol taken before after outcome → after.output.failed ≡ before.output.failed
-  unfailed_behind end is on = on-unfailed protocol taken before after end (went (Ok end) is on)
+  pub unfailed_behind : (end : RestEnd) → outcome ≡ Ok end → IsGoneOnIn protocol recovered before after outcome → after.output.failed ≡ before.output.failed
+  unfailed_behind end is on = on-unfailed protocol recovered before after end (went (Ok end) is on)
 
   -- one has, where that is its fault
-  pub write_failed_behind : outcome ≡ Err Write → IsGoneOnIn protocol taken before after outcome → after.output.failed ≡ true
-  write_failed_behind is on = on-write_failed protocol taken before after (went (Err Write) is on)
+  pub write_failed_behind : outcome ≡ Err Write → IsGoneOnIn protocol recovered before after outcome → after.output.failed ≡ true
+  write_failed_behind is on = on-write_failed protocol recovered before after (went (Err Write) is on)
 
   -- memory doesn't run out in it
-  pub no_memory_behind : outcome ≡ Err Memory → IsGoneOnIn protocol taken before after outcome → ⊥
-  no_memory_behind is on = on-memory protocol taken before after (went (Err Memory) is on)
+  pub no_memory_behind : outcome ≡ Err Memory → IsGoneOnIn protocol recovered before after outcome → ⊥
+  no_memory_behind is on = on-memory protocol recovered before after (went (Err Memory) is on)

@@ -13,7 +13,7 @@ of_lines None mid text P read cut is = tt
 of_lines (Some file) mid text P read cut is = (subst (λ (s : Option (List ℕ)). IfSome s (λ f. f ≡ whole_lines text → P f)) cut is) (sym (ap whole_lines read))
 
 -- where the text is at fault, the log tells none
-pub text_fault : (fault : RecoverFault) (told : Option FileFault) → told ≡ None → IsOfText fault → told ≡ file_fault fault
-text_fault (Resume fault) told none is = none
-text_fault (NoTornEnd lines) told none is = none
-text_fault (File fault) told none is = absurd is
+pub text_fault : (fault : RecoverFault) (found : Option FileFault) → found ≡ None → IsOfText fault → found ≡ file_fault fault
+text_fault (Resume fault) found none is = none
+text_fault (NoTornEnd lines) found none is = none
+text_fault (File fault) found none is = absurd is

@@ -17,11 +17,11 @@ use Rattle.run_journal.specs.LoggedLines.{logged}
 use Rattle.run_journal.specs.TornEnds.{is_torn}
 
 -- what was left can be taken up by the plan: behind the events that the log told before, it tells the first of those that came, with all that were shown, and its end can be what a crash left of a line
-pub record IsRecoveredAgain (p : PlannedShop) (told came : List Entry) (shown left : List ℕ) : Type 0 where
+pub record IsRecoveredAgain (p : PlannedShop) (recorded came : List Entry) (shown left : List ℕ) : Type 0 where
   pub kept : List Entry
   pub lost : List Entry
   pub came_so : came ≡ kept ++ lost
-  pub tells : LinesParse p (ended_lines (whole_lines left)) (told ++ kept)
+  pub parses : LinesParse p (ended_lines (whole_lines left)) (recorded ++ kept)
   pub has_shown : (entries : List Entry) → LinesParse p (ended_lines shown) entries → (more : List Entry) × (kept ≡ entries ++ more)
   pub can : IsRecoverable p (ended_lines (whole_lines left)) None
   pub torn : is_torn (torn_end left) ≡ true
@@ -55,8 +55,8 @@ ARecoveredRunIsRecovered = (p : PlannedShop) (protocol : Protocol) (base : List 
     → IsLeft (length (base ++ logged shown)) (base ++ logged (shown ++ pending)) left → IsRecoveredOnceMore p recovered shown left end
 
 -- behind a start an output has recovered what was shown. From whatever a crash leaves of the log the run is taken up, with all events of that
-pub record IsRecoveredAfter (p : PlannedShop) (told : List Entry) (start : List ℕ) (crash_states : List ℕ → Type 0) (written : Option (List ℕ)) : Type 0 where
+pub record IsRecoveredAfter (p : PlannedShop) (recorded : List Entry) (start : List ℕ) (crash_states : List ℕ → Type 0) (written : Option (List ℕ)) : Type 0 where
   pub shown : List ℕ
   pub output : written ≡ Some (start ++ shown)
   pub came : List Entry
-  pub again : (left : List ℕ) → crash_states left → IsRecoveredAgain p told came shown left
+  pub again : (left : List ℕ) → crash_states left → IsRecoveredAgain p recorded came shown left

@@ -14,33 +14,33 @@ output_held held = record { written = append_known held.written held.pending; fa
 
 -- such a writer before anything has come, over an output that has taken this
 abbrev pub nothing_held : Option (List ℕ) → Held
-nothing_held taken = record { written = taken; pending = []; failed = false; log_failed = false }
+nothing_held printed = record { written = printed; pending = []; failed = false; log_failed = false }
 
 -- a run was driven by a writer that keeps a log, which held this at the end. The output has taken what that writer held as taken, and holds nothing back unless it has failed
-pub record ShowsRun {T : Type 0} (drives : Streams → Streams → Result T DriveFault → Type 0) (input : Input) (taken : Option (List ℕ)) (outcome : Result T DriveFault) (log_failed : Bool)
+pub record ShowsRun {T : Type 0} (drives : Streams → Streams → Result T DriveFault → Type 0) (input : Input) (printed : Option (List ℕ)) (outcome : Result T DriveFault) (log_failed : Bool)
     (input_after : Input) (output_after : Output) (held : Held) : Type 0 where
-  pub drove : drives (record { input = input; output = output_held (nothing_held taken) }) (record { input = input_after; output = output_held held }) outcome
+  pub drove : drives (record { input = input; output = output_held (nothing_held printed) }) (record { input = input_after; output = output_held held }) outcome
   pub log : log_failed ≡ held.log_failed
   pub output : output_after.written ≡ held.written
   pub shown : HoldsNothing output_after.pending output_after.failed
 
 -- so it was, and what the log held stays in step with the output
-pub record RunsLogged {T : Type 0} (drives : Streams → Streams → Result T DriveFault → Type 0) (before : Option (List ℕ × List ℕ)) (input : Input) (taken : Option (List ℕ))
+pub record RunsLogged {T : Type 0} (drives : Streams → Streams → Result T DriveFault → Type 0) (before : Option (List ℕ × List ℕ)) (input : Input) (printed : Option (List ℕ))
     (outcome : Result T DriveFault) (log_failed : Bool) (input_after : Input) (seen : Option (List ℕ)) (crash_states : List ℕ → Type 0) (output_after : Output) : Type 0 where
   pub held : Held
-  pub shows : ShowsRun drives input taken outcome log_failed input_after output_after held
+  pub shows : ShowsRun drives input printed outcome log_failed input_after output_after held
   pub in_step : StayInStep before seen crash_states held
 
 -- behind the start the output has taken what was shown. The whole lines of each log that a crash leaves are those of the base, and behind them the first that a log gets of the answers, with all that were shown
-pub record KeepsShown (base start : List ℕ) (crash_states : List ℕ → Type 0) (taken : Option (List ℕ)) : Type 0 where
+pub record KeepsShown (base start : List ℕ) (crash_states : List ℕ → Type 0) (printed : Option (List ℕ)) : Type 0 where
   pub shown : List ℕ
-  pub output : taken ≡ Some (start ++ shown)
+  pub output : printed ≡ Some (start ++ shown)
   pub pending : List ℕ
   pub crash : (left : List ℕ) → crash_states left → (lines : List ℕ) × (whole_lines left ≡ base ++ lines) × AreLinesOf (shown ++ pending) shown lines
 
 -- behind the start the output has taken all that was answered, and behind the base the log has what it gets of that, on the disk
-pub record IsAllInLog (base start : List ℕ) (seen : Option (List ℕ)) (crash_states : List ℕ → Type 0) (taken : Option (List ℕ)) : Type 0 where
+pub record IsAllInLog (base start : List ℕ) (seen : Option (List ℕ)) (crash_states : List ℕ → Type 0) (printed : Option (List ℕ)) : Type 0 where
   pub shown : List ℕ
-  pub output : taken ≡ Some (start ++ shown)
+  pub output : printed ≡ Some (start ++ shown)
   pub log : seen ≡ Some (base ++ logged shown)
   pub on_disk : (left : List ℕ) → crash_states left → left ≡ base ++ logged shown

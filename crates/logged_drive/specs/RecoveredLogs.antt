@@ -18,9 +18,9 @@ use Rattle.logged_drive.specs.declared.recovered_log.RecoverFault.TheVariants.{R
 
 -- these lines tell a run of the plan
 pub record ParseARun (p : PlannedShop) (lines : List (List ℕ)) : Type 0 where
-  pub told : List Entry
-  pub tells : LinesParse p lines told
-  pub is_run : IsRun p (events_of told)
+  pub recorded : List Entry
+  pub parses : LinesParse p lines recorded
+  pub is_run : IsRun p (events_of recorded)
 
 -- memory ran out
 abbrev pub want_of_memory : RecoverFault

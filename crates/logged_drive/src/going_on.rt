@@ -34,7 +34,7 @@ pub fn go_on_logged<R: Source, W: BufferedSink + Drop, D: LogFile + Drop, B: Ini
 ) -> LoggedEnd<RestEnd, W, D>
     requires durable { IsDurable (D.seen log) (D.crash_states log) }
     requires before { AreInitial B.before (D.seen log) (W.written output) }
-    requires whole { IfSome B.before (λ told. whole_lines told.0 ≡ told.0) }
+    requires whole { IfSome B.before (λ known. whole_lines known.0 ≡ known.0) }
     requires shown { W.pending output ≡ [] }
     requires unfailed { D.fault log ≡ None }
     ensures went_on { RunsLogged (IsGoneOnIn protocol run) B.before (input_of R.Source reader.old)
@@ -43,17 +43,17 @@ pub fn go_on_logged<R: Source, W: BufferedSink + Drop, D: LogFile + Drop, B: Ini
 
     // Whatever came of it, a crash leaves all that was shown.
     ensures crash { IfSome B.before
-        (λ told. KeepsShown told.0 told.1 (D.crash_states result.log) (W.written result.output)) }
+        (λ known. KeepsShown known.0 known.1 (D.crash_states result.log) (W.written result.output)) }
 
     // From whatever it leaves of the log by which the run was taken up it is taken up again, with all events that were
     // shown.
     ensures recoverable { IfSome B.before
-        (λ told. (p : PlannedShop) (at : Option ℕ) → IsRecovered p (ended_lines told.0) at run
-        → IsRecoveredAfter p (replayed_events run) told.1 (D.crash_states result.log) (W.written result.output)) }
+        (λ known. (p : PlannedShop) (at : Option ℕ) → IsRecovered p (ended_lines known.0) at run
+        → IsRecoveredAfter p (replayed_events run) known.1 (D.crash_states result.log) (W.written result.output)) }
 
     // At the end of the input all of it is in the log.
-    ensures in_log { IfOk result.end (λ _. IfSome B.before (λ told.
-        IsAllInLog told.0 told.1 (D.seen result.log) (D.crash_states result.log) (W.written result.output))) }
+    ensures in_log { IfOk result.end (λ _. IfSome B.before (λ known.
+        IsAllInLog known.0 known.1 (D.seen result.log) (D.crash_states result.log) (W.written result.output))) }
 
     // Whether it was the log that failed. Where it wasn't, and a write failed, it was the output.
     ensures log_fault { D.fault result.log ≡ fault_if result.log_failed }

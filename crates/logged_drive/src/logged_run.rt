@@ -43,7 +43,7 @@ pub fn drive_logged<R: Source, W: BufferedSink + Drop, D: LogFile + Drop, B: Ini
 ) -> LoggedEnd<DriveEnd, W, D>
     requires durable { IsDurable (D.seen log) (D.crash_states log) }
     requires before { AreInitial B.before (D.seen log) (W.written output) }
-    requires whole { IfSome B.before (λ told. whole_lines told.0 ≡ told.0) }
+    requires whole { IfSome B.before (λ known. whole_lines known.0 ≡ known.0) }
     requires shown { W.pending output ≡ [] }
     requires unfailed { D.fault log ≡ None }
     ensures drove { RunsLogged (IsDriveIn begun.protocol begun.verified) B.before (input_of R.Source reader.old)
@@ -52,16 +52,16 @@ pub fn drive_logged<R: Source, W: BufferedSink + Drop, D: LogFile + Drop, B: Ini
 
     // Whatever came of it, a crash leaves all that was shown.
     ensures crash { IfSome B.before
-        (λ told. KeepsShown told.0 told.1 (D.crash_states result.log) (W.written result.output)) }
+        (λ known. KeepsShown known.0 known.1 (D.crash_states result.log) (W.written result.output)) }
 
     // From whatever it leaves of a log that told no event the run is taken up by the same plan, with all events that
     // were shown.
-    ensures recoverable { IfSome B.before (λ told. LinesParse begun.verified.planned (ended_lines told.0) []
-        → IsRecoveredAfter begun.verified.planned [] told.1 (D.crash_states result.log) (W.written result.output)) }
+    ensures recoverable { IfSome B.before (λ known. LinesParse begun.verified.planned (ended_lines known.0) []
+        → IsRecoveredAfter begun.verified.planned [] known.1 (D.crash_states result.log) (W.written result.output)) }
 
     // At the end of the input all of it is in the log.
-    ensures in_log { IfOk result.end (λ _. IfSome B.before (λ told.
-        IsAllInLog told.0 told.1 (D.seen result.log) (D.crash_states result.log) (W.written result.output))) }
+    ensures in_log { IfOk result.end (λ _. IfSome B.before (λ known.
+        IsAllInLog known.0 known.1 (D.seen result.log) (D.crash_states result.log) (W.written result.output))) }
 
     // Whether it was the log that failed. Where it wasn't, and a write failed, it was the output.
     ensures log_fault { D.fault result.log ≡ fault_if result.log_failed }

@@ -150,7 +150,7 @@ pub fn recover_log<D: LogFile>(
         (λ file. (base : List ℕ) × IsNamedFor digits.now (whole_lines file) base × (D.seen log.new ≡ Some base))) }
     ensures durable { OnOk result (IsDurable (D.seen log.new) (D.crash_states log.new)) }
     ensures unfailed { OnOk result (D.fault log.new ≡ None) }
-    ensures told { IfErr result (λ fault. D.fault log.new ≡ file_fault fault) }
+    ensures known { IfErr result (λ fault. D.fault log.new ≡ file_fault fault) }
 
     // A crash at any moment leaves the same whole lines, with that of the plan or without, and behind them of a torn
     // end a torn end again.

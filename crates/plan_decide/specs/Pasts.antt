@@ -6,7 +6,7 @@ use Rattle.shop_base.specs.Cell.{Cell}
 use Rattle.shop_base.specs.Report.{IsNextMoment}
 use Rattle.event_lines.specs.LogLines.{LinesParse}
 use Rattle.run_log.specs.declared.audit_fault.AuditFault.{AuditFault}
-use Rattle.run_log.specs.declared.audit_fault.AuditFault.TheVariants.{Memory as WantOfMemory}
+use Rattle.run_log.specs.declared.audit_fault.AuditFault.TheVariants.{Memory as OutOfMemory}
 use Rattle.run_log.specs.Audits.{IsFirstBad}
 use Rattle.plan_seek.specs.Tasks.{task_in}
 use Rattle.plan_improve.specs.RestCosts.{IsCellOf}
@@ -38,7 +38,7 @@ pub record HoldsAfter (lines : List (List ℕ)) (at : Option ℕ) (p : PlannedSh
 
 -- the fault that one of a log is
 abbrev pub log_fault : AuditFault → DecideFault
-log_fault WantOfMemory = Memory
+log_fault OutOfMemory = Memory
 log_fault fault = Log fault
 
 -- why the moment that is given can't be the present one after the last

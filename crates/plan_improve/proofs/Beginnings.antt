@@ -5,7 +5,7 @@ use Rattle.plan_improve.specs.declared.begun.Begun.{Begun}
 use Rattle.plan_seek.specs.declared.search.TheConstants.{MAX_ROUNDS}
 use Rattle.plan_improve.specs.Faults.{IsImproveRestFault}
 use Rattle.plan_improve.specs.declared.not_improved.NotImproved.{NotImproved}
-use Rattle.plan_improve.specs.declared.improve_fault.ImproveFault.TheVariants.{Memory as WantOfMemory}
+use Rattle.plan_improve.specs.declared.improve_fault.ImproveFault.TheVariants.{Memory as OutOfMemory}
 use Rattle.plan_improve.proofs.Common.{AreSound, Cell, Entry, IsBegun, IsCellOf, IsNextMoment, IsRestOf, IsReplayed}
 use Rattle.plan_improve.proofs.Common.{LinesParse, PlannedShop, cell_of, one_reading, present_of, range_with_len}
 use Rattle.plan_improve.proofs.OneCell.{cell_once}
@@ -20,7 +20,7 @@ event_read lines p (e ∷ es) n parse is = (
 
 -- out of memory is why no plan is given
 pub memory_rest : {A : Type 0} (lines : List (List ℕ)) (at : Option ℕ) (rounds : ℕ) (p : PlannedShop) (r : Result A NotImproved) → rounds ≤ MAX_ROUNDS
-    → IfErr r (λ refused. refused.fault ≡ WantOfMemory) → IfErr r (λ refused. IsImproveRestFault lines at rounds p refused.fault)
+    → IfErr r (λ refused. refused.fault ≡ OutOfMemory) → IfErr r (λ refused. IsImproveRestFault lines at rounds p refused.fault)
 memory_rest lines at rounds p (Ok found) few is = tt
 memory_rest lines at rounds p (Err refused) few is = subst (IsImproveRestFault lines at rounds p) (sym is) (few, tt)
 

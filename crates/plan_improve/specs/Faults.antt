@@ -4,7 +4,7 @@ use Rattle.shop_base.specs.declared.limits.TheConstants.{MAX_MOMENT}
 use Rattle.shop_base.specs.Plan.{PlannedShop}
 use Rattle.shop_base.specs.Cell.{Cell}
 use Rattle.run_log.specs.declared.audit_fault.AuditFault.{AuditFault}
-use Rattle.run_log.specs.declared.audit_fault.AuditFault.TheVariants.{Memory as WantOfMemory}
+use Rattle.run_log.specs.declared.audit_fault.AuditFault.TheVariants.{Memory as OutOfMemory}
 use Rattle.run_log.specs.Audits.{IsFirstBad}
 use Rattle.plan_seek.specs.declared.search.TheConstants.{MAX_ROUNDS}
 use Rattle.plan_improve.specs.declared.improve_fault.ImproveFault.{ImproveFault}
@@ -13,7 +13,7 @@ use Rattle.plan_improve.specs.RestCosts.{IsCellOf}
 
 -- the fault that one of a log is
 abbrev pub log_fault : AuditFault → ImproveFault
-log_fault WantOfMemory = Memory
+log_fault OutOfMemory = Memory
 log_fault fault = Log fault
 
 -- why the moment that is given can't be the present one after the last

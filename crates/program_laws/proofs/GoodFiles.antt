@@ -24,7 +24,7 @@ use Rattle.event_lines.proofs.Readings.{one_reading}
 use Rattle.run_log.proofs.Audits.{first_bad-no_run}
 use Rattle.cell_drive.specs.declared.protocol.Protocol.{Protocol}
 use Rattle.cell_drive.specs.declared.resume_fault.ResumeFault.{ResumeFault}
-use Rattle.cell_drive.specs.declared.resume_fault.ResumeFault.TheVariants.{Log, Past, Refused as RefusedRun, Memory as WantOfMemory}
+use Rattle.cell_drive.specs.declared.resume_fault.ResumeFault.TheVariants.{Log, Past, Refused as RefusedRun, Memory as OutOfMemory}
 use Rattle.cell_drive.specs.OneRun.{cell_after}
 use Rattle.cell_drive.specs.Recovered.{Recovered, IsRecovered}
 use Rattle.cell_drive.specs.ResumeFaults.{IsResumeFault, IsRefusedFor}
@@ -39,7 +39,7 @@ use Rattle.command_answers.specs.declared.pictures.Drawn.{Drawn}
 use Rattle.command_answers.specs.declared.pictures.Drawn.TheVariants.{Picture, Line}
 use Rattle.command_answers.specs.Instances.{ParsesAs}
 use Rattle.command_answers.specs.Facts.{AreFacts}
-use Rattle.command_answers.specs.Steps.{Then, GoesOn, Told, IsOrMemory}
+use Rattle.command_answers.specs.Steps.{Then, GoesOn, Concludes, IsOrMemory}
 use Rattle.command_answers.specs.Texts.{Asks}
 use Rattle.command_answers.specs.Readings.{IsInstanceRead, IsPlanRead, AreFactsAnswered}
 use Rattle.command_answers.specs.Shapes.{IsNotShapedLine, IsShapedOrNot}
@@ -81,7 +81,7 @@ came_drawn Is files (Err fault) before after outcome asked is draws = inr (draws
 module _ (content : List ℕ → Result (List ℕ) CommandFault) where
   -- a file that is there was asked for, and what it tells was read
   pub asked_and_read : {A : Type 0} (Is : List ℕ → Result A CommandFault → Type 0) (path text : List ℕ) → content path ≡ Ok text → (before : List (List ℕ)) (came : Result (List ℕ) CommandFault) (mid : List (List ℕ))
-      (read : Result A CommandFault) (after : List (List ℕ)) → Asks (Shelf content) path before came mid → GoesOn (λ t. Told (Is t)) came mid read after → Is text read × (after ≡ before ++ path ∷ [])
+      (read : Result A CommandFault) (after : List (List ℕ)) → Asks (Shelf content) path before came mid → GoesOn (λ t. Concludes (Is t)) came mid read after → Is text read × (after ≡ before ++ path ∷ [])
   asked_and_read Is path text is before (Ok t) mid read after given on =
       let same : t ≡ text = (let both : Ok t ≡ Ok text = given.0 ∙ is in cc both) in
       (subst (λ x. Is x read) same on.0, on.1 ∙ given.1)
@@ -89,19 +89,19 @@ module _ (content : List ℕ → Result (List ℕ) CommandFault) where
 
   facts_answered : (path : List ℕ) (text description : List ℕ) (name : Option (List ℕ)) (shop : JobShop) (outcome : Result Answer CommandFault) (asked : List (List ℕ)) → ParsesAs text name description shop
       → AreFactsAnswered text name outcome → asked ≡ path ∷ [] → IsAnswered (λ answer. AreFacts answer shop) (path ∷ []) outcome asked
-  facts_answered path text description name shop (Ok answer) asked tells are same = (are.only description shop tells, same)
-  facts_answered path text description name shop (Err fault) asked tells are same = are.only description shop tells
+  facts_answered path text description name shop (Ok answer) asked parses are same = (are.only description shop parses, same)
+  facts_answered path text description name shop (Err fault) asked parses are same = are.only description shop parses
 
   pub good_facts : (path text description : List ℕ) (name : Option (List ℕ)) (shop : JobShop) (outcome : Result Answer CommandFault) (asked : List (List ℕ)) → content path ≡ Ok text → ParsesAs text name description shop
       → RunsFacts (Shelf content) path name [] outcome asked → IsAnswered (λ answer. AreFacts answer shop) (path ∷ []) outcome asked
-  good_facts path text description name shop outcome asked is tells run =
+  good_facts path text description name shop outcome asked is parses run =
       let read = asked_and_read (λ t. AreFactsAnswered t name) path text is [] run.came run.mid outcome asked run.is run.goes_on in
-      facts_answered path text description name shop outcome asked tells read.0 read.1
+      facts_answered path text description name shop outcome asked parses read.0 read.1
 
 module _ (content : List ℕ → Result (List ℕ) CommandFault) (pair : PairOfFiles) (p : PlannedShop) (good : ParseAsPlan content pair p) where
   -- the plan's text tells its plan
   plan_came : (shop : JobShop) (came : Result ShopPlan CommandFault) (mid : List (List ℕ)) (read : Result PlannedShop CommandFault) (asked : List (List ℕ)) → shop ≡ p.shop → IsPlanRead good.plan came
-      → mid ≡ pair.path ∷ pair.plan ∷ [] → GoesOn (λ plan. Told (λ r. r ≡ Ok (record { shop = shop; plan = plan }))) came mid read asked → IsAnswered (λ q. q ≡ p) (pair.path ∷ pair.plan ∷ []) read asked
+      → mid ≡ pair.path ∷ pair.plan ∷ [] → GoesOn (λ plan. Concludes (λ r. r ≡ Ok (record { shop = shop; plan = plan }))) came mid read asked → IsAnswered (λ q. q ≡ p) (pair.path ∷ pair.plan ∷ []) read asked
   plan_came shop (Ok plan) mid read asked same_shop is files on =
       let same_plan : plan ≡ p.plan = is.only p.plan good.tell.plan in
       let of_shop : JobShop → PlannedShop = λ s. record { shop = s; plan = plan } in
@@ -112,7 +112,7 @@ module _ (content : List ℕ → Result (List ℕ) CommandFault) (pair : PairOfF
 
   -- so does the instance's text tell its shop
   instance_came : (came : Result Named CommandFault) (mid : List (List ℕ)) (read : Result PlannedShop CommandFault) (asked : List (List ℕ)) → IsInstanceRead good.instance pair.name came → mid ≡ pair.path ∷ []
-      → GoesOn (λ named. Then (ReadsPlan (Shelf content) pair.plan) (λ plan. Told (λ r. r ≡ Ok (record { shop = named.shop; plan = plan })))) came mid read asked
+      → GoesOn (λ named. Then (ReadsPlan (Shelf content) pair.plan) (λ plan. Concludes (λ r. r ≡ Ok (record { shop = named.shop; plan = plan })))) came mid read asked
       → IsAnswered (λ q. q ≡ p) (pair.path ∷ pair.plan ∷ []) read asked
   instance_came (Ok named) mid read asked is files on =
       let same_shop = (is.only good.tell.description p.shop good.tell.shop).1 in
@@ -135,21 +135,21 @@ module _ (content : List ℕ → Result (List ℕ) CommandFault) (pair : PairOfF
       → next p (pair.path ∷ pair.plan ∷ []) outcome asked ⊎ (outcome ≡ Err Memory)
   with_both next outcome asked run = goes_with next run.came run.mid outcome asked (both_come run.came run.mid run.is) run.goes_on
 
-  parsed_answered : {A : Type 0} (Is : A → Type 0) (outcome : Result A CommandFault) (asked : List (List ℕ)) → Told (IsOrMemory Is) (pair.path ∷ pair.plan ∷ []) outcome asked ⊎ (outcome ≡ Err Memory)
+  parsed_answered : {A : Type 0} (Is : A → Type 0) (outcome : Result A CommandFault) (asked : List (List ℕ)) → Concludes (IsOrMemory Is) (pair.path ∷ pair.plan ∷ []) outcome asked ⊎ (outcome ≡ Err Memory)
       → IsAnswered Is (pair.path ∷ pair.plan ∷ []) outcome asked
   parsed_answered Is outcome asked (inl told) = answered Is _ outcome asked told.0 told.1
   parsed_answered Is outcome asked (inr none) = wanting Is _ outcome asked none
 
-  pub good_plan : {A : Type 0} (Is : PlannedShop → A → Type 0) (outcome : Result A CommandFault) (asked : List (List ℕ)) → WithBoth (Shelf content) pair (λ q. Told (IsOrMemory (Is q))) [] outcome asked
+  pub good_plan : {A : Type 0} (Is : PlannedShop → A → Type 0) (outcome : Result A CommandFault) (asked : List (List ℕ)) → WithBoth (Shelf content) pair (λ q. Concludes (IsOrMemory (Is q))) [] outcome asked
       → IsAnswered (Is p) (pair.path ∷ pair.plan ∷ []) outcome asked
-  good_plan Is outcome asked run = parsed_answered (Is p) outcome asked (with_both (λ q. Told (IsOrMemory (Is q))) outcome asked run)
+  good_plan Is outcome asked run = parsed_answered (Is p) outcome asked (with_both (λ q. Concludes (IsOrMemory (Is q))) outcome asked run)
 
   -- `bounds` without names
   unnamed_bounds : (outcome : Result Answer CommandFault) (before asked : List (List ℕ)) → WithSoundNames (Shelf content) (λ book. IsOrMemory (AreBoundLines book (times_of p) p.plan.budget)) None p before outcome asked
-      → Told (IsOrMemory (AreBounds p)) before outcome asked
+      → Concludes (IsOrMemory (AreBounds p)) before outcome asked
   unnamed_bounds (Ok answer) before asked (inl (sound, run)) =
-      let told = unnamed (λ book. Told (IsOrMemory (AreBoundLines book (times_of p) p.plan.budget))) before asked (Ok answer) (Shelf content) (serially p) run in (inl (sound, told.0), told.1)
-  unnamed_bounds (Err fault) before asked (inl (sound, run)) = unnamed (λ book. Told (IsOrMemory (AreBoundLines book (times_of p) p.plan.budget))) before asked (Err fault) (Shelf content) (serially p) run
+      let told = unnamed (λ book. Concludes (IsOrMemory (AreBoundLines book (times_of p) p.plan.budget))) before asked (Ok answer) (Shelf content) (serially p) run in (inl (sound, told.0), told.1)
+  unnamed_bounds (Err fault) before asked (inl (sound, run)) = unnamed (λ book. Concludes (IsOrMemory (AreBoundLines book (times_of p) p.plan.budget))) before asked (Err fault) (Shelf content) (serially p) run
   unnamed_bounds (Ok answer) before asked (inr told) = (inr told.0, told.1)
   unnamed_bounds (Err fault) before asked (inr told) = told
 
@@ -169,9 +169,9 @@ module _ (content : List ℕ → Result (List ℕ) CommandFault) (pair : PairOfF
   -- without names
   named_answered : (Is : NameBook → PlannedShop → Answer → Type 0) (outcome : Result Answer CommandFault) (before asked : List (List ℕ))
       → IfShaped (Shelf content) p (WithNames (Shelf content) None p (λ book. IsOrMemory (Is book p))) before outcome asked
-      → Told (IsOrMemory (λ answer. IsNotShapedLine p answer ⊎ Is no_names p answer)) before outcome asked
-  named_answered Is (Ok answer) before asked (inl (shaped, run)) = let told = unnamed (λ book. Told (IsOrMemory (Is book p))) before asked (Ok answer) (Shelf content) p run in (inr told.0, told.1)
-  named_answered Is (Err fault) before asked (inl (shaped, run)) = unnamed (λ book. Told (IsOrMemory (Is book p))) before asked (Err fault) (Shelf content) p run
+      → Concludes (IsOrMemory (λ answer. IsNotShapedLine p answer ⊎ Is no_names p answer)) before outcome asked
+  named_answered Is (Ok answer) before asked (inl (shaped, run)) = let told = unnamed (λ book. Concludes (IsOrMemory (Is book p))) before asked (Ok answer) (Shelf content) p run in (inr told.0, told.1)
+  named_answered Is (Err fault) before asked (inl (shaped, run)) = unnamed (λ book. Concludes (IsOrMemory (Is book p))) before asked (Err fault) (Shelf content) p run
   named_answered Is (Ok answer) before asked (inr told) = (inl told.0, told.1)
   named_answered Is (Err fault) before asked (inr told) = told
 
@@ -190,7 +190,7 @@ module _ (content : List ℕ → Result (List ℕ) CommandFault) (pair : PairOfF
       → IfShaped (Shelf content) p (WithNamesAndLog (Shelf content) None log p (λ book. IsLine book p)) (pair.path ∷ pair.plan ∷ []) outcome asked ⊎ (outcome ≡ Err Memory)
       → IsAnswered (IsLine no_names p text) (pair.path ∷ pair.plan ∷ log ∷ []) outcome asked
   named_log_came IsLine log text outcome asked is shaped (inl (inl (also, run))) =
-      let later = unnamed (λ book. Then (Asks (Shelf content) log) (λ t. Told (IsOrMemory (IsLine book p t)))) (pair.path ∷ pair.plan ∷ []) asked outcome (Shelf content) p run in
+      let later = unnamed (λ book. Then (Asks (Shelf content) log) (λ t. Concludes (IsOrMemory (IsLine book p t)))) (pair.path ∷ pair.plan ∷ []) asked outcome (Shelf content) p run in
       let read = asked_and_read content (λ t. IsOrMemory (IsLine no_names p t)) log text is (pair.path ∷ pair.plan ∷ []) later.came later.mid outcome asked later.is later.goes_on in
       answered _ _ outcome asked read.0 read.1
   named_log_came IsLine log text outcome asked is shaped (inl (inr told)) = wanting _ _ outcome asked (shaped_after_all p outcome shaped told.0)
@@ -214,9 +214,9 @@ module _ (content : List ℕ → Result (List ℕ) CommandFault) (pair : PairOfF
   good_rest wanted at log text outcome asked is shaped none run = rest_came wanted at (job_asked wanted) log text outcome asked is shaped none run
 
   any_drawn : (drawn : Result Drawn CommandFault) (before asked : List (List ℕ)) → IfDrawable p (WithNames (Shelf content) None p (λ book. IsOrMemory (IsPlanDrawn book p))) before drawn asked
-      → Told (IsOrMemory (IsAnyPlanDrawn p)) before drawn asked
-  any_drawn (Ok drawn) before asked (inl (shaped, run)) = let told = unnamed (λ book. Told (IsOrMemory (IsPlanDrawn book p))) before asked (Ok drawn) (Shelf content) p run in (inl told.0, told.1)
-  any_drawn (Err fault) before asked (inl (shaped, run)) = unnamed (λ book. Told (IsOrMemory (IsPlanDrawn book p))) before asked (Err fault) (Shelf content) p run
+      → Concludes (IsOrMemory (IsAnyPlanDrawn p)) before drawn asked
+  any_drawn (Ok drawn) before asked (inl (shaped, run)) = let told = unnamed (λ book. Concludes (IsOrMemory (IsPlanDrawn book p))) before asked (Ok drawn) (Shelf content) p run in (inl told.0, told.1)
+  any_drawn (Err fault) before asked (inl (shaped, run)) = unnamed (λ book. Concludes (IsOrMemory (IsPlanDrawn book p))) before asked (Err fault) (Shelf content) p run
   any_drawn (Ok drawn) before asked (inr told) = (inr told.0, told.1)
   any_drawn (Err fault) before asked (inr told) = told
 
@@ -240,7 +240,7 @@ module _ (content : List ℕ → Result (List ℕ) CommandFault) (pair : PairOfF
   drawn_log_came : (IsDrawing : NameBook → PlannedShop → List ℕ → Drawn → Type 0) (log text : List ℕ) (drawn : Result Drawn CommandFault) (asked : List (List ℕ)) → content log ≡ Ok text → IsWellShaped p
       → IfDrawable p (WithNamesAndLog (Shelf content) None log p (λ book. IsDrawing book p)) (pair.path ∷ pair.plan ∷ []) drawn asked ⊎ (drawn ≡ Err Memory) → IsAnswered (IsDrawing no_names p text) (pair.path ∷ pair.plan ∷ log ∷ []) drawn asked
   drawn_log_came IsDrawing log text drawn asked is shaped (inl (inl (also, run))) =
-      let later = unnamed (λ book. Then (Asks (Shelf content) log) (λ t. Told (IsOrMemory (IsDrawing book p t)))) (pair.path ∷ pair.plan ∷ []) asked drawn (Shelf content) p run in
+      let later = unnamed (λ book. Then (Asks (Shelf content) log) (λ t. Concludes (IsOrMemory (IsDrawing book p t)))) (pair.path ∷ pair.plan ∷ []) asked drawn (Shelf content) p run in
       let read = asked_and_read content (λ t. IsOrMemory (IsDrawing no_names p t)) log text is (pair.path ∷ pair.plan ∷ []) later.came later.mid drawn asked later.is later.goes_on in
       answered _ _ drawn asked read.0 read.1
   drawn_log_came IsDrawing log text drawn asked is shaped (inl (inr told)) = wanting _ _ drawn asked (drawn_after_all drawn shaped told.0)
@@ -259,12 +259,12 @@ module _ (content : List ℕ → Result (List ℕ) CommandFault) (pair : PairOfF
 
   pub good_search : (rounds : ℕ) (outcome : Result Answer CommandFault) (asked : List (List ℕ)) → SeeksPlan (Shelf content) rounds pair [] outcome asked
       → (IsSearchAnswer (search_by_two (task_in p)) rounds outcome × (asked ≡ pair.path ∷ pair.plan ∷ [])) ⊎ (outcome ≡ Err Memory)
-  good_search rounds outcome asked (inl run) = with_both (λ q. Told (IsSearchAnswer (search_by_two (task_in q)) rounds)) outcome asked run
+  good_search rounds outcome asked (inl run) = with_both (λ q. Concludes (IsSearchAnswer (search_by_two (task_in q)) rounds)) outcome asked run
   good_search rounds outcome asked (inr none) = inr none.0
 
   pub good_improvement : (rounds : ℕ) (outcome : Result Answer CommandFault) (asked : List (List ℕ)) → ImprovesPlan (Shelf content) rounds pair [] outcome asked
       → (IsImproveAnswer (AsksOne rounds) rounds (ordered p) outcome × (asked ≡ pair.path ∷ pair.plan ∷ [])) ⊎ (outcome ≡ Err Memory)
-  good_improvement rounds outcome asked (inl run) = with_both (λ q. Told (IsImproveAnswer (AsksOne rounds) rounds (ordered q))) outcome asked run
+  good_improvement rounds outcome asked (inl run) = with_both (λ q. Concludes (IsImproveAnswer (AsksOne rounds) rounds (ordered q))) outcome asked run
   good_improvement rounds outcome asked (inr none) = inr none.0
 
   improvement_came : (at : Option ℕ) (rounds : ℕ) (log text : List ℕ) (outcome : Result Answer CommandFault) (asked : List (List ℕ)) → content log ≡ Ok text → IsWellShaped (ordered p)
@@ -356,13 +356,13 @@ module _ (content : List ℕ → Result (List ℕ) CommandFault) (pair : PairOfF
       resumes_unshaped protocol at log run.shaped run.texts_mid asked before after outcome never (good_plan IsShapedOrNot run.shaped run.texts_mid run.shapes) run.resumes
 
   -- a plan by which the run of a log can't go on
-  module _ (protocol : Protocol) (at : Option ℕ) (text : List ℕ) (told : List Entry) (well : IsWellShaped p) (tells : LinesParse p (ended_lines text) told) (run : IsRun p (events_of told))
+  module _ (protocol : Protocol) (at : Option ℕ) (text : List ℕ) (told : List Entry) (well : IsWellShaped p) (parses : LinesParse p (ended_lines text) told) (run : IsRun p (events_of told))
       (not_past : (cell_after p told).last ≤ unwrap_or at (cell_after p told).last) (no_plan : IsNoPlanFor p told) where
     not_recovered : (t : Recovered) → IsRecovered p (ended_lines text) at t → ⊥
     not_recovered t up = go no_plan
       where
-        same : up.told ≡ told
-        same = one_reading p (ended_lines text) up.told told up.tells tells
+        same : up.recorded ≡ told
+        same = one_reading p (ended_lines text) up.recorded told up.parses parses
 
         acyclic : HasNoCycle p
         acyclic nodes cycle =
@@ -374,10 +374,10 @@ module _ (content : List ℕ → Result (List ℕ) CommandFault) (pair : PairOfF
 
     unrecovered_answered : (fault : ResumeFault) (files asked : List (List ℕ)) (outcome : Result Answer CommandFault) → asked ≡ files → IsResumeFault p (ended_lines text) at fault → IsUnrecoveredAnswer fault outcome
         → IsAnswered (IsCheckLine p) files outcome asked
-    unrecovered_answered WantOfMemory files asked outcome same is answered_so = wanting (IsCheckLine p) files outcome asked answered_so
-    unrecovered_answered (Log fault) files asked outcome same is answered_so = absurd (first_bad-no_run p (ended_lines text) fault is (told, tells, run))
+    unrecovered_answered OutOfMemory files asked outcome same is answered_so = wanting (IsCheckLine p) files outcome asked answered_so
+    unrecovered_answered (Log fault) files asked outcome same is answered_so = absurd (first_bad-no_run p (ended_lines text) fault is (told, parses, run))
     unrecovered_answered (Past last) files asked outcome same (others, also, events, is_past) answered_so =
-        let one : others ≡ told = one_reading p (ended_lines text) others told also tells in
+        let one : others ≡ told = one_reading p (ended_lines text) others told also parses in
         let here : last ≡ (cell_after p told).last = is_past.0 ∙ ap (λ (es : List Entry). (cell_after p es).last) one in
         let past_there : unwrap_or at (cell_after p told).last < (cell_after p told).last = subst (λ n. unwrap_or at n < n) here is_past.1 in
         absurd (omega (arith, past_there, not_past))

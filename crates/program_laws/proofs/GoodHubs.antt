@@ -14,7 +14,7 @@ use Rattle.command_answers.specs.declared.command_fault.CommandFault.{CommandFau
 use Rattle.command_answers.specs.declared.command_fault.CommandFault.TheVariants.{Memory}
 use Rattle.command_answers.specs.declared.loading.Loaded.{Loaded}
 use Rattle.command_answers.specs.declared.loading.Loaded.TheVariants.{NotShaped, Judged}
-use Rattle.command_answers.specs.Steps.{Then, GoesOn, Told, IsOrMemory}
+use Rattle.command_answers.specs.Steps.{Then, GoesOn, Concludes, IsOrMemory}
 use Rattle.command_answers.specs.Texts.{Asks}
 use Rattle.command_answers.specs.Readings.{IsInstanceRead, IsPlanRead}
 use Rattle.command_answers.specs.Checks.{IsLoaded, accepted_in}
@@ -49,7 +49,7 @@ module _ (content : List ℕ → Result (List ℕ) CommandFault) (instance : Lis
   -- a plan's text tells its plan
   plan_came : (path : List ℕ) (p : PlannedShop) (good : ParsesAsPlanOf content instance name path p) (shop : JobShop) (came : Result ShopPlan CommandFault) (before mid : List (List ℕ))
       (loaded : Result Loaded CommandFault) (asked : List (List ℕ)) → shop ≡ p.shop → IsPlanRead good.plan came → mid ≡ before ++ path ∷ []
-      → GoesOn (λ plan. Told (IsOrMemory (IsLoaded (record { shop = shop; plan = plan })))) came mid loaded asked → IsAnswered (IsLoaded p) (before ++ path ∷ []) loaded asked
+      → GoesOn (λ plan. Concludes (IsOrMemory (IsLoaded (record { shop = shop; plan = plan })))) came mid loaded asked → IsAnswered (IsLoaded p) (before ++ path ∷ []) loaded asked
   plan_came path p good shop (Ok plan) before mid loaded asked same_shop is files on =
       let of_shop : JobShop → PlannedShop = λ s. record { shop = s; plan = plan } in
       let of_plan : ShopPlan → PlannedShop = λ q. record { shop = p.shop; plan = q } in
@@ -60,7 +60,7 @@ module _ (content : List ℕ → Result (List ℕ) CommandFault) (instance : Lis
   -- the plan of a file is accepted
   one_came : (path : List ℕ) (p : PlannedShop) → ParsesAsPlanOf content instance name path p → (came : Result Named CommandFault) (before mid : List (List ℕ))
       (loaded : Result Loaded CommandFault) (asked : List (List ℕ)) → IsInstanceRead instance name came → mid ≡ before
-      → GoesOn (λ named. Then (ReadsPlan (Shelf content) path) (λ plan. Told (IsOrMemory (IsLoaded (record { shop = named.shop; plan = plan }))))) came mid loaded asked
+      → GoesOn (λ named. Then (ReadsPlan (Shelf content) path) (λ plan. Concludes (IsOrMemory (IsLoaded (record { shop = named.shop; plan = plan }))))) came mid loaded asked
       → IsAnswered (IsLoaded p) (before ++ path ∷ []) loaded asked
   one_came path p good (Ok named) before mid loaded asked is same on =
       let same_shop = (is.only good.tell.description p.shop good.tell.shop).1 in
@@ -125,12 +125,12 @@ line_answered protocol number p files (Err fault) before after outcome asked is 
 line_answered protocol number p files (Ok (Line answer)) before after outcome asked is drives = (subst (λ r. IsAnswered (IsNumberedLine number p) files r asked) (sym drives.0) is, drives.1)
 line_answered protocol number p files (Ok (AllAccepted cells)) before after outcome asked is drives = absurd is.0
 
-cell_told : (number : ℕ) (p : PlannedShop) (files : List (List ℕ)) (l : Loaded) (loaded : Result Cells CommandFault) (asked : List (List ℕ)) → IsLoaded p l → IsCellLine number l loaded → asked ≡ files
+cell_answered : (number : ℕ) (p : PlannedShop) (files : List (List ℕ)) (l : Loaded) (loaded : Result Cells CommandFault) (asked : List (List ℕ)) → IsLoaded p l → IsCellLine number l loaded → asked ≡ files
     → IsAnswered (IsCellsLine number p) files loaded asked
-cell_told number p files l (Ok (Line answer)) asked is told same =
+cell_answered number p files l (Ok (Line answer)) asked is told same =
     (record { line = told.0; is = line_of_loaded p l told.0 is told.1; text = told.2; status = told.3 }, same)
-cell_told number p files l (Ok (AllAccepted all)) asked is told same = absurd told
-cell_told number p files l (Err fault) asked is told same = told
+cell_answered number p files l (Ok (AllAccepted all)) asked is told same = absurd told
+cell_answered number p files l (Err fault) asked is told same = told
 
 module _ (content : List ℕ → Result (List ℕ) CommandFault) (instance : List ℕ) (name : Option (List ℕ)) (file : List ℕ) (p : PlannedShop) (others : List (List ℕ))
     (told : ParsesAsPlanOf content instance name file p) (never : IsWellShaped p → IsAcceptable p → ⊥) where
@@ -139,8 +139,8 @@ module _ (content : List ℕ → Result (List ℕ) CommandFault) (instance : Lis
       (loaded : Result Cells CommandFault) (asked : List (List ℕ)) → IsAnswered (IsLoaded p) files one mid → GoesOn (λ l. AfterPlan cells rest (accepted_in l)) one mid loaded asked
       → IsAnswered (IsCellsLine (length cells) p) files loaded asked
   ends_there cells rest (Err f) mid files loaded asked is on = wanting _ _ loaded asked (on.0 ∙ ap Err is)
-  ends_there cells rest (Ok (NotShaped fault)) mid files loaded asked is on = cell_told (length cells) p files (NotShaped fault) loaded asked is.0 on.0 (on.1 ∙ is.1)
-  ends_there cells rest (Ok (Judged (Refused back why))) mid files loaded asked is on = cell_told (length cells) p files (Judged (Refused back why)) loaded asked is.0 on.0 (on.1 ∙ is.1)
+  ends_there cells rest (Ok (NotShaped fault)) mid files loaded asked is on = cell_answered (length cells) p files (NotShaped fault) loaded asked is.0 on.0 (on.1 ∙ is.1)
+  ends_there cells rest (Ok (Judged (Refused back why))) mid files loaded asked is on = cell_answered (length cells) p files (Judged (Refused back why)) loaded asked is.0 on.0 (on.1 ∙ is.1)
   ends_there cells rest (Ok (Judged (Accepted v))) mid files loaded asked is on = absurd (never is.0.well_shaped is.0.accepted.1)
 
   -- an accepted plan is passed

@@ -8,7 +8,7 @@ use Rattle.command_answers.specs.declared.command_fault.CommandFault.{CommandFau
 use Rattle.command_answers.specs.declared.command_fault.CommandFault.TheVariants.{Instance, Plan, Names, Read, Write, InputTooLong, Log, LogInUse, Memory}
 use Rattle.command_answers.specs.Instances.{ParsesAs}
 use Rattle.command_answers.specs.Readings.{AreFactsAnswered}
-use Rattle.command_answers.specs.Steps.{GoesOn, Told}
+use Rattle.command_answers.specs.Steps.{GoesOn, Concludes}
 use Rattle.command_run.specs.Streams.{Input}
 use Rattle.command_run.specs.Inputs.{IsInputRead, RunsInput}
 use Rattle.command_run.specs.Laws.{IsInputAnswered}
@@ -23,14 +23,14 @@ no_more : (after : Option (List ℕ)) (text came : List ℕ) → Consumes (Some 
 no_more None text came was = absurd was
 no_more (Some ys) text came was = omega (arith, ap length was, length-append came ys)
 
-module _ (text description : List ℕ) (shop : JobShop) (tells : ParsesAs text None description shop) where
+module _ (text description : List ℕ) (shop : JobShop) (parses : ParsesAs text None description shop) where
   facts_answered_first : (outcome : Result Answer CommandFault) (after : Input) → AreFactsAnswered text None outcome → after.left ≡ Some [] → IsInputAnswered shop outcome after
-  facts_answered_first (Ok answer) after are whole = (are.only description shop tells, whole)
-  facts_answered_first (Err fault) after are whole = subst (λ f. IsInputAnswered shop (Err f) after) (sym (are.only description shop tells)) tt
+  facts_answered_first (Ok answer) after are whole = (are.only description shop parses, whole)
+  facts_answered_first (Err fault) after are whole = subst (λ f. IsInputAnswered shop (Err f) after) (sym (are.only description shop parses)) tt
 
   -- what came of the reading is answered
   input_read : (before mid after : Input) (came : Result (List ℕ) CommandFault) (outcome : Result Answer CommandFault) → before.left ≡ Some text → length text ≤ MAX_INPUT
-      → IsInputRead before came mid → GoesOn (λ t. Told (AreFactsAnswered t None)) came mid outcome after → IsInputAnswered shop outcome after
+      → IsInputRead before came mid → GoesOn (λ t. Concludes (AreFactsAnswered t None)) came mid outcome after → IsInputAnswered shop outcome after
   input_read before mid after (Ok t) outcome given few is on =
       let all = all_given mid.left text t (subst (λ o. Consumes o mid.left t) given is.0) is.1 in
       facts_answered_first outcome after (subst (λ x. AreFactsAnswered x None outcome) all.0 on.0) (ap (λ (i : Input). i.left) on.1 ∙ all.1)
@@ -47,5 +47,5 @@ module _ (text description : List ℕ) (shop : JobShop) (tells : ParsesAs text N
 
 pub good_input : (before after : Input) (text description : List ℕ) (shop : JobShop) (outcome : Result Answer CommandFault) → before.left ≡ Some text → length text ≤ MAX_INPUT
     → ParsesAs text None description shop → RunsInput before outcome after → IsInputAnswered shop outcome after
-good_input before after text description shop outcome given few tells run =
-    input_read text description shop tells before run.mid after run.came outcome given few run.is run.goes_on
+good_input before after text description shop outcome given few parses run =
+    input_read text description shop parses before run.mid after run.came outcome given few run.is run.goes_on

@@ -44,11 +44,11 @@ asked_pair words pair log chosen ask is =
 
 -- ---- a new log
 
-new_known : (folder : Folder) (logs : List NamedLog) (taken : Option (List ℕ)) (start line : List ℕ) (p : PlannedShop) (protocol : Protocol) (at : Option ℕ) (bytes : Option (List ℕ))
-    → folder.logs ≡ Some logs → taken ≡ Some start → line ≡ plan_line (digits_in p) → IfSome bytes (λ l. l ≡ []) → IsHistoryOf folder p protocol at bytes taken (line, start)
-new_known folder logs taken start line p protocol at None there output is none = record { logs = logs; there = there; log = is; output = output }
-new_known folder logs taken start line p protocol at (Some []) there output is none = record { logs = logs; there = there; log = is; output = output }
-new_known folder logs taken start line p protocol at (Some (byte ∷ bytes)) there output is none = absurd (cc none)
+new_known : (folder : Folder) (logs : List NamedLog) (printed : Option (List ℕ)) (start line : List ℕ) (p : PlannedShop) (protocol : Protocol) (at : Option ℕ) (bytes : Option (List ℕ))
+    → folder.logs ≡ Some logs → printed ≡ Some start → line ≡ plan_line (digits_in p) → IfSome bytes (λ l. l ≡ []) → IsHistoryOf folder p protocol at bytes recovered (line, start)
+new_known folder logs recovered start line p protocol at None there output is none = record { logs = logs; there = there; log = is; output = output }
+new_known folder logs recovered start line p protocol at (Some []) there output is none = record { logs = logs; there = there; log = is; output = output }
+new_known folder logs recovered start line p protocol at (Some (byte ∷ bytes)) there output is none = absurd (cc none)
 
 pub new_log_has_history : {W : Type 0} (gives : W → List ℕ → Result (List ℕ) CommandFault → W → Type 0) → NewLogHasHistory gives
 new_log_has_history gives words before logs start digits there output none are chosen choice path kept p mid shapes = record {
@@ -61,34 +61,34 @@ new_log_has_history gives words before logs start digits there output none are c
 -- ---- a log with bytes
 
 -- what is told again of a log that was taken up is one text
-same_replay : (protocol : Protocol) (p : PlannedShop) (lines : List (List ℕ)) (at : Option ℕ) (taken other : Recovered) → IsRecovered p lines at taken → IsRecovered p lines at other → replay_text protocol other ≡ replay_text protocol taken
-same_replay protocol p lines at taken other up also =
-    let one = one_recovery p lines at taken other up also in
+same_replay : (protocol : Protocol) (p : PlannedShop) (lines : List (List ℕ)) (at : Option ℕ) (recovered other : Recovered) → IsRecovered p lines at recovered → IsRecovered p lines at other → replay_text protocol other ≡ replay_text protocol recovered
+same_replay protocol p lines at recovered other up also =
+    let one = one_recovery p lines at recovered other up also in
     let of : PlannedShop → List Entry → List Bool → List ℕ = λ q es fs. replay_lines q protocol (start q) (take (length fs) es) fs in
     ap₂ (λ (es : List Entry) (fs : List Bool). of (plan_of other) es fs) (ap (λ (d : DrivenCell). d.entries) one.0) one.1
-    ∙ ap (λ (q : PlannedShop). of q taken.log.entries taken.late) (also.recovered_from.planned ∙ sym up.recovered_from.planned)
+    ∙ ap (λ (q : PlannedShop). of q recovered.log.entries recovered.late) (also.recovered_from.planned ∙ sym up.recovered_from.planned)
 
 pub old_log_has_history : OldLogHasHistory
-old_log_has_history content words pair log byte bytes named p taken before logs start ask tell unasked there output has up is_named chosen choice path kept q mid shapes =
+old_log_has_history content words pair log byte bytes named p recovered before logs start ask tell unasked there output has up is_named chosen choice path kept q mid shapes =
     let base : List ℕ = byte ∷ bytes in
     let protocol : Protocol = manner_of words in
     let at : Option ℕ = moment_given words in
-    let told : List ℕ × List ℕ = (named, start ++ replay_text protocol taken) in
+    let known : List ℕ × List ℕ = (named, start ++ replay_text protocol recovered) in
     let here : path ≡ log = (let both : Some path ≡ Some log = sym (asked_path words chosen path choice kept) ∙ ask.kept in cc both) in
     let shapes_pair : Shapes (Shelf content) pair [] (Ok (Ok q)) mid =
     subst (λ (r : PairOfFiles). Shapes (Shelf content) r [] (Ok (Ok q)) mid) (asked_pair words pair log chosen ask choice)
     (subst (λ (asked : List (List ℕ)). Shapes (Shelf content) (pair_in chosen) asked (Ok (Ok q)) mid) unasked shapes) in
     let same : q ≡ p = (good_plan content pair p tell IsShapedOrNot (Ok (Ok q)) mid shapes_pair).0.0 in
-    let old : IsHistoryOfOld p protocol at base before.streams.output.written told = record {
+    let old : IsHistoryOfOld p protocol at base before.streams.output.written known = record {
       log = is_named;
-      output = λ other also. record { start = start; was = output; is = ap (λ (text : List ℕ). start ++ text) (sym (same_replay protocol p (ended_lines (whole_lines base)) at taken other up also)) };
+      output = λ other also. record { start = start; was = output; is = ap (λ (text : List ℕ). start ++ text) (sym (same_replay protocol p (ended_lines (whole_lines base)) at recovered other up also)) };
     } in
-    let chosen_so : IsHistoryOfOld q (manner_in chosen) chosen.at base before.streams.output.written told =
-    subst (λ (r : PlannedShop). IsHistoryOfOld r (manner_in chosen) chosen.at base before.streams.output.written told) (sym same)
-    (subst (λ (m : Protocol). IsHistoryOfOld p m chosen.at base before.streams.output.written told) (sym (same_manner words chosen choice))
-    (subst (λ (a : Option ℕ). IsHistoryOfOld p protocol a base before.streams.output.written told) (sym choice.at) old)) in
+    let chosen_so : IsHistoryOfOld q (manner_in chosen) chosen.at base before.streams.output.written known =
+    subst (λ (r : PlannedShop). IsHistoryOfOld r (manner_in chosen) chosen.at base before.streams.output.written known) (sym same)
+    (subst (λ (m : Protocol). IsHistoryOfOld p m chosen.at base before.streams.output.written known) (sym (same_manner words chosen choice))
+    (subst (λ (a : Option ℕ). IsHistoryOfOld p protocol a base before.streams.output.written known) (sym choice.at) old)) in
     record {
       logs = logs;
       there = there;
-      is = subst (λ (b : Option (List ℕ)). IsHistoryOf before.folder q (manner_in chosen) chosen.at b before.streams.output.written told) (sym (ap (λ (l : List ℕ). held logs l) here ∙ has)) chosen_so;
+      is = subst (λ (b : Option (List ℕ)). IsHistoryOf before.folder q (manner_in chosen) chosen.at b before.streams.output.written known) (sym (ap (λ (l : List ℕ). held logs l) here ∙ has)) chosen_so;
     }

@@ -48,12 +48,12 @@ module _ (p : PlannedShop) where
   undriven (Some bytes) driven = absurd (cc driven.2)
 
   -- the plan by which it goes on is the one by which it was taken up
-  recovered_plan : (protocol : Protocol) (q : PlannedShop) (t : Recovered) (mid : Output) (told : Result Recovered DriveFault) (step : Step) → plan_of t ≡ q → GoesOnAfter protocol t mid told step → DrivenBy p step.log → p ≡ q
+  recovered_plan : (protocol : Protocol) (q : PlannedShop) (t : Recovered) (mid : Output) (replay : Result Recovered DriveFault) (step : Step) → plan_of t ≡ q → GoesOnAfter protocol t mid replay step → DrivenBy p step.log → p ≡ q
   recovered_plan protocol q t mid (Ok done) step planned run driven = (let same : p ≡ plan_of t = cc (sym driven.2 ∙ run.log) in same ∙ planned)
   recovered_plan protocol q t mid (Err fault) step planned is driven = absurd (cc (sym driven.2 ∙ is.2))
 
-  log_plan : (protocol : Protocol) (at : Option ℕ) (q : PlannedShop) (text : List ℕ) (taken : Result Recovered RecoverFault) (step : Step) → RecoversLog q at text taken → ContinuesRecovered q protocol text taken step → DrivenBy p step.log → p ≡ q
-  log_plan protocol at q text (Ok t) step takes on driven = recovered_plan protocol q t on.mid on.told step takes.is.recovered_from.planned on.goes_on driven
+  log_plan : (protocol : Protocol) (at : Option ℕ) (q : PlannedShop) (text : List ℕ) (recovered : Result Recovered RecoverFault) (step : Step) → RecoversLog q at text recovered → ContinuesRecovered q protocol text recovered step → DrivenBy p step.log → p ≡ q
+  log_plan protocol at q text (Ok t) step takes on driven = recovered_plan protocol q t on.mid on.replay step takes.is.recovered_from.planned on.goes_on driven
   log_plan protocol at q text (Err fault) step takes is driven = absurd (cc (sym driven.2 ∙ is.1.is))
 
 -- ---- a log that names a plan
@@ -71,20 +71,20 @@ module _ (p : PlannedShop) (digits : RunDigits) (bytes : List ℕ) (named : Name
     where
       some : (xs : List ℕ) → NameLast (lines_of (whole_lines xs)) digits → DrivesFitting folder after path protocol at q (Some xs) step → p ≡ q
       some [] none is = absurd none
-      some (x ∷ xs) names is = log_plan p protocol at q (x ∷ xs) is.0.taken step is.0.takes is.0.goes_on driven
+      some (x ∷ xs) names is = log_plan p protocol at q (x ∷ xs) is.0.recovered step is.0.takes is.0.goes_on driven
 
   as_asked : (folder after : Folder) (path : List ℕ) (start : LogStart) (protocol : Protocol) (at : Option ℕ) (q : PlannedShop) (run : LogRun) (misfit : Option Misfit) (step : Step) → IsRunOf (lines_of (whole_lines bytes)) run
       → (start ≡ HandOver → ⊥) → MatchOption misfit ((m : Misfit) → IsMisfit start run (digits_in q) m → ⊥) (IsMisfit start run (digits_in q)) → DrivesAs folder after path misfit protocol at q (Some bytes) step → DrivenBy p step.log → ⊥
-  as_asked folder after path start protocol at q run (Some m) step tells asked is drives driven = never p step.log (Some (Found bytes)) drives.1.is (undriven p (Some bytes)) driven
-  as_asked folder after path start protocol at q run None step tells asked none drives driven =
+  as_asked folder after path start protocol at q run (Some m) step parses asked is drives driven = never p step.log (Some (Found bytes)) drives.1.is (undriven p (Some bytes)) driven
+  as_asked folder after path start protocol at q run None step parses asked none drives driven =
       let same = fitting folder after path protocol at q step drives driven in
-      fits start run digits (digits_in q) (last_run (lines_of (whole_lines bytes)) run digits tells named) asked none (λ is. other (ap digits_in same ∙ is))
+      fits start run digits (digits_in q) (last_run (lines_of (whole_lines bytes)) run digits parses named) asked none (λ is. other (ap digits_in same ∙ is))
 
   found : (folder after : Folder) (path : List ℕ) (start : LogStart) (protocol : Protocol) (at : Option ℕ) (q : PlannedShop) (there : Option (List ℕ)) (step : Step) → there ≡ Some bytes → (start ≡ HandOver → ⊥)
       → DrivesFound folder after path start protocol at q there step → DrivenBy p step.log → ⊥
   found folder after path start protocol at q there step is asked drives =
       let here = subst (λ (o : Option (List ℕ)). DrivesFound folder after path start protocol at q o step) is drives in
-      as_asked folder after path start protocol at q here.run here.misfit step here.tells asked here.is_misfit here.drives
+      as_asked folder after path start protocol at q here.run here.misfit step here.parses asked here.is_misfit here.drives
 
   opened : (folder after : Folder) (path : List ℕ) (start : LogStart) (protocol : Protocol) (at : Option ℕ) (q : PlannedShop) (opened : Result (Option (List ℕ)) FileFault) (step : Step) → (start ≡ HandOver → ⊥)
       → ((there : Option (List ℕ)) → opened ≡ Ok there → there ≡ Some bytes) → DrivesOpened folder after path start protocol at q opened step → DrivenBy p step.log → ⊥

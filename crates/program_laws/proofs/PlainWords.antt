@@ -12,7 +12,7 @@ use Rattle.command_answers.specs.declared.pictures.Drawn.{Drawn}
 use Rattle.command_answers.specs.declared.command_fault.CommandFault.{CommandFault}
 use Rattle.command_answers.specs.declared.command_fault.CommandFault.TheVariants.{Instance, Plan, Names, Read, Write, InputTooLong, Log, LogInUse, Memory}
 use Rattle.command_answers.specs.Instances.{IsFirstInstanceFault, IsInstanceRefusal}
-use Rattle.command_answers.specs.Steps.{GoesOn, Told}
+use Rattle.command_answers.specs.Steps.{GoesOn, Concludes}
 use Rattle.command_answers.specs.Texts.{Asks}
 use Rattle.command_answers.specs.Readings.{IsInstanceRead, AreFactsAnswered}
 use Rattle.command_answers.specs.Commands.{PairOfFiles, ReadsInstance, ReadsBoth, WithBoth, RunsFacts}
@@ -92,7 +92,7 @@ module _ (content : List ℕ → Result (List ℕ) CommandFault) (path text : Li
   -- the instance's file was asked for alone, and is refused
   came_refused : {A : Type 0} (Is : List ℕ → Result A CommandFault → Type 0) (came : Result (List ℕ) CommandFault) (read : Result A CommandFault) (mid asked : List (List ℕ))
       → ((t : List ℕ) → Is t read → IsFirstInstanceFault t name fault → IsInstanceRefusal read fault)
-      → Asks (Shelf content) path [] came mid → GoesOn (λ t. Told (Is t)) came mid read asked → IsInstanceRefused path fault read asked
+      → Asks (Shelf content) path [] came mid → GoesOn (λ t. Concludes (Is t)) came mid read asked → IsInstanceRefused path fault read asked
   came_refused Is (Ok t) read mid asked refuses given on = (on.1 ∙ given.1, recovered_by fault read (refuses t on.0 (same_text t given.0)))
   came_refused Is (Err f) read mid asked refuses given on = absurd (let both : Err f ≡ Ok text = given.1.0 ∙ is in cc both)
 

@@ -9,7 +9,7 @@ use Rattle.text_lines.specs.declared.limits.TheConstants.{MAX_INPUT}
 use Rattle.text_lines.specs.Lines.{ended_lines}
 use Rattle.event_lines.specs.LogLines.{LinesParse}
 use Rattle.byte_streams.specs.declared.drive_fault.DriveFault.{DriveFault}
-use Rattle.byte_streams.specs.declared.drive_fault.DriveFault.TheVariants.{Read as NotRead, Write as NotWritten, InputTooLong as TooLong, Memory as WantOfMemory}
+use Rattle.byte_streams.specs.declared.drive_fault.DriveFault.TheVariants.{Read as NotRead, Write as NotWritten, InputTooLong as TooLong, Memory as OutOfMemory}
 use Rattle.byte_streams.specs.declared.rooms.TheConstants.{MAX_PIECE}
 use Rattle.byte_streams.specs.Streams.{IsStreamed}
 use Rattle.run_log.specs.Log.{Noted}
@@ -86,13 +86,13 @@ asked_log words pair log chosen ask is = ap (λ (fs : List (List ℕ)). get_or f
 
 -- the text for its input from what was taken up, in this manner
 record Resumed (p : PlannedShop) (protocol : Protocol) (lines : List (List ℕ)) (at : Option ℕ) (input : List ℕ) (status : ℕ) (written : List ℕ) : Type 0 where
-  pub taken : Recovered
-  pub up : IsRecovered p lines at taken
+  pub recovered : Recovered
+  pub up : IsRecovered p lines at recovered
   pub state : DrivenCell
   pub done : Bool
   pub last : ℕ
   pub left : ℕ
-  pub is_text : IsResumedText p protocol taken.log.entries taken.late input written state
+  pub is_text : IsResumedText p protocol recovered.log.entries recovered.late input written state
   pub so_far : IsSoFar p state.entries done last left
   pub own : status ≡ status_at done
 
@@ -109,7 +109,7 @@ module _ (content : List ℕ → Result (List ℕ) CommandFault) (words : List (
         let same_output = write_ends outcome mid.output well.after.streams.output well.before.errors well.after.errors status answer ends in
         let bad : true ≡ false = sym failed ∙ sym (ap (λ (o : Output). o.failed) same_output) ∙ well.was_written in cc bad
 
-    not_wanting : IsEndAnswer (Err WantOfMemory) outcome → ⊥
+    not_wanting : IsEndAnswer (Err OutOfMemory) outcome → ⊥
     not_wanting answer = well.no_want (memory_ends outcome mid.output well.after.streams.output well.before.errors well.after.errors status answer ends)
 
     -- behind a text that was written, all was read and written, whoever answers the lines
@@ -135,39 +135,39 @@ module _ (content : List ℕ → Result (List ℕ) CommandFault) (words : List (
       never_broke TooLong is answer =
           let less = fewer well.before.streams.input.left mid.input.left input is.input well.given is.was_read in
           omega (arith, less, few, is.comes_to.0)
-      never_broke WantOfMemory is answer = is.comes_to
+      never_broke OutOfMemory is answer = is.comes_to
 
-    resumed_so : (protocol : Protocol) (lines : List (List ℕ)) (at : Option ℕ) (taken : Recovered) → IsRecovered p lines at taken → (end : Result RestEnd DriveFault)
-        → IsResumeIn protocol taken well.before.streams mid end → IsEndAnswer (end_of_rest end) outcome → Resumed p protocol lines at input status written
-    resumed_so protocol lines at taken up (Ok end) (inl cut) answer = absurd (let bad : Ok end ≡ Err NotWritten = cut.0 in cc bad)
-    resumed_so protocol lines at taken up (Ok end) (inr on) answer =
-        let ended = ended_behind SessionAnswer SessionCloses (session_from protocol taken) on.end (again_of protocol taken) on.middle end on.streamed on.again answer in
-        let text : List ℕ = again_of protocol taken ++ (on.streamed.comes_to.text ++ on.streamed.comes_to.closing) in
+    resumed_so : (protocol : Protocol) (lines : List (List ℕ)) (at : Option ℕ) (recovered : Recovered) → IsRecovered p lines at recovered → (end : Result RestEnd DriveFault)
+        → IsResumeIn protocol recovered well.before.streams mid end → IsEndAnswer (end_of_rest end) outcome → Resumed p protocol lines at input status written
+    resumed_so protocol lines at recovered up (Ok end) (inl cut) answer = absurd (let bad : Ok end ≡ Err NotWritten = cut.0 in cc bad)
+    resumed_so protocol lines at recovered up (Ok end) (inr on) answer =
+        let ended = ended_behind SessionAnswer SessionCloses (session_from protocol recovered) on.end (again_of protocol recovered) on.middle end on.streamed on.again answer in
+        let text : List ℕ = again_of protocol recovered ++ (on.streamed.comes_to.text ++ on.streamed.comes_to.closing) in
         let state : DrivenCell = seen on.end in
-        let answered : IsResumedText p protocol taken.log.entries taken.late on.streamed.input text state =
-        subst (λ (q : PlannedShop). IsResumedText q protocol taken.log.entries taken.late on.streamed.input text state) up.recovered_from.planned (resumed_text protocol taken end well.before.streams mid on) in
+        let answered : IsResumedText p protocol recovered.log.entries recovered.late on.streamed.input text state =
+        subst (λ (q : PlannedShop). IsResumedText q protocol recovered.log.entries recovered.late on.streamed.input text state) up.recovered_from.planned (resumed_text protocol recovered end well.before.streams mid on) in
         record {
-          taken = taken;
+          recovered = recovered;
           up = up;
           state = state;
           done = end.done;
           last = end.last;
           left = end.left;
-          is_text = subst (λ xs. IsResumedText p protocol taken.log.entries taken.late input xs state) (sym ended.1)
-              (subst (λ xs. IsResumedText p protocol taken.log.entries taken.late xs text state) ended.0 answered);
-          so_far = rest_so_far p (plan_of taken) on.end end up.recovered_from.planned on.came_to;
+          is_text = subst (λ xs. IsResumedText p protocol recovered.log.entries recovered.late input xs state) (sym ended.1)
+              (subst (λ xs. IsResumedText p protocol recovered.log.entries recovered.late xs text state) ended.0 answered);
+          so_far = rest_so_far p (plan_of recovered) on.end end up.recovered_from.planned on.came_to;
           own = ended.2;
         }
-    resumed_so protocol lines at taken up (Err fault) (inl cut) answer =
+    resumed_so protocol lines at recovered up (Err fault) (inl cut) answer =
         let same : fault ≡ NotWritten = (let both : Err fault ≡ Err NotWritten = cut.0 in cc both) in
         absurd (not_cut (subst (λ (f : DriveFault). IsEndAnswer (Err f) outcome) same answer) cut.1)
-    resumed_so protocol lines at taken up (Err fault) (inr on) answer =
-        absurd (never_broke SessionAnswer SessionCloses (session_from protocol taken) on.end (again_of protocol taken) on.middle fault on.streamed answer)
+    resumed_so protocol lines at recovered up (Err fault) (inr on) answer =
+        absurd (never_broke SessionAnswer SessionCloses (session_from protocol recovered) on.end (again_of protocol recovered) on.middle fault on.streamed answer)
 
     -- a log that can be taken up
-    log_resumed : (protocol : Protocol) (at : Option ℕ) (text : List ℕ) → IsRecoverable p (ended_lines text) at → (taken : Result Recovered ResumeFault) → IsRecovery p at text taken
-        → ResumesRecovered protocol taken well.before.streams mid outcome → Resumed p protocol (ended_lines text) at input status written
-    log_resumed protocol at text can (Ok taken) is on = resumed_so protocol (ended_lines text) at taken is.is on.end on.is on.answer
+    log_resumed : (protocol : Protocol) (at : Option ℕ) (text : List ℕ) → IsRecoverable p (ended_lines text) at → (recovered : Result Recovered ResumeFault) → IsRecovery p at text recovered
+        → ResumesRecovered protocol recovered well.before.streams mid outcome → Resumed p protocol (ended_lines text) at input status written
+    log_resumed protocol at text can (Ok recovered) is on = resumed_so protocol (ended_lines text) at recovered is.is on.end on.is on.answer
     log_resumed protocol at text can (Err fault) is on =
         absurd (not_wanting (subst (λ (f : ResumeFault). IsUnrecoveredAnswer f outcome) (is.can can) on.0))
 
@@ -195,7 +195,7 @@ module _ (content : List ℕ → Result (List ℕ) CommandFault) (words : List (
         | inr none ↦ absurd (not_wanting follows.mid follows.outcome follows.input ends none.0)
       ]
   follows_resumed pair log text (Err (Usage help message)) ask good shaped came can are follows =
-      absurd (let told = subst (λ kinds. NamesOneOf kinds (Usage help message)) ask.taken are.refused in told.1)
+      absurd (let told = subst (λ kinds. NamesOneOf kinds (Usage help message)) ask.accepted are.refused in told.1)
   follows_resumed pair log text (Err NoWordsMemory) ask good shaped came can are follows = absurd (well.no_want (memory_status well.before.errors well.after.errors status follows.0.1))
 
 -- ---- two runs
@@ -205,7 +205,7 @@ resume_writes_the_same content words pair log text p input status other_status w
     let protocol = manner_of words in
     let one = follows_resumed content words p input few status written well pair log text well.run.read ask good shaped came can well.run.is well.run.follows in
     let two = follows_resumed content words p input few other_status other also pair log text also.run.read ask good shaped came can also.run.is also.run.follows in
-    let same = one_text_from_a_log p protocol (ended_lines text) (moment_given words) one.taken two.taken input written other one.state two.state one.up two.up one.is_text two.is_text in
+    let same = one_text_from_a_log p protocol (ended_lines text) (moment_given words) one.recovered two.recovered input written other one.state two.state one.up two.up one.is_text two.is_text in
     let done : two.done ≡ one.done = same_done p one.state two.state one.done two.done one.last two.last one.left two.left one.so_far two.so_far same.1 in
     (two.own ∙ ap status_at done ∙ sym one.own, same.0)
 
@@ -220,16 +220,16 @@ pub resume_writes_as_drive : ResumeWritesAsDrive
 resume_writes_as_drive content words others pair log text p input status other_status written other ask ask_drive one_of good shaped acceptable came none few well also =
     let protocol = manner_of words in
     let can : IsRecoverable p (ended_lines text) (moment_given words) = record {
-      told = [];
-      tells = none;
+      recorded = [];
+      parses = none;
       is_run = tt;
       not_past = omega arith;
       acyclic = acceptable.acyclic;
       accepted = λ nothing. acceptable;
     } in
     let one = follows_resumed content words p input few status written well pair log text well.run.read ask good shaped came can well.run.is well.run.follows in
-    let up : IsRecovered p (ended_lines text) None one.taken = subst (λ (a : Option ℕ). IsRecovered p (ended_lines text) a one.taken) one_of.none_given one.up in
-    let (answer, is_text, whole) = a_log_without_events_is_driven p protocol (ended_lines text) one.taken input written one.state none up one.is_text in
+    let up : IsRecovered p (ended_lines text) None one.recovered = subst (λ (a : Option ℕ). IsRecovered p (ended_lines text) a one.recovered) one_of.none_given one.up in
+    let (answer, is_text, whole) = a_log_without_events_is_driven p protocol (ended_lines text) one.recovered input written one.state none up one.is_text in
     let two : Wrote p protocol input other_status other =
     subst (λ (m : Protocol). Wrote p m input other_status other) (sym (one_manner words others one_of))
     (follows_wrote content others p input few other_status other also pair also.run.read ask_drive good shaped acceptable also.run.is also.run.follows) in

@@ -13,7 +13,7 @@ use Rattle.plan_verifier.specs.Accepted.{VerifiedPlan, IsAcceptable}
 use Rattle.cell_drive.specs.declared.protocol.Protocol.{Protocol}
 use Rattle.cell_drive.specs.declared.begin.DriveEnd.{DriveEnd}
 use Rattle.byte_streams.specs.declared.drive_fault.DriveFault.{DriveFault}
-use Rattle.byte_streams.specs.declared.drive_fault.DriveFault.TheVariants.{Read as NotRead, Write as NotWritten, InputTooLong as TooLong, Memory as WantOfMemory}
+use Rattle.byte_streams.specs.declared.drive_fault.DriveFault.TheVariants.{Read as NotRead, Write as NotWritten, InputTooLong as TooLong, Memory as OutOfMemory}
 use Rattle.byte_streams.specs.declared.rooms.TheConstants.{MAX_PIECE}
 use Rattle.byte_streams.specs.Lines.{input_lines}
 use Rattle.byte_streams.specs.Streams.{IsStreamed}
@@ -188,7 +188,7 @@ module _ (content : List ℕ → Result (List ℕ) CommandFault) (words : List (
     never_broke TooLong is answer =
         let less = fewer well.before.streams.input.left mid.input.left input is.input well.given is.was_read in
         absurd (omega (arith, less, few, is.comes_to.0))
-    never_broke WantOfMemory is answer = absurd (well.no_want (memory_ends outcome mid.output well.after.streams.output well.before.errors well.after.errors status answer ends))
+    never_broke OutOfMemory is answer = absurd (well.no_want (memory_ends outcome mid.output well.after.streams.output well.before.errors well.after.errors status answer ends))
 
   so_far_of : (v : VerifiedPlan) (state : SessionState) (end : DriveEnd) → v.planned ≡ p → IsEndOf v state end → IsSoFar p state.log.entries end.done end.last end.left
   so_far_of v state end same is =
@@ -237,7 +237,7 @@ module _ (content : List ℕ → Result (List ℕ) CommandFault) (words : List (
       (subst (λ (n : CommandName). EndsBy (draws n chosen.svg) follows.outcome follows.mid.output well.after.streams.output well.before.errors well.after.errors status) name
       (own_ends chosen follows.outcome _ _ _ _ follows.own status well.log (no_log words pair chosen ask are.chosen) follows.status_is follows.ends))
   follows_wrote pair (Err (Usage help text)) ask good shaped acceptable are follows =
-      absurd (let told = subst (λ kinds. NamesOneOf kinds (Usage help text)) ask.taken are.refused in told.1)
+      absurd (let told = subst (λ kinds. NamesOneOf kinds (Usage help text)) ask.accepted are.refused in told.1)
   follows_wrote pair (Err NoWordsMemory) ask good shaped acceptable are follows = absurd (well.no_want (memory_status well.before.errors well.after.errors status follows.0.1))
 
 -- ---- two runs

@@ -5,7 +5,7 @@ use Rattle.shop_base.specs.declared.shape_fault.ShapeFault.{ShapeFault}
 use Rattle.shop_base.specs.Plan.{PlannedShop}
 use Rattle.plan_verifier.specs.declared.verdict.Verdict.TheVariants.{Accepted, Refused}
 use Rattle.byte_streams.specs.declared.drive_fault.DriveFault.{DriveFault}
-use Rattle.byte_streams.specs.declared.drive_fault.DriveFault.TheVariants.{Read as NotRead, Write as NotWritten, InputTooLong as TooLong, Memory as WantOfMemory}
+use Rattle.byte_streams.specs.declared.drive_fault.DriveFault.TheVariants.{Read as NotRead, Write as NotWritten, InputTooLong as TooLong, Memory as OutOfMemory}
 use Rattle.cell_drive.specs.declared.begin.DriveEnd.{DriveEnd}
 use Rattle.cell_drive.specs.declared.resume.RestEnd.{RestEnd}
 use Rattle.cell_drive.specs.declared.protocol.Protocol.{Protocol}
@@ -125,32 +125,32 @@ has_ended false (Ok answer) is = omega (arith, is.1)
 has_ended true (Err fault) is = absurd is
 has_ended false (Err fault) is = absurd is
 
-has_driven : (log_failed : Bool) (done : Result Bool DriveFault) (outcome : Result Answer CommandFault) → done ≢ Err WantOfMemory → IsLoggedAnswer log_failed done outcome → HasMemory outcome
+has_driven : (log_failed : Bool) (done : Result Bool DriveFault) (outcome : Result Answer CommandFault) → done ≢ Err OutOfMemory → IsLoggedAnswer log_failed done outcome → HasMemory outcome
 has_driven log_failed (Ok done) outcome memory is = has_ended done outcome is
 has_driven log_failed (Err NotRead) outcome memory is = has_fault Read outcome is tt
 has_driven true (Err NotWritten) outcome memory is = has_fault Log outcome is tt
 has_driven false (Err NotWritten) outcome memory is = has_fault Write outcome is tt
 has_driven log_failed (Err TooLong) outcome memory is = has_fault InputTooLong outcome is tt
-has_driven log_failed (Err WantOfMemory) outcome memory is = absurd (memory refl)
+has_driven log_failed (Err OutOfMemory) outcome memory is = absurd (memory refl)
 
-end_has : (end : Result DriveEnd DriveFault) → end ≢ Err WantOfMemory → end_of_drive end ≢ Err WantOfMemory
+end_has : (end : Result DriveEnd DriveFault) → end ≢ Err OutOfMemory → end_of_drive end ≢ Err OutOfMemory
 end_has (Ok end) memory is = cc is
-end_has (Err fault) memory is = let same : fault ≡ WantOfMemory = cc is in memory (ap Err same)
+end_has (Err fault) memory is = let same : fault ≡ OutOfMemory = cc is in memory (ap Err same)
 
-rest_has : (end : Result RestEnd DriveFault) → end ≢ Err WantOfMemory → end_of_rest end ≢ Err WantOfMemory
+rest_has : (end : Result RestEnd DriveFault) → end ≢ Err OutOfMemory → end_of_rest end ≢ Err OutOfMemory
 rest_has (Ok end) memory is = cc is
-rest_has (Err fault) memory is = let same : fault ≡ WantOfMemory = cc is in memory (ap Err same)
+rest_has (Err fault) memory is = let same : fault ≡ OutOfMemory = cc is in memory (ap Err same)
 
-after_has : (protocol : Protocol) (t : Recovered) (mid : Output) (told : Result Recovered DriveFault) (step : Step) → ReplaysEvents protocol t step.before.output mid told → GoesOnAfter protocol t mid told step → HasMemory step.outcome
-after_has protocol t mid (Ok done) step tells run = has_driven run.log_failed (end_of_rest run.end) step.outcome (rest_has run.end run.memory) run.answer
-after_has protocol t mid (Err NotWritten) step tells is = has_fault Write step.outcome is.0 tt
-after_has protocol t mid (Err NotRead) step tells is = absurd tells.is
-after_has protocol t mid (Err TooLong) step tells is = absurd tells.is
-after_has protocol t mid (Err WantOfMemory) step tells is = absurd tells.is
+after_has : (protocol : Protocol) (t : Recovered) (mid : Output) (replay : Result Recovered DriveFault) (step : Step) → ReplaysEvents protocol t step.before.output mid replay → GoesOnAfter protocol t mid replay step → HasMemory step.outcome
+after_has protocol t mid (Ok done) step parses run = has_driven run.log_failed (end_of_rest run.end) step.outcome (rest_has run.end run.memory) run.answer
+after_has protocol t mid (Err NotWritten) step parses is = has_fault Write step.outcome is.0 tt
+after_has protocol t mid (Err NotRead) step parses is = absurd parses.is
+after_has protocol t mid (Err TooLong) step parses is = absurd parses.is
+after_has protocol t mid (Err OutOfMemory) step parses is = absurd parses.is
 
-recovered_has : (p : PlannedShop) (protocol : Protocol) (at : Option ℕ) (text : List ℕ) (taken : Result Recovered RecoverFault) (step : Step) → RecoversLog p at text taken → ContinuesRecovered p protocol text taken step
+recovered_has : (p : PlannedShop) (protocol : Protocol) (at : Option ℕ) (text : List ℕ) (recovered : Result Recovered RecoverFault) (step : Step) → RecoversLog p at text recovered → ContinuesRecovered p protocol text recovered step
     → IsChanged step.log → HasMemory step.outcome
-recovered_has p protocol at text (Ok t) step takes on changed = after_has protocol t on.mid on.told step on.tells on.goes_on
+recovered_has p protocol at text (Ok t) step takes on changed = after_has protocol t on.mid on.replay step on.parses on.goes_on
 recovered_has p protocol at text (Err (Resume fault)) step takes is changed = never_changed step.log (Some (NotRecovered p text (Resume fault))) step.outcome is.1.is (λ bad. bad) changed
 recovered_has p protocol at text (Err (NoTornEnd lines)) step takes is changed = never_changed step.log (Some (NotRecovered p text (NoTornEnd lines))) step.outcome is.1.is (λ bad. bad) changed
 recovered_has p protocol at text (Err (File fault)) step takes is changed =
@@ -175,7 +175,7 @@ module _ (folder after : Folder) (path : List ℕ) (protocol : Protocol) (at : O
   fitting_has : (p : PlannedShop) (there : Option (List ℕ)) (step : Step) → DrivesFitting folder after path protocol at p there step → IsChanged step.log → HasMemory step.outcome
   fitting_has p None step is = begins_has p false step is
   fitting_has p (Some []) step is = begins_has p true step is
-  fitting_has p (Some (byte ∷ bytes)) step is = recovered_has p protocol at (byte ∷ bytes) is.0.taken step is.0.takes is.0.goes_on
+  fitting_has p (Some (byte ∷ bytes)) step is = recovered_has p protocol at (byte ∷ bytes) is.0.recovered step is.0.takes is.0.goes_on
 
   as_has : (misfit : Option Misfit) (p : PlannedShop) (there : Option (List ℕ)) (step : Step) → DrivesAs folder after path misfit protocol at p there step → IsChanged step.log → HasMemory step.outcome
   as_has (Some misfit) p there step is = never_changed step.log (option_map Found there) step.outcome is.1.is (found_unchanged there)

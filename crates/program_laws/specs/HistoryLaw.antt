@@ -43,8 +43,8 @@ pub record AskForLog (words : List (List ℕ)) (pair : PairOfFiles) (log : List 
 
 -- of a log with bytes, from which the run is taken up by the plan that the files tell, its whole lines are told, with the line of the plan behind them unless it is their last one; and behind what the output has taken the events that are told again
 abbrev pub OldLogHasHistory : Type 0
-OldLogHasHistory = (content : List ℕ → Result (List ℕ) CommandFault) (words : List (List ℕ)) (pair : PairOfFiles) (log : List ℕ) (byte : ℕ) (bytes base : List ℕ) (p : PlannedShop) (taken : Recovered)
+OldLogHasHistory = (content : List ℕ → Result (List ℕ) CommandFault) (words : List (List ℕ)) (pair : PairOfFiles) (log : List ℕ) (byte : ℕ) (bytes base : List ℕ) (p : PlannedShop) (recovered : Recovered)
     (before : Devices (List (List ℕ))) (logs : List NamedLog) (start : List ℕ)
     → AskForLog words pair log → ParseAsPlan content pair p → before.texts ≡ [] → before.folder.logs ≡ Some logs → before.streams.output.written ≡ Some start → held logs log ≡ Some (byte ∷ bytes)
-    → IsRecovered p (ended_lines (whole_lines (byte ∷ bytes))) (moment_given words) taken → IsNamedFor (digits_in p) (whole_lines (byte ∷ bytes)) base
-    → IsHistoryOfWords (Shelf content) words before (base, start ++ replay_text (manner_of words) taken)
+    → IsRecovered p (ended_lines (whole_lines (byte ∷ bytes))) (moment_given words) recovered → IsNamedFor (digits_in p) (whole_lines (byte ∷ bytes)) base
+    → IsHistoryOfWords (Shelf content) words before (base, start ++ replay_text (manner_of words) recovered)

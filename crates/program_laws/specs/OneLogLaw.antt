@@ -23,7 +23,7 @@ ANewLogIsOfOneRun = (p : PlannedShop) (protocol : Protocol) (base : List ℕ) (l
 
 -- so it is with a log from which a run was taken up by its own plan, without a moment, and to which what came since was added
 abbrev pub ARecoveredLogIsOfOneRun : Type 0
-ARecoveredLogIsOfOneRun = (p : PlannedShop) (protocol : Protocol) (base : List ℕ) (taken : Recovered) (lines : List (Option (List ℕ))) (answers closing shown pending left : List ℕ) (end : DrivenCell)
-    → whole_lines base ≡ base → IsRecoveredByItsPlan p taken → IsRecovered p (ended_lines base) None taken
-    → AreAnswered p protocol (driven_so_far p taken.log.entries) lines answers end → IsGiven p (due_text taken ++ answers) shown pending closing end
+ARecoveredLogIsOfOneRun = (p : PlannedShop) (protocol : Protocol) (base : List ℕ) (recovered : Recovered) (lines : List (Option (List ℕ))) (answers closing shown pending left : List ℕ) (end : DrivenCell)
+    → whole_lines base ≡ base → IsRecoveredByItsPlan p recovered → IsRecovered p (ended_lines base) None recovered
+    → AreAnswered p protocol (driven_so_far p recovered.log.entries) lines answers end → IsGiven p (due_text recovered ++ answers) shown pending closing end
     → IsLeft (length (base ++ logged shown)) (base ++ logged (shown ++ pending)) left → IsCutFrom p (whole_lines left) end.entries

@@ -14,7 +14,7 @@ use Rattle.command_run.specs.Laws.{ParseAsPlan, AskForDrive, RunsWell}
 
 -- the words ask for `resume` with these files and this log
 pub record AskForResume (words : List (List ℕ)) (pair : PairOfFiles) (log : List ℕ) : Type 0 where
-  pub taken : reasons_in words ≡ []
+  pub accepted : reasons_in words ≡ []
   pub resume : word_found (found_in words) ≡ word_of Resume
   pub path : pair.path ≡ get_or (files_in (rows_found (found_in words))) 0 []
   pub name : pair.name ≡ instance_in (rows_found (found_in words))

@@ -92,9 +92,9 @@ event_logged front more (OrderEntry order) found =
     ap (λ l. is_logged (l ++ more)) (end.1 ∙ ap (λ l. l ++ end.0) first.1)
 
 none_parsed : (p : PlannedShop) (front more : List ℕ) (own : List Entry) → is_logged (front ++ more) ≡ false → LineParses p (without_return front) own → own ≡ []
-none_parsed p front more [] not tells = refl
-none_parsed p front more (entry ∷ []) not tells = let is = event_logged front more entry tells.1 in absurd (cc (sym is ∙ not))
-none_parsed p front more (entry ∷ next ∷ own) not tells = absurd tells
+none_parsed p front more [] not parses = refl
+none_parsed p front more (entry ∷ []) not parses = let is = event_logged front more entry parses.1 in absurd (cc (sym is ∙ not))
+none_parsed p front more (entry ∷ next ∷ own) not parses = absurd parses
 
 none_logged : (front : List ℕ) → HasNone 10 front → HasNone 10 (logged_line front ++ [])
 none_logged front none = elim (cases_Bool (is_logged front)) [
@@ -105,16 +105,16 @@ none_logged front none = elim (cases_Bool (is_logged front)) [
 -- what a log gets of a text tells what the text tells
 module _ (p : PlannedShop) where
   parses_logged : (front text : List ℕ) (recorded : List Entry) → HasNone 10 front → LinesParse p (ended_behind front text) recorded → LinesParse p (ended_lines (logged_line front ++ added front text)) recorded
-  parses_logged front [] recorded none tells = subst (λ lines. LinesParse p lines recorded) (sym (ended-none (logged_line front ++ []) (none_logged front none))) tells
-  parses_logged front (b ∷ text) recorded none tells = elim (cases_Bool (b == 10)) [
+  parses_logged front [] recorded none parses = subst (λ lines. LinesParse p lines recorded) (sym (ended-none (logged_line front ++ []) (none_logged front none))) parses
+  parses_logged front (b ∷ text) recorded none parses = elim (cases_Bool (b == 10)) [
     | inl feed ↦
-        let line : LinesParse p (without_return front ∷ ended_behind [] text) recorded = chosen front b text recorded true feed tells in
+        let line : LinesParse p (without_return front ∷ ended_behind [] text) recorded = chosen front b text recorded true feed parses in
         let text_is : logged_line front ++ added front (b ∷ text) ≡ logged_line (front ++ b ∷ []) ++ added [] text =
         ap (λ l. logged_line front ++ (more front b ++ added l text)) (rw feed refl) ∙ sym (append_assoc (logged_line front) (more front b) (added [] text)) ∙ ap (λ l. l ++ added [] text) (sym (logged_line-more front b)) in
         let rest = parses_logged [] text line.1 tt line.3 in
         subst (λ l. LinesParse p (ended_lines l) recorded) (sym text_is) (ended_parsed front b text recorded none feed line rest)
     | inr other ↦
-        let line : LinesParse p (ended_behind (front ++ b ∷ []) text) recorded = chosen front b text recorded false other tells in
+        let line : LinesParse p (ended_behind (front ++ b ∷ []) text) recorded = chosen front b text recorded false other parses in
         let text_is : logged_line front ++ added front (b ∷ text) ≡ logged_line (front ++ b ∷ []) ++ added (front ++ b ∷ []) text =
         ap (λ l. logged_line front ++ (more front b ++ added l text)) (rw other refl) ∙ sym (append_assoc (logged_line front) (more front b) (added (front ++ b ∷ []) text))
         ∙ ap (λ l. l ++ added (front ++ b ∷ []) text) (sym (logged_line-more front b)) in
@@ -123,7 +123,7 @@ module _ (p : PlannedShop) where
     where
       chosen : (front : List ℕ) (b : ℕ) (text : List ℕ) (recorded : List Entry) (test : Bool) → (b == 10) ≡ test → LinesParse p (ended_behind front (b ∷ text)) recorded
           → LinesParse p (if test then without_return front ∷ ended_behind [] text else ended_behind (front ++ b ∷ []) text) recorded
-      chosen front b text recorded test is tells = subst (λ (t : Bool). LinesParse p (if t then without_return front ∷ ended_behind [] text else ended_behind (front ++ b ∷ []) text) recorded) is tells
+      chosen front b text recorded test is parses = subst (λ (t : Bool). LinesParse p (if t then without_return front ∷ ended_behind [] text else ended_behind (front ++ b ∷ []) text) recorded) is parses
 
       ended_parsed : (front : List ℕ) (b : ℕ) (text : List ℕ) (recorded : List Entry) → HasNone 10 front → (b == 10) ≡ true → (line : LinesParse p (without_return front ∷ ended_behind [] text) recorded)
           → LinesParse p (ended_lines (added [] text)) line.1 → LinesParse p (ended_lines (logged_line (front ++ b ∷ []) ++ added [] text)) recorded
@@ -137,7 +137,7 @@ module _ (p : PlannedShop) where
       ]
 
   logged_parses : (text : List ℕ) (recorded : List Entry) → LinesParse p (ended_lines text) recorded → LinesParse p (ended_lines (logged text)) recorded
-  logged_parses text recorded tells = subst (λ l. LinesParse p (ended_lines l) recorded) (sym (added_all text)) (parses_logged [] text recorded tt (subst (λ lines. LinesParse p lines recorded) (ended_is [] text tt) tells))
+  logged_parses text recorded parses = subst (λ l. LinesParse p (ended_lines l) recorded) (sym (added_all text)) (parses_logged [] text recorded tt (subst (λ lines. LinesParse p lines recorded) (ended_is [] text tt) parses))
 
   pub parse-both : (before after : List (List ℕ)) (a b : List Entry) → LinesParse p before a → LinesParse p after b → LinesParse p (before ++ after) (a ++ b)
   parse-both [] after a b first second = subst (λ t. LinesParse p after (t ++ b)) (sym first) second
@@ -174,7 +174,7 @@ left_log p base shown pending left recorded came whole is parses_base parses_cam
       kept = inner.1;
       lost = parts.1;
       came_so = append_cancel_left recorded came (inner.1 ++ parts.1) split;
-      tells = subst (λ t. LinesParse p (ended_lines left) t) kept (subst (λ lines. LinesParse p lines parts.0) (sym lines_left) parts.2);
+      parses = subst (λ t. LinesParse p (ended_lines left) t) kept (subst (λ lines. LinesParse p lines parts.0) (sym lines_left) parts.2);
       has_shown = λ entries parses_shown. (
         deeper.1,
         deeper.4 ∙ ap (λ t. t ++ deeper.1) (one_reading p (ended_lines (logged shown)) deeper.0 entries deeper.2 (logged_parses p shown entries parses_shown)),

@@ -136,13 +136,13 @@ pub plan_parses : (p : PlannedShop) (digits : RunDigits) → AreDigits digits �
 plan_parses p digits are = subst (λ (lines : List (List ℕ)). LinesParse p lines []) (sym (plan_ended digits are)) ([], [], refl, refl, refl)
 
 -- the lines with that of a plan tell what they told
-pub named_parses : (p : PlannedShop) (digits : RunDigits) (lines base : List ℕ) (told : List Entry) → AreDigits digits → whole_lines lines ≡ lines → IsNamedFor digits lines base → LinesParse p (ended_lines lines) told
-    → LinesParse p (ended_lines base) told
-named_parses p digits lines base told are whole (inl is) tells = subst (λ (l : List ℕ). LinesParse p (ended_lines l) told) (sym is.1) tells
-named_parses p digits lines base told are whole (inr is) tells =
+pub named_parses : (p : PlannedShop) (digits : RunDigits) (lines base : List ℕ) (recorded : List Entry) → AreDigits digits → whole_lines lines ≡ lines → IsNamedFor digits lines base → LinesParse p (ended_lines lines) recorded
+    → LinesParse p (ended_lines base) recorded
+named_parses p digits lines base recorded are whole (inl is) parses = subst (λ (l : List ℕ). LinesParse p (ended_lines l) recorded) (sym is.1) parses
+named_parses p digits lines base recorded are whole (inr is) parses =
     let ended : ended_lines base ≡ ended_lines lines ++ ended_lines (plan_line digits) = ap ended_lines is.1 ∙ ended_is [] (lines ++ plan_line digits) tt ∙ ended-base lines (plan_line digits) whole in
-    subst (λ (ls : List (List ℕ)). LinesParse p ls told) (sym ended)
-    (subst (λ (es : List Entry). LinesParse p (ended_lines lines ++ ended_lines (plan_line digits)) es) (append-nil told) (parse-both p (ended_lines lines) (ended_lines (plan_line digits)) told [] tells (plan_parses p digits are)))
+    subst (λ (ls : List (List ℕ)). LinesParse p ls recorded) (sym ended)
+    (subst (λ (es : List Entry). LinesParse p (ended_lines lines ++ ended_lines (plan_line digits)) es) (append-nil recorded) (parse-both p (ended_lines lines) (ended_lines (plan_line digits)) recorded [] parses (plan_parses p digits are)))
 
 -- ---- folders
 

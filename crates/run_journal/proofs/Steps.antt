@@ -14,8 +14,8 @@ use Rattle.run_journal.specs.Logged.{AreInitial, IsSoFar, IsSound, OnKept, OnLog
 use Rattle.run_journal.proofs.Fronts.{durable_leaves, fewer_left, if_some-map}
 use Rattle.run_journal.proofs.Selected.{logged-front, got_next, stands_next}
 
-pub told : {X : Type 0} (o : Option X) (x : X) (P : X → Type 0) → o ≡ Some x → IfSome o P → P x
-told o x P is p = subst (λ o. IfSome o P) is p
+pub known : {X : Type 0} (o : Option X) (x : X) (P : X → Type 0) → o ≡ Some x → IfSome o P → P x
+known o x P is p = subst (λ o. IfSome o P) is p
 
 grown : (a b : Option (List ℕ)) (xs bs : List ℕ) → a ≡ Some xs → Appends a b bs → b ≡ Some (xs ++ bs)
 grown None b xs bs is added = absurd (cc is)
@@ -40,7 +40,7 @@ starts before seen crash_states written buffered capacity events_capacity select
       output = both.1 ∙ ap Some (sym (append-nil b.1));
       log = λ yes. both.0 ∙ ap Some (sym (append-nil b.0));
       crash = fewer_left crash_states (length b.0) (length (b.0 ++ [])) (b.0 ++ []) (b.0 ++ logged (drop 0 buffered)) (omega (arith, ap length (append-nil b.0))) (ap (λ l. b.0 ++ logged (drop 0 l)) none)
-          (durable_leaves crash_states b.0 [] (told seen b.0 (λ f. (left : List ℕ) → crash_states left → left ≡ f) both.0 durable));
+          (durable_leaves crash_states b.0 [] (known seen b.0 (λ f. (left : List ℕ) → crash_states left → left ≡ f) both.0 durable));
     };
     line = λ yes. subst (λ (s : Selected). IsStanding s.standing s.front []) (sym first) (refl, refl, omega arith);
   }) are;
@@ -72,7 +72,7 @@ module _ (before : Option (List ℕ × List ℕ)) (seen : Option (List ℕ)) (cr
             log = step.log;
             crash = fewer_left crash_states (length file) (length file) (file ++ rest.0) (b.0 ++ logged (step.shown ++ drop sent now)) (omega arith)
                 (ap (λ l. b.0 ++ l) rest.1 ∙ sym (append_assoc b.0 (logged step.shown) rest.0))
-                (durable_leaves crash_states file rest.0 (told seen file (λ f. (left : List ℕ) → crash_states left → left ≡ f) (step.log unfailed) (sound.durable unfailed)));
+                (durable_leaves crash_states file rest.0 (known seen file (λ f. (left : List ℕ) → crash_states left → left ≡ f) (step.log unfailed) (sound.durable unfailed)));
           };
           line = so_far.line;
         }) sound.so_far;
@@ -108,7 +108,7 @@ module _ (before : Option (List ℕ × List ℕ)) (seen : Option (List ℕ)) (cr
               log = λ no. absurd (cc no);
               crash = fewer_left crash_states_now (length file) (length file) (file ++ events) (b.0 ++ logged (step.shown ++ drop sent buffered)) (omega arith)
                   (ap (λ l. b.0 ++ logged (step.shown ++ l)) all_pending ∙ sym (all_events b so_far))
-                  (told seen file (λ f. Leaves crash_states_now (length f) (f ++ events)) (step.log unfailed) crash);
+                  (known seen file (λ f. Leaves crash_states_now (length f) (f ++ events)) (step.log unfailed) crash);
             };
             line = λ no. absurd (cc no);
           }) sound.so_far;
@@ -118,14 +118,14 @@ module _ (before : Option (List ℕ × List ℕ)) (seen : Option (List ℕ)) (cr
       -- where the log has them all, a crash leaves just these
       has_all : (b : List ℕ × List ℕ) (so_far : IsSoFar b.0 b.1 seen crash_states written (drop sent buffered) failed selected)
           → seen_now ≡ Some (b.0 ++ logged (so_far.step.shown ++ buffered))
-      has_all b so_far = told seen (b.0 ++ logged so_far.step.shown) (λ file. seen_now ≡ Some (file ++ events)) (so_far.step.log unfailed) kept ∙ ap Some (all_events b so_far)
+      has_all b so_far = known seen (b.0 ++ logged so_far.step.shown) (λ file. seen_now ≡ Some (file ++ events)) (so_far.step.log unfailed) kept ∙ ap Some (all_events b so_far)
 
       leaves_all : (b : List ℕ × List ℕ) (so_far : IsSoFar b.0 b.1 seen crash_states written (drop sent buffered) failed selected)
           → Leaves crash_states_now (length (b.0 ++ logged (so_far.step.shown ++ buffered))) (b.0 ++ logged (so_far.step.shown ++ buffered))
       leaves_all b so_far =
           let file = b.0 ++ logged (so_far.step.shown ++ buffered) in
           fewer_left crash_states_now (length file) (length file) (file ++ []) file (omega arith) (sym (append-nil file))
-          (durable_leaves crash_states_now file [] (told seen_now file (λ f. (left : List ℕ) → crash_states_now left → left ≡ f) (has_all b so_far) durable))
+          (durable_leaves crash_states_now file [] (known seen_now file (λ f. (left : List ℕ) → crash_states_now left → left ≡ f) (has_all b so_far) durable))
 
       -- and the output took only some
       pub not_shown : (written_now : Option (List ℕ)) (out : ℕ) → out ≤ length buffered → Appends written written_now (take out buffered)

@@ -45,7 +45,7 @@ handed_if false folder = folder
 
 -- once a call has failed
 abbrev pub with_fault : FileFault → Folder → Folder
-with_fault told folder = record folder { fault = Some told }
+with_fault cause folder = record folder { fault = Some cause }
 
 -- with a log of this path that was just made
 abbrev pub with_made : List ℕ → Folder → Folder
@@ -62,8 +62,8 @@ with_name path folder = record folder { logs = option_map (named_in path) folder
 
 -- why a log isn't opened or made: it can't be, another process has it, or memory ran out
 abbrev pub IsOpenFault : FileFault → Type 0
-IsOpenFault told = (told ≡ Log) ⊎ (told ≡ InUse) ⊎ (told ≡ Memory)
+IsOpenFault cause = (cause ≡ Log) ⊎ (cause ≡ InUse) ⊎ (cause ≡ Memory)
 
 -- why a name isn't put onto the disk
 abbrev pub IsDiskFault : FileFault → Type 0
-IsDiskFault told = (told ≡ Log) ⊎ (told ≡ Memory)
+IsDiskFault cause = (cause ≡ Log) ⊎ (cause ≡ Memory)

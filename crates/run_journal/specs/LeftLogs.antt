@@ -13,7 +13,7 @@ pub record HasShownEvents (p : PlannedShop) (recorded came : List Entry) (shown 
   pub kept : List Entry
   pub lost : List Entry
   pub came_so : came ≡ kept ++ lost
-  pub tells : LinesParse p (ended_lines left) (recorded ++ kept)
+  pub parses : LinesParse p (ended_lines left) (recorded ++ kept)
   pub has_shown : (entries : List Entry) → LinesParse p (ended_lines shown) entries → (more : List Entry) × (kept ≡ entries ++ more)
 
 -- whole lines told some events; a text came that tells others, some of it was shown, and the log got what it gets. Whatever a crash leaves is such a log

@@ -29,8 +29,8 @@ LeavesNoMore before after = (left : List ℕ) → after left → before left
 
 -- why a file isn't read
 abbrev pub IsReadFault : FileFault → Type 0
-IsReadFault told = (told ≡ Read) ⊎ (told ≡ TooLong) ⊎ (told ≡ Memory)
+IsReadFault cause = (cause ≡ Read) ⊎ (cause ≡ TooLong) ⊎ (cause ≡ Memory)
 
 -- it wasn't written, cut or synced, and says so
 abbrev pub HasFailed : Option FileFault → FileFault → Type 0
-HasFailed fault told = (told ≡ Log) × (fault ≡ Some Log)
+HasFailed fault cause = (cause ≡ Log) × (fault ≡ Some Log)

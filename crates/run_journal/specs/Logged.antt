@@ -44,11 +44,11 @@ HoldsNothing pending failed = (pending ≡ []) ⊎ (failed ≡ true)
 
 -- where it is told what they held
 abbrev pub StayInStep : Option (List ℕ × List ℕ) → Option (List ℕ) → (List ℕ → Type 0) → Held → Type 0
-StayInStep before seen crash_states held = IfSome before (λ told. AreInStep told.0 told.1 seen crash_states held.written held.pending held.failed)
+StayInStep before seen crash_states held = IfSome before (λ known. AreInStep known.0 known.1 seen crash_states held.written held.pending held.failed)
 
 -- the log and the output hold what is told of them
 abbrev pub AreInitial : Option (List ℕ × List ℕ) → Option (List ℕ) → Option (List ℕ) → Type 0
-AreInitial before seen written = IfSome before (λ told. (seen ≡ Some told.0) × (written ≡ Some told.1))
+AreInitial before seen written = IfSome before (λ known. (seen ≡ Some known.0) × (written ≡ Some known.1))
 
 -- so far that is so, and it is known whether the log gets the line that is being shown
 pub record IsSoFar (base start : List ℕ) (seen : Option (List ℕ)) (crash_states : List ℕ → Type 0) (written : Option (List ℕ)) (pending : List ℕ) (failed : Bool) (selected : Selected) : Type 0 where
@@ -66,7 +66,7 @@ pub record IsSound (before : Option (List ℕ × List ℕ)) (seen : Option (List
   pub few_open : length selected.front < DECIDING
   pub none_out : failed ≡ false → sent ≡ 0
   pub durable : failed ≡ false → IsDurable seen crash_states
-  pub so_far : IfSome before (λ told. IsSoFar told.0 told.1 seen crash_states written (drop sent buffered) failed selected)
+  pub so_far : IfSome before (λ known. IsSoFar known.0 known.1 seen crash_states written (drop sent buffered) failed selected)
 
 -- where the log has what it gets, whether the output then takes all or not
 abbrev pub OnKept : Result (Unit {0}) Unflushed → Type 0 → Type 0

@@ -30,12 +30,12 @@ pub trait LogFile {
         ensures bytes { IfOk result (λ bytes. IfSome (seen self.old) (λ file. bytes.items ≡ file)) }
         ensures within { IfOk result (λ bytes. length bytes.items ≤ most) }
         ensures too_long { IfErr result
-            (λ told. told ≡ FileFault.TooLong → IfSome (seen self.old) (λ file. most < length file)) }
+            (λ cause. cause ≡ FileFault.TooLong → IfSome (seen self.old) (λ file. most < length file)) }
         ensures seen { seen self.new ≡ seen self.old }
         ensures crash { LeavesNoMore (crash_states self.old) (crash_states self.new) }
         ensures written { written self.new ≡ written self.old }
         ensures unfailed { OnOk result (fault self.new ≡ fault self.old) }
-        ensures failed { IfErr result (λ told. IsReadFault told × (fault self.new ≡ Some told)) };
+        ensures failed { IfErr result (λ cause. IsReadFault cause × (fault self.new ≡ Some cause)) };
 
     /// Appends to a file that is synced. Until the next sync a crash may leave only the first of these bytes, and zeros
     /// in place of the others.

@@ -23,7 +23,7 @@ pub trait Logs {
         ensures unwritten { IfOk result (λ opened. IfSome opened (λ log. Self.Log.written log ≡ false)) }
         ensures opened { IfOk result (λ opened. folder self.new ≡ handed_if (is_some opened) (folder self.old)) }
         ensures failed { IfErr result
-            (λ told. IsOpenFault told × (folder self.new ≡ with_fault told (folder self.old))) };
+            (λ cause. IsOpenFault cause × (folder self.new ≡ with_fault cause (folder self.old))) };
 
     /// Makes a log of this path, where there is none: it has no bytes, and is locked.
     fn make(&mut self, path: &str) -> Result<Self::Log, FileFault>
@@ -31,16 +31,17 @@ pub trait Logs {
         ensures durable { IfOk result (λ log. IsDurable (Self.Log.seen log) (Self.Log.crash_states log)) }
         ensures unfailed { IfOk result (λ log. Self.Log.fault log ≡ None) }
         ensures unwritten { IfOk result (λ log. Self.Log.written log ≡ false) }
-        ensures told { IfOk result (λ log. IfSome (folder self.old).logs (λ _. Self.Log.seen log ≡ Some [])) }
+        ensures known { IfOk result (λ log. IfSome (folder self.old).logs (λ _. Self.Log.seen log ≡ Some [])) }
         ensures none { OnOk result (IfSome (folder self.old).logs (λ logs. held logs path.now ≡ None)) }
         ensures made { OnOk result (folder self.new ≡ handed (with_made path.now (folder self.old))) }
-        ensures failed { IfErr result (λ told. IsOpenFault told × ((folder self.new ≡ with_fault told (folder self.old))
-            ⊎ (folder self.new ≡ with_fault told (with_made path.now (folder self.old))))) };
+        ensures failed { IfErr result
+            (λ cause. IsOpenFault cause × ((folder self.new ≡ with_fault cause (folder self.old))
+            ⊎ (folder self.new ≡ with_fault cause (with_made path.now (folder self.old))))) };
 
     /// Puts the name of the log of this path onto the disk, where there is one.
     fn sync_name(&mut self, path: &str) -> Result<(), FileFault>
         ensures named { OnOk result (IfSome (folder self.new).logs (λ logs. is_named logs path.now ≡ true)) }
         ensures others { OnOk result (folder self.new ≡ with_name path.now (folder self.old)) }
         ensures failed { IfErr result
-            (λ told. IsDiskFault told × (folder self.new ≡ with_fault told (folder self.old))) };
+            (λ cause. IsDiskFault cause × (folder self.new ≡ with_fault cause (folder self.old))) };
 }

@@ -104,7 +104,7 @@ pub fn read_log<D: LogFile>(alloc: Global, log: &mut D) -> Result<LogText, FileF
     ensures unfailed { OnOk result (D.fault log.new ≡ None) }
     ensures failed { IfErr result (IsOfLog (D.fault log.new)) }
     ensures too_long { IfErr result
-        (λ told. told ≡ FileFault.TooLong → IfSome (D.seen log.old) (λ file. MAX_INPUT < length file)) }
+        (λ cause. cause ≡ FileFault.TooLong → IfSome (D.seen log.old) (λ file. MAX_INPUT < length file)) }
 {
     // A process that was killed may have left bytes that are read, but aren't on the disk yet.
     log.sync()?;
@@ -148,7 +148,7 @@ pub fn open_log<L: Logs>(
         (λ opened. IfSome opened (λ there. IsDurable (L.Log.seen there.0) (L.Log.crash_states there.0))) }
     ensures unwritten { IfOk result (λ opened. IfSome opened (λ there. L.Log.written there.0 ≡ false)) }
     ensures unfailed { IfOk result (λ opened. IfSome opened (λ there. L.Log.fault there.0 ≡ None)) }
-    ensures told { IfOk result
+    ensures known { IfOk result
         (λ opened. IfSome opened (λ there. IfSome (L.folder logs.old).logs (λ _. L.Log.seen there.0 ≡ Some there.1))) }
     ensures found { IfOk result (λ opened.
         IfSome (L.folder logs.old).logs (λ logs. option_map (λ there. there.1) opened ≡ held logs path.now)) }
@@ -183,10 +183,10 @@ pub fn new_log<L: Logs>(
     requires empty { IfSome opened (λ log. IfSome (L.Log.seen log) (λ file. file ≡ [])) }
     requires durable { IfSome opened (λ log. IsDurable (L.Log.seen log) (L.Log.crash_states log)) }
     requires unfailed { IfSome opened (λ log. L.Log.fault log ≡ None) }
-    requires told { IfSome opened (λ log. IfSome (L.folder logs.old).logs (λ _. L.Log.seen log ≡ Some [])) }
+    requires known { IfSome opened (λ log. IfSome (L.folder logs.old).logs (λ _. L.Log.seen log ≡ Some [])) }
     ensures durable { IfOk result (λ log. IsDurable (L.Log.seen log) (L.Log.crash_states log)) }
     ensures unfailed { IfOk result (λ log. L.Log.fault log ≡ None) }
-    ensures told { IfOk result
+    ensures known { IfOk result
         (λ log. IfSome (L.folder logs.old).logs (λ _. L.Log.seen log ≡ Some (plan_line digits.now))) }
     ensures named { OnOk result (IfSome (L.folder logs.new).logs (λ logs. is_named logs path.now ≡ true)) }
 
@@ -218,10 +218,10 @@ fn had_or_made<L: Logs>(
 ) -> Result<L::Log, FileFault>
     requires durable { IfSome opened (λ log. IsDurable (L.Log.seen log) (L.Log.crash_states log)) }
     requires unfailed { IfSome opened (λ log. L.Log.fault log ≡ None) }
-    requires told { IfSome opened (λ log. IfSome (L.folder logs.old).logs (λ _. L.Log.seen log ≡ Some [])) }
+    requires known { IfSome opened (λ log. IfSome (L.folder logs.old).logs (λ _. L.Log.seen log ≡ Some [])) }
     ensures durable { IfOk result (λ log. IsDurable (L.Log.seen log) (L.Log.crash_states log)) }
     ensures unfailed { IfOk result (λ log. L.Log.fault log ≡ None) }
-    ensures told { IfOk result (λ log. IfSome (L.folder logs.old).logs (λ _. L.Log.seen log ≡ Some [])) }
+    ensures known { IfOk result (λ log. IfSome (L.folder logs.old).logs (λ _. L.Log.seen log ≡ Some [])) }
     ensures made { OnOk result (L.folder logs.new ≡ with_log (is_some opened) path.now (L.folder logs.old)) }
     ensures unmade { IfErr result (IsUnmade (is_some opened) path.now (L.folder logs.old) (L.folder logs.new)) }
     ensures unwritten { IfSome opened (λ had. L.Log.written had ≡ false)
@@ -242,10 +242,10 @@ fn named_log<L: Logs>(
 ) -> Result<L::Log, Unopened<L::Log>>
     requires durable { IsDurable (L.Log.seen log) (L.Log.crash_states log) }
     requires unfailed { L.Log.fault log ≡ None }
-    requires told { IfSome (L.folder logs.old).logs (λ _. L.Log.seen log ≡ Some []) }
+    requires known { IfSome (L.folder logs.old).logs (λ _. L.Log.seen log ≡ Some []) }
     ensures durable { IfOk result (λ named. IsDurable (L.Log.seen named) (L.Log.crash_states named)) }
     ensures unfailed { IfOk result (λ named. L.Log.fault named ≡ None) }
-    ensures told { IfOk result
+    ensures known { IfOk result
         (λ named. IfSome (L.folder logs.old).logs (λ _. L.Log.seen named ≡ Some (plan_line digits.now))) }
     ensures named { OnOk result (IfSome (L.folder logs.new).logs (λ there. is_named there path.now ≡ true)) }
     ensures made { OnOk result (L.folder logs.new ≡ with_name path.now (L.folder logs.old)) }

@@ -11,4 +11,4 @@ IsLineReplayed p line before after = (own : List Entry) × LineParses p line own
 
 -- while a run can have more entries than were told, there is room for one more
 abbrev pub HasRoomForNext : PlannedShop → ℕ → ℕ → Type 0
-HasRoomForNext p told capacity = told < 2 * stated_number p → told < capacity
+HasRoomForNext p recorded capacity = recorded < 2 * stated_number p → recorded < capacity

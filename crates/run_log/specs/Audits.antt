@@ -78,8 +78,8 @@ IsFaultOf p c entry fault = ⊥
 
 -- the line isn't passed over, and tells no event of the shop
 pub record IsBadLine (p : PlannedShop) (line : List ℕ) : Type 0 where
-  pub told : is_passed_over line ≡ false
-  pub untold : ParsesNoEntry p line
+  pub considered : is_passed_over line ≡ false
+  pub unparsed : ParsesNoEntry p line
 
 -- the first fault of a line in a cell
 abbrev pub IsLineFault : PlannedShop → Cell → List ℕ → AuditFault → Type 0
@@ -106,19 +106,19 @@ pub record IsFirstBad (p : PlannedShop) (lines : List (List ℕ)) (fault : Audit
   pub after : List (List ℕ)
   pub split : lines ≡ before ++ line ∷ after
   pub number : fault_line fault ≡ length before + 1
-  pub told : List Entry
-  pub tells : LinesParse p before told
-  pub run : IsRun p (events_of told)
-  pub is_fault : IsLineFault p (ends_in p (events_of told)) line fault
+  pub recorded : List Entry
+  pub parses : LinesParse p before recorded
+  pub run : IsRun p (events_of recorded)
+  pub is_fault : IsLineFault p (ends_in p (events_of recorded)) line fault
 
 -- these entries are a run, and this is the cell at its end
-pub record IsReplayed (p : PlannedShop) (c : Cell) (told : List Entry) : Type 0 where
-  pub run : IsRun p (events_of told)
-  pub cell : c ≡ ends_in p (events_of told)
+pub record IsReplayed (p : PlannedShop) (c : Cell) (recorded : List Entry) : Type 0 where
+  pub run : IsRun p (events_of recorded)
+  pub cell : c ≡ ends_in p (events_of recorded)
 
 -- what an audit found of lines that tell a run
 pub record IsAudit (p : PlannedShop) (lines : List (List ℕ)) (audit : Audit) : Type 0 where
-  pub tells : LinesParse p lines audit.entries.items
+  pub parses : LinesParse p lines audit.entries.items
   pub run : IsRun p (events_of audit.entries.items)
   pub reports : audit.reports ≡ reports_in (events_of audit.entries.items)
   pub orders : audit.orders ≡ moves_in (events_of audit.entries.items)
@@ -132,7 +132,7 @@ IsAuditFault p lines fault = IsFirstBad p lines fault
 
 -- the lines tell a run
 abbrev pub ParseAsRun : PlannedShop → List (List ℕ) → Type 0
-ParseAsRun p lines = (told : List Entry) × LinesParse p lines told × IsRun p (events_of told)
+ParseAsRun p lines = (recorded : List Entry) × LinesParse p lines recorded × IsRun p (events_of recorded)
 
 -- for how many entries an audit of these lines has room: one for each line, but no more than a run can have, which are two for each report of the stated number
 abbrev pub room_for : PlannedShop → List (List ℕ) → ℕ

@@ -37,7 +37,7 @@ pub fn run_of_log<P: Planned>(
 ) -> Result<LoggedRun<P>, AuditFault>
     ensures basis { IfOk result (λ run. run.cell.basis ≡ basis) }
     ensures plan { IfOk result (λ run. run.cell.plan ≡ P.planned basis) }
-    ensures tells { IfOk result (λ run. LinesParse (P.planned basis) (ended_lines text.now) run.entries.items) }
+    ensures parses { IfOk result (λ run. LinesParse (P.planned basis) (ended_lines text.now) run.entries.items) }
     ensures replayed { IfOk result (λ run. IsReplayed (P.planned basis) run.cell.cell run.entries.items) }
     ensures fault { IfErr result (IsAuditFault (P.planned basis) (ended_lines text.now)) }
     ensures only { ParseAsRun (P.planned basis) (ended_lines text.now)
@@ -55,7 +55,7 @@ pub fn run_if_replayed<P: Planned>(
     text: &[u8],
 ) -> Result<Option<LoggedRun<P>>, AllocError>
     ensures plan { IfOk result (λ found. IfSome found (λ run. run.cell.plan ≡ P.planned basis)) }
-    ensures tells { IfOk result (λ found. IfSome found (λ run.
+    ensures parses { IfOk result (λ found. IfSome found (λ run.
         LinesParse (P.planned basis) (ended_lines text.now) run.entries.items)) }
     ensures replayed { IfOk result
         (λ found. IfSome found (λ run. IsReplayed (P.planned basis) run.cell.cell run.entries.items)) }
@@ -80,7 +80,7 @@ pub(crate) fn read_log<P: Planned>(
     ensures basis { IfOk result (λ run. run.cell.basis ≡ basis) }
     ensures plan { IfOk result (λ run. run.cell.plan ≡ P.planned basis) }
     ensures replayed { IfOk result (λ run. IsReplayed (P.planned basis) run.cell.cell run.entries.items) }
-    ensures tells { IfOk result (λ run. LinesParse (P.planned basis) (lines_of text.now) run.entries.items) }
+    ensures parses { IfOk result (λ run. LinesParse (P.planned basis) (lines_of text.now) run.entries.items) }
     ensures room { IfOk result (λ run. vec_capacity run.entries ≡ room) }
     ensures fault { IfErr result (IsAuditFault (P.planned basis) (lines_of text.now)) }
 {
@@ -115,7 +115,7 @@ impl<P: Planned> LoggedRun<P> {
         ensures same_basis { OnOk result (self.new.cell.basis ≡ self.old.cell.basis) }
         ensures same_plan { OnOk result (self.new.cell.plan ≡ self.old.cell.plan) }
         ensures replayed { OnOk result (IsReplayed self.old.cell.plan self.new.cell.cell self.new.entries.items) }
-        ensures tells { OnOk result (LinesParse self.old.cell.plan (lines_of text.now) self.new.entries.items) }
+        ensures parses { OnOk result (LinesParse self.old.cell.plan (lines_of text.now) self.new.entries.items) }
         ensures capacity { OnOk result (vec_capacity self.new.entries ≡ vec_capacity self.old.entries) }
         ensures fault { IfErr result (IsFirstBad self.old.cell.plan (lines_of text.now)) }
     {
@@ -137,7 +137,7 @@ impl<P: Planned> LoggedRun<P> {
         ensures same_basis { OnOk result (self.new.cell.basis ≡ self.old.cell.basis) }
         ensures same_plan { OnOk result (self.new.cell.plan ≡ self.old.cell.plan) }
         ensures replayed { OnOk result (IsReplayed self.old.cell.plan self.new.cell.cell self.new.entries.items) }
-        ensures tells { OnOk result
+        ensures parses { OnOk result
             (IsLineReplayed self.old.cell.plan line.now self.old.entries.items self.new.entries.items) }
         ensures capacity { OnOk result (vec_capacity self.new.entries ≡ vec_capacity self.old.entries) }
         ensures number { IfErr result (λ fault. fault_line fault ≡ number) }

@@ -9,7 +9,7 @@ use Rattle.cell_drive.proofs.recover.take_up.Goals as goal
 
 pub returns-in-Ok-clause-only : goal.returns-in-Ok-clause-only
 returns-in-Ok-clause-only c can =
-    only_want_of c.args.shaped (ended_lines c.args.text.now) c.args.at c.in-Ok.run'.entries.items c.recover_run.result c.in-Ok.ensures.tells c.in-Ok.ensures.replayed.run
+    only_want_of c.args.shaped (ended_lines c.args.text.now) c.args.at c.in-Ok.run'.entries.items c.recover_run.result c.in-Ok.ensures.parses c.in-Ok.ensures.replayed.run
     (subst (λ (p : PlannedShop). IfErr c.recover_run.result (IsRunFault p c.in-Ok.run'.entries.items c.args.at)) c.in-Ok.ensures.plan c.recover_run.ensures.fault) can
 
 pub returns-in-Err-clause-only_fault : goal.returns-in-Err-clause-only_fault

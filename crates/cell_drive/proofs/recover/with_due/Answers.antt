@@ -22,8 +22,8 @@ invariant_of-result c =
       c.requires.room,
     )
 
-pub returns-clause-told : goal.returns-clause-told
-returns-clause-told c =
+pub returns-clause-replayed : goal.returns-clause-replayed
+returns-clause-replayed c =
     let notes : Notes c.args.log c.note_orders.new.self (map OrderEntry c.orders.result.now) = subst (λ r. OnOk r (Notes c.args.log c.note_orders.new.self (map OrderEntry c.orders.result.now))) c.unwrap.ensures c.note_orders.ensures.noted in
     ap (λ (es : List Entry). take (length c.args.late.items) es) (notes.entries ∙ ap (λ (os : List MoveOrder). c.args.log.entries ++ map OrderEntry os) c.orders.ensures)
     ∙ replayed_first c.args.controller c.args.log.entries c.args.late.items c.requires.run c.requires.begun c.requires.late

@@ -19,5 +19,5 @@ pub returns-clause-wrote : goal.returns-clause-wrote
 returns-clause-wrote g c =
     let entries = c.args.entries.now in
     let last = subst (λ (es : List Entry). WroteTo g.W.Sink c.write_lines.result c.put_all.new.writer c.write_lines.new.writer (entry_lines es))
-    (rest_whole c.args.told entries) c.write_lines.ensures.wrote in
+    (rest_whole c.args.replayed entries) c.write_lines.ensures.wrote in
     wrote_next c.write_lines.result _ _ _ _ (10 ∷ []) _ c.in_ok-put_all.ensures.wrote last

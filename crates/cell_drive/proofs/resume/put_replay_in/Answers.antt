@@ -21,17 +21,17 @@ put_replay_events-requires-clause-run g c =
     let started : cell_of c.shaped.result.now c.args.start ≡ start c.shaped.result.now = subst (λ (r : PlannedShop). cell_of r c.args.start ≡ start r) shaped_is c.requires.1 in
     let cell_is : c.of_parts-cell.result.cell ≡ start q = ap (λ x. x.cell) c.of_parts-cell.ensures ∙ started ∙ ap start (sym plan_is) in
     subst (λ (x : Cell). AreEvents q x (events_of (take c.len.result c.entries.result.now))) (sym cell_is)
-    (first_run p q c.len.result c.run.inside.log.entries c.entries.result.now (plan_is ∙ c.shaped.ensures.plan) c.entries.ensures c.run.invariant.0.kept.told.run)
+    (first_run p q c.len.result c.run.inside.log.entries c.entries.result.now (plan_is ∙ c.shaped.ensures.plan) c.entries.ensures c.run.invariant.0.kept.replayed.run)
 
 pub returns-else-protocol-clause-wrote : goal.returns-else-protocol-clause-wrote
 returns-else-protocol-clause-wrote g c =
     let inside = c.run.inside in
     let recovered = recovered_by inside.controller inside.log inside.late.items in
     let p = plan_of recovered in
-    let Wrote = λ (text : List ℕ). WroteTo g.W.Sink c.put_told.result c.args.writer.now c.put_told.new.writer text in
+    let Wrote = λ (text : List ℕ). WroteTo g.W.Sink c.put_v1_replay.result c.args.writer.now c.put_v1_replay.new.writer text in
     let late = c.deref-else-protocol.result.now in
     let count : c.len.result ≡ length late = omega (arith, c.len.ensures, c.deref-else-protocol.ensures.len) in
-    let of_entries = subst (λ (es : List Entry). Wrote (plain_lines (take c.len.result es) late)) c.entries.ensures c.put_told.ensures.wrote in
+    let of_entries = subst (λ (es : List Entry). Wrote (plain_lines (take c.len.result es) late)) c.entries.ensures c.put_v1_replay.ensures.wrote in
     let of_count = subst (λ (n : ℕ). Wrote (plain_lines (take n inside.log.entries) late)) count of_entries in
     let of_late = subst (λ (ls : List Bool). Wrote (plain_lines (take (length ls) inside.log.entries) ls)) c.deref-else-protocol.ensures.value of_count in
     subst (λ (t : Recovered). Wrote (replay_text c.args.protocol t)) c.run.view_is

@@ -16,7 +16,7 @@ returns-then-protocol-clause-answered g c =
     let request = c.in-Some.request in
     of_texts (AnswersRequest c.args.protocol v log c.args.number request call.new.controller call.new.log) (AnsweredBy c.args.protocol v log c.args.number line call.new.controller call.new.log)
     call.result (sink_state g.W.Sink c.args.writer.now) (sink_state g.W.Sink call.new.writer)
-    (λ text so. so line (some_bytes _ _ c.is_empty.ensures c.if-is_empty.false) (subst (λ (tells : Bool). AsksFor tells line request) (sym c.if-protocol.true) c.in-Some.ensures)) call.ensures.answered
+    (λ text so. so line (some_bytes _ _ c.is_empty.ensures c.if-is_empty.false) (subst (λ (version_2 : Bool). AsksFor version_2 line request) (sym c.if-protocol.true) c.in-Some.ensures)) call.ensures.answered
 
 pub returns-clause-answered : goal.returns-clause-answered
 returns-clause-answered g c =
@@ -27,4 +27,4 @@ returns-clause-answered g c =
     let request = Claim (Report c.in-Some-report_of.report) in
     of_texts (AnswersRequest c.args.protocol v log c.args.number request call.new.controller call.new.log) (AnsweredBy c.args.protocol v log c.args.number line call.new.controller call.new.log)
     call.result (sink_state g.W.Sink c.args.writer.now) (sink_state g.W.Sink call.new.writer)
-    (λ text so. so line (some_bytes _ _ c.is_empty.ensures c.if-is_empty.false) (subst (λ (tells : Bool). AsksFor tells line request) (sym c.if-protocol.false) c.in-Some-report_of.ensures)) call.ensures.answered
+    (λ text so. so line (some_bytes _ _ c.is_empty.ensures c.if-is_empty.false) (subst (λ (version_2 : Bool). AsksFor version_2 line request) (sym c.if-protocol.false) c.in-Some-report_of.ensures)) call.ensures.answered

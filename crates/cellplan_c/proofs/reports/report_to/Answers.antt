@@ -1,5 +1,5 @@
 use Rattle.std.proofs.Common.{refl}
-use Rattle.cellplan_c.proofs.Ending.{goes_anyway, refused_told}
+use Rattle.cellplan_c.proofs.Ending.{goes_anyway, refused_answer}
 use Rattle.cellplan_c.proofs.reports.report_to.Goals as goal
 
 pub returns-in-Ok : goal.returns-in-Ok
@@ -23,5 +23,5 @@ returns-in-Ok c =
 pub returns-in-Err-clause-reported : goal.returns-in-Err-clause-reported
 returns-in-Err-clause-reported c =
     let told = c.in-Err.ensures in
-    refused_told c.args.inner.now.controller c.args.ended c.in-Err.fault _ _ _ _ _ (λ ok. absurd (cc ok)) told.possible told.first_reason told.only_reason told.called told.never_refused
+    refused_answer c.args.inner.now.controller c.args.ended c.in-Err.fault _ _ _ _ _ (λ ok. absurd (cc ok)) told.possible told.first_reason told.only_reason told.called told.never_refused
     c.fault_number.ensures c.fault_detail.ensures

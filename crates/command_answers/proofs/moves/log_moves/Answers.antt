@@ -9,7 +9,7 @@ pub returns-in-Ok : goal.returns-in-Ok
 returns-in-Ok c =
     let run = c.in-Ok.run' in
     let is = c.in-Ok.ensures in
-    outcome_of_run (IsMovesAnswer c.args.names.now) c.args.at c.args.shaped c.args.log.now (run.entries.items, is.tells, is.told.run) run.cell.plan run.cell.cell c.moves_at.result is.plan is.told.cell c.moves_at.ensures
+    outcome_of_run (IsMovesAnswer c.args.names.now) c.args.at c.args.shaped c.args.log.now (run.entries.items, is.parses, is.replayed.run) run.cell.plan run.cell.cell c.moves_at.result is.plan is.replayed.cell c.moves_at.ensures
 
 pub returns-in-Err : goal.returns-in-Err
 returns-in-Err c =

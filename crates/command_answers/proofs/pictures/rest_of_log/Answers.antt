@@ -12,8 +12,8 @@ pub returns-in_ok-cell_drawn-in-Ok : goal.returns-in_ok-cell_drawn-in-Ok
 returns-in_ok-cell_drawn-in-Ok c =
     let run = c.in-Ok.run' in
     let is = c.in-Ok.ensures in
-    run_shown c.args.at c.args.names c.args.shaped c.args.log.now (run.entries.items, is.tells, is.told.run) run.cell.plan run.cell.cell _ c.in_ok-cell_drawn-in-Ok.field-0
-    is.plan is.told.cell c.deref.ensures.value c.in_ok-cell_drawn-in-Ok.ensures
+    run_shown c.args.at c.args.names c.args.shaped c.args.log.now (run.entries.items, is.parses, is.replayed.run) run.cell.plan run.cell.cell _ c.in_ok-cell_drawn-in-Ok.field-0
+    is.plan is.replayed.cell c.deref.ensures.value c.in_ok-cell_drawn-in-Ok.ensures
 
 pub returns-in_ok-log_fault_answer-in-Err : goal.returns-in_ok-log_fault_answer-in-Err
 returns-in_ok-log_fault_answer-in-Err c =

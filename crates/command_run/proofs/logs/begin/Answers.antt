@@ -9,6 +9,6 @@ returns-in-Err g c = record {
   began = record {
     end = left_if (is_some c.args.opened);
     is = (undriven (is_some c.args.opened), inr (ap Err c.from.ensures, record { same = refl; is = refl }, refl));
-    held = left_held _ _ _ _ _ c.args.shaped g.B.InitialState.before _ _ _ c.args.opened c.requires.empty c.requires.told;
+    held = left_held _ _ _ _ _ c.args.shaped g.B.InitialState.before _ _ _ c.args.opened c.requires.empty c.requires.known;
   };
 }

@@ -8,8 +8,8 @@ use Rattle.command_run.proofs.logs.begin_accepted.Goals as goal
 pub drive_new-requires-clause-digits : goal.drive_new-requires-clause-digits
 drive_new-requires-clause-digits g c = subst (λ (b : BegunRun). c.args.digits.now ≡ digits_in b.verified.planned) (sym c.in-Ok.ensures) c.requires.digits
 
-pub drive_new-requires-clause-told : goal.drive_new-requires-clause-told
-drive_new-requires-clause-told g c = subst (λ (b : BegunRun). IfSome g.B.InitialState.before (IsHistoryOfNew (g.L.Logs.folder c.args.logs.now) b.verified.planned c.args.streams.output.written)) (sym c.in-Ok.ensures) c.requires.told
+pub drive_new-requires-clause-known : goal.drive_new-requires-clause-known
+drive_new-requires-clause-known g c = subst (λ (b : BegunRun). IfSome g.B.InitialState.before (IsHistoryOfNew (g.L.Logs.folder c.args.logs.now) b.verified.planned c.args.streams.output.written)) (sym c.in-Ok.ensures) c.requires.known
 
 pub returns-in-Ok : goal.returns-in-Ok
 returns-in-Ok g c =
@@ -29,6 +29,6 @@ returns-in-Err g c = record {
   began = record {
     end = left_if (is_some c.args.opened);
     is = (undriven (is_some c.args.opened), inl (ap Err c.from.ensures, record { same = refl; is = refl }, refl));
-    held = left_held _ _ _ _ _ c.args.verified.planned g.B.InitialState.before _ _ _ c.args.opened c.requires.empty c.requires.told;
+    held = left_held _ _ _ _ _ c.args.verified.planned g.B.InitialState.before _ _ _ c.args.opened c.requires.empty c.requires.known;
   };
 }

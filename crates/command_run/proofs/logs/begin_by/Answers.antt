@@ -10,6 +10,6 @@ returns-in-Refused g c = record {
   began = record {
     end = left_if (is_some c.args.opened);
     is = (undriven (is_some c.args.opened), rw c.in-Refused.is (c.line_answer.ensures, record { same = refl; is = refl }, refl));
-    held = left_held _ _ _ _ _ (judged c.args.verdict) g.B.InitialState.before _ _ _ c.args.opened c.requires.empty c.requires.told;
+    held = left_held _ _ _ _ _ (judged c.args.verdict) g.B.InitialState.before _ _ _ c.args.opened c.requires.empty c.requires.known;
   };
 }

@@ -12,13 +12,13 @@ returns-in-Some g c =
     rw c.log_found.ensures (record {
       drove = record {
         end = option_map Found there;
-        is = (undriven_found there, record { run = c.run_found.result; tells = c.run_found.ensures; misfit = Some c.in-Some.misfit; is_misfit = subst (λ (d : RunDigits). IsMisfit c.args.start c.run_found.result d c.in-Some.misfit) c.requires.digits c.in-Some.ensures; drives = (c.misfit_answer.ensures, record { same = refl; is = refl }, refl) });
-        held = found_held _ _ _ _ (g.L.Logs.folder c.args.logs.now) g.B.InitialState.before _ _ c.args.found c.requires.found (known_as g.B.InitialState.before (λ t is. (is.logs, is.in_folder)) c.requires.told);
+        is = (undriven_found there, record { run = c.run_found.result; parses = c.run_found.ensures; misfit = Some c.in-Some.misfit; is_misfit = subst (λ (d : RunDigits). IsMisfit c.args.start c.run_found.result d c.in-Some.misfit) c.requires.digits c.in-Some.ensures; drives = (c.misfit_answer.ensures, record { same = refl; is = refl }, refl) });
+        held = found_held _ _ _ _ (g.L.Logs.folder c.args.logs.now) g.B.InitialState.before _ _ c.args.found c.requires.found (known_as g.B.InitialState.before (λ t is. (is.logs, is.in_folder)) c.requires.known);
       };
     })
 
 pub returns-in-None : goal.returns-in-None
 returns-in-None g c = record {
   drove = held_as _ _ _ _ _ _ _ _ _ _
-      (λ end is. (is.0, record { run = c.run_found.result; tells = c.run_found.ensures; misfit = None; is_misfit = subst (λ (d : RunDigits). (m : Misfit) → IsMisfit c.args.start c.run_found.result d m → ⊥) c.requires.digits c.in-None.ensures; drives = is.1 })) c.drive_fitting.ensures.drove;
+      (λ end is. (is.0, record { run = c.run_found.result; parses = c.run_found.ensures; misfit = None; is_misfit = subst (λ (d : RunDigits). (m : Misfit) → IsMisfit c.args.start c.run_found.result d m → ⊥) c.requires.digits c.in-None.ensures; drives = is.1 })) c.drive_fitting.ensures.drove;
 }

@@ -6,10 +6,10 @@ use Rattle.command_run.proofs.logs.open_and_drive.Goals as goal
 pub drive_found-requires-clause-found : goal.drive_found-requires-clause-found
 drive_found-requires-clause-found g c =
     let had = c.in-Ok.ensures in
-    opened_found g.L.Log.LogFile.seen g.L.Log.LogFile.crash_states g.L.Log.LogFile.fault g.L.Log.LogFile.written _ _ c.in-Ok.found had.opened had.text had.within had.durable had.unfailed had.unwritten had.told
+    opened_found g.L.Log.LogFile.seen g.L.Log.LogFile.crash_states g.L.Log.LogFile.fault g.L.Log.LogFile.written _ _ c.in-Ok.found had.opened had.text had.within had.durable had.unfailed had.unwritten had.known
 
-pub drive_found-requires-clause-told : goal.drive_found-requires-clause-told
-drive_found-requires-clause-told g c = known_as g.B.InitialState.before (path_known _ _ _ _ _ _ _ c.in-Ok.found c.in-Ok.ensures.opened c.in-Ok.ensures.found) c.requires.told
+pub drive_found-requires-clause-known : goal.drive_found-requires-clause-known
+drive_found-requires-clause-known g c = known_as g.B.InitialState.before (path_known _ _ _ _ _ _ _ c.in-Ok.found c.in-Ok.ensures.opened c.in-Ok.ensures.found) c.requires.known
 
 pub returns-in-Ok : goal.returns-in-Ok
 returns-in-Ok g c = record {

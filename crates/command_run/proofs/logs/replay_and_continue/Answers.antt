@@ -18,9 +18,9 @@ returns-in-Ok g c =
         is = (
           run.is.0,
           record {
-            told = Ok c.in-Ok.run';
+            replay = Ok c.in-Ok.run';
             mid = output_of g.W.Sink g.W.BufferedSink.pending c.show_again.new.output;
-            tells = c.in-Ok.ensures;
+            replays = c.in-Ok.ensures;
             goes_on = same_run c.args.protocol _ c.in-Ok.run' _ c.in-Ok.ensures.same run.is.1;
           },
         );
@@ -34,7 +34,7 @@ returns-in-Err g c =
     rw (← c.streams.view_is) (record {
       went_on = record {
         end = Some Left;
-        is = (refl, record { told = Err c.in-Err.fault; mid = output_of g.W.Sink g.W.BufferedSink.pending c.show_again.new.output; tells = c.in-Err.ensures; goes_on = (ap Err c.from.ensures, refl, refl) });
+        is = (refl, record { replay = Err c.in-Err.fault; mid = output_of g.W.Sink g.W.BufferedSink.pending c.show_again.new.output; replays = c.in-Err.ensures; goes_on = (ap Err c.from.ensures, refl, refl) });
         held = (ready.unfailed, tt, known_as g.B.InitialState.before (λ t seen. (seen, ready.durable)) c.requires.seen);
       };
     })

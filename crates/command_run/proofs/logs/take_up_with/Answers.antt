@@ -16,13 +16,13 @@ recover_log-requires-clause-digits g c = subst AreDigits (sym c.requires.digits)
 
 pub replay_and_continue-requires-clause-recoverable : goal.replay_and_continue-requires-clause-recoverable
 replay_and_continue-requires-clause-recoverable g c =
-    old_recovered c.args.shaped c.args.protocol c.args.at c.args.text.now _ g.B.InitialState.before (known_as g.B.InitialState.before (λ t is. is.1) c.requires.told) c.in-Ok.recovered_log.recovered c.in-Ok.ensures.recovered
+    old_recovered c.args.shaped c.args.protocol c.args.at c.args.text.now _ g.B.InitialState.before (known_as g.B.InitialState.before (λ t is. is.1) c.requires.known) c.in-Ok.recovered_log.recovered c.in-Ok.ensures.recovered
 
 pub replay_and_continue-requires-clause-seen : goal.replay_and_continue-requires-clause-seen
 replay_and_continue-requires-clause-seen g c =
     let seen = g.D.LogFile.seen c.args.log in
     let now = g.D.LogFile.seen c.recover_log.new.log in
-    old_named c.args.shaped c.args.protocol c.args.at c.args.text.now _ seen now g.B.InitialState.before c.requires.told
+    old_named c.args.shaped c.args.protocol c.args.at c.args.text.now _ seen now g.B.InitialState.before c.requires.known
     (subst (λ (d : RunDigits). IfSome seen (λ file. (base : List ℕ) × IsNamedFor d (whole_lines file) base × (now ≡ Some base))) c.requires.digits c.in-Ok.ensures.named)
 
 pub unrecovered_log_answer-requires : goal.unrecovered_log_answer-requires
@@ -34,7 +34,7 @@ returns-in-Ok g c =
     record {
       took_up = record {
         end = run.end;
-        is = (run.is.0, record { taken = Ok c.in-Ok.recovered_log.recovered; takes = record { is = c.in-Ok.ensures.recovered; torn = c.in-Ok.ensures.torn; fault = tt; only_fault = tt; only = λ can torn. tt }; goes_on = run.is.1 });
+        is = (run.is.0, record { recovered = Ok c.in-Ok.recovered_log.recovered; takes = record { is = c.in-Ok.ensures.recovered; torn = c.in-Ok.ensures.torn; fault = tt; only_fault = tt; only = λ can torn. tt }; goes_on = run.is.1 });
         held = run.held;
       };
     }
@@ -52,13 +52,13 @@ returns-in-Err g c =
         is = (
           refl,
           record {
-            taken = Err c.in-Err.fault;
+            recovered = Err c.in-Err.fault;
             takes = record { is = tt; torn = tt; fault = had.fault; only_fault = had.only_fault; only = had.only };
             goes_on = (c.unrecovered_log_answer.ensures, record { same = refl; is = refl });
           },
         );
         held = (
-          had.told,
+          had.known,
           λ of_text. ap g.D.LogFile.written (had.untouched of_text) ∙ c.requires.unwritten,
           known_as g.B.InitialState.before (λ t is. record {
             untouched = λ of_text. (
@@ -67,7 +67,7 @@ returns-in-Err g c =
             );
             crash = at_known (g.D.LogFile.seen log) text (λ file. (left : List ℕ) → g.D.LogFile.crash_states log_now left → IsNamedOrNot (digits_in c.args.shaped) (whole_lines file) (whole_lines left)) is.0 crash;
             torn_again = at_known (g.D.LogFile.seen log) text (λ file. is_torn (torn_end file) ≡ true → (left : List ℕ) → g.D.LogFile.crash_states log_now left → is_torn (torn_end left) ≡ true) is.0 had.torn_again;
-          }) c.requires.told,
+          }) c.requires.known,
         );
       };
     }

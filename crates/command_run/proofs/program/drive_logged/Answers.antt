@@ -9,12 +9,12 @@ use Rattle.command_run.proofs.LoggedEndings.{silent_logged}
 use Rattle.command_run.proofs.LogsAtEnd.{held_at_end}
 use Rattle.command_run.proofs.program.drive_logged.Goals as goal
 
-pub logged_answer-outcome-requires-clause-told : goal.logged_answer-outcome-requires-clause-told
-logged_answer-outcome-requires-clause-told g c =
+pub logged_answer-outcome-requires-clause-known : goal.logged_answer-outcome-requires-clause-known
+logged_answer-outcome-requires-clause-known g c =
     let chosen = c.args.chosen.now in
     rw (c.pair-pair.ensures, c.protocol-protocol.ensures)
     (subst (λ (d : Devices g.row.T.Denot). IfSome g.B.InitialState.before (IsHistoryOfLog g.T.Texts.gives d.folder (pair_in chosen) c.args.path.now (manner_in chosen) chosen.at d.texts d.streams.output.written)) (sym c.devices.view_is)
-    (history_of_path g.T.Texts.gives chosen c.args.devices c.args.path.now g.B.InitialState.before c.requires.kept c.requires.told))
+    (history_of_path g.T.Texts.gives chosen c.args.devices c.args.path.now g.B.InitialState.before c.requires.kept c.requires.known))
 
 pub returns : goal.returns
 returns g c =

@@ -14,5 +14,5 @@ returns g c = elim c.match-from.branch [
   | in-Usage w ↦
       let comes : Comes c.args.fault (Wrong w.in-Usage.text) = subst (Comes c.args.fault) w.in-Usage.is c.from.ensures in
       rw (w.result-is, w.devices-inside-is, ← c.devices.view_is)
-      (refused_words g.T.Texts.gives c.args.fault w.in-Usage.text _ _ _ comes (rw (← w.as_bytes.ensures.value) w.print_line.ensures.told) w.print_line.ensures.status refl refl refl)
+      (refused_words g.T.Texts.gives c.args.fault w.in-Usage.text _ _ _ comes (rw (← w.as_bytes.ensures.value) w.print_line.ensures.printed) w.print_line.ensures.status refl refl refl)
 ]

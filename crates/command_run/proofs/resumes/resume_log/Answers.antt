@@ -6,7 +6,7 @@ returns-in-Ok g c = record {
   text = Ok c.in_ok-text.text.items;
   asks = c.in_ok-text.ensures.asked;
   resumes = (
-    Ok c.in-Ok.taken,
+    Ok c.in-Ok.recovered,
     c.in-Ok.ensures,
     rw (← c.streams.view_is) (record {
       end = c.resume_in-end.result;

@@ -14,7 +14,7 @@ returns-clause-set c =
     let run = c.in_ok-run.run' in
     let past = c.past_by-past.result in
     let found = past_set past c.args.log.now c.args.at c.args.shaped.now run.cell.cell run.entries.items c.in_ok-present.present (length c.as_slice.result.now) c.past_by-past.ensures
-    c.in_ok-run.ensures.tells c.in_ok-run.ensures.replayed (ap length c.as_slice.ensures.value) (subst (λ (n : ℕ). IsPresent c.args.at n c.in_ok-present.present) c.last.ensures c.in_ok-present.ensures.present) in
+    c.in_ok-run.ensures.parses c.in_ok-run.ensures.replayed (ap length c.as_slice.ensures.value) (subst (λ (n : ℕ). IsPresent c.args.at n c.in_ok-present.present) c.last.ensures c.in_ok-present.ensures.present) in
     subst (λ (p : PlannedShop). HasLed past p run.cell.cell) (sym c.in_ok-run.ensures.plan) found.0
 
 pub returns-clause-past : goal.returns-clause-past
@@ -24,7 +24,7 @@ returns-clause-past c =
     let p = c.args.shaped.now in
     let there = past_in past run.cell.cell in
     let found = past_set past c.args.log.now c.args.at p run.cell.cell run.entries.items c.in_ok-present.present (length c.as_slice.result.now) c.past_by-past.ensures
-    c.in_ok-run.ensures.tells c.in_ok-run.ensures.replayed (ap length c.as_slice.ensures.value) (subst (λ (n : ℕ). IsPresent c.args.at n c.in_ok-present.present) c.last.ensures c.in_ok-present.ensures.present) in
+    c.in_ok-run.ensures.parses c.in_ok-run.ensures.replayed (ap length c.as_slice.ensures.value) (subst (λ (n : ℕ). IsPresent c.args.at n c.in_ok-present.present) c.last.ensures c.in_ok-present.ensures.present) in
     record {
       past = there;
       is = found.1;

@@ -8,6 +8,6 @@ returns-clause-begun c =
     let run = c.in_ok-run.run' in
     let is = c.in_ok-run.ensures in
     let out = c.into_parts-tables.ensures in
-    begun_is (ended_lines c.args.log.now) c.args.start.now run.cell.basis.now run.cell.plan run.cell.cell run.entries.items _ (sym out.plan ∙ is.plan) is.plan is.tells is.told out.cell out.sound
+    begun_is (ended_lines c.args.log.now) c.args.start.now run.cell.basis.now run.cell.plan run.cell.cell run.entries.items _ (sym out.plan ∙ is.plan) is.plan is.parses is.replayed out.cell out.sound
     (record { in_order = omega (arith, c.in_ok-present.ensures.present.1, c.last.ensures); in_range = c.in_ok-present.ensures.present.2 }) c.in_ok-rest.ensures
-    (event_read (ended_lines c.args.log.now) c.args.start.now run.entries.items (length c.as_slice.result.now) is.tells (ap length c.as_slice.ensures.value))
+    (event_read (ended_lines c.args.log.now) c.args.start.now run.entries.items (length c.as_slice.result.now) is.parses (ap length c.as_slice.ensures.value))

@@ -13,7 +13,7 @@ use Rattle.program_laws.proofs.GoodInputs.{good_input}
 use Rattle.program_laws.proofs.laws.good_files_are_answered.Goals as goal
 
 pub returns-clause-facts : goal.returns-clause-facts
-returns-clause-facts c = λ content path text description name shop outcome asked is tells run. good_facts content path text description name shop outcome asked is tells run
+returns-clause-facts c = λ content path text description name shop outcome asked is parses run. good_facts content path text description name shop outcome asked is parses run
 
 pub returns-clause-shape : goal.returns-clause-shape
 returns-clause-shape c = λ content pair p outcome asked good run. good_plan content pair p good IsShapeLine outcome asked run
@@ -76,4 +76,4 @@ pub returns-clause-hub : goal.returns-clause-hub
 returns-clause-hub c = λ protocol before after content path instance name files plans outcome asked is good run. good_hub content instance name protocol path files plans before after outcome asked is good run
 
 pub returns-clause-input : goal.returns-clause-input
-returns-clause-input c = λ before after text description shop outcome given few tells run. good_input before after text description shop outcome given few tells run
+returns-clause-input c = λ before after text description shop outcome given few parses run. good_input before after text description shop outcome given few parses run

@@ -7,4 +7,4 @@ pub returns : goal.returns
 returns c =
     let last = c.loop-line.last in
     first_last (lines_of c.args.lines.now) last
-    (c.loop-line.invariant.tells last (subst (λ (lines : List (List ℕ)). IsLast last lines last) (sym c.in_default.ensures.line) (last_done last)))
+    (c.loop-line.invariant.parses last (subst (λ (lines : List (List ℕ)). IsLast last lines last) (sym c.in_default.ensures.line) (last_done last)))

@@ -23,14 +23,14 @@ loop-line-preserved g c =
     let rest = lines_of c.in-Some.after.now in
     let before = c.loop-line.self.entries.items in
     let after = c.take_line.new.self.entries.items in
-    let grown : IsLineReplayed p line before after = subst (λ (q : PlannedShop). IsLineReplayed q line before after) so_far.plan c.in_ok-take_line.ensures.tells in
+    let grown : IsLineReplayed p line before after = subst (λ (q : PlannedShop). IsLineReplayed q line before after) so_far.plan c.in_ok-take_line.ensures.parses in
     record {
       seen = so_far.seen ++ line ∷ [];
       split = so_far.split ∙ ap (λ (ls : List (List ℕ)). so_far.seen ++ ls) c.in-Some.ensures.line ∙ sym (append_assoc so_far.seen (line ∷ []) rest);
       count = omega (arith, so_far.count, length-append so_far.seen (line ∷ []));
       basis = c.in_ok-take_line.ensures.same_basis ∙ so_far.basis;
       plan = c.in_ok-take_line.ensures.same_plan ∙ so_far.plan;
-      tells = subst (λ (es : List Entry). LinesParse p (so_far.seen ++ line ∷ []) es) (sym grown.2) (parse-more p so_far.seen line before grown.0 so_far.tells grown.1);
+      parses = subst (λ (es : List Entry). LinesParse p (so_far.seen ++ line ∷ []) es) (sym grown.2) (parse-more p so_far.seen line before grown.0 so_far.parses grown.1);
       replayed = subst (λ (q : PlannedShop). IsReplayed q c.take_line.new.self.cell.cell after) so_far.plan c.in_ok-take_line.ensures.replayed;
       few = omega (
         arith,

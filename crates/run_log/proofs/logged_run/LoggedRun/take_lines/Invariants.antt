@@ -11,7 +11,7 @@ invariant-loop-line g l = record {
   count : l.number ≡ length seen;
   basis : l.self.cell.basis ≡ l.initial.self.cell.basis;
   plan : l.self.cell.plan ≡ l.initial.self.cell.plan;
-  tells : LinesParse l.initial.self.cell.plan seen l.self.entries.items;
+  parses : LinesParse l.initial.self.cell.plan seen l.self.entries.items;
   replayed : IsReplayed l.initial.self.cell.plan l.self.cell.cell l.self.entries.items;
   few : length l.self.entries.items ≤ length seen;
   room : vec_capacity l.self.entries ≡ vec_capacity l.initial.self.entries;

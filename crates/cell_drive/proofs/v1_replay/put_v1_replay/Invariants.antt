@@ -1,7 +1,7 @@
 use Rattle.std.proofs.Common.{◌≡◌, length}
 use Rattle.byte_streams.specs.Sinks.{AllBut}
 use Rattle.cell_drive.specs.PlainLines.{plain_lines}
-use Rattle.cell_drive.proofs.told_again.put_told.Given as goal
+use Rattle.cell_drive.proofs.v1_replay.put_v1_replay.Given as goal
 
 abbrev pub invariant-rests : goal.invariant-rests
 invariant-rests g l = record {

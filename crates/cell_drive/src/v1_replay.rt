@@ -2,7 +2,7 @@
 
 ghost use Rattle.std.specs.Prelude.{◌≡◌, ◌+◌, ◌≤◌, ◌++◌, length, OnOk};
 ghost use Rattle.byte_streams.specs.Lent.{WroteTo};
-ghost use Rattle.cell_drive.specs.declared.told_again.TheConstants.{MOST, EVENT_ROOM, LINES_ROOM};
+ghost use Rattle.cell_drive.specs.declared.v1_replay.TheConstants.{MOST, EVENT_ROOM, LINES_ROOM};
 ghost use Rattle.cell_drive.specs.PlainLines.{plain_line, plain_lines};
 
 use byte_streams::{Sink, WriteFault, put_all};
@@ -57,7 +57,7 @@ fn put_few<W: Sink>(entries: &[Entry], late: &[bool], writer: &mut W) -> Result<
 }
 
 /// Writes the lines of the recorded events.
-pub(crate) fn put_told<W: Sink>(
+pub(crate) fn put_v1_replay<W: Sink>(
     entries: &[Entry],
     late: &[bool],
     writer: &mut W,

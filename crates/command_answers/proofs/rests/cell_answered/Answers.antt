@@ -2,7 +2,7 @@ use Rattle.std.proofs.Common.{◌≤◌, ◌<◌, ◌∙◌, ℕ, IfOk, ap, subs
 use Rattle.shop_base.specs.declared.limits.TheConstants.{MAX_MOMENT}
 use Rattle.command_answers.specs.Rests.{IsPastLine, AnswersRest}
 use Rattle.command_answers.proofs.RestAnswers.{present_within, past_answered, answer_rest}
-use Rattle.command_answers.proofs.rests.cell_told.Goals as goal
+use Rattle.command_answers.proofs.rests.cell_answered.Goals as goal
 
 pub answer_rest-requires-clause-present : goal.answer_rest-requires-clause-present
 answer_rest-requires-clause-present c =

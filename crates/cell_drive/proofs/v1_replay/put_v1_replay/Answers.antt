@@ -4,8 +4,8 @@ use Rattle.std.proofs.lemmas.Result.{err_from_is_err_and}
 use Rattle.byte_streams.proofs.Written.{AllBut-more, TookPart-rest}
 use Rattle.cell_tables.specs.declared.entry.Entry.{Entry}
 use Rattle.cell_drive.specs.PlainLines.{plain_lines}
-use Rattle.cell_drive.proofs.ToldAgain.{first_plain}
-use Rattle.cell_drive.proofs.told_again.put_told.Goals as goal
+use Rattle.cell_drive.proofs.V1Replay.{first_plain}
+use Rattle.cell_drive.proofs.v1_replay.put_v1_replay.Goals as goal
 
 pub returns-in_err-put_few-clause-wrote : goal.returns-in_err-put_few-clause-wrote
 returns-in_err-put_few-clause-wrote g c =

@@ -1,8 +1,8 @@
 use Rattle.std.proofs.Common.{◌≡◌, ℕ, ◌+◌, ◌-◌, List, length, drop, sym, ap, ◌∙◌, subst, arith}
 use Rattle.byte_streams.specs.Lent.{WroteTo}
 use Rattle.cell_drive.specs.PlainLines.{plain_lines}
-use Rattle.cell_drive.proofs.ToldAgain.{plain_before, none_plain}
-use Rattle.cell_drive.proofs.told_again.put_few.Goals as goal
+use Rattle.cell_drive.proofs.V1Replay.{plain_before, none_plain}
+use Rattle.cell_drive.proofs.v1_replay.put_few.Goals as goal
 
 pub places-init : goal.places-init
 places-init g c =
