@@ -3,7 +3,7 @@
 ghost use Rattle.std.specs.Prelude.{◌≡◌, None, Some, is_some, MatchOption};
 ghost use Rattle.cellplan_c.specs.Cells.{GoesAsPromised};
 
-use crate::lain::Lain;
+use crate::raw_box::RawBox;
 use crate::slot::{Inner, Slot};
 use cell_control::laws::never_goes_wrong;
 use cell_control::{RestController, TourneyDues};
@@ -37,7 +37,7 @@ impl Cell {
     {
         let Cell { full, slot } = replace(self, Cell::empty());
         if full {
-            Some(slot.into_lain(alloc).up())
+            Some(slot.into_raw_box(alloc).up())
         } else {
             slot.discard();
             None
@@ -53,7 +53,7 @@ impl Cell {
             self,
             Cell {
                 full: true,
-                slot: Slot::of_lain(Lain::down(inner)),
+                slot: Slot::of_raw_box(RawBox::down(inner)),
             },
         );
         slot.discard();

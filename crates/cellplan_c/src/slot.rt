@@ -4,7 +4,7 @@ ghost use Rattle.std.specs.Prelude.{◌≡◌, None, Some, IsSome};
 ghost use Rattle.cellplan_c.specs.Held.{Held, held_coded};
 ghost use Rattle.cellplan_c.specs.Slot.{slot_owns};
 
-use crate::lain::Lain;
+use crate::raw_box::RawBox;
 use cell_control::{RestController, TourneyDues};
 use std::alloc::Global;
 use std::marker::Model;
@@ -42,22 +42,22 @@ impl Slot {
     }
 
     /// Keeps where the box lies, and not its allocator: there is only one heap.
-    pub fn of_lain(lain: Lain<Inner, Global>) -> Slot
-        ensures { result.held ≡ Some lain.value }
+    pub fn of_raw_box(raw_box: RawBox<Inner, Global>) -> Slot
+        ensures { result.held ≡ Some raw_box.value }
     {
-        let Lain { place, from: _ } = lain;
+        let RawBox { place, from: _ } = raw_box;
         Slot {
             at: place as *mut Block,
         }
     }
 
     /// The box that lies there, which is taken out of the slot.
-    pub fn into_lain(self, from: Global) -> Lain<Inner, Global>
+    pub fn into_raw_box(self, from: Global) -> RawBox<Inner, Global>
         requires { IsSome self.held }
         ensures { self.held ≡ Some result.value }
     {
         let Slot { at } = self;
-        Lain {
+        RawBox {
             place: at as *mut Inner,
             from,
         }

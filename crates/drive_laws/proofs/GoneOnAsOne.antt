@@ -24,7 +24,7 @@ use Rattle.cell_drive.proofs.CutRuns.{cut_of_run}
 use Rattle.cell_drive.proofs.OwnRuns.{own_run, run_of_own, due_events}
 use Rattle.cell_drive.proofs.Parts.{entries_moved}
 use Rattle.cell_drive.proofs.PromisesKept.{stays_as_promised}
-use Rattle.drive_laws.specs.AsOneLaw.{IsRecoveredByItsPlan, ItIsRecoveredAsOne, ItIsOneSoFar, ADrivenRunGoesOnAsOne, ItStaysAsPromised, TheFirstEventsHaveTheirOrders, WhatWasResumedHasItsOrders}
+use Rattle.drive_laws.specs.OneRunLaw.{IsRecoveredByItsPlan, ItIsRecoveredAsOne, ItIsOneSoFar, ADrivenRunGoesOnAsOne, ItStaysAsPromised, TheFirstEventsHaveTheirOrders, WhatWasResumedHasItsOrders}
 use Rattle.drive_laws.proofs.Resumes.{recovered_to_rest, what_was_resumed_is_recovered}
 use Rattle.drive_laws.proofs.SettledCuts.{cut_settles, it_is_recovered_with_its_orders}
 

@@ -10,4 +10,4 @@ pub mod ResumedLaw
 pub mod ShortLinesLaw
 pub mod CellsVersionsLaw
 pub mod SameReportsLaw
-pub mod AsOneLaw
+pub mod OneRunLaw

@@ -16,8 +16,8 @@ ghost use Rattle.cell_drive.specs.ProtocolLaw.{AnAuditKeepsWhatWasDriven, Plainl
 ghost use Rattle.cell_drive.specs.ProtocolLaw.{NothingIsAcceptedTwice, NothingOfARunIsClaimedAgain};
 ghost use Rattle.cell_drive.specs.ProtocolLaw.{ALateReportFindsSomethingOverdue};
 ghost use Rattle.drive_laws.specs.AnswerLaw.{ReplayAsAnswered, ReplayInProtocol};
-ghost use Rattle.drive_laws.specs.AsOneLaw.{ItIsRecoveredAsOne, ItIsOneSoFar, ADrivenRunGoesOnAsOne, ItStaysAsPromised};
-ghost use Rattle.drive_laws.specs.AsOneLaw.{TheFirstEventsHaveTheirOrders, WhatWasResumedHasItsOrders};
+ghost use Rattle.drive_laws.specs.OneRunLaw.{ItIsRecoveredAsOne, ItIsOneSoFar, ADrivenRunGoesOnAsOne, ItStaysAsPromised};
+ghost use Rattle.drive_laws.specs.OneRunLaw.{TheFirstEventsHaveTheirOrders, WhatWasResumedHasItsOrders};
 ghost use Rattle.drive_laws.specs.CellsAlone.{EachCellIsAsAlone};
 ghost use Rattle.drive_laws.specs.CellsVersionsLaw.{Version2OnlyAddsForCells};
 ghost use Rattle.drive_laws.specs.FloorLaw.{NothingIsOrderedWrongly, ADrivenCellOrdersRightly};

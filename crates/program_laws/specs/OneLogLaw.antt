@@ -13,7 +13,7 @@ use Rattle.run_journal.specs.LogFiles.{IsLeft}
 use Rattle.run_journal.specs.WholeLines.{whole_lines}
 use Rattle.run_journal.specs.LoggedLines.{logged}
 use Rattle.logged_drive.specs.CrashLaw.{AreAnswered, IsGiven}
-use Rattle.drive_laws.specs.AsOneLaw.{IsRecoveredByItsPlan}
+use Rattle.drive_laws.specs.OneRunLaw.{IsRecoveredByItsPlan}
 
 -- a run began with a log of its own, whose whole lines told no event: what a crash leaves of it tells the first events of a controlled run, with the orders that are due
 abbrev pub ANewLogIsOfOneRun : Type 0

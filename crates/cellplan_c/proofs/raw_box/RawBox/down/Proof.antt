@@ -35,9 +35,9 @@ use Rattle.std_alloc.proofs.BoxSteps.Steps.{box_out, box_in}
 use Rattle.std_alloc.specs.contracts.boxed.Box.into_raw_with_allocator as into_raw
 use Rattle.std_alloc.proofs.boxed.Box.into_raw_with_allocator.Met.{met}
 use Rattle.cellplan_c.proofs.Laying.{gives}
-use Rattle.cellplan_c.specs.contracts.lain.Lain.down as F
-use Rattle.cellplan_c.proofs.lain.Lain.down.Statement.{statement}
-use Rattle.cellplan_c.proofs.lain.Lain.down.Code as code
+use Rattle.cellplan_c.specs.contracts.raw_box.RawBox.down as F
+use Rattle.cellplan_c.proofs.raw_box.RawBox.down.Statement.{statement}
+use Rattle.cellplan_c.proofs.raw_box.RawBox.down.Code as code
 
 pub down_spec : {M : Type 1} → statement M
 down_spec 𝓤 𝓛 𝓜 𝓡 wired T A L LA g d dx dd allocator glue glued =
