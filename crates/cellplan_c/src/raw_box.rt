@@ -1,4 +1,4 @@
-//! A box that is laid down: what is left of it is where it lies, and the right to take it up again.
+//! A box that is held by its address: what is left of it is where it lies, and the right to take it up again.
 
 ghost use Rattle.std.specs.Prelude.{◌≡◌};
 ghost use Rattle.std_alloc.specs.Box.Ownership.{box_owns};

@@ -24,7 +24,7 @@ pub(crate) struct Visit {
 
 /// A visit, with the place of the next one to the same machine.
 #[derive(Clone, Copy)]
-struct LinkedVisit {
+pub(crate) struct LinkedVisit {
     pub visit: Visit,
     pub next: Option<usize>,
 }
