@@ -5,7 +5,7 @@ use Rattle.shop_base.specs.Run.{IsRun}
 use Rattle.shop_base.specs.Ends.{stated_number, moves_in}
 use Rattle.text_lines.specs.Lines.{lines_of}
 use Rattle.cell_tables.specs.declared.entry.Entry.{Entry}
-use Rattle.run_log.specs.declared.auditing.Audit.{Audit}
+use Rattle.run_log.specs.declared.audit_result.Audit.{Audit}
 use Rattle.cell_tables.specs.Events.{events_of}
 use Rattle.event_lines.specs.LogLines.{LinesParse}
 use Rattle.cell_drive.specs.declared.protocol.Protocol.{Protocol}

@@ -9,7 +9,7 @@ use Rattle.shop_base.specs.Ahead.{GoesOnTo}
 use Rattle.text_lines.specs.Lines.{lines_of}
 use Rattle.cell_tables.specs.declared.entry.Entry.{Entry}
 use Rattle.cell_tables.specs.Events.{events_of}
-use Rattle.run_log.specs.declared.auditing.Audit.{Audit}
+use Rattle.run_log.specs.declared.audit_result.Audit.{Audit}
 use Rattle.run_log.specs.declared.audit_fault.AuditFault.{AuditFault}
 use Rattle.run_log.specs.declared.audit_fault.AuditFault.TheVariants.{Memory as OutOfMemory}
 use Rattle.run_log.specs.Audits.{IsAudit, ParseAsRun}

@@ -6,7 +6,7 @@ use Rattle.shop_base.specs.Run.{ends_in}
 use Rattle.text_lines.specs.Lines.{ended_lines}
 use Rattle.cell_tables.specs.declared.entry.Entry.{Entry}
 use Rattle.cell_tables.specs.Events.{events_of}
-use Rattle.run_log.specs.declared.auditing.Audit.{Audit}
+use Rattle.run_log.specs.declared.audit_result.Audit.{Audit}
 use Rattle.run_log.specs.Audits.{ParseAsRun}
 use Rattle.people_names.specs.NameBooks.{NameBook}
 use Rattle.run_picture.specs.declared.head.Sheet.{Sheet}

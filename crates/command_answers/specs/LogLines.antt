@@ -2,7 +2,7 @@
 use Rattle.std.specs.Prelude.{◌≡◌, ℕ, Bool, true, false, List, ◌++◌, ◌⊎◌, Option, Some, None, Result, Err, codes, decimal}
 use Rattle.shop_base.specs.Plan.{PlannedShop, machines}
 use Rattle.text_lines.specs.Lines.{lines_of}
-use Rattle.run_log.specs.declared.auditing.Audit.{Audit}
+use Rattle.run_log.specs.declared.audit_result.Audit.{Audit}
 use Rattle.run_log.specs.declared.audit_fault.AuditFault.{AuditFault}
 use Rattle.run_log.specs.declared.audit_fault.AuditFault.TheVariants.{Memory}
 use Rattle.run_log.specs.Audits.{IsAudit, IsFirstBad, fault_line}

@@ -21,7 +21,7 @@ use Rattle.plan_explain.specs.RestVerdicts.{IsRestJudged}
 use Rattle.plan_explain.specs.FirstLines.{cycle_line}
 use Rattle.plan_schedule.specs.declared.picture_visits.DrawnRun.{DrawnRun}
 use Rattle.plan_schedule.specs.DrawnVisits.{IsDrawnRun}
-use Rattle.run_log.specs.declared.auditing.Audit.{Audit}
+use Rattle.run_log.specs.declared.audit_result.Audit.{Audit}
 use Rattle.run_log.specs.Audits.{IsAudit, ParseAsRun}
 use Rattle.run_gantt.specs.DrawnVisits.{drawn_visits}
 use Rattle.run_gantt.specs.LeavingsSoFar.{leavings_so_far}

@@ -14,7 +14,7 @@ use Rattle.cell_tables.specs.declared.entry.Entry.{Entry}
 use Rattle.cell_tables.specs.declared.entry.Entry.TheVariants.{Report as ReportEntry, Order as OrderEntry}
 use Rattle.run_log.specs.declared.audit_fault.AuditFault.{AuditFault}
 use Rattle.run_log.specs.declared.audit_fault.AuditFault.TheVariants.{BadLine, NotExpected, Backwards, NotReady, Occupied, OutOfOrder, WrongPlace, NotClean, Memory}
-use Rattle.run_log.specs.declared.auditing.Audit.{Audit}
+use Rattle.run_log.specs.declared.audit_result.Audit.{Audit}
 use Rattle.cell_tables.specs.Events.{events_of}
 use Rattle.event_lines.specs.AnswerLines.{is_passed_over}
 use Rattle.event_lines.specs.LogLines.{ParsesNoEntry, LineParses, LinesParse}

@@ -7,28 +7,14 @@ ghost use Rattle.cell_tables.specs.Events.{event_of, events_of};
 ghost use Rattle.run_log.specs.Audits.{IsAudit, IsAuditFault, ParseAsRun, room_for};
 
 use crate::audit_fault::AuditFault;
+use crate::audit_result::Audit;
 use crate::ended::has_ended;
 use crate::logged_run::{LoggedRun, read_log};
 use crate::run_log::most_entries;
 use cell_tables::Entry;
-use shop_base::{Moment, Shaped};
+use shop_base::Shaped;
 use std::alloc::Global;
 use text_lines::line_count;
-
-/// What a log records: a run of the plan, by any controller.
-#[derive(Debug, Drop)]
-pub struct Audit {
-    /// How many reports it has.
-    pub reports: u64,
-    /// How many orders.
-    pub orders: u64,
-    /// The last moment, 0 if nothing is recorded.
-    pub last: Moment,
-    /// Whether the run has ended: all jobs are gone, and no cleaning is going on.
-    pub complete: bool,
-    /// Its reports and orders, in the order of the log.
-    pub entries: Vec<Entry>,
-}
 
 /// Audits a log against a plan, which needn't be an accepted one. Empty lines and the other answers of a driven
 /// cell (`late`, `refused`, `done`, `unfinished`) are passed over. Memory is taken for as many entries as the text

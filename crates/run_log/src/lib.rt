@@ -3,6 +3,7 @@
 #![tactic(auto)]
 
 mod audit_fault;
+mod audit_result;
 mod auditing;
 mod ended;
 mod entry_check;
@@ -11,7 +12,8 @@ mod logged_run;
 mod run_log;
 
 pub use audit_fault::AuditFault;
-pub use auditing::{Audit, audit};
+pub use audit_result::Audit;
+pub use auditing::audit;
 pub use byte_streams::{IntoSink, Sink, WriteFault, put_all};
 pub use cell_tables::Entry;
 pub use log_text::write_lines;
