@@ -29,7 +29,7 @@ fn recoverable(alloc: Global, protocol: Protocol, left: Vec<u8>) -> Result<Vec<u
     let text = read_log(alloc, &mut log)?;
     let shaped = shaped(alloc)?;
     let Ok(ready) = recover_log(alloc, shaped, &mut log, &text, None, &DIGITS) else {
-        return Err("the run isn't recovered up".into());
+        return Err("the run isn't recovered".into());
     };
     let RecoveredLog { recovered, room } = ready;
     let mut output = Buffered::new(alloc, 16, Vec::new(alloc))?;
