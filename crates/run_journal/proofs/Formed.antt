@@ -8,10 +8,10 @@ use Rattle.text_lines.specs.Cuts.{HasNone}
 use Rattle.run_journal.specs.LogFiles.{zeros, IsLeft}
 use Rattle.run_journal.specs.WholeLines.{before_any, whole_lines, torn_end}
 use Rattle.run_journal.specs.LoggedLines.{is_logged, logged_line, fed_lines, logged}
-use Rattle.run_journal.specs.Standings.{line_behind, line_after, open_line}
+use Rattle.run_journal.specs.Selecting.{added, line_after, line_behind, open_line}
 use Rattle.run_journal.specs.TornEnds.{begins_line, is_torn}
 use Rattle.run_journal.proofs.Whole.{whole-push_feed, whole-behind, whole-zeros}
-use Rattle.run_journal.proofs.Selected.{added, logged-front, logged-more, added_all, line_after-append}
+use Rattle.run_journal.proofs.Selected.{logged-front, logged-more, added_all, line_after-append}
 use Rattle.run_journal.proofs.TornEnds.{torn_of}
 
 -- lines without their line feeds, each of which a log can have

@@ -1,5 +1,5 @@
 -- What a crash leaves, seen from other bytes.
-use Rattle.std.proofs.Common.{◌≡◌, ℕ, ◌≤◌, List, ◌++◌, length, take, Option, None, Some, IfSome, Result, Ok, Err, OnOk, OnErr, Bool, true, [], inl, inr, refl, sym, ap, ◌∙◌, arith, append-nil}
+use Rattle.std.proofs.Common.{◌≡◌, ℕ, ◌≤◌, List, ◌++◌, length, take, Option, None, Some, IfSome, Result, Ok, Err, OnOk, OnErr, Bool, true, [], inl, inr, refl, sym, subst, ap, ◌∙◌, arith, append-nil}
 use Rattle.std.proofs.lemmas.List.{take_at}
 use Rattle.run_journal.specs.LogFiles.{zeros, Leaves}
 use Rattle.run_journal.specs.Logged.{HoldsNothing}
@@ -28,7 +28,11 @@ pub on_ok-map : {X E P Q : Type 0} (r : Result X E) → (P → Q) → OnOk r P �
 on_ok-map (Ok x) f p = f p
 on_ok-map (Err e) f p = tt
 
--- from what is told of a value to something else
+-- what is known of a value
+pub if_some-at : {X : Type 0} (o : Option X) (x : X) (P : X → Type 0) → o ≡ Some x → IfSome o P → P x
+if_some-at o x P is p = subst (λ o. IfSome o P) is p
+
+-- and something else from that
 pub if_some-map : {X : Type 0} {P Q : X → Type 0} (o : Option X) → ((x : X) → P x → Q x) → IfSome o P → IfSome o Q
 if_some-map None f none = none
 if_some-map (Some x) f p = f x p

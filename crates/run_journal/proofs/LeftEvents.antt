@@ -19,10 +19,10 @@ use Rattle.event_lines.proofs.Readings.{one_reading, parse-parts}
 use Rattle.run_journal.specs.LogFiles.{zeros}
 use Rattle.run_journal.specs.WholeLines.{before_any, whole_lines}
 use Rattle.run_journal.specs.LoggedLines.{is_logged, logged_line, logged}
-use Rattle.run_journal.specs.Standings.{line_behind, line_after}
 use Rattle.run_journal.specs.LeftLogs.{ACrashLeavesALog}
 use Rattle.run_journal.proofs.Whole.{step-whole}
-use Rattle.run_journal.proofs.Selected.{more, added, added_all, logged_line-more, logged-front}
+use Rattle.run_journal.specs.Selecting.{added, line_after, line_behind, more}
+use Rattle.run_journal.proofs.Selected.{added_all, logged_line-more, logged-front}
 
 -- ---- the lines that end, byte by byte
 

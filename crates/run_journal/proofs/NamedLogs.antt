@@ -23,6 +23,7 @@ use Rattle.run_journal.specs.TornEnds.{is_torn}
 use Rattle.run_journal.proofs.Whole.{cut_keeps, take_whole, whole-behind, whole-push_feed, whole-zeros}
 use Rattle.run_journal.proofs.TornEnds.{both, plan_begins}
 use Rattle.run_journal.proofs.LeftEvents.{ended-base, ended_is, parse-both}
+use Rattle.run_journal.proofs.PlansKept.{lines_both}
 use Rattle.run_journal.proofs.Formed.{none_written, none_whole, no_feed_both, torn_lines, torn-behind, drop-front}
 
 -- whole lines are whole
@@ -144,15 +145,18 @@ named_parses p digits lines base recorded are whole (inr is) parses =
     subst (λ (ls : List (List ℕ)). LinesParse p ls recorded) (sym ended)
     (subst (λ (es : List Entry). LinesParse p (ended_lines lines ++ ended_lines (plan_line digits)) es) (append-nil recorded) (parse-both p (ended_lines lines) (ended_lines (plan_line digits)) recorded [] parses (plan_parses p digits are)))
 
--- ---- folders
+last_behind : (lines others : List (List ℕ)) (digits : RunDigits) → NameLast others digits → NameLast (lines ++ others) digits
+last_behind [] others digits is = is
+last_behind (line ∷ lines) others digits is = inr (last_behind lines others digits is)
 
-pub logs_made : (there : Bool) (path : List ℕ) (folder : Folder) (P : Type 0) → IfSome folder.logs (λ _. P) → IfSome (with_log there path folder).logs (λ _. P)
-logs_made true path folder P is = is
-logs_made false path folder P is = mapped folder.logs is
-  where
-    mapped : (logs : Option (List NamedLog)) → IfSome logs (λ _. P) → IfSome (with_made path (record folder { logs = logs })).logs (λ _. P)
-    mapped None is = is
-    mapped (Some logs) is = is
+-- they name it last
+pub named_last : (digits : RunDigits) (lines base : List ℕ) → AreDigits digits → whole_lines lines ≡ lines → IsNamedFor digits lines base → NameLast (lines_of base) digits
+named_last digits lines base are whole (inl is) = subst (λ (l : List ℕ). NameLast (lines_of l) digits) (sym is.1) is.0
+named_last digits lines base are whole (inr is) =
+    subst (λ (ls : List (List ℕ)). NameLast ls digits) (sym (ap lines_of is.1 ∙ lines_both lines (plan_line digits) whole))
+    (last_behind (lines_of lines) (lines_of (plan_line digits)) digits (subst (λ (ls : List (List ℕ)). NameLast ls digits) (sym (plan_lines digits are)) (inl ((refl, are), tt))))
+
+-- ---- folders
 
 pub logs_before : (there : Bool) (path : List ℕ) (folder : Folder) (P : Type 0) → IfSome (with_log there path folder).logs (λ _. P) → IfSome folder.logs (λ _. P)
 logs_before true path folder P is = is
@@ -161,8 +165,3 @@ logs_before false path folder P is = mapped folder.logs is
     mapped : (logs : Option (List NamedLog)) → IfSome (with_made path (record folder { logs = logs })).logs (λ _. P) → IfSome logs (λ _. P)
     mapped None is = is
     mapped (Some logs) is = is
-
--- the line alone, where the log had no bytes
-pub line_alone : (logs : Option (List NamedLog)) (seen : Option (List ℕ)) (P : List ℕ → Type 0) → IfSome logs (λ _. seen ≡ Some []) → IfSome seen P → IfSome logs (λ _. P [])
-line_alone None seen P none had = none
-line_alone (Some logs) seen P none had = subst (λ (s : Option (List ℕ)). IfSome s P) none had

@@ -12,11 +12,11 @@ use Rattle.run_journal.specs.LogFiles.{IsLeft}
 use Rattle.run_journal.specs.LogRuns.{NameLast, NameNone}
 use Rattle.run_journal.specs.LoggedLines.{is_logged, logged}
 use Rattle.run_journal.specs.Laws.{ACrashKeepsThePlan}
-use Rattle.run_journal.specs.Standings.{line_behind}
 use Rattle.run_journal.specs.WholeLines.{before_any, whole_lines}
 use Rattle.run_journal.proofs.CrashLines.{crash_lines}
 use Rattle.run_journal.proofs.LeftEvents.{none-more, whole_split, without_return-front}
-use Rattle.run_journal.proofs.Selected.{added, added_all, more}
+use Rattle.run_journal.specs.Selecting.{added, line_behind, more}
+use Rattle.run_journal.proofs.Selected.{added_all}
 use Rattle.run_journal.proofs.Starts.{logged-stays}
 use Rattle.run_journal.proofs.Whole.{step-whole}
 
@@ -170,7 +170,7 @@ parts_both (x ∷ y ∷ base) text whole =
           rw other (ap (onto_first x) (rest ∙ ap (λ (ps : List (List ℕ)). ps ++ parts_of is_line_feed text) some.2) ∙ ap (λ (ps : List (List ℕ)). onto_first x ps ++ parts_of is_line_feed text) (sym some.2))
     ]
 
-lines_both : (base text : List ℕ) → whole_lines base ≡ base → lines_of (base ++ text) ≡ lines_of base ++ lines_of text
+pub lines_both : (base text : List ℕ) → whole_lines base ≡ base → lines_of (base ++ text) ≡ lines_of base ++ lines_of text
 lines_both base text whole = ap (map without_return) (parts_both base text whole) ∙ map-append without_return (parts_of is_line_feed base) (parts_of is_line_feed text)
 
 none_both : (lines more : List (List ℕ)) → NameNone lines → NameNone more → NameNone (lines ++ more)

@@ -1,21 +1,11 @@
 -- What a log gets of a text, taken byte by byte.
-use Rattle.std.proofs.Common.{◌≡◌, ℕ, ◌≤◌, ◌<◌, if◌then◌else◌, ◌==◌, List, [], ◌∷◌, ◌++◌, length, inl, inr, refl, sym, ap, ◌∙◌, subst, arith, append_assoc, append-nil, length-append}
+use Rattle.std.proofs.Common.{◌≡◌, ◌≢◌, ℕ, ◌≤◌, ◌<◌, ◌==◌, true, false, List, [], ◌∷◌, ◌++◌, length, take, inl, inr, refl, sym, ap, ◌∙◌, subst, arith, append_assoc, append-nil, length-append}
 use Rattle.std.specs.List.{onto_first, flat_map}
-use Rattle.std.proofs.lemmas.Bool.{cases_Bool, eqb-true, eqb-false}
-use Rattle.run_journal.specs.declared.selection.Standing.{Standing}
-use Rattle.run_journal.specs.declared.selection.Standing.TheVariants.{Open, Logged, Passed}
+use Rattle.std.proofs.lemmas.Bool.{cases_Bool, ne_eqb}
+use Rattle.std.proofs.lemmas.List.{length-take, take-append-le, take_all}
 use Rattle.run_journal.specs.LoggedLines.{is_logged, logged_line, fed_lines, logged}
-use Rattle.run_journal.specs.Selecting.{Selected, decided, with_byte, got_by, behind_byte, behind_bytes, got}
-use Rattle.run_journal.specs.Standings.{line_behind, line_after, open_line, IsStanding}
+use Rattle.run_journal.specs.Selecting.{added, Gets, IsFront, line_after, line_behind, more, open_line, undecided}
 use Rattle.run_journal.proofs.Starts.{logged-stays, logged-decided}
-
--- what one byte more of a line brings
-abbrev pub more : List ℕ → ℕ → List ℕ
-more line byte = if is_logged line then byte ∷ [] else logged_line (line ++ byte ∷ [])
-
-abbrev pub added : List ℕ → List ℕ → List ℕ
-added line [] = []
-added line (byte ∷ bytes) = more line byte ++ added (line_behind line byte) bytes
 
 pub logged_line-more : (line : List ℕ) (byte : ℕ) → logged_line (line ++ byte ∷ []) ≡ logged_line line ++ more line byte
 logged_line-more line byte = elim (cases_Bool (is_logged line)) [
@@ -72,78 +62,65 @@ logged-more text bytes = added_all (text ++ bytes) ∙ added-append [] text byte
 pub logged-front : (text bytes : List ℕ) → (rest : List ℕ) × (logged (text ++ bytes) ≡ logged text ++ rest)
 logged-front text bytes = (added (open_line text) bytes, logged-more text bytes)
 
--- ---- what is known of a line
+-- ---- the first bytes of a line
 
-stands : (line : List ℕ) → length line ≤ 7 → IsStanding (decided line).standing (decided line).front line
-stands line few = elim (cases_Bool (is_logged line)) [
-  | inl is ↦ rw is (refl, is)
-  | inr not ↦ elim (cases_Bool (length line == 7)) [
-    | inl all ↦ rw not (rw all (refl, not, omega (arith, eqb-true (length line) 7 all)))
-    | inr fewer ↦ rw not (rw fewer (refl, not, omega (arith, few, eqb-false (length line) 7 fewer)))
-  ]
-]
+-- they have decided, and one byte more changes nothing
+pub front_stays : (front line : List ℕ) (byte : ℕ) → is_logged front ≡ true → IsFront front line → IsFront front (line ++ byte ∷ []) × (byte ∷ [] ≡ more line byte)
+front_stays front line byte is (same, first) =
+    let logged_too : is_logged line ≡ true = sym same ∙ is in
+    ((is ∙ sym (logged-stays line (byte ∷ []) logged_too), λ not. absurd (cc (sym is ∙ not))), rw logged_too refl)
 
-with-stands : (standing : Standing) (front line : List ℕ) (byte : ℕ) → IsStanding standing front line → IsStanding (with_byte standing front byte).standing (with_byte standing front byte).front (line ++ byte ∷ [])
-with-stands Open front line byte (is, not, few) = subst (λ f. IsStanding (decided (f ++ byte ∷ [])).standing (decided (f ++ byte ∷ [])).front (line ++ byte ∷ [])) (sym is) (stands (line ++ byte ∷ []) (omega (arith, length-append line (byte ∷ []), few)))
-with-stands Logged front line byte (none, is) = (none, logged-stays line (byte ∷ []) is)
-with-stands Passed front line byte (none, not, long) = (none, logged-decided line (byte ∷ []) long ∙ not, omega (arith, length-append line (byte ∷ []), long))
+-- or they are all of it yet
+pub front_grows : (front line : List ℕ) (byte : ℕ) → is_logged front ≡ false → length front < 7 → IsFront front line → IsFront (front ++ byte ∷ []) (line ++ byte ∷ []) × (logged_line (front ++ byte ∷ []) ≡ more line byte)
+front_grows front line byte not few (same, first) =
+    let whole : line ≡ front = all_of line (first not) in
+    let longer : front ++ byte ∷ [] ≡ line ++ byte ∷ [] = ap (λ (l : List ℕ). l ++ byte ∷ []) (sym whole) in
+    ((ap is_logged longer, λ still. longer ∙ sym (take_all 7 (line ++ byte ∷ []) (omega (arith, few, ap length whole, length-append line (byte ∷ []))))), ap logged_line longer ∙ (rw (sym same ∙ not) refl))
+  where
+    all_of : (line : List ℕ) → front ≡ take 7 line → line ≡ front
+    all_of line is = sym (take_all 7 line (omega (arith, few, ap length is, length-take 7 line))) ∙ sym is
 
-byte-stands : (s : Selected) (line : List ℕ) (byte : ℕ) → IsStanding s.standing s.front line → IsStanding (behind_byte s byte).standing (behind_byte s byte).front (line_behind line byte)
-byte-stands s line byte is = elim (cases_Bool (byte == 10)) [
-  | inl feed ↦ rw feed (refl, refl, omega arith)
-  | inr other ↦ rw other (with-stands s.standing s.front line byte is)
-]
+-- or the seventh has decided that a log doesn't get the line
+pub front_decided : (front line : List ℕ) (byte : ℕ) → is_logged front ≡ false → length front ≡ 7 → IsFront front line → IsFront front (line ++ byte ∷ []) × ([] ≡ more line byte)
+front_decided front line byte not all (same, first) =
+    let long : 7 ≤ length line = omega (arith, all, ap length (first not), length-take 7 line) in
+    let kept : is_logged (line ++ byte ∷ []) ≡ is_logged line = logged-decided line (byte ∷ []) long in
+    let passed : is_logged line ≡ false = sym same ∙ not in
+    ((same ∙ sym kept, λ still. first not ∙ sym (take-append-le 7 line (byte ∷ []) long)), rw passed (rw (kept ∙ passed) refl))
 
-got-more : (standing : Standing) (front line : List ℕ) (byte : ℕ) → IsStanding standing front line → got_by standing front byte ≡ more line byte
-got-more Open front line byte (is, not, few) = ap (λ f. logged_line (f ++ byte ∷ [])) is ∙ rw not refl
-got-more Logged front line byte (none, is) = rw is refl
-got-more Passed front line byte (none, not, long) = let kept = logged-decided line (byte ∷ []) long ∙ not in rw not (rw kept refl)
+-- ---- more bytes
 
-pub bytes-stand : (s : Selected) (line bytes : List ℕ) → IsStanding s.standing s.front line → IsStanding (behind_bytes s bytes).standing (behind_bytes s bytes).front (line_after line bytes)
-bytes-stand s line [] is = is
-bytes-stand s line (byte ∷ bytes) is = bytes-stand (behind_byte s byte) (line_behind line byte) bytes (byte-stands s line byte is)
+-- a log gets this by a byte of any line with this front
+abbrev GetsByte : List ℕ → ℕ → List ℕ → List ℕ → List ℕ → Type 0
+GetsByte front byte front_now events events_now = (line : List ℕ) → IsFront front line → IsFront front_now (line ++ byte ∷ []) × (events_now ≡ events ++ more line byte)
 
-got-added : (s : Selected) (line bytes : List ℕ) → IsStanding s.standing s.front line → got s bytes ≡ added line bytes
-got-added s line [] is = refl
-got-added s line (byte ∷ bytes) is =
-    ap (λ l. l ++ got (behind_byte s byte) bytes) (got-more s.standing s.front line byte is) ∙ ap (λ l. more line byte ++ l) (got-added (behind_byte s byte) (line_behind line byte) bytes (byte-stands s line byte is))
+-- which ends the line
+pub byte_ends : (front mid end events after : List ℕ) (byte : ℕ) → byte ≡ 10 → end ≡ [] → GetsByte front byte mid events after → Gets front (byte ∷ []) end events after
+byte_ends front mid end events after byte feed none gets line is =
+    let ended : line_behind line byte ≡ [] = ap (line_behind line) feed in (
+      subst (IsFront end) (sym ended) (subst (λ (f : List ℕ). IsFront f []) (sym none) (refl, λ no. refl)),
+      (gets line is).1 ∙ ap (λ (l : List ℕ). events ++ l) (sym (append-nil (more line byte))),
+    )
 
--- what was selected of the next bytes is what the log gets by them
-module _ (s : Selected) (text bytes : List ℕ) (stand : IsStanding s.standing s.front (open_line text)) where
-  pub got_next : logged (text ++ bytes) ≡ logged text ++ got s bytes
-  got_next = logged-more text bytes ∙ ap (λ l. logged text ++ l) (sym (got-added s (open_line text) bytes stand))
+-- or doesn't
+pub byte_stays : (front mid events after : List ℕ) (byte : ℕ) → byte ≢ 10 → GetsByte front byte mid events after → Gets front (byte ∷ []) mid events after
+byte_stays front mid events after byte other gets line is =
+    let stays : line_behind line byte ≡ line ++ byte ∷ [] = rw (ne_eqb byte 10 other) refl in
+    (subst (IsFront mid) (sym stays) (gets line is).0, (gets line is).1 ∙ ap (λ (l : List ℕ). events ++ l) (sym (append-nil (more line byte))))
 
-  pub stands_next : IsStanding (behind_bytes s bytes).standing (behind_bytes s bytes).front (open_line (text ++ bytes))
-  stands_next = subst (λ l. IsStanding (behind_bytes s bytes).standing (behind_bytes s bytes).front l) (sym (line_after-append [] text bytes)) (bytes-stand s (open_line text) bytes stand)
-
--- ---- one byte more, behind others
-
-few_decided : (line : List ℕ) → length line ≤ 7 → length (decided line).front < 7
-few_decided line few = elim (cases_Bool (is_logged line)) [
+pub few_undecided : (front : List ℕ) → length front ≤ 7 → undecided front ≤ 7
+few_undecided front few = elim (cases_Bool (is_logged front)) [
   | inl is ↦ rw is (omega arith)
-  | inr not ↦ elim (cases_Bool (length line == 7)) [
-    | inl all ↦ rw not (rw all (omega arith))
-    | inr fewer ↦ rw not (rw fewer (omega (arith, few, eqb-false (length line) 7 fewer)))
-  ]
+  | inr not ↦ rw not few
 ]
 
-few_with : (standing : Standing) (front : List ℕ) (byte : ℕ) → length front < 7 → length (with_byte standing front byte).front < 7
-few_with Open front byte few = few_decided (front ++ byte ∷ []) (omega (arith, length-append front (byte ∷ []), few))
-few_with Logged front byte few = few
-few_with Passed front byte few = few
+pub gets-none : (front events : List ℕ) → Gets front [] front events events
+gets-none front events line is = (is, sym (append-nil events))
 
-pub few_behind : (s : Selected) (byte : ℕ) → length s.front < 7 → length (behind_byte s byte).front < 7
-few_behind s byte few = elim (cases_Bool (byte == 10)) [
-  | inl feed ↦ rw feed (omega arith)
-  | inr other ↦ rw other (few_with s.standing s.front byte few)
-]
-
-pub behind_bytes-more : (s : Selected) (bytes : List ℕ) (byte : ℕ) → behind_bytes s (bytes ++ byte ∷ []) ≡ behind_byte (behind_bytes s bytes) byte
-behind_bytes-more s [] byte = refl
-behind_bytes-more s (b ∷ bytes) byte = behind_bytes-more (behind_byte s b) bytes byte
-
-pub got-one_more : (s : Selected) (bytes : List ℕ) (byte : ℕ) → got s (bytes ++ byte ∷ []) ≡ got s bytes ++ got_by (behind_bytes s bytes).standing (behind_bytes s bytes).front byte
-got-one_more s [] byte = append-nil (got_by s.standing s.front byte)
-got-one_more s (b ∷ bytes) byte =
-    ap (λ l. got_by s.standing s.front b ++ l) (got-one_more (behind_byte s b) bytes byte)
-    ∙ sym (append_assoc (got_by s.standing s.front b) (got (behind_byte s b) bytes) (got_by (behind_bytes (behind_byte s b) bytes).standing (behind_bytes (behind_byte s b) bytes).front byte))
+pub gets-more : (front xs middle ys end events between after : List ℕ) → Gets front xs middle events between → Gets middle ys end between after → Gets front (xs ++ ys) end events after
+gets-more front xs middle ys end events between after first second line is =
+    let one = first line is in
+    let two = second (line_after line xs) one.0 in (
+      subst (IsFront end) (sym (line_after-append line xs ys)) two.0,
+      two.1 ∙ ap (λ l. l ++ added (line_after line xs) ys) one.1 ∙ append_assoc events (added line xs) (added (line_after line xs) ys) ∙ ap (λ l. events ++ l) (sym (added-append line xs ys)),
+    )

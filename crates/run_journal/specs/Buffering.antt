@@ -12,11 +12,12 @@ begins_answer bytes = starts_with nat_eq bytes (codes "report ")
 abbrev pub is_flushed_first : ℕ → List ℕ → Bool
 is_flushed_first buffered bytes = if nat_lt MAX_PENDING (buffered + length bytes) then nat_lt 0 buffered else nat_le FULL buffered && begins_answer bytes
 
--- so many of these bytes were taken: behind those that were held back, of which none was shown, or once all those were shown
+-- so many of these bytes were taken: behind those that were held back, of which none was shown, or once all those were shown; and no more are held back than may be
 pub record IsBuffered (before : Held) (bytes : List ℕ) (count : ℕ) (after : Held) : Type 0 where
   pub all : length bytes ≤ MAX_PENDING → count ≡ length bytes
   pub held : is_flushed_first (length before.pending) bytes ≡ false → (after.written ≡ before.written) × (after.pending ≡ before.pending ++ take count bytes)
   pub anew : is_flushed_first (length before.pending) bytes ≡ true → after.pending ≡ take count bytes
+  pub few : length after.pending ≤ MAX_PENDING
 
 -- texts were taken so, one after another, each whole
 abbrev pub AreBuffered : Held → List (List ℕ) → Held → Type 0

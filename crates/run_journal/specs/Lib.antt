@@ -6,7 +6,6 @@ pub mod WholeLines
 pub mod LogRuns
 pub mod LoggedLines
 pub mod Selecting
-pub mod Standings
 pub mod Logged
 pub mod Buffering
 pub mod Laws

@@ -8,8 +8,7 @@ use Rattle.run_journal.specs.declared.logged.Unflushed.TheVariants.{Log, Output}
 use Rattle.run_journal.specs.declared.selection.TheConstants.{DECIDING}
 use Rattle.run_journal.specs.LogFiles.{Leaves, IsDurable}
 use Rattle.run_journal.specs.LoggedLines.{logged}
-use Rattle.run_journal.specs.Selecting.{Selected}
-use Rattle.run_journal.specs.Standings.{IsStanding, open_line}
+use Rattle.run_journal.specs.Selecting.{IsFront, open_line}
 
 -- what the output has taken, where that is told, what has come since and isn't out, whether a call has failed, and whether the log has
 pub record Held : Type 0 where
@@ -50,23 +49,24 @@ StayInStep before seen crash_states held = IfSome before (λ known. AreInStep kn
 abbrev pub AreInitial : Option (List ℕ × List ℕ) → Option (List ℕ) → Option (List ℕ) → Type 0
 AreInitial before seen written = IfSome before (λ known. (seen ≡ Some known.0) × (written ≡ Some known.1))
 
--- so far that is so, and it is known whether the log gets the line that is being shown
-pub record IsSoFar (base start : List ℕ) (seen : Option (List ℕ)) (crash_states : List ℕ → Type 0) (written : Option (List ℕ)) (pending : List ℕ) (failed : Bool) (selected : Selected) : Type 0 where
+-- so far that is so, and these are the first bytes of the line that is being shown
+pub record IsSoFar (base start : List ℕ) (seen : Option (List ℕ)) (crash_states : List ℕ → Type 0) (written : Option (List ℕ)) (pending : List ℕ) (failed : Bool) (front : List ℕ) : Type 0 where
   pub step : AreInStep base start seen crash_states written pending failed
-  pub line : failed ≡ false → IsStanding selected.standing selected.front (open_line step.shown)
+  pub line : failed ≡ false → IsFront front (open_line step.shown)
 
--- At most so many bytes are gathered, and there is room for them, and for what a log gets of them. Until a call fails none
+-- At most so many bytes are gathered, and there is room for them, for what a log gets of them, and for the first bytes of a line. Until a call fails none
 -- of them is out, and the log is synced.
-pub record IsSound (before : Option (List ℕ × List ℕ)) (seen : Option (List ℕ)) (crash_states : List ℕ → Type 0) (written : Option (List ℕ)) (buffered : List ℕ) (capacity events_capacity sent : ℕ)
-    (failed : Bool) (selected : Selected) : Type 0 where
+pub record IsSound (before : Option (List ℕ × List ℕ)) (seen : Option (List ℕ)) (crash_states : List ℕ → Type 0) (written : Option (List ℕ)) (buffered : List ℕ) (capacity events_capacity front_capacity sent : ℕ)
+    (failed : Bool) (front : List ℕ) : Type 0 where
   pub within : sent ≤ length buffered
   pub few : length buffered ≤ MAX_PENDING
   pub room : MAX_PENDING ≤ capacity
   pub events_room : MAX_PENDING + DECIDING ≤ events_capacity
-  pub few_open : length selected.front < DECIDING
+  pub few_decide : length front ≤ DECIDING
+  pub front_room : DECIDING ≤ front_capacity
   pub none_out : failed ≡ false → sent ≡ 0
   pub durable : failed ≡ false → IsDurable seen crash_states
-  pub so_far : IfSome before (λ known. IsSoFar known.0 known.1 seen crash_states written (drop sent buffered) failed selected)
+  pub so_far : IfSome before (λ known. IsSoFar known.0 known.1 seen crash_states written (drop sent buffered) failed front)
 
 -- where the log has what it gets, whether the output then takes all or not
 abbrev pub OnKept : Result (Unit {0}) Unflushed → Type 0 → Type 0

@@ -1,44 +1,35 @@
--- How far it is known whether a log gets the line that is being written.
-use Rattle.std.specs.Prelude.{ℕ, ◌==◌, if◌then◌else◌, List, [], ◌∷◌, ◌++◌, length}
-use Rattle.run_journal.specs.declared.selection.Standing.{Standing}
-use Rattle.run_journal.specs.declared.selection.Standing.TheVariants.{Open, Logged, Passed}
+-- What a log gets by more of a text.
+use Rattle.std.specs.Prelude.{◌≡◌, ℕ, ◌==◌, if◌then◌else◌, false, List, [], ◌∷◌, ◌++◌, length, take}
 use Rattle.run_journal.specs.LoggedLines.{is_logged, logged_line}
 
--- how the line stands, and, while that is open, its bytes so far
-pub record Selected : Type 0 where
-  pub standing : Standing
-  pub front : List ℕ
+-- the line that is being written behind a byte, and behind bytes
+abbrev pub line_behind : List ℕ → ℕ → List ℕ
+line_behind line byte = if byte == 10 then [] else line ++ byte ∷ []
 
--- before the first byte of a line
-abbrev pub at_first : Selected
-at_first = record { standing = Open; front = [] }
+abbrev pub line_after : List ℕ → List ℕ → List ℕ
+line_after line [] = line
+line_after line (byte ∷ bytes) = line_after (line_behind line byte) bytes
 
--- a line with these bytes: the seventh decides
-abbrev pub decided : List ℕ → Selected
-decided line = if is_logged line then record { standing = Logged; front = [] }
-    else (if length line == 7 then record { standing = Passed; front = [] } else record { standing = Open; front = line })
+-- what stands behind the last line feed of a text
+abbrev pub open_line : List ℕ → List ℕ
+open_line text = line_after [] text
 
--- with one byte more
-abbrev pub with_byte : Standing → List ℕ → ℕ → Selected
-with_byte Open front byte = decided (front ++ byte ∷ [])
-with_byte Logged front byte = record { standing = Logged; front = front }
-with_byte Passed front byte = record { standing = Passed; front = front }
+-- what it gets by one byte more of a line, and by bytes behind the line
+abbrev pub more : List ℕ → ℕ → List ℕ
+more line byte = if is_logged line then byte ∷ [] else logged_line (line ++ byte ∷ [])
 
--- what the log gets by that byte
-abbrev pub got_by : Standing → List ℕ → ℕ → List ℕ
-got_by Open front byte = logged_line (front ++ byte ∷ [])
-got_by Logged front byte = byte ∷ []
-got_by Passed front byte = []
+abbrev pub added : List ℕ → List ℕ → List ℕ
+added line [] = []
+added line (byte ∷ bytes) = more line byte ++ added (line_behind line byte) bytes
 
--- behind that byte, which may have ended the line
-abbrev pub behind_byte : Selected → ℕ → Selected
-behind_byte selected byte = if byte == 10 then at_first else with_byte selected.standing selected.front byte
+-- these are the first bytes of the line, as many as decide whether a log gets it
+abbrev pub IsFront : List ℕ → List ℕ → Type 0
+IsFront front line = (is_logged front ≡ is_logged line) × (is_logged front ≡ false → front ≡ take 7 line)
 
--- behind these bytes, and what the log gets by them
-abbrev pub behind_bytes : Selected → List ℕ → Selected
-behind_bytes selected [] = selected
-behind_bytes selected (byte ∷ bytes) = behind_bytes (behind_byte selected byte) bytes
+-- of so many of them it isn't known yet
+abbrev pub undecided : List ℕ → ℕ
+undecided front = if is_logged front then 0 else length front
 
-abbrev pub got : Selected → List ℕ → List ℕ
-got selected [] = []
-got selected (byte ∷ bytes) = got_by selected.standing selected.front byte ++ got (behind_byte selected byte) bytes
+-- the events are joined by what a log gets by these bytes, behind each line with this front, which is another then
+abbrev pub Gets : List ℕ → List ℕ → List ℕ → List ℕ → List ℕ → Type 0
+Gets front bytes front_now events events_now = (line : List ℕ) → IsFront front line → IsFront front_now (line_after line bytes) × (events_now ≡ events ++ added line bytes)

@@ -2,6 +2,8 @@
 
 // Nothing is done here: a function's contract is the law, so a check of this crate proves it.
 
+ghost use Rattle.std.specs.Prelude.{◌≡◌};
+ghost use Rattle.run_journal.specs.declared.logged.TheConstants.{FULL, MAX_PENDING};
 ghost use Rattle.run_journal.specs.Buffering.{AnAnswerIsBufferedWhole};
 ghost use Rattle.run_journal.specs.Laws.{ACrashKeepsThePlan, ACrashKeepsWhatWasShown};
 ghost use Rattle.run_journal.specs.LeftLogs.{ACrashLeavesALog};
@@ -35,4 +37,11 @@ pub fn unwritten_lines_are_torn()
 /// clauses of [`Logged`](crate::Logged) what a log gets of it is written and synced first.
 pub fn an_answer_is_buffered_whole()
     ensures { AnAnswerIsBufferedWhole }
+{}
+
+/// The fewest gathered bytes that are shown before the next report's answer, and the most that are gathered, each as a
+/// number.
+pub fn the_room_for_answers_in_numbers()
+    ensures full { FULL ≡ 65_536 }
+    ensures most { MAX_PENDING ≡ 81_920 }
 {}

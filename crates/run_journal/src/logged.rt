@@ -10,7 +10,7 @@ ghost use Rattle.run_journal.specs.Logged.{HoldsNothing, StayInStep, AreInitial,
 
 use crate::file_fault::FileFault;
 use crate::log_file::LogFile;
-use crate::selection::Selection;
+use crate::selection::select;
 use crate::writing_room::WritingRoom;
 use byte_streams::{BufferedSink, Sink, WriteFault};
 use std::marker::{Model, PhantomData};
@@ -51,7 +51,8 @@ pub struct Logged<W: BufferedSink, D: LogFile, B: InitialState> {
     sent: usize,
     /// What the log gets of them.
     events: Vec<u8>,
-    selection: Selection,
+    /// The first bytes of the line that is being shown, as many as decide whether the log gets it.
+    front: Vec<u8>,
     failed: bool,
     log_failed: bool,
     before: PhantomData<B>,
@@ -70,9 +71,9 @@ impl<W: BufferedSink, D: LogFile, B: InitialState> Model for Logged<W, D, B> {
       log_failed = l.log_failed;
     } };
 
-    ghost invariant = { λ l. IsSound B.before (D.seen l.log) (D.crash_states l.log) (W.written l.output)
-        l.buffered.items (vec_capacity l.buffered) (vec_capacity l.events) l.sent l.failed l.selection
-        × HoldsNothing (W.pending l.output) (W.failed l.output)
+    ghost invariant = { λ l. IsSound B.before (D.seen l.log) (D.crash_states l.log)
+        (W.written l.output) l.buffered.items (vec_capacity l.buffered) (vec_capacity l.events)
+        (vec_capacity l.front) l.sent l.failed l.front.items × HoldsNothing (W.pending l.output) (W.failed l.output)
         × AreFaultsKnown l.failed l.log_failed (D.fault l.log) (W.failed l.output) };
 }
 
@@ -90,7 +91,7 @@ impl<W: BufferedSink + Drop, D: LogFile + Drop, B: InitialState> Logged<W, D, B>
         let WritingRoom {
             buffered,
             events,
-            selection,
+            front,
         } = room;
         Logged {
             log,
@@ -98,7 +99,7 @@ impl<W: BufferedSink + Drop, D: LogFile + Drop, B: InitialState> Logged<W, D, B>
             buffered,
             sent: 0,
             events,
-            selection,
+            front,
             failed: false,
             log_failed: false,
             before: PhantomData,
@@ -130,7 +131,7 @@ impl<W: BufferedSink + Drop, D: LogFile + Drop, B: InitialState> Logged<W, D, B>
             buffered: _,
             sent: _,
             events: _,
-            selection: _,
+            front: _,
             failed: _,
             log_failed: _,
             before: _,
@@ -191,7 +192,7 @@ impl<W: BufferedSink, D: LogFile, B: InitialState> Logged<W, D, B> {
         // Until all has gone well.
         self.failed = true;
         self.events.clear();
-        self.selection.take(&self.buffered, &mut self.events);
+        select(&mut self.front, &self.buffered, &mut self.events);
         match keep_and_pass_on(
             &mut self.log,
             &self.events,

@@ -1,28 +1,27 @@
-use Rattle.std.proofs.Common.{◌≡◌, ◌≤◌, ◌++◌, length, take, drop, Some, IfSome, Err, false, sym, ap, ◌∙◌, subst, arith, take-append-drop, append-nil}
+use Rattle.std.proofs.Common.{◌≡◌, ◌≤◌, [], ◌++◌, length, take, drop, Some, IfSome, Err, false, sym, ap, ◌∙◌, subst, arith, take-append-drop, append-nil}
 use Rattle.std.specs.Io.KnownBytes.{Appends, Keeps, append_known}
 use Rattle.std.specs.Vec.{vec_capacity}
 use Rattle.std.proofs.KnownBytes.{append_known-moved}
 use Rattle.std.proofs.lemmas.List.{take_all}
 use Rattle.run_journal.specs.LogFiles.{Leaves}
-use Rattle.run_journal.specs.Selecting.{behind_bytes, got}
+use Rattle.run_journal.specs.Selecting.{Gets}
 use Rattle.run_journal.specs.Logged.{Held, fault_if}
 use Rattle.run_journal.proofs.Steps.{not_kept, not_shown, shown, all_pending, on_log_fault, on_output_fault}
 use Rattle.run_journal.proofs.logged.Logged.flush_all.Goals as goal
 
-pub take-requires-clause-room : goal.take-requires-clause-room
-take-requires-clause-room g c = omega (arith, c.clear.ensures.len, c.clear.ensures.capacity, ap length c.deref.ensures.value, c.self.invariant.0.few, c.self.invariant.0.events_room, c.self.invariant.0.few_open)
+pub select-requires-clause-room : goal.select-requires-clause-room
+select-requires-clause-room g c = omega (arith, c.clear.ensures.len, c.clear.ensures.capacity, ap length c.deref.ensures.value, c.self.invariant.0.few, c.self.invariant.0.events_room)
 
 pub invariant_of-self-in-Err-Log : goal.invariant_of-self-in-Err-Log
 invariant_of-self-in-Err-Log g c =
     let log_now = c.keep_and_pass_on.new.log in
-    let selected = c.self.inside.selection in
     let unfailed : c.self.inside.failed ≡ false = ap (λ (v : Held). v.failed) c.self.view_is ∙ c.requires.unfailed in
-    let selects = c.take.ensures.got ∙ ap (λ l. l ++ got selected c.deref.result.now) c.clear.ensures.items ∙ ap (λ l. got selected l) c.deref.ensures.value in
+    let gets = subst (λ b. Gets c.self.inside.front.items b c.select.new.front.items [] c.select.new.events.items) c.deref.ensures.value (subst (λ e. Gets c.self.inside.front.items c.deref.result.now c.select.new.front.items e c.select.new.events.items) c.clear.ensures.items c.select.ensures.gets) in
     let failed = on_log_fault _ _ c.in-Err-Log.field-0-is c.in-Err-Log.ensures.log_fault in
     let first = on_log_fault _ _ c.in-Err-Log.field-0-is c.in-Err-Log.ensures.first in
     rw (first.0, first.1) (
-      not_kept _ _ _ _ _ _ _ _ _ _ c.self.invariant.0 unfailed c.take.new.events.items (g.D.LogFile.seen log_now) (g.D.LogFile.crash_states log_now) c.take.new.self (vec_capacity c.take.new.events)
-          (omega (arith, c.clear.ensures.capacity, c.take.ensures.capacity)) selects (c.take.ensures.behind ∙ ap (λ l. behind_bytes selected l) c.deref.ensures.value) c.take.ensures.few
+      not_kept _ _ _ _ _ _ _ _ _ _ _ c.self.invariant.0 unfailed c.select.new.events.items (g.D.LogFile.seen log_now) (g.D.LogFile.crash_states log_now) c.select.new.front.items (vec_capacity c.select.new.events) (vec_capacity c.select.new.front)
+          (omega (arith, c.clear.ensures.capacity, c.select.ensures.capacity)) c.select.ensures.front_capacity gets c.select.ensures.few
           (subst (λ b. IfSome (g.D.LogFile.seen c.self.inside.log) (λ file. Leaves (g.D.LogFile.crash_states log_now) (length file) (file ++ b))) c.deref-2.ensures.value c.keep_and_pass_on.ensures.crash),
       c.self.invariant.1,
       record { known = failed; none = λ no. absurd (cc no); output = λ yes no. absurd (cc no) },
@@ -37,11 +36,10 @@ invariant_of-self-in-Err-Output g c =
     let written_now = g.W.Sink.written c.keep_and_pass_on.new.output in
     let is = c.in-Err-Output.field-0-is in
     let had = c.in-Err-Output.ensures in
-    let selected = c.self.inside.selection in
     let unfailed : c.self.inside.failed ≡ false = ap (λ (v : Held). v.failed) c.self.view_is ∙ c.requires.unfailed in
-    let selects = c.take.ensures.got ∙ ap (λ l. l ++ got selected c.deref.result.now) c.clear.ensures.items ∙ ap (λ l. got selected l) c.deref.ensures.value in (
-      not_shown _ _ _ _ _ _ _ _ _ _ c.self.invariant.0 unfailed c.take.new.events.items seen_now (g.D.LogFile.crash_states c.keep_and_pass_on.new.log) c.take.new.self (vec_capacity c.take.new.events)
-          (omega (arith, c.clear.ensures.capacity, c.take.ensures.capacity)) selects (c.take.ensures.behind ∙ ap (λ l. behind_bytes selected l) c.deref.ensures.value) c.take.ensures.few
+    let gets = subst (λ b. Gets c.self.inside.front.items b c.select.new.front.items [] c.select.new.events.items) c.deref.ensures.value (subst (λ e. Gets c.self.inside.front.items c.deref.result.now c.select.new.front.items e c.select.new.events.items) c.clear.ensures.items c.select.ensures.gets) in (
+      not_shown _ _ _ _ _ _ _ _ _ _ _ c.self.invariant.0 unfailed c.select.new.events.items seen_now (g.D.LogFile.crash_states c.keep_and_pass_on.new.log) c.select.new.front.items (vec_capacity c.select.new.events) (vec_capacity c.select.new.front)
+          (omega (arith, c.clear.ensures.capacity, c.select.ensures.capacity)) c.select.ensures.front_capacity gets c.select.ensures.few
           (subst (λ b. IfSome seen (λ file. seen_now ≡ Some (file ++ b))) c.deref-2.ensures.value (on_output_fault _ _ is had.kept)) (on_output_fault _ _ is had.durable)
           written_now out (subst (λ b. out ≤ length b) c.deref-3.ensures.value (on_output_fault _ _ is had.within)) (subst (λ b. Appends written written_now (take out b)) c.deref-3.ensures.value (on_output_fault _ _ is had.written)),
       (on_output_fault _ _ is had.shown),
@@ -56,7 +54,7 @@ returns-in-Err-Output-clause-written g c =
     let written_now = g.W.Sink.written c.keep_and_pass_on.new.output in
     let unfailed : c.self.inside.failed ≡ false = ap (λ (v : Held). v.failed) c.self.view_is ∙ c.requires.unfailed in
     let added = subst (λ b. Appends written written_now (take out b)) c.deref-3.ensures.value (on_output_fault _ _ c.in-Err-Output.field-0-is c.in-Err-Output.ensures.written) in
-    let split = all_pending _ _ _ _ _ _ _ _ _ _ c.self.invariant.0 unfailed ∙ sym (take-append-drop out buffered) in
+    let split = all_pending _ _ _ _ _ _ _ _ _ _ _ c.self.invariant.0 unfailed ∙ sym (take-append-drop out buffered) in
     subst (λ (v : Held). Keeps (append_known v.written v.pending) (append_known written_now (drop out buffered))) c.self.view_is
     (append_known-moved written written_now (take out buffered) (drop out buffered) (drop c.self.inside.sent buffered) added split)
 
@@ -69,11 +67,10 @@ invariant_of-self g c =
     let written = g.W.Sink.written c.self.inside.output in
     let written_now = g.W.Sink.written c.keep_and_pass_on.new.output in
     let kept = c.in-Ok.ensures in
-    let selected = c.self.inside.selection in
     let unfailed : c.self.inside.failed ≡ false = ap (λ (v : Held). v.failed) c.self.view_is ∙ c.requires.unfailed in
-    let selects = c.take.ensures.got ∙ ap (λ l. l ++ got selected c.deref.result.now) c.clear.ensures.items ∙ ap (λ l. got selected l) c.deref.ensures.value in (
-      shown _ _ _ _ _ _ _ _ _ _ c.self.invariant.0 unfailed c.take.new.events.items seen_now (g.D.LogFile.crash_states c.keep_and_pass_on.new.log) c.take.new.self (vec_capacity c.take.new.events)
-          (omega (arith, c.clear.ensures.capacity, c.take.ensures.capacity)) selects (c.take.ensures.behind ∙ ap (λ l. behind_bytes selected l) c.deref.ensures.value) c.take.ensures.few
+    let gets = subst (λ b. Gets c.self.inside.front.items b c.select.new.front.items [] c.select.new.events.items) c.deref.ensures.value (subst (λ e. Gets c.self.inside.front.items c.deref.result.now c.select.new.front.items e c.select.new.events.items) c.clear.ensures.items c.select.ensures.gets) in (
+      shown _ _ _ _ _ _ _ _ _ _ _ c.self.invariant.0 unfailed c.select.new.events.items seen_now (g.D.LogFile.crash_states c.keep_and_pass_on.new.log) c.select.new.front.items (vec_capacity c.select.new.events) (vec_capacity c.select.new.front)
+          (omega (arith, c.clear.ensures.capacity, c.select.ensures.capacity)) c.select.ensures.front_capacity gets c.select.ensures.few
           (subst (λ b. IfSome seen (λ file. seen_now ≡ Some (file ++ b))) c.deref-2.ensures.value kept.kept) kept.durable
           written_now out now.items (vec_capacity now) (subst (λ b. out ≡ length b) c.deref-3.ensures.value kept.all)
           (subst (λ b. Appends written written_now (take out b)) c.deref-3.ensures.value kept.written) c.clear-in-Ok.ensures.items (omega (arith, c.clear-in-Ok.ensures.capacity)),
@@ -97,6 +94,6 @@ returns-in-Ok-clause-written g c =
     let all = subst (λ b. out ≡ length b) c.deref-3.ensures.value c.in-Ok.ensures.all in
     let whole : take out buffered ≡ buffered = take_all out buffered (omega (arith, all)) in
     let split : drop c.self.inside.sent buffered ≡ take out buffered ++ now =
-    all_pending _ _ _ _ _ _ _ _ _ _ c.self.invariant.0 unfailed ∙ sym whole ∙ sym (append-nil (take out buffered)) ∙ ap (λ l. take out buffered ++ l) (sym c.clear-in-Ok.ensures.items) in
+    all_pending _ _ _ _ _ _ _ _ _ _ _ c.self.invariant.0 unfailed ∙ sym whole ∙ sym (append-nil (take out buffered)) ∙ ap (λ l. take out buffered ++ l) (sym c.clear-in-Ok.ensures.items) in
     subst (λ (v : Held). Keeps (append_known v.written v.pending) (append_known written_now now)) c.self.view_is
     (append_known-moved written written_now (take out buffered) now (drop c.self.inside.sent buffered) added split)

@@ -21,7 +21,7 @@ invariant_of-self g c =
       | else-is_flushed_first w ↦ ap (λ (v : Held). v.failed) w.self-is ∙ at_first
     ] in
     let unfailed : c.self-2.inside.failed ≡ false = ap (λ (v : Held). v.failed) c.self-2.view_is ∙ with_room in
-    (gathers _ _ _ _ _ _ _ _ _ _ c.self-2.invariant.0 unfailed more now (vec_capacity c.extend_from_slice.new.self) is few c.extend_from_slice.ensures.capacity, c.self-2.invariant.1, c.self-2.invariant.2)
+    (gathers _ _ _ _ _ _ _ _ _ _ _ c.self-2.invariant.0 unfailed more now (vec_capacity c.extend_from_slice.new.self) is few c.extend_from_slice.ensures.capacity, c.self-2.invariant.1, c.self-2.invariant.2)
 
 pub returns-clause-written : goal.returns-clause-written
 returns-clause-written g c =
