@@ -1,8 +1,8 @@
 -- What holds of every run that goes on from a cell whose rest has ranks and earliest moments.
-use Rattle.std.proofs.Common.{◌≡◌, ℕ, ◌<◌, ◌≤◌, List, ◌++◌, arith, sym, subst, inl, inr}
+use Rattle.std.proofs.Common.{◌≡◌, ℕ, ◌<◌, ◌≤◌, List, ◌++◌, sym, subst, inl, inr}
 use Rattle.std.proofs.lemmas.Bool.{cases_lt}
 use Rattle.shop_base.specs.{declared.node.Node.Node, declared.report.Report.Report}
-use Rattle.shop_base.specs.{Plan.{PlannedShop, jobs, steps, budget, IsWellShaped}, Cell.{Cell, made, since, IsGone}}
+use Rattle.shop_base.specs.{Plan.{PlannedShop, jobs, steps, IsWellShaped}, Cell.{Cell, made, since, IsGone}}
 use Rattle.shop_base.specs.{Report.IsNextMoment, Run.{Event, IsRun, ends_in}, Graph.{leaving, IsSimpleCycle}}
 use Rattle.shop_base.specs.KeptMoments.{KeepsMoments, KeepsLeaving}
 use Rattle.shop_base.specs.Ahead.{IsAhead, MeetBudgetsAhead, MomentsFitAhead, PathAhead, IsScheduleAhead, GoesOnTo}
@@ -13,7 +13,7 @@ use Rattle.shop_base.proofs.Within.{in_time_within-holds, each_move_is_in_time-h
 use Rattle.shop_base.proofs.SomeExact.{some_continuation_is_exact-holds}
 use Rattle.shop_base.proofs.Deadlines.{deadlines_are_the_latest-holds, no_deadline_is_too_early-holds, in_time_by_deadlines-holds, the_rest_stays_accepted-holds, all_out_by_deadlines-holds, deadlines_stay-holds}
 use Rattle.alt_graph.specs.Times.{NodeTimes, rank_of, earliest_of}
-use Rattle.plan_verifier.specs.FromThere.{IsNeverStuckFrom, IsInTimeFrom, IsNeverGoneAfterFrom, IsNeverGoneBeforeFrom, IsJustInTimeFrom, IsNeverInBudgetFrom, AreDeadlinesFrom, IsNeverDoneFrom}
+use Rattle.plan_verifier.specs.FromThere.{IsNeverStuckFrom, IsInTimeFrom, IsNeverGoneAfterFrom, IsNeverGoneBeforeFrom, IsJustInTimeFrom, AreDeadlinesFrom, IsNeverDoneFrom}
 use Rattle.plan_verifier.specs.{Leavings.{leaves_in, AreLeavingsAhead}, Rest.AreOrderedAhead}
 use Rattle.plan_verifier.specs.RestVerdicts.{IsAcceptableAhead}
 use Rattle.plan_verifier.proofs.{Acceptable.{leaving_node, acceptable_ahead}, PathsAhead.path_no_faster}
@@ -119,14 +119,6 @@ module _ (p : PlannedShop) (c : Cell) (t : ℕ) (times : NodeTimes) (ordered : A
 
   pub never_gone_before : (j : ℕ) → j < jobs p → (IsGone p c j → ⊥) → IsNeverGoneBeforeFrom p c t j (kept (leaving p j))
   never_gone_before j inside here = (let (nodes, path) = leaving_path j inside here in path_no_faster p c t j nodes (kept (leaving p j)) ordered.schedule.shaped path)
-
--- where some job is never gone it is never out by its budget
-pub never_done_just : (p : PlannedShop) (c : Cell) (t : ℕ) → IsNeverDoneFrom p c → IsNeverInBudgetFrom p c t
-never_done_just p c t never es fs run same more from late = let (j, inside, here, not) = never es fs same more in (j, inside, here, λ out. not out.gone)
-
--- nor is a job that is never gone before a moment past its budget
-pub late_just : (p : PlannedShop) (c : Cell) (t j n : ℕ) → j < jobs p → (IsGone p c j → ⊥) → budget p j < n → IsNeverGoneBeforeFrom p c t j n → IsNeverInBudgetFrom p c t
-late_just p c t j n inside here past never es fs run same more from late = (j, inside, here, λ out. omega (arith, never es fs run same more from late out.gone, out.by))
 
 -- a cycle stops every run that goes on
 pub cycle_never_done : (p : PlannedShop) (c : Cell) (nodes : List Node) → IsWellShaped p → IsSimpleCycle p nodes → IsNeverDoneFrom p c

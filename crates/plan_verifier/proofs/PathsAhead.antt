@@ -7,11 +7,11 @@ use Rattle.shop_base.specs.{Movers.due_of_job, Sound.IsSound, Punctual.AreNotEar
 use Rattle.shop_base.specs.{Graph.{node, IsNode, leaving}, Ahead.{IsAhead, PathAhead, now, held, onward}}
 use Rattle.shop_base.proofs.{Cycles.source_node, Ahead.{IsLeftIn, held_left, path_left}}
 use Rattle.shop_base.proofs.LowerBounds.{no_continuation_is_faster-holds}
-use Rattle.alt_graph.specs.Bounds.{NodeBounds, bound_of, PathFrom, begins_at, goes_along, IsChainFrom}
+use Rattle.alt_graph.specs.Bounds.{NodeBounds, bound_of, IsAheadOf, PathFrom, begins_at, goes_along, IsChainFrom}
 use Rattle.alt_graph.specs.{Evidence.EndsIn, Places.node_at}
-use Rattle.plan_verifier.specs.{CellBounds.{bound_in, held_to, cleaned_at}, FromThere.IsNeverGoneBeforeFrom}
+use Rattle.plan_verifier.specs.{CellBounds.{rest_bounds, bound_in, held_to, cleaned_at}, FromThere.IsNeverGoneBeforeFrom}
 use Rattle.plan_verifier.specs.{Held.later_than, PathBounds.{path_bounds, beginning_in}, Rest.IsChainAhead}
-use Rattle.plan_verifier.proofs.{Rests.{some_same, bound_path}, Tables.{bound_next, bound_later, in_table, ahead_of, bound_from, held_bound}}
+use Rattle.plan_verifier.proofs.{Rests.{some_same, bound_path}, Tables.{bound_next, bound_later, bound_in_table, in_table, ahead_of, of_ahead, bound_from, held_bound}}
 
 -- a path ahead ends with its last node
 ahead_ends : (p : PlannedShop) (c : Cell) (t : ℕ) (nodes : List Node) (v : Node) (n i : ℕ) → PathAhead p c t nodes v n → i + 1 ≡ length nodes → node_at nodes i ≡ v
@@ -74,6 +74,17 @@ module _ (p : PlannedShop) (c : Cell) (t : ℕ) (sound : IsSound p c) where
 
   pub beginning_in_table : (v : Node) → IsNode p v → bound_of b v ≡ beginning_in p c t v
   beginning_in_table v is = in_table p (beginning_in p c t) v is
+
+  -- by the table of the cell's bounds
+  pub none_begins : (v : Node) → IsNode p v → (IsAheadOf (rest_bounds p c t) v → ⊥) → bound_of b v ≡ None
+  none_begins v is off = beginning_in_table v is ∙ beginning_passed p c t v (elim (cases_lt v.place (made c v.job)) [
+    | inl passed ↦ passed
+    | inr here ↦ absurd (off (ahead_of p c t sound v is.job here))
+  ])
+
+  pub one_begins : (v : Node) → IsNode p v → IsAheadOf (rest_bounds p c t) v → bound_of b v ≡ Some (unwrap_or (bound_of (rest_bounds p c t) v) t)
+  one_begins v is ahead =
+      beginning_in_table v is ∙ beginning_here p c t v (of_ahead p c t sound v is.job ahead) ∙ ap (λ o. Some (unwrap_or o t)) (sym (bound_in_table p c t sound v is))
 
   -- where a path can begin one begins
   pub beginning_path : (v : Node) (n : ℕ) → IsNode p v → bound_of b v ≡ Some n → PathAhead p c t (v ∷ []) v n

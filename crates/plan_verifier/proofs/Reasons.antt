@@ -1,6 +1,6 @@
 -- The leavings of an ordered graph: their greatest lengths, and what these say of every exact run.
 use Rattle.std.proofs.Common.{◌≡◌, ℕ, ◌<◌, ◌≤◌, List, length, inl, inr, arith, sym, subst}
-use Rattle.shop_base.specs.{declared.node.Node.Node, Plan.{PlannedShop, jobs, budget, IsWellShaped}}
+use Rattle.shop_base.specs.{declared.node.Node.Node, Plan.{PlannedShop, jobs, IsWellShaped}}
 use Rattle.shop_base.specs.{Graph.{leaving, MeetBudgets, Path}, Cell.since, KeptMoments.KeepsLeaving}
 use Rattle.shop_base.specs.{ExactLaw.IsNeverGoneBefore, CycleLaw.{IsNeverDone, AreNeverMade}}
 use Rattle.shop_base.proofs.StartAhead.{controlled-leavings_kept, just_in_time-holds, no_exact_run_is_faster-holds}
@@ -41,29 +41,19 @@ module _ (p : PlannedShop) (t : NodeTimes) (ordered : AreOrdered p t) where
     evidence = record { few = few; path = (leaving p j, path) };
   }
 
--- no job is gone before the length of a path to its leaving
-pub path_never_before : (p : PlannedShop) (j n : ℕ) (nodes : List Node) → IsWellShaped p → Path p nodes (leaving p j) n → IsNeverGoneBefore p j n
-path_never_before p j n nodes shaped path = no_exact_run_is_faster-holds p j nodes n shaped path
-
--- where some job is never gone, it is never out by its budget
-pub never_done_just : (p : PlannedShop) → IsNeverDone p → IsNeverInBudget p
-never_done_just p never es run exact = let found = never es run in (found.0, found.1, λ out. found.2 out.gone)
-
--- nor is a job that is never gone before a moment past its budget
-pub late_just : (p : PlannedShop) (j n : ℕ) → j < jobs p → budget p j < n → IsNeverGoneBefore p j n → IsNeverInBudget p
-late_just p j n inside past never es run exact = (j, inside, λ out. omega (arith, never es run exact out.gone, out.by))
-
 pub refused_stops : (p : PlannedShop) (why : Why) → IsWellShaped p → IsReason p why → OnCycle (λ nodes. AreNeverMade p nodes × IsNeverDone p) (Refused p why)
 refused_stops p (Cycle nodes) shaped cycle = cycle_stops p nodes.items shaped cycle
 refused_stops p (Late job leaves chain times) shaped late = tt
 
 pub refused_no_faster : (p : PlannedShop) (why : Why) → IsWellShaped p → IsReason p why → OnLate (λ job leaves. IsNeverGoneBefore p job leaves) (Refused p why)
 refused_no_faster p (Cycle nodes) shaped cycle = tt
-refused_no_faster p (Late job leaves chain times) shaped late = path_never_before p job leaves chain.items shaped late.0.path
+refused_no_faster p (Late job leaves chain times) shaped late = no_exact_run_is_faster-holds p job chain.items leaves shaped late.0.path
 
+-- a job that is never gone is never out by its budget, nor is one that is never gone before a moment past it
 pub refused_just : (p : PlannedShop) (why : Why) → IsWellShaped p → IsReason p why → IsNeverInBudget p
-refused_just p (Cycle nodes) shaped cycle = never_done_just p (cycle_stops p nodes.items shaped cycle).1
-refused_just p (Late job leaves chain times) shaped late = late_just p job leaves late.0.job late.0.past (path_never_before p job leaves chain.items shaped late.0.path)
+refused_just p (Cycle nodes) shaped cycle = λ es run exact. (let found = (cycle_stops p nodes.items shaped cycle).1 es run in (found.0, found.1, λ out. found.2 out.gone))
+refused_just p (Late job leaves chain times) shaped late = λ es run exact.
+    (job, late.0.job, λ out. omega (arith, no_exact_run_is_faster-holds p job chain.items leaves shaped late.0.path es run exact out.gone, out.by, late.0.past))
 
 -- a reason for a refusal leaves no plan to be accepted
 pub reason_refutes : (p : PlannedShop) (why : Why) → IsReason p why → IsAcceptable p → ⊥
@@ -95,7 +85,7 @@ verified_greatest v sound = leavings_greatest v.planned v.times sound.ordered
 pub verified_never_before : (v : VerifiedPlan) → IsVerified v → (j : ℕ) → j < jobs v.planned → IsNeverGoneBefore v.planned j (kept_at v (leaving v.planned j))
 verified_never_before v sound j inside =
     let path = (verified_greatest v sound j inside).reached in
-    path_never_before v.planned j (kept_at v (leaving v.planned j)) path.0 sound.schedule.shaped path.1
+    no_exact_run_is_faster-holds v.planned j path.0 (kept_at v (leaving v.planned j)) sound.schedule.shaped path.1
 
 -- a job of an accepted plan that is gone is gone since at most the kept moment of its leaving, where all reports are punctual
 pub verified_no_later : (v : VerifiedPlan) → IsVerified v → (j : ℕ) → j < jobs v.planned → IsNeverGoneAfter v.planned j (kept_at v (leaving v.planned j))

@@ -1,6 +1,5 @@
 -- The times from the bounds of a cell are those of the rest of its run.
 use Rattle.std.proofs.Common.{◌≡◌, ℕ, ◌<◌, ◌≤◌, List, [], ◌∷◌, ◌++◌, Some, max, arith, refl, sym, subst, ◌∙◌, ◌⊎◌, inl, inr}
-use Rattle.std.specs.{Prelude.{Result, Ok, Err, IfOk}, declared.alloc.AllocError.AllocError}
 use Rattle.shop_base.specs.{declared.node.Node.Node, Plan.{PlannedShop, jobs}, Cell.{Cell, job_in, made, since, IsGone}}
 use Rattle.shop_base.specs.{Activity.{Activity, Arrival, Operation, Cleaning, GoesOn}, Movers.due_of_job, Sound.IsSound}
 use Rattle.shop_base.specs.Graph.{IsNode, leaving}
@@ -121,7 +120,6 @@ module _ (p : PlannedShop) (c : Cell) (t : ℕ) (sound : IsSound p c) where
     }
 
   -- where there is no cycle
-  pub solved_ahead : (solved : Result Solved AllocError) → IfOk solved (OnOrderedFrom p b) → IfOk solved (OnOrderedAhead p c t)
-  solved_ahead (Ok (Ordered times)) ordered = ordered_ahead times ordered
-  solved_ahead (Ok (Cyclic nodes)) ordered = tt
-  solved_ahead (Err e) ordered = tt
+  pub solved_ahead : (solved : Solved) → OnOrderedFrom p b solved → OnOrderedAhead p c t solved
+  solved_ahead (Ordered times) ordered = ordered_ahead times ordered
+  solved_ahead (Cyclic nodes) ordered = tt

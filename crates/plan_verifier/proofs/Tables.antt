@@ -61,6 +61,8 @@ module _ (p : PlannedShop) (c : Cell) (t : ℕ) where
         differ : (n : ℕ) → Some n ≡ None → ⊥
         differ n bad = cc
 
+pub ruleset bounds = (bound_passed, bound_next, bound_later, bound_in_table)
+
 -- the later of two moments is one of them
 pub later_is : (n : ℕ) (o : Option ℕ) → (later_than n o ≡ n) ⊎ ((m : ℕ) × (o ≡ Some m) × (later_than n o ≡ m))
 later_is n None = inl refl

@@ -9,7 +9,7 @@ use Rattle.plan_verifier.specs.RestVerdicts.{IsAcceptableAhead, IsAcceptedAhead,
 use Rattle.plan_verifier.specs.{declared.verdict.Judged.Judged, declared.verdict.Judged.TheVariants.{Accepted, Refused}}
 use Rattle.plan_verifier.specs.declared.verdict.Why.TheVariants.{Cycle, Late}
 use Rattle.plan_verifier.proofs.Acceptable.{leaving_node, acyclic, within_budget}
-use Rattle.plan_verifier.proofs.GoingOn.{leaving_ahead, never_gone_before, never_done_just, late_just, cycle_never_done}
+use Rattle.plan_verifier.proofs.GoingOn.{leaving_ahead, never_gone_before, cycle_never_done}
 use Rattle.plan_verifier.proofs.PathsAhead.{along_greatest}
 
 module _ (p : PlannedShop) (c : Cell) (t : ℕ) (times : NodeTimes) (ordered : AreOrderedAhead p c t times) where
@@ -62,8 +62,14 @@ verdict_stops p c t (Accepted times) shaped reason = tt
 verdict_stops p c t (Refused (Cycle nodes)) shaped reason = ((cycle_stops p nodes.items shaped reason).0, cycle_never_done p c nodes.items shaped (cycle_simple p nodes.items reason))
 verdict_stops p c t (Refused (Late job leaves chain times)) shaped reason = tt
 
+-- a job that is never gone is never out by its budget, nor is one that is never gone before a moment past it
 pub verdict_just : (p : PlannedShop) (c : Cell) (t : ℕ) (verdict : Judged) → IsWellShaped p → IsReasonAhead p c t verdict → OnRestRefused (IsNeverInBudgetFrom p c t) verdict
 verdict_just p c t (Accepted times) shaped reason = tt
-verdict_just p c t (Refused (Cycle nodes)) shaped reason = never_done_just p c t (cycle_never_done p c nodes.items shaped (cycle_simple p nodes.items reason))
-verdict_just p c t (Refused (Late job leaves chain times)) shaped reason =
-    late_just p c t job (earliest_of times (leaving p job)) reason.0.job reason.0.here (omega (arith, reason.0.past, reason.2)) (never_gone_before p c t times reason.1 job reason.0.job reason.0.here)
+verdict_just p c t (Refused (Cycle nodes)) shaped reason = λ es fs run same more from late.
+    (let (j, inside, here, not) = cycle_never_done p c nodes.items shaped (cycle_simple p nodes.items reason) es fs same more in (j, inside, here, λ out. not out.gone))
+verdict_just p c t (Refused (Late job leaves chain times)) shaped (first, ordered, same) = λ es fs run ends more from late. (
+  job,
+  first.job,
+  first.here,
+  λ out. omega (arith, never_gone_before p c t times ordered job first.job first.here es fs run ends more from late out.gone, out.by, first.past, same),
+)

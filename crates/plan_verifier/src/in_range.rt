@@ -6,6 +6,7 @@ use cell_tables::WorkCell;
 use shop_base::Planned;
 
 /// The cleanings that go on began at moments within the limit. It does nothing, and is called for its clause alone.
+#[tactic(auto, using(shop_base::proofs::InShop::cleaned_in_shop))]
 pub fn cleanings_in_range<P: Planned>(cell: &WorkCell<P>)
     ensures { AreBegun cell.now.cell }
 {

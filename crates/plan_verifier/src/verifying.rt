@@ -1,7 +1,7 @@
 //! The verdict on a plan, and on the rest of a run: by its cycle first, and by its first late job second.
 
-ghost use Rattle.std.specs.Prelude.{◌≡◌, ℕ, ◌<◌, ◌≤◌, ◌↔◌, IfOk, IfErr};
-ghost use Rattle.shop_base.specs.{declared.limits.TheConstants.MAX_MOMENT, Plan.jobs, Plan.IsWellShaped, Cell.IsGone};
+ghost use Rattle.std.specs.Prelude.{◌≡◌, ℕ, ◌<◌, ◌↔◌, IfOk, IfErr};
+ghost use Rattle.shop_base.specs.{Plan.jobs, Plan.IsWellShaped, Cell.IsGone};
 ghost use Rattle.shop_base.specs.{Report.IsNextMoment, Graph.leaving, ExactLaw.IsNeverGoneBefore};
 ghost use Rattle.shop_base.specs.CycleLaw.{IsNeverDone, AreNeverMade};
 ghost use Rattle.alt_graph.specs.Times.{earliest_of};
@@ -27,6 +27,7 @@ use std::alloc::{AllocError, Global};
 /// Judges a plan: looks first for a cycle, then for the first late job. When out of memory, it gives the plan back. A
 /// cycle stops every run, and in no exact run is the late job gone earlier than the verdict says, so no exact run of a
 /// refused plan has every job out by its budget.
+#[tactic(auto, using(crate::proofs::Reasons::reason_refutes, crate::proofs::Reasons::refused_stops, crate::proofs::Reasons::refused_no_faster, crate::proofs::Reasons::refused_just))]
 pub fn verify(alloc: Global, shaped: Shaped) -> Result<Verdict, (AllocError, Shaped)>
     ensures accepted { IfOk result (OnAccepted (λ verified. (verified.planned ≡ shaped) × IsAcceptable shaped)) }
     ensures refused { IfOk result (OnRefused (λ back why. (back ≡ shaped) × IsReason shaped why)) }
@@ -44,6 +45,7 @@ pub fn verify(alloc: Global, shaped: Shaped) -> Result<Verdict, (AllocError, Sha
 }
 
 /// Judges a whole plan, from its releases.
+#[tactic(auto, using(alt_graph::proofs::WholePlans::whole_rooted, crate::proofs::ByBounds::judged_whole))]
 fn judge_whole(alloc: Global, shaped: &Shaped) -> Result<Judged, AllocError>
     ensures judged { IfOk result (IsJudgedWhole shaped.now) }
     ensures well_shaped { IsWellShaped shaped.now }
@@ -58,6 +60,7 @@ fn judge_whole(alloc: Global, shaped: &Shaped) -> Result<Judged, AllocError>
 /// before the last one of that run. Looks first for a cycle, then for the first late job; jobs that are gone aren't
 /// judged. What goes on ends when it is due, and what is overdue at the present moment. Linear in the nodes, the arcs
 /// and the machines; fails only when out of memory.
+#[tactic(auto, using(crate::proofs::Tables::rest_rooted))]
 pub fn verify_after<P: Planned>(
     alloc: Global,
     cell: &WorkCell<P>,
@@ -81,20 +84,6 @@ pub fn verify_after<P: Planned>(
     ensures stops { IfOk result
         (OnRestCycle (λ nodes. AreNeverMade cell.now.plan nodes × IsNeverDoneFrom cell.now.plan cell.now.cell)) }
     ensures just { IfOk result (OnRestRefused (IsNeverInBudgetFrom cell.now.plan cell.now.cell present)) }
-{
-    judge_rest(alloc, cell, present)
-}
-
-/// Judges the rest of a run, from the bounds of its cell.
-fn judge_rest<P: Planned>(
-    alloc: Global,
-    cell: &WorkCell<P>,
-    present: Moment,
-) -> Result<Judged, AllocError>
-    requires { present ≤ MAX_MOMENT }
-    ensures accepted { IfOk result (IsAcceptedAhead cell.now.plan cell.now.cell present) }
-    ensures refused { IfOk result (IsReasonAhead cell.now.plan cell.now.cell present) }
-    ensures well_shaped { IsWellShaped cell.now.plan }
 {
     let shaped = cell.shaped();
     let solved = solve_from(alloc, shaped, CellBounds { cell, present })?;

@@ -1,24 +1,21 @@
-use Rattle.std.proofs.Common.{◌≡◌, ◌↔◌, ℕ, ◌<◌, arith}
+use Rattle.std.proofs.Common.{◌≡◌, ◌↔◌, ℕ, ◌<◌, ◌≤◌, arith}
 use Rattle.shop_base.specs.declared.node.Node.{Node}
-use Rattle.shop_base.specs.{Plan.{PlannedShop, jobs}, Cell.start, Graph.{IsNode, leaving, MeetBudgets}, Ahead.MeetBudgetsAhead}
+use Rattle.shop_base.specs.{Plan.{PlannedShop, jobs}, Cell.{made, start}, Graph.{IsNode, leaving, MeetBudgets}, Ahead.MeetBudgetsAhead}
 use Rattle.shop_base.proofs.Keeping.{start-made}
 use Rattle.alt_graph.specs.Times.{NodeTimes, rank_of, earliest_of, AreOrdered}
-use Rattle.plan_verifier.specs.{Accepted.IsGreatest, Rest.{AreOrderedAhead, IsGreatestAhead}}
-use Rattle.plan_verifier.specs.RestVerdicts.{IsAcceptableAhead}
-use Rattle.plan_verifier.proofs.{Acceptable.{leaving_node, acceptable_ahead}, AtStart.{greatest_to, nobody_gone}}
-use Rattle.plan_verifier.proofs.Reasons.{greatest_once}
+use Rattle.plan_verifier.specs.{Rest.AreOrderedAhead, RestVerdicts.IsAcceptableAhead}
+use Rattle.plan_verifier.proofs.{Acceptable.{leaving_node, acceptable_ahead}, AtStart.{ordered_ahead, nobody_gone}}
 use Rattle.plan_verifier.proofs.laws.the_rest_of_the_start_is_the_plan.Goals as goal
 
 module _ (p : PlannedShop) (whole rest : NodeTimes) (ordered : AreOrdered p whole) (ahead : AreOrderedAhead p (start p) 0 rest) where
   -- the earliest moments of both are the greatest lengths
   same : (v : Node) → IsNode p v → earliest_of rest v ≡ earliest_of whole v
-  same v is = greatest_once p v (earliest_of rest v) (earliest_of whole v) (greatest_to p ordered.times.schedule.shaped v (earliest_of rest v) there) here
-    where
-      there : IsGreatestAhead p (start p) 0 v (earliest_of rest v)
-      there = record { reached = ahead.reached v is (omega (arith, start-made p v.job is.job)); longest = λ nodes k path. ahead.greatest nodes v k path }
-
-      here : IsGreatest p v (earliest_of whole v)
-      here = record { reached = ordered.lengths.reached v is; longest = λ nodes k path. ordered.lengths.greatest nodes v k path }
+  same v is =
+      let there : AreOrderedAhead p (start p) 0 whole = ordered_ahead p whole ordered in
+      let at_start : made (start p) v.job ≤ v.place = omega (arith, start-made p v.job is.job) in
+      let (nodes, path) = ahead.reached v is at_start in
+      let (others, other) = there.reached v is at_start in
+      omega (arith, there.greatest nodes v (earliest_of rest v) path, ahead.greatest others v (earliest_of whole v) other)
 
   leaving_same : (j : ℕ) → j < jobs p → earliest_of rest (leaving p j) ≡ earliest_of whole (leaving p j)
   leaving_same j inside = same (leaving p j) (leaving_node p j inside)

@@ -3,7 +3,7 @@ use Rattle.shop_base.specs.{Plan.jobs, Cell.IsGone, Graph.leaving}
 use Rattle.alt_graph.specs.Times.{NodeTimes, earliest_of}
 use Rattle.plan_verifier.specs.FromThere.{IsNeverStuckFrom, IsInTimeFrom, IsNeverGoneAfterFrom, IsNeverGoneBeforeFrom, IsJustInTimeFrom}
 use Rattle.plan_verifier.proofs.GoingOn.{never_stuck_from, in_time_from, never_gone_after, never_gone_before, just_in_time_from}
-use Rattle.plan_verifier.proofs.Answers.{ok_both, ok_each}
+use Rattle.plan_verifier.proofs.{Answers.{ok_both, ok_each}, ByBounds.{judged_accepted, judged_reason}}
 use Rattle.plan_verifier.proofs.Verdicts.{verdict_exact, verdict_times, verdict_stops, verdict_just}
 use Rattle.plan_verifier.proofs.verifying.verify_after.Goals as goal
 
@@ -12,9 +12,10 @@ returns g c =
     let p = c.args.cell.now.plan in
     let cell = c.args.cell.now.cell in
     let t = c.args.present in
-    let judged = c.judge_rest.result in
-    let is = c.judge_rest.ensures.accepted in
-    let why = c.judge_rest.ensures.refused in
+    let judged = c.judge.result in
+    let known = rw c.shaped-shaped.ensures.plan at c.judge.ensures in
+    let is = ok_each judged (judged_accepted p cell t c.shaped-shaped.ensures.sound) known in
+    let why = ok_each judged (judged_reason p cell t c.shaped-shaped.ensures.sound) known in
     record {
       accepted = is;
       refused = why;
@@ -26,6 +27,6 @@ returns g c =
       no_faster = verdict_times p cell t (λ (times : NodeTimes). (j : ℕ) → j < jobs p → (IsGone p cell j → ⊥) → IsNeverGoneBeforeFrom p cell t j (earliest_of times (leaving p j))) judged
           (λ times ordered. never_gone_before p cell t times ordered) is why;
       just_in_time = verdict_times p cell t (λ (times : NodeTimes). IsJustInTimeFrom p cell t (earliest_of times)) judged (λ times ordered. just_in_time_from p cell t times ordered c.requires) is why;
-      stops = ok_each judged (λ verdict reason. verdict_stops p cell t verdict c.judge_rest.ensures.well_shaped reason) why;
-      just = ok_each judged (λ verdict reason. verdict_just p cell t verdict c.judge_rest.ensures.well_shaped reason) why;
+      stops = ok_each judged (λ verdict reason. verdict_stops p cell t verdict c.shaped-shaped.ensures.well_shaped reason) why;
+      just = ok_each judged (λ verdict reason. verdict_just p cell t verdict c.shaped-shaped.ensures.well_shaped reason) why;
     }
