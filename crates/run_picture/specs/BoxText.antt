@@ -1,9 +1,9 @@
 -- The text of a box. Each part stands before what follows it.
-use Rattle.std.specs.Prelude.{ℕ, ◌+◌, ◌*◌, ◌/◌, ◌%◌, nat_lt, nat_le, Bool, true, false, if◌then◌else◌, List, [], ◌∷◌, ◌++◌, length, codes, decimal}
+use Rattle.std.specs.Prelude.{ℕ, ◌+◌, ◌*◌, ◌/◌, ◌%◌, nat_lt, nat_le, Bool, true, false, if◌then◌else◌, List, [], ◌∷◌, ◌++◌, codes, decimal}
 use Rattle.run_picture.specs.Parts.{before}
 use Rattle.people_names.specs.NameBooks.{NameBook}
 use Rattle.people_names.specs.Words.{job_word as job_name}
-use Rattle.run_picture.specs.Words.{job_word, machine_word, moment_word}
+use Rattle.run_picture.specs.Words.{width_of, job_word, machine_word, moment_word}
 use Rattle.run_picture.specs.declared.drawn_box.BoxKind.{BoxKind}
 use Rattle.run_picture.specs.declared.drawn_box.BoxKind.TheVariants.{Work, Wait, Clean}
 use Rattle.run_picture.specs.declared.drawn_box.DrawnBox.{DrawnBox}
@@ -77,9 +77,9 @@ module _ (names : NameBook) where
   label_onto job edges rest =
       before (codes "<text class=\"t" ∷ decimal (job % 24) ∷ codes "\" x=\"" ∷ decimal ((edges.left + edges.right) / 2) ∷ codes "\" y=\"" ∷ decimal edges.foot ∷ codes "\">" ∷ job_word names job ∷ codes "</text>" ∷ []) rest
 
-  -- whether there is room for the job between the edges: 70 for each byte of its name, and 40
+  -- whether there is room for the job between the edges: 70 for each byte of its name, more for a broad letter, and 40
   abbrev pub has_room : ℕ → Edges → Bool
-  has_room job edges = nat_le (edges.left + (40 + 70 * length (job_name names job))) edges.right
+  has_room job edges = nat_le (edges.left + (40 + width_of 70 (job_name names job))) edges.right
 
   -- the job in the box of an operation, where there is room
   abbrev pub label_if_room : BoxKind → ℕ → Edges → List ℕ → List ℕ

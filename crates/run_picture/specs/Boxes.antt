@@ -8,12 +8,12 @@ use Rattle.run_picture.specs.declared.drawn_box.DrawnBox.{DrawnBox}
 use Rattle.run_picture.specs.declared.late_leaving.LateLeaving.{LateLeaving}
 use Rattle.run_picture.specs.Late.{is_late}
 
--- when something ends: as it is told, else at the last moment
+-- when something ends: as it is known, else at the last moment
 abbrev pub end_of : ℕ → Option ℕ → ℕ
 end_of last None = last
 end_of last (Some t) = t
 
--- its end is told
+-- its end is known
 abbrev pub is_known : Option ℕ → Bool
 is_known None = false
 is_known (Some t) = true

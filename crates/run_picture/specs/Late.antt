@@ -9,7 +9,7 @@ use Rattle.run_picture.specs.declared.late_leaving.LateLeaving.{LateLeaving}
 abbrev pub last_machine : PlannedShop → ℕ → ℕ
 last_machine p j = machine_of p j (steps p j - 1)
 
--- the leaving of job j, if it is told and past its budget
+-- the leaving of job j, if it is known and past its budget
 abbrev pub late_leaving : PlannedShop → ℕ → Option ℕ → Option LateLeaving
 late_leaving p j None = None
 late_leaving p j (Some t) = if nat_lt (budget p j) t then Some (record { machine = last_machine p j; at = t }) else None
@@ -36,7 +36,7 @@ lateness_below p leavings (suc n) = max (lateness_below p leavings n) (lateness_
 abbrev pub lateness : PlannedShop → List (Option ℕ) → ℕ
 lateness p leavings = lateness_below p leavings (jobs p)
 
--- the latest of the leavings that are told, 0 where none is (Pinedo, Scheduling: C_max)
+-- the latest of the leavings that are known, 0 where none is (Pinedo, Scheduling: C_max)
 abbrev pub latest : List (Option ℕ) → ℕ
 latest [] = 0
 latest (leaving ∷ leavings) = max (moment_or_none leaving) (latest leavings)

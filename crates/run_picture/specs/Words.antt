@@ -1,7 +1,16 @@
 -- What a picture writes for a job, a machine and a moment: the words that a line has for them, as XML has texts.
-use Rattle.std.specs.Prelude.{ℕ, ◌==◌, if◌then◌else◌, List, [], ◌∷◌, flat_map, codes}
+use Rattle.std.specs.Prelude.{ℕ, ◌+◌, ◌*◌, ◌==◌, Bool, ◌||◌, if◌then◌else◌, List, [], ◌∷◌, flat_map, length, codes}
+use Rattle.std.specs.List.{count_by}
 use Rattle.people_names.specs.NameBooks.{NameBook}
 use Rattle.people_names.specs.Words.{job_word as job_name, machine_word as machine_name, moment_word as moment_name}
+
+-- a letter as broad as `W`: `%`, `@`, `M`, `W`, `m` and `w`
+abbrev pub is_broad : ℕ → Bool
+is_broad byte = byte == 37 || byte == 64 || byte == 77 || byte == 87 || byte == 109 || byte == 119
+
+-- how broad a word is, in tenths of a pixel, where most letters have this room: a broad one has 40 more
+abbrev pub width_of : ℕ → List ℕ → ℕ
+width_of letter word = letter * length word + 40 * count_by is_broad word
 
 -- a byte of a text, as XML has it (XML 1.0, 2.4)
 abbrev pub escaped_byte : ℕ → List ℕ

@@ -10,7 +10,7 @@ use crate::box_parts::{
 };
 use crate::drawn_box::{BoxKind, DrawnBox};
 use crate::frame::{bottom_of, foot_of, top_of};
-use crate::words::job_name;
+use crate::words::{job_name, width_of};
 use byte_streams::{Sink, WriteFault, put_all};
 use people_names::Names;
 use shop_base::{JobNo, Moment};
@@ -86,6 +86,5 @@ fn has_room(names: &Names, job: JobNo, edges: Edges) -> bool
     requires { edges.left ≤ 11_500 }
     ensures { result ≡ has_room names.now job edges }
 {
-    let bytes = job_name(names, job).bytes().len() as u64;
-    edges.left + (40 + 70 * bytes) <= edges.right
+    edges.left + (40 + width_of(70, job_name(names, job).bytes())) <= edges.right
 }

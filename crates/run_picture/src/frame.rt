@@ -1,9 +1,9 @@
 //! The places of the rows and of the frame, in tenths of a pixel.
 
 ghost use Rattle.std.specs.Prelude.{◌≡◌, ◌≤◌};
-ghost use Rattle.run_picture.specs.Frame.{top_of, bottom_of, foot_of, rows_end, height_for, longest_word, left_margin};
+ghost use Rattle.run_picture.specs.Frame.{top_of, bottom_of, foot_of, rows_end, height_for, broadest_word, left_margin};
 
-use crate::words::machine_name;
+use crate::words::{machine_name, width_of};
 use people_names::Names;
 use shop_base::MachineNo;
 
@@ -57,19 +57,19 @@ pub(crate) fn height_for(machines: u32) -> u64
 /// How far the picture goes to the left of 0, so that the machines' words fit before their rows.
 pub(crate) fn left_margin(names: &Names, machines: u32) -> u64
     ensures margin { result ≡ left_margin names.now machines }
-    ensures narrow { result ≤ 2_640 }
+    ensures narrow { result ≤ 4_240 }
 {
-    (40 + 80 * longest_word(names, machines)).saturating_sub(600)
+    (40 + broadest_word(names, machines)).saturating_sub(600)
 }
 
-/// How many bytes the longest word for a machine has.
-fn longest_word(names: &Names, machines: u32) -> u64
-    ensures longest { result ≡ longest_word names.now machines }
-    ensures short { result ≤ 40 }
+/// How broad the broadest word for a machine is.
+fn broadest_word(names: &Names, machines: u32) -> u64
+    ensures broadest { result ≡ broadest_word names.now machines }
+    ensures narrow { result ≤ 4_800 }
 {
     let mut most = 0;
     for machine in 0..machines {
-        most = most.max(machine_name(names, machine).bytes().len() as u64);
+        most = most.max(width_of(80, machine_name(names, machine).bytes()));
     }
     most
 }

@@ -32,7 +32,7 @@ pub(crate) fn colour_text() -> &'static [u8]
 
 /// How large the picture is.
 pub(crate) fn size_line(margin: u64, machines: u32) -> FrameLine
-    requires { margin ≤ 2_640 }
+    requires { margin ≤ 4_240 }
     ensures { result ≡ size_text margin machines }
 {
     let (width, height) = (12_000 + margin, height_for(machines));

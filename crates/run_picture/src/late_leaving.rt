@@ -17,7 +17,7 @@ pub struct LateLeaving {
     pub at: Moment,
 }
 
-/// Of each job its leaving, if that is known and past its budget. The leavings are told by job; one that isn't told
+/// Of each job its leaving, if that is known and past its budget. The leavings are given by job; one that isn't given
 /// isn't late. Fails only when out of memory.
 pub fn late_leavings(
     alloc: Global,
@@ -46,7 +46,7 @@ pub fn lateness(shaped: &Shaped, leavings: &[Option<Moment>]) -> Moment
     most
 }
 
-/// The latest of the leavings that are told, 0 if none is: the makespan, if all are.
+/// The latest of the leavings that are known, 0 if none is: the makespan, if all are.
 pub fn latest(leavings: &[Option<Moment>]) -> Moment
     ensures { result ≡ latest leavings.now }
 {
@@ -57,7 +57,7 @@ pub fn latest(leavings: &[Option<Moment>]) -> Moment
     last
 }
 
-/// When the job leaves, if that is told.
+/// When the job leaves, if that is known.
 fn leaving_at(leavings: &[Option<Moment>], job: JobNo) -> Option<Moment>
     ensures { result ≡ slice_index_or leavings.now job None }
 {

@@ -46,7 +46,7 @@ impl Model for Picture {
 impl Picture {
     /// The picture of these visits to machines numbered from 0. Each machine has a row with its name, else its number,
     /// and the axis of time goes from 0 to the last moment. The boxes come in the order of the visits. The late
-    /// leavings are told by job: those of such a job have red outlines, and its leaving a red mark.
+    /// leavings are given by job: those of such a job have red outlines, and its leaving a red mark.
     pub fn new(
         names: Names,
         sheet: Sheet,
@@ -110,7 +110,7 @@ fn put_head<W: Sink>(
     machines: u32,
     head: Head,
 ) -> Result<(), WriteFault>
-    requires { margin ≤ 2_640 }
+    requires { margin ≤ 4_240 }
     ensures wrote { WroteTo W.Sink result output.old output.new (frame_text margin machines head) }
     ensures unfailed { OnOk result (W.failed output.new ≡ W.failed output.old) }
 {

@@ -2,8 +2,9 @@
 //! line.
 
 ghost use Rattle.std.specs.Prelude.{◌≡◌, ◌+◌, ◌*◌, ◌≤◌, ◌++◌, length};
+ghost use Rattle.std.specs.List.{count_by};
 ghost use Rattle.people_names.specs.Words.{job_word as job_name, machine_word as machine_name};
-ghost use Rattle.run_picture.specs.Words.{escaped_byte, escaped, job_word, machine_word};
+ghost use Rattle.run_picture.specs.Words.{is_broad, width_of, escaped_byte, escaped, job_word, machine_word};
 ghost use Rattle.run_picture.specs.declared.words.TheConstants.{WORD_ROOM};
 
 use people_names::{LONGEST_NAME, Names};
@@ -56,6 +57,31 @@ pub(crate) fn machine_name(names: &Names, machine: MachineNo) -> NameText
     let mut name = NameText::empty();
     names.put_machine(&mut name, machine);
     name
+}
+
+/// How broad a word is, in tenths of a pixel, where most letters have this room.
+pub(crate) fn width_of(letter: u64, word: &[u8]) -> u64
+    requires letter { letter ≤ 80 }
+    requires short { length word.now ≤ 40 }
+    ensures width { result ≡ width_of letter word.now }
+    ensures narrow { result ≤ 4_800 }
+{
+    letter * word.len() as u64 + 40 * broad_letters(word)
+}
+
+/// How many of the letters are as broad as `W`.
+fn broad_letters(word: &[u8]) -> u64
+    ensures count { result ≡ count_by is_broad word.now }
+    ensures few { result ≤ length word.now }
+{
+    word.iter().filter(|byte| is_broad(**byte)).count() as u64
+}
+
+/// Whether a byte is a letter as broad as `W`.
+fn is_broad(byte: u8) -> bool
+    ensures { result ≡ is_broad byte }
+{
+    byte == b'%' || byte == b'@' || byte == b'M' || byte == b'W' || byte == b'm' || byte == b'w'
 }
 
 /// Writes a text before what there is, as XML has it.
