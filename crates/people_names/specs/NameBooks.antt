@@ -2,7 +2,7 @@
 use Rattle.std.specs.Prelude.{ℕ, Bool, false, List, [], Option, None}
 use Rattle.people_names.specs.declared.clock.Clock.{Clock}
 
--- the names of the first jobs and of the first machines, the clock if there is one, and whether this is for people: told without names or clock too, but without promises that nobody gave
+-- the names of the first jobs and of the first machines, the clock if there is one, and whether this is for people: printed without names or clock too, but without promises that nobody gave
 pub record NameBook : Type 0 where
   pub jobs : List (List ℕ)
   pub machines : List (List ℕ)

@@ -49,10 +49,10 @@ moment_by (Some (Seconds begin)) t = second_words (begin + t)
 abbrev pub moment_word : NameBook → ℕ → List ℕ
 moment_word names t = moment_by names.clock t
 
--- whether a budget is told: to people one that nobody gave isn't
+-- whether a budget is printed: for people one that nobody gave isn't
 abbrev pub is_budget_printed : NameBook → ℕ → Bool
 is_budget_printed names budget = not (names.people && (budget == MAX_MOMENT))
 
--- whether a deadline is told: to people one that only comes of such budgets isn't
+-- whether a deadline is printed: for people one that only comes of such budgets isn't
 abbrev pub is_deadline_printed : NameBook → ℕ → Bool
 is_deadline_printed names due = not (names.people && nat_lt LAST_PRINTED_DEADLINE due)

@@ -21,7 +21,7 @@ pub const LONGEST_NAME: usize = 40;
 /// No word for a moment has more bytes.
 pub const LONGEST_MOMENT: usize = 29;
 
-/// The last deadline that people are told: later ones only come of promises that nobody gave.
+/// The last deadline that is printed for people: later ones only come of promises that nobody gave.
 pub const LAST_PRINTED_DEADLINE: Moment = 500_000_000_000;
 
 /// What people call jobs and machines, and the clock by which they read moments. Jobs and machines without a name keep
@@ -116,14 +116,14 @@ impl Names {
         put_moment_by(line, self.clock, moment);
     }
 
-    /// Whether a line tells this budget: people aren't told one that nobody gave.
+    /// Whether a line prints this budget: for people none that nobody gave.
     pub fn prints_budget(&self, budget: Moment) -> bool
         ensures { result ≡ is_budget_printed self.now budget }
     {
         !(self.people && budget == MAX_MOMENT)
     }
 
-    /// Whether a line tells this deadline: people aren't told one that only comes of such budgets.
+    /// Whether a line prints this deadline: for people none that only comes of such budgets.
     pub fn prints_deadline(&self, due: Moment) -> bool
         ensures { result ≡ is_deadline_printed self.now due }
     {

@@ -64,7 +64,7 @@ impl From<toml::de::Error> for NamesFault {
     }
 }
 
-/// A key as a fault tells it: its bytes up to the first one that isn't printable ASCII.
+/// A key as a fault prints it: its bytes up to the first one that isn't printable ASCII.
 #[derive(Debug, Drop)]
 pub struct KeyText {
     text: String,
@@ -79,7 +79,7 @@ impl Model for KeyText {
 }
 
 impl KeyText {
-    /// What a fault tells of this key.
+    /// What a fault prints of this key.
     pub(crate) fn of(alloc: Global, key: &str) -> Result<KeyText, AllocError>
         ensures { IfOk result (λ printed. printed ≡ printable_part key.now) }
     {
@@ -87,7 +87,7 @@ impl KeyText {
         Ok(KeyText { text })
     }
 
-    /// The bytes that are told.
+    /// The bytes that are printed.
     pub fn as_str(&self) -> &str
         ensures { result.now ≡ self.now }
     {

@@ -100,8 +100,7 @@ fn table_of(alloc: Global, text: &[u8]) -> Result<Table, NamesFault>
 /// Reads names from the text of a TOML document, for a shop with so many jobs and machines.
 ///
 /// Its keys are `jobs` and `machines`, each with an array of the first names, and `begin`, what the clock says at
-/// moment
-/// 0. An empty text has names for nobody, but it is for people: lines tell them no promises that nobody gave.
+/// moment 0. An empty text has names for nobody, but it is for people: lines print no promises that nobody gave.
 pub fn read_names(
     alloc: Global,
     text: &[u8],

@@ -8,4 +8,4 @@ mod line;
 mod margin;
 
 pub use line::push_margin_line;
-pub use margin::{MAX_MARGIN, Margin, find_margin};
+pub use margin::{MAX_MARGIN, Margin, find_margin, the_greatest_margin_in_numbers};

@@ -2,6 +2,7 @@
 
 ghost use Rattle.std.specs.Prelude.{◌≡◌, ◌<◌, ◌≤◌, IfOk, MatchOption, length};
 ghost use Rattle.alt_graph.specs.LatestRows.{HasRows};
+ghost use Rattle.plan_margin.specs.declared.margin.TheConstants.{MAX_MARGIN};
 ghost use Rattle.plan_margin.specs.Lengths.{HasLongerSchedule};
 ghost use Rattle.plan_margin.specs.Longer.{IsFirstPast};
 ghost use Rattle.plan_margin.specs.Margins.{IsMargin};
@@ -17,6 +18,11 @@ use std::alloc::{AllocError, Global};
 
 /// The greatest margin that is looked for: everything takes eleven times as long.
 pub const MAX_MARGIN: u32 = 10_000;
+
+/// The greatest margin that is looked for, in numbers.
+pub fn the_greatest_margin_in_numbers()
+    ensures { MAX_MARGIN ≡ 10000 }
+{}
 
 /// How much longer everything may take.
 #[derive(Clone, Copy, Debug, PartialEq, Eq, Drop)]
