@@ -13,7 +13,7 @@ leap_base protocol last = if nat_lt last protocol.from then protocol.from else l
 -- whether a time is longer than the longest that may pass
 abbrev pub is_too_long : Option ℕ → ℕ → Bool
 is_too_long None time = false
-is_too_long (Some max_gap) time = nat_lt longest time
+is_too_long (Some max_gap) time = nat_lt max_gap time
 
 -- whether moment `at` leaps, where `last` is the last one
 abbrev pub leaps : Protocol → ℕ → ℕ → Bool
