@@ -1,10 +1,10 @@
 -- An answer is gathered whole.
-use Rattle.std.proofs.Common.{◌≡◌, ℕ, ◌+◌, ◌<◌, ◌≤◌, nat_lt, nat_le, ◌&&◌, if◌then◌else◌, Bool, true, false, List, [], ◌∷◌, ◌++◌, length, take, refl, sym, ap, ◌∙◌, subst, arith, inl, inr, append_assoc, append-nil, length-append}
+use Rattle.std.proofs.Common.{◌≡◌, ℕ, ◌+◌, ◌≤◌, nat_lt, nat_le, ◌&&◌, if◌then◌else◌, Bool, true, false, List, [], ◌∷◌, ◌++◌, length, take, refl, sym, ap, ◌∙◌, arith, inl, inr, append_assoc, append-nil, length-append}
 use Rattle.std.proofs.lemmas.Bool.{and_right, cases_Bool, le-ltb, leb-false, ltb-false}
 use Rattle.std.proofs.lemmas.List.{take_all}
 use Rattle.run_journal.specs.declared.logged.TheConstants.{FULL, MAX_PENDING}
 use Rattle.run_journal.specs.Logged.{Held}
-use Rattle.run_journal.specs.Buffering.{AnAnswerIsBufferedWhole, AreBuffered, BeginNone, IsBuffered, begins_answer, is_flushed_first, joined}
+use Rattle.run_journal.specs.Buffering.{AnAnswerIsBufferedWhole, AreBuffered, BeginNone, begins_answer, is_flushed_first, joined}
 
 -- where both fit
 fits : (buffered : ℕ) (bytes : List ℕ) → buffered + length bytes ≤ MAX_PENDING → is_flushed_first buffered bytes ≡ nat_le FULL buffered && begins_answer bytes

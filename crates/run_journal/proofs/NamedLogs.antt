@@ -1,5 +1,5 @@
 -- A log to which the line of a plan is added.
-use Rattle.std.proofs.Common.{◌≡◌, ◌≢◌, ◌⊎◌, ℕ, zero, suc, ◌+◌, ◌-◌, ◌==◌, ◌<◌, ◌≤◌, nat_lt, Bool, true, false, List, [], ◌∷◌, ◌++◌, length, take, drop, codes, Option, None, Some, IfSome, IsTrue, option_map, inl, inr, refl, sym, ap, ◌∙◌, subst, arith, append_assoc, append-nil, length-append}
+use Rattle.std.proofs.Common.{◌≡◌, ◌⊎◌, ℕ, ◌+◌, ◌-◌, nat_lt, Bool, true, false, List, [], ◌∷◌, ◌++◌, length, take, drop, codes, Option, None, Some, IfSome, inl, inr, refl, sym, ap, ◌∙◌, subst, arith, append_assoc, append-nil, length-append}
 use Rattle.std.specs.List.{list_all}
 use Rattle.std.proofs.lemmas.Bool.{and_from, and_left, or_from, cases_lt, lt-leb, lt-ltb, ne_eqb}
 use Rattle.std.proofs.lemmas.List.{take-append-le, take_all}
@@ -16,7 +16,7 @@ use Rattle.event_lines.proofs.WrittenWords.{AreSpaceless, before-append, line_fi
 use Rattle.event_lines.specs.RunDigits.{AreDigits, is_small_hex, plan_words, plan_line}
 use Rattle.event_lines.specs.declared.run_digits.RunDigits.{RunDigits}
 use Rattle.run_journal.specs.Folders.{Folder, NamedLog, with_log, with_made}
-use Rattle.run_journal.specs.LogFiles.{zeros, IsLeft, Leaves}
+use Rattle.run_journal.specs.LogFiles.{zeros, IsLeft}
 use Rattle.run_journal.specs.LogRuns.{IsNamedFor, IsNamedOrNot, NameLast}
 use Rattle.run_journal.specs.WholeLines.{whole_lines, torn_end}
 use Rattle.run_journal.specs.TornEnds.{is_torn}

@@ -8,7 +8,6 @@ use Rattle.text_lines.specs.Cuts.{HasNone}
 use Rattle.text_lines.specs.Lines.{is_line_feed, lines_of, parts_of, without_return}
 use Rattle.event_lines.specs.RunDigits.{IsPlanLine, plan_words}
 use Rattle.event_lines.specs.declared.run_digits.RunDigits.{RunDigits}
-use Rattle.run_journal.specs.LogFiles.{IsLeft}
 use Rattle.run_journal.specs.LogRuns.{NameLast, NameNone}
 use Rattle.run_journal.specs.LoggedLines.{is_logged, logged}
 use Rattle.run_journal.specs.Laws.{ACrashKeepsThePlan}

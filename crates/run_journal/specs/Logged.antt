@@ -1,5 +1,5 @@
 -- A log and an output that bytes go to, the log first.
-use Rattle.std.specs.Prelude.{◌≡◌, ◌⊎◌, ℕ, ◌+◌, ◌<◌, ◌≤◌, List, [], ◌++◌, length, drop, Option, None, Some, Bool, true, false, IfSome, Result, Ok, Err}
+use Rattle.std.specs.Prelude.{◌≡◌, ◌⊎◌, ℕ, ◌+◌, ◌≤◌, List, [], ◌++◌, length, drop, Option, None, Some, Bool, true, false, IfSome, Result, Ok, Err}
 use Rattle.run_journal.specs.declared.file_fault.FileFault.{FileFault}
 use Rattle.run_journal.specs.declared.file_fault.FileFault.TheVariants.{Log as LogFault}
 use Rattle.run_journal.specs.declared.logged.TheConstants.{MAX_PENDING}

@@ -1,5 +1,5 @@
 -- What a log is that was opened or made, where it couldn't be had.
-use Rattle.std.specs.Prelude.{◌≡◌, ◌⊎◌, ℕ, List, [], Bool, true, false, Option, None, Some, option_map, IfSome}
+use Rattle.std.specs.Prelude.{◌≡◌, ◌⊎◌, ℕ, List, [], Bool, false, Option, None, Some, option_map, IfSome}
 use Rattle.event_lines.specs.RunDigits.{plan_line}
 use Rattle.event_lines.specs.declared.run_digits.RunDigits.{RunDigits}
 use Rattle.run_journal.specs.declared.file_fault.FileFault.{FileFault}

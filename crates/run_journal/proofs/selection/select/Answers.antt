@@ -1,6 +1,5 @@
 use Rattle.std.proofs.Common.{◌≡◌, ◌+◌, ◌++◌, [], ◌∷◌, take, get_or, sym, subst, arith}
 use Rattle.std.proofs.lemmas.List.{take_all, take_more}
-use Rattle.run_journal.specs.LoggedLines.{is_logged}
 use Rattle.run_journal.specs.Selecting.{Gets}
 use Rattle.run_journal.proofs.Selected.{few_undecided, gets-none, gets-more}
 use Rattle.run_journal.proofs.selection.select.Goals as goal
