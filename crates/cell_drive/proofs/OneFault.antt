@@ -159,8 +159,8 @@ module _ (p : PlannedShop) (c : Cell) where
 
   line_kinds : (line : List ℕ) (f g : AuditFault) → FoundIn line f → FoundIn line g → kind f ≡ kind g
   line_kinds line f g (inl one) (inl two) = one.0 ∙ sym two.0
-  line_kinds line f g (inl one) (inr (entry, parses, fault)) = absurd (one.1.none_printed entry parses.1 parses.2)
-  line_kinds line f g (inr (entry, parses, fault)) (inl two) = absurd (two.1.none_printed entry parses.1 parses.2)
+  line_kinds line f g (inl one) (inr (entry, parses, fault)) = absurd (one.1.unparsed entry parses.1 parses.2)
+  line_kinds line f g (inr (entry, parses, fault)) (inl two) = absurd (two.1.unparsed entry parses.1 parses.2)
   line_kinds line f g (inr (a, parses, fault)) (inr (b, also, other)) =
       let lists = one_parse p line (a ∷ []) (b ∷ []) parses also in
       let heads : b ≡ a = cc in
