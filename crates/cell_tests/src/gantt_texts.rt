@@ -1,27 +1,11 @@
-//! Entries that are drawn: those of a run, and others, which no log has.
+//! Entries that are drawn though no log has them. How those of runs are drawn is shown by `tests/commands/runs`.
 
-use super::cells::{CROSSING, INSTANT, accepted};
-use super::driven_inputs::IN_TIME_LINES;
+use super::cells::{INSTANT, accepted};
 use super::events::{enter, finish, go_on, leave};
 use cell_tables::Entry;
 use run_gantt::gantt;
-use run_log::audit;
 use std::alloc::Global;
 use std::test::Fail;
-
-#[test]
-fn a_log_is_audited_and_drawn(rt: HostRuntime) -> Result<(), Fail> {
-    let verified = accepted(rt.alloc(), CROSSING)?;
-    let found = audit(rt.alloc(), verified.shaped(), IN_TIME_LINES)?;
-    assert!(rt; found.reports == 6 && found.orders == 6 && found.entries.len() == 12);
-    assert!(rt; found.last == 9 && found.complete);
-    let drawing = gantt(rt.alloc(), verified.shaped(), &found.entries)?;
-    assert!(rt;
-        drawing.as_str()
-            == "scale 1\nmachine 0 0:0-2-2 1:8-9-9\nbar 00......1.\nmachine 1 0:2-4-4 1:4-8-8\nbar ..001111..\n"
-    );
-    Ok(())
-}
 
 /// A job of none of the shops.
 const STRANGER: u32 = 4_000_000_013;

@@ -1,4 +1,4 @@
-//! The tests of calls behind commands: what words choose, answers to the worked examples, and calls that are wanting
+//! The tests of calls behind commands: what is loaded of a plan, what its search answers, and calls that are wanting
 //! memory. What whole commands write is shown on the built program, by the scripts of `tests/`.
 //!
 //! They stand apart from what they test, since a crate with tests is proved once more for them.
@@ -20,5 +20,3 @@ mod texts;
 mod verdicts;
 #[cfg(test)]
 mod wants;
-#[cfg(test)]
-mod words;

@@ -7,6 +7,4 @@ mod better_rests;
 #[cfg(test)]
 mod driven_on;
 #[cfg(test)]
-mod logs;
-#[cfg(test)]
 mod rests;
