@@ -42,7 +42,7 @@ type Writer<'a> = Buffered<OneByteWriter<'a>>;
 /// What came of a call: its answer, whether all that was written is the beginning of the answers, how much that is and
 /// how much of it was out before the last read, and how many reads were made.
 #[derive(Clone, Copy)]
-struct Outcome {
+pub(super) struct Outcome {
     pub(super) end: Result<End, DriveFault>,
     pub(super) alike: bool,
     pub(super) count: usize,
