@@ -115,7 +115,7 @@ module _ (p : PlannedShop) (protocol : Protocol) where
   step_text c report js late = acceptance_lines [] report late (printed_overdue protocol p c report) (step_orders p c report js) (prints_end protocol p (after_step p c report js))
 
   some_words : (version_2 : Bool) (line : List ℕ) (claim : Claim) → AsksFor version_2 line (ClaimRequest claim) → line ≡ [] → ⊥
-  some_words parses line claim asked none = go parses claim (subst (λ (l : List ℕ). AsksFor version_2 l (ClaimRequest claim)) none asked)
+  some_words version_2 line claim asked none = go version_2 claim (subst (λ (l : List ℕ). AsksFor version_2 l (ClaimRequest claim)) none asked)
     where
       go : (t : Bool) (q : Claim) → AsksFor t [] (ClaimRequest q) → ⊥
       go true (Report report) is = some_line [] report is refl
