@@ -1,11 +1,20 @@
 -- How a described command line grows.
-use Rattle.std.proofs.Common.{◌≡◌, ◌∙◌, ◌<◌, ◌+◌, ◌++◌, ◌||◌, ℕ, List, [], ◌∷◌, ap, ap₂, refl, sym, subst, length, take, get_or, map}
+use Rattle.std.proofs.Common.{◌≡◌, false, ◌∙◌, ◌<◌, ◌+◌, ◌++◌, ◌||◌, ℕ, List, [], ◌∷◌, ap, ap₂, refl, sym, subst, length, take, get_or, map}
 use Rattle.std.specs.Prelude.{fold}
 use Rattle.std.proofs.lemmas.List.{take_more}
-use Rattle.clap.specs.Words.{AddsSubcommand, App, Shape, with_subcommand}
+use Rattle.clap.specs.Words.{AddsArg, AddsSubcommand, App, Rule, Shape, rule_of, with_rule, with_subcommand}
+use Rattle.clap.specs.declared.builder.arg.Arg.{Arg}
 use Rattle.clap.specs.declared.builder.command.Command.{Command}
 use Rattle.command_words.specs.CommandLine.{Describes, described, leaf, program_with}
 use Rattle.command_words.specs.declared.words.CommandName.{CommandName}
+
+-- with one argument more
+pub one_more : (a : App) (r : Rule) (old : Command) (arg : Arg) (new : Command) → Describes a old → rule_of arg ≡ r
+    → arg.global ≡ false → AddsArg old arg new → Describes (with_rule a r) new
+one_more a r old arg new d same local h = record {
+  app = h.shape local ∙ ap₂ with_rule d.app same;
+  local = h.globals ∙ ap₂ (λ x y. x || y) d.local local;
+}
 
 with_command : (a : App) (s : Shape) (old sub new : Command) → Describes a old → Describes (leaf s) sub → AddsSubcommand old sub new
     → Describes (with_subcommand a s) new

@@ -1,7 +1,7 @@
 //! The command line as `clap` gets it, one command in each function.
 
 ghost use Rattle.std.specs.Prelude.{◌≡◌, IfOk, [], ◌∷◌, false, codes};
-ghost use Rattle.clap.specs.Words.{rule_of};
+ghost use Rattle.clap.specs.Words.{App, Rule, rule_of, with_rule};
 ghost use Rattle.command_words.specs.CommandLine.{Describes, adding_rules, bare_program, choices_rule, command};
 ghost use Rattle.command_words.specs.CommandLine.{command_line, described, file_rule, leaf, lengthening_rules};
 ghost use Rattle.command_words.specs.CommandLine.{log_command, log_rules, names_rule, option_rule, plan_command};
@@ -184,40 +184,48 @@ fn leap<'a>(alloc: Global) -> Arg<'a>
     option(alloc, "leap", "S", help)
 }
 
+/// The command with one more argument.
+fn with_arg<'a>(
+    command: Result<Command<'a>, AllocError>,
+    arg: Arg<'a>,
+) -> Result<Command<'a>, AllocError>
+    ensures { (a : App) (r : Rule) → IfOk command.entry (Describes a) → rule_of arg.entry ≡ r → arg.entry.global ≡ false
+        → IfOk result (Describes (with_rule a r)) }
+{
+    command?.arg(arg)
+}
+
 /// A command on an instance.
 fn on_instance<'a>(alloc: Global, name: &'a str, about: &'a str) -> Result<Command<'a>, AllocError>
     ensures { IfOk result (Describes (leaf (command name.entry.now []))) }
 {
-    Command::new(alloc, name)
-        .about(about)
-        .arg(instance(alloc))?
-        .arg(file(
-            alloc,
-            "FILE",
-            "The instance of the job shop, in OR-Library's form",
-        ))
+    let help = "The instance of the job shop, in OR-Library's form";
+    let command = with_arg(Ok(Command::new(alloc, name).about(about)), instance(alloc));
+    with_arg(command, file(alloc, "FILE", help))
 }
 
 /// A command on an instance and a plan.
 fn on_plan<'a>(alloc: Global, name: &'a str, about: &'a str) -> Result<Command<'a>, AllocError>
     ensures { IfOk result (Describes (leaf (plan_command name.entry.now []))) }
 {
-    on_instance(alloc, name, about)?.arg(file(alloc, "PLAN", "The plan, in TOML"))
+    let help = "The plan, in TOML";
+    with_arg(on_instance(alloc, name, about), file(alloc, "PLAN", help))
 }
 
 /// A command on an instance and a plan, or on the rest of a run of it.
 fn on_rest<'a>(alloc: Global, name: &'a str, about: &'a str) -> Result<Command<'a>, AllocError>
     ensures { IfOk result (Describes (leaf (rest_command name.entry.now []))) }
 {
-    let plan = on_plan(alloc, name, about)?.arg(after(alloc))?;
-    plan.arg(at(alloc))
+    let plan = with_arg(on_plan(alloc, name, about), after(alloc));
+    with_arg(plan, at(alloc))
 }
 
 /// A command on an instance, a plan and a log.
 fn on_log<'a>(alloc: Global, name: &'a str, about: &'a str) -> Result<Command<'a>, AllocError>
     ensures { IfOk result (Describes (leaf (log_command name.entry.now []))) }
 {
-    on_plan(alloc, name, about)?.arg(file(alloc, "LOG", "The log of a run, as drive writes it"))
+    let help = "The log of a run, as drive writes it";
+    with_arg(on_plan(alloc, name, about), file(alloc, "LOG", help))
 }
 
 /// A command on an instance and a plan, whose lines may have names.
@@ -228,7 +236,7 @@ fn on_named_plan<'a>(
 ) -> Result<Command<'a>, AllocError>
     ensures { IfOk result (Describes (leaf (plan_command name.entry.now (names_rule ∷ [])))) }
 {
-    on_plan(alloc, name, about)?.arg(names(alloc))
+    with_arg(on_plan(alloc, name, about), names(alloc))
 }
 
 /// Why a plan is accepted or refused.
@@ -237,8 +245,8 @@ fn reasons<'a>(alloc: Global) -> Result<Command<'a>, AllocError>
 {
     let about = "Says why a plan is accepted or refused";
     let help = "Tell the chain to job J's leaving";
-    let so_far = on_rest(alloc, "explain", about)?.arg(job(alloc, help))?;
-    so_far.arg(names(alloc))
+    let so_far = with_arg(on_rest(alloc, "explain", about), job(alloc, help));
+    with_arg(so_far, names(alloc))
 }
 
 /// The schedule of a plan.
@@ -247,9 +255,9 @@ fn timetable<'a>(alloc: Global) -> Result<Command<'a>, AllocError>
 {
     let about = "Prints when each activity begins and ends, and how late it may end";
     let help = "Print the moves in their order in place of the moments";
-    let drawn = on_rest(alloc, "schedule", about)?.arg(svg(alloc))?;
-    let moved = drawn.arg(switch(alloc, "moves", help))?;
-    moved.arg(names(alloc))
+    let drawn = with_arg(on_rest(alloc, "schedule", about), svg(alloc));
+    let moved = with_arg(drawn, switch(alloc, "moves", help));
+    with_arg(moved, names(alloc))
 }
 
 /// The drawing of a log.
@@ -257,8 +265,8 @@ fn drawing<'a>(alloc: Global) -> Result<Command<'a>, AllocError>
     ensures { IfOk result (Describes (leaf (described CommandName.Gantt))) }
 {
     let about = "Draws a log as a Gantt chart, in text or as a picture";
-    let drawn = on_log(alloc, "gantt", about)?.arg(svg(alloc))?;
-    drawn.arg(names(alloc))
+    let drawn = with_arg(on_log(alloc, "gantt", about), svg(alloc));
+    with_arg(drawn, names(alloc))
 }
 
 /// A run that is taken up.
@@ -266,9 +274,9 @@ fn resumed<'a>(alloc: Global) -> Result<Command<'a>, AllocError>
     ensures { IfOk result (Describes (leaf (described CommandName.Resume))) }
 {
     let about = "Continues a driven run from its log";
-    let log = on_log(alloc, "resume", about)?.arg(at(alloc))?;
-    let so_far = log.arg(lines(alloc))?;
-    so_far.arg(leap(alloc))
+    let log = with_arg(on_log(alloc, "resume", about), at(alloc));
+    let so_far = with_arg(log, lines(alloc));
+    with_arg(so_far, leap(alloc))
 }
 
 /// The search of a plan.
@@ -276,7 +284,7 @@ fn search<'a>(alloc: Global) -> Result<Command<'a>, AllocError>
     ensures { IfOk result (Describes (leaf (described CommandName.Plan))) }
 {
     let about = "Looks for an accepted plan with the releases and budgets of PLAN";
-    on_plan(alloc, "plan", about)?.arg(rounds(alloc))
+    with_arg(on_plan(alloc, "plan", about), rounds(alloc))
 }
 
 /// The search of a better plan.
@@ -284,8 +292,8 @@ fn improvement<'a>(alloc: Global) -> Result<Command<'a>, AllocError>
     ensures { IfOk result (Describes (leaf (described CommandName.Improve))) }
 {
     let about = "Looks for better orders than those of PLAN";
-    let search = on_rest(alloc, "improve", about)?.arg(rounds(alloc))?;
-    search.arg(seed(alloc))
+    let search = with_arg(on_rest(alloc, "improve", about), rounds(alloc));
+    with_arg(search, seed(alloc))
 }
 
 /// The question whether any plan keeps the budgets.
@@ -294,10 +302,10 @@ fn decision<'a>(alloc: Global) -> Result<Command<'a>, AllocError>
 {
     let about = "Says whether any plan can keep the budgets of PLAN";
     let help = "Find how soon job J can be out, if all others keep theirs";
-    let asked = on_rest(alloc, "decide", about)?.arg(least(alloc))?;
-    let aimed = asked.arg(job(alloc, help))?;
-    let bounded = aimed.arg(choices(alloc))?;
-    bounded.arg(names(alloc))
+    let asked = with_arg(on_rest(alloc, "decide", about), least(alloc));
+    let aimed = with_arg(asked, job(alloc, help));
+    let bounded = with_arg(aimed, choices(alloc));
+    with_arg(bounded, names(alloc))
 }
 
 /// Until when what goes on lasts, and the jobs that are added.
@@ -307,9 +315,9 @@ fn lengthened<'a>(alloc: Global) -> Result<Command<'a>, AllocError>
     let about = "Changes a plan in mid-run: a part is scrapped, a job added, a machine down";
     let until = "Take what goes on on machine M to last until T";
     let add = "Add a job, ROUTE as a line of the instance";
-    let log = on_log(alloc, "revise", about)?.arg(at(alloc))?;
-    let lasting = log.arg(repeated(alloc, "until", "M=T", until))?;
-    lasting.arg(repeated(alloc, "add", "ROUTE", add))
+    let log = with_arg(on_log(alloc, "revise", about), at(alloc));
+    let lasting = with_arg(log, repeated(alloc, "until", "M=T", until));
+    with_arg(lasting, repeated(alloc, "add", "ROUTE", add))
 }
 
 /// The numbers of the jobs that are added, behind those.
@@ -318,8 +326,8 @@ fn added<'a>(alloc: Global) -> Result<Command<'a>, AllocError>
 {
     let release = "The release of the job added before, by default N";
     let budget = "The budget of the job added before, by default none";
-    let released = lengthened(alloc)?.arg(repeated(alloc, "release", "R", release))?;
-    released.arg(repeated(alloc, "budget", "B", budget))
+    let released = with_arg(lengthened(alloc), repeated(alloc, "release", "R", release));
+    with_arg(released, repeated(alloc, "budget", "B", budget))
 }
 
 /// A plan that is changed in mid-run.
@@ -329,16 +337,16 @@ fn revised<'a>(alloc: Global) -> Result<Command<'a>, AllocError>
     let scrap = "Take job J out of the line by hand, or out of the plan";
     let down = "Let machine M do no more for the rest of the run";
     let file = "Print the instance in place of the plan";
-    let fewer = added(alloc)?.arg(repeated(alloc, "scrap", "J", scrap))?;
-    let changed = fewer.arg(repeated(alloc, "down", "M", down))?;
-    changed.arg(switch(alloc, "file", file))
+    let fewer = with_arg(added(alloc), repeated(alloc, "scrap", "J", scrap));
+    let changed = with_arg(fewer, repeated(alloc, "down", "M", down));
+    with_arg(changed, switch(alloc, "file", file))
 }
 
 /// A command on an instance and several plans.
 fn on_plans<'a>(alloc: Global, name: &'a str, about: &'a str) -> Result<Command<'a>, AllocError>
     ensures { IfOk result (Describes (leaf (command name.entry.now (plans_rule ∷ [])))) }
 {
-    on_instance(alloc, name, about)?.arg(plans(alloc))
+    with_arg(on_instance(alloc, name, about), plans(alloc))
 }
 
 /// The cells of several plans.
@@ -346,8 +354,8 @@ fn hub<'a>(alloc: Global) -> Result<Command<'a>, AllocError>
     ensures { IfOk result (Describes (leaf (described CommandName.Hub))) }
 {
     let about = "Drives several cells at once, one for each plan";
-    let several = on_plans(alloc, "hub", about)?.arg(lines(alloc))?;
-    several.arg(leap(alloc))
+    let several = with_arg(on_plans(alloc, "hub", about), lines(alloc));
+    with_arg(several, leap(alloc))
 }
 
 /// One driven cell, the log that it keeps, and how that has to begin.
@@ -358,19 +366,19 @@ fn logged<'a>(alloc: Global) -> Result<Command<'a>, AllocError>
     let new = "Begin a run: the log must not have begun";
     let goes_on = "Take up a run: the log must have begun, by this plan";
     let hand_over = "Take up a run by this plan, whichever it had";
-    let plan = on_plan(alloc, "drive", about)?.arg(log(alloc))?;
-    let begun = plan.arg(switch(alloc, "new", new))?;
-    let so_far = begun.arg(switch(alloc, "continue", goes_on))?;
-    so_far.arg(switch(alloc, "hand-over", hand_over))
+    let plan = with_arg(on_plan(alloc, "drive", about), log(alloc));
+    let begun = with_arg(plan, switch(alloc, "new", new));
+    let so_far = with_arg(begun, switch(alloc, "continue", goes_on));
+    with_arg(so_far, switch(alloc, "hand-over", hand_over))
 }
 
 /// One driven cell.
 fn driven<'a>(alloc: Global) -> Result<Command<'a>, AllocError>
     ensures { IfOk result (Describes (leaf (described CommandName.Drive))) }
 {
-    let rest = logged(alloc)?.arg(at(alloc))?;
-    let so_far = rest.arg(lines(alloc))?;
-    so_far.arg(leap(alloc))
+    let rest = with_arg(logged(alloc), at(alloc));
+    let so_far = with_arg(rest, lines(alloc));
+    with_arg(so_far, leap(alloc))
 }
 
 /// The program before it has a command.

@@ -1,5 +1,6 @@
-use Rattle.std.proofs.Common.{rules}
 use Rattle.command_words.proofs.words.command_line.improvement.Goals as goal
 
 pub returns : goal.returns
-returns c = search rules depth 2
+returns c =
+    let search = c.with_arg-search.ensures _ _ c.on_rest.ensures c.rounds.ensures.rule c.rounds.ensures.local in
+    c.with_arg.ensures _ _ search c.seed.ensures.rule c.seed.ensures.local

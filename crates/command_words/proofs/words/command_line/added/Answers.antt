@@ -1,0 +1,6 @@
+use Rattle.command_words.proofs.words.command_line.added.Goals as goal
+
+pub returns : goal.returns
+returns c =
+    let released = c.with_arg-released.ensures _ _ c.lengthened.ensures c.repeated.ensures.rule c.repeated.ensures.local in
+    c.with_arg.ensures _ _ released c.repeated-2.ensures.rule c.repeated-2.ensures.local
