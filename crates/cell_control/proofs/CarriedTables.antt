@@ -1,8 +1,7 @@
 -- The tables of all rows that are carried over to another plan.
 use Rattle.std.proofs.Common.{◌≡◌, ℕ, ◌≤◌, inl, inr, length, take, Option, None, Some, IfSome, sym, ap, ◌∙◌, subst, arith, length-append}
-use Rattle.std.proofs.{lemmas.Bool.cases_lt, lemmas.List.{get_or_past}}
-use Rattle.shop_base.specs.declared.limits.TheConstants.{MAX_MOMENT}
-use Rattle.shop_base.specs.Plan.{PlannedShop, jobs, machines, order, IsWellShaped}
+use Rattle.std.proofs.{lemmas.Bool.cases_lt, lemmas.List.get_or_past}
+use Rattle.shop_base.specs.{declared.limits.TheConstants.MAX_MOMENT, Plan.{PlannedShop, jobs, machines, order, IsWellShaped}}
 use Rattle.shop_base.specs.{Cell.{Cell, MachineState, unused, entries, cleaning}, Sound.IsSound}
 use Rattle.cell_tables.specs.{declared.tables.Tables.Tables, Tables.{cell_of, row_at, AreSound}}
 use Rattle.cell_tables.proofs.Cells.{job-read, machine-read, length-jobs, length-machines, last-read}

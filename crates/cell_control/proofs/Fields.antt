@@ -1,10 +1,9 @@
 -- What holds of a controller holds where it begins, at the start of a plan or in mid-run, and after each step.
 use Rattle.std.proofs.Common.{◌≡◌, ℕ, ◌+◌, ◌-◌, ◌<◌, ◌≤◌, ◌⊎◌, ◌↔◌, inl, inr, List, [], Option, Bool, true, false, refl, sym, ◌∙◌, ap, subst, arith}
 use Rattle.std.specs.Prelude.{IsTrue}
-use Rattle.shop_base.specs.{declared.move_order.MoveOrder.MoveOrder, declared.node.Node.Node}
-use Rattle.shop_base.specs.{declared.report.Report.Report, Plan.PlannedShop, Cell.Cell, Report.{at, IsNextMoment}}
-use Rattle.shop_base.specs.{Run.IsAtRest, Controlled.{after_moves, after_step}, Punctual.IsPunctualFrom}
-use Rattle.shop_base.specs.{ReportsLeft.reports_left, Sound.IsSound, Within.IsWithin}
+use Rattle.shop_base.specs.{declared.move_order.MoveOrder.MoveOrder, declared.node.Node.Node, declared.report.Report.Report}
+use Rattle.shop_base.specs.{Plan.PlannedShop, Cell.Cell, Report.{at, IsNextMoment}, Run.IsAtRest, Controlled.{after_moves, after_step}}
+use Rattle.shop_base.specs.{Punctual.IsPunctualFrom, ReportsLeft.reports_left, Sound.IsSound, Within.IsWithin}
 use Rattle.shop_base.proofs.{Keeping.start-sound, ControlledRuns.{start_at_rest, after_moves-sound, after_step-sound}}
 use Rattle.shop_base.proofs.ReportsLeft.{start-reports_left, after_moves-reports_left, after_step-reports_left}
 use Rattle.shop_base.proofs.{StartAhead.start-keeps_moments, InTime.{settled-fits, step-still_fits, present_left}}
@@ -15,8 +14,8 @@ use Rattle.plan_verifier.specs.{Rest.AreOrderedAhead, Accepted.{VerifiedPlan, Is
 use Rattle.cell_tables.specs.PlannedCell as planned
 use Rattle.cell_tables.specs.PlannedCell.{PlannedCell}
 use Rattle.cell_control.specs.{declared.ack.Ack.Ack, DueMoments.AreDueMoments, Steps.IsMade, Settled.HasSettled}
-use Rattle.cell_control.specs.Control.{Control, at_start, verified_in, IsAnswered, IsKeptFrom, AreMomentsKept, IsControl}
-use Rattle.cell_control.specs.{Begun.IsBegun, Fields.{control_of, begun_with, AreFieldsOf}}
+use Rattle.cell_control.specs.{Control.{Control, at_start, verified_in, IsAnswered, IsKeptFrom, AreMomentsKept, IsControl}, Begun.IsBegun}
+use Rattle.cell_control.specs.Fields.{control_of, begun_with, AreFieldsOf}
 
 -- the two ways to say that no node ahead is kept to a moment before t
 to_none_late : (p : PlannedShop) (c : Cell) (t : ℕ) (kept : Node → ℕ) → IsKeptFrom p c t kept → IsNoneLate p c t kept

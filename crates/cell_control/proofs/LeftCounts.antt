@@ -1,7 +1,6 @@
 -- How many jobs have left a machine, and when a cleaning is due, as they are read.
 use Rattle.std.proofs.Common.{◌≡◌, ℕ, ◌+◌, length, sym, ◌∙◌, arith}
-use Rattle.shop_base.specs.{Plan.{PlannedShop, IsWellShaped}, Cell.{Cell, entries, IsOn, IsFree}}
-use Rattle.shop_base.specs.{ReportsLeft.departures, Sound.IsSound}
+use Rattle.shop_base.specs.{Plan.{PlannedShop, IsWellShaped}, Cell.{Cell, entries, IsOn, IsFree}, ReportsLeft.departures, Sound.IsSound}
 use Rattle.shop_base.proofs.Departures.{departures_free, departures_on}
 
 -- all entrants have left a machine on which no job is, and all but one another

@@ -2,15 +2,12 @@
 use Rattle.std.proofs.Common.{◌≡◌, ℕ, ◌-◌, ◌<◌, None, Some, List, [], ◌∷◌, length, ◌⊎◌, inl, inr, sym, ap, ◌∙◌, refl, subst, arith, length-append}
 use Rattle.std.proofs.lemmas.Bool.{cases_eq}
 use Rattle.shop_base.specs.{declared.job_state.JobState.JobState, declared.report.Report.Report}
-use Rattle.shop_base.specs.Plan.{PlannedShop, job_at, Visits, IsWellShaped}
-use Rattle.shop_base.specs.{Cell.{Cell, made, entries, cleaning, start, IsFree}, Activity.Cleaning}
-use Rattle.shop_base.specs.{Report.{ended, at, CanReport, after_end, after_report}, Move.after_move}
-use Rattle.shop_base.specs.Run.{Event, Reported, Moved, CanHappen, AreEvents, after, after_all, ends_in}
-use Rattle.shop_base.specs.Sound.{IsSound}
+use Rattle.shop_base.specs.{Plan.{PlannedShop, job_at, Visits, IsWellShaped}, Cell.{Cell, made, entries, cleaning, start, IsFree}}
+use Rattle.shop_base.specs.{Activity.Cleaning, Report.{ended, at, CanReport, after_end, after_report}, Move.after_move}
+use Rattle.shop_base.specs.{Run.{Event, Reported, Moved, CanHappen, AreEvents, after, after_all, ends_in}, Sound.IsSound}
 use Rattle.shop_base.proofs.Changes.{IsMoved, IsTidied, after_move-moved, with_clean-tidied}
-use Rattle.shop_base.proofs.Keeping.{IsLike, after_report-like, after-sound, run-sound, after_all-sound}
-use Rattle.shop_base.proofs.{ControlledRuns.after_all_join, LowerBounds.events_split, InShop.cleaned_in_shop}
-use Rattle.shop_base.proofs.{Visits.visits_or_not, SentAgain.no_end_is_accepted_twice}
+use Rattle.shop_base.proofs.{Keeping.{IsLike, after_report-like, after-sound, run-sound, after_all-sound}, ControlledRuns.after_all_join}
+use Rattle.shop_base.proofs.{LowerBounds.events_split, InShop.cleaned_in_shop, Visits.visits_or_not, SentAgain.no_end_is_accepted_twice}
 use Rattle.cell_tables.specs.Readings.{IsCleanedAfter}
 use Rattle.cell_control.proofs.CleanReasons.{entered_few}
 use Rattle.cell_control.specs.OnceLaw.{Arrived, Finished, Cleaned, NoNamedEndIsAcceptedTwice}

@@ -1,9 +1,7 @@
 -- Where a job is, as it is read: on a machine, outside, or on no machine that there is.
-use Rattle.std.proofs.Common.{◌≡◌, ℕ, ◌-◌, ◌≤◌, Option, None, Some, refl, sym, ◌∙◌, arith, ◌⊎◌, inl, inr}
+use Rattle.std.proofs.{Common.{◌≡◌, ℕ, ◌-◌, ◌≤◌, Option, None, Some, refl, sym, ◌∙◌, arith, ◌⊎◌, inl, inr}, lemmas.Bool.cases_eq}
 use Rattle.std.specs.Prelude.{MatchOption}
-use Rattle.std.proofs.lemmas.Bool.{cases_eq}
-use Rattle.shop_base.specs.declared.move_order.Spot.TheVariants.{Out, At}
-use Rattle.shop_base.specs.Plan.{PlannedShop, machines, steps, machine_of, IsWellShaped}
+use Rattle.shop_base.specs.{declared.move_order.Spot.TheVariants.{Out, At}, Plan.{PlannedShop, machines, steps, machine_of, IsWellShaped}}
 use Rattle.shop_base.specs.{Cell.{Cell, made, IsOutside, IsOn, IsFree}, Move.source}
 use Rattle.shop_base.proofs.{Visits.visits_machine, CellFacts.{source_on, source_outside}}
 

@@ -55,6 +55,7 @@ fn machines_left<P: Planned>(cell: &WorkCell<P>) -> u64
 }
 
 /// Those of a machine's cleanings: one for each departure to come, and one for what goes on.
+#[tactic(auto, using(shop_base::proofs::Sizes::order_few))]
 fn cleaning_left<P: Planned>(cell: &WorkCell<P>, machine: MachineNo) -> u64
     requires machine { machine < machines cell.now.plan }
     ensures left { result ≡ cleanings_left cell.now.plan cell.now.cell machine }
@@ -73,6 +74,7 @@ fn cleaning_left<P: Planned>(cell: &WorkCell<P>, machine: MachineNo) -> u64
 }
 
 /// How many jobs have left the machine.
+#[tactic(auto, using(crate::proofs::LeftCounts::departed_on))]
 pub(crate) fn departed<P: Planned>(cell: &WorkCell<P>, machine: MachineNo) -> u32
     requires machine { machine < machines cell.now.plan }
     ensures count { result ≡ departures cell.now.plan cell.now.cell machine }

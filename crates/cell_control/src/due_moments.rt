@@ -59,6 +59,7 @@ pub fn note_all<P: Planned, D: Dues>(cell: &WorkCell<P>, dues: &mut D)
 }
 
 /// Notes what goes on with the jobs.
+#[tactic(auto, using(crate::proofs::DueMoments::job_renewed, crate::proofs::DueMoments::of_fewer))]
 fn note_jobs<P: Planned, D: Dues>(cell: &WorkCell<P>, dues: &mut D)
     requires { length (D.dues dues.old) ≡ jobs cell.now.plan + machines cell.now.plan }
     ensures { AreDueMomentsOf cell.now.plan cell.now.cell (D.dues dues.new) (λ _. Unit {0}) (λ _. ⊥) }
@@ -69,6 +70,7 @@ fn note_jobs<P: Planned, D: Dues>(cell: &WorkCell<P>, dues: &mut D)
 }
 
 /// Notes what goes on with the machines, once the jobs are noted.
+#[tactic(auto, using(crate::proofs::DueMoments::machine_renewed, crate::proofs::DueMoments::of_fewer, crate::proofs::DueMoments::of_all))]
 fn note_machines<P: Planned, D: Dues>(cell: &WorkCell<P>, dues: &mut D)
     requires { AreDueMomentsOf cell.now.plan cell.now.cell (D.dues dues.old) (λ _. Unit {0}) (λ _. ⊥) }
     ensures { AreDueMoments cell.now.plan cell.now.cell (D.dues dues.new) }

@@ -17,28 +17,22 @@ use std::alloc::Global;
 
 /// What a controller needs besides its cell: the ranks and the moments of the nodes ahead, and room for due moments and
 /// orders.
-#[derive(Drop)]
-pub(crate) struct Prepared<D: Dues> {
-    pub times: Times,
-    pub room: Room<D>,
-}
-
-/// Finds the ranks and the moments, and takes all memory.
 pub(crate) fn prepare<P: Planned, D: Dues>(
     alloc: Global,
     cell: &WorkCell<P>,
     present: Moment,
-) -> Result<Prepared<D>, RestFault>
+) -> Result<(Times, Room<D>), RestFault>
     ensures moment { OnOk result (IsNextMoment cell.now.cell present) }
-    ensures ordered { IfOk result (λ new. AreOrderedAhead cell.now.plan cell.now.cell present new.times) }
-    ensures room { IfOk result (λ new. IsRoomFor cell.now.plan (D.dues new.room.dues) new.room.orders.capacity) }
-    ensures no_orders { IfOk result (λ new. new.room.orders.items ≡ []) }
+    ensures ordered { IfOk result (λ new. AreOrderedAhead cell.now.plan cell.now.cell present new.0) }
+    ensures room { IfOk result (λ new. IsRoomFor cell.now.plan (D.dues new.1.dues) new.1.orders.capacity) }
+    ensures no_orders { IfOk result (λ new. new.1.orders.items ≡ []) }
     ensures fault { IfErr result (IsRestFault cell.now.plan cell.now.cell present) }
 {
     check_moment(cell, present)?;
-    let times = find_times(alloc, cell, present)?;
-    let room = take_room(alloc, cell)?;
-    Ok(Prepared { times, room })
+    match solve_after(alloc, cell, present)? {
+        Solved::Ordered(times) => Ok((times, take_room(alloc, cell)?)),
+        Solved::Cyclic(nodes) => Err(RestFault::Cycle(nodes)),
+    }
 }
 
 /// Checks that the moment isn't past the latest, nor before the last one.
@@ -53,20 +47,4 @@ fn check_moment<P: Planned>(cell: &WorkCell<P>, present: Moment) -> Result<(), R
         return Err(RestFault::Backwards { last: cell.last() });
     }
     Ok(())
-}
-
-/// The ranks, and the earliest moments of what is ahead.
-fn find_times<P: Planned>(
-    alloc: Global,
-    cell: &WorkCell<P>,
-    present: Moment,
-) -> Result<Times, RestFault>
-    requires { IsNextMoment cell.now.cell present }
-    ensures ordered { IfOk result (AreOrderedAhead cell.now.plan cell.now.cell present) }
-    ensures fault { IfErr result (IsRestFault cell.now.plan cell.now.cell present) }
-{
-    match solve_after(alloc, cell, present)? {
-        Solved::Ordered(times) => Ok(times),
-        Solved::Cyclic(nodes) => Err(RestFault::Cycle(nodes)),
-    }
 }

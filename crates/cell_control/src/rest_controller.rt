@@ -7,8 +7,8 @@ ghost use Rattle.cell_control.specs.HandedOver.{IsHandedOver, IsHandOverFault};
 use crate::controller::Controller;
 use crate::core_controller::Core;
 use crate::dues::Dues;
-use crate::handing::{HandedCell, take_over};
-use crate::preparing::{Prepared, prepare};
+use crate::handing::take_over;
+use crate::preparing::prepare;
 use crate::rest_fault::RestFault;
 use crate::room::Room;
 use crate::settling::settle;
@@ -48,22 +48,26 @@ impl<D: Dues> Core<Held, D> {
         ensures handed_back { IfErr result (λ refused. refused.1 ≡ cell) }
     {
         match prepare(alloc, &cell, present) {
-            Ok(prepared) => Ok(RestController::settled(cell, prepared, present)),
+            Ok((times, room)) => Ok(RestController::settled(cell, times, room, present)),
             Err(fault) => Err((fault, cell)),
         }
     }
 
     /// Settles the cell, and begins.
-    fn settled(cell: WorkCell<Shaped>, prepared: Prepared<D>, present: Moment) -> RestController<D>
+    fn settled(
+        cell: WorkCell<Shaped>,
+        times: Times,
+        room: Room<D>,
+        present: Moment,
+    ) -> RestController<D>
         requires moment { IsNextMoment cell.cell present }
-        requires ordered { AreOrderedAhead cell.plan cell.cell present prepared.times }
-        requires room { IsRoomFor cell.plan (D.dues prepared.room.dues) prepared.room.orders.capacity }
-        requires no_orders { prepared.room.orders.items ≡ [] }
+        requires ordered { AreOrderedAhead cell.plan cell.cell present times }
+        requires room { IsRoomFor cell.plan (D.dues room.dues) room.orders.capacity }
+        requires no_orders { room.orders.items ≡ [] }
         ensures { IsBegun cell.plan cell.cell present result }
     {
         // Called for its clause alone: the cell is sound.
         let _plan = cell.shaped();
-        let Prepared { times, room } = prepared;
         let Room { dues, mut orders } = room;
         let mut cell = hold(cell, times);
         settle(&mut cell, &mut orders, present);
@@ -110,13 +114,13 @@ impl<D: Dues> Core<Held, D> {
         ensures unchanged { IfErr result (λ refused. self.new ≡ self.old) }
         ensures handed_back { IfErr result (λ refused. refused.1 ≡ shaped) }
     {
-        match take_over(alloc, &self.cell, shaped, present) {
-            Ok(next) => {
-                let HandedCell { cell, prepared } = next;
-                *self = RestController::settled(cell, prepared, present);
+        let cell = take_over(alloc, &self.cell, shaped, present)?;
+        match RestController::begin(alloc, cell, present) {
+            Ok(new) => {
+                *self = new;
                 Ok(())
             }
-            Err(refused) => Err(refused),
+            Err((fault, cell)) => Err((fault, cell.into_basis())),
         }
     }
 }

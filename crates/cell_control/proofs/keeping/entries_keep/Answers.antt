@@ -1,5 +1,4 @@
-use Rattle.std.proofs.Common.{◌≡◌, length, take, drop, ap, ◌∙◌}
-use Rattle.std.proofs.lemmas.{Bool.Decides.{Decides-eqb}, Slice.Eq.{starts_is}}
+use Rattle.std.proofs.{Common.{◌≡◌, length, take, drop, ap, ◌∙◌}, lemmas.{Bool.Decides.{Decides-eqb}, Slice.Eq.{starts_is}}}
 use Rattle.shop_base.specs.{Plan.order, Cell.entries}
 use Rattle.cell_control.proofs.KeptSoFar.{take_front}
 use Rattle.cell_control.proofs.keeping.entries_keep.Goals as goal

@@ -1,8 +1,7 @@
 use Rattle.std.proofs.Common.{◌≡◌, ◌+◌, ◌-◌, ap, sym, subst, ◌∙◌, set}
-use Rattle.shop_base.specs.{declared.move_order.MoveOrder.MoveOrder, declared.move_order.Spot.TheVariants.{Out, At}}
-use Rattle.shop_base.specs.{Plan.jobs, Cell.{made, cleaning}, Move.{source, after_move}, Movers.due_of_cleaning}
-use Rattle.shop_base.proofs.{Changes.{IsMoved, after_move-moved, moves_within}, InShop.ready_in_shop}
-use Rattle.shop_base.proofs.Visits.{visits_machine}
+use Rattle.shop_base.specs.{declared.move_order.MoveOrder.MoveOrder, declared.move_order.Spot.TheVariants.{Out, At}, Plan.jobs}
+use Rattle.shop_base.specs.{Cell.{made, cleaning}, Move.{source, after_move}, Movers.due_of_cleaning}
+use Rattle.shop_base.proofs.{Changes.{IsMoved, after_move-moved, moves_within}, InShop.ready_in_shop, Visits.visits_machine}
 use Rattle.cell_control.specs.DueMoments.{AreDueMoments}
 use Rattle.cell_control.proofs.{Seats.{on_source, outside_source}, DueMoments.{due_moments-entered, due_moments-moved}}
 use Rattle.cell_control.proofs.releasing.advance.Goals as goal

@@ -1,5 +1,4 @@
-use Rattle.std.proofs.Common.{arith}
-use Rattle.std.proofs.lemmas.Grind.{common_steps}
+use Rattle.std.proofs.{Common.arith, lemmas.Grind.common_steps}
 use Rattle.cell_control.proofs.CleanReasons.{clean_reason-cannot}
 use Rattle.cell_control.proofs.core_controller.Core.clean_after.Goals as goal
 

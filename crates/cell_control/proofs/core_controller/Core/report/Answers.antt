@@ -1,14 +1,10 @@
-use Rattle.std.proofs.Common.{arith, [], subst}
-use Rattle.std.proofs.lemmas.Grind.{common_steps}
+use Rattle.std.proofs.{Common.{arith, [], subst}, lemmas.Grind.common_steps}
 use Rattle.shop_base.specs.declared.report.Report.{Report}
 use Rattle.cell_control.specs.{Control.IsAnswered, Promises.{answered, refused}}
 use Rattle.cell_control.proofs.core_controller.Core.report.Goals as goal
 
 pub returns-in_err-possible-clause-called : goal.returns-in_err-possible-clause-called
 returns-in_err-possible-clause-called g c = ([], refused c.args.self.now c.args.report (λ can. grind (arith, common_steps, can)))
-
-pub returns-in_err-possible-clause-never_refused : goal.returns-in_err-possible-clause-never_refused
-returns-in_err-possible-clause-never_refused g c due goes same = grind (arith, common_steps, c.in_err-possible.ensures.never_refused due goes same)
 
 pub returns-clause-called : goal.returns-clause-called
 returns-clause-called g c =

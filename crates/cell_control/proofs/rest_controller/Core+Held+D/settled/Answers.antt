@@ -9,9 +9,9 @@ begin_at_rest-requires-clause-control g c =
     let new = c.settle.new.cell in
     let orders = c.settle.new.orders.items in
     let settled = rw (c.hold-cell.ensures.plan, c.hold-cell.ensures.cell) at c.settle.ensures.settled in
-    subst IsControl (sym (begun_is new v.plan new.basis.times c.args.prepared.times orders c.args.present (ap (λ x. x.plan) c.settle.ensures.same_plan ∙ c.hold-cell.ensures.plan)
+    subst IsControl (sym (begun_is new v.plan new.basis.times c.args.times orders c.args.present (ap (λ x. x.plan) c.settle.ensures.same_plan ∙ c.hold-cell.ensures.plan)
     (ap (λ x. x.basis.times) c.settle.ensures.same_plan ∙ c.hold-cell.ensures.times)))
-    (settled-control v.plan v.cell c.args.present c.args.prepared.times orders new.cell c.shaped-plan.ensures.sound c.requires.moment c.requires.ordered settled)
+    (settled-control v.plan v.cell c.args.present c.args.times orders new.cell c.shaped-plan.ensures.sound c.requires.moment c.requires.ordered settled)
 
 pub returns : goal.returns
 returns g c =
@@ -20,6 +20,6 @@ returns g c =
     let orders = c.settle.new.orders.items in
     let settled = rw (c.hold-cell.ensures.plan, c.hold-cell.ensures.cell) at c.settle.ensures.settled in
     subst (IsBegun v.plan v.cell c.args.present)
-    (sym (c.begin_at_rest.ensures ∙ begun_is new v.plan new.basis.times c.args.prepared.times orders c.args.present (ap (λ x. x.plan) c.settle.ensures.same_plan ∙ c.hold-cell.ensures.plan)
+    (sym (c.begin_at_rest.ensures ∙ begun_is new v.plan new.basis.times c.args.times orders c.args.present (ap (λ x. x.plan) c.settle.ensures.same_plan ∙ c.hold-cell.ensures.plan)
     (ap (λ x. x.basis.times) c.settle.ensures.same_plan ∙ c.hold-cell.ensures.times)))
-    (settled-begun v.plan v.cell c.args.present c.args.prepared.times orders new.cell c.shaped-plan.ensures.sound c.requires.moment c.requires.ordered settled)
+    (settled-begun v.plan v.cell c.args.present c.args.times orders new.cell c.shaped-plan.ensures.sound c.requires.moment c.requires.ordered settled)
