@@ -6,6 +6,7 @@ ghost use Rattle.shop_base.specs.Plan.{machines};
 use crate::annealing::anneal;
 use crate::draws::Draws;
 use crate::moves::Moves;
+use crate::net::Net;
 use crate::net_of_plan::{net_of, orders_of};
 use crate::passing::Pass;
 use crate::rest::Rest;
@@ -31,11 +32,7 @@ pub fn annealed_orders(
     ensures each_machine { IfOk result (λ answer. IfSome answer (λ orders. length orders.items ≡ machines shaped.now)) }
 {
     let mut net = net_of(alloc, shaped, rest)?;
-    let nodes = net.spots.len();
-    let mut pass = Pass::new(alloc, nodes)?;
-    let mut moves = Moves::new(alloc, nodes)?;
-    let draws = Draws::new(seed, round);
-    if !anneal(&mut net, &mut pass, &mut moves, draws, round) {
+    if !is_bettered(alloc, &mut net, seed, round)? {
         return Ok(None);
     }
     let begun = match rest {
@@ -44,4 +41,12 @@ pub fn annealed_orders(
     };
     let orders = orders_of(alloc, &mut net, begun, shaped.machine_count())?;
     Ok(Some(orders))
+}
+
+/// Searches from the plan of the net, and leaves the best plan that it meets there. Whether that is better.
+fn is_bettered(alloc: Global, net: &mut Net, seed: u32, round: u32) -> Result<bool, AllocError> {
+    let nodes = net.spots.len();
+    let mut pass = Pass::new(alloc, nodes)?;
+    let mut moves = Moves::new(alloc, nodes)?;
+    Ok(anneal(net, &mut pass, &mut moves, Draws::new(seed, round), round))
 }
