@@ -1,11 +1,8 @@
 //! The question, and its answer.
 
 ghost use Rattle.std.specs.Prelude.{◌≡◌, ◌≤◌, IfOk, length};
-ghost use Rattle.shop_base.specs.declared.limits.TheConstants.{MAX_MOMENT};
-ghost use Rattle.shop_base.specs.Plan.{jobs};
-ghost use Rattle.plan_limits.specs.Stages.{stage_of};
-ghost use Rattle.plan_limits.specs.Limits.{NoPlanKeepsFrom};
-ghost use Rattle.plan_limits.specs.Answered.{OnNever};
+ghost use Rattle.shop_base.specs.{declared.limits.TheConstants.MAX_MOMENT, Plan.jobs};
+ghost use Rattle.plan_limits.specs.{Stages.stage_of, Limits.NoPlanKeepsFrom, Answered.OnNever};
 
 use crate::numbering::asked_nodes;
 use crate::orders::orders_by;

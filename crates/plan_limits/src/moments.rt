@@ -1,12 +1,9 @@
 //! The first and the last moments of the nodes, in fine units.
 
 ghost use Rattle.std.specs.Prelude.{◌≡◌, ℕ, ◌+◌, ◌*◌, ◌^◌, ◌<◌, ◌≤◌, IfOk, length};
-ghost use Rattle.shop_base.specs.declared.limits.TheConstants.{MAX_MOMENT};
-ghost use Rattle.shop_base.specs.declared.node.Node.{Node};
-ghost use Rattle.shop_base.specs.Plan.{jobs};
+ghost use Rattle.shop_base.specs.{declared.limits.TheConstants.MAX_MOMENT, declared.node.Node.Node, Plan.jobs};
 ghost use Rattle.plan_bounds.specs.Bounds.{times_of};
-ghost use Rattle.plan_limits.specs.Stages.{stage_of};
-ghost use Rattle.plan_limits.specs.LimitsLaw.{AreFineMoments};
+ghost use Rattle.plan_limits.specs.{Stages.stage_of, LimitsLaw.AreFineMoments};
 ghost use Rattle.plan_limits.specs.Asked.{IsPlace, IsWithinLimit, AreNumbered, AreFirst, AreLast};
 
 use cell_tables::WorkCell;

@@ -1,12 +1,10 @@
 //! The question that is put to the search, and how large it may be.
 
 ghost use Rattle.std.specs.Prelude.{◌≡◌, ◌≤◌, IfOk, length};
-ghost use Rattle.shop_base.specs.declared.limits.TheConstants.{MAX_MOMENT};
-ghost use Rattle.shop_base.specs.Plan.{jobs};
+ghost use Rattle.shop_base.specs.{declared.limits.TheConstants.MAX_MOMENT, Plan.jobs};
 ghost use Rattle.arc_choice.specs.Choices.{IsSound};
 ghost use Rattle.plan_bounds.specs.Bounds.{times_of};
-ghost use Rattle.plan_limits.specs.Stages.{stage_of};
-ghost use Rattle.plan_limits.specs.Asked.{AreNumbered, Asks};
+ghost use Rattle.plan_limits.specs.{Stages.stage_of, Asked.AreNumbered, Asked.Asks};
 
 use crate::arcs::fixed_arcs;
 use crate::moments::{first_moments, last_moments};

@@ -1,15 +1,11 @@
 //! The greatest lengths of paths, in thousandths, where everything takes longer.
 
 ghost use Rattle.std.specs.Prelude.{◌≡◌, ◌+◌, ◌≤◌, MatchOption};
-ghost use Rattle.shop_base.specs.declared.node.Node.{Node};
-ghost use Rattle.shop_base.specs.Graph.{Arc, IsNode};
-ghost use Rattle.alt_graph.specs.LatestRows.{HasRows, moment_in};
-ghost use Rattle.alt_graph.specs.Sources.{IsJobArc};
-ghost use Rattle.plan_margin.specs.declared.margin.TheConstants.{MAX_MARGIN};
-ghost use Rattle.plan_margin.specs.Longer.{longer};
+ghost use Rattle.shop_base.specs.{declared.node.Node.Node, Graph.Arc, Graph.IsNode};
+ghost use Rattle.alt_graph.specs.{LatestRows.HasRows, LatestRows.moment_in, Sources.IsJobArc};
+ghost use Rattle.plan_margin.specs.{declared.margin.TheConstants.MAX_MARGIN, Longer.longer};
 ghost use Rattle.plan_margin.specs.Lengths.{AreLengths, AreReached, IsLength, AreShort};
-ghost use Rattle.plan_margin.specs.Lengths.{AreAllWithin, IsFirstOver, MAX_LENGTH};
-ghost use Rattle.plan_margin.specs.Order.{IsInOrder};
+ghost use Rattle.plan_margin.specs.{Lengths.AreAllWithin, Lengths.IsFirstOver, Lengths.MAX_LENGTH, Order.IsInOrder};
 
 use alt_graph::{ArcIn, Graph, job_source};
 use plan_verifier::leaving_of;

@@ -2,11 +2,8 @@
 
 ghost use Rattle.std.specs.Prelude.{◌≡◌, ◌<◌, ◌≤◌, IfOk, MatchOption, length};
 ghost use Rattle.alt_graph.specs.LatestRows.{HasRows};
-ghost use Rattle.plan_margin.specs.declared.margin.TheConstants.{MAX_MARGIN};
-ghost use Rattle.plan_margin.specs.Lengths.{HasLongerSchedule};
-ghost use Rattle.plan_margin.specs.Longer.{IsFirstPast};
-ghost use Rattle.plan_margin.specs.Margins.{IsMargin};
-ghost use Rattle.plan_margin.specs.Order.{IsInOrder};
+ghost use Rattle.plan_margin.specs.{declared.margin.TheConstants.MAX_MARGIN, Lengths.HasLongerSchedule};
+ghost use Rattle.plan_margin.specs.{Longer.IsFirstPast, Margins.IsMargin, Order.IsInOrder};
 ghost use Rattle.plan_margin.specs.WithinMargin.{IsInTimeWithin, IsInTimeAtTheEndWithin};
 ghost use Rattle.alt_graph.specs.Evidence.{node_count};
 

@@ -3,9 +3,7 @@
 ghost use Rattle.std.specs.Prelude.{◌≡◌, IfOk, IfErr, OnOk};
 ghost use Rattle.alt_graph.specs.Solved.{HasCycle};
 ghost use Rattle.cell_control.specs.Begun.{IsRestFault};
-ghost use Rattle.plan_moves.specs.MovesFrom.{AreMovesFrom};
-ghost use Rattle.plan_moves.specs.NextReports.{IsOver};
-ghost use Rattle.plan_moves.specs.RunsOn.{RunsOn, IsOnTime};
+ghost use Rattle.plan_moves.specs.{MovesFrom.AreMovesFrom, NextReports.IsOver, RunsOn.RunsOn, RunsOn.IsOnTime};
 
 use crate::next_report::next_report;
 use cell_control::{Dues, RestController, RestFault, TourneyDues};
