@@ -1,5 +1,5 @@
 -- What a run with a log comes to.
-use Rattle.std.proofs.Common.{◌≡◌, ℕ, List, [], ◌++◌, Option, None, Some, IfSome, Bool, true, false, Result, Ok, Err, IfOk, inl, inr, refl, sym, ap, ◌∙◌, subst}
+use Rattle.std.proofs.Common.{◌≡◌, ℕ, List, [], ◌++◌, Option, Some, IfSome, Bool, true, false, Result, Ok, Err, IfOk, inl, inr, refl, ap, ◌∙◌, subst}
 use Rattle.std.specs.Io.KnownBytes.{append_known}
 use Rattle.plan_verifier.specs.Accepted.{VerifiedPlan}
 use Rattle.byte_streams.specs.declared.drive_fault.DriveFault.{DriveFault}
@@ -15,18 +15,8 @@ use Rattle.run_journal.specs.WholeLines.{whole_lines}
 use Rattle.run_journal.specs.LoggedLines.{logged}
 use Rattle.run_journal.specs.Logged.{Held, AreInitial, StayInStep}
 use Rattle.run_journal.specs.Laws.{ACrashKeepsWhatWasShown}
+use Rattle.run_journal.proofs.Fronts.{if_some-at, if_some-both, if_some-map}
 use Rattle.logged_drive.specs.LoggedRuns.{IsAllInLog, KeepsShown, RunsLogged, nothing_held, output_held}
-
-known : {X : Type 0} (o : Option X) (x : X) (P : X → Type 0) → o ≡ Some x → IfSome o P → P x
-known o x P is p = subst (λ o. IfSome o P) is p
-
-if_some-map : {X : Type 0} {P Q : X → Type 0} (o : Option X) → ((x : X) → P x → Q x) → IfSome o P → IfSome o Q
-if_some-map None f none = none
-if_some-map (Some x) f p = f x p
-
-if_some-both : {X : Type 0} {P Q R : X → Type 0} (o : Option X) → ((x : X) → P x → Q x → R x) → IfSome o P → IfSome o Q → IfSome o R
-if_some-both None f p q = p
-if_some-both (Some x) f p q = f x p q
 
 -- ---- what a crash leaves
 
@@ -45,7 +35,7 @@ all_in_log before seen crash_states held printed is unfailed durable steps = if_
   shown = step.shown;
   output = is ∙ step.output;
   log = step.log unfailed;
-  on_disk = known seen (b.0 ++ logged step.shown) (λ f. (left : List ℕ) → crash_states left → left ≡ f) (step.log unfailed) durable;
+  on_disk = if_some-at seen (b.0 ++ logged step.shown) (λ f. (left : List ℕ) → crash_states left → left ≡ f) (step.log unfailed) durable;
 }) steps
 
 -- what the output had taken as the writer began

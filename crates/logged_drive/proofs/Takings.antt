@@ -1,19 +1,9 @@
 -- A log whose torn end is cut off, and which gets the line of a plan.
-use Rattle.std.proofs.Common.{◌≡◌, ℕ, List, Option, None, Some, IfSome, refl, sym, ap, subst}
-use Rattle.run_journal.specs.declared.file_fault.FileFault.{FileFault}
+use Rattle.std.proofs.Common.{◌≡◌, ℕ, List, Option, None, Some, IfSome, sym, ap, subst}
 use Rattle.run_journal.specs.WholeLines.{whole_lines}
-use Rattle.logged_drive.specs.declared.recovered_log.RecoverFault.{RecoverFault}
-use Rattle.logged_drive.specs.declared.recovered_log.RecoverFault.TheVariants.{Resume, NoTornEnd, File}
-use Rattle.logged_drive.specs.RecoveredLogs.{IsOfText, file_fault}
 
 -- what is so of the lines to which it was cut
 pub of_lines : (seen mid : Option (List ℕ)) (text : List ℕ) (P : List ℕ → Type 0) → IfSome seen (λ file. text ≡ file) → IfSome seen (λ file. mid ≡ Some (whole_lines file))
     → IfSome mid (λ file. file ≡ whole_lines text → P file) → IfSome seen (λ file. P (whole_lines file))
 of_lines None mid text P read cut is = tt
 of_lines (Some file) mid text P read cut is = (subst (λ (s : Option (List ℕ)). IfSome s (λ f. f ≡ whole_lines text → P f)) cut is) (sym (ap whole_lines read))
-
--- where the text is at fault, the log tells none
-pub text_fault : (fault : RecoverFault) (found : Option FileFault) → found ≡ None → IsOfText fault → found ≡ file_fault fault
-text_fault (Resume fault) found none is = none
-text_fault (NoTornEnd lines) found none is = none
-text_fault (File fault) found none is = absurd is
