@@ -25,3 +25,4 @@ pub mod SameReports
 pub mod ReportLines
 pub mod GoneOnAsOne
 pub mod LawProofs
+mod ShortAnswers

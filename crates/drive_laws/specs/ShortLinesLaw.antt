@@ -1,8 +1,9 @@
 -- The law that a line of version 2 has at most 128 bytes.
-use Rattle.std.specs.Prelude.{◌≡◌, ℕ, ◌<◌, ◌≤◌, List, ◌++◌, length, Some}
+use Rattle.std.specs.Prelude.{◌≡◌, ℕ, ◌<◌, ◌≤◌, List, [], ◌++◌, length, Some}
 use Rattle.shop_base.specs.declared.limits.TheConstants.{MAX_MOMENT}
 use Rattle.shop_base.specs.declared.report.Report.{Report}
 use Rattle.shop_base.specs.Plan.{PlannedShop, IsWellShaped, jobs, machines}
+use Rattle.shop_base.specs.Cell.{Cell}
 use Rattle.shop_base.specs.Report.{at, CanReport}
 use Rattle.shop_base.specs.Run.{IsRun}
 use Rattle.text_lines.specs.declared.limits.TheConstants.{MAX_INPUT}
@@ -14,6 +15,7 @@ use Rattle.event_lines.specs.declared.requests.Claim.{Claim}
 use Rattle.event_lines.specs.Requests.{claimed}
 use Rattle.cell_drive.specs.declared.protocol.Protocol.{Protocol}
 use Rattle.cell_drive.specs.OneRun.{cell_after}
+use Rattle.cell_drive.specs.ProtocolText.{IsClaimAccepted}
 use Rattle.cell_drive.specs.States.{overdue_in}
 use Rattle.shop_base.specs.declared.move_order.Spot.{Spot}
 use Rattle.shop_base.specs.declared.move_order.Spot.TheVariants.{Out, At}
@@ -86,3 +88,8 @@ OverdueIsShort = (p : PlannedShop) (entries : List Entry) (report : Report) (ove
 -- an input has no line of a higher number
 abbrev pub LineNumbersAreShort : Type 0
 LineNumbersAreShort = (input : List ℕ) → length input ≤ MAX_INPUT → length (input_lines input) < 100000000
+
+-- at the end of any run the answer to a report that is accepted has at most 16,384 bytes
+abbrev pub AnswersAreShort : Type 0
+AnswersAreShort = (p : PlannedShop) (protocol : Protocol) (entries : List Entry) (claim : Claim) (text : List ℕ) (more : List Entry) (next : Cell) → IsWellShaped p → IsRun p (events_of entries)
+    → IsClaimAccepted p protocol [] (cell_after p entries) claim text more next → length text ≤ 16384

@@ -28,7 +28,7 @@ ghost use Rattle.drive_laws.specs.SameReportsLaw.{TheSameReportsAreAnsweredSo};
 ghost use Rattle.drive_laws.specs.SameReportsLaw.{TheSameReportsOfACell, EachReportHasALine};
 ghost use Rattle.drive_laws.specs.ShortLinesLaw.{StateLinesAreShort, RefusalsAreShort, LateLinesAreShort};
 ghost use Rattle.drive_laws.specs.ShortLinesLaw.{StandingsAreShort, DetailsAreShort, OverdueIsShort};
-ghost use Rattle.drive_laws.specs.ShortLinesLaw.{LineNumbersAreShort};
+ghost use Rattle.drive_laws.specs.ShortLinesLaw.{LineNumbersAreShort, AnswersAreShort};
 ghost use Rattle.drive_laws.specs.StatesLaw.{OnlyGoneJobsAreLeftOut, OnlyCleanMachinesAreLeftOut};
 ghost use Rattle.drive_laws.specs.RecoveryLaw.{OneRecovery, OneTextFromALog, ALogWithoutEventsIsDriven};
 ghost use Rattle.drive_laws.specs.VersionsLaw.{Version2OnlyAdds};
@@ -235,6 +235,12 @@ pub fn lines_of_version_2_are_short()
     ensures details { DetailsAreShort }
     ensures overdue { OverdueIsShort }
     ensures lines { LineNumbersAreShort }
+{}
+
+/// The answer to a report that is accepted, in any run of a well-shaped plan, has at most 16,384 bytes: for so many the
+/// writer of a log has room behind what it shows first.
+pub fn an_answer_is_short()
+    ensures { AnswersAreShort }
 {}
 
 /// A late report finds something overdue, its own activity or another: so its line always says what.

@@ -6,3 +6,4 @@ mod Given
 mod Safe
 mod GivenOn
 mod Takings
+mod LeftLogs

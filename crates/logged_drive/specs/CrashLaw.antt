@@ -1,17 +1,20 @@
 -- A run is taken up from whatever a crash leaves of its log.
 use Rattle.std.specs.Prelude.{◌≡◌, ◌⊎◌, ℕ, true, List, [], ◌++◌, length, Option, None, Some}
 use Rattle.shop_base.specs.Plan.{PlannedShop, IsWellShaped}
-use Rattle.text_lines.specs.Lines.{ended_lines}
+use Rattle.text_lines.specs.Lines.{ended_lines, lines_of}
 use Rattle.plan_verifier.specs.Accepted.{IsAcceptable}
 use Rattle.cell_tables.specs.declared.entry.Entry.{Entry}
 use Rattle.byte_streams.specs.Answering.{AnswerAll}
 use Rattle.event_lines.specs.LogLines.{LinesParse}
+use Rattle.event_lines.specs.RunDigits.{AreDigits}
+use Rattle.event_lines.specs.declared.run_digits.RunDigits.{RunDigits}
 use Rattle.cell_drive.specs.declared.protocol.Protocol.{Protocol}
 use Rattle.cell_drive.specs.AnswerText.{DrivenCell, undriven, CellCloses}
 use Rattle.cell_drive.specs.ProtocolText.{ProtocolAnswers}
 use Rattle.cell_drive.specs.Recovered.{Recovered, replayed_events, IsRecovered, IsRecoverable}
 use Rattle.cell_drive.specs.Resuming.{due_text, driven_so_far}
 use Rattle.run_journal.specs.LogFiles.{IsLeft}
+use Rattle.run_journal.specs.LogRuns.{IsNamedFor, NameLast}
 use Rattle.run_journal.specs.WholeLines.{torn_end, whole_lines}
 use Rattle.run_journal.specs.LoggedLines.{logged}
 use Rattle.run_journal.specs.TornEnds.{is_torn}
@@ -60,3 +63,22 @@ pub record IsRecoveredAfter (p : PlannedShop) (recorded : List Entry) (start : L
   pub output : written ≡ Some (start ++ shown)
   pub came : List Entry
   pub again : (left : List ℕ) → crash_states left → IsRecoveredAgain p recorded came shown left
+
+-- what was left names the plan of these digits last, and can be taken up by the plan so
+pub record IsOfItsPlan (p : PlannedShop) (digits : RunDigits) (recorded came : List Entry) (shown left : List ℕ) : Type 0 where
+  pub named : NameLast (lines_of (whole_lines left)) digits
+  pub again : IsRecoveredAgain p recorded came shown left
+
+-- so it is with each of both runs, where the log had whole lines and, behind them, the line of the plan, unless it was their last one
+abbrev pub ADrivenLogIsOfItsPlan : Type 0
+ADrivenLogIsOfItsPlan = (p : PlannedShop) (protocol : Protocol) (digits : RunDigits) (had base : List ℕ) (lines : List (Option (List ℕ))) (answers closing shown pending left : List ℕ) (end : DrivenCell)
+    → IsWellShaped p → IsAcceptable p → AreDigits digits → whole_lines had ≡ had → IsNamedFor digits had base → LinesParse p (ended_lines base) []
+    → AreAnswered p protocol (undriven p) lines answers end → IsGiven p answers shown pending closing end
+    → IsLeft (length (base ++ logged shown)) (base ++ logged (shown ++ pending)) left → IsOfItsPlan p digits [] end.entries shown left
+
+abbrev pub ARecoveredLogIsOfItsPlan : Type 0
+ARecoveredLogIsOfItsPlan = (p : PlannedShop) (protocol : Protocol) (digits : RunDigits) (had base : List ℕ) (at : Option ℕ) (recovered : Recovered) (lines : List (Option (List ℕ))) (answers closing shown pending left : List ℕ)
+    (end : DrivenCell) → AreDigits digits → whole_lines had ≡ had → IsNamedFor digits had base → IsRecovered p (ended_lines base) at recovered
+    → AreAnswered p protocol (driven_so_far p recovered.log.entries) lines answers end → IsGiven p (due_text recovered ++ answers) shown pending closing end
+    → IsLeft (length (base ++ logged shown)) (base ++ logged (shown ++ pending)) left
+    → (came : List Entry) × (end.entries ≡ replayed_events recovered ++ came) × IsOfItsPlan p digits (replayed_events recovered) came shown left
