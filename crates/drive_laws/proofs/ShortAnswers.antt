@@ -2,7 +2,6 @@
 use Rattle.std.proofs.Common.{◌≡◌, ℕ, ◌+◌, ◌*◌, ◌<◌, ◌≤◌, Bool, true, false, cond, List, [], ◌∷◌, ◌++◌, codes, decimal, length, Option, None, Some, refl, ap, arith}
 use Rattle.std.specs.List.{flat_map}
 use Rattle.std.proofs.lemmas.List.{length-append}
-use Rattle.std.proofs.lemmas.Fmt.{length-decimal-le}
 use Rattle.shop_base.specs.declared.limits.TheConstants.{MAX_MOMENT}
 use Rattle.shop_base.specs.declared.move_order.MoveOrder.{MoveOrder}
 use Rattle.shop_base.specs.declared.move_order.Spot.{Spot}
@@ -21,7 +20,7 @@ use Rattle.shop_base.proofs.ReadyCount.{after_moves-ready_count}
 use Rattle.cell_tables.specs.Events.{events_of}
 use Rattle.cell_tables.specs.Moving.{IsSpotOf}
 use Rattle.cell_tables.specs.declared.entry.Entry.TheVariants.{Report as ReportEntry, Order as OrderEntry}
-use Rattle.event_lines.specs.Words.{Word, written, words_before, line_of}
+use Rattle.event_lines.specs.Words.{written, line_of}
 use Rattle.event_lines.specs.EventLines.{logged_words, order_line, order_words, report_line, spot_word}
 use Rattle.event_lines.specs.AnswerLines.{done_words, late_words}
 use Rattle.event_lines.specs.LogLines.{IsEntryOf}
@@ -32,28 +31,15 @@ use Rattle.cell_drive.specs.ProtocolText.{end_part, lateness_part, printed_overd
 use Rattle.cell_drive.specs.Refusals.{standing_of}
 use Rattle.cell_drive.specs.States.{overdue_in}
 use Rattle.cell_drive.proofs.ShopEntries.{order_of_shop, report_of_shop}
-use Rattle.drive_laws.proofs.ShortLines.{late_lines_are_short}
+use Rattle.drive_laws.proofs.ShortLines.{late_lines_are_short, moment_fits, short_fits, words_fit}
 use Rattle.drive_laws.proofs.ShortNumbers.{overdue_is_short}
 use Rattle.drive_laws.specs.ShortLinesLaw.{AnswersAreShort, IsShort, IsShortStanding}
 
--- how many bytes words have, with a space behind each
-abbrev size : List Word → ℕ
-size [] = 0
-size (word ∷ words) = length (written word) + 1 + size words
-
-line_fits : (words : List Word) (text : List ℕ) → length (words_before words text) ≤ size words + length text
-line_fits [] text = omega arith
-line_fits (word ∷ []) text = omega (arith, length-append (written word) text)
-line_fits (word ∷ next ∷ words) text = omega (arith, length-append (written word) (32 ∷ words_before (next ∷ words) text), line_fits (next ∷ words) text)
-
-moment_fits : (t : ℕ) → t ≤ MAX_MOMENT → length (decimal t) ≤ 13
-moment_fits t is = length-decimal-le 13 t (omega arith) (omega (arith, is)) (omega (arith, is))
-
 late_fits : (t : ℕ) → t ≤ MAX_MOMENT → length (line_of (late_words t)) ≤ 128
-late_fits t in_range = let late_is : length (codes "late") ≡ 4 = refl in omega (arith, line_fits (late_words t) (10 ∷ []), late_is, moment_fits t in_range)
+late_fits t in_range = let late_is : length (codes "late") ≡ 4 = refl in omega (arith, words_fit (late_words t) (10 ∷ []), late_is, moment_fits t (omega (arith, in_range)))
 
 done_fits : (t : ℕ) → t ≤ MAX_MOMENT → length (line_of (done_words t)) ≤ 128
-done_fits t in_range = let done_is : length (codes "done") ≡ 4 = refl in omega (arith, line_fits (done_words t) (10 ∷ []), done_is, moment_fits t in_range)
+done_fits t in_range = let done_is : length (codes "done") ≡ 4 = refl in omega (arith, words_fit (done_words t) (10 ∷ []), done_is, moment_fits t (omega (arith, in_range)))
 
 lateness_fits : (t : ℕ) (late : Bool) (overdue : Option Overdue) → t ≤ MAX_MOMENT → ((o : Overdue) → overdue ≡ Some o → IsShortStanding o.first × IsShort o.others) → length (lateness_part [] t late overdue) ≤ 128
 lateness_fits t false overdue in_range short = omega arith
@@ -66,10 +52,10 @@ end_fits t true in_range = done_fits t in_range
 
 module _ (p : PlannedShop) (shaped : IsWellShaped p) where
   job_fits : (j : ℕ) → j < jobs p → length (decimal j) ≤ 3
-  job_fits j within = let few = shaped.shop.counts.few_jobs in length-decimal-le 3 j (omega arith) (omega (arith, within, few)) (omega (arith, within, few))
+  job_fits j within = short_fits j (omega (arith, within, shaped.shop.counts.few_jobs))
 
   machine_fits : (m : ℕ) → m < machines p → length (decimal m) ≤ 3
-  machine_fits m within = let few = shaped.shop.counts.few_machines in length-decimal-le 3 m (omega arith) (omega (arith, within, few)) (omega (arith, within, few))
+  machine_fits m within = short_fits m (omega (arith, within, shaped.shop.counts.few_machines))
 
   spot_fits : (spot : Spot) → IsSpotOf p spot → length (written (spot_word spot)) ≤ 3
   spot_fits Out of_shop = omega arith
@@ -78,21 +64,21 @@ module _ (p : PlannedShop) (shaped : IsWellShaped p) where
   order_fits : (o : MoveOrder) → IsEntryOf p (OrderEntry o) → length (order_line o) ≤ 64
   order_fits o of_shop =
       let order_is : length (codes "order") ≡ 5 = refl in
-      omega (arith, line_fits (order_words o) (10 ∷ []), order_is, moment_fits o.at of_shop.3, job_fits o.job of_shop.0, spot_fits o.source of_shop.1, spot_fits o.target of_shop.2)
+      omega (arith, words_fit (order_words o) (10 ∷ []), order_is, moment_fits o.at (omega (arith, of_shop.3)), job_fits o.job of_shop.0, spot_fits o.source of_shop.1, spot_fits o.target of_shop.2)
 
   report_fits : (report : Report) → IsEntryOf p (ReportEntry report) → length (report_line report) ≤ 64
   report_fits (Arrive job t) of_shop =
       let report_is : length (codes "report") ≡ 6 = refl in
       let arrive_is : length (codes "arrive") ≡ 6 = refl in
-      omega (arith, line_fits (logged_words (Arrive job t)) (10 ∷ []), report_is, arrive_is, moment_fits t of_shop.1, job_fits job of_shop.0)
+      omega (arith, words_fit (logged_words (Arrive job t)) (10 ∷ []), report_is, arrive_is, moment_fits t (omega (arith, of_shop.1)), job_fits job of_shop.0)
   report_fits (Finish job machine t) of_shop =
       let report_is : length (codes "report") ≡ 6 = refl in
       let finish_is : length (codes "finish") ≡ 6 = refl in
-      omega (arith, line_fits (logged_words (Finish job machine t)) (10 ∷ []), report_is, finish_is, moment_fits t of_shop.1, job_fits job of_shop.0.0, machine_fits machine of_shop.0.1)
+      omega (arith, words_fit (logged_words (Finish job machine t)) (10 ∷ []), report_is, finish_is, moment_fits t (omega (arith, of_shop.1)), job_fits job of_shop.0.0, machine_fits machine of_shop.0.1)
   report_fits (Clean machine t) of_shop =
       let report_is : length (codes "report") ≡ 6 = refl in
       let clean_is : length (codes "clean") ≡ 5 = refl in
-      omega (arith, line_fits (logged_words (Clean machine t)) (10 ∷ []), report_is, clean_is, moment_fits t of_shop.1, machine_fits machine of_shop.0)
+      omega (arith, words_fit (logged_words (Clean machine t)) (10 ∷ []), report_is, clean_is, moment_fits t (omega (arith, of_shop.1)), machine_fits machine of_shop.0)
 
   moves_fit : (c : Cell) (t : ℕ) (js : List ℕ) → IsSound p c → AreMoves p c t js → length (flat_map order_line (orders_for p c t js)) ≤ 64 * length js
   moves_fit c t [] sound moves = omega arith

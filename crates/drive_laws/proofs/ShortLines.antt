@@ -21,7 +21,7 @@ use Rattle.drive_laws.specs.ShortLinesLaw.{IsShort, IsMoment, IsShortSpot, IsSho
 -- ---- words
 
 -- how many bytes words have, with a space behind each
-abbrev size : List Word → ℕ
+abbrev pub size : List Word → ℕ
 size [] = 0
 size (word ∷ words) = length (written word) + 1 + size words
 
@@ -29,7 +29,7 @@ size_join : (words others : List Word) → size (words ++ others) ≡ size words
 size_join [] others = omega arith
 size_join (word ∷ words) others = omega (arith, size_join words others)
 
-words_fit : (words : List Word) (text : List ℕ) → length (words_before words text) ≤ size words + length text
+pub words_fit : (words : List Word) (text : List ℕ) → length (words_before words text) ≤ size words + length text
 words_fit [] text = omega arith
 words_fit (word ∷ []) text = omega (arith, length-append (written word) text)
 words_fit (word ∷ next ∷ words) text = omega (arith, length-append (written word) (32 ∷ words_before (next ∷ words) text), words_fit (next ∷ words) text)
@@ -37,10 +37,10 @@ words_fit (word ∷ next ∷ words) text = omega (arith, length-append (written 
 line_fits : (prefix : List ℕ) (words : List Word) (most : ℕ) → length prefix ≤ 10 → size words ≤ most → most ≤ 117 → length (prefix ++ line_of words) ≤ 128
 line_fits prefix words most before few within = omega (arith, length-append prefix (line_of words), words_fit words (10 ∷ []), before, few, within)
 
-short_fits : (n : ℕ) → IsShort n → length (decimal n) ≤ 3
+pub short_fits : (n : ℕ) → IsShort n → length (decimal n) ≤ 3
 short_fits n short = length-decimal-le 3 n (omega arith) (omega (arith, short)) (omega (arith, short))
 
-moment_fits : (t : ℕ) → IsMoment t → length (decimal t) ≤ 13
+pub moment_fits : (t : ℕ) → IsMoment t → length (decimal t) ≤ 13
 moment_fits t is = length-decimal-le 13 t (omega arith) (omega (arith, is)) (omega (arith, is))
 
 -- ---- a state
