@@ -1,4 +1,4 @@
-ghost use Rattle.std.specs.Prelude.{ℕ, ◌≤◌, List, length, Option, Some, None};
+ghost use Rattle.std.specs.Prelude.{ℕ, ◌≤◌, List, length, Option, IfSome, option_copied};
 ghost use Rattle.byte_streams.specs.Lent.{WroteOneTo};
 ghost use Rattle.byte_streams.specs.Answering.{WasAnswered};
 
@@ -14,19 +14,16 @@ pub trait LineHandler {
     // The closing text in this state.
     ghost closes: { Self → List ℕ → Type 0 };
 
-    /// Answers the line of this number, from 1.
+    /// Answers the line of this number, from 1; `None` stands for one that has too many bytes.
     fn answer<W: Sink>(
         &mut self,
         number: u64,
-        line: &[u8],
+        line: Option<&[u8]>,
         writer: &mut W,
     ) -> Result<(), WriteFault>
-        requires { length line.now ≤ MAX_LINE }
-        ensures { WasAnswered answers self.old number (Some line.now) self.new W.Sink result writer.old writer.new };
-
-    /// Answers the line of this number, which has too many bytes.
-    fn answer_long<W: Sink>(&mut self, number: u64, writer: &mut W) -> Result<(), WriteFault>
-        ensures { WasAnswered answers self.old number None self.new W.Sink result writer.old writer.new };
+        requires { IfSome line (λ line. length line.now ≤ MAX_LINE) }
+        ensures { WasAnswered answers self.old number
+            (option_copied line.entry) self.new W.Sink result writer.old writer.new };
 
     /// Writes the closing text, which comes after the last answer.
     fn put_closing<W: Sink>(&self, writer: &mut W) -> Result<(), WriteFault>

@@ -1,6 +1,6 @@
 //! The lines that end in a piece of the input.
 
-ghost use Rattle.std.specs.Prelude.{◌≡◌, ◌+◌, ◌^◌, ◌<◌, [], length, Some, OnOk};
+ghost use Rattle.std.specs.Prelude.{◌≡◌, ◌+◌, ◌^◌, ◌<◌, ◌≤◌, [], length, Some, IfSome, OnOk, option_copied};
 ghost use Rattle.byte_streams.specs.Holding.{held_line, ended_line, ended, held_after};
 ghost use Rattle.byte_streams.specs.Lent.{sink_state};
 ghost use Rattle.byte_streams.specs.Answering.{WasAnswered, WereAnswered};
@@ -17,37 +17,25 @@ pub(crate) struct Input {
     pub lines: u64,
 }
 
-fn answer_bytes<H: LineHandler, W: Sink>(
-    handler: &mut H,
-    number: u64,
-    bytes: &[u8],
-    writer: &mut W,
-) -> Result<(), WriteFault>
-    ensures { WasAnswered H.answers handler.old number
-        (held_line (Some bytes.now)) handler.new W.Sink result writer.old writer.new }
+/// The line of these bytes, unless it is too long.
+fn line_of(bytes: &[u8]) -> Option<&[u8]>
+    ensures line { option_copied result ≡ held_line (Some bytes.now) }
+    ensures within { IfSome result (λ line. length line.now ≤ MAX_LINE) }
 {
     let line = without_return(bytes);
     if line.len() <= MAX_LINE {
-        handler.answer(number, line, writer)
+        Some(line)
     } else {
-        handler.answer_long(number, writer)
+        None
     }
 }
 
-/// Answers the line that is held.
-pub(crate) fn answer_held<H: LineHandler, W: Sink>(
-    handler: &mut H,
-    number: u64,
-    held: &HeldLine,
-    writer: &mut W,
-) -> Result<(), WriteFault>
-    ensures { WasAnswered H.answers handler.old number
-        (held_line held.now) handler.new W.Sink result writer.old writer.new }
+/// The line that is held, unless it is too long.
+pub(crate) fn line_held(held: &HeldLine) -> Option<&[u8]>
+    ensures line { option_copied result ≡ held_line held.now }
+    ensures within { IfSome result (λ line. length line.now ≤ MAX_LINE) }
 {
-    match held.bytes() {
-        Some(bytes) => answer_bytes(handler, number, bytes, writer),
-        None => handler.answer_long(number, writer),
-    }
+    line_of(held.bytes()?)
 }
 
 /// Answers the line that ends with these bytes. It is copied only if some of it is held.
@@ -63,10 +51,10 @@ fn answer_ended<H: LineHandler, W: Sink>(
     ensures cleared { held.new ≡ Some [] }
 {
     if held.is_empty() {
-        return answer_bytes(handler, number, bytes, writer);
+        return handler.answer(number, line_of(bytes), writer);
     }
     held.push(bytes);
-    let answered = answer_held(handler, number, held, writer);
+    let answered = handler.answer(number, line_held(held), writer);
     held.clear();
     answered
 }

@@ -4,15 +4,14 @@ ghost use Rattle.std.specs.Prelude.{◌≡◌, ◌+◌, ◌^◌, ◌<◌, ◌≤
 ghost use Rattle.std.specs.Io.KnownBytes.{Keeps, ReadConsumes};
 ghost use Rattle.byte_streams.specs.Lent.{sink_state, output_of, streams_of, lent};
 ghost use Rattle.byte_streams.specs.Answering.{WereAnswered};
-ghost use Rattle.byte_streams.specs.Reading.{IsReadOn, IsPastLimit, IsReadAnswered, IsDrained};
-ghost use Rattle.byte_streams.specs.Reading.{IsFinished, last_line, reached};
+ghost use Rattle.byte_streams.specs.Reading.{IsReadOn, IsPastLimit, IsReadAnswered, IsFinished, last_line, reached};
 ghost use Rattle.byte_streams.specs.Streams.{IsShown, IsShownAt, IsStreamed};
 
 use crate::buffered_sink::BufferedSink;
 use crate::drive_fault::DriveFault;
 use crate::held_line::HeldLine;
 use crate::line_handler::LineHandler;
-use crate::pieces::{Input, answer_held, take_piece};
+use crate::pieces::{Input, line_held, take_piece};
 use crate::sink::{Sink, WriteFault};
 use crate::source::Source;
 use text_lines::MAX_INPUT;
@@ -73,32 +72,6 @@ fn read_on<R: Source, W: BufferedSink>(
     }
 }
 
-/// Reads all bytes and answers the lines that end in them. All answers are shown before each read.
-fn drain<H: LineHandler, R: Source, W: BufferedSink>(
-    handler: &mut H,
-    input: &mut Input,
-    reader: &mut R,
-    room: &mut [u8],
-    writer: &mut W,
-) -> Result<(), DriveFault>
-    requires none_held { input.old.held ≡ Some [] }
-    requires no_lines { input.old.lines ≡ 0 }
-    requires room { 0 < length room.old }
-    ensures drained { IsDrained result (length room.old) H.answers handler.old (reached handler.new input.new)
-        (streams_of R.Source W.Sink W.pending reader.old writer.old)
-        (streams_of R.Source W.Sink W.pending reader.new writer.new) }
-    ensures shown { IsShown result (W.pending writer.new) }
-{
-    let mut left = MAX_INPUT;
-    'reads: loop {
-        let count = read_on(reader, room, writer)?;
-        if count == 0 {
-            return Ok(());
-        }
-        left = take_read(handler, input, &room[..count], left, writer)?;
-    }
-}
-
 /// Answers the last line, where bytes of it are held.
 fn answer_last<H: LineHandler, W: Sink>(
     handler: &mut H,
@@ -112,7 +85,7 @@ fn answer_last<H: LineHandler, W: Sink>(
     if input.held.is_empty() {
         return Ok(());
     }
-    answer_held(handler, input.lines + 1, &input.held, writer)
+    handler.answer(input.lines + 1, line_held(&input.held), writer)
 }
 
 /// Answers the last line, where bytes of it are held, writes the closing text, and shows all.
@@ -153,9 +126,15 @@ pub fn stream<H: LineHandler, R: Source, W: BufferedSink>(
         held: HeldLine::new(),
         lines: 0,
     };
-    drain(handler, &mut input, reader, room, writer)?;
-    match finish(handler, &input, writer) {
-        Ok(()) => Ok(()),
-        Err(_) => Err(DriveFault::Write),
+    let mut left = MAX_INPUT;
+    'reads: loop {
+        let count = read_on(reader, room, writer)?;
+        if count == 0 {
+            return match finish(handler, &input, writer) {
+                Ok(()) => Ok(()),
+                Err(_) => Err(DriveFault::Write),
+            };
+        }
+        left = take_read(handler, &mut input, &room[..count], left, writer)?;
     }
 }

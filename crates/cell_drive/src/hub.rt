@@ -150,14 +150,13 @@ impl<D: Dues> LineHandler for Cells<D> {
     fn answer<W: Sink>(
         &mut self,
         number: u64,
-        line: &[u8],
+        line: Option<&[u8]>,
         writer: &mut W,
     ) -> Result<(), WriteFault> {
-        answer_line(self.protocol, &mut self.controllers, number, line, writer)
-    }
-
-    fn answer_long<W: Sink>(&mut self, number: u64, writer: &mut W) -> Result<(), WriteFault> {
-        put_refused(number, b"LongLine", writer)
+        match line {
+            Some(line) => answer_line(self.protocol, &mut self.controllers, number, line, writer),
+            None => put_refused(number, b"LongLine", writer),
+        }
     }
 
     fn put_closing<W: Sink>(&self, writer: &mut W) -> Result<(), WriteFault> {

@@ -39,6 +39,7 @@ pub(crate) fn printed_overdue<P: Planned>(
 }
 
 /// Whether what is claimed is possible, or the first reason for which it isn't.
+#[inline(always)]
 fn judge_possible<P: Timed, D: Dues>(
     controller: &Core<P, D>,
     claim: Claim,
@@ -54,6 +55,7 @@ fn judge_possible<P: Timed, D: Dues>(
 }
 
 /// Whether what is claimed is accepted, or why it is refused.
+#[inline(always)]
 fn judge<P: Timed, D: Dues>(
     protocol: Protocol,
     controller: &Core<P, D>,
@@ -109,6 +111,7 @@ fn take<P: Timed, D: Dues>(
 }
 
 /// Replies to what is claimed.
+#[inline(always)]
 fn reply_to_claim<P: Timed, D: Dues>(
     protocol: Protocol,
     controller: &mut Core<P, D>,
@@ -126,6 +129,7 @@ fn reply_to_claim<P: Timed, D: Dues>(
 }
 
 /// Replies to a request: takes what is claimed, if it is possible and doesn't leap.
+#[inline(always)]
 pub(crate) fn reply_to<P: Timed, D: Dues>(
     protocol: Protocol,
     controller: &mut Core<P, D>,

@@ -3,11 +3,13 @@
 ghost use Rattle.std.specs.Prelude.{◌≡◌, ◌++◌, ◌≤◌, length, OnOk};
 ghost use Rattle.std.specs.List.{flat_map};
 ghost use Rattle.shop_base.specs.Report.{at};
-ghost use Rattle.event_lines.specs.{EventLines.report_line, EventLines.order_line, AnswerLines.refused_line};
+ghost use Rattle.event_lines.specs.{EventLines.report_line, EventLines.order_line};
+ghost use Rattle.event_lines.specs.{AnswerLines.refused_line, AnswerLines.done_line};
 ghost use Rattle.event_lines.specs.StandingLines.{refused_detail_line};
 ghost use Rattle.byte_streams.specs.Lent.{WroteTo};
 ghost use Rattle.cell_drive.specs.{LineAnswers.closing_line, Refusals.refusal_word};
-ghost use Rattle.cell_drive.specs.ProtocolText.{end_part, lateness_part, refusal_prefix, acceptance_lines};
+ghost use Rattle.cell_drive.specs.ProtocolText.{end_part, lateness_line, lateness_part};
+ghost use Rattle.cell_drive.specs.ProtocolText.{refusal_prefix, acceptance_lines};
 ghost use Rattle.cell_drive.specs.Replies.{reply_text};
 
 use crate::protocol::Protocol;
@@ -19,7 +21,7 @@ use event_lines::{
     Detail, LineText, Overdue, done_line, late_line, late_overdue_line, put_order, put_report,
     refused_detail_line, refused_line, unfinished_line,
 };
-use shop_base::MoveOrder;
+use shop_base::{Moment, MoveOrder};
 
 /// What a cell replies to what it is asked.
 #[derive(Clone, Copy)]
@@ -72,7 +74,25 @@ pub(crate) fn put_report_line<W: Sink>(
     put_behind(prefix, line.bytes(), writer)
 }
 
-/// Writes the line that the report was late, if it was, and in it what was overdue, if that is given.
+/// Writes the line that a report was late, and in it what was overdue, if that is given.
+#[cold]
+#[inline(never)]
+fn put_late<W: Sink>(
+    prefix: &[u8],
+    at: Moment,
+    overdue: Option<Overdue>,
+    writer: &mut W,
+) -> Result<(), WriteFault>
+    ensures wrote { WroteTo W.Sink result writer.old writer.new (prefix.now ++ lateness_line at overdue) }
+    ensures unfailed { OnOk result (W.failed writer.new ≡ W.failed writer.old) }
+{
+    match overdue {
+        Some(overdue) => put_behind(prefix, late_overdue_line(at, overdue).bytes(), writer),
+        None => put_behind(prefix, late_line(at).bytes(), writer),
+    }
+}
+
+/// Writes the line that the report was late, if it was.
 #[inline(always)]
 pub(crate) fn put_lateness<W: Sink>(
     prefix: &[u8],
@@ -84,15 +104,10 @@ pub(crate) fn put_lateness<W: Sink>(
     ensures wrote { WroteTo W.Sink result writer.old writer.new (lateness_part prefix.now (at report) late overdue) }
     ensures unfailed { OnOk result (W.failed writer.new ≡ W.failed writer.old) }
 {
-    if !late {
-        return Ok(());
-    }
-    match overdue {
-        Some(overdue) => {
-            let line = late_overdue_line(report.at(), overdue);
-            put_behind(prefix, line.bytes(), writer)
-        }
-        None => put_behind(prefix, late_line(report.at()).bytes(), writer),
+    if late {
+        put_late(prefix, report.at(), overdue, writer)
+    } else {
+        Ok(())
     }
 }
 
@@ -114,6 +129,15 @@ fn put_orders<W: Sink>(
     Ok(())
 }
 
+/// Writes the line of the end of the run.
+#[inline(never)]
+fn put_done<W: Sink>(prefix: &[u8], at: Moment, writer: &mut W) -> Result<(), WriteFault>
+    ensures wrote { WroteTo W.Sink result writer.old writer.new (prefix.now ++ done_line at) }
+    ensures unfailed { OnOk result (W.failed writer.new ≡ W.failed writer.old) }
+{
+    put_behind(prefix, done_line(at).bytes(), writer)
+}
+
 /// Writes the line of the end of the run, if there is to be one.
 #[inline(always)]
 fn put_end<W: Sink>(
@@ -125,10 +149,11 @@ fn put_end<W: Sink>(
     ensures wrote { WroteTo W.Sink result writer.old writer.new (end_part prefix.now (at report) ended) }
     ensures unfailed { OnOk result (W.failed writer.new ≡ W.failed writer.old) }
 {
-    if !ended {
-        return Ok(());
+    if ended {
+        put_done(prefix, report.at(), writer)
+    } else {
+        Ok(())
     }
-    put_behind(prefix, done_line(report.at()).bytes(), writer)
 }
 
 /// Writes the line of the report, the line that it was late, the lines of the orders, and the line of the end.
@@ -240,7 +265,7 @@ pub(crate) fn put_closing<P: Timed, D: Dues, W: Sink>(
 {
     let left = controller.reports_left();
     if left == 0 {
-        put_behind(prefix, done_line(controller.now()).bytes(), writer)
+        put_done(prefix, controller.now(), writer)
     } else {
         put_behind(prefix, unfinished_line(left).bytes(), writer)
     }

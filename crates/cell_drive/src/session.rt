@@ -126,21 +126,22 @@ impl<P: Timed, D: Dues> LineHandler for Session<P, D> {
     fn answer<W: Sink>(
         &mut self,
         number: u64,
-        line: &[u8],
+        line: Option<&[u8]>,
         writer: &mut W,
     ) -> Result<(), WriteFault> {
-        answer_line(
-            self.protocol,
-            &mut self.controller,
-            &mut self.log,
-            number,
-            line,
-            writer,
-        )
-    }
-
-    fn answer_long<W: Sink>(&mut self, number: u64, writer: &mut W) -> Result<(), WriteFault> {
-        put_refused(number, b"LongLine", writer)
+        match line {
+            Some(line) => {
+                answer_line(
+                    self.protocol,
+                    &mut self.controller,
+                    &mut self.log,
+                    number,
+                    line,
+                    writer,
+                )
+            }
+            None => put_refused(number, b"LongLine", writer),
+        }
     }
 
     fn put_closing<W: Sink>(&self, writer: &mut W) -> Result<(), WriteFault> {

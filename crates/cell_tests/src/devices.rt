@@ -145,9 +145,12 @@ impl LineHandler for Echo {
     fn answer<W: Sink>(
         &mut self,
         number: u64,
-        line: &[u8],
+        line: Option<&[u8]>,
         writer: &mut W,
     ) -> Result<(), WriteFault> {
+        let Some(line) = line else {
+            return put_all(writer, b"long|");
+        };
         if line.is_empty() {
             return put_all(writer, b"");
         }
@@ -155,10 +158,6 @@ impl LineHandler for Echo {
         text[0] = b'0' + (number % 10) as u8;
         text[1..line.len() + 1].copy_from_slice(line);
         put_all(writer, &text[..line.len() + 2])
-    }
-
-    fn answer_long<W: Sink>(&mut self, _number: u64, writer: &mut W) -> Result<(), WriteFault> {
-        put_all(writer, b"long|")
     }
 
     fn put_closing<W: Sink>(&self, writer: &mut W) -> Result<(), WriteFault> {

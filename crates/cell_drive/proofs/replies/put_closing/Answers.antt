@@ -8,5 +8,5 @@ pub returns-else-left-eq0-clause-wrote : goal.returns-else-left-eq0-clause-wrote
 returns-else-left-eq0-clause-wrote g c =
     let left = c.reports_left-left.ensures.left in
     let line = ap unfinished_line left ∙ sym (closing_unfinished c.args.controller.now.planned c.args.controller.now.cell (λ none. c.if-left-eq0.false (left ∙ none))) in
-    subst (λ (text : List ℕ). WroteTo g.W.Sink c.put_behind-else-left-eq0.result c.args.writer.now c.put_behind-else-left-eq0.new.writer (c.args.prefix.now ++ text))
-    (c.bytes-else-left-eq0.ensures ∙ c.unfinished_line.ensures ∙ line) c.put_behind-else-left-eq0.ensures.wrote
+    subst (λ (text : List ℕ). WroteTo g.W.Sink c.put_behind.result c.args.writer.now c.put_behind.new.writer (c.args.prefix.now ++ text))
+    (c.bytes.ensures ∙ c.unfinished_line.ensures ∙ line) c.put_behind.ensures.wrote

@@ -2,7 +2,7 @@ use Rattle.std.proofs.Common.{◌<◌, length}
 use Rattle.byte_streams.specs.Lent.{streams_of}
 use Rattle.byte_streams.specs.Reading.{reached}
 use Rattle.byte_streams.proofs.Drains.{Draining}
-use Rattle.byte_streams.proofs.streaming.drain.Given as goal
+use Rattle.byte_streams.proofs.streaming.stream.Given as goal
 
 abbrev pub invariant-reads : goal.invariant-reads
 invariant-reads g l = record {
