@@ -60,7 +60,7 @@ slots_apart p m j n i shaped one other apart same =
     apart machines_same jobs_same
 
 module _ (p : PlannedShop) (shaped : IsWellShaped p) (table : List ℕ) (slots : HasSlots p table) where
-  -- the places of machine m are told, up to place n
+  -- the places of machine m are recorded, up to place n
   abbrev pub ArePlacesBelow : ℕ → ℕ → Type 0
   ArePlacesBelow m n = (a : ℕ) → a < n → get_or table (slot_of m (job_at p m a)) 0 ≡ a
 
@@ -78,7 +78,7 @@ module _ (p : PlannedShop) (shaped : IsWellShaped p) (table : List ℕ) (slots :
         rw (get_or-set_other table (slot_of m (job_at p m n)) (slot_of m (job_at p m a)) n 0 apart) (below a lower))
   ]
 
-  -- a place of machine m is told in no slot of another machine
+  -- a place of machine m is recorded in no slot of another machine
   pub places_others : (m n l i : ℕ) → m < machines p → n < length (order p m) → i < jobs p → l ≢ m
       → get_or (set table (slot_of m (job_at p m n)) n) (slot_of l i) 0 ≡ get_or table (slot_of l i) 0
   places_others m n l i machine within other apart =

@@ -14,7 +14,7 @@ use Rattle.alt_graph.specs.Ranking.{PlanRanking, IsRanked, WaitsFor, IsLongest, 
 use Rattle.alt_graph.proofs.NodeNumbers.{node_same}
 use Rattle.alt_graph.proofs.ArcKinds.{arc_kind, job_arc_is, blocking_arc_is, job_source_once, blocking_source_once}
 
--- one moment is told
+-- one moment is recorded
 some_same : (n m : ℕ) (o : Option ℕ) → o ≡ Some n → o ≡ Some m → m ≡ n
 some_same n m o one other = let same : Some m ≡ Some n = sym other ∙ one in cc
 

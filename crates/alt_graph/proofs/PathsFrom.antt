@@ -1,4 +1,4 @@
--- Paths from bounds: where they begin and end, their arcs, that a list of nodes has one length at most, and what is told of it.
+-- Paths from bounds: where they begin and end, their arcs, that a list of nodes has one length at most, and what is recorded of it.
 use Rattle.std.proofs.Common.{◌≡◌, ℕ, ◌+◌, ◌-◌, ◌<◌, ◌≤◌, ◌↔◌, List, [], ◌∷◌, ◌++◌, Option, None, Some, MatchOption, length, take, length-append, inl, inr, refl, sym, ap, subst, ◌∙◌, arith}
 use Rattle.std.proofs.Math.Seq.{get_or-append_seam, take-append_seam}
 use Rattle.std.proofs.lemmas.Bool.{cases_lt}
@@ -86,14 +86,14 @@ module _ (p : PlannedShop) (b : NodeBounds) where
       let next : i - 1 + 1 ≡ i = omega arith in
       none (subst (λ (k : ℕ). LeadsAhead p b (node_at nodes (i - 1)) (node_at nodes k)) next (path_arcs nodes v n (i - 1) path (omega arith)))
 
-  -- nothing is told of what is no chain
+  -- nothing is recorded of what is no chain
   pub no_chain : (nodes : List Node) (answer : Option ℕ) → answer ≡ None → ((n : ℕ) → IsChainFrom p b nodes n → ⊥) → (n : ℕ) → (answer ≡ Some n) ↔ IsChainFrom p b nodes n
   no_chain nodes answer is none n = (λ some. absurd (differ (sym is ∙ some)), λ chain. absurd (none n chain))
     where
       differ : None ≡ Some n → ⊥
       differ bad = cc
 
-  -- the length of a chain is told
+  -- the length of a chain is recorded
   pub chain_length : (nodes : List Node) (v : Node) (n : ℕ) → IsWellShaped p → length nodes ≤ node_count p → PathFrom p b nodes v n
       → (m : ℕ) → (Some n ≡ Some m) ↔ IsChainFrom p b nodes m
   chain_length nodes v n shaped few path m = (there, back)
@@ -104,7 +104,7 @@ module _ (p : PlannedShop) (b : NodeBounds) where
       back : IsChainFrom p b nodes m → Some n ≡ Some m
       back chain = ap (λ k. Some k) (path_once nodes nodes v chain.path.0 n m shaped path chain.path.1 refl).1
 
--- what is told of the first node
+-- what is recorded of the first node
 pub bound_exact : (p : PlannedShop) (b : NodeBounds) (v : Node) → IsNode p v → (recorded : Option ℕ) → recorded ≡ bound_of b v
     → MatchOption recorded ((n : ℕ) → HasBound p b v n → ⊥) (HasBound p b v)
 bound_exact p b v is None same = λ n (inside, bound). differ n (same ∙ bound)

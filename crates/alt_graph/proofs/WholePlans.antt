@@ -156,7 +156,7 @@ solved_to p shaped (Ok (Ordered times)) ordered = ordered_to p shaped times orde
 solved_to p shaped (Ok (Cyclic nodes)) ordered = tt
 solved_to p shaped (Err e) ordered = tt
 
--- a cycle that is told is one
+-- a cycle that is recorded is one
 pub cycle_has : (p : PlannedShop) (nodes : List Node) → IsCycle p nodes → HasCycle p
 cycle_has p [] cycle = absurd cycle
 cycle_has p (u ∷ us) (simple, inside, least) = (u ∷ us, simple)

@@ -15,7 +15,7 @@ pub record AreFirsts (p : PlannedShop) (firsts : List ℕ) : Type 0 where
 abbrev pub slot_of : ℕ → ℕ → ℕ
 slot_of m j = m * MAX_JOBS + j
 
--- what a table tells of machine m and job j
+-- what a table gives of machine m and job j
 abbrev pub entry_at : List ℕ → ℕ → ℕ → ℕ
 entry_at table m j = slice_index table (slot_of m j)
 
@@ -23,11 +23,11 @@ entry_at table m j = slice_index table (slot_of m j)
 abbrev pub HasSlots : PlannedShop → List ℕ → Type 0
 HasSlots p table = length table ≡ machines p * MAX_JOBS
 
--- the table tells the step of job j on each machine that it visits
+-- the table gives the step of job j on each machine that it visits
 abbrev pub AreStepsOf : PlannedShop → List ℕ → ℕ → Type 0
 AreStepsOf p table j = (k m : ℕ) → Visits p j k m → entry_at table m j ≡ k
 
--- the table tells the place of each job in the order of machine m
+-- the table gives the place of each job in the order of machine m
 abbrev pub ArePlacesOf : PlannedShop → List ℕ → ℕ → Type 0
 ArePlacesOf p table m = (a : ℕ) → a < length (order p m) → entry_at table m (job_at p m a) ≡ a
 

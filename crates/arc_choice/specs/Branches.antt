@@ -78,6 +78,6 @@ pub record IsForced (q : Question) (b : Branch) (side : Side) : Type 0 where
   pub pair : side.pair < length q.pairs.items
   pub keeps : (w : ℕ → ℕ) → Answers q w → IsWithin q b w → Keeps w (side_of q side.pair side.one)
 
--- it is so of the side that is told, if one is; at a clash the branch has no answers
+-- it is so of the side that is named, if one is; at a clash the branch has no answers
 abbrev pub Forces : Question → Branch → Result (Option Side) Clash → Type 0
 Forces q b result = MatchResult result (λ side. IfSome side (IsForced q b)) (λ _. HasNone Always q b)

@@ -21,7 +21,7 @@ pub struct State {
     pub open: Vec<usize>,
 }
 
-/// Says which pair is decided next. It needn't be trusted: whatever it says, what the search tells is so.
+/// Says which pair is decided next. It needn't be trusted: whatever it says, what the search answers is so.
 pub trait Choose {
     /// A question is searched from now on. Called once for each question.
     fn begin(&mut self, alloc: Global, question: &Question) -> Result<(), AllocError>;

@@ -92,7 +92,7 @@ fn split(
     Ok(())
 }
 
-/// The last of the branches that wait in which its side can be decided, if there is one; the chooser is told of those
+/// The last of the branches that wait in which its side can be decided, if there is one; the chooser hears of those
 /// where it can't.
 fn next<C: Choose>(
     question: &Question,

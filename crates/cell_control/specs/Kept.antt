@@ -1,4 +1,4 @@
--- When the run so far keeps another plan, as it can be told from its cell c: p is the plan by which it was made, q the other.
+-- When the run so far keeps another plan, as can be seen from its cell c: p is the plan by which it was made, q the other.
 use Rattle.std.specs.Prelude.{◌≡◌, ℕ, ◌<◌, ◌≤◌, false, is_some, if◌then◌else◌}
 use Rattle.shop_base.specs.Plan.{PlannedShop, jobs, machines, steps, machine_of, order, clean, Visits}
 use Rattle.shop_base.specs.Cell.{Cell, made, ready, entries, cleaning, IsGone}

@@ -14,13 +14,13 @@ pub data NamedEnd : Type 0 where
   Finished : (job machine : ℕ) → NamedEnd
   Cleaned : (machine job : ℕ) → NamedEnd
 
--- in this cell the report tells that end
+-- in this cell the report names that end
 abbrev pub ReportsEnd : PlannedShop → Cell → Report → NamedEnd → Type 0
 ReportsEnd p c r (Arrived j) = ended r ≡ Arrival j
 ReportsEnd p c r (Finished j m) = ended r ≡ Operation j m
 ReportsEnd p c r (Cleaned m j) = (ended r ≡ Cleaning m) × IsCleanedAfter p c m j
 
--- in any run, once an end that names its job was reported, no report that tells it is possible again, at whatever moment
+-- in any run, once an end that names its job was reported, no report that names it is possible again, at whatever moment
 abbrev pub NoNamedEndIsAcceptedTwice : Type 0
 NoNamedEndIsAcceptedTwice = (p : PlannedShop) (es fs : List Event) (r again : Report) (end : NamedEnd) → IsWellShaped p → IsRun p (es ++ Reported r ∷ fs)
     → ReportsEnd p (ends_in p es) r end → ReportsEnd p (ends_in p (es ++ Reported r ∷ fs)) again end → CanReport p (ends_in p (es ++ Reported r ∷ fs)) again → ⊥

@@ -128,7 +128,7 @@ fn other_order(shaped: &Shaped, machine: MachineNo) -> &[JobNo]
     }
 }
 
-/// Whether the other cleaning time of the machine can be taken up.
+/// Whether the other cleaning time of the machine can be adopted.
 fn cleaning_keeps<P: Planned>(cell: &WorkCell<P>, shaped: &Shaped, machine: MachineNo) -> bool
     requires { machine < machines cell.now.plan }
     ensures { IsTrue result ↔ KeepsCleaning cell.now.plan cell.now.cell shaped.now machine }

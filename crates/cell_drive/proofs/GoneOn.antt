@@ -1,4 +1,4 @@
--- A run that goes on, whose events were told again before.
+-- A run that goes on, whose events were written again before.
 use Rattle.std.proofs.Common.{◌≡◌, List, ℕ, ◌++◌, Result, Err, inl, inr, ◌∙◌, refl, subst}
 use Rattle.std.specs.Io.KnownBytes.{Appends}
 use Rattle.std.proofs.KnownBytes.{Appends-trans}

@@ -41,7 +41,7 @@ module _ (p : PlannedShop) (c : Cell) (t : ℕ) (on_time : IsOnTime p c t) where
       ap (λ (found : Option Overdue). own_first t own (with_machines p c t found)) (none_of_those (job_standing p c) 0 (jobs p) (λ j. after j (made c j) refl))
       ∙ ap (own_first t own) (none_of_those (machine_standing p c) 0 (machines p) (λ m. cleaned m (cleaning c m) refl))
 
--- so nothing is told, in any version of the lines
+-- so nothing is printed, in any version of the lines
 pub none_printed : (version_2 : Bool) (found : Option Overdue) → found ≡ None → None ≡ cond version_2 found None
 none_printed true found none = sym none
 none_printed false found none = refl

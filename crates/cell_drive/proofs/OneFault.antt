@@ -142,7 +142,7 @@ module _ (p : PlannedShop) (c : Cell) where
 
   -- ---- and a line
 
-  -- a line is bad, or tells an entry that has the fault
+  -- a line is bad, or records an entry that has the fault
   abbrev FoundIn : List ℕ → AuditFault → Type 0
   FoundIn line f = ((kind f ≡ 0) × IsBadLine p line) ⊎ ((entry : Entry) × LineParses p line (entry ∷ []) × IsFaultOf p c entry f)
 
@@ -168,7 +168,7 @@ module _ (p : PlannedShop) (c : Cell) where
 
 -- lines have one first fault
 module _ (p : PlannedShop) (lines : List (List ℕ)) where
-  -- none is among the lines before another, which tell a run
+  -- none is among the lines before another, which record a run
   no_earlier : (f g : AuditFault) (one : IsFirstBad p lines f) (other : IsFirstBad p lines g) (x : List ℕ) (rest : List (List ℕ)) → one.before ≡ other.before ++ x ∷ rest
       → other.line ∷ other.after ≡ x ∷ (rest ++ one.line ∷ one.after) → ⊥
   no_earlier f g one other x rest longer lines_are =

@@ -1,4 +1,4 @@
--- In each manner an input has one answer text.
+-- By each protocol an input has one answer text.
 use Rattle.std.proofs.Common.{◌≡◌, ◌↔◌, ◌⊎◌, ℕ, suc, ◌+◌, List, [], ◌∷◌, ◌++◌, set, map, Bool, true, false, Option, Some, None, Result, Err, refl, sym, ap, ◌∙◌, subst, inl, inr}
 use Rattle.std.specs.Prelude.{slice_get}
 use Rattle.shop_base.specs.declared.move_order.MoveOrder.{MoveOrder}

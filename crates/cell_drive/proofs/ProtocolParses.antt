@@ -1,4 +1,4 @@
--- What a cell that is driven in a manner wrote, as a log is read.
+-- What a cell that is driven by a protocol wrote, as a log is read.
 use Rattle.std.proofs.Common.{◌≡◌, ◌==◌, ℕ, zero, suc, List, [], ◌∷◌, ◌++◌, map, codes, Bool, true, false, cond, Option, Some, None, refl, sym, ap, ◌∙◌, subst, inl, inr, append-nil}
 use Rattle.shop_base.specs.Plan.{PlannedShop, IsWellShaped, jobs, machines}
 use Rattle.shop_base.specs.Cell.{Cell}

@@ -54,7 +54,7 @@ module _ (p : PlannedShop) where
 
     -- ---- answers
 
-    -- what was answered tells what came between the cells before and behind it
+    -- what was answered records what came between the cells before and behind it
     pub record AreParsed (before : DrivenCell) (text : List ℕ) (end : DrivenCell) : Type 0 where
       pub more : List Entry
       pub parses : ParsesFirst p text more

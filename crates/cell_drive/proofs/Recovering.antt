@@ -1,4 +1,4 @@
--- A log that is taken up.
+-- A log that is recovered.
 use Rattle.std.proofs.Common.{◌≡◌, ℕ, ◌+◌, ◌*◌, ◌<◌, ◌≤◌, Bool, List, [], ◌∷◌, ◌++◌, length, map, take, Option, Result, Ok, Err, refl, sym, ap, ◌∙◌, subst, arith, length-append}
 use Rattle.std.specs.Prelude.{unwrap_or, IsOk, IsErr, IfErr}
 use Rattle.std.proofs.Math.Seq.{take-append_seam}
@@ -87,7 +87,7 @@ module _ (control : Control) (entries : List Entry) (late : List Bool) (run : Is
 -- ---- faults
 
 module _ (p : PlannedShop) (lines : List (List ℕ)) (at : Option ℕ) where
-  -- the first fault of the lines is that of taking up
+  -- the first fault of the lines is that of recovery
   pub log_fault_is : (fault : AuditFault) → IsAuditFault p lines fault → IsResumeFault p lines at (log_fault fault)
   log_fault_is OutOfMemory is = tt
   log_fault_is (BadLine n) is = is
@@ -99,14 +99,14 @@ module _ (p : PlannedShop) (lines : List (List ℕ)) (at : Option ℕ) where
   log_fault_is (OutOfOrder n) is = is
   log_fault_is (WrongPlace n) is = is
 
-  -- so is that of the run that they tell
+  -- so is that of the run that they record
   pub run_fault_is : (recorded : List Entry) (fault : ResumeFault) → LinesParse p lines recorded → IsRun p (events_of recorded) → IsRunFault p recorded at fault → IsResumeFault p lines at fault
   run_fault_is recorded (Log fault) parses run is = absurd is
   run_fault_is recorded (Past last) parses run is = (recorded, parses, run, is)
   run_fault_is recorded (Refused back why) parses run is = (recorded, parses, run, is)
   run_fault_is recorded Memory parses run is = tt
 
-  -- what can be taken up is refused for want of memory alone
+  -- what can be recovered is refused for want of memory alone
   pub only_want : (fault : ResumeFault) → IsResumeFault p lines at fault → IsRecoverable p lines at → fault ≡ Memory
   only_want Memory is can = refl
   only_want (Log fault) is can = absurd (first_bad-no_run p lines fault is (can.recorded, can.parses, can.is_run))
@@ -122,7 +122,7 @@ module _ (p : PlannedShop) (lines : List (List ℕ)) (at : Option ℕ) where
       let late = is.2.1.0 in
       absurd (omega (arith, late.past, acceptable.budgets job late.job chain.items leaves late.path))
 
-  -- so is whatever is said of the run that they tell
+  -- so is whatever is said of the run that they record
   pub only_want_of : {T : Type 0} (recorded : List Entry) (r : Result T ResumeFault) → LinesParse p lines recorded → IsRun p (events_of recorded) → IfErr r (IsRunFault p recorded at) → IsRecoverable p lines at → IfErr r (λ fault. fault ≡ Memory)
   only_want_of recorded (Ok x) parses run is can = tt
   only_want_of recorded (Err fault) parses run is can = only_want fault (run_fault_is recorded fault parses run is) can

@@ -1,4 +1,4 @@
--- The lines of events that are told once more in a manner.
+-- The lines of events that are written once more by a protocol.
 use Rattle.std.proofs.Common.{◌≡◌, ℕ, ◌+◌, ◌<◌, ◌≤◌, zero, suc, List, [], ◌∷◌, ◌++◌, Bool, true, false, cond, Option, None, length, get_or, take, drop, add-one, drop-cons, refl, sym, ap, ap₂, ◌∙◌, subst, arith}
 use Rattle.std.proofs.lemmas.List.{take-append-drop}
 use Rattle.shop_base.specs.Plan.{PlannedShop}

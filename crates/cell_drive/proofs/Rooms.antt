@@ -25,7 +25,7 @@ use Rattle.cell_drive.specs.OneRun.{cell_after, IsSoFar, IsNeverFull}
 use Rattle.cell_drive.specs.Session.{IsKept}
 use Rattle.cell_drive.proofs.Parts.{events-orders}
 
--- events behind a run that was told
+-- events behind a run that was recorded
 pub replayed_on : (p : PlannedShop) (c : Cell) (entries more : List Entry) → IsReplayed p c entries → AreEvents p c (events_of more)
     → IsReplayed p (after_all p c (events_of more)) (entries ++ more)
 replayed_on p c entries more replayed events =

@@ -93,7 +93,7 @@ module _ (v : VerifiedPlan) (protocol : Protocol) (e : SessionState) (lines : Li
   abbrev entries : List Entry
   entries = e.log.entries
 
-  -- what is told of it at its end
+  -- what is printed of it at its end
   pub end_of : end.log ≡ e.log → end.verified ≡ verified_in e.control → IsVerified (verified_in e.control) → IsTrue end.done ↔ HasEnded e.control.planned e.control.cell
       → end.last ≡ e.control.cell.last → end.left ≡ e.control.left → IsEndOf v e end
   end_of log plan verified ended moment count =
@@ -129,7 +129,7 @@ driven_text v protocol end before after is =
       whole = refl;
     }
 
--- the end of one that was taken up
+-- the end of one that was recovered
 pub rest_end_of : (protocol : Protocol) (v : Control) (log : Noted) → IsKept v log → (end : RestEnd) → end.log ≡ log → IsTrue end.done ↔ HasEnded v.planned v.cell → end.last ≡ v.cell.last → end.left ≡ v.left
     → IsRestEndOf v.planned (session_by protocol v log) end
 rest_end_of protocol v log kept end same ended moment count =

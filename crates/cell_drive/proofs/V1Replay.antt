@@ -1,4 +1,4 @@
--- The lines of events that are told once more, one after another.
+-- The lines of events that are written once more, one after another.
 use Rattle.std.proofs.Common.{◌≡◌, ℕ, zero, suc, ◌+◌, ◌<◌, Bool, List, [], ◌∷◌, ◌++◌, length, take, drop, drop-cons, add-one, get_or, refl, sym, ap, ◌∙◌, arith, append_assoc}
 use Rattle.cell_tables.specs.declared.entry.Entry.{Entry}
 use Rattle.cell_drive.specs.PlainLines.{plain_line, plain_lines}

@@ -13,13 +13,13 @@ use Rattle.cell_drive.specs.AnswerText.{DrivenCell}
 use Rattle.cell_drive.specs.OneRun.{cell_after}
 use Rattle.cell_drive.specs.ProtocolText.{IsProtocolText}
 
--- the lines of the text tell exactly what was accepted and ordered, which is a run of the plan that leads to the cell
+-- the lines of the text record exactly what was accepted and ordered, which is a run of the plan that leads to the cell
 pub record IsLogOf (p : PlannedShop) (text : List ℕ) (end : DrivenCell) : Type 0 where
   pub parses : LinesParse p (lines_of text) end.entries
   pub run : IsRun p (events_of end.entries)
   pub cell : end.cell ≡ cell_after p end.entries
 
--- the answer text of an input, in any manner, is a log of what was accepted and ordered
+-- the answer text of an input, by any protocol, is a log of what was accepted and ordered
 abbrev pub AnAnswerTextIsALog : Type 0
 AnAnswerTextIsALog = (p : PlannedShop) (protocol : Protocol) (input text : List ℕ) (end : DrivenCell) → IsWellShaped p → IsProtocolText p protocol input text end → IsLogOf p text end
 

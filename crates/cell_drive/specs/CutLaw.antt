@@ -1,4 +1,4 @@
--- The laws that a log which was cut is taken up.
+-- The laws that a log which was cut is recovered.
 use Rattle.std.specs.Prelude.{◌≡◌, ℕ, List, [], ◌++◌, map, length, ◌≤◌, Bool, Option, None, ◌⊎◌}
 use Rattle.shop_base.specs.declared.move_order.MoveOrder.{MoveOrder}
 use Rattle.shop_base.specs.Plan.{PlannedShop, IsWellShaped}
@@ -20,7 +20,7 @@ use Rattle.cell_drive.specs.Resuming.{again_text, driven_so_far, IsRunToRest}
 
 -- ---- any run
 
--- the ended lines of these bytes tell a run, the first of these events
+-- the ended lines of these bytes record a run, the first of these events
 pub record IsRunPrefix (p : PlannedShop) (cut : List ℕ) (entries : List Entry) : Type 0 where
   pub recorded : List Entry
   pub parses : LinesParse p (ended_lines cut) recorded
@@ -33,7 +33,7 @@ abbrev pub ACutLogIsRecovered : Type 0
 ACutLogIsRecovered = (p : PlannedShop) (cut lost : List ℕ) (entries : List Entry)
     → LinesParse p (lines_of (cut ++ lost)) entries → IsRun p (events_of entries) → IsRunPrefix p cut entries
 
--- so do the ended lines of what a cell wrote in a manner, cut at any byte: of the answers to the first lines of an input, and of the closing line, where that stands behind them
+-- so do the ended lines of what a cell wrote by a protocol, cut at any byte: of the answers to the first lines of an input, and of the closing line, where that stands behind them
 abbrev pub WhatWasDrivenIsRecovered : Type 0
 WhatWasDrivenIsRecovered = (p : PlannedShop) (protocol : Protocol) (lines : List (Option (List ℕ))) (answers closing cut lost : List ℕ) (end : DrivenCell) → IsWellShaped p
     → AreProtocolAnswers p protocol lines answers end → (closing ≡ []) ⊎ CellCloses p end closing → answers ++ closing ≡ cut ++ lost → IsRunPrefix p cut end.entries
@@ -44,7 +44,7 @@ WhatWasResumedIsRecovered = (p : PlannedShop) (protocol : Protocol) (entries : L
     → IsRunToRest p entries → length late ≤ length entries → AnswerAll (ProtocolAnswers p protocol) (driven_so_far p entries) 1 lines answers end
     → (closing ≡ []) ⊎ CellCloses p end closing → again_text p protocol entries late ++ (answers ++ closing) ≡ cut ++ lost → IsRunPrefix p cut end.entries
 
--- what `resume` writes, cut anywhere behind the line of its first event, or anywhere if the plan is to be accepted, can be taken up by the same plan, without a moment
+-- what `resume` writes, cut anywhere behind the line of its first event, or anywhere if the plan is to be accepted, can be recovered by the same plan, without a moment
 abbrev pub WhatWasResumedIsRecoverable : Type 0
 WhatWasResumedIsRecoverable = (p : PlannedShop) (protocol : Protocol) (log : List (List ℕ)) (at : Option ℕ) (recovered : Recovered) (lines : List (Option (List ℕ))) (answers closing cut lost : List ℕ) (end : DrivenCell)
     → IsRecovered p log at recovered → AnswerAll (ProtocolAnswers p protocol) (driven_so_far p recovered.log.entries) 1 lines answers end
@@ -53,7 +53,7 @@ WhatWasResumedIsRecoverable = (p : PlannedShop) (protocol : Protocol) (log : Lis
 
 -- ---- controlled runs
 
--- the ended lines of these bytes tell events that are, with the orders that are due, the first of these, which are a controlled run
+-- the ended lines of these bytes record events that are, with the orders that are due, the first of these, which are a controlled run
 pub record IsCutFrom (p : PlannedShop) (cut : List ℕ) (entries : List Entry) : Type 0 where
   pub recorded : List Entry
   pub due : List MoveOrder
@@ -71,11 +71,11 @@ abbrev pub WhatWasDrivenHasItsOrders : Type 0
 WhatWasDrivenHasItsOrders = (p : PlannedShop) (protocol : Protocol) (lines : List (Option (List ℕ))) (answers closing cut lost : List ℕ) (end : DrivenCell) → IsWellShaped p
     → AreProtocolAnswers p protocol lines answers end → (closing ≡ []) ⊎ CellCloses p end closing → answers ++ closing ≡ cut ++ lost → IsCutFrom p cut end.entries
 
--- such a log can be taken up by a plan that is to be accepted
+-- such a log can be recovered by a plan that is to be accepted
 abbrev pub ItIsRecoverable : Type 0
 ItIsRecoverable = (p : PlannedShop) (lines : List (List ℕ)) (recorded : List Entry) (due : List MoveOrder) → IsWellShaped p → IsAcceptable p → IsCutLog p lines recorded due → IsRecoverable p lines None
 
--- and it is taken up, without a moment, with just the orders that were due
+-- and it is recovered, without a moment, with just the orders that were due
 abbrev pub ItIsRecoveredWithItsOrders : Type 0
 ItIsRecoveredWithItsOrders = (p : PlannedShop) (lines : List (List ℕ)) (recorded : List Entry) (due : List MoveOrder) (recovered : Recovered) → IsWellShaped p
     → IsCutLog p lines recorded due → IsRecovered p lines None recovered → (replayed_events recovered ≡ recorded) × (recovered.control.orders ≡ due)

@@ -21,12 +21,12 @@ reported (Moved o ∷ es) = reported es
 abbrev pub IsOwnRun : PlannedShop → List Entry → Type 0
 IsOwnRun p entries = IsControlledRun p (reported (events_of entries)) (events_of entries) (cell_after p entries)
 
--- the lines tell these events, which are, with these orders behind them, a controlled run in which all their reports are accepted
+-- the lines record these events, which are, with these orders behind them, a controlled run in which all their reports are accepted
 pub record IsCutLog (p : PlannedShop) (lines : List (List ℕ)) (recorded : List Entry) (due : List MoveOrder) : Type 0 where
   pub parses : LinesParse p lines recorded
   pub run : IsOwnRun p (recorded ++ map OrderEntry due)
 
--- the lines are such a log: they tell the first of these entries, so many, and the others are the orders that are due
+-- the lines are such a log: they record the first of these entries, so many, and the others are the orders that are due
 pub record IsCutLogOf (p : PlannedShop) (lines : List (List ℕ)) (entries : List Entry) (recorded : ℕ) : Type 0 where
   pub due : List MoveOrder
   pub log : IsCutLog p lines (take recorded entries) due

@@ -1,4 +1,4 @@
--- The lines of events that are told once more.
+-- The lines of events that are written once more.
 use Rattle.std.specs.Prelude.{ℕ, List, [], ◌∷◌, ◌++◌, Bool, if◌then◌else◌}
 use Rattle.shop_base.specs.Report.{at}
 use Rattle.cell_tables.specs.declared.entry.Entry.{Entry}

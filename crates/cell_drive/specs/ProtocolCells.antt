@@ -1,4 +1,4 @@
--- Several cells that are driven in a manner, in the order of their numbers.
+-- Several cells that are driven by a protocol, in the order of their numbers.
 use Rattle.std.specs.Prelude.{◌≡◌, ◌↔◌, ℕ, List, codes, Bool, true, false, Option, None, Some, IsTrue, Result, IfOk, OnOk, slice_get, slice_set}
 use Rattle.shop_base.specs.Cell.{Cell}
 use Rattle.plan_verifier.specs.Accepted.{VerifiedPlan}
@@ -57,12 +57,12 @@ CellsReply protocol cells number asked text end = IsReplyIn protocol (slice_get 
 abbrev pub ProtocolCellsAnswer : Protocol → List PlannedCell → ℕ → Option (List ℕ) → List ℕ → List PlannedCell → Type 0
 ProtocolCellsAnswer protocol = LineAnswer (AsksOf protocol.version_2) (CellsReply protocol)
 
--- these cells, and the manner
+-- these cells, and the protocol
 pub record HubOfCells : Type 0 where
   pub protocol : Protocol
   pub cells : List PlannedCell
 
--- a manner and cells, as one
+-- a protocol and cells, as one
 abbrev pub hub_of : Protocol → List PlannedCell → HubOfCells
 hub_of protocol cells = record { protocol = protocol; cells = cells }
 
@@ -79,7 +79,7 @@ pub record HubAnswer (start : HubOfCells) (number : ℕ) (line : Option (List �
 abbrev pub HubCloses : HubOfCells → List ℕ → Type 0
 HubCloses s = CellsClose 0 s.cells
 
--- the cells of these plans, which are accepted ones, were driven in this manner from their starts to this end, and all are done exactly where the run of each has ended; or driving them was broken off by this fault
+-- the cells of these plans, which are accepted ones, were driven by this protocol from their starts to this end, and all are done exactly where the run of each has ended; or driving them was broken off by this fault
 pub record AreDrivesIn (protocol : Protocol) (plans : List VerifiedPlan) (before after : Streams) (outcome : Result HubEnd DriveFault) : Type 0 where
   pub end : HubOfCells
   pub streamed : IsStreamedFrom HubAnswer HubCloses (hub_of_plans protocol plans) outcome end before after

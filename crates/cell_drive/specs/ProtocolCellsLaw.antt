@@ -1,4 +1,4 @@
--- The laws of several cells that are driven in a manner.
+-- The laws of several cells that are driven by a protocol.
 use Rattle.std.specs.Prelude.{◌≡◌, ◌↔◌, ℕ, ◌+◌, List, [], ◌∷◌, ◌++◌, Bool, Option, Some, slice_get}
 use Rattle.shop_base.specs.declared.report.Report.{Report}
 use Rattle.shop_base.specs.Plan.{PlannedShop}

@@ -1,4 +1,4 @@
--- The laws of cells that are driven in a manner.
+-- The laws of cells that are driven by a protocol.
 use Rattle.std.specs.Prelude.{◌≡◌, ℕ, List, ◌∷◌, ◌++◌, Option, None, Some, Bool, false, Result, Ok, IfOk, IfErr, MatchResult}
 use Rattle.shop_base.specs.Plan.{PlannedShop, IsWellShaped}
 use Rattle.shop_base.specs.Cell.{Cell}
@@ -38,7 +38,7 @@ use Rattle.cell_drive.specs.Refusals.{CanClaim, IsAdmissible, standing_of}
 use Rattle.cell_drive.specs.States.{overdue_in}
 use Rattle.cell_drive.specs.ProtocolText.{ProtocolAnswers, CellRequests, AreProtocolAnswers, IsProtocolText}
 
--- in each manner an input has one answer text at most, which leads to one cell with one list of events
+-- by each protocol an input has one answer text at most, which leads to one cell with one list of events
 abbrev pub OneAnswerText : Type 0
 OneAnswerText = (p : PlannedShop) (protocol : Protocol) (input text other : List ℕ) (end last : DrivenCell)
     → IsWellShaped p → IsProtocolText p protocol input text end → IsProtocolText p protocol input other last → (other ≡ text) × (last ≡ end)
@@ -53,7 +53,7 @@ abbrev pub ASessionAnswersSo : Type 0
 ASessionAnswersSo = (s end : SessionState) (number : ℕ) (lines : List (Option (List ℕ))) (text : List ℕ) → AnswerAll SessionAnswer s number lines text end
     → AnswerAll (ProtocolAnswers s.control.planned s.protocol) (seen s) number lines text (seen end) × (verified_in end.control ≡ verified_in s.control)
 
--- an audit of what was written in a manner finds what driving came to, and its only fault is that it is out of memory. The premises are what is promised of success in driving, into an output that tells its bytes, and of an audit
+-- an audit of what was written by a protocol finds what driving came to, and its only fault is that it is out of memory. The premises are what is promised of success in driving, into an output whose bytes are known, and of an audit
 abbrev pub AnAuditKeepsWhatWasDriven : Type 0
 AnAuditKeepsWhatWasDriven = (v : VerifiedPlan) (protocol : Protocol) (end : DriveEnd) (before after : Streams) (start text : List ℕ) (outcome : Result Audit AuditFault)
     → IsWellShaped v.planned → IsDriveIn protocol v before after (Ok end) → before.output.written ≡ Some start → after.output.written ≡ Some (start ++ text)
@@ -66,7 +66,7 @@ abbrev pub PlainlyAsEver : Type 0
 PlainlyAsEver = (p : PlannedShop) (from number : ℕ) (lines : List (Option (List ℕ))) (text : List ℕ) (start end : DrivenCell)
     → AnswerAll (ProtocolAnswers p (plain_from from)) start number lines text end → AnswerAll (CellAnswers p) start number lines text end
 
--- in version 1 the events of a log are told again each by its line, and that of a late report by the line that it was late
+-- in version 1 the events of a log are written again each by its line, and that of a late report by the line that it was late
 abbrev pub PlainReplay : Type 0
 PlainReplay = (p : PlannedShop) (protocol : Protocol) (c : Cell) (entries : List Entry) (late : List Bool) → protocol.version_2 ≡ false → replay_lines p protocol c entries late ≡ plain_lines entries late
 
@@ -88,6 +88,6 @@ NothingIsAcceptedTwice = (p : PlannedShop) (protocol : Protocol) (lines later : 
     → IsWellShaped p → AreProtocolAnswers p protocol lines texts before → IsAdmissible protocol p before.cell claim → CellRequests p protocol before number (ClaimRequest claim) text after
     → AnswerAll (ProtocolAnswers p protocol) after next later others end → named claim ≡ Some ended → named again ≡ Some ended → CanClaim p end.cell again → ⊥
 
--- where a report finds nothing overdue, it is punctual: so of each late one it is told what is
+-- where a report finds nothing overdue, it is punctual: so of each late one something is printed
 abbrev pub ALateReportFindsSomethingOverdue : Type 0
 ALateReportFindsSomethingOverdue = (p : PlannedShop) (c : Cell) (report : reports.Report) → IsSound p c → overdue_in p c (standing_of p c report) (at report) ≡ None → IsPunctual p c report

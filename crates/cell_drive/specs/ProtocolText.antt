@@ -1,4 +1,4 @@
--- A cell that is driven in a manner: what is asked for, and how it is answered.
+-- A cell that is driven by a protocol: what is asked for, and how it is answered.
 use Rattle.std.specs.Prelude.{◌≡◌, ◌↔◌, ℕ, List, [], ◌∷◌, ◌++◌, map, Option, None, Some, Bool, true, false, ◌&&◌, ◌==◌, ◌⊎◌, if◌then◌else◌}
 use Rattle.std.specs.List.{flat_map}
 use Rattle.shop_base.specs.declared.move_order.MoveOrder.{MoveOrder}
@@ -37,15 +37,15 @@ AsksFor false line (ClaimRequest (Report report)) = IsReportLine line report
 AsksFor false line (ClaimRequest (CleanAfter machine job at)) = ⊥
 AsksFor false line Status = ⊥
 
--- what is told to be overdue as a report comes, from version 2 on
+-- what is printed as overdue as a report comes, from version 2 on
 abbrev pub printed_overdue : Protocol → PlannedShop → Cell → reports.Report → Option Overdue
 printed_overdue protocol p c report = if protocol.version_2 then overdue_in p c (standing_of p c report) (at report) else None
 
--- whether the end of the run is told at once
+-- whether the end of the run is printed at once
 abbrev pub prints_end : Protocol → PlannedShop → Cell → Bool
 prints_end protocol p c = protocol.version_2 && (reports_left p c == 0)
 
--- `late T`, and what is overdue where that is told
+-- `late T`, and what is overdue where that is printed
 abbrev pub lateness_line : ℕ → Option Overdue → List ℕ
 lateness_line at None = late_line at
 lateness_line at (Some overdue) = late_overdue_line at overdue
@@ -54,7 +54,7 @@ lateness_line at (Some overdue) = late_overdue_line at overdue
 abbrev pub lateness_part : List ℕ → ℕ → Bool → Option Overdue → List ℕ
 lateness_part prefix at late overdue = if late then prefix ++ lateness_line at overdue else []
 
--- the line of the end, if it is told
+-- the line of the end, if it is printed
 abbrev pub end_part : List ℕ → ℕ → Bool → List ℕ
 end_part prefix at ended = if ended then prefix ++ done_line at else []
 
@@ -83,7 +83,7 @@ pub record IsClaimAccepted (p : PlannedShop) (protocol : Protocol) (prefix : Lis
   pub events_are : events ≡ ReportEntry (claimed claim) ∷ map OrderEntry (step_orders p c (claimed claim) movers)
   pub next_is : next ≡ after_step p c (claimed claim) movers
 
--- the state is told, and nothing changes
+-- the state is printed, and nothing changes
 pub record IsStatePrinted (p : PlannedShop) (prefix : List ℕ) (c : Cell) (text : List ℕ) (events : List Entry) (next : Cell) : Type 0 where
   pub text_is : text ≡ state_text prefix p c
   pub events_are : events ≡ []

@@ -1,4 +1,4 @@
--- In which manner a cell is driven: which lines are read, what is told, and which moments leap.
+-- By which protocol a cell is driven: which lines are read, what is printed, and which moments leap.
 use Rattle.std.specs.Prelude.{ℕ, ◌-◌, nat_lt, Bool, false, Option, None, Some, if◌then◌else◌}
 use Rattle.cell_drive.specs.declared.protocol.Protocol.{Protocol}
 

@@ -1,4 +1,4 @@
--- A run that was taken up from its log, and which logs are taken up.
+-- A run that was recovered from its log, and which logs are recovered.
 use Rattle.std.specs.Prelude.{◌≡◌, ℕ, ◌≤◌, Bool, List, [], ◌++◌, length, map, take, Option, unwrap_or}
 use Rattle.shop_base.specs.Plan.{PlannedShop}
 use Rattle.shop_base.specs.Cell.{Cell, start}
@@ -18,7 +18,7 @@ use Rattle.cell_drive.specs.OneRun.{cell_after}
 use Rattle.cell_drive.specs.LateEvents.{AreLate}
 use Rattle.cell_drive.specs.Session.{IsKept}
 
--- a controller, the log of the whole run, and of each event that the log told whether it is a late report
+-- a controller, the log of the whole run, and of each event that the log recorded whether it is a late report
 pub record Recovered : Type 0 where
   pub control : Control
   pub log : Noted
@@ -36,7 +36,7 @@ seen_in recovered = record { cell = recovered.control.cell; entries = recovered.
 abbrev pub plan_of : Recovered → PlannedShop
 plan_of recovered = recovered.control.planned
 
--- the events that the log told; the others are orders that are due
+-- the events that the log recorded; the others are orders that are due
 abbrev pub replayed_events : Recovered → List Entry
 replayed_events recovered = take (length recovered.late) recovered.log.entries
 
@@ -44,7 +44,7 @@ replayed_events recovered = take (length recovered.late) recovered.log.entries
 abbrev pub replayed_cell : Recovered → Cell
 replayed_cell recovered = cell_after (plan_of recovered) (replayed_events recovered)
 
--- after the events that the log told, the controller begins with the cell to which they lead; what it then orders is due
+-- after the events that the log recorded, the controller begins with the cell to which they lead; what it then orders is due
 pub record IsRecoveredRun (recovered : Recovered) : Type 0 where
   pub kept : IsKept recovered.control recovered.log
   pub begun : IsBegun (plan_of recovered) (replayed_cell recovered) recovered.control.began recovered.control
@@ -56,7 +56,7 @@ pub record IsRecoveredRun (recovered : Recovered) : Type 0 where
 abbrev pub AreAtStart : PlannedShop → Tables → Type 0
 AreAtStart p tables = AreSound p tables × (cell_of p tables ≡ start p)
 
--- it was taken up by this plan behind these events, at the moment that was given or else at their last one; where there are no events, the plan is to be accepted
+-- it was recovered by this plan behind these events, at the moment that was given or else at their last one; where there are no events, the plan is to be accepted
 pub record IsRecoveredFrom (p : PlannedShop) (recorded : List Entry) (at : Option ℕ) (recovered : Recovered) : Type 0 where
   pub run : IsRecoveredRun recovered
   pub planned : plan_of recovered ≡ p
@@ -64,14 +64,14 @@ pub record IsRecoveredFrom (p : PlannedShop) (recorded : List Entry) (at : Optio
   pub began : recovered.control.began ≡ unwrap_or at (cell_after p recorded).last
   pub accepted : recorded ≡ [] → IsAcceptable p
 
--- so behind the events that these lines tell, which are a run of the plan
+-- so behind the events that these lines record, which are a run of the plan
 pub record IsRecovered (p : PlannedShop) (lines : List (List ℕ)) (at : Option ℕ) (recovered : Recovered) : Type 0 where
   pub recorded : List Entry
   pub parses : LinesParse p lines recorded
   pub is_run : IsRun p (events_of recorded)
   pub recovered_from : IsRecoveredFrom p recorded at recovered
 
--- the lines tell a run that can be taken up by this plan: the moment isn't before its last one, the plan has no cycle, and where there are no events, it is to be accepted
+-- the lines record a run that can be recovered by this plan: the moment isn't before its last one, the plan has no cycle, and where there are no events, it is to be accepted
 pub record IsRecoverable (p : PlannedShop) (lines : List (List ℕ)) (at : Option ℕ) : Type 0 where
   pub recorded : List Entry
   pub parses : LinesParse p lines recorded

@@ -1,4 +1,4 @@
--- Why what a line claims is refused, and what is told of it.
+-- Why what a line claims is refused, and what is printed of it.
 use Rattle.std.specs.Prelude.{◌≡◌, ℕ, List, codes, Bool, true, false, ◌⊎◌, if◌then◌else◌}
 use Rattle.shop_base.specs.Plan.{PlannedShop}
 use Rattle.shop_base.specs.Cell.{Cell}
@@ -85,6 +85,6 @@ abbrev pub printed_detail : Protocol → PlannedShop → Cell → reports.Report
 printed_detail protocol p c report (Reason reason) = reason_detail p c report reason
 printed_detail protocol p c report Leap = Last (leap_base protocol c.last)
 
--- what is told behind the name of a refusal, from version 2 of the lines on
+-- what is printed behind the name of a refusal, from version 2 of the lines on
 abbrev pub refusal_detail : Protocol → PlannedShop → Cell → reports.Report → Refusal → Detail
 refusal_detail protocol p c report refusal = if protocol.version_2 then printed_detail protocol p c report refusal else Nothing

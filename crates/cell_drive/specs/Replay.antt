@@ -1,4 +1,4 @@
--- What is told again of the events of a log, in a manner.
+-- What is written again of the events of a log, by a protocol.
 use Rattle.std.specs.Prelude.{◌≡◌, ℕ, List, [], ◌∷◌, ◌++◌, Bool, true, Result, Ok, Err}
 use Rattle.std.specs.Io.KnownBytes.{Appends}
 use Rattle.shop_base.specs.Plan.{PlannedShop}
@@ -28,7 +28,7 @@ replay_lines p protocol c [] late = []
 replay_lines p protocol c (entry ∷ entries) [] = []
 replay_lines p protocol c (entry ∷ entries) (was_late ∷ late) = replay_line p protocol c entry was_late ++ replay_lines p protocol (after p c (event_of entry)) entries late
 
--- the events of a run that was taken up which its log told, once more
+-- the events of a run that was recovered which its log recorded, once more
 abbrev pub replay_text : Protocol → Recovered → List ℕ
 replay_text protocol recovered = replay_lines (plan_of recovered) protocol (start (plan_of recovered)) (replayed_events recovered) recovered.late
 

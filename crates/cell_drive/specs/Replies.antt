@@ -15,7 +15,7 @@ use Rattle.cell_drive.specs.Refusals.{IsRefusal, IsAdmissible, refusal_detail, r
 use Rattle.cell_drive.specs.States.{state_text}
 use Rattle.cell_drive.specs.ProtocolText.{refusal_prefix, acceptance_lines, prints_end, printed_overdue}
 
--- the reply to a claim, and what it makes of the controller: it is refused, with what is told of that, or its report is taken
+-- the reply to a claim, and what it makes of the controller: it is refused, with what is printed of that, or its report is accepted
 abbrev pub IsClaimReply : Protocol → Control → Claim → Reply → Control → Type 0
 IsClaimReply protocol v claim (Refused refusal detail) new =
     IsRefusal protocol v.planned v.cell claim refusal × (detail ≡ refusal_detail protocol v.planned v.cell (claimed claim) refusal) × (new ≡ v)

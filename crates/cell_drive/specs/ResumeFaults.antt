@@ -1,4 +1,4 @@
--- Why a run isn't taken up from its log.
+-- Why a run isn't recovered from its log.
 use Rattle.std.specs.Prelude.{◌≡◌, ℕ, ◌<◌, ◌≤◌, List, [], Bool, true, Option, unwrap_or}
 use Rattle.shop_base.specs.Plan.{PlannedShop}
 use Rattle.shop_base.specs.Run.{IsRun}
@@ -33,14 +33,14 @@ IsRefusal p starts (Past last) = ⊥
 IsRefusal p starts (Refused back why) = (back ≡ p) × IsRefusedFor p (starts ≡ true) why
 IsRefusal p starts Memory = Unit {0}
 
--- the fault of a run that was told by these events: the moment that was given is past; or it isn't, and the plan is refused
+-- the fault of a run that these events record: the moment that was given is past; or it isn't, and the plan is refused
 abbrev pub IsRunFault : PlannedShop → List Entry → Option ℕ → ResumeFault → Type 0
 IsRunFault p recorded at (Log fault) = ⊥
 IsRunFault p recorded at (Past last) = (last ≡ (cell_after p recorded).last) × (unwrap_or at last < last)
 IsRunFault p recorded at (Refused back why) = ((cell_after p recorded).last ≤ unwrap_or at (cell_after p recorded).last) × (back ≡ p) × IsRefusedFor p (recorded ≡ []) why
 IsRunFault p recorded at Memory = Unit {0}
 
--- out of memory; or the first fault of the lines; or they tell a run, and this is its fault
+-- out of memory; or the first fault of the lines; or they record a run, and this is its fault
 abbrev pub IsResumeFault : PlannedShop → List (List ℕ) → Option ℕ → ResumeFault → Type 0
 IsResumeFault p lines at Memory = Unit {0}
 IsResumeFault p lines at (Log fault) = IsFirstBad p lines fault

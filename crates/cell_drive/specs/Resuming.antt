@@ -1,4 +1,4 @@
--- What a run that is taken up goes on to write.
+-- What a run that is recovered goes on to write.
 use Rattle.std.specs.Prelude.{◌≡◌, ℕ, ◌≤◌, List, ◌∷◌, ◌++◌, length, take, drop, Some, Bool, true, Result, Ok, Err, IfOk, IfErr, MatchResult, ◌⊎◌}
 use Rattle.std.specs.Io.KnownBytes.{Appends}
 use Rattle.shop_base.specs.declared.report.Report.{Report}
@@ -36,7 +36,7 @@ use Rattle.cell_drive.specs.Replay.{replay_lines, replay_text}
 abbrev pub marked : List Entry → List ℕ
 marked entries = 10 ∷ entry_lines entries
 
--- the events that were told, in a manner, an empty line, and the orders that were due
+-- the events that were recorded, by a protocol, an empty line, and the orders that were due
 abbrev pub again_text : PlannedShop → Protocol → List Entry → List Bool → List ℕ
 again_text p protocol entries late = replay_lines p protocol (start p) (take (length late) entries) late ++ marked (drop (length late) entries)
 
@@ -44,7 +44,7 @@ again_text p protocol entries late = replay_lines p protocol (start p) (take (le
 abbrev pub driven_so_far : PlannedShop → List Entry → DrivenCell
 driven_so_far p entries = record { cell = cell_after p entries; entries = entries }
 
--- the events once more, of which so many were told; then the answers to the lines of an input in a manner, from there on, and the closing line
+-- the events once more, of which so many were recorded; then the answers to the lines of an input by a protocol, from there on, and the closing line
 pub record IsResumedText (p : PlannedShop) (protocol : Protocol) (entries : List Entry) (late : List Bool) (input text : List ℕ) (end : DrivenCell) : Type 0 where
   pub answers : List ℕ
   pub are_answers : AnswerAll (ProtocolAnswers p protocol) (driven_so_far p entries) 1 (input_lines input) answers end
@@ -56,7 +56,7 @@ pub record IsResumedText (p : PlannedShop) (protocol : Protocol) (entries : List
 abbrev pub due_text : Recovered → List ℕ
 due_text recovered = marked (drop (length recovered.late) recovered.log.entries)
 
--- the events of a run that was taken up which its log told, once more, and behind them the orders that are due
+-- the events of a run that was recovered which its log recorded, once more, and behind them the orders that are due
 abbrev pub again_of : Protocol → Recovered → List ℕ
 again_of protocol recovered = replay_text protocol recovered ++ due_text recovered
 
@@ -65,7 +65,7 @@ abbrev pub IsCutAgain : List ℕ → Streams → Streams → Result RestEnd Driv
 IsCutAgain text before after outcome =
     (outcome ≡ Err Write) × (after.output.failed ≡ true) × (after.input ≡ before.input) × TookPart before.output.written after.output.written text
 
--- the session of a run that was taken up
+-- the session of a run that was recovered
 abbrev pub session_from : Protocol → Recovered → SessionState
 session_from protocol recovered = session_by protocol recovered.control recovered.log
 
@@ -111,7 +111,7 @@ AnAuditKeepsWhatWasResumed = (protocol : Protocol) (recovered : Recovered) (end 
     → (ParseAsRun (plan_of recovered) (lines_of text) → IfErr outcome (λ fault. fault ≡ OutOfMemory))
     → MatchResult outcome (IsFoundAgain (plan_of recovered) end.log.entries end.done end.last end.left) (λ fault. fault ≡ OutOfMemory)
 
--- after the events that the log told come those of the controlled run that goes on from their cell, at the moment at which the controller began
+-- after the events that the log recorded come those of the controlled run that goes on from their cell, at the moment at which the controller began
 pub record GoesOnFrom (recovered : Recovered) (end : RestEnd) : Type 0 where
   pub later : List Entry
   pub whole : end.log.entries ≡ replayed_events recovered ++ later

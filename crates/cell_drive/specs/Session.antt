@@ -1,4 +1,4 @@
--- A session: a controller, begun from any cell, and the log of its whole run, whose lines are read and answered in a manner.
+-- A session: a controller, begun from any cell, and the log of its whole run, whose lines are read and answered by a protocol.
 use Rattle.std.specs.Prelude.{◌≡◌, ℕ, ◌*◌, List, [], Option, Some}
 use Rattle.shop_base.specs.Plan.{PlannedShop, IsWellShaped}
 use Rattle.shop_base.specs.Run.{IsRun}
@@ -17,7 +17,7 @@ use Rattle.cell_drive.specs.AnswerText.{DrivenCell}
 use Rattle.cell_drive.specs.OneRun.{IsNeverFull, IsRunOf, IsSoFar, NeverWentWrong, cell_after}
 use Rattle.cell_drive.specs.ProtocolText.{AsksFor, ProtocolAnswers}
 
--- its manner, its controller and its log
+-- its protocol, its controller and its log
 pub record SessionState : Type 0 where
   pub protocol : Protocol
   pub control : Control

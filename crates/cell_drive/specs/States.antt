@@ -1,4 +1,4 @@
--- What is told of the state of a cell: what is under way in it, and what of that is overdue.
+-- What is printed of the state of a cell: what is under way in it, and what of that is overdue.
 use Rattle.std.specs.Prelude.{ℕ, zero, suc, ◌+◌, List, [], ◌++◌, Option, None, Some, Bool, true, false, if◌then◌else◌}
 use Rattle.shop_base.specs.Plan.{PlannedShop, jobs, machines}
 use Rattle.shop_base.specs.Cell.{Cell}

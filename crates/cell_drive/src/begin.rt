@@ -133,7 +133,7 @@ pub fn drive<R: Source, W: BufferedSink>(
     drive_in(alloc, verified, Protocol::plain(), reader, writer)
 }
 
-/// Begins the run of an accepted plan, to be driven in this manner.
+/// Begins the run of an accepted plan, to be driven by this protocol.
 ///
 /// In version 2 of the lines there are `clean MACHINE JOB MOMENT`, the cleaning after that job, and `status`, which
 /// asks for the state; each refusal and each late report is written with what the controller has, and `done MOMENT` at
@@ -149,7 +149,7 @@ pub fn begin_in(alloc: Global, verified: Verified, protocol: Protocol) -> Result
     Ok(Begun { session, room })
 }
 
-/// Drives a run that has begun, as [`drive`] does, in its manner. `Memory` is never answered.
+/// Drives a run that has begun, as [`drive`] does, by its protocol. `Memory` is never answered.
 pub fn drive_begun<R: Source, W: BufferedSink>(
     begun: Begun,
     reader: &mut R,
@@ -170,7 +170,7 @@ pub fn drive_begun<R: Source, W: BufferedSink>(
     }
 }
 
-/// Drives the cell of an accepted plan, as [`drive`] does, in this manner, as [`begin_in`] says of it.
+/// Drives the cell of an accepted plan, as [`drive`] does, by this protocol, as [`begin_in`] says of it.
 pub fn drive_in<R: Source, W: BufferedSink>(
     alloc: Global,
     verified: Verified,

@@ -28,7 +28,7 @@ pub struct HubEnd {
     pub all_done: bool,
 }
 
-/// The cells, and the manner in which their lines are read and answered.
+/// The cells, and the protocol by which their lines are read and answered.
 #[derive(Drop)]
 struct Cells<D: Dues> {
     protocol: Protocol,
@@ -182,9 +182,9 @@ pub fn drive_hub<R: Source, W: BufferedSink>(
     drive_hub_in(alloc, cells, Protocol::plain(), reader, writer)
 }
 
-/// Drives a cell for each accepted plan, as [`drive_hub`] does, in this manner.
+/// Drives a cell for each accepted plan, as [`drive_hub`] does, by this protocol.
 ///
-/// Each cell reads and answers what a driven cell does in the manner, after the cell's number; in version 2 of the
+/// Each cell reads and answers what a driven cell does by the protocol, after the cell's number; in version 2 of the
 /// lines that stands before each refusal too by which a cell has answered. A leap counts from the last accepted report
 /// of the same cell, or from `from` where that is later.
 pub fn drive_hub_in<R: Source, W: BufferedSink>(

@@ -79,7 +79,7 @@ fn judge<P: Timed, D: Dues>(
     }
 }
 
-/// Whether the end of the run is told at once.
+/// Whether the end of the run is printed at once.
 fn prints_end<P: Timed, D: Dues>(protocol: Protocol, controller: &Core<P, D>) -> bool
     ensures { result ≡ prints_end protocol controller.now.planned controller.now.cell }
 {

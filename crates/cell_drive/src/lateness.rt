@@ -52,7 +52,7 @@ fn start_dues<P: Planned, D: Dues>(alloc: Global, cell: &WorkCell<P>) -> Result<
     Ok(dues)
 }
 
-/// Follows the events from a cell on, and tells of each whether it is a late report.
+/// Follows the events from a cell on, and records of each whether it is a late report.
 fn follow_events<P: Planned, D: Dues>(
     alloc: Global,
     cell: WorkCell<P>,

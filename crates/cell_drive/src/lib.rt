@@ -1,8 +1,8 @@
 //! Cells driven by lines of text: reports in, move orders out, over any reader and any writer of bytes.
 //!
 //! A session is a controller and the [`Protocol`] in which lines are read and answered. [`drive`] and [`drive_hub`]
-//! begin one at the start of a run, for one cell or for several. A driven run is taken up again from its log, which may
-//! have been cut at any byte: [`take_up`] gives what the run had come to by the log, or why it can't be taken up.
+//! begin one at the start of a run, for one cell or for several. A driven run is recovered from its log, which may
+//! have been cut at any byte: [`take_up`] gives what the run had come to by the log, or why it can't be recovered.
 //! [`resume_in`] goes on from there: it writes the run once more, and drives it on.
 #![tactic(auto)]
 

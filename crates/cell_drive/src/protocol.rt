@@ -1,11 +1,11 @@
-//! In which manner a cell is driven.
+//! By which protocol a cell is driven.
 
 ghost use Rattle.std.specs.Prelude.{◌≡◌};
 ghost use Rattle.cell_drive.specs.Protocols.{leap_base, leaps, plain_from};
 
 use shop_base::Moment;
 
-/// In which manner a cell is driven: which version of the lines it reads and writes, and which moments it refuses.
+/// By which protocol a cell is driven: which version of the lines it reads and writes, and which moments it refuses.
 #[derive(Clone, Copy, Debug, PartialEq, Eq)]
 pub struct Protocol {
     /// Version 2 of the lines: more can be asked for, and the answers say more. Else it is version 1.
@@ -13,7 +13,7 @@ pub struct Protocol {
     /// The longest time that may pass to a report from the last accepted one, or from `from` where that is later;
     /// without one any may.
     pub max_gap: Option<Moment>,
-    /// The moment from which a run goes on that was taken up, 0 for one that begins.
+    /// The moment from which a run goes on that was recovered, 0 for one that begins.
     pub from: Moment,
 }
 

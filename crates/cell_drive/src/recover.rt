@@ -1,4 +1,4 @@
-//! A log that is taken up.
+//! A log that is recovered.
 
 ghost use Rattle.std.specs.Prelude.{◌≡◌, ◌*◌, ◌≤◌, vec_len, vec_capacity, unwrap_or, Bool};
 ghost use Rattle.std.specs.Prelude.{true, IfOk, IfErr, OnOk, IfSome};
@@ -26,11 +26,11 @@ use shop_base::{Moment, Shaped};
 use std::alloc::{AllocError, Global};
 use std::marker::Model;
 
-/// A run that was taken up from its log.
+/// A run that was recovered from its log.
 #[derive(Drop)]
 pub struct RecoveredRun {
     pub(crate) run: Replayed,
-    /// The tables of the cell at the start of the run, from which its events are told again.
+    /// The tables of the cell at the start of the run, from which its events are written again.
     pub(crate) start: Tables,
 }
 
@@ -44,15 +44,15 @@ impl Model for RecoveredRun {
     ghost invariant = { λ t. IsRecoveredRun t.run × AreAtStart t.run.control.planned t.start };
 }
 
-/// A run that was taken up from its log, and whose events were told again.
+/// A run that was recovered from its log, and whose events were written again.
 #[derive(Drop)]
 pub struct Replayed {
     /// The controller of the rest of the run.
     pub(crate) controller: RestController<TourneyDues>,
     /// What was accepted and ordered in the whole run: the orders that are due stand there already.
     pub(crate) log: RunLog,
-    /// Of each entry of it that the log told, whether it is a report that was late. The others are the orders that are
-    /// due.
+    /// Of each entry of it that the log recorded, whether it is a report that was late. The others are the orders that
+    /// are due.
     pub(crate) late: Vec<bool>,
     /// Where what is read lies at a time, once the run goes on.
     pub(crate) room: Vec<u8>,
@@ -71,10 +71,10 @@ impl Model for Replayed {
         IsRecoveredRun (recovered_by t.controller t.log t.late.items) × (vec_len t.room ≡ MAX_PIECE) };
 }
 
-/// Takes up a run where its log ends, at a present moment or else at the last one of the log. The log may have been cut
-/// at any byte: what stands after its last line feed isn't looked at. Its whole lines have to tell a run of the plan,
+/// Recovers a run where its log ends, at a present moment or else at the last one of the log. The log may have been cut
+/// at any byte: what stands after its last line feed isn't looked at. Its whole lines have to record a run of the plan,
 /// by whatever controller; neither the plan nor its instance need be those by which the log was written. The plan has
-/// to have no cycle. Where the log tells no event the plan has to be an accepted one; else its budgets aren't asked
+/// to have no cycle. Where the log records no event the plan has to be an accepted one; else its budgets aren't asked
 /// for, since a cell that has begun has to go on, however late.
 ///
 /// All memory is taken here.
@@ -99,7 +99,7 @@ pub fn take_up(
     }
 }
 
-/// Takes up a run that a log told.
+/// Recovers a run that a log recorded.
 fn recover_run(
     alloc: Global,
     run: LoggedRun<Shaped>,
@@ -223,7 +223,7 @@ fn rest_fault(fault: RestFault, cell: WorkCell<Shaped>, present: Moment) -> Resu
     }
 }
 
-/// What was taken up: the orders that are due are noted.
+/// What was recovered: the orders that are due are noted.
 fn with_due(
     controller: RestController<TourneyDues>,
     log: RunLog,

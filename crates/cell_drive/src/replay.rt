@@ -1,4 +1,4 @@
-//! The lines of the events that a log told, written once more in a manner.
+//! The lines of the events that a log recorded, written once more by a protocol.
 
 ghost use Rattle.std.specs.Prelude.{◌≡◌, [], length, OnOk};
 ghost use Rattle.shop_base.specs.{Report.at, Report.CanReport, Run.CanHappen, Run.after, Run.AreEvents};
@@ -17,7 +17,7 @@ use cell_tables::{Entry, WorkCell};
 use event_lines::{LineText, put_order};
 use shop_base::{MoveOrder, Planned};
 
-/// Writes the line that the report was late, if it was, with what was overdue in the cell, if the manner tells that.
+/// Writes the line that the report was late, if it was, with what was overdue in the cell, if the protocol prints that.
 fn put_was_late<P: Planned, W: Sink>(
     protocol: Protocol,
     cell: &WorkCell<P>,

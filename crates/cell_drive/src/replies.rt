@@ -31,8 +31,8 @@ pub(crate) enum Reply {
         refusal: Refusal,
         detail: Detail,
     },
-    /// The report is taken, late or not, with what is told to be overdue, and whether the end of the run is told. The
-    /// moves that it released are the controller's last orders.
+    /// The report is accepted, late or not, with what is printed as overdue, and whether the end of the run is printed.
+    /// The moves that it released are the controller's last orders.
     Accepted {
         report: Report,
         late: bool,

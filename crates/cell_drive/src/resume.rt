@@ -1,4 +1,4 @@
-//! A run that was taken up and goes on, in any manner.
+//! A run that was recovered and goes on, by any protocol.
 
 ghost use Rattle.std.specs.Prelude.{◌≡◌, ◌≢◌, ◌≤◌, ◌∷◌, drop, length, Err, IfOk, OnOk};
 ghost use Rattle.byte_streams.specs.Lent.{WroteTo, streams_of, sink_state};
@@ -18,7 +18,7 @@ use cell_tables::{Entry, Tables, WorkCell};
 use run_log::{RunLog, Sink, WriteFault, put_all, write_lines};
 use shop_base::Moment;
 
-/// What a run that was taken up has come to at the end of its input.
+/// What a run that was recovered has come to at the end of its input.
 #[derive(Debug, Drop)]
 pub struct RestEnd {
     /// Whether the run has ended: all jobs are gone, and no machine is being cleaned.
@@ -31,8 +31,8 @@ pub struct RestEnd {
     pub log: RunLog,
 }
 
-/// Writes the events that the log of a run told once more in this manner. The tables are those of its cell at its
-/// start.
+/// Writes once more, by this protocol, the events that the log of a run recorded. The tables are those of its cell at
+/// its start.
 fn put_replay_in<W: Sink>(
     run: &Replayed,
     start: Tables,
@@ -52,8 +52,8 @@ fn put_replay_in<W: Sink>(
     }
 }
 
-/// Writes the events that the log of a run told once more in this manner, each report that was late with the line that
-/// it was. In version 2 that line also says what was overdue as the report came.
+/// Writes once more, by this protocol, the events that the log of a run recorded, each report that was late with the
+/// line that it was. In version 2 that line also says what was overdue as the report came.
 pub fn replay_in<W: Sink>(
     recovered: RecoveredRun,
     protocol: Protocol,
@@ -105,8 +105,8 @@ fn end(session: Session<Held, TourneyDues>) -> RestEnd
     }
 }
 
-/// Goes on with a run that was taken up, and whose events were told again, in this manner: writes an empty line, the
-/// mark, and the orders that are due, and then drives the run on as [`crate::drive_in`] does.
+/// Goes on with a run that was recovered, and whose events were written again, by this protocol: writes an empty line,
+/// the mark, and the orders that are due, and then drives the run on as [`crate::drive_in`] does.
 ///
 /// `Memory` is never answered. A closing line is written only where nothing has failed before it.
 pub fn go_on_in<R: Source, W: BufferedSink>(
@@ -138,8 +138,8 @@ pub fn go_on_in<R: Source, W: BufferedSink>(
     }
 }
 
-/// Goes on with a run that was taken up in this manner: tells its events again as [`replay_in`] does, and then goes on
-/// as [`go_on_in`] does. What is written is by itself a log of the whole run.
+/// Goes on with a run that was recovered by this protocol: writes its events again as [`replay_in`] does, and then goes
+/// on as [`go_on_in`] does. What is written is by itself a log of the whole run.
 ///
 /// `Memory` is never answered.
 pub fn resume_in<R: Source, W: BufferedSink>(

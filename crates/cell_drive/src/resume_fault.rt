@@ -6,16 +6,16 @@ use std::alloc::AllocError;
 use std::marker::Model;
 use thiserror::Error;
 
-/// Why a run isn't taken up from its log: the first reason, in the order of the variants.
+/// Why a run isn't recovered from its log: the first reason, in the order of the variants.
 #[derive(Debug, Drop, Error)]
 pub enum ResumeFault {
-    /// The log's whole lines tell no run of the plan: the first fault of the first bad one, as of an audit.
+    /// The log's whole lines record no run of the plan: the first fault of the first bad one, as of an audit.
     #[error("Log {0}")]
     Log(AuditFault),
     /// The present moment is before the last one of the log.
     #[error("Past {last}")]
     Past { last: Moment },
-    /// The plan has a cycle; or the log tells no event, and the plan isn't accepted. The plan comes back with the
+    /// The plan has a cycle; or the log records no event, and the plan isn't accepted. The plan comes back with the
     /// evidence.
     #[error("Refused")]
     Refused(Shaped, Why),

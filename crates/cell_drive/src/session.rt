@@ -1,4 +1,4 @@
-//! A session: a controller, begun from any cell, whose lines are read and answered in a manner.
+//! A session: a controller, begun from any cell, whose lines are read and answered by a protocol.
 
 ghost use Rattle.std.specs.Prelude.{◌≡◌, ◌+◌, ◌≤◌, ◌∷◌, length, map};
 ghost use Rattle.run_log.specs.Log.{Notes};
@@ -17,7 +17,7 @@ use run_log::RunLog;
 use shop_base::MoveOrder;
 use std::marker::Model;
 
-/// A controller, the manner in which the lines of its cell are read and answered, and the log of the whole run.
+/// A controller, the protocol by which the lines of its cell are read and answered, and the log of the whole run.
 #[derive(Drop)]
 pub(crate) struct Session<P: Timed, D: Dues> {
     pub protocol: Protocol,

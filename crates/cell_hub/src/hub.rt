@@ -17,10 +17,10 @@ use std::marker::Model;
 
 /// Runs many cells, each by an accepted plan and under a ticket of its own.
 ///
-/// The cells are in slots, which are used again after a dismissal. A ticket's serial tells its cell from the others
-/// that were or will be in its slot. Only [`Hub::admit`] takes memory; the other calls take as long with a
-/// thousand cells as with one. A contract sees the hub as a finite map from tickets to what their controllers hold,
-/// and the serial of the next ticket: neither slots, nor which of them are vacant.
+/// The cells are in slots, which are used again after a dismissal. A ticket's serial distinguishes its cell from the
+/// others that were or will be in its slot. Only [`Hub::admit`] takes memory; the other calls take as long with a
+/// thousand cells as with one. A contract sees the hub as a finite map from tickets to what their controllers hold, and
+/// the serial of the next ticket: neither slots, nor which of them are vacant.
 #[derive(Debug, Drop)]
 pub struct Hub<D: Dues> {
     alloc: Global,

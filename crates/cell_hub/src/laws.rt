@@ -6,7 +6,7 @@
 ghost use Rattle.cell_hub.specs.Laws.{DismissedNeverAnswers, CellsAreApart, CallsMakeTheControlledRuns};
 
 /// After a ticket was dismissed, no call gives it again, and each call on it finds no cell. Its slot may be used
-/// again; the serial tells the new cell from the old.
+/// again; the serial distinguishes the new cell from the old.
 pub fn dismissed_never_answers()
     ensures { DismissedNeverAnswers }
 {}

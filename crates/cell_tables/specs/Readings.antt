@@ -1,4 +1,4 @@
--- What the readers of a cell tell: who is where, and who can move.
+-- What the readers of a cell give: who is where, and who can move.
 use Rattle.std.specs.Prelude.{◌≡◌, ℕ, ◌-◌, ◌<◌, ◌≤◌, ◌⊎◌, length, Option, None, Some, MatchOption}
 use Rattle.shop_base.specs.Plan.{PlannedShop, order, job_at, Stands}
 use Rattle.shop_base.specs.Cell.{Cell, made, entries, cleaning, IsOutside, IsOn, IsGone, IsFree}

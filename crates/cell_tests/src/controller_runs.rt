@@ -1,4 +1,4 @@
-//! Runs of a controller, report by report, and what its readers tell then.
+//! Runs of a controller, report by report, and what its readers give then.
 
 use super::calling::moves_of;
 use super::cells::{CLEANED, CROSSING, FOLLOWING, INSTANT, Texts, accepted, controller};
@@ -19,7 +19,7 @@ type OfJob = (JobNo, Option<Phase>, Option<Moment>);
 /// A machine, who is on it, and when its cleaning is due.
 type OfMachine = (MachineNo, Option<JobNo>, Option<Moment>);
 
-/// A plan, the parts of the run of its cell, and what the readers tell then.
+/// A plan, the parts of the run of its cell, and what the readers give then.
 struct Run {
     texts: Texts,
     parts: &'static [&'static [Row]],
@@ -244,7 +244,7 @@ fn gives<D: Dues>(rt: &impl Abort, cell: &mut Controller<D>, rows: &[Row]) {
     }
 }
 
-/// Whether the readers tell this of the jobs.
+/// Whether the readers give this of the jobs.
 fn tells_of_jobs<D: Dues>(cell: &Controller<D>, jobs: &[OfJob]) -> bool {
     for &(job, phase, due) in jobs {
         if cell.phase(job) != phase || cell.due(job) != due {
@@ -254,7 +254,7 @@ fn tells_of_jobs<D: Dues>(cell: &Controller<D>, jobs: &[OfJob]) -> bool {
     true
 }
 
-/// Whether the readers tell this of the machines.
+/// Whether the readers give this of the machines.
 fn tells_of_machines<D: Dues>(cell: &Controller<D>, machines: &[OfMachine]) -> bool {
     for &(machine, holder, due) in machines {
         if cell.holder(machine) != holder || cell.clean_due(machine) != due {
@@ -264,7 +264,7 @@ fn tells_of_machines<D: Dues>(cell: &Controller<D>, machines: &[OfMachine]) -> b
     true
 }
 
-/// Whether the readers tell this of the run.
+/// Whether the readers give this of the run.
 fn tells_of_end<D: Dues>(cell: &Controller<D>, end: (u64, Moment, bool)) -> bool {
     let (left, now, punctual) = end;
     cell.reports_left() == left
@@ -273,7 +273,7 @@ fn tells_of_end<D: Dues>(cell: &Controller<D>, end: (u64, Moment, bool)) -> bool
         && cell.punctual() == punctual
 }
 
-/// Makes a run with a new controller, and asserts what its readers tell then.
+/// Makes a run with a new controller, and asserts what its readers give then.
 fn makes<D: Dues>(rt: &impl Abort, cell: &mut Controller<D>, run: &Run) {
     for rows in run.parts {
         gives(rt, cell, rows);

@@ -18,7 +18,7 @@ pub(super) type End = (bool, Moment, u64);
 /// takes nothing.
 type Writer = (usize, usize, bool);
 
-/// An input, its answers, how it ends, and the writers that fail over it. Of each line that has answers it is told how
+/// An input, its answers, how it ends, and the writers that fail over it. Of each line that has answers it is known how
 /// many bytes of the input end it, and how many bytes are out once it is answered.
 pub(super) struct Driven {
     pub(super) driver: Driver,

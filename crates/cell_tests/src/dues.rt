@@ -8,7 +8,7 @@ use shop_base::Moment;
 use std::process::Abort;
 use std::test::Fail;
 
-/// Gives the key this due moment, and tells the one that it had.
+/// Gives the key this due moment, and answers the one that it had.
 fn replace<D: Dues>(dues: &mut D, key: u32, due: Moment) -> Option<Moment>
     requires { key < length (D.dues dues.old) }
     ensures before { result ≡ due_at (D.dues dues.old) key }

@@ -8,7 +8,7 @@ use shop_base::MoveOrder;
 use std::process::Abort;
 use std::test::Fail;
 
-/// Notes a report, and tells whether there was room, and how many entries there are then.
+/// Notes a report, and answers whether there was room, and how many entries there are then.
 fn report_noted(log: &mut RunLog) -> (bool, usize) {
     let has_room = log.note_report(arrive(0, 0)).is_ok();
     (has_room, log.entries().len())

@@ -24,7 +24,7 @@ fn waits_for<D: Dues>(hub: &Hub<D>, ticket: Ticket, left: u64) -> bool {
     }
 }
 
-/// Dismisses the ticket, and tells for how many reports its cell waits.
+/// Dismisses the ticket, and answers for how many reports its cell waits.
 fn dismissed<D: Dues>(hub: &mut Hub<D>, ticket: Ticket) -> Option<u64> {
     match hub.dismiss(ticket) {
         Ok(cell) => Some(cell.reports_left()),

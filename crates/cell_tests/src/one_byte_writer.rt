@@ -4,7 +4,7 @@ use std::cell::Cell;
 use std::io::{self, ErrorKind, Write};
 
 /// Takes one byte a call, but fails at the call that comes after so many: with an error, or by taking nothing. So does
-/// a flush. The calls after that one succeed again, so that a byte which is written nevertheless is seen. It tells
+/// a flush. The calls after that one succeed again, so that a byte which is written nevertheless is seen. It counts
 /// whether all that it took is the beginning of a text.
 #[derive(Drop)]
 pub(super) struct OneByteWriter<'a> {

@@ -4,7 +4,7 @@ use std::cell::Cell;
 use std::io::{self, ErrorKind, Read};
 
 /// Gives some bytes in pieces of a size at most, but fails at the call that comes after so many. The calls after that
-/// one succeed again, so that it is seen if more is read nevertheless. It tells how many calls were made, and how many
+/// one succeed again, so that it is seen if more is read nevertheless. It counts how many calls were made, and how many
 /// bytes were written when the last one was.
 #[derive(Drop)]
 pub(super) struct PieceReader<'a> {

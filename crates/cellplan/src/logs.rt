@@ -42,7 +42,7 @@ impl From<io::Error> for ReadFailure {
     }
 }
 
-/// A file of the system, opened to read it and to append to it. No clause tells its bytes.
+/// A file of the system, opened to read it and to append to it. No clause says its bytes.
 #[derive(Drop)]
 pub struct SystemLog {
     rt: HostRuntime,
@@ -169,7 +169,7 @@ fn read_bytes(alloc: Global, file: &mut File, most: usize) -> Result<Vec<u8>, Fi
     Ok(bytes)
 }
 
-/// What a call tells that isn't done.
+/// What a call answers that isn't done.
 fn kept(done: bool) -> Result<(), FileFault>
     ensures { IfErr result (λ fault. fault ≡ FileFault.Log) }
 {

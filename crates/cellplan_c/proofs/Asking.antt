@@ -1,4 +1,4 @@
--- What is told of the rest, put into the caller's room.
+-- What is answered of the rest, put into the caller's room.
 use Rattle.std.proofs.Common.{ℕ, ◌≤◌, inl, inr, List, arith}
 use Rattle.shop_base.specs.declared.limits.TheConstants.{MAX_MOMENT}
 use Rattle.command_answers.specs.declared.answer.Answer.{Answer}

@@ -1,4 +1,4 @@
--- What beginning a cell comes to, by what is said of the plan that the two texts tell.
+-- What beginning a cell comes to, by what is said of the plan that the two texts give.
 use Rattle.std.proofs.Common.{◌≡◌, ◌≢◌, ℕ, ◌<◌, ◌≤◌, ◌⊎◌, inl, inr, List, Option, None, Some, IfSome, Result, Ok, sym, ap, ◌∙◌, subst, arith}
 use Rattle.shop_base.specs.Plan.{PlannedShop, jobs}
 use Rattle.shop_base.specs.Ends.{stated_number}

@@ -1,4 +1,4 @@
--- What handing over to another plan comes to, by what the two texts tell.
+-- What handing over to another plan comes to, by what the two texts give.
 use Rattle.std.proofs.Common.{◌≡◌, ◌≢◌, ℕ, ◌<◌, ◌≤◌, ◌⊎◌, inl, inr, List, Option, Result, Ok, Err, sym, ap, ◌∙◌, subst, refl, arith}
 use Rattle.std.proofs.lemmas.Bool.{cases_lt}
 use Rattle.shop_base.specs.declared.limits.TheConstants.{MAX_MOMENT}
@@ -32,7 +32,7 @@ module _ (old : Control) (t : ℕ) where
   acyclic : (q : PlannedShop) (new : Control) → IsHandedOver old q t new → HasCycle q → ⊥
   acyclic q new handed cycle = ranks_exclude_cycle q (rank_of new.times) cycle.0 handed.begun.ordered.ranks.rise cycle.1
 
-  -- the plan that is told has taken over
+  -- the plan that is given has taken over
   pub handed_over_status : (shaped : PlannedShop) (new : Control) → IsHandedOver old shaped t new → (q : PlannedShop) → IsShapedOrNot q (Ok shaped) → IsHandOverStatus old q t 0
   handed_over_status shaped new handed q is =
       let by : IsHandedOver old q t new = subst (λ (p : PlannedShop). IsHandedOver old p t new) is.0 handed in
@@ -94,7 +94,7 @@ module _ (instance : List ℕ) (name : Option (List ℕ)) (plan : List ℕ) (t :
         only = λ _ p tell. no_memory (is ∙ ap status_of (are.only p tell));
       }
 
-  -- a plan is told, and this came of it
+  -- a plan is given, and this came of it
   pub plan_handed_over : (told : Result PlannedShop ShapeFault) (status : ℕ) (old new : Control) → t ≤ MAX_MOMENT → AreTextsAnswered instance name plan IsShapedOrNot (Ok told)
       → ((q : PlannedShop) → IsShapedOrNot q told → IsHandOverStatus old q t status)
       → ((q : PlannedShop) → IsShapedOrNot q told → status ≡ 0 → IsHandedOver old q t new)

@@ -1,4 +1,4 @@
--- An answer to two texts that is told, or the line of their fault, unless memory ran out.
+-- An answer to two texts that is given, or the line of their fault, unless memory ran out.
 use Rattle.std.proofs.Common.{◌≡◌, ℕ, List, Option, Result, Ok, Err, IfOk, IfErr, inl, inr, sym, ap, ◌∙◌, subst, refl, ◌≤◌}
 use Rattle.shop_base.specs.Plan.{PlannedShop}
 use Rattle.orlib_read.specs.declared.or_fault.OrFault.{OrFault}
@@ -65,7 +65,7 @@ of_text InputTooLong answer line = absurd line.0
 of_text Log answer line = absurd line.0
 of_text LogInUse answer line = absurd line.0
 
--- of the faults that two texts may have, none but out of memory is told by no line
+-- of the faults that two texts may have, none but out of memory is printed by no line
 memory_alone : (instance : List ℕ) (name : Option (List ℕ)) (plan : List ℕ) (fault other : CommandFault)
     → IsRightOfBoth instance name plan fault → HasNoLine fault other → other ≡ Memory
 memory_alone instance name plan (Instance why) other is unsaid = unsaid
@@ -124,7 +124,7 @@ module _ (instance : List ℕ) (name : Option (List ℕ)) (plan : List ℕ) (Is 
       answers : (Tells : Answer → Type 0) → IfOk told Tells → Answers result old new needed Tells
       answers Tells is = put_result Tells told result old new needed unsaid put memory is
 
-  -- what two texts are answered, told and put
+  -- what two texts are answered, and what is put
   pub found_and_put : (answered told : Result Answer CommandFault) (result : ℕ) (old new : List ℕ) (needed : ℕ)
       → AreTextsAnswered instance name plan Is answered
       → IfOk answered (λ answer. told ≡ Ok answer)

@@ -26,12 +26,12 @@ pub record IsTextFault (instance : List ℕ) (name : Option (List ℕ)) (plan : 
   pub right : IsRightOfBoth instance name plan fault
   pub status : status_of fault ≡ 3
 
--- the text stands in front in the caller's room, and its length is told
+-- the text stands in front in the caller's room, and its length is answered
 pub record IsLaid (text old new : List ℕ) (needed : ℕ) : Type 0 where
   pub stands : new ≡ text ++ drop (length text) old
   pub told : needed ≡ length text
 
--- the text is longer than the caller's room, which stays as it was, and its length is told
+-- the text is longer than the caller's room, which stays as it was, and its length is answered
 pub record IsTooLong (text old new : List ℕ) (needed : ℕ) : Type 0 where
   pub beyond : length old < length text
   pub unchanged : new ≡ old
@@ -48,7 +48,7 @@ Answers result old new needed Is =
     ((result ≡ 4) × (needed ≡ 0) × (new ≡ old))
     ⊎ ((told : Answer) × Is told × IsPut told.text.items told.status result old new needed)
 
--- the line that the program tells of the fault of a text on its standard error
+-- the line that the program prints of the fault of a text on its standard error
 abbrev pub IsTextFaultLine : CommandFault → List ℕ → Type 0
 IsTextFaultLine (Instance fault) line = (words : List ℕ) × (line ≡ codes "cellplan: instance: " ++ words ++ codes "\n")
 IsTextFaultLine (Plan fault) line = (words : List ℕ) × (line ≡ codes "cellplan: plan: " ++ words ++ codes "\n")
@@ -64,7 +64,7 @@ IsTextsReport instance name plan Is told =
     (IsOfBoth instance name plan Is told × (told.status ≤ 1))
     ⊎ ((fault : CommandFault) × IsTextFault instance name plan fault × IsTextFaultReport fault told)
 
--- an answer to the two texts is told, or the line of what is wrong with them: that of their shop and plan wherever they tell them, else the line of the first fault of the instance, or of the plan's
+-- an answer to the two texts is given, or the line of what is wrong with them: that of their shop and plan wherever they give them, else the line of the first fault of the instance, or of the plan's
 pub record AreTextsReported (instance : List ℕ) (name : Option (List ℕ)) (plan : List ℕ) (Is : PlannedShop → Answer → Type 0)
     (Tells : (Answer → Type 0) → Type 0) : Type 0 where
   pub found : Tells (IsTextsReport instance name plan Is)
@@ -84,7 +84,7 @@ pub record IsEarliestLeaving (v : Control) (j : ℕ) : Type 0 where
   pub no_later : IsNeverGoneAfter v.planned j (kept_leaving v j)
   pub just_in_time : IsGoneJustAt v.planned j (kept_leaving v j)
 
--- the controller of the accepted plan that the two texts tell, before the first report
+-- the controller of the accepted plan that the two texts give, before the first report
 pub record IsStarted (instance : List ℕ) (name : Option (List ℕ)) (plan : List ℕ) (control : Control) : Type 0 where
   pub accepted : VerifiedPlan
   pub tell : BothParse instance name plan accepted.planned
@@ -102,7 +102,7 @@ abbrev pub loaded_status : Loaded → ℕ
 loaded_status (NotShaped fault) = 1
 loaded_status (Judged verdict) = verdict_status verdict
 
--- what is said of the plan that the two texts tell has this status
+-- what is said of the plan that the two texts give has this status
 pub record IsStatusOfBoth (instance : List ℕ) (name : Option (List ℕ)) (plan : List ℕ) (status : ℕ) : Type 0 where
   pub loaded : Loaded
   pub both : IsOfBoth instance name plan IsLoaded loaded

@@ -28,12 +28,12 @@ abbrev pub Reporting : Cell → Cell → ℕ → ℕ → ℕ → ℕ → (Contro
 Reporting old new kind job machine at Is =
     Holding old (λ before. Holding new (λ after. IfSome (report_by kind job machine at) (λ ended. Is before ended after)))
 
--- the report is refused for its first reason, which is the only one: its number is answered, and what it names is told
+-- the report is refused for its first reason, which is the only one: its number is answered, and what it names is answered
 abbrev pub IsReasonNumber : Control → Ended → ℕ → ℕ → Type 0
 IsReasonNumber control ended number detail = (fault : ReportFault) × (number ≡ fault_number fault) × (detail ≡ fault_detail fault)
     × IsFirstFor control ended fault × IsOnlyFor control ended fault
 
--- what a report comes to, by its status, whether it was late, and what is told of its reason
+-- what a report comes to, by its status, whether it was late, and what is answered of its reason
 pub record IsReportAnswered (status : ℕ) (late : Bool) (detail : ℕ) (old : Control) (ended : Ended) (new : Control) : Type 0 where
   pub possible : (status ≡ 0) ↔ CanEnd old ended
   pub answered : status ≡ 0 → IsAnswered old (ended_by ended) (record { late = late }) new

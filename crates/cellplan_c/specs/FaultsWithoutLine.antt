@@ -1,4 +1,4 @@
--- Which faults no line tells.
+-- Which faults no line prints.
 use Rattle.std.specs.Prelude.{◌≡◌}
 use Rattle.command_answers.specs.declared.command_fault.CommandFault.{CommandFault}
 use Rattle.command_answers.specs.declared.command_fault.CommandFault.TheVariants.{Instance, Plan, Memory}

@@ -45,20 +45,20 @@ pub data IsHandOverStatus (v : Control) (q : PlannedShop) (t status : ℕ) : Typ
   no_memory : status ≡ 4 → IsHandOverStatus v q t status
 
 module _ (instance : List ℕ) (name : Option (List ℕ)) (plan : List ℕ) (t : ℕ) where
-  -- the plan that the two texts tell has taken over
+  -- the plan that the two texts give has taken over
   pub record HasHandedOver (old new : Control) : Type 0 where
     pub planned : PlannedShop
     pub tell : BothParse instance name plan planned
     pub handed_over : IsHandedOver old planned t new
     pub same : (p : PlannedShop) → BothParse instance name plan p → new.planned ≡ p
 
-  -- the status is of a plan that the two texts tell
+  -- the status is of a plan that the two texts give
   pub record IsStatusOfParsed (old : Control) (status : ℕ) : Type 0 where
     pub planned : PlannedShop
     pub tell : BothParse instance name plan planned
     pub is : IsHandOverStatus old planned t status
 
-  -- what handing over to the plan of the two texts comes to, by its status: the moment is judged first, then the texts, and then the plan that they tell
+  -- what handing over to the plan of the two texts comes to, by its status: the moment is judged first, then the texts, and then the plan that they give
   pub record IsHandOver (status : ℕ) (old new : Control) : Type 0 where
     pub too_large : (status ≡ 18) ↔ (MAX_MOMENT < t)
     pub handed_over_by : status ≡ 0 → HasHandedOver old new

@@ -83,7 +83,7 @@ fn hand_over_to(
     }
 }
 
-/// Hands over to a plan that is told, if it is well shaped.
+/// Hands over to a plan that is given, if it is well shaped.
 fn hand_over_plan(
     alloc: Global,
     inner: &mut Inner,

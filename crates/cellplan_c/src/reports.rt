@@ -116,7 +116,7 @@ fn report_to(inner: &mut Inner, ended: Ended, late: &mut bool, detail: &mut u64)
     }
 }
 
-/// Takes what has ended, or tells the first reason for which it isn't possible.
+/// Takes what has ended, or answers the first reason for which it isn't possible.
 fn take(controller: &mut RestController<TourneyDues>, ended: Ended) -> Result<Ack, ReportFault>
     ensures possible { IsOk result ↔ CanEnd controller.old ended }
     ensures answered { IfOk result (λ ack. IsAnswered controller.old (ended_by ended) ack controller.new) }

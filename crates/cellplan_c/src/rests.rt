@@ -1,4 +1,4 @@
-//! What is told of the rest of a cell's run, called from C.
+//! What is answered of the rest of a cell's run, called from C.
 
 ghost use Rattle.std.specs.Prelude.{◌≡◌, ◌≢◌, ◌≤◌, ◌↔◌, None};
 ghost use Rattle.command_answers.specs.declared.rests.PlanAnswer.TheVariants.{Verdict, Moments};
@@ -15,7 +15,7 @@ use people_names::Names;
 use shop_base::limits::MAX_MOMENT;
 use std::alloc::Global;
 
-/// The verdict on the rest of the cell's run by its plan, from a moment on, as the command `check` tells it of a log.
+/// The verdict on the rest of the cell's run by its plan, from a moment on, as the command `check` answers it of a log.
 #[unsafe(no_mangle)]
 pub extern "C" fn cellplan_cell_check(
     alloc: Global,
@@ -39,7 +39,7 @@ pub extern "C" fn cellplan_cell_check(
     status
 }
 
-/// When what is left of the cell's run begins and ends by its plan, from a moment on, as the command `schedule` tells
+/// When what is left of the cell's run begins and ends by its plan, from a moment on, as the command `schedule` answers
 /// it of a log.
 #[unsafe(no_mangle)]
 pub extern "C" fn cellplan_cell_schedule(
@@ -64,7 +64,7 @@ pub extern "C" fn cellplan_cell_schedule(
     status
 }
 
-/// Tells of the rest of a run, if the moment can be the next.
+/// Answers what is asked of the rest of a run, if the moment can be the next.
 fn put_rest(
     alloc: Global,
     controller: &RestController<TourneyDues>,

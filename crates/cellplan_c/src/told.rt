@@ -29,7 +29,7 @@ pub struct Phase {
     pub at: u64,
 }
 
-/// What has ended: an activity that a report tells, or the cleaning of the machine after just this job.
+/// What has ended: an activity that a report names, or the cleaning of the machine after just this job.
 #[derive(Clone, Copy)]
 pub enum Ended {
     Reported(Report),

@@ -42,7 +42,7 @@ pub timetable_of_loaded : (p : PlannedShop) (loaded : Loaded) (answer : Answer) 
 timetable_of_loaded p (NotShaped fault) answer first line = inl (record { fault = fault; first = first; line = line })
 timetable_of_loaded p (Judged verdict) answer judged scheduled = inr (record { verdict = verdict; judged = judged; scheduled = scheduled })
 
--- what is told of the margin by the verdict is of the plan's
+-- what is printed of the margin by the verdict is of the plan's
 pub margin_of_verdict : (names : NameBook) (p : PlannedShop) (verdict : Verdict) (answer : Answer) → OnAccepted (λ verified. (verified.planned ≡ p) × IsAcceptable p) verdict → OnRefused (λ back why. (back ≡ p) × IsReason p why) verdict
     → IsMarginAnswerOf names verdict answer → IsMarginAnswer names p answer
 margin_of_verdict names p (Accepted verified) answer accepted refused line = inl (accepted.1, subst (λ (q : PlannedShop). IsMarginLine names q answer) accepted.0 line)

@@ -61,7 +61,7 @@ module _ (names : NameBook) (t : Case) (aim : Aim) where
   decided_is planned (Open back) (Ok answer) kept best never left_open text = inr (inr (inr (inl (record { none_alone = left_open; line = text.0; refused = text.1 }))))
   decided_is planned (Open back) (Err fault) kept best never left_open text = rw text tt
 
--- that a job isn't of the shop is told of one that is asked for
+-- that a job isn't of the shop is printed of one that is asked for
 pub is_answerable : (t : Case) (aim : Aim) (fault : DecideFault) → IsDecideFault t aim fault → IsAnswerable aim fault
 is_answerable t Promises JobOutOfRange is = is tt
 is_answerable t (Least Makespan) JobOutOfRange is = is tt

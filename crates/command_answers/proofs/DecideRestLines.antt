@@ -81,7 +81,7 @@ never_large : (at : Option ℕ) (last : ℕ) → IfSome at (λ n. n ≤ MAX_MOME
 never_large None last early is = is
 never_large (Some n) last early is = omega (arith, is.1, early)
 
--- why nothing is decided can be told
+-- why nothing is decided can be said
 pub rest_is_answerable : (at : Option ℕ) (lines : List (List ℕ)) (start : PlannedShop) (aim : Aim) (fault : DecideFault) → IfSome at (λ n. n ≤ MAX_MOMENT) → IsDecideRestFault lines at start aim fault → IsAnswerable aim fault
 rest_is_answerable at lines start Promises JobOutOfRange early is = is tt
 rest_is_answerable at lines start (Least Makespan) JobOutOfRange early is = is tt

@@ -35,7 +35,7 @@ use Rattle.command_answers.proofs.LogAnswers.{refused_log}
 use Rattle.command_answers.specs.Steps.{IsOrMemory}
 use Rattle.command_answers.specs.ImprovingRests.{RestAsked, IsBestRest, IsRestStatus, IsRestAnswer, IsJudgedAnswer, IsUnfoundAnswer}
 
--- the cell of lines that tell a run
+-- the cell of lines that record a run
 cell_there : (lines : List (List ℕ)) (start : PlannedShop) → ParseAsRun start lines → (c : Cell) × IsCellOf lines start c
 cell_there lines start run = (ends_in start (events_of run.0), record { entries = run.0; parse = run.1; run = record { run = run.2; cell = refl } })
 
@@ -143,7 +143,7 @@ module _ (made : RestAsked) (at : Option ℕ) (rounds : ℕ) (lines : List (List
   line_is IsLine (Ok answer) each line = each answer line
   line_is IsLine (Err fault) each line = subst (λ (x : CommandFault). IsRestAnswer made at rounds lines start (Err x)) (sym line) tt
 
-  -- what is told where no plan is given
+  -- what is printed where no plan is given
   pub unfound_is : (fault : ImproveFault) (outcome : Result Answer CommandFault) → IfSome at (λ n. n ≤ MAX_MOMENT) → IsImproveRestFault lines at rounds start fault → IsUnfoundAnswer fault outcome
       → IsRestAnswer made at rounds lines start outcome
   unfound_is TooManyRounds outcome early why told =

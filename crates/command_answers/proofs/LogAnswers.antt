@@ -10,7 +10,7 @@ use Rattle.command_answers.specs.Steps.{IsOrMemory}
 use Rattle.command_answers.specs.LogLines.{IsFaultLine, IsLogFaultAnswer, IsLogRefused}
 
 module _ (p : PlannedShop) (lines : List (List ℕ)) (Is : Answer → Type 0) (answered_so : (answer : Answer) → IsLogRefused p lines answer → Is answer) where
-  -- the line of a fault that is none of memory is what is told of these lines
+  -- the line of a fault that is none of memory is what is printed of these lines
   line_answered : (fault : AuditFault) (outcome : Result Answer CommandFault) → IsFirstBad p lines fault → IsOrMemory (IsFaultLine fault) outcome → IsOrMemory Is outcome
   line_answered fault (Ok answer) first line = answered_so answer (record { fault = fault; first = first; line = line })
   line_answered fault (Err wanting) first line = line

@@ -22,7 +22,7 @@ pub passed_memory : {A : Type 0} (P : A → Type 0) (answer : Result A CommandFa
 passed_memory P (Ok a) fault memory passed = absurd passed
 passed_memory P (Err answered) fault memory passed = passed ∙ memory
 
--- an answer that passes on what a reader told refuses by the fault that it had to tell
+-- an answer that passes on what a reader printed refuses by the fault that it had to print
 pub passed_instance : {A : Type 0} (answer : Result A CommandFault) (told fault : OrFault) → (told ≢ WantOfReader → told ≡ fault)
     → IsErrAnd answer (λ passed. passed ≡ instance_command_fault told) → IsInstanceRefusal answer fault
 passed_instance (Ok a) told fault same passed = absurd passed
@@ -73,7 +73,7 @@ module _ (instance : List ℕ) (name : Option (List ℕ)) (text : List ℕ) wher
   refused_instance Is Log read = absurd read.fault
   refused_instance Is LogInUse read = absurd read.fault
 
-  -- the instance tells a shop, and the plan is refused
+  -- the instance gives a shop, and the plan is refused
   pub refused_plan : {A : Type 0} (Is : PlannedShop → A → Type 0) (named : Named) (fault : CommandFault) → IsInstanceRead instance name (Ok named) → IsPlanRead text (Err fault)
       → AreTextsAnswered instance name text Is (Err fault)
   refused_plan Is named (Plan why) shop read = record {

@@ -63,7 +63,7 @@ pub rest_shown : {E : Type 0} (at : Option ℕ) (names : NameBook) (p : PlannedS
 rest_shown at names p c entries (Ok drawn) later is = inr (later, is)
 rest_shown at names p c entries (Err error) later is = tt
 
--- what comes of the cell at the end of the run that a log tells
+-- what comes of the cell at the end of the run that a log records
 pub run_shown : (at : Option ℕ) (names : NameBook) (p : PlannedShop) (log : List ℕ) (run : ParseAsRun p (ended_lines log)) (q : PlannedShop) (c : Cell) (entries : List Entry) (drawn : Drawn)
     → q ≡ p → c ≡ ends_in p (events_of run.0) → entries ≡ run.0 → IsCellDrawn at names q c entries drawn → IsRestDrawing at names p log drawn
 run_shown at names p log run q c entries drawn plan cell same is =

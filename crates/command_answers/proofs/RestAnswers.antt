@@ -51,7 +51,7 @@ module _ {E : Type 0} (AnswersAt : PlannedShop → Cell → ℕ → Answer → T
       go (Ok answer) later told = inr (later, told)
       go (Err error) later told = tt
 
--- what is told of the cell at the end of the run that a log tells
+-- what is printed of the cell at the end of the run that a log records
 pub of_run : (AnswersAt : PlannedShop → Cell → ℕ → Answer → Type 0) (at : Option ℕ) (p : PlannedShop) (log : List ℕ) (run : ParseAsRun p (ended_lines log)) (q : PlannedShop) (c : Cell) (answer : Answer)
     → q ≡ p → c ≡ ends_in p (events_of run.0) → IsCellAnswer AnswersAt at q c answer → IsLogAnswer AnswersAt at p log answer
 of_run AnswersAt at p log run q c answer plan cell told =
@@ -92,7 +92,7 @@ low_log : (AnswersAt : PlannedShop → Cell → ℕ → Answer → Type 0) → (
 low_log AnswersAt low at p log answer (inl run) = low_cell AnswersAt low at p _ answer run.told
 low_log AnswersAt low at p log answer (inr refused) = (let one = refused.line.1 in omega (arith, one))
 
--- the status of what is told of the rest is 0 or 1
+-- the status of what is printed of the rest is 0 or 1
 pub low_rest : (names : NameBook) (wanted : PlanAnswer) (at : Option ℕ) (p : PlannedShop) (log : List ℕ) (answer : Answer) → IsRestLine names wanted at p log answer → answer.status ≤ 1
 low_rest names wanted = low_log (AnswersRest names wanted) (λ q d t answer told. low_verdict told.verdict answer.status told.status)
 

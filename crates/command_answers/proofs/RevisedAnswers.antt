@@ -43,7 +43,7 @@ module _ (p : PlannedShop) (c : Cell) (t : ℕ) (changes : List Change) where
         → IsOrMemory (IsChangeRefused prints description changes values p c t) outcome
     refused_answered told why outcome is same answered = refused_at told outcome is (subst (λ (x : Unrevised). IsUnrevised changes values x outcome) same answered)
 
--- what is answered of the cell at the end of the run that a log tells
+-- what is answered of the cell at the end of the run that a log records
 pub of_run : (prints : Revised) (description : List ℕ) (at : Option ℕ) (changes : List Change) (values : List (List ℕ)) (p : PlannedShop) (log : List ℕ) (run : ParseAsRun p (ended_lines log))
     (q : PlannedShop) (c : Cell) (outcome : Result Answer CommandFault) → q ≡ p → c ≡ ends_in p (events_of run.0)
     → IsRevisedFrom prints description at changes values q c outcome → IsReviseAnswer prints description at changes values p log outcome

@@ -24,7 +24,7 @@ by_words names (Job j) = codes " by job " ++ job_word names j
 abbrev pub makespan_line : NameBook → LeastMakespan → List ℕ
 makespan_line names least = before (codes "makespan at least " ∷ moment_word names least.at_least ∷ by_words names least.by ∷ []) (codes "\n")
 
--- ` budget B`, and ` never` where the bound is past it; where people aren't told a budget that nobody gave, ` no budget`
+-- ` budget B`, and ` never` where the bound is past it; where one that nobody gave isn't printed for people, ` no budget`
 abbrev pub budget_words : NameBook → ℕ → ℕ → List ℕ
 budget_words names bound budget =
     if nat_lt budget bound then codes " budget " ++ (moment_word names budget ++ codes " never")

@@ -103,11 +103,11 @@ module _ {W : Type 0} (gives : W → List ℕ → Result (List ℕ) CommandFault
   abbrev pub RunsExplain : PairOfFiles → Option (List ℕ) → Option ℕ → W → Result Answer CommandFault → W → Type 0
   RunsExplain pair names told = WithBoth pair (λ p. IfShaped p (IfThere told p (WithNames names p (λ book. IsOrMemory (IsPlanExplained book told p)))))
 
-  -- `schedule`: both are read, then the names, and the plan's schedule is told
+  -- `schedule`: both are read, then the names, and the plan's schedule is printed
   abbrev pub RunsSchedule : PairOfFiles → Option (List ℕ) → W → Result Answer CommandFault → W → Type 0
   RunsSchedule pair names = WithBoth pair (λ p. IfShaped p (WithNames names p (λ book. IsOrMemory (IsPlanScheduled book p))))
 
-  -- `schedule --moves`: both are read, then the names, and the moves of the plan are told
+  -- `schedule --moves`: both are read, then the names, and the moves of the plan are printed
   abbrev pub RunsMoves : PairOfFiles → Option (List ℕ) → W → Result Answer CommandFault → W → Type 0
   RunsMoves pair names = WithBoth pair (λ p. IfShaped p (WithNames names p (λ book. IsOrMemory (AreMovesOfPlan book p))))
 
@@ -119,11 +119,11 @@ module _ {W : Type 0} (gives : W → List ℕ → Result (List ℕ) CommandFault
   abbrev pub WithSoundNames : (NameBook → Result Answer CommandFault → Type 0) → Option (List ℕ) → PlannedShop → W → Result Answer CommandFault → W → Type 0
   WithSoundNames Comes names p = IfSound p (WithNames names (serially p) Comes)
 
-  -- `bounds`: both are read, then the names, and what no plan can do with these numbers is told
+  -- `bounds`: both are read, then the names, and what no plan can do with these numbers is printed
   abbrev pub RunsBounds : PairOfFiles → Option (List ℕ) → W → Result Answer CommandFault → W → Type 0
   RunsBounds pair names = WithBoth pair (λ p. WithSoundNames (λ book. IsOrMemory (AreBoundLines book (times_of p) p.plan.budget)) names p)
 
-  -- `margin`: both are read, then the names, and how much longer everything may take is told
+  -- `margin`: both are read, then the names, and how much longer everything may take is printed
   abbrev pub RunsMargin : PairOfFiles → Option (List ℕ) → W → Result Answer CommandFault → W → Type 0
   RunsMargin pair names = WithBoth pair (λ p. IfShaped p (WithNames names p (λ book. IsOrMemory (IsMarginAnswer book p))))
 

@@ -103,7 +103,7 @@ AsksForJob Promises = ⊥
 AsksForJob (Least Makespan) = ⊥
 AsksForJob (Least (Leaving j)) = Unit {0}
 
--- that the job isn't of the shop is told only of one that is asked for
+-- that the job isn't of the shop is printed only of one that is asked for
 abbrev pub IsAnswerable : Aim → DecideFault → Type 0
 IsAnswerable aim JobOutOfRange = AsksForJob aim
 IsAnswerable aim MomentTooLarge = ⊥

@@ -32,7 +32,7 @@ pub record IsUnfitLine (p : PlannedShop) (answer : Answer) : Type 0 where
   pub line : IsLineOfFault (refusal fault) answer
 
 module _ (names : NameBook) (at : Option ℕ) (lines : List (List ℕ)) (start : PlannedShop) (aim : Aim) where
-  -- what is printed of a plan that is well shaped: what is decided of the rest of the run that the lines tell; or the line of a job that isn't of the shop, of the log's first fault, or of a moment that is past
+  -- what is printed of a plan that is well shaped: what is decided of the rest of the run that the lines record; or the line of a job that isn't of the shop, of the log's first fault, or of a moment that is past
   abbrev pub IsRestDecisionText : Answer → Type 0
   IsRestDecisionText answer =
       HoldsAfter lines at start (λ t. IsDecisionText names t aim answer)

@@ -11,7 +11,7 @@ use Rattle.command_answers.specs.declared.loading.Loaded.TheVariants.{NotShaped,
 use Rattle.command_answers.specs.Shapes.{IsNotShapedLine, IsRefusedLine}
 use Rattle.command_answers.specs.Checks.{IsJudged, verdict_status}
 
--- the explanation of a verdict, with its status, and with the chain of the job that is told, if there is one
+-- the explanation of a verdict, with its status, and with the chain of the job that is printed, if there is one
 pub record IsVerdictExplained (names : NameBook) (told : Option ℕ) (verdict : Verdict) (answer : Answer) : Type 0 where
   pub text : IsExplained names told verdict answer.text.items
   pub status : answer.status ≡ verdict_status verdict

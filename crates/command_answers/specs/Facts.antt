@@ -20,7 +20,7 @@ pub record AreFacts (answer : Answer) (shop : JobShop) : Type 0 where
   pub line : answer.text.items ≡ facts_line shop
   pub good : answer.status ≡ 0
 
--- the answer is the line of the facts of a shop that the text tells
+-- the answer is the line of the facts of a shop that the text gives
 pub record AreFactsOfText (text : List ℕ) (name : Option (List ℕ)) (answer : Answer) : Type 0 where
   pub description : List ℕ
   pub shop : JobShop

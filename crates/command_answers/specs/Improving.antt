@@ -40,7 +40,7 @@ pub record IsBest (made : Asked) (start best : PlannedShop) : Type 0 where
   pub found : IsFound whole_plan made start best
   pub stays_accepted : IsAcceptable start → IsAcceptable best
 
--- the status tells an accepted plan from one of which a job is late
+-- the status distinguishes an accepted plan from one of which a job is late
 abbrev pub IsStatusOf : PlannedShop → ℕ → Type 0
 IsStatusOf best status = (IsAcceptable best × (status ≡ 0)) ⊎ ((IsAcceptable best → ⊥) × (status ≡ 1))
 

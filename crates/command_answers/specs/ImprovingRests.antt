@@ -33,7 +33,7 @@ use Rattle.command_answers.specs.LogLines.{IsLogFaultAnswer, IsLogRefused}
 use Rattle.command_answers.specs.Rests.{IsPastLine}
 use Rattle.command_answers.specs.Steps.{IsOrMemory}
 
--- what plans a search makes of one, for the rest of the run that these lines tell, from a present moment on
+-- what plans a search makes of one, for the rest of the run that these lines record, from a present moment on
 abbrev pub RestAsked : Type 1
 RestAsked = List (List ℕ) → ℕ → Asked
 
@@ -41,7 +41,7 @@ RestAsked = List (List ℕ) → ℕ → Asked
 abbrev pub RestRoundsOf : {B : Type 0} → ℕ → (B → PlannedShop → Left → ℕ → Proposal → Type 0) → List B → RestAsked
 RestRoundsOf rounds may improvers lines t = Rounds (rest_after lines t) may improvers rounds
 
--- the best plan that is met for the rest: only the orders may differ, the log tells a run of it, no cycle, never worse for the rest than the one with which the search begins, exactly what the questions make of that, and its rest is accepted if the start's is
+-- the best plan that is met for the rest: only the orders may differ, the log records a run of it, no cycle, never worse for the rest than the one with which the search begins, exactly what the questions make of that, and its rest is accepted if the start's is
 pub record IsBestRest (made : RestAsked) (lines : List (List ℕ)) (t : ℕ) (c : Cell) (start best : PlannedShop) : Type 0 where
   pub same : IsReordered start best
   pub kept : ParseAsRun best lines
@@ -50,7 +50,7 @@ pub record IsBestRest (made : RestAsked) (lines : List (List ℕ)) (t : ℕ) (c 
   pub found : IsFound (rest_after lines t) (made lines t) start best
   pub stays_accepted : IsAcceptableAhead start c t → IsAcceptableAhead best c t
 
--- the status tells an accepted rest from one of which a job is late
+-- the status distinguishes an accepted rest from one of which a job is late
 abbrev pub IsRestStatus : PlannedShop → Cell → ℕ → ℕ → Type 0
 IsRestStatus best c t status = (IsAcceptableAhead best c t × (status ≡ 0)) ⊎ ((IsAcceptableAhead best c t → ⊥) × (status ≡ 1))
 
@@ -78,7 +78,7 @@ module _ (made : RestAsked) (at : Option ℕ) (lines : List (List ℕ)) (start :
 abbrev pub IsCycleLine : List Node → Answer → Type 0
 IsCycleLine nodes answer = (answer.text.items ≡ cycle_line nodes) × (answer.status ≡ 1)
 
--- the line of a plan with a cycle, where the lines tell a run with an event, and the present moment isn't before the last one
+-- the line of a plan with a cycle, where the lines record a run with an event, and the present moment isn't before the last one
 pub record IsRestCycle (at : Option ℕ) (lines : List (List ℕ)) (start : PlannedShop) (answer : Answer) : Type 0 where
   pub cell : Cell
   pub run : IsCellOf lines start cell

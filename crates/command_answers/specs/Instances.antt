@@ -8,7 +8,7 @@ use Rattle.orlib_read.specs.Faults.{IsInstanceFault, IsInstanceOfFault}
 use Rattle.command_answers.specs.declared.command_fault.CommandFault.{CommandFault}
 use Rattle.command_answers.specs.declared.command_fault.CommandFault.TheVariants.{Instance, Memory}
 
--- the text tells this description and this shop: as one instance, or as a collection under a name
+-- the text gives this description and this shop: as one instance, or as a collection under a name
 abbrev pub ParsesAs : List ℕ → Option (List ℕ) → List ℕ → JobShop → Type 0
 ParsesAs text None description shop = IsInstance text description shop
 ParsesAs text (Some name) description shop = IsInstanceOf text name description shop

@@ -21,7 +21,7 @@ abbrev pub end_words : Bool → List ℕ
 end_words true = codes " complete\n"
 end_words false = codes " partial\n"
 
--- the line of a log that tells a run, by its numbers
+-- the line of a log that records a run, by its numbers
 abbrev pub kept_line : Audit → List ℕ
 kept_line run = codes "log kept reports " ++ decimal run.reports ++ codes " orders " ++ decimal run.orders ++ codes " last " ++ decimal run.last ++ end_words run.complete
 
@@ -29,7 +29,7 @@ kept_line run = codes "log kept reports " ++ decimal run.reports ++ codes " orde
 abbrev pub log_refused_line : ℕ → List ℕ → List ℕ
 log_refused_line line name = codes "log refused " ++ decimal line ++ codes " " ++ name ++ codes "\n"
 
--- what is told of a run: its numbers, or its Gantt text
+-- what is printed of a run: its numbers, or its Gantt text
 abbrev pub run_text : NameBook → LogAnswer → PlannedShop → Audit → List ℕ
 run_text names Numbers p run = kept_line run
 run_text names Drawing p run = gantt_text names (machines p) run.entries.items
@@ -37,7 +37,7 @@ run_text names Drawing p run = gantt_text names (machines p) run.entries.items
 abbrev pub IsRunAnswer : NameBook → LogAnswer → PlannedShop → Audit → Answer → Type 0
 IsRunAnswer names wanted p run answer = (answer.text.items ≡ run_text names wanted p run) × (answer.status ≡ 0)
 
--- what is told of a log that tells a run of the plan
+-- what is printed of a log that records a run of the plan
 pub record IsLogKept (names : NameBook) (wanted : LogAnswer) (p : PlannedShop) (log : List ℕ) (answer : Answer) : Type 0 where
   pub run : Audit
   pub is : IsAudit p (lines_of log) run
@@ -47,13 +47,13 @@ pub record IsLogKept (names : NameBook) (wanted : LogAnswer) (p : PlannedShop) (
 abbrev pub IsFaultLine : AuditFault → Answer → Type 0
 IsFaultLine fault answer = (answer.text.items ≡ log_refused_line (fault_line fault) (fault_name fault)) × (answer.status ≡ 1)
 
--- the line of lines of a log that tell none: their first fault
+-- the line of lines of a log that record none: their first fault
 pub record IsLogRefused (p : PlannedShop) (lines : List (List ℕ)) (answer : Answer) : Type 0 where
   pub fault : AuditFault
   pub first : IsFirstBad p lines fault
   pub line : IsFaultLine fault answer
 
--- what is told of a log
+-- what is printed of a log
 abbrev pub IsLogLine : NameBook → LogAnswer → PlannedShop → List ℕ → Answer → Type 0
 IsLogLine names wanted p log answer = IsLogKept names wanted p log answer ⊎ IsLogRefused p (lines_of log) answer
 

@@ -32,7 +32,7 @@ abbrev pub moves_command_fault : RestFault → Option CommandFault
 moves_command_fault Memory = Some OutOfMemory
 moves_command_fault fault = None
 
--- what is told of the moves from cell c and moment t on: the first line of the verdict on the rest, with its status, and the moves below it
+-- what is printed of the moves from cell c and moment t on: the first line of the verdict on the rest, with its status, and the moves below it
 pub record IsMovesAnswer (names : NameBook) (p : PlannedShop) (c : Cell) (t : ℕ) (answer : Answer) : Type 0 where
   pub verdict : Judged
   pub judged : IsRestJudged p c t verdict

@@ -1,4 +1,4 @@
--- The names by which a command tells people, and the command's fault where there are none to be read.
+-- The names by which a command prints for people, and the command's fault where there are none to be read.
 use Rattle.std.specs.Prelude.{◌≡◌, ◌≢◌, ℕ, List, Option, None, Some, Result, Ok, Err, IfOk, IfErr}
 use Rattle.shop_base.specs.Plan.{PlannedShop, jobs, machines}
 use Rattle.people_names.specs.declared.names_fault.NamesFault.{NamesFault}

@@ -55,7 +55,7 @@ IsUnshapedDrawn p = IsLineAlone (IsNotShapedLine p)
 abbrev pub log_sheet : PlannedShop → Audit → Sheet
 log_sheet p run = record { machines = machines p; last = run.last; head = Log run.last run.complete; present = None }
 
--- the picture of the run that a log tells: its visits, up to its last moment, and the jobs that have left late marked
+-- the picture of the run that a log records: its visits, up to its last moment, and the jobs that have left late marked
 pub record IsLogPicture (names : NameBook) (p : PlannedShop) (log picture : List ℕ) : Type 0 where
   pub run : Audit
   pub is : IsAudit p (lines_of log) run
@@ -82,7 +82,7 @@ run_sheet p t line in_time run = record {
 }
 
 module _ (names : NameBook) (p : PlannedShop) (c : Cell) (t : ℕ) (line : Option ℕ) (told : List DrawnVisit) where
-  -- the picture of the run that goes on from a cell c and the present moment t: the visits told so far and those ahead, and the jobs that leave or have left late marked
+  -- the picture of the run that goes on from a cell c and the present moment t: the visits known so far and those ahead, and the jobs that leave or have left late marked
   pub record IsRunPicture (in_time : Bool) (picture : List ℕ) : Type 0 where
     pub run : DrawnRun
     pub is : IsDrawnRun p c t told run
@@ -108,7 +108,7 @@ IsPlanDrawn names p = IsRestDrawn names p (start p) 0 None []
 abbrev pub IsAnyPlanDrawn : PlannedShop → Drawn → Type 0
 IsAnyPlanDrawn p drawn = IsPlanDrawn no_names p drawn ⊎ IsUnshapedDrawn p drawn
 
--- the present moment has a line, unless no moment is given and the log tells nothing
+-- the present moment has a line, unless no moment is given and the log records nothing
 abbrev pub line_at : Option ℕ → List Entry → ℕ → Option ℕ
 line_at None [] t = None
 line_at None (entry ∷ entries) t = Some t
@@ -120,7 +120,7 @@ IsCellDrawn at names p c entries drawn =
     ((present_at at c < c.last) × IsLineAlone (IsPastLine c.last) drawn)
     ⊎ ((c.last ≤ present_at at c) × IsRestDrawn names p c (present_at at c) (line_at at entries (present_at at c)) (drawn_visits p entries) drawn)
 
--- what comes of a log whose whole lines tell a run of the plan: the run that goes on from the cell at its end
+-- what comes of a log whose whole lines record a run of the plan: the run that goes on from the cell at its end
 pub record IsRestOfLogDrawn (at : Option ℕ) (names : NameBook) (p : PlannedShop) (log : List ℕ) (drawn : Drawn) : Type 0 where
   pub run : ParseAsRun p (ended_lines log)
   pub is : IsCellDrawn at names p (ends_in p (events_of run.0)) run.0 drawn

@@ -27,24 +27,24 @@ IsPlanRefusal (Err (Plan answered)) fault = answered ≡ fault
 IsPlanRefusal (Err Memory) fault = Unit {0}
 IsPlanRefusal (Err other) fault = ⊥
 
--- the shop and the plan that the two texts tell
+-- the shop and the plan that the two texts give
 pub record BothParse (instance : List ℕ) (name : Option (List ℕ)) (text : List ℕ) (p : PlannedShop) : Type 0 where
   pub description : List ℕ
   pub shop : ParsesAs instance name description p.shop
   pub plan : IsPlanText text p.plan
 
--- the instance tells some shop
+-- the instance gives some shop
 abbrev pub ParsesAsShop : List ℕ → Option (List ℕ) → Type 0
 ParsesAsShop instance name = (description : List ℕ) × (shop : JobShop) × ParsesAs instance name description shop
 
--- the fault is the instance's, or, where that tells a shop, the plan text's, or that memory ran out
+-- the fault is the instance's, or, where that gives a shop, the plan text's, or that memory ran out
 abbrev pub IsRightOfBoth : List ℕ → Option (List ℕ) → List ℕ → CommandFault → Type 0
 IsRightOfBoth instance name text (Instance fault) = IsRightInstanceFault instance name (Instance fault)
 IsRightOfBoth instance name text (Plan fault) = ParsesAsShop instance name × IsRightPlanFault text (Plan fault)
 IsRightOfBoth instance name text Memory = Unit {0}
 IsRightOfBoth instance name text other = ⊥
 
--- the answer is one that belongs to the shop and the plan that the two texts tell
+-- the answer is one that belongs to the shop and the plan that the two texts give
 pub record IsOfBoth {A : Type 0} (instance : List ℕ) (name : Option (List ℕ)) (text : List ℕ) (Is : PlannedShop → A → Type 0) (answer : A) : Type 0 where
   pub planned : PlannedShop
   pub tell : BothParse instance name text planned

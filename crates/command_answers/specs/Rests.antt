@@ -35,7 +35,7 @@ IsTextOf names Verdict p c t verdict text = IsRestFirstLine p c t verdict text
 IsTextOf names (Reasons told) p c t verdict text = IsRestExplained names told p c t verdict text
 IsTextOf names Moments p c t verdict text = IsRestScheduled names p c t verdict text
 
--- what is told of the rest from a cell c and a present moment t on: the text of the verdict on it, with its status
+-- what is printed of the rest from a cell c and a present moment t on: the text of the verdict on it, with its status
 pub record AnswersRest (names : NameBook) (wanted : PlanAnswer) (p : PlannedShop) (c : Cell) (t : ℕ) (answer : Answer) : Type 0 where
   pub verdict : Judged
   pub judged : IsRestJudged p c t verdict
@@ -54,17 +54,17 @@ IsPastLine last answer = (answer.text.items ≡ log_past_line last) × (answer.s
 abbrev pub present_at : Option ℕ → Cell → ℕ
 present_at at c = unwrap_or at c.last
 
--- what is told from a cell on: that the present moment is past, or else this from there
+-- what is printed from a cell on: that the present moment is past, or else this from there
 abbrev pub IsCellAnswer : (PlannedShop → Cell → ℕ → Answer → Type 0) → Option ℕ → PlannedShop → Cell → Answer → Type 0
 IsCellAnswer AnswersAt at p c answer =
     ((present_at at c < c.last) × IsPastLine c.last answer) ⊎ ((c.last ≤ present_at at c) × AnswersAt p c (present_at at c) answer)
 
--- what is told of a log whose whole lines tell a run of the plan: that of the cell at its end
+-- what is printed of a log whose whole lines record a run of the plan: that of the cell at its end
 pub record IsRestOfLog (AnswersAt : PlannedShop → Cell → ℕ → Answer → Type 0) (at : Option ℕ) (p : PlannedShop) (log : List ℕ) (answer : Answer) : Type 0 where
   pub run : ParseAsRun p (ended_lines log)
   pub told : IsCellAnswer AnswersAt at p (ends_in p (events_of run.0)) answer
 
--- what is told of a log: so, or the line of the first fault of its whole lines
+-- what is printed of a log: so, or the line of the first fault of its whole lines
 abbrev pub IsLogAnswer : (PlannedShop → Cell → ℕ → Answer → Type 0) → Option ℕ → PlannedShop → List ℕ → Answer → Type 0
 IsLogAnswer AnswersAt at p log answer = IsRestOfLog AnswersAt at p log answer ⊎ IsLogRefused p (ended_lines log) answer
 

@@ -123,7 +123,7 @@ module _ (prints : Revised) (description : List ℕ) (changes : List Change) (va
     pub is : IsRevised p c t changes revised
     pub printed : IsPrinted prints description revised outcome
 
-  -- all changes are made, or the first that can't be is told
+  -- all changes are made, or the first that can't be is printed
   abbrev pub IsChanged : Result Answer CommandFault → Type 0
   IsChanged outcome = IsRevisedText outcome ⊎ IsOrMemory IsChangeRefused outcome
 
@@ -144,7 +144,7 @@ module _ (prints : Revised) (description : List ℕ) (at : Option ℕ) (changes 
       ((present_at at c < c.last) × IsOrMemory (IsPastLine c.last) outcome)
       ⊎ ((c.last ≤ present_at at c) × IsRevisedRest prints description changes values p c (present_at at c) outcome)
 
-  -- what is answered of a log whose whole lines tell a run of the plan
+  -- what is answered of a log whose whole lines record a run of the plan
   pub record IsRevisedRun (log : List ℕ) (outcome : Result Answer CommandFault) : Type 0 where
     pub run : ParseAsRun p (ended_lines log)
     pub revised : IsRevisedFrom (ends_in p (events_of run.0)) outcome

@@ -92,8 +92,8 @@ fn push_bound_line(
     push_line(text, &line)
 }
 
-/// Writes the budget, and that the job is never in time where its bound is past it; a budget that people aren't told is
-/// none.
+/// Writes the budget, and that the job is never in time where its bound is past it; a budget that isn't printed for
+/// people is none.
 fn put_budget(line: &mut Line, names: &Names, bound: Moment, budget: Moment)
     requires { length line.old ≤ 1 }
     ensures written { line.new ≡ budget_words names.now bound budget ++ line.old }

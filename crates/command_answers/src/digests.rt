@@ -19,7 +19,7 @@ use text_lines::LineText;
 const ROOM: usize = 44;
 
 /// The digits by which a log knows the plan of a file and the shop of another. A plan that isn't well shaped has its
-/// first fault told in their place.
+/// first fault in their place.
 pub fn digest_answer<T: Texts>(alloc: Global, texts: &mut T, pair: &Pair<'_>) -> Answered
     ensures { RunsDigest T.gives pair.now texts.old result texts.new }
 {

@@ -33,7 +33,7 @@ pub fn explain(alloc: Global, instance: &[u8], name: Option<&[u8]>, plan: &[u8])
 }
 
 /// Why the plan of a file is accepted or refused for the instance of another, with the names and the clock of a third,
-/// which is read once the plan is shaped. Where a job is asked for, the chain to its leaving is told.
+/// which is read once the plan is shaped. Where a job is asked for, the chain to its leaving is printed.
 pub fn explain_answer<T: Texts>(
     alloc: Global,
     texts: &mut T,

@@ -1,4 +1,4 @@
-//! The names by which a command tells people.
+//! The names by which a command prints for people.
 
 ghost use Rattle.std.specs.Option.{option_copied};
 ghost use Rattle.command_answers.specs.Naming.{AreNamesRead, ReadsNames, ReadsNamesOf};

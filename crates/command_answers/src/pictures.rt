@@ -210,7 +210,7 @@ fn cell_drawn(
     rest_drawn(alloc, names, cell, present, line, &told)
 }
 
-/// The moment that has a line: the present one, unless no moment is given and the log tells nothing.
+/// The moment that has a line: the present one, unless no moment is given and the log records nothing.
 fn line_at(at: Option<Moment>, entries: &[Entry], present: Moment) -> Option<Moment>
     ensures { result ≡ line_at at entries.now present }
 {
@@ -220,7 +220,7 @@ fn line_at(at: Option<Moment>, entries: &[Entry], present: Moment) -> Option<Mom
     Some(present)
 }
 
-/// Draws the run that goes on from a cell and a present moment, of which these visits are told so far.
+/// Draws the run that goes on from a cell and a present moment, of which these visits are known so far.
 fn rest_drawn(
     alloc: Global,
     names: Names,

@@ -1,4 +1,4 @@
--- What the command that was chosen runs, and what is told of its log.
+-- What the command that was chosen runs, and what is known of its log.
 use Rattle.std.proofs.Common.{◌≡◌, ℕ, List, Option, None, Some, IfSome, Result, sym, subst}
 use Rattle.command_words.specs.Choice.{IsChoiceOf, found_in}
 use Rattle.command_words.specs.declared.words.Chosen.{Chosen}

@@ -54,7 +54,7 @@ use Rattle.command_run.proofs.LowStatuses.{IsLow, low}
 use Rattle.command_run.proofs.Keepers.{keeper}
 use Rattle.command_run.proofs.LoggedEndings.{logged_shown, logged_written, low_logged}
 
--- ---- what is told
+-- ---- what is printed
 
 at_least_two : (fault : CommandFault) (status : ℕ) → status ≡ status_of fault → 2 ≤ status
 at_least_two (Instance fault) status own = omega (arith, own)
@@ -90,7 +90,7 @@ low_own : (own status : ℕ) → IsOwnOr own status → own ≤ 1 → status ≡
 low_own own status (inl same) low = same
 low_own own status (inr (five, six)) low = absurd (omega (arith, five, low))
 
--- the fault was told, which failed, or out of memory in its place
+-- the fault was printed, which failed, or out of memory in its place
 pub record IsFailurePrinted (outcome : Result Answer CommandFault) (output : Output) (before after : Errors) (status : ℕ) : Type 0 where
   pub high : 2 ≤ status
   pub fault : CommandFault
@@ -123,7 +123,7 @@ outcome_ends (Ok answer) output_before output_after before after status low ends
     printed_ends answer ends.printed output_before output_after before after status low ends.is ends.told
 outcome_ends (Err fault) output_before output_after before after status low ends = inl (fault_ends fault output_after before after status ends.1)
 
--- the same where a picture is asked for: what is answered in its place was told
+-- the same where a picture is asked for: what is answered in its place was printed
 abbrev EndsWellBy : Bool → Result Answer CommandFault → Output → Errors → Errors → ℕ → Type 0
 EndsWellBy drawing outcome output before after status =
     EndsWell outcome output before after status
@@ -331,7 +331,7 @@ module _ {W : Type 0} (gives : W → List ℕ → Result (List ℕ) CommandFault
   chose_none : (fault : WordsFault) → NamesOneOf (reasons_in words) fault → (outcome : Result Answer CommandFault) → IsOutcomeOfWords fault outcome → Ran gives words before outcome before.streams after end
   chose_none fault refused outcome is = inr (record { fault = fault; refused = refused; is = is; same = refl })
 
-  -- what was told at the end of what ran
+  -- what was printed at the end of what ran
   ends_printed : (outcome : Result Answer CommandFault) (mid : Streams) (own : ℕ) → IsOwnOr own status → Ran gives words before outcome mid after end
       → EndsWell outcome after.streams.output before.errors after.errors own → EndsOnTime gives words before status after end
   ends_printed outcome mid own rel ran (inl failure) =

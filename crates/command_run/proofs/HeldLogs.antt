@@ -56,7 +56,7 @@ pub gone_on_to_end : {X : Type 0} (log_failed : Bool) (end : Result RestEnd Driv
 gone_on_to_end log_failed (Ok end) outcome answer x good = x
 gone_on_to_end log_failed (Err fault) outcome answer x good = at_good_end log_failed (Err fault) outcome answer x good
 
--- a log with the line of the plan alone has whole lines alone, and tells no event
+-- a log with the line of the plan alone has whole lines alone, and says no event
 pub line_whole : (p : PlannedShop) (known : Option (List ℕ × List ℕ)) → IfSome known (λ t. t.0 ≡ plan_line (digits_in p)) → IfSome known (λ t. whole_lines t.0 ≡ t.0)
 line_whole p None line = tt
 line_whole p (Some t) line = subst (λ (l : List ℕ). whole_lines l ≡ l) (sym line) (whole_plan (digits_in p))
@@ -65,7 +65,7 @@ pub line_unprinted : (p : PlannedShop) (known : Option (List ℕ × List ℕ)) �
 line_unprinted p None line = tt
 line_unprinted p (Some t) line = subst (λ (l : List ℕ). LinesParse p (ended_lines l) []) (sym line) (plan_parses p (digits_in p) (digits_are p.shop p.plan))
 
--- from what is told to something else
+-- from what is known to something else
 pub known_as : {P Q : List ℕ × List ℕ → Type 0} (known : Option (List ℕ × List ℕ)) → ((t : List ℕ × List ℕ) → P t → Q t) → IfSome known P → IfSome known Q
 known_as None becomes is = tt
 known_as (Some t) becomes is = becomes t is

@@ -29,13 +29,13 @@ use Rattle.command_run.specs.Resumes.{end_of_rest}
 use Rattle.command_run.specs.Logs.{Begins, DrivesFitting, DrivesFound, DrivesWithLog, HasFewLines, IsEmptyLog, IsFoundLog, IsRecoveredFromLog, IsHistoryOf, IsHistoryOfFound, IsHistoryOfNew, IsHistoryOfOld, IsHistoryOfPath, Step, RecoversRun, digits_in}
 use Rattle.command_run.proofs.HeldLogs.{at_known}
 
--- ---- what is told again
+-- ---- what is written again
 
 pub never_shown : (protocol : Protocol) (t run : Recovered) (before mid after : Output) → IsReplayedIn protocol t (output_sink before) (output_sink mid) (Ok run) → Keeps mid.written after.written → after.failed ≡ true
     → IsReplayedIn {T = Recovered} protocol t (output_sink before) (output_sink after) (Err NotWritten)
 never_shown protocol t run before mid after is kept failed = (failed, ([], record { out = _; took = Appends-kept _ _ _ _ is.0 kept; whole = append-nil _ }))
 
--- what goes on is what was taken up
+-- what goes on is what was recovered
 pub same_run : (protocol : Protocol) (t run : Recovered) (step : Step) → run ≡ t → DrivesWithLog (plan_of run) (events_in run) (IsGoneOnIn protocol run) end_of_rest step
     → DrivesWithLog (plan_of t) (events_in t) (IsGoneOnIn protocol t) end_of_rest step
 same_run protocol t run step same is = subst (λ (x : Recovered). DrivesWithLog (plan_of x) (events_in x) (IsGoneOnIn protocol x) end_of_rest step) same is
@@ -79,7 +79,7 @@ named_same digits lines one other (inl is) (inr also) = absurd (also.0 is.0)
 named_same digits lines one other (inr is) (inl also) = absurd (is.0 also.0)
 named_same digits lines one other (inr is) (inr also) = is.1 ∙ sym also.1
 
--- what the log has once it is taken up is what is told of it
+-- what the log has once it is recovered is what is known of it
 pub old_named : (p : PlannedShop) (protocol : Protocol) (at : Option ℕ) (text : List ℕ) (printed seen now : Option (List ℕ)) (known : Option (List ℕ × List ℕ))
     → IfSome known (λ b. (seen ≡ Some text) × IsHistoryOfOld p protocol at text printed b) → IfSome seen (λ file. (base : List ℕ) × IsNamedFor (digits_in p) (whole_lines file) base × (now ≡ Some base)) → IfSome known (λ b. now ≡ Some b.0)
 old_named p protocol at text printed seen now None is named = tt
@@ -94,7 +94,7 @@ few_lines p at text (File fault) few is = tt
 
 -- ---- what follows the opening of the log
 
--- what is told of the folder is told of it once a log was opened
+-- what is known of the folder is known of it once a log was opened
 logs_handed : (there : Bool) (folder : Folder) → (handed_if there folder).logs ≡ folder.logs
 logs_handed true folder = refl
 logs_handed false folder = refl

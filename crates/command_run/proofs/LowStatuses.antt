@@ -338,7 +338,7 @@ low_drives protocol (Ok (Judged (Refused back why))) before after outcome is =
     low_or (IsLineOf (Judged (Refused back why))) outcome (low_line_of (Judged (Refused back why))) is.0
 low_drives protocol (Ok (Judged (Accepted v))) before after outcome is = low_end (end_of_drive is.end) outcome is.answer
 
--- ---- taking up
+-- ---- recovery
 
 pub low_log_fault : (fault : AuditFault) (outcome : Result Answer CommandFault) → IsLogFaultAnswer fault outcome → IsLow outcome
 low_log_fault NoMemoryToAudit outcome is = subst IsLow (sym is) tt

@@ -1,4 +1,4 @@
--- What is told on the error output.
+-- What is printed on the error output.
 use Rattle.std.proofs.Common.{◌≡◌, ℕ, List, Result, Ok, Err, OnOk, inl, inr}
 use Rattle.byte_streams.specs.Sinks.{Wrote}
 use Rattle.command_run.specs.Streams.{Errors}

@@ -42,7 +42,7 @@ abbrev pub end_of_drive : Result DriveEnd DriveFault → Result Bool DriveFault
 end_of_drive (Ok end) = Ok end.done
 end_of_drive (Err fault) = Err fault
 
--- the cell was driven in this manner, and the status says whether its run has ended
+-- the cell was driven by this protocol, and the status says whether its run has ended
 pub record DrivesCell (protocol : Protocol) (v : VerifiedPlan) (before after : Streams) (outcome : Result Answer CommandFault) : Type 0 where
   pub end : Result DriveEnd DriveFault
   pub is : IsDriveIn protocol v before after end
@@ -52,7 +52,7 @@ pub record DrivesCell (protocol : Protocol) (v : VerifiedPlan) (before after : S
 abbrev pub IsLineAnswer : Loaded → Result Answer CommandFault → Type 0
 IsLineAnswer loaded = IsOrMemory (IsLineOf loaded)
 
--- what follows what is to be said of the plan: an accepted one drives the cell in this manner; any other is answered by its line, with no byte read or written
+-- what follows what is to be said of the plan: an accepted one drives the cell by this protocol; any other is answered by its line, with no byte read or written
 abbrev pub Drives : Protocol → Result Loaded CommandFault → Streams → Streams → Result Answer CommandFault → Type 0
 Drives protocol (Err fault) before after outcome = (outcome ≡ Err fault) × (after ≡ before)
 Drives protocol (Ok (NotShaped fault)) before after outcome = IsLineAnswer (NotShaped fault) outcome × (after ≡ before)

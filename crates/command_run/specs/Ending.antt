@@ -8,7 +8,7 @@ use Rattle.command_answers.specs.declared.command_fault.CommandFault.TheVariants
 use Rattle.command_answers.specs.Statuses.{status_of}
 use Rattle.command_run.specs.Streams.{Output, Errors}
 
--- a line was told whole; or its first bytes were, and a write of the error output has failed
+-- a line was printed whole; or its first bytes were, and a write of the error output has failed
 abbrev pub WasPrinted : List ℕ → Errors → Errors → Type 0
 WasPrinted line before after = (Appends before.written after.written line × (after.failed ≡ before.failed))
     ⊎ ((after.failed ≡ true) × TookPart before.written after.written line)
@@ -43,14 +43,14 @@ IsTextLine (Plan fault) line = IsErrorLine (Plan fault) line
 IsTextLine (Names fault) line = IsErrorLine (Names fault) line
 IsTextLine other line = Unit {0}
 
--- the line of the fault was told on the standard error, and the status is its own
+-- the line of the fault was printed on the standard error, and the status is its own
 pub record IsLineOut (fault : CommandFault) (before after : Errors) (status : ℕ) : Type 0 where
   pub line : List ℕ
   pub is : IsErrorLine fault line
   pub told : WasPrinted line before after
   pub own : status ≡ status_of fault
 
--- the fault was told; or out of memory in its place, where its words take memory
+-- the fault was printed; or out of memory in its place, where its words take memory
 abbrev pub IsFaultPrinted : CommandFault → Errors → Errors → ℕ → Type 0
 IsFaultPrinted fault before after status = IsLineOut fault before after status ⊎ (IsOfText fault × IsLineOut Memory before after status)
 
@@ -59,23 +59,23 @@ abbrev pub IsPrinted : Answer → Output → Output → Result ℕ CommandFault 
 IsPrinted answer before after (Ok status) = (status ≡ answer.status) × Appends before.written after.written answer.text.items × (after.failed ≡ before.failed) × (after.pending ≡ [])
 IsPrinted answer before after (Err fault) = (fault ≡ Write) × TookPart before.written after.written answer.text.items × (after.failed ≡ true)
 
--- nothing is told where all is printed
+-- nothing goes to the standard error where all is printed
 abbrev pub IsPrintedAfter : Result ℕ CommandFault → Errors → Errors → ℕ → Type 0
 IsPrintedAfter (Ok printed) before after status = (after ≡ before) × (status ≡ printed)
 IsPrintedAfter (Err fault) before after status = IsFaultPrinted fault before after status
 
--- the answer is printed, and where that fails, this is told
+-- the answer is printed, and where that fails, this is printed
 pub record IsAnswerEnd (answer : Answer) (before after : Output) (printed_before printed_after : Errors) (status : ℕ) : Type 0 where
   pub printed : Result ℕ CommandFault
   pub is : IsPrinted answer before after printed
   pub told : IsPrintedAfter printed printed_before printed_after status
 
--- an answer is printed on the standard output, a fault is told on the standard error, and not the other way round
+-- an answer is printed on the standard output, a fault is printed on the standard error, and not the other way round
 abbrev pub Ends : Result Answer CommandFault → Output → Output → Errors → Errors → ℕ → Type 0
 Ends (Ok answer) before after printed_before printed_after status = IsAnswerEnd answer before after printed_before printed_after status
 Ends (Err fault) before after printed_before printed_after status = (after ≡ before) × IsFaultPrinted fault printed_before printed_after status
 
--- where a picture is asked for: what is answered in its place is told on the standard error
+-- where a picture is asked for: what is answered in its place is printed on the standard error
 abbrev pub EndsAside : Result Answer CommandFault → Output → Output → Errors → Errors → ℕ → Type 0
 EndsAside (Ok answer) before after printed_before printed_after status = (after ≡ before) × WasPrinted answer.text.items printed_before printed_after × (status ≡ answer.status)
 EndsAside (Err fault) before after printed_before printed_after status = (after ≡ before) × IsFaultPrinted fault printed_before printed_after status

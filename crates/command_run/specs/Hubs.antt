@@ -17,13 +17,13 @@ abbrev pub end_of_hub : Result HubEnd DriveFault → Result Bool DriveFault
 end_of_hub (Ok end) = Ok end.all_done
 end_of_hub (Err fault) = Err fault
 
--- the cells were driven in this manner, and the status says whether all their runs have ended
+-- the cells were driven by this protocol, and the status says whether all their runs have ended
 pub record DrivesCells (protocol : Protocol) (cells : List VerifiedPlan) (before after : Streams) (outcome : Result Answer CommandFault) : Type 0 where
   pub end : Result HubEnd DriveFault
   pub are : AreDrivesIn protocol cells before after end
   pub answer : IsEndAnswer (end_of_hub end) outcome
 
--- what follows the loading of the plans: accepted ones drive their cells in this manner; else the line of the first that isn't is answered, with no byte read or written
+-- what follows the loading of the plans: accepted ones drive their cells by this protocol; else the line of the first that isn't is answered, with no byte read or written
 abbrev pub DrivesAll : Protocol → Result Cells CommandFault → Streams → Streams → Result Answer CommandFault → Type 0
 DrivesAll protocol (Err fault) before after outcome = (outcome ≡ Err fault) × (after ≡ before)
 DrivesAll protocol (Ok (Line answer)) before after outcome = (outcome ≡ Ok answer) × (after ≡ before)

@@ -18,6 +18,6 @@ IsInputRead before (Err InputTooLong) after = (text : List ℕ) × Consumes befo
 IsInputRead before (Err Memory) after = after.failed ≡ before.failed
 IsInputRead before (Err other) after = ⊥
 
--- the input is read whole, and the facts of the instance that it tells are answered
+-- the input is read whole, and the facts of the instance that it gives are answered
 abbrev pub RunsInput : Input → Result Answer CommandFault → Input → Type 0
 RunsInput = Then IsInputRead (λ text. Concludes (AreFactsAnswered text None))

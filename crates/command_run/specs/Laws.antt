@@ -70,17 +70,17 @@ use Rattle.command_run.specs.Hubs.{AreDrivesIn, DrivesCells}
 use Rattle.command_run.specs.Ending.{WasPrinted, IsLineOut, IsOfText}
 use Rattle.command_run.specs.Program.{RunsDrive, RunsResume, RunsHub, RunsChosen, RunsProgram, draws_in, file_at, kept_log_in, log_in, manner_in, name_in, names_in, pair_in, plans_in}
 
--- ---- what is told first where the files don't change
+-- ---- what is printed first where the files don't change
 
 -- files that don't change, and the paths that were asked for
 abbrev pub Shelf : (List ℕ → Result (List ℕ) CommandFault) → List (List ℕ) → List ℕ → Result (List ℕ) CommandFault → List (List ℕ) → Type 0
 Shelf content asked path given later = (given ≡ content path) × (later ≡ asked ++ path ∷ [])
 
--- the instance's fault was told, unless memory ran out, and no other file was asked for
+-- the instance's fault was printed, unless memory ran out, and no other file was asked for
 abbrev pub IsInstanceRefused : {A : Type 0} → List ℕ → OrFault → Result A CommandFault → List (List ℕ) → Type 0
 IsInstanceRefused path fault outcome asked = (asked ≡ path ∷ []) × ((outcome ≡ Err (Instance fault)) ⊎ (outcome ≡ Err Memory))
 
--- where the text of the instance is refused, its first fault is told and no other file is asked for, when this runs
+-- where the text of the instance is refused, its first fault is printed and no other file is asked for, when this runs
 abbrev pub ReadsInstanceFirst : ((List (List ℕ) → List ℕ → Result (List ℕ) CommandFault → List (List ℕ) → Type 0) → PairOfFiles
     → List (List ℕ) → Result Answer CommandFault → List (List ℕ) → Type 0) → Type 0
 ReadsInstanceFirst runs = (content : List ℕ → Result (List ℕ) CommandFault) (pair : PairOfFiles) (text : List ℕ) (fault : OrFault) (outcome : Result Answer CommandFault) (asked : List (List ℕ))
@@ -170,7 +170,7 @@ HubReadsInstanceFirst = (protocol : Protocol) (plans : List (List ℕ)) → Read
 
 -- ---- what good files are answered by, where they don't change
 
--- the files of a pair tell this shop and this plan
+-- the files of a pair give this shop and this plan
 pub record ParseAsPlan (content : List ℕ → Result (List ℕ) CommandFault) (pair : PairOfFiles) (p : PlannedShop) : Type 0 where
   pub instance : List ℕ
   pub instance_is : content pair.path ≡ Ok instance
@@ -183,13 +183,13 @@ abbrev pub IsAnswered : {A : Type 0} → (A → Type 0) → List (List ℕ) → 
 IsAnswered Is files (Ok answer) asked = Is answer × (asked ≡ files)
 IsAnswered Is files (Err fault) asked = fault ≡ Memory
 
--- files that tell a shop and a plan are answered by a line of this kind, when this runs
+-- files that give a shop and a plan are answered by a line of this kind, when this runs
 abbrev pub AnswersPlan : ((List (List ℕ) → List ℕ → Result (List ℕ) CommandFault → List (List ℕ) → Type 0) → PairOfFiles
     → List (List ℕ) → Result Answer CommandFault → List (List ℕ) → Type 0) → (PlannedShop → Answer → Type 0) → Type 0
 AnswersPlan runs Is = (content : List ℕ → Result (List ℕ) CommandFault) (pair : PairOfFiles) (p : PlannedShop) (outcome : Result Answer CommandFault) (asked : List (List ℕ))
     → ParseAsPlan content pair p → runs (Shelf content) pair [] outcome asked → IsAnswered (Is p) (pair.path ∷ pair.plan ∷ []) outcome asked
 
--- `facts`: the line of the facts of the shop that the file tells
+-- `facts`: the line of the facts of the shop that the file gives
 abbrev pub FactsAnswerShop : Type 0
 FactsAnswerShop = (content : List ℕ → Result (List ℕ) CommandFault) (path text description : List ℕ) (name : Option (List ℕ)) (shop : JobShop) (outcome : Result Answer CommandFault) (asked : List (List ℕ))
     → content path ≡ Ok text → ParsesAs text name description shop → RunsFacts (Shelf content) path name [] outcome asked → IsAnswered (λ answer. AreFacts answer shop) (path ∷ []) outcome asked
@@ -219,13 +219,13 @@ MarginAnswersPlan = AnswersPlan (λ gives pair. RunsMargin gives pair None) (λ 
 abbrev pub MovesAnswerPlan : Type 0
 MovesAnswerPlan = AnswersPlan (λ gives pair. RunsMoves gives pair None) (λ p answer. IsNotShapedLine p answer ⊎ AreMovesOfPlan no_names p answer)
 
--- `audit` and `gantt`: where the plan is well shaped, what is told of the log
+-- `audit` and `gantt`: where the plan is well shaped, what is printed of the log
 abbrev pub LogIsAnswered : Type 0
 LogIsAnswered = (wanted : LogAnswer) (content : List ℕ → Result (List ℕ) CommandFault) (pair : PairOfFiles) (log text : List ℕ) (p : PlannedShop) (outcome : Result Answer CommandFault) (asked : List (List ℕ))
     → ParseAsPlan content pair p → content log ≡ Ok text → IsWellShaped p → RunsLog (Shelf content) wanted pair None log [] outcome asked
     → IsAnswered (IsLogLine no_names wanted p text) (pair.path ∷ pair.plan ∷ log ∷ []) outcome asked
 
--- `check`, `explain` and `schedule` of the rest of a run: where the plan is well shaped, and no job asked for, what is told of its log
+-- `check`, `explain` and `schedule` of the rest of a run: where the plan is well shaped, and no job asked for, what is printed of its log
 abbrev pub RestIsAnswered : Type 0
 RestIsAnswered = (wanted : PlanAnswer) (at : Option ℕ) (content : List ℕ → Result (List ℕ) CommandFault) (pair : PairOfFiles) (log text : List ℕ) (p : PlannedShop) (outcome : Result Answer CommandFault) (asked : List (List ℕ))
     → ParseAsPlan content pair p → content log ≡ Ok text → IsWellShaped p → job_asked wanted ≡ None → RunsRest (Shelf content) wanted at pair None log [] outcome asked
@@ -284,13 +284,13 @@ DriveDrivesPlan = (protocol : Protocol) (before after : Streams) (content : List
     → ParseAsPlan content pair p → IsWellShaped p → IsAcceptable p → RunsDrive (Shelf content) protocol pair [] before outcome asked after
     → ((asked ≡ pair.path ∷ pair.plan ∷ []) × ((v : VerifiedPlan) × (v.planned ≡ p) × DrivesCell protocol v before after outcome)) ⊎ ((outcome ≡ Err Memory) × (after ≡ before))
 
--- `resume`: where the plan is well shaped, its log is asked for and taken up, and driven on if it can be, unless memory runs out before, with no byte read or written
+-- `resume`: where the plan is well shaped, its log is asked for and recovered, and driven on if it can be, unless memory runs out before, with no byte read or written
 abbrev pub ResumeGoesOn : Type 0
 ResumeGoesOn = (protocol : Protocol) (at : Option ℕ) (before after : Streams) (content : List ℕ → Result (List ℕ) CommandFault) (pair : PairOfFiles) (log text : List ℕ) (p : PlannedShop) (outcome : Result Answer CommandFault) (asked : List (List ℕ))
     → ParseAsPlan content pair p → IsWellShaped p → content log ≡ Ok text → RunsResume (Shelf content) protocol at pair log [] before outcome asked after
     → ((asked ≡ pair.path ∷ pair.plan ∷ log ∷ []) × ResumesText protocol at p (Ok text) before after outcome) ⊎ ((outcome ≡ Err Memory) × (after ≡ before))
 
--- the file of this path tells this plan for the instance of this text
+-- the file of this path gives this plan for the instance of this text
 pub record ParsesAsPlanOf (content : List ℕ → Result (List ℕ) CommandFault) (instance : List ℕ) (name : Option (List ℕ)) (path : List ℕ) (p : PlannedShop) : Type 0 where
   pub plan : List ℕ
   pub plan_is : content path ≡ Ok plan
@@ -302,7 +302,7 @@ pub record ParsesAsAcceptedPlan (content : List ℕ → Result (List ℕ) Comman
   pub well_shaped : IsWellShaped p
   pub acceptable : IsAcceptable p
 
--- the files of these paths tell these plans, one each
+-- the files of these paths give these plans, one each
 abbrev pub ParseAsAcceptedPlans : (List ℕ → Result (List ℕ) CommandFault) → List ℕ → Option (List ℕ) → List (List ℕ) → List PlannedShop → Type 0
 ParseAsAcceptedPlans content instance name [] [] = Unit {0}
 ParseAsAcceptedPlans content instance name (path ∷ paths) (p ∷ plans) = ParsesAsAcceptedPlan content instance name path p × ParseAsAcceptedPlans content instance name paths plans
@@ -325,7 +325,7 @@ IsInputAnswered shop (Err Read) after = after.failed ≡ true
 IsInputAnswered shop (Err Memory) after = Unit {0}
 IsInputAnswered shop (Err other) after = ⊥
 
--- the command without words: an input that tells a shop, of no more bytes than the limit, is answered by the facts
+-- the command without words: an input that gives a shop, of no more bytes than the limit, is answered by the facts
 abbrev pub InputAnswersShop : Type 0
 InputAnswersShop = (before after : Input) (text description : List ℕ) (shop : JobShop) (outcome : Result Answer CommandFault)
     → before.left ≡ Some text → length text ≤ MAX_INPUT → ParsesAs text None description shop → RunsInput before outcome after → IsInputAnswered shop outcome after
@@ -348,11 +348,11 @@ ResumeAnswersUnshaped = (protocol : Protocol) (at : Option ℕ) (log : List ℕ)
     → ParseAsPlan content pair p → (IsWellShaped p → ⊥) → RunsResume (Shelf content) protocol at pair log [] before outcome asked after
     → IsAnswered (IsCheckLine p) (pair.path ∷ pair.plan ∷ []) outcome asked × (after ≡ before)
 
--- by it the run of these lines can't go on: the plan has a cycle; or they tell no events, and it isn't accepted
+-- by it the run of these lines can't go on: the plan has a cycle; or they record no events, and it isn't accepted
 abbrev pub IsNoPlanFor : PlannedShop → List Entry → Type 0
 IsNoPlanFor p told = (HasNoCycle p → ⊥) ⊎ ((told ≡ []) × (IsAcceptable p → ⊥))
 
--- and such a plan is answered by the line of `check`, once its log has been asked for, where that tells a run, with no byte read or written
+-- and such a plan is answered by the line of `check`, once its log has been asked for, where that records a run, with no byte read or written
 abbrev pub ResumeAnswersByCheck : Type 0
 ResumeAnswersByCheck = (protocol : Protocol) (at : Option ℕ) (before after : Streams) (content : List ℕ → Result (List ℕ) CommandFault) (pair : PairOfFiles) (log text : List ℕ) (p : PlannedShop) (told : List Entry) (outcome : Result Answer CommandFault) (asked : List (List ℕ))
     → ParseAsPlan content pair p → IsWellShaped p → content log ≡ Ok text → LinesParse p (ended_lines text) told → IsRun p (events_of told) → (cell_after p told).last ≤ unwrap_or at (cell_after p told).last
@@ -417,7 +417,7 @@ abbrev pub IsUnanswered : Result Answer CommandFault → Output → Output → T
 IsUnanswered (Ok answer) before after = (after.failed ≡ true) × TookPart before.written after.written answer.text.items
 IsUnanswered (Err fault) before after = after ≡ before
 
--- what is told of an outcome: its fault, or out of memory for the words of a refused text; of an answer, that a write of it failed
+-- what is printed of an outcome: its fault, or out of memory for the words of a refused text; of an answer, that a write of it failed
 abbrev pub IsFailureOf : Result Answer CommandFault → Output → CommandFault → Type 0
 IsFailureOf (Ok answer) after fault = (fault ≡ Write) × (after.failed ≡ true)
 IsFailureOf (Err own) after fault = (fault ≡ own) ⊎ (IsOfText own × (fault ≡ Memory))
@@ -428,7 +428,7 @@ IsOutcomeOfWords (Usage true text) outcome = (help : Answer) × (outcome ≡ Ok 
 IsOutcomeOfWords (Usage false text) outcome = ⊥
 IsOutcomeOfWords WordsMemory outcome = outcome ≡ Err Memory
 
--- what is wrong with the words was told, with status 2
+-- what is wrong with the words was printed, with status 2
 abbrev pub IsUsagePrinted : WordsFault → Errors → Errors → ℕ → Type 0
 IsUsagePrinted (Usage true text) before after status = ⊥
 IsUsagePrinted (Usage false text) before after status = (status ≡ 2) × WasPrinted (string_bytes text) before after
@@ -441,7 +441,7 @@ pub record ChoseNone (words : List (List ℕ)) (before : Streams) (outcome : Res
   pub is : IsOutcomeOfWords fault outcome
   pub same : after ≡ before
 
--- the words were refused, and what is wrong with them was told
+-- the words were refused, and what is wrong with them was printed
 pub record WereRefused {W : Type 0} (words : List (List ℕ)) (before : Devices W) (status : ℕ) (after : Devices W) : Type 0 where
   pub fault : WordsFault
   pub refused : NamesOneOf (reasons_in words) fault
@@ -467,7 +467,7 @@ module _ {W : Type 0} (gives : W → List ℕ → Result (List ℕ) CommandFault
     pub is : ((v : VerifiedPlan) × (v.planned ≡ plan) × DrivesWithLog v.planned [] (IsDriveIn protocol v) end_of_drive (step_of before outcome after log))
         ⊎ ((t : Recovered) × (plan_of t ≡ plan) × GoesOnWithLog protocol t (step_of before outcome after log))
 
-  -- the plan is well shaped, its run was taken up from the log, and driven on in this manner to this end or up to this fault
+  -- the plan is well shaped, its run was recovered from the log, and driven on by this protocol to this end or up to this fault
   pub record DroveOn (protocol : Protocol) (at : Option ℕ) (pair : PairOfFiles) (log : List ℕ) (texts : W) (before after : Streams) : Type 0 where
     pub plan : PlannedShop
     pub mid : W
@@ -516,11 +516,11 @@ module _ {W : Type 0} (gives : W → List ℕ → Result (List ℕ) CommandFault
     pub runs : RunsChosen gives (kept_log_in chosen) chosen before outcome mid after log
     pub driven : WereDriven chosen.name chosen before.texts before.streams mid
 
-  -- what the words come to, before it is printed or told
+  -- what the words come to, before it is printed
   abbrev pub Ran : List (List ℕ) → Devices W → Result Answer CommandFault → Streams → Devices W → Option LogEnd → Type 0
   Ran words before outcome mid after log = RanCommand words before outcome mid after log ⊎ ChoseNone words before.streams outcome mid
 
-  -- what failed was told by its own line with its status, or by `drive` with a log with 6 in place of 5
+  -- what failed was printed by its own line with its status, or by `drive` with a log with 6 in place of 5
   pub record WasFailurePrinted (words : List (List ℕ)) (before : Devices W) (status : ℕ) (after : Devices W) (log : Option LogEnd) : Type 0 where
     pub outcome : Result Answer CommandFault
     pub mid : Streams
@@ -547,12 +547,12 @@ module _ {W : Type 0} (gives : W → List ℕ → Result (List ℕ) CommandFault
     pub ran : Ran words before outcome mid after log
     pub unanswered : IsUnanswered outcome mid.output after.streams.output
 
-  -- the status is 2 or more, and what failed was told; or it is 0 or 1, and nothing was told but what is answered in place of a picture
+  -- the status is 2 or more, and what failed was printed; or it is 0 or 1, and nothing was printed but what is answered in place of a picture
   abbrev pub EndsOnTime : List (List ℕ) → Devices W → ℕ → Devices W → Option LogEnd → Type 0
   EndsOnTime words before status after log =
       ((2 ≤ status) × (WereRefused words before status after ⊎ WasFailurePrinted words before status after log)) ⊎ ((status ≤ 1) × ((after.errors ≡ before.errors) ⊎ WasPrintedAside words before status after log))
 
-  -- in each run of the program what fails is told on the error output with its status, and nothing else is told but what is answered in place of a picture
+  -- in each run of the program what fails is printed on the error output with its status, and nothing else is printed but what is answered in place of a picture
   abbrev pub FaultsArePrinted : Type 0
   FaultsArePrinted = (words : List (List ℕ)) (before : Devices W) (status : ℕ) (after : Devices W) (log : Option LogEnd) → RunsProgram gives words before status after log → EndsOnTime words before status after log
 

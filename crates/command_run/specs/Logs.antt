@@ -72,7 +72,7 @@ abbrev pub IsLoggedAnswer : Bool → Result Bool DriveFault → Result Answer Co
 IsLoggedAnswer log_failed (Ok done) outcome = IsEnded done outcome
 IsLoggedAnswer log_failed (Err fault) outcome = outcome ≡ Err (logged_command_fault log_failed fault)
 
--- what is told of a log that isn't taken up: as by `resume`; of an end that no crash leaves, that the line behind the whole ones is bad; or the fault of the log
+-- what is printed of a log that isn't recovered: as by `resume`; of an end that no crash leaves, that the line behind the whole ones is bad; or the fault of the log
 abbrev pub IsLogFaultPrinted : RecoverFault → Result Answer CommandFault → Type 0
 IsLogFaultPrinted (Resume fault) outcome = IsUnrecoveredAnswer fault outcome
 IsLogFaultPrinted (NoTornEnd lines) outcome = IsLogFaultAnswer (BadLine (suc lines)) outcome
@@ -90,8 +90,8 @@ HasFewLines (File fault) = Unit {0}
 abbrev pub digits_in : PlannedShop → RunDigits
 digits_in p = digits_of p.shop p.plan
 
--- what became of a log that is held: a run of the plan went on with it, behind the events that it told, up to what its writer held; or it wasn't taken up by the plan for this reason, and its bytes were these;
--- or it was left with what is told of it, or with the bytes that were found; or it couldn't be synced or read, for this reason, and was left as it was found; or a new one couldn't be given the line of the plan
+-- what became of a log that is held: a run of the plan went on with it, behind the events that it recorded, up to what its writer held; or it wasn't recovered by the plan for this reason, and its bytes were these;
+-- or it was left with what is known of it, or with the bytes that were found; or it couldn't be synced or read, for this reason, and was left as it was found; or a new one couldn't be given the line of the plan
 pub data LogEnd : Type 0 where
   Driven : PlannedShop → List Entry → Held → LogEnd
   NotRecovered : PlannedShop → List ℕ → RecoverFault → LogEnd
@@ -177,7 +177,7 @@ module _ (folder folder_after : Folder) (path : List ℕ) where
 
 -- ---- a log with bytes
 
--- the log with these bytes is taken up by the plan, at the moment that is given or else at its last one, and its torn end was cut off; or this is why it isn't
+-- the log with these bytes is recovered by the plan, at the moment that is given or else at its last one, and its torn end was cut off; or this is why it isn't
 pub record RecoversLog (p : PlannedShop) (at : Option ℕ) (text : List ℕ) (recovered : Result Recovered RecoverFault) : Type 0 where
   pub is : IfOk recovered (IsRecovered p (ended_lines (whole_lines text)) at)
   pub torn : OnOk recovered (is_torn (torn_end text) ≡ true)
@@ -185,7 +185,7 @@ pub record RecoversLog (p : PlannedShop) (at : Option ℕ) (text : List ℕ) (re
   pub only_fault : IfErr recovered (IsOnlyRecoverFault p (ended_lines (whole_lines text)))
   pub only : IsRecoverable p (ended_lines (whole_lines text)) at → is_torn (torn_end text) ≡ true → IfErr recovered IsOfDevice
 
--- the events in the log were told again, and shown; or that failed
+-- the events in the log were written again, and shown; or that failed
 pub record ReplaysEvents (protocol : Protocol) (t : Recovered) (before after : Output) (replay : Result Recovered DriveFault) : Type 0 where
   pub is : IsReplayedIn protocol t (output_sink before) (output_sink after) replay
   pub same : IfOk replay (λ run. run ≡ t)
@@ -204,19 +204,19 @@ abbrev pub GoesOnAfter : Protocol → Recovered → Output → Result Recovered 
 GoesOnAfter protocol t mid (Ok done) step = DrivesWithLog (plan_of t) (replayed_events t) (IsGoneOnIn protocol t) end_of_rest (from_output mid step)
 GoesOnAfter protocol t mid (Err fault) step = (step.outcome ≡ Err (drive_command_fault fault)) × (step.after ≡ with_output step.before mid) × (step.log ≡ Some Left)
 
--- so a run that was taken up goes on
+-- so a run that was recovered goes on
 pub record GoesOnWithLog (protocol : Protocol) (t : Recovered) (step : Step) : Type 0 where
   pub replay : Result Recovered DriveFault
   pub mid : Output
   pub replays : ReplaysEvents protocol t step.before.output mid replay
   pub goes_on : GoesOnAfter protocol t mid replay step
 
--- what follows the taking up of a log with these bytes: the run goes on with it; of one that isn't taken up the fault is told, with no byte read or written, and it is held
+-- what follows the recovery from a log with these bytes: the run goes on with it; of one that isn't recovered the fault is printed, with no byte read or written, and it is held
 abbrev pub ContinuesRecovered : PlannedShop → Protocol → List ℕ → Result Recovered RecoverFault → Step → Type 0
 ContinuesRecovered p protocol text (Ok t) step = GoesOnWithLog protocol t step
 ContinuesRecovered p protocol text (Err fault) step = IsLogFaultPrinted fault step.outcome × DrivesNothing (Some (NotRecovered p text fault)) step
 
--- the log with these bytes is taken up, and the run goes on
+-- the log with these bytes is recovered, and the run goes on
 pub record RecoversRun (p : PlannedShop) (protocol : Protocol) (at : Option ℕ) (text : List ℕ) (step : Step) : Type 0 where
   pub recovered : Result Recovered RecoverFault
   pub takes : RecoversLog p at text recovered
@@ -229,7 +229,7 @@ abbrev pub bytes_in : Option (List ℕ) → List ℕ
 bytes_in there = unwrap_or there []
 
 module _ (folder folder_after : Folder) (path : List ℕ) where
-  -- a log that isn't there, or has no bytes, begins a run; any other is taken up
+  -- a log that isn't there, or has no bytes, begins a run; any other is recovered
   abbrev pub DrivesFitting : Protocol → Option ℕ → PlannedShop → Option (List ℕ) → Step → Type 0
   DrivesFitting protocol at p None step = Begins folder folder_after path protocol p false step
   DrivesFitting protocol at p (Some []) step = Begins folder folder_after path protocol p true step
@@ -249,7 +249,7 @@ module _ (folder folder_after : Folder) (path : List ℕ) where
     pub drives : DrivesAs misfit protocol at p there step
 
 module _ (folder folder_after : Folder) (path : List ℕ) (start : LogStart) (protocol : Protocol) (at : Option ℕ) (p : PlannedShop) where
-  -- the folder tells that no log could be opened, or locked; or the log that it couldn't be synced or read
+  -- the folder says that no log could be opened, or locked; or the log that it couldn't be synced or read
   abbrev pub IsOpeningFault : FileFault → Option LogEnd → Type 0
   IsOpeningFault fault log = (IsOpenFault fault × (folder_after ≡ with_fault fault folder) × (log ≡ None))
       ⊎ (((fault ≡ NotLogged) ⊎ IsReadFault fault) × (folder_after ≡ handed folder) × (log ≡ Some (Unread fault)))
@@ -277,15 +277,15 @@ DrivesShaped folder folder_after path start protocol at (Ok (Ok p)) step = Drive
 
 -- ---- what the log has
 
--- Of a run of the plan, behind these events, up to what its writer held: the log is in step with the output. What a crash leaves of it has, behind what was told of it before, all that was shown
--- behind what was told of the output, and the run is taken up from that. At a good end it has all of it.
+-- Of a run of the plan, behind these events, up to what its writer held: the log is in step with the output. What a crash leaves of it has, behind what was known of it before, all that was shown
+-- behind what was known of the output, and the run is recovered from that. At a good end it has all of it.
 pub record KeepsInLog (seen : Option (List ℕ)) (crash_states : List ℕ → Type 0) (printed : Option (List ℕ)) (good : Type 0) (p : PlannedShop) (before : List Entry) (held : Held) (known : List ℕ × List ℕ) : Type 0 where
   pub in_step : AreInStep known.0 known.1 seen crash_states held.written held.pending held.failed
   pub crash : KeepsShown known.0 known.1 crash_states printed
   pub recoverable : IsRecoveredAfter p before known.1 crash_states printed
   pub in_log : good → IsAllInLog known.0 known.1 seen crash_states printed
 
--- a log with these bytes that wasn't taken up by the plan has them still, unless it couldn't be cut or written; what a crash leaves of it has the same whole lines, with the plan's or without, and of a torn end a torn end again
+-- a log with these bytes that wasn't recovered by the plan has them still, unless it couldn't be cut or written; what a crash leaves of it has the same whole lines, with the plan's or without, and of a torn end a torn end again
 pub record IsAsItWas (seen : Option (List ℕ)) (crash_states : List ℕ → Type 0) (p : PlannedShop) (text : List ℕ) (fault : RecoverFault) : Type 0 where
   pub untouched : IsOfText fault → (seen ≡ Some text) × IsDurable seen crash_states
   pub crash : (left : List ℕ) → crash_states left → IsNamedOrNot (digits_in p) (whole_lines text) (whole_lines left)
@@ -300,7 +300,7 @@ IsLogAfter seen crash_states printed good (Found bytes) known = (seen ≡ Some b
 IsLogAfter seen crash_states printed good (Unread fault) known = Unit {0}
 IsLogAfter seen crash_states printed good (Unlined p) known = Leaves crash_states 0 (plan_line (digits_in p))
 
--- the fault that the log itself tells, by what became of it
+-- the fault that the log itself says, by what became of it
 abbrev pub fault_of : LogEnd → Option FileFault
 fault_of (Driven p before held) = fault_if held.log_failed
 fault_of (NotRecovered p text fault) = file_fault fault
@@ -309,14 +309,14 @@ fault_of (Found bytes) = None
 fault_of (Unread fault) = Some fault
 fault_of (Unlined p) = Some NotLogged
 
--- no byte was changed of one that couldn't be synced or read, that wasn't as the words ask, that was left because of the plan, or that wasn't taken up for its text or for want of memory
+-- no byte was changed of one that couldn't be synced or read, that wasn't as the words ask, that was left because of the plan, or that wasn't recovered for its text or for want of memory
 abbrev pub IsUntouched : Bool → LogEnd → Type 0
 IsUntouched written (Unread fault) = written ≡ false
 IsUntouched written (Found bytes) = written ≡ false
 IsUntouched written (NotRecovered p text fault) = IsOfText fault → written ≡ false
 IsUntouched written other = Unit {0}
 
--- so it is with the log that is held, if one is: it tells just this fault, and where it is told what there was before, it has this
+-- so it is with the log that is held, if one is: it says just this fault, and where it is known what there was before, it has this
 abbrev pub IsHeldAfter : {D : Type 0} → (D → Option (List ℕ)) → (D → List ℕ → Type 0) → (D → Option FileFault) → (D → Bool) → Option (List ℕ × List ℕ) → Option (List ℕ) → Type 0 → Option D → Option LogEnd → Type 0
 IsHeldAfter seen crash_states fault written known printed good None None = Unit {0}
 IsHeldAfter seen crash_states fault written known printed good None (Some end) = ⊥
@@ -347,14 +347,14 @@ pub record IsReady (seen : Option (List ℕ)) (crash_states : List ℕ → Type 
   pub durable : IsDurable seen crash_states
   pub unfailed : fault ≡ None
 
--- and it has no bytes, which is told where the logs are, and none was written
+-- and it has no bytes, which is known where the logs are, and none was written
 pub record IsEmptyLog (seen : Option (List ℕ)) (crash_states : List ℕ → Type 0) (fault : Option FileFault) (written : Bool) (folder : Folder) : Type 0 where
   pub ready : IsReady seen crash_states fault
   pub unwritten : written ≡ false
   pub empty : IfSome seen (λ file. file ≡ [])
   pub known : IfSome folder.logs (λ _. seen ≡ Some [])
 
--- a log that was opened and read, and not written, with these bytes, which are told where the logs are
+-- a log that was opened and read, and not written, with these bytes, which are known where the logs are
 pub record IsFoundLog (seen : Option (List ℕ)) (crash_states : List ℕ → Type 0) (fault : Option FileFault) (written : Bool) (folder : Folder) (text : List ℕ) : Type 0 where
   pub ready : IsReady seen crash_states fault
   pub unwritten : written ≡ false
@@ -362,7 +362,7 @@ pub record IsFoundLog (seen : Option (List ℕ)) (crash_states : List ℕ → Ty
   pub within : length text ≤ MAX_INPUT
   pub known : IfSome folder.logs (λ _. seen ≡ Some text)
 
--- the run was taken up from the whole lines that the log has
+-- the run was recovered from the whole lines that the log has
 abbrev pub IsRecoveredFromLog : Recovered → List ℕ → Type 0
 IsRecoveredFromLog t base = (whole_lines base ≡ base) × (at : Option ℕ) × IsRecovered (plan_of t) (ended_lines base) at t
 
@@ -374,14 +374,14 @@ pub record IsWrittenBehind (printed : Option (List ℕ)) (text known : List ℕ)
   pub was : printed ≡ Some start
   pub is : known ≡ start ++ text
 
--- what is told of a new log by this plan, in a folder that is told: the line of the plan; and of what the output has taken
+-- what is known of a new log by this plan, in a folder that is known: the line of the plan; and of what the output has taken
 pub record IsHistoryOfNew (folder : Folder) (p : PlannedShop) (printed : Option (List ℕ)) (known : List ℕ × List ℕ) : Type 0 where
   pub logs : List NamedLog
   pub there : folder.logs ≡ Some logs
   pub log : known.0 ≡ plan_line (digits_in p)
   pub output : printed ≡ Some known.1
 
--- what is told of the whole lines of a log, with the line of the plan behind them unless it is their last one; and of what the output has taken once the events in it are told again
+-- what is known of the whole lines of a log, with the line of the plan behind them unless it is their last one; and of what the output has taken once the events in it are written again
 pub record IsHistoryOfOld (p : PlannedShop) (protocol : Protocol) (at : Option ℕ) (bytes : List ℕ) (printed : Option (List ℕ)) (known : List ℕ × List ℕ) : Type 0 where
   pub log : IsNamedFor (digits_in p) (whole_lines bytes) known.0
   pub output : (t : Recovered) → IsRecovered p (ended_lines (whole_lines bytes)) at t → IsWrittenBehind printed (replay_text protocol t) known.1
@@ -392,19 +392,19 @@ IsHistoryOf folder p protocol at None printed known = IsHistoryOfNew folder p pr
 IsHistoryOf folder p protocol at (Some []) printed known = IsHistoryOfNew folder p printed known
 IsHistoryOf folder p protocol at (Some (byte ∷ bytes)) printed known = IsHistoryOfOld p protocol at (byte ∷ bytes) printed known
 
--- so of one that was found, in a folder that is told
+-- so of one that was found, in a folder that is known
 pub record IsHistoryOfFound (folder : Folder) (p : PlannedShop) (protocol : Protocol) (at : Option ℕ) (there printed : Option (List ℕ)) (known : List ℕ × List ℕ) : Type 0 where
   pub logs : List NamedLog
   pub in_folder : folder.logs ≡ Some logs
   pub is : IsHistoryOf folder p protocol at there printed known
 
--- so of the log of this path, in a folder that is told
+-- so of the log of this path, in a folder that is known
 pub record IsHistoryOfPath (folder : Folder) (path : List ℕ) (p : PlannedShop) (protocol : Protocol) (at : Option ℕ) (printed : Option (List ℕ)) (known : List ℕ × List ℕ) : Type 0 where
   pub logs : List NamedLog
   pub there : folder.logs ≡ Some logs
   pub is : IsHistoryOf folder p protocol at (held logs path) printed known
 
--- by each plan that the files tell
+-- by each plan that the files give
 abbrev pub IsHistoryOfLog : {W : Type 0} → (W → List ℕ → Result (List ℕ) CommandFault → W → Type 0) → Folder → PairOfFiles → List ℕ → Protocol → Option ℕ
     → W → Option (List ℕ) → List ℕ × List ℕ → Type 0
 IsHistoryOfLog {W} gives folder pair path protocol at texts printed known = (p : PlannedShop) (mid : W) → Shapes gives pair texts (Ok (Ok p)) mid → IsHistoryOfPath folder path p protocol at printed known

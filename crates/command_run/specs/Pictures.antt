@@ -22,7 +22,7 @@ IsPictureOut picture status before after (Ok answer) =
     (answer.text.items ≡ []) × (answer.status ≡ status) × Appends before.written after.written picture × (after.failed ≡ before.failed) × (after.pending ≡ [])
 IsPictureOut picture status before after (Err fault) = (fault ≡ Write) × TookPart before.written after.written picture × (after.failed ≡ true)
 
--- what follows what came to be drawn: a picture is written; a line is answered, and a fault is told, with no byte read or written
+-- what follows what came to be drawn: a picture is written; a line is answered, and a fault is printed, with no byte read or written
 abbrev pub Draws : Result Drawn CommandFault → Streams → Streams → Result Answer CommandFault → Type 0
 Draws (Err fault) before after outcome = (outcome ≡ Err fault) × (after ≡ before)
 Draws (Ok (Line answer)) before after outcome = (outcome ≡ Ok answer) × (after ≡ before)
@@ -40,12 +40,12 @@ module _ {W : Type 0} (gives : W → List ℕ → Result (List ℕ) CommandFault
   DrawsTimetable at pair names None = DrawsSchedule gives pair names
   DrawsTimetable at pair names (Some log) = DrawsRest gives at pair names log
 
-  -- the moves of the plan are told, or those ahead in the run in a log, if there is one
+  -- the moves of the plan are printed, or those ahead in the run in a log, if there is one
   abbrev pub AnswersMoves : Option ℕ → PairOfFiles → Option (List ℕ) → Option (List ℕ) → W → Result Answer CommandFault → W → Type 0
   AnswersMoves at pair names None = RunsMoves gives pair names
   AnswersMoves at pair names (Some log) = RunsRestMoves gives at pair names log
 
-  -- `schedule`: the schedule of the plan is told, or that of the rest of the run in a log; or with `--moves` the moves are, or with `--svg` it is drawn
+  -- `schedule`: the schedule of the plan is printed, or that of the rest of the run in a log; or with `--moves` the moves are, or with `--svg` it is drawn
   abbrev pub RunsTimetable : Timetable → Option ℕ → PairOfFiles → Option (List ℕ) → Option (List ℕ) → W → Streams → Result Answer CommandFault → W → Streams → Type 0
   RunsTimetable ByMoments at pair names log texts before outcome texts_after after = RunsPlanAnswer gives Moments at pair names log texts outcome texts_after × (after ≡ before)
   RunsTimetable ByMoves at pair names log texts before outcome texts_after after = AnswersMoves at pair names log texts outcome texts_after × (after ≡ before)

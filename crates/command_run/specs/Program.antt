@@ -82,7 +82,7 @@ aim_of None least = overall_aim least
 abbrev pub aim_in : Chosen → Aim
 aim_in chosen = aim_of chosen.job chosen.least
 
--- in which form a schedule is told, by whether a picture is asked for, and by whether the moves are
+-- in which form a schedule is printed, by whether a picture is asked for, and by whether the moves are
 abbrev pub form_of : Bool → Bool → Timetable
 form_of true moves = Picture
 form_of false true = Moves
@@ -119,7 +119,7 @@ is_second None = false
 is_second (Some One) = false
 is_second (Some Two) = true
 
--- the manner in which cells are driven: a leap counts from the present moment at the earliest, if one is given
+-- the protocol by which cells are driven: a leap counts from the present moment at the earliest, if one is given
 abbrev pub manner_in : Chosen → Protocol
 manner_in chosen = record { version_2 = is_second chosen.lines; max_gap = chosen.leap; from = unwrap_or chosen.at 0 }
 
@@ -158,7 +158,7 @@ module _ {W : Type 0} (gives : W → List ℕ → Result (List ℕ) CommandFault
     pub shapes : Shapes gives pair texts shaped texts_after
     pub drives : DrivesShaped folder folder_after path start protocol at shaped step
 
-  -- the plan is read, then its log taken up at a moment, and then the input is read
+  -- the plan is read, then its log recovered at a moment, and then the input is read
   pub record RunsResume (protocol : Protocol) (at : Option ℕ) (pair : PairOfFiles) (log : List ℕ) (texts : W) (before : Streams) (outcome : Result Answer CommandFault) (texts_after : W) (after : Streams) : Type 0 where
     pub shaped : Result (Result PlannedShop ShapeFault) CommandFault
     pub texts_mid : W
@@ -217,7 +217,7 @@ module _ {W : Type 0} (gives : W → List ℕ → Result (List ℕ) CommandFault
   RunsChosen (Some path) chosen before outcome mid after log =
       RunsLoggedDrive before.folder after.folder path chosen.start (manner_in chosen) chosen.at (pair_in chosen) before.texts (step_of before.streams outcome mid log) after.texts
 
-  -- the command is run, and then its answer printed, or its fault told, with its own status; what is answered in place of a picture is told too
+  -- the command is run, and then its answer printed, or its fault printed, with its own status; what is answered in place of a picture is printed too
   pub record Commands (chosen : Chosen) (before : Devices W) (status : ℕ) (after : Devices W) (log : Option LogEnd) : Type 0 where
     pub outcome : Result Answer CommandFault
     pub mid : Streams
@@ -251,11 +251,11 @@ module _ {W : Type 0} (gives : W → List ℕ → Result (List ℕ) CommandFault
     pub is : AreWordsRead words read
     pub follows : Follows read before status after log
 
--- what is told of the log that the command keeps, if it keeps one, and of what the output has taken once the events in that are told again
+-- what is known of the log that the command keeps, if it keeps one, and of what the output has taken once the events in that are written again
 abbrev pub IsHistoryOfChosen : {W : Type 0} → (W → List ℕ → Result (List ℕ) CommandFault → W → Type 0) → Chosen → Devices W → List ℕ × List ℕ → Type 0
 IsHistoryOfChosen gives chosen before known = (path : List ℕ) → kept_log_in chosen ≡ Some path
     → IsHistoryOfLog gives before.folder (pair_in chosen) path (manner_in chosen) chosen.at before.texts before.streams.output.written known
 
--- what is told of the log that the words ask for, and of what the output has taken once the events in that are told again
+-- what is known of the log that the words ask for, and of what the output has taken once the events in that are written again
 abbrev pub IsHistoryOfWords : {W : Type 0} → (W → List ℕ → Result (List ℕ) CommandFault → W → Type 0) → List (List ℕ) → Devices W → List ℕ × List ℕ → Type 0
 IsHistoryOfWords gives words before known = (chosen : Chosen) → IsChoiceOf words (found_in words) chosen → IsHistoryOfChosen gives chosen before known

@@ -1,4 +1,4 @@
--- What taking up the run of a plan comes to.
+-- What recovering the run of a plan comes to.
 use Rattle.std.specs.Prelude.{◌≡◌, Bool, List, ℕ, Option, Result, Ok, Err, IfOk, IfErr}
 use Rattle.shop_base.specs.declared.shape_fault.ShapeFault.{ShapeFault}
 use Rattle.shop_base.specs.Plan.{PlannedShop}
@@ -23,7 +23,7 @@ use Rattle.command_answers.specs.Rests.{IsPastLine}
 use Rattle.command_run.specs.Streams.{Streams}
 use Rattle.command_run.specs.Drives.{IsEndAnswer, IsLineAnswer}
 
--- the text is a log that is taken up by the plan, at the moment that is given or else at its last one, with all that is told of it; or this is its fault, which is want of memory alone where it can be taken up
+-- the text is a log that is recovered by the plan, at the moment that is given or else at its last one, with all that is known of it; or this is its fault, which is want of memory alone where it can be recovered
 pub record IsRecovery (p : PlannedShop) (at : Option ℕ) (text : List ℕ) (recovered : Result Recovered ResumeFault) : Type 0 where
   pub is : IfOk recovered (IsRecovered p (ended_lines text) at)
   pub fault : IfErr recovered (IsResumeFault p (ended_lines text) at)
@@ -42,18 +42,18 @@ abbrev pub end_of_rest : Result RestEnd DriveFault → Result Bool DriveFault
 end_of_rest (Ok end) = Ok end.done
 end_of_rest (Err fault) = Err fault
 
--- what was taken up was driven on in this manner, and the status says whether its run has ended
+-- what was recovered was driven on by this protocol, and the status says whether its run has ended
 pub record ResumesOn (protocol : Protocol) (t : Recovered) (before after : Streams) (outcome : Result Answer CommandFault) : Type 0 where
   pub end : Result RestEnd DriveFault
   pub is : IsResumeIn protocol t before after end
   pub answer : IsEndAnswer (end_of_rest end) outcome
 
--- what follows taking up: it is driven on in this manner; of a log that isn't taken up the fault is told, with no byte read or written
+-- what follows recovery: it is driven on by this protocol; of a log that isn't recovered the fault is printed, with no byte read or written
 abbrev pub ResumesRecovered : Protocol → Result Recovered ResumeFault → Streams → Streams → Result Answer CommandFault → Type 0
 ResumesRecovered protocol (Ok t) before after outcome = ResumesOn protocol t before after outcome
 ResumesRecovered protocol (Err fault) before after outcome = IsUnrecoveredAnswer fault outcome × (after ≡ before)
 
--- the text of the log that came is taken up, and then driven on
+-- the text of the log that came is recovered, and then driven on
 abbrev pub ResumesText : Protocol → Option ℕ → PlannedShop → Result (List ℕ) CommandFault → Streams → Streams → Result Answer CommandFault → Type 0
 ResumesText protocol at p (Ok text) before after outcome = (recovered : Result Recovered ResumeFault) × IsRecovery p at text recovered × ResumesRecovered protocol recovered before after outcome
 ResumesText protocol at p (Err fault) before after outcome = (outcome ≡ Err fault) × (after ≡ before)

@@ -10,7 +10,7 @@ const ROOM: usize = 111;
 /// A line is shown once in so many choices.
 const BETWEEN: u64 = 500;
 
-/// ParsesAs on a screen how many choices a search has made.
+/// Shows on a screen how many choices a search has made.
 #[derive(Drop)]
 pub(crate) struct ChoiceProgress<'a, S> {
     pub screen: &'a mut S,

@@ -118,7 +118,7 @@ fn present(at: Option<Moment>) -> Moment
     }
 }
 
-/// The manner in which cells are driven. A leap counts from the present moment at the earliest, if one is given.
+/// The protocol by which cells are driven. A leap counts from the present moment at the earliest, if one is given.
 pub(crate) fn protocol(chosen: &Chosen) -> Protocol
     ensures { result ≡ manner_in chosen.now }
 {
@@ -199,7 +199,7 @@ fn overall_aim(least: bool) -> Aim
     }
 }
 
-/// In which form a schedule is told.
+/// In which form a schedule is printed.
 fn form(chosen: &Chosen) -> Timetable
     ensures { result ≡ form_in chosen.now }
 {

@@ -31,7 +31,7 @@ pub(crate) fn end<R: Source, W: BufferedSink, E: Sink>(
     }
 }
 
-/// The same where a picture is asked for: what is answered in its place is told on the standard error.
+/// The same where a picture is asked for: what is answered in its place is printed on the standard error.
 pub(crate) fn end_aside<E: Sink>(alloc: Global, outcome: Answered, errors: &mut E) -> u8
     ensures { (output : Output)
         → EndsAside outcome output output (errors_of E.Sink errors.old) (errors_of E.Sink errors.new) result }

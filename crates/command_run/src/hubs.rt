@@ -13,7 +13,7 @@ use command_answers::{Answered, Cells, Texts, load_cells};
 use plan_verifier::Verified;
 use std::alloc::Global;
 
-/// Loads several plans, and drives their cells in this manner if all are accepted; else the line of the first that
+/// Loads several plans, and drives their cells by this protocol if all are accepted; else the line of the first that
 /// isn't is answered.
 pub(crate) fn hub_answer<T: Texts, R: Source, W: BufferedSink>(
     alloc: Global,

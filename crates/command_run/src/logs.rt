@@ -114,7 +114,7 @@ fn is_done(end: Result<DriveEnd, DriveFault>) -> Result<bool, DriveFault>
     }
 }
 
-/// Whether the run that was taken up has ended.
+/// Whether the run that was recovered has ended.
 fn is_rest_done(end: Result<RestEnd, DriveFault>) -> Result<bool, DriveFault>
     ensures { result ≡ end_of_rest end }
 {
@@ -141,7 +141,7 @@ fn line_answer(alloc: Global, loaded: &Loaded) -> Answered
     Ok(loaded_answer(alloc, loaded)?)
 }
 
-/// What is answered where no run is taken up from a log.
+/// What is answered where no run is recovered from a log.
 fn unrecovered_log_answer(alloc: Global, fault: RecoverFault) -> Answered
     requires { HasFewLines fault }
     ensures { IsLogFaultPrinted fault result }
@@ -188,7 +188,7 @@ fn drive_with<R: Source, W: BufferedSink + Drop, D: LogFile + Drop, B: InitialSt
     }
 }
 
-/// Goes on with a run that was taken up from a log, whose events were told again.
+/// Goes on with a run that was recovered from a log, whose events were written again.
 fn go_on_with<R: Source, W: BufferedSink + Drop, D: LogFile + Drop, B: InitialState>(
     alloc: Global,
     run: Replayed,
@@ -222,7 +222,7 @@ fn go_on_with<R: Source, W: BufferedSink + Drop, D: LogFile + Drop, B: InitialSt
     }
 }
 
-/// ParsesAs the events of a run that was taken up again, and shows them.
+/// Writes again the events of a run that was recovered, and shows them.
 fn show_again<W: BufferedSink>(
     recovered: RecoveredRun,
     protocol: Protocol,
@@ -240,7 +240,7 @@ fn show_again<W: BufferedSink>(
     }
 }
 
-/// ParsesAs the events of a run that was taken up again, and goes on with it.
+/// Writes again the events of a run that was recovered, and goes on with it.
 fn replay_and_continue<R: Source, W: BufferedSink + Drop, D: LogFile + Drop, B: InitialState>(
     alloc: Global,
     recovered_log: RecoveredLog,
@@ -278,7 +278,7 @@ fn replay_and_continue<R: Source, W: BufferedSink + Drop, D: LogFile + Drop, B: 
     }
 }
 
-/// Takes up the run in a log that has bytes by the plan with these digits, and goes on with it; why it isn't taken up
+/// Recovers the run in a log that has bytes by the plan with these digits, and goes on with it; why it isn't recovered
 /// is the answer.
 fn take_up_with<R: Source, W: BufferedSink + Drop, D: LogFile + Drop, B: InitialState>(
     alloc: Global,
@@ -481,7 +481,7 @@ fn begin<R: Source, W: BufferedSink + Drop, L: Logs, B: InitialState>(
 /// What was found by a path: the log and its bytes.
 type FoundLog<D> = Option<(D, LogText)>;
 
-/// What the whole lines of the log that was found tell of its run.
+/// What the whole lines of the log that was found record of its run.
 fn run_found<D: LogFile + Drop>(found: &FoundLog<D>) -> LogRun
     ensures { IsRunOf (lines_of (whole_lines (bytes_in (option_map (λ there. there.1) found.now)))) result }
 {
@@ -502,7 +502,7 @@ fn log_found<D: LogFile + Drop>(found: FoundLog<D>) -> Option<D>
 }
 
 /// Drives the cell of a plan with the log that was found by this path: from its start where there is none or it has no
-/// bytes, else from what the log tells. Why it isn't as the words ask is answered before.
+/// bytes, else from what the log records. Why it isn't as the words ask is answered before.
 fn drive_found<R: Source, W: BufferedSink + Drop, L: Logs, B: InitialState>(
     alloc: Global,
     shaped: Shaped,

@@ -18,7 +18,7 @@ use run_picture::Picture;
 use shop_base::Moment;
 use std::alloc::Global;
 
-/// In which form a schedule is told.
+/// In which form a schedule is printed.
 #[derive(Clone, Copy, Debug)]
 pub(crate) enum Timetable {
     /// When what begins and ends.

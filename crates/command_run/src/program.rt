@@ -182,7 +182,7 @@ fn unlogged<T: Texts, R: Source, W: BufferedSink, E: Sink, S: Screen, L: Logs>(
     end_chosen(alloc, chosen, outcome, streams, errors)
 }
 
-/// Prints the answer of the command that was chosen, or tells it where it stands in place of a picture.
+/// Prints the answer of the command that was chosen, or what stands in place of a picture.
 fn end_chosen<R: Source, W: BufferedSink, E: Sink>(
     alloc: Global,
     chosen: &Chosen,

@@ -10,7 +10,7 @@ use text_lines::LineText;
 /// The bytes of the longest line: two numbers of 10 digits, three of 20, and the words before them.
 const ROOM: usize = 119;
 
-/// ParsesAs each round on a screen.
+/// Shows each round on a screen.
 #[derive(Drop)]
 pub(crate) struct Progress<'a, S> {
     pub screen: &'a mut S,

@@ -21,8 +21,8 @@ use shop_base::{Moment, Shaped};
 use std::alloc::Global;
 use std::marker::Model;
 
-/// Reads a plan, and if it is well shaped takes up its run from the log, at a moment, and drives it on in this manner;
-/// else its first fault is the answer.
+/// Reads a plan, and if it is well shaped recovers its run from the log, at a moment, and drives it on by this
+/// protocol; else its first fault is the answer.
 pub(crate) fn resume_answer<T: Texts, R: Source, W: BufferedSink>(
     alloc: Global,
     texts: &mut T,
@@ -41,8 +41,8 @@ pub(crate) fn resume_answer<T: Texts, R: Source, W: BufferedSink>(
     }
 }
 
-/// Asks for the log of a plan, takes up its run, and drives that on in this manner to the end of the input; why it
-/// isn't taken up is an answer.
+/// Asks for the log of a plan, recovers its run, and drives that on by this protocol to the end of the input; why it
+/// isn't recovered is an answer.
 fn resume_log<T: Texts, R: Source, W: BufferedSink>(
     alloc: Global,
     texts: &mut T,
@@ -65,7 +65,7 @@ fn resume_log<T: Texts, R: Source, W: BufferedSink>(
     }
 }
 
-/// Takes up the run that the text records, and gives the text back.
+/// Recovers the run that the text records, and gives the text back.
 fn recoverable(
     alloc: Global,
     shaped: Shaped,
@@ -78,7 +78,7 @@ fn recoverable(
     take_up(alloc, shaped, &text, at)
 }
 
-/// What is answered where a run isn't taken up: the line of the log's first fault, of a moment that is past, or of the
+/// What is answered where a run isn't recovered: the line of the log's first fault, of a moment that is past, or of the
 /// plan.
 pub(crate) fn unrecovered_answer(alloc: Global, fault: ResumeFault) -> Answered
     ensures { IsUnrecoveredAnswer fault result }

@@ -24,7 +24,7 @@ fn asks(rt: &impl Eprint) {
     let _ = eprintln!(rt; "asked");
 }
 
-/// Tells the answer to it: whether memory was wanting.
+/// Writes the answer to it: whether memory was wanting.
 fn answers(rt: &impl Eprint, wanting: bool) {
     let _ = eprintln!(rt; "{}", if wanting { "wanting" } else { "had" });
 }
@@ -125,7 +125,7 @@ fn a_graph_is_solved(rt: HostRuntime) -> Result<(), Fail> {
     Ok(())
 }
 
-/// A longest chain to the leaving of job 1, told once more where memory was wanting.
+/// A longest chain to the leaving of job 1, written once more where memory was wanting.
 fn chain(rt: &(impl AllocGlobal + Eprint), times: &Times) -> Result<Option<Vec<Node>>, AllocError> {
     asks(rt);
     let answer = times.chain(rt.alloc(), node(1, 2));

@@ -318,12 +318,12 @@ abbrev pub IsFaultOf : ErrorKind → WordsFault → Type 0
 IsFaultOf kind Memory = kind ≡ OutOfMemory
 IsFaultOf kind (Usage help text) = (kind ≢ OutOfMemory) × (help ≡ asks_for_help kind)
 
--- the fault is out of memory, or tells of this reason
+-- the fault is out of memory, or names this reason
 abbrev pub NamesReason : ErrorKind → WordsFault → Type 0
 NamesReason kind Memory = Unit {0}
 NamesReason kind (Usage help text) = (kind ≢ OutOfMemory) × (help ≡ asks_for_help kind)
 
--- the fault is out of memory, or tells of one of these reasons
+-- the fault is out of memory, or names one of these reasons
 abbrev pub NamesOneOf : Kinds → WordsFault → Type 0
 NamesOneOf kinds Memory = Unit {0}
 NamesOneOf kinds (Usage help text) =

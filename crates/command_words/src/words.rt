@@ -108,7 +108,7 @@ pub struct Chosen {
     pub seed: u32,
     /// The choices of a complete search, 200,000 if none are given.
     pub choices: u32,
-    /// The job of whose leaving is asked or told, if one is given.
+    /// The job of whose leaving is asked or printed, if one is given.
     pub job: Option<u32>,
     /// Whether the least makespan is asked for.
     pub least: bool,
@@ -124,7 +124,7 @@ pub struct Chosen {
     pub leap: Option<u64>,
     /// Whether a picture is drawn in place of the text.
     pub svg: bool,
-    /// Whether the moves are told in place of the moments.
+    /// Whether the moves are printed in place of the moments.
     pub moves: bool,
     /// The file of the names of jobs and machines, and of the clock.
     pub names: Option<String>,
@@ -579,7 +579,7 @@ fn job_given(alloc: Global, matches: &ArgMatches<'_>) -> Result<Option<u32>, Wor
     }
 }
 
-/// Whether the moves are told in place of the moments. They aren't drawn.
+/// Whether the moves are printed in place of the moments. They aren't drawn.
 fn moves_of(alloc: Global, matches: &ArgMatches<'_>) -> Result<bool, WordsFault>
     ensures exact { IfOk result (λ moves. moves ≡ moves_in (rows_of (found_of matches.now))) }
     ensures fits { IfOk result (λ _. moves_misfit (rows_of (found_of matches.now)) ≡ []) }

@@ -7,7 +7,7 @@ use Rattle.shop_base.specs.ReportsLeft.{departures}
 use Rattle.cell_control.specs.Kept.{KeepsSoFar}
 use Rattle.cell_control.specs.Carried.{IsCarried}
 
--- a run of plan p that keeps plan q, as its last cell tells, is a run of plan q, which ends with that cell as one of plan q
+-- a run of plan p that keeps plan q, as its last cell shows, is a run of plan q, which ends with that cell as one of plan q
 abbrev pub AKeptRunIsOneOfTheOtherPlan : Type 0
 AKeptRunIsOneOfTheOtherPlan = (p q : PlannedShop) (es : List Event) → IsWellShaped p → IsWellShaped q → IsRun p es → KeepsSoFar p (ends_in p es) q
     → IsRun q es × IsCarried p (ends_in p es) q (ends_in q es)
@@ -16,7 +16,7 @@ AKeptRunIsOneOfTheOtherPlan = (p q : PlannedShop) (es : List Event) → IsWellSh
 abbrev pub NoneHasLeftUncleaned : PlannedShop → Cell → PlannedShop → Type 0
 NoneHasLeftUncleaned p c q = (m : ℕ) → m < machines p → clean p m ≡ 0 → 0 < clean q m → departures p c m ≡ 0
 
--- a run of both plans keeps plan q, as its last cell tells, unless a job has left a machine to which q alone gives a cleaning time: no cell of plan p tells when
+-- a run of both plans keeps plan q, as its last cell shows, unless a job has left a machine to which q alone gives a cleaning time: no cell of plan p shows when
 abbrev pub ARunOfBothPlansIsKept : Type 0
 ARunOfBothPlansIsKept = (p q : PlannedShop) (es : List Event) → IsWellShaped p → IsWellShaped q → IsRun p es → IsRun q es → NoneHasLeftUncleaned p (ends_in p es) q
     → KeepsSoFar p (ends_in p es) q

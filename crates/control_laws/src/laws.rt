@@ -14,7 +14,7 @@ pub fn a_kept_run_is_one_of_the_other_plan()
 
 /// A run of two plans keeps the other one, as far as the cell at its end shows. So a controller isn't refused to a plan
 /// of which its run is one, except where that plan has a cleaning time for a machine that had none and that a job has
-/// left: the cell doesn't tell when.
+/// left: the cell doesn't say when.
 pub fn a_run_of_both_plans_is_kept()
     ensures { ARunOfBothPlansIsKept }
 {}

@@ -26,7 +26,7 @@ use Rattle.cell_drive.proofs.ReadBack.{AreParsed, all_parsed}
 use Rattle.cell_drive.proofs.Refusing.{can_report, refused_or_admissible}
 use Rattle.cell_drive.proofs.ProtocolParses.{protocol_line_parses}
 
--- a claim that is possible tells what it names
+-- a claim that is possible records what it names
 pub ends_named : (p : PlannedShop) (c : Cell) (claim : Claim) (ended : NamedEnd) → named claim ≡ Some ended → CanClaim p c claim → ReportsEnd p c (claimed claim) ended
 ends_named p c (Report (Arrive job at)) ended is can = let same : Arrived job ≡ ended = cc in subst (ReportsEnd p c (Arrive job at)) same refl
 ends_named p c (Report (Finish job machine at)) ended is can = let same : Finished job machine ≡ ended = cc in subst (ReportsEnd p c (Finish job machine at)) same refl

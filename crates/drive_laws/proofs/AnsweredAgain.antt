@@ -1,4 +1,4 @@
--- The events of a log that was taken up, as they were answered in a manner.
+-- The events of a log that was recovered, as they were answered by a protocol.
 use Rattle.std.proofs.Common.{◌≡◌, ◌⊎◌, ℕ, ◌+◌, Bool, true, false, List, [], ◌∷◌, ◌++◌, Option, Some, map, length, take, drop, inl, inr, refl, sym, ap, ◌∙◌, subst, append_assoc, append-nil}
 use Rattle.std.specs.Prelude.{◌↔◌}
 use Rattle.std.proofs.lemmas.List.{append_cancel_left, take-append-drop}
@@ -150,7 +150,7 @@ module _ (p : PlannedShop) (protocol : Protocol) where
 
   -- ---- the events of a controlled run, one step after another
 
-  -- the end of the run, where it is told behind some events
+  -- the end of the run, where it is printed behind some events
   abbrev pub end_behind : List Entry → Cell → List ℕ
   end_behind [] end = []
   end_behind (e ∷ entries) end = end_part [] end.last (prints_end protocol p end)
@@ -160,10 +160,10 @@ module _ (p : PlannedShop) (protocol : Protocol) where
   nothing_led _ end _ _ (refused c r rs es last cannot leads) none = nothing_led c end rs es leads none
   nothing_led _ end _ _ (accepted c r js rs es last step leads) none = absurd (cc)
 
-  -- while reports are possible the end isn't told
+  -- while reports are possible the end isn't printed
   module _ (On : Cell → Type 0) (keeps : (c : Cell) (r : reports.Report) (js : List ℕ) → On c → IsStep p c r js → On (after_step p c r js))
       (goes : (c : Cell) (r : reports.Report) → On c → CanReport p c r → prints_end protocol p c ≡ false) where
-    -- so it is told behind the last step
+    -- so it is printed behind the last step
     end_in_turn : (c end : Cell) (rs : List reports.Report) (later : List Entry) (rest : List Bool) (t : ℕ) → On c → Leads p c rs (events_of later) end → c.last ≡ t
         → replay_lines p protocol c later rest ++ end_part [] end.last (prints_end protocol p end) ≡ end_part [] t (prints_end protocol p c) ++ (replay_lines p protocol c later rest ++ end_behind later end)
     end_in_turn c end rs [] rest t on leads now =

@@ -32,7 +32,7 @@ same_answer false false one other = refl
 same_answer true false one other = absurd (false≢true (other.1 (one.0 refl)))
 same_answer false true one other = absurd (false≢true (one.1 (other.0 refl)))
 
--- the lines tell one list of entries
+-- the lines record one list of entries
 found_again : (p : PlannedShop) (entries : List Entry) (done : Bool) (last left : ℕ) (text : List ℕ) (audit : Audit)
     → LinesParse p (lines_of text) entries → IsSoFar p entries done last left → IsAudit p (lines_of text) audit
     → IsFoundAgain p entries done last left audit
@@ -56,7 +56,7 @@ pub found_where : (p : PlannedShop) (entries : List Entry) (done : Bool) (last l
 found_where p entries done last left text (Ok audit) parses so_far kept only = found_again p entries done last left text audit parses so_far kept
 found_where p entries done last left text (Err fault) parses so_far kept only = only
 
--- what was appended to bytes that are told
+-- what was appended to bytes that are known
 pub appended : (before after : Option (List ℕ)) (start text out : List ℕ) → before ≡ Some start → after ≡ Some (start ++ text) → Appends before after out → start ++ text ≡ start ++ out
 appended before after start text out from to wrote = subst (λ o. Appends o (Some (start ++ text)) out) from (subst (λ o. Appends before o out) to wrote)
 

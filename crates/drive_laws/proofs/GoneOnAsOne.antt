@@ -1,4 +1,4 @@
--- A run that is taken up by its own plan goes on as one run.
+-- A run that is recovered by its own plan goes on as one run.
 use Rattle.std.proofs.Common.{◌≡◌, ℕ, List, ◌++◌, map, length, None, refl, sym, ap, ap₂, ◌∙◌, subst, arith, append_assoc}
 use Rattle.shop_base.specs.declared.move_order.MoveOrder.{MoveOrder}
 use Rattle.shop_base.specs.declared.report.Report.{Report}
@@ -41,7 +41,7 @@ run_so_far p entries end shaped run led = subst (IsRunOf p) (sym led.entries) (r
 pub it_is_one_so_far : ItIsOneSoFar
 it_is_one_so_far p protocol entries number lines text end shaped run all = run_so_far p entries end shaped run (protocol_answers_lead p protocol lines (driven_so_far p entries) end number text all)
 
--- ---- taken up
+-- ---- recovered
 
 module _ (p : PlannedShop) (recovered : Recovered) (is : IsRecoveredByItsPlan p recovered) where
   shaped_there : IsWellShaped p

@@ -1,4 +1,4 @@
--- What a run that was taken up writes in version 2 of the lines only adds to what it writes in version 1.
+-- What a run that was recovered writes in version 2 of the lines only adds to what it writes in version 1.
 use Rattle.std.proofs.Common.{◌≡◌, ℕ, List, [], ◌∷◌, ◌++◌, Bool, true, false, cond, Option, None, length, take, drop, refl, sym, ap, ◌∙◌, subst, append_assoc, append-nil}
 use Rattle.shop_base.specs.declared.report.Report.{Report}
 use Rattle.shop_base.specs.Plan.{PlannedShop}
@@ -48,7 +48,7 @@ plain_entries (OrderEntry order ∷ entries) more others plain =
     (ordered order (rest ++ more) (rest ++ others) (plain_entries entries more others plain)))
 
 module _ (p : PlannedShop) (max_gap : Option ℕ) (from : ℕ) where
-  -- those that are told again, and what stands behind them
+  -- those that are written again, and what stands behind them
   plain_again : (c : Cell) (entries : List Entry) (late : List Bool) (more others : List ℕ) → IsPlainText more others
       → IsPlainText (replay_lines p (in_version true max_gap from) c entries late ++ more) (plain_lines entries late ++ others)
   plain_again c [] late more others plain = plain

@@ -1,4 +1,4 @@
--- In a run whose reports tell what has ended, each order is right.
+-- In a run whose reports say what has ended, each order is right.
 use Rattle.std.proofs.Common.{◌≡◌, ℕ, ◌-◌, ◌<◌, ◌≤◌, List, [], ◌∷◌, ◌++◌, length, true, false, ◌⊎◌, inl, inr, sym, ap, ◌∙◌, subst, arith}
 use Rattle.std.proofs.lemmas.Bool.{cases_eq, cases_Bool, false≢true}
 use Rattle.shop_base.specs.declared.job_state.JobState.{JobState}
@@ -62,7 +62,7 @@ module _ (floor : Floor) (p : PlannedShop) (shaped : IsWellShaped p) where
           absurd (false≢true (sym idle ∙ sym (ap (λ (x : JobState). x.ready) (change.others j other)) ∙ now))
   ended_own c (Cleaning m) due t j sound goes idle now = absurd (false≢true (sym idle ∙ now))
 
-  -- which is what a report of it tells
+  -- which is what a report of it records
   own_replayed : (c : Cell) (r : Report) (what : NamedEnd) (j : ℕ) → ReportsEnd p c r what → IsOwn c j (ended r) → what ≡ end_at j (source p c j)
   own_replayed c r (Arrived i) j parses (inl (is, out)) = let same : i ≡ j = cc in ap Arrived same ∙ ap (end_at j) (sym out)
   own_replayed c r (Arrived i) j parses (inr (m, is, at)) = absurd (cc)

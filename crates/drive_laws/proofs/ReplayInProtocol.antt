@@ -1,4 +1,4 @@
--- What is told again of a log is what was answered, in version 1 of the lines and in any manner.
+-- What is written again of a log is what was answered, in version 1 of the lines and by any protocol.
 use Rattle.std.proofs.Common.{◌≡◌, ◌==◌, ◌&&◌, ◌⊎◌, ℕ, ◌+◌, ◌-◌, Bool, true, false, List, [], ◌∷◌, ◌++◌, Option, length, take, drop, inl, inr, refl, sym, ap, ◌∙◌, subst, arith, append-nil}
 use Rattle.std.proofs.lemmas.Bool.{cases_Bool, eqb-true}
 use Rattle.shop_base.specs.declared.report.Report.{Report}
@@ -33,9 +33,9 @@ use Rattle.drive_laws.proofs.AnsweredAgain.{end_behind, answered_again}
 use Rattle.cell_drive.proofs.ReplayLines.{plain_replay}
 use Rattle.drive_laws.proofs.Plainly.{plainly_as_ever}
 
--- ---- in any manner
+-- ---- by any protocol
 
--- the end isn't told where reports are left
+-- the end isn't printed where reports are left
 not_ended : (version_2 : Bool) (left n : ℕ) → left ≡ n + 1 → version_2 && (left == 0) ≡ false
 not_ended version_2 left n some = go version_2 (cases_Bool (left == 0))
   where

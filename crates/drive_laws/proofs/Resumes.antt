@@ -1,4 +1,4 @@
--- What a run that was taken up goes on to write is a log.
+-- What a run that was recovered goes on to write is a log.
 use Rattle.std.proofs.Common.{◌≡◌, ℕ, ◌≤◌, List, [], ◌∷◌, ◌++◌, take, drop, map, Option, Bool, length, length-take-le, None, ◌⊎◌, inl, inr, refl, sym, ap, ◌∙◌, subst, arith, append_assoc, append-nil}
 use Rattle.std.proofs.KnownBytes.{Appends-trans}
 use Rattle.std.proofs.lemmas.List.{take-append-drop}
@@ -65,7 +65,7 @@ module _ (p : PlannedShop) (shaped : IsWellShaped p) where
       (run_parses (after p c (Moved o)) entries (after_move-sound p c o.job o.at shaped sound events.0.0.can events.0.1) events.1)
 
 module _ (p : PlannedShop) (shaped : IsWellShaped p) (protocol : Protocol) where
-  -- the lines of events that are told again, and an empty line and those of others behind them
+  -- the lines of events that are written again, and an empty line and those of others behind them
   replay_parses : (c : Cell) (recorded : List Entry) (late : List Bool) (rest : List Entry) → length recorded ≡ length late → IsSound p c → AreEvents p c (events_of (recorded ++ rest))
       → ParsesFirst p (replay_lines p protocol c recorded late ++ (10 ∷ entry_lines rest)) (recorded ++ rest)
   replay_parses c [] late rest same sound events = parses_both p (10 ∷ []) (entry_lines rest) [] rest (empty_line p) (run_parses p shaped c rest sound events)
@@ -90,7 +90,7 @@ module _ (p : PlannedShop) (shaped : IsWellShaped p) (protocol : Protocol) where
       subst (λ (es : List Entry). ParsesFirst p (again_text p protocol entries late) es) parts
       (replay_parses (start p) (take (length late) entries) late (drop (length late) entries) (length-take-le (length late) entries few) (start-sound p shaped) (subst (λ (es : List Entry). AreEvents p (start p) (events_of es)) (sym parts) events))
 
--- a text that tells a run, and answers behind it, are a log
+-- a text that records a run, and answers behind it, are a log
 pub log_behind : (p : PlannedShop) (shaped : IsWellShaped p) (entries : List Entry) (again answers closing : List ℕ) (end : DrivenCell) → IsRun p (events_of entries) → ParsesFirst p again entries
     → AreParsed p shaped (driven_so_far p entries) answers end → (closing ≡ []) ⊎ CellCloses p end closing → IsLogOf p (again ++ (answers ++ closing)) end
 log_behind p shaped entries again answers closing end events first on closes =
@@ -154,7 +154,7 @@ one_resumed_text p protocol entries late input text other end last shaped run is
     let one = one_lines_text p protocol (input_lines input) (driven_so_far p entries) end last 1 is.answers also.answers (rests_on_course p entries shaped run) is.are_answers also.are_answers in
     (also.whole ∙ ap (λ (t : List ℕ). again_text p protocol entries late ++ t) (one_closed p end last is.answers also.answers is.closing also.closing is.is_closing also.is_closing one) ∙ sym is.whole, one.1)
 
--- ---- a run that was taken up
+-- ---- a run that was recovered
 
 -- its cell is that after its events, and at rest
 pub seen_from : (protocol : Protocol) (recovered : Recovered) → IsRecoveredRun recovered → seen (session_from protocol recovered) ≡ driven_so_far (plan_of recovered) recovered.log.entries
@@ -190,7 +190,7 @@ an_audit_keeps_what_was_resumed protocol recovered end before after start text o
     (a_resumed_text_is_a_log p protocol recovered.log.entries recovered.late is.streamed.input whole (seen is.end) is.from.kept.shaped (to_rest recovered is.from) is.from.within (resumed_text protocol recovered end before after is))
     (ap (λ (l : Noted). l.entries) (sym came_to.log)) came_to.so_far from to kept only
 
--- a cut of what it writes can be taken up again
+-- a cut of what it writes can be recovered again
 pub is_recoverable : (p : PlannedShop) (log : List (List ℕ)) (at : Option ℕ) (recovered : Recovered) (cut : List ℕ) (entries : List Entry) → IsRecovered p log at recovered → IsRunPrefix p cut entries
     → IsAcceptable p ⊎ (LinesParse p (ended_lines cut) [] → replayed_events recovered ≡ []) → IsRecoverable p (ended_lines cut) None
 is_recoverable p log at recovered cut entries up again which =
@@ -210,7 +210,7 @@ is_recoverable p log at recovered cut entries up again which =
     accepted (inr only) none =
         up.recovered_from.accepted (sym up.recovered_from.replayed_is ∙ only (subst (λ (es : List Entry). LinesParse p (ended_lines cut) es) none again.parses))
 
--- its events are a run to rest of the plan by which it was taken up
+-- its events are a run to rest of the plan by which it was recovered
 pub recovered_to_rest : (p : PlannedShop) (log : List (List ℕ)) (at : Option ℕ) (recovered : Recovered) → IsRecovered p log at recovered → IsWellShaped p × IsRunToRest p recovered.log.entries
 recovered_to_rest p log at recovered up =
     let from = up.recovered_from in (
@@ -226,7 +226,7 @@ what_was_resumed_is_recoverable p protocol log at recovered lines answers closin
     is_recoverable p log at recovered cut end.entries up
     (what_was_resumed_is_recovered p protocol recovered.log.entries recovered.late lines answers closing cut lost end to.0 to.1 up.recovered_from.run.within are closes whole) which
 
--- where steps of the controlled run lead on from the cell that was taken up, it goes on from the cell of its log
+-- where steps of the controlled run lead on from the cell that was recovered, it goes on from the cell of its log
 pub goes_on_from : (recovered : Recovered) (s : SessionState) (end : RestEnd) → IsRecoveredRun recovered → AreLed (plan_of recovered) (record { cell = recovered.control.cell; entries = recovered.log.entries }) (seen s) → IsRestEndOf (plan_of recovered) s end → GoesOnFrom recovered end
 goes_on_from recovered s end from led came_to =
     let p = plan_of recovered in

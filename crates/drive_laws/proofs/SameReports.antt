@@ -1,4 +1,4 @@
--- The reports that are accepted in a manner are answered as version 1 of the lines answers them.
+-- The reports that are accepted by a protocol are answered as version 1 of the lines answers them.
 use Rattle.std.proofs.Common.{◌≡◌, ℕ, ◌+◌, List, [], ◌∷◌, ◌++◌, map, codes, Option, Some, None, refl, sym, ap, ap₂, ◌∙◌, subst, inl, inr, append_assoc, append-nil}
 use Rattle.std.proofs.lemmas.List.{append_cancel_left}
 use Rattle.shop_base.specs.declared.move_order.MoveOrder.{MoveOrder}

@@ -1,4 +1,4 @@
--- Lines that claim what has ended lead to reports that tell it.
+-- Lines that claim what has ended lead to reports that say it.
 use Rattle.std.proofs.Common.{◌≡◌, ℕ, ◌+◌, List, [], ◌∷◌, ◌++◌, Option, Some, None, inl, inr, refl, sym, ap, ◌∙◌, subst, append_assoc, append-nil}
 use Rattle.shop_base.specs.declared.move_order.MoveOrder.{MoveOrder}
 use Rattle.shop_base.specs.Plan.{PlannedShop, IsWellShaped}
@@ -29,7 +29,7 @@ use Rattle.drive_laws.proofs.AcceptedOnce.{ends_named}
 use Rattle.drive_laws.proofs.OrderedRightly.{nothing_is_ordered_wrongly}
 
 module _ (floor : Floor) (p : PlannedShop) where
-  -- events that lead from one cell to another, and whose reports tell what has ended
+  -- events that lead from one cell to another, and whose reports say what has ended
   record GoTruly (c : Cell) (es : List Event) (end : Cell) : Type 0 where
     happen : AreEvents p c es
     tell : AreTrue floor p c es

@@ -151,7 +151,7 @@ module _ (p : PlannedShop) where
         go (inl none) again = absurd (cc)
         go (inr first) again = found first again
 
--- the run of the events that a log told
+-- the run of the events that a log recorded
 pub run_of_cut : (p : PlannedShop) (recorded : List Entry) (due : List MoveOrder) (lines : List (List ℕ)) → IsWellShaped p → IsCutLog p lines recorded due → IsRun p (events_of recorded)
 run_of_cut p recorded due lines shaped log =
     front_events p (start p) (events_of recorded) (moved due) (subst (IsRun p) (due_events recorded due) (controlled_to_run p _ _ _ shaped log.run).0)

@@ -1,4 +1,4 @@
--- In every run the numbers that are told of a cell are short.
+-- In every run the numbers that are printed of a cell are short.
 use Rattle.std.proofs.Common.{◌≡◌, ℕ, zero, suc, ◌+◌, ◌-◌, ◌<◌, ◌≤◌, nat_lt, length, Bool, true, false, cond, Option, Some, None, inl, inr, ltb-true, refl, sym, ap, subst, arith}
 use Rattle.std.proofs.lemmas.Bool.{cases_lt}
 use Rattle.std.proofs.lemmas.List.{length-append, length-map}

@@ -1,4 +1,4 @@
--- The law that the events of a log of a controlled run are told once more as they were answered.
+-- The law that the events of a log of a controlled run are written once more as they were answered.
 use Rattle.std.specs.Prelude.{◌≡◌, ℕ, List, [], ◌∷◌, ◌++◌, Bool, Option, Some, length, take, drop}
 use Rattle.shop_base.specs.Plan.{PlannedShop, IsWellShaped}
 use Rattle.shop_base.specs.Cell.{Cell, start}
@@ -28,13 +28,13 @@ AreReportLines lines [] = lines ≡ []
 AreReportLines lines (ReportEntry report ∷ entries) = (line : List ℕ) × (rest : List (Option (List ℕ))) × IsReportLine line report × AreReportLines rest entries × (lines ≡ Some line ∷ rest)
 AreReportLines lines (OrderEntry order ∷ entries) = AreReportLines lines entries
 
--- what is told once more of a log of a controlled run and the orders that are due, without the mark between them, is what `drive` answers to the reports of the log
+-- what is written once more of a log of a controlled run and the orders that are due, without the mark between them, is what `drive` answers to the reports of the log
 abbrev pub ReplayAsAnswered : Type 0
 ReplayAsAnswered = (p : PlannedShop) (log : List (List ℕ)) (entries : List Entry) (late : List Bool) (lines : List (Option (List ℕ)))
     → IsCutLogOf p log entries (length late) → AreLate p (start p) (take (length late) entries) late → AreReportLines lines entries
     → AreAnswersTo p lines (plain_lines (take (length late) entries) late ++ entry_lines (drop (length late) entries)) (driven_so_far p entries)
 
--- the lines of an input claim the reports among these events, one after another and nothing else, each so that it is taken in a manner, from this cell on
+-- the lines of an input claim the reports among these events, one after another and nothing else, each so that it is taken by a protocol, from this cell on
 abbrev pub AreClaimLines : PlannedShop → Protocol → Cell → List (Option (List ℕ)) → List Entry → Type 0
 AreClaimLines p protocol c lines [] = lines ≡ []
 AreClaimLines p protocol c lines (ReportEntry report ∷ entries) =
@@ -42,11 +42,11 @@ AreClaimLines p protocol c lines (ReportEntry report ∷ entries) =
     × AreClaimLines p protocol (after p c (event_of (ReportEntry report))) rest entries × (lines ≡ Some line ∷ rest)
 AreClaimLines p protocol c lines (OrderEntry order ∷ entries) = AreClaimLines p protocol (after p c (event_of (OrderEntry order))) lines entries
 
--- `done T`, where these events have ended the run, and that is told at once
+-- `done T`, where these events have ended the run, and that is printed at once
 abbrev pub end_behind_log : PlannedShop → Protocol → List Entry → List ℕ
 end_behind_log p protocol entries = end_part [] (cell_after p entries).last (prints_end protocol p (cell_after p entries))
 
--- so it is in each manner, with `done T` at once behind it where that is answered
+-- so it is by each protocol, with `done T` at once behind it where that is answered
 abbrev pub ReplayInProtocol : Type 0
 ReplayInProtocol = (p : PlannedShop) (protocol : Protocol) (log : List (List ℕ)) (entries : List Entry) (late : List Bool) (lines : List (Option (List ℕ))) → IsWellShaped p
     → IsCutLogOf p log entries (length late) → AreLate p (start p) (take (length late) entries) late → AreClaimLines p protocol (start p) lines entries

@@ -25,7 +25,7 @@ abbrev pub AskInVersion1 : List (Option (List ℕ)) → Type 0
 AskInVersion1 [] = Unit {0}
 AskInVersion1 (line ∷ lines) = AsksInVersion1 line × AskInVersion1 lines
 
--- a text of version 2, and the same without what it adds: no number of a cell stands before a refusal, nothing behind its name or the moment of a late report, and no end is told at once
+-- a text of version 2, and the same without what it adds: no number of a cell stands before a refusal, nothing behind its name or the moment of a late report, and no end is printed at once
 pub data IsPlainCellsText : List ℕ → List ℕ → Type 0 where
   nothing_more : IsPlainCellsText [] []
   refused : (number : ℕ) (name text other : List ℕ) → IsPlainCellsText text other → IsPlainCellsText (refused_line number name ++ text) (refused_line number name ++ other)

@@ -53,7 +53,7 @@ AreRight floor p es = (before later : List Event) (o : MoveOrder) → es ≡ bef
 
 -- ---- what is reported
 
--- the report tells what has ended by its moment
+-- the report says what has ended by its moment
 abbrev pub IsTrueReport : Floor → PlannedShop → Cell → Report → Type 0
 IsTrueReport floor p c r = (ended : NamedEnd) × ReportsEnd p c r ended × HasEndedBy floor ended (at r)
 

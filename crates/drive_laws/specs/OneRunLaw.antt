@@ -1,4 +1,4 @@
--- The law that a run which is taken up by its own plan goes on as one run.
+-- The law that a run which is recovered by its own plan goes on as one run.
 use Rattle.std.specs.Prelude.{◌≡◌, ◌⊎◌, ℕ, List, [], ◌++◌, Option, None}
 use Rattle.shop_base.specs.declared.move_order.MoveOrder.{MoveOrder}
 use Rattle.shop_base.specs.Plan.{PlannedShop, IsWellShaped}
@@ -15,7 +15,7 @@ use Rattle.cell_drive.specs.Recovered.{Recovered, IsRecovered}
 use Rattle.cell_drive.specs.Resuming.{again_text, driven_so_far, GoesOnFrom}
 use Rattle.cell_drive.specs.ProtocolText.{ProtocolAnswers}
 
--- a run was taken up by its own plan: from the log of a controlled run of that, which may be cut, and without a moment
+-- a run was recovered by its own plan: from the log of a controlled run of that, which may be cut, and without a moment
 pub record IsRecoveredByItsPlan (p : PlannedShop) (recovered : Recovered) : Type 0 where
   pub lines : List (List ℕ)
   pub recorded : List Entry
@@ -29,7 +29,7 @@ pub record IsRecoveredByItsPlan (p : PlannedShop) (recovered : Recovered) : Type
 abbrev pub ItIsRecoveredAsOne : Type 0
 ItIsRecoveredAsOne = (p : PlannedShop) (recovered : Recovered) → IsRecoveredByItsPlan p recovered → IsRunOf p recovered.log.entries
 
--- behind a controlled run all that is answered, in any manner, makes it longer
+-- behind a controlled run all that is answered, by any protocol, makes it longer
 abbrev pub ItIsOneSoFar : Type 0
 ItIsOneSoFar = (p : PlannedShop) (protocol : Protocol) (entries : List Entry) (number : ℕ) (lines : List (Option (List ℕ))) (text : List ℕ) (end : DrivenCell) → IsWellShaped p → IsRunOf p entries
     → AnswerAll (ProtocolAnswers p protocol) (driven_so_far p entries) number lines text end → IsRunOf p end.entries
@@ -44,7 +44,7 @@ ItStaysAsPromised = (v : VerifiedPlan) (recovered : Recovered) (end : RestEnd) �
 
 -- ---- its log, cut again
 
--- where lines tell the first events of a controlled run, the orders that are due are the next
+-- where lines record the first events of a controlled run, the orders that are due are the next
 abbrev pub TheFirstEventsHaveTheirOrders : Type 0
 TheFirstEventsHaveTheirOrders = (p : PlannedShop) (log : List ℕ) (entries : List Entry) → IsWellShaped p → IsRunOf p entries → IsRunPrefix p log entries → IsCutFrom p log entries
 

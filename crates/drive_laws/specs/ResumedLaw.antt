@@ -1,4 +1,4 @@
--- The laws of runs that were taken up.
+-- The laws of runs that were recovered.
 use Rattle.std.specs.Prelude.{◌≡◌, ℕ, List, ◌∷◌, ◌++◌, Bool, true, false, Option, Some}
 use Rattle.shop_base.specs.declared.report.Report.{Report}
 use Rattle.shop_base.specs.Plan.{PlannedShop, IsWellShaped}
@@ -22,7 +22,7 @@ NothingOfALogIsAcceptedAgain = (p : PlannedShop) (protocol : Protocol) (before a
     → IsWellShaped p → IsRunToRest p (before ++ ReportEntry report ∷ after) → ReportsEnd p (cell_after p before) report ended
     → AnswerAll (ProtocolAnswers p protocol) (driven_so_far p (before ++ ReportEntry report ∷ after)) number lines text end → named again ≡ Some ended → CanClaim p end.cell again → ⊥
 
--- where the lines are those that version 1 has, what is written in version 1 is what is written in version 2 without what that adds, from the events that are told again on
+-- where the lines are those that version 1 has, what is written in version 1 is what is written in version 2 without what that adds, from the events that are written again on
 abbrev pub ResumingOnlyAdds : Type 0
 ResumingOnlyAdds = (p : PlannedShop) (max_gap : Option ℕ) (from : ℕ) (entries : List Entry) (late : List Bool) (lines : List (Option (List ℕ))) (text : List ℕ) (end : DrivenCell) → AreOfVersion1 lines
     → AnswerAll (ProtocolAnswers p (in_version true max_gap from)) (driven_so_far p entries) 1 lines text end

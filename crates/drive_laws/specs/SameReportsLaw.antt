@@ -1,4 +1,4 @@
--- The law that the reports which are accepted in a manner are answered as version 1 of the lines answers them.
+-- The law that the reports which are accepted by a protocol are answered as version 1 of the lines answers them.
 use Rattle.std.specs.Prelude.{◌≡◌, ℕ, List, [], ◌++◌, Bool, Option}
 use Rattle.shop_base.specs.declared.move_order.MoveOrder.{MoveOrder}
 use Rattle.shop_base.specs.declared.report.Report.{Report}
@@ -20,7 +20,7 @@ use Rattle.cell_drive.specs.ProtocolText.{ProtocolAnswers, acceptance_lines}
 use Rattle.cell_drive.specs.ProtocolCellsLaw.{SeesLines}
 use Rattle.drive_laws.specs.AnswerLaw.{AreReportLines}
 
--- a text of answers, and the same without refusals and states, without what stands behind the moment of a late report, and without an end that is told at once
+-- a text of answers, and the same without refusals and states, without what stands behind the moment of a late report, and without an end that is printed at once
 pub data KeepsReports (p : PlannedShop) : List ℕ → List ℕ → Type 0 where
   nothing_more : KeepsReports p [] []
   refused : (number : ℕ) (name : List ℕ) (detail : Detail) (text other : List ℕ) → IsSpaceless name → KeepsReports p text other → KeepsReports p (refused_detail_line number name detail ++ text) other
@@ -28,7 +28,7 @@ pub data KeepsReports (p : PlannedShop) : List ℕ → List ℕ → Type 0 where
   accepted : (report : Report) (late : Bool) (overdue : Option Overdue) (orders : List MoveOrder) (ended : Bool) (text other : List ℕ) → KeepsReports p text other
       → KeepsReports p (acceptance_lines [] report late overdue orders ended ++ text) (accepted_lines [] report late orders ++ other)
 
--- let lines be answered in a manner, and let others be just the reports that were accepted. To these version 1 answers the same lines of reports and orders, and comes to the same cell, with the same events
+-- let lines be answered by a protocol, and let others be just the reports that were accepted. To these version 1 answers the same lines of reports and orders, and comes to the same cell, with the same events
 abbrev pub TheSameReportsAreAnsweredSo : Type 0
 TheSameReportsAreAnsweredSo = (p : PlannedShop) (protocol : Protocol) (number first : ℕ) (lines reports : List (Option (List ℕ))) (text : List ℕ) (start end : DrivenCell) (more : List Entry)
     → AnswerAll (ProtocolAnswers p protocol) start number lines text end → end.entries ≡ start.entries ++ more → AreReportLines reports more

@@ -50,7 +50,7 @@ IsShortStanding (Gone job at) = IsShort job × IsMoment at
 IsShortStanding (Cleaned machine job since due) = IsShort machine × IsShort job × IsMoment since × IsMoment due
 IsShortStanding (Clean machine) = IsShort machine
 
--- and with those that are told of a refusal
+-- and with those that are printed of a refusal
 abbrev pub IsShortDetail : Detail → Type 0
 IsShortDetail Nothing = Unit {0}
 IsShortDetail (Last at) = IsMoment at
@@ -75,12 +75,12 @@ abbrev pub StandingsAreShort : Type 0
 StandingsAreShort = (p : PlannedShop) (entries : List Entry) → IsWellShaped p → IsRun p (events_of entries)
     → ((j : ℕ) → j < jobs p → IsShortStanding (job_standing p (cell_after p entries) j)) × ((m : ℕ) → m < machines p → IsShortStanding (machine_standing p (cell_after p entries) m))
 
--- and those that are told of a refusal
+-- and those that are printed of a refusal
 abbrev pub DetailsAreShort : Type 0
 DetailsAreShort = (p : PlannedShop) (protocol : Protocol) (entries : List Entry) (claim : Claim) (refusal : Refusal) → IsWellShaped p → IsRun p (events_of entries) → protocol.from ≤ MAX_MOMENT
     → IsRefusal protocol p (cell_after p entries) claim refusal → IsShortDetail (refusal_detail protocol p (cell_after p entries) (claimed claim) refusal)
 
--- and those that are told to be overdue as a report comes
+-- and those that are printed as overdue as a report comes
 abbrev pub OverdueIsShort : Type 0
 OverdueIsShort = (p : PlannedShop) (entries : List Entry) (report : Report) (overdue : Overdue) → IsWellShaped p → IsRun p (events_of entries) → CanReport p (cell_after p entries) report
     → overdue_in p (cell_after p entries) (standing_of p (cell_after p entries) report) (at report) ≡ Some overdue → IsMoment (at report) × IsShortStanding overdue.first × IsShort overdue.others

@@ -25,7 +25,7 @@ abbrev pub AreOfVersion1 : List (Option (List ℕ)) → Type 0
 AreOfVersion1 [] = Unit {0}
 AreOfVersion1 (line ∷ lines) = IsOfVersion1 line × AreOfVersion1 lines
 
--- a text of version 2, and the same without what it adds: nothing stands behind the name of a refusal or the moment of a late report, and the end isn't told at once
+-- a text of version 2, and the same without what it adds: nothing stands behind the name of a refusal or the moment of a late report, and the end isn't printed at once
 pub data IsPlainText : List ℕ → List ℕ → Type 0 where
   nothing_more : IsPlainText [] []
   refused : (number : ℕ) (name : List ℕ) (detail : Detail) (text other : List ℕ) → IsPlainText text other → IsPlainText (refused_detail_line number name detail ++ text) (refused_line number name ++ other)

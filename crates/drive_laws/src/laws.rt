@@ -1,5 +1,5 @@
-//! The laws of answer texts, and of runs that are taken up. Two of them join the two ends of the program: they speak of
-//! what `drive` and `resume` promise of their success, and of what `audit` promises.
+//! The laws of answer texts, and of runs that are recovered. Two of them join the two ends of the program: they speak
+//! of what `drive` and `resume` promise of their success, and of what `audit` promises.
 
 // Nothing is done here: a function's contract is the law, so a check of this crate proves it.
 
@@ -16,7 +16,8 @@ ghost use Rattle.cell_drive.specs.ProtocolLaw.{AnAuditKeepsWhatWasDriven, Plainl
 ghost use Rattle.cell_drive.specs.ProtocolLaw.{NothingIsAcceptedTwice, NothingOfARunIsClaimedAgain};
 ghost use Rattle.cell_drive.specs.ProtocolLaw.{ALateReportFindsSomethingOverdue};
 ghost use Rattle.drive_laws.specs.AnswerLaw.{ReplayAsAnswered, ReplayInProtocol};
-ghost use Rattle.drive_laws.specs.OneRunLaw.{ItIsRecoveredAsOne, ItIsOneSoFar, ADrivenRunGoesOnAsOne, ItStaysAsPromised};
+ghost use Rattle.drive_laws.specs.OneRunLaw.{ItIsRecoveredAsOne, ItIsOneSoFar};
+ghost use Rattle.drive_laws.specs.OneRunLaw.{ADrivenRunGoesOnAsOne, ItStaysAsPromised};
 ghost use Rattle.drive_laws.specs.OneRunLaw.{TheFirstEventsHaveTheirOrders, WhatWasResumedHasItsOrders};
 ghost use Rattle.drive_laws.specs.CellsAlone.{EachCellIsAsAlone};
 ghost use Rattle.drive_laws.specs.CellsVersionsLaw.{Version2OnlyAddsForCells};
@@ -35,10 +36,10 @@ ghost use Rattle.drive_laws.specs.VersionsLaw.{Version2OnlyAdds};
 
 pub use byte_streams::laws::the_limits_of_an_input_in_numbers;
 
-/// For a well-shaped plan, and in each manner in which a cell can be driven, an input has one answer text at most,
+/// For a well-shaped plan, and by each protocol by which a cell can be driven, an input has one answer text at most,
 /// which leads to one cell with one list of events; and so have its first lines. So what is written depends on the
-/// plan, the manner and the bytes of the input, and not on the pieces in which these come. What a session has answered
-/// is such a text.
+/// plan, the protocol and the bytes of the input, and not on the pieces in which these come. What a session has
+/// answered is such a text.
 #[tactic(auto, using(crate::proofs::LawProofs::of_one_answer_text))]
 pub fn one_answer_text()
     ensures whole { OneAnswerText }
@@ -46,7 +47,7 @@ pub fn one_answer_text()
     ensures driven { ASessionAnswersSo }
 {}
 
-/// The same of an input of several cells, each of an accepted plan, in each manner: one text at most, which leads to
+/// The same of an input of several cells, each of an accepted plan, by each protocol: one text at most, which leads to
 /// one list of what the cells hold.
 pub fn one_answer_text_of_cells()
     ensures whole { OneCellsText }
@@ -61,23 +62,23 @@ pub fn each_cell_is_as_alone()
     ensures { EachCellIsAsAlone }
 {}
 
-/// For a well-shaped plan the lines of an answer text, in any manner, record, in order, exactly the reports that were
+/// For a well-shaped plan the lines of an answer text, by any protocol, record, in order, exactly the reports that were
 /// accepted and the moves that were ordered. These are a run of the plan, which leads to the cell at the end.
 pub fn an_answer_text_is_a_log()
     ensures { AnAnswerTextIsALog }
 {}
 
-/// Let `drive` succeed, in any manner, into a writer whose bytes are known, and audit what it wrote against the same
+/// Let `drive` succeed, by any protocol, into a writer whose bytes are known, and audit what it wrote against the same
 /// plan. The only fault of the audit is `Memory`. The audit finds the events of the log, how many reports were accepted
 /// and moves ordered, the last moment, and `complete` exactly if driving was `done`.
 pub fn an_audit_keeps_what_was_driven()
     ensures { AnAuditKeepsWhatWasDriven }
 {}
 
-/// Cut the log of a run after any number of bytes. The ended lines of what is left tell the first events of that run.
-/// So it is with what a cell has written in any manner, from the start of its run or from where that was taken up; and
-/// what was taken up can be taken up again by the same plan, wherever the line of its first event is out, or the plan
-/// is an accepted one.
+/// Cut the log of a run after any number of bytes. The ended lines of what is left record the first events of that run.
+/// So it is with what a cell has written by any protocol, from the start of its run or from where that was recovered;
+/// and what was recovered can be recovered again by the same plan, wherever the line of its first event is out, or the
+/// plan is an accepted one.
 pub fn a_cut_log_is_recovered()
     ensures log { ACutLogIsRecovered }
     ensures driven { WhatWasDrivenIsRecovered }
@@ -85,9 +86,9 @@ pub fn a_cut_log_is_recovered()
     ensures again { WhatWasResumedIsRecoverable }
 {}
 
-/// Cut the log of a controlled run after any number of bytes, as one that `drive` writes in any manner. The events of
+/// Cut the log of a controlled run after any number of bytes, as one that `drive` writes by any protocol. The events of
 /// its ended lines, with the orders that are due, are the first events of that run. By an accepted plan what is left
-/// can be taken up; and if no present moment is given, it is taken up with just these orders.
+/// can be recovered; and if no present moment is given, it is recovered with just these orders.
 #[tactic(auto, using(crate::proofs::LawProofs::of_a_cut_log_has_its_orders))]
 pub fn a_cut_log_has_its_orders()
     ensures log { ACutLogHasItsOrders }
@@ -98,35 +99,35 @@ pub fn a_cut_log_has_its_orders()
 
 /// Let a log be that of a controlled run, and let the lines of an input be the reports of that run, one after another.
 /// The events that are written again, and then the orders that are due, are what `drive` answers to those lines. The
-/// mark between them isn't. So it is in each manner in which those lines are recovered, where a cleaning may be
-/// reported by its job; but `done T`, which the manner may ask for at once behind the last order of a run, isn't
+/// mark between them isn't. So it is by each protocol by which those lines are accepted, where a cleaning may be
+/// reported by its job; but `done T`, which the protocol may ask for at once behind the last order of a run, isn't
 /// written again.
 pub fn replay_as_answered()
     ensures plain { ReplayAsAnswered }
     ensures stated { ReplayInProtocol }
 {}
 
-/// For a well-shaped plan, and in each manner, an input has one text that answers it after what was taken up, which
+/// For a well-shaped plan, and by each protocol, an input has one text that answers it after what was recovered, which
 /// leads to one cell with one list of events. What `resume` writes, if it succeeds, is that text for what it read.
 pub fn one_resumed_text()
     ensures one { OneResumedText }
     ensures resumed { WhatWasResumedIsSuchAText }
 {}
 
-/// A log is taken up in one way: by a plan, and at a present moment, as one cell with one list of events, of which the
-/// same are told as late. So an input has one text that answers it from there, in each manner.
+/// A log is recovered in one way: by a plan, and at a present moment, as one cell with one list of events, of which the
+/// same are printed as late. So an input has one text that answers it from there, by each protocol.
 pub fn one_recovery()
     ensures one { OneRecovery }
     ensures text { OneTextFromALog }
 {}
 
-/// Let a log tell no event, and be taken up without a present moment. What is written to answer an input is then an
-/// empty line and, behind that, what `drive` answers, in each manner.
+/// Let a log record no event, and be recovered without a present moment. What is written to answer an input is then an
+/// empty line and, behind that, what `drive` answers, by each protocol.
 pub fn a_log_without_events_is_driven()
     ensures { ALogWithoutEventsIsDriven }
 {}
 
-/// What a run that was taken up writes is by itself a log of the whole run. Let `resume` succeed, into a writer whose
+/// What a run that was recovered writes is by itself a log of the whole run. Let `resume` succeed, into a writer whose
 /// bytes are known, and audit what it wrote against the same plan. The only fault of the audit is `Memory`. The audit
 /// finds the events of the log, and is complete exactly if driving was done.
 pub fn an_audit_keeps_what_was_resumed()
@@ -134,18 +135,18 @@ pub fn an_audit_keeps_what_was_resumed()
     ensures audit { AnAuditKeepsWhatWasResumed }
 {}
 
-/// After the events of its log, a run that was taken up is the controlled run that goes on from their cell, at the
+/// After the events of its log, a run that was recovered is the controlled run that goes on from their cell, at the
 /// present moment. So each law of the rest of a run holds of it: it is never stuck, ends after exactly the reports that
 /// were left, and keeps to the moments kept for it.
 pub fn what_was_resumed_goes_on()
     ensures { WhatWasResumedGoesOn }
 {}
 
-/// Let a run be taken up by its own plan, with no moment given, from the log of a controlled run, which may be cut
+/// Let a run be recovered by its own plan, with no moment given, from the log of a controlled run, which may be cut
 /// after any number of bytes. All its events are then one controlled run: those of the log, the orders that were due
 /// and what comes behind them, after each line and at the end. So by an accepted plan all stays as that promises, with
 /// its own budgets, as if the run had never been cut. Cut what is written after any number of bytes, and it has the
-/// orders that are due again, as the log had. So have any lines that tell the first events of the run, as those of a
+/// orders that are due again, as the log had. So have any lines that record the first events of the run, as those of a
 /// log file do.
 pub fn a_driven_run_goes_on_as_one()
     ensures run { ADrivenRunGoesOnAsOne }
@@ -156,16 +157,16 @@ pub fn a_driven_run_goes_on_as_one()
     ensures first { TheFirstEventsHaveTheirOrders }
 {}
 
-/// Let cells by accepted plans answer any lines in a manner. Each of them answers what the lines ask of it as it would
-/// alone, whatever they ask of the others: these events are the controlled run of some reports, through which all stays
-/// as the plan promises, and which has ended exactly where as many reports were accepted as the stated number.
+/// Let cells by accepted plans answer any lines by a protocol. Each of them answers what the lines ask of it as it
+/// would alone, whatever they ask of the others: these events are the controlled run of some reports, through which all
+/// stays as the plan promises, and which has ended exactly where as many reports were accepted as the stated number.
 #[tactic(auto, using(crate::proofs::ProtocolAlone::protocol_alone))]
 pub fn each_protocol_cell_is_alone()
     ensures { EachProtocolCellIsAlone }
 {}
 
 /// In version 1 of the lines, and with no moment that leaps, each line is answered as `drive` answers it, and by
-/// several cells as `hub` answers it. In version 1 the events of a log are told again as ever.
+/// several cells as `hub` answers it. In version 1 the events of a log are written again as ever.
 #[tactic(auto, using(crate::proofs::LawProofs::of_plainly_as_ever))]
 pub fn plainly_as_ever()
     ensures answered { PlainlyAsEver }
@@ -176,8 +177,8 @@ pub fn plainly_as_ever()
 /// Lines among which there is neither `status` nor `clean M J T` lead in both versions to the same cell, with the same
 /// events. The answers of version 1 are those of version 2 without what stands after a refusal's name or a late
 /// report's moment, and without the `done` that comes at once. So it is with what `resume` writes, from the first event
-/// that it tells again, and with what several cells answer, of whose refusals version 1 doesn't tell their numbers
-/// either. Whatever the lines are, in any manner, from the start or after a log: what version 1 answers to just the
+/// that it writes again, and with what several cells answer, of whose refusals version 1 doesn't say their numbers
+/// either. Whatever the lines are, by any protocol, from the start or after a log: what version 1 answers to just the
 /// reports that were accepted leads to the same cell, with the same events. It is what was answered to the lines,
 /// without refusals and states, what stands after a late report's moment, and the `done` that comes at once. Each of
 /// several cells has the same events, too.
@@ -192,7 +193,7 @@ pub fn version_2_only_adds()
 
 /// However often the lines of an arrival, of a finish or of a cleaning after a job are sent to a driven cell, and with
 /// whatever moments, it takes one of them at most. Once there is such a report in a run, it takes none: so in the run
-/// of each cell of a hub, and in one that was taken up from a log.
+/// of each cell of a hub, and in one that was recovered from a log.
 pub fn nothing_is_accepted_twice()
     ensures driven { NothingIsAcceptedTwice }
     ensures run { NothingOfARunIsClaimedAgain }
@@ -204,7 +205,7 @@ pub fn nothing_is_accepted_twice()
 /// order, and with any moment from its end on; `clean M T`, which names no job, it doesn't send. Then each order so far
 /// is right. What its job did where it stands has ended, each job that was ordered onto the same machine before has
 /// been ordered away from it, and the cleaning after each of these has ended, if there is one; and no later than at the
-/// moment of the order. So it is in any run whose reports tell what has ended, in one that was taken up from the log of
+/// moment of the order. So it is in any run whose reports say what has ended, in one that was recovered from the log of
 /// such a run, and in each cell of a hub. That parts stand where they were ordered to is up to the floor.
 #[tactic(auto, using(crate::proofs::LawProofs::of_nothing_is_ordered_wrongly))]
 pub fn nothing_is_ordered_wrongly()
@@ -223,7 +224,7 @@ pub fn a_state_leaves_nothing_out()
 
 /// A line of version 2 has at most 128 bytes, with a number of a cell before it: that of what is under way, of a
 /// refusal by the number of one of the first 99,999,999 lines, and of a late report. The numbers of jobs and machines
-/// have at most three digits, those of moments thirteen. So it is with the numbers that are told in any run of a
+/// have at most three digits, those of moments thirteen. So it is with the numbers that are printed in any run of a
 /// well-shaped plan: of its jobs and machines, of refusals, and of what is overdue. No input has a line of a higher
 /// number.
 #[tactic(auto, using(crate::proofs::LawProofs::of_lines_of_version_2_are_short))]

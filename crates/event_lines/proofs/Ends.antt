@@ -1,4 +1,4 @@
--- Which words tell what has ended, and which tell no event.
+-- Which words say what has ended, and which no event.
 use Rattle.std.proofs.Common.{◌≡◌, ◌≢◌, ℕ, false, true, nat_eq, List, [], ◌∷◌, ◌++◌, codes, eqb, ap}
 use Rattle.std.specs.List.{starts_with}
 use Rattle.std.proofs.lemmas.Bool.{eq-eqb}
@@ -55,7 +55,7 @@ no_spot_alone line out none (At machine) found = none machine found
 
 -- ---- events
 
--- a line with neither word first tells nothing
+-- a line with neither word first records nothing
 no_line : (line : List ℕ) → ((rest : List ℕ) → line ≢ codes "report " ++ rest) → ((rest : List ℕ) → line ≢ codes "order " ++ rest) → (entry : Entry) → IsEntryLine line entry → ⊥
 no_line line r o (ReportEntry report) found = let first = text_before line (codes "report") (moment (at report)) (end_words report) found in r first.0 first.1
 no_line line r o (OrderEntry order) found = let first = text_before line (codes "order") (moment order.at) (move_numbers order) found in o first.0 first.1
@@ -67,7 +67,7 @@ no_line-order line first none = no_line line (λ rest is. let other : starts_wit
 pub no_line-report : (line : List ℕ) → starts_with nat_eq line (codes "o") ≡ false → ((rest : List ℕ) → line ≢ codes "report " ++ rest) → (entry : Entry) → IsEntryLine line entry → ⊥
 no_line-report line first none = no_line line none (λ rest is. let other : starts_with nat_eq line (codes "o") ≡ true = ap (λ l. starts_with nat_eq l (codes "o")) is in cc)
 
--- a line that tells an entry isn't passed over
+-- a line that records an entry isn't passed over
 pub parsed-not_passed : (line : List ℕ) (entry : Entry) → IsEntryLine line entry → is_passed_over line ≡ false
 parsed-not_passed line (ReportEntry report) found = let first = text_before line (codes "report") (moment (at report)) (end_words report) found in ap is_passed_over first.1
 parsed-not_passed line (OrderEntry order) found = let first = text_before line (codes "order") (moment order.at) (move_numbers order) found in ap is_passed_over first.1

@@ -164,7 +164,7 @@ one_entry line (ReportEntry r) (OrderEntry o) is also = let same = all_both (spa
 one_entry line (OrderEntry o) (ReportEntry r) is also = let same = all_both (spaced_words line) (order_words o) (logged_words r) is also in absurd (unlike 114 111 _ _ refl same.0)
 one_entry line (OrderEntry o) (OrderEntry q) is also = ap OrderEntry (same_order o q (all_both (spaced_words line) (order_words o) (order_words q) is also))
 
--- a line tells one list of entries
+-- a line records one list of entries
 pub one_parse : (p : PlannedShop) (line : List ℕ) (a b : List Entry) → LineParses p line a → LineParses p line b → a ≡ b
 one_parse p line [] [] h k = refl
 one_parse p line [] (e ∷ []) h k = let other = k.0 in absurd (cc)
@@ -187,7 +187,7 @@ parse-more p [] line all own tells more = (own, [], more, refl, ap (λ es. es ++
 parse-more p (first ∷ lines) line all own tells more =
     (tells.0, tells.1 ++ own, tells.2, parse-more p lines line tells.1 own tells.3 more, ap (λ es. es ++ own) tells.4 ∙ append_assoc tells.0 tells.1 own)
 
--- what lines tell, in two parts
+-- what lines record, in two parts
 pub parse-parts : (p : PlannedShop) (before after : List (List ℕ)) (all : List Entry) → LinesParse p (before ++ after) all
     → (a : List Entry) × (b : List Entry) × LinesParse p before a × LinesParse p after b × (all ≡ a ++ b)
 parse-parts p [] after all tells = ([], all, refl, tells, refl)

@@ -1,4 +1,4 @@
--- The entries that a log text tells.
+-- The entries that a log text records.
 use Rattle.std.specs.Prelude.{◌≡◌, ℕ, ◌<◌, ◌≤◌, true, false, List, [], ◌∷◌, ◌++◌}
 use Rattle.shop_base.specs.declared.limits.TheConstants.{MAX_MOMENT}
 use Rattle.shop_base.specs.declared.report.Report.{Report}
@@ -26,13 +26,13 @@ IsEntryOf p (OrderEntry order) = (order.job < jobs p) × IsSpotOf p order.source
 abbrev pub ParsesNoEntry : PlannedShop → List ℕ → Type 0
 ParsesNoEntry p line = (entry : Entry) → IsEntryLine line entry → IsEntryOf p entry → ⊥
 
--- these are the entries that a line tells: none where it is passed over, else one, of the shop
+-- these are the entries that a line records: none where it is passed over, else one, of the shop
 abbrev pub LineParses : PlannedShop → List ℕ → List Entry → Type 0
 LineParses p line [] = is_passed_over line ≡ true
 LineParses p line (entry ∷ []) = (is_passed_over line ≡ false) × IsEntryLine line entry × IsEntryOf p entry
 LineParses p line (entry ∷ next ∷ entries) = ⊥
 
--- and these the entries that lines tell, in order
+-- and these the entries that lines record, in order
 abbrev pub LinesParse : PlannedShop → List (List ℕ) → List Entry → Type 0
 LinesParse p [] entries = entries ≡ []
 LinesParse p (line ∷ lines) entries = (own : List Entry) × (rest : List Entry) × LineParses p line own × LinesParse p lines rest × (entries ≡ own ++ rest)

@@ -37,7 +37,7 @@ pub record ReadsFirst (words : List Word) (text rest : List ℕ) : Type 0 where
   pub lines : lines_of text ≡ line ∷ lines_of rest
   pub is : IsReadAs line words
 
--- a line of words that fit is read as these words, whatever stands behind it: so a report as it is sent, as it is told, an order, and each other answer
+-- a line of words that fit is read as these words, whatever stands behind it: so a report as it is sent, as it is written, an order, and each other answer
 abbrev pub WhatIsWrittenIsRead : Type 0
 WhatIsWrittenIsRead = (word : Word) (words : List Word) (rest : List ℕ) → AreFitting (word ∷ words) → ReadsFirst (word ∷ words) (line_of (word ∷ words) ++ rest) rest
 
@@ -45,15 +45,15 @@ WhatIsWrittenIsRead = (word : Word) (words : List Word) (rest : List ℕ) → Ar
 abbrev pub NumberedLinesAreLines : Type 0
 NumberedLinesAreLines = (cell : ℕ) (word : Word) (words : List Word) → cell_prefix cell ++ line_of (word ∷ words) ≡ line_of (short cell ∷ word ∷ words)
 
--- the text tells these entries, before whatever the lines behind it tell
+-- the text records these entries, before whatever the lines behind it record
 abbrev pub ParsesFirst : PlannedShop → List ℕ → List Entry → Type 0
 ParsesFirst p text own = (rest : List ℕ) (later : List Entry) → LinesParse p (lines_of rest) later → LinesParse p (lines_of (text ++ rest)) (own ++ later)
 
--- the line of an entry of the shop tells that entry
+-- the line of an entry of the shop records that entry
 abbrev pub WrittenEntriesParse : Type 0
 WrittenEntriesParse = (p : PlannedShop) (entry : Entry) → IsWellShaped p → IsEntryOf p entry → ParsesFirst p (entry_line entry) (entry ∷ [])
 
--- each other answer tells none
+-- each other answer records none
 pub record OtherAnswersParseNone (p : PlannedShop) : Type 0 where
   pub late : (at : ℕ) → ParsesFirst p (late_line at) []
   pub refused : (number : ℕ) (name : List ℕ) → IsSpaceless name → ParsesFirst p (refused_line number name) []
@@ -63,7 +63,7 @@ pub record OtherAnswersParseNone (p : PlannedShop) : Type 0 where
   pub refused_for : (number : ℕ) (name : List ℕ) (detail : Detail) → IsSpaceless name → ParsesFirst p (refused_detail_line number name detail) []
   pub late_for : (at : ℕ) (overdue : Overdue) → ParsesFirst p (late_overdue_line at overdue) []
 
--- a line is one entry at most, as it is told
+-- a line is one entry at most, as it is written
 abbrev pub OneEntry : Type 0
 OneEntry = (line : List ℕ) (one other : Entry) → IsEntryLine line one → IsEntryLine line other → other ≡ one
 

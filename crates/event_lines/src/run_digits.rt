@@ -9,7 +9,8 @@ ghost use Rattle.event_lines.specs.RunDigits.{is_small_hex, digits_words, plan_l
 use crate::line_text::LineText;
 use text_lines::after_prefix;
 
-/// What tells a plan and its shop from others: of each the first 16 hexadecimal digits of a digest, in small letters.
+/// What distinguishes a plan and its shop from others: of each the first 16 hexadecimal digits of a digest, in small
+/// letters.
 #[derive(Clone, Copy, Debug, PartialEq, Eq)]
 pub struct RunDigits {
     pub plan: [u8; 16],

@@ -1,4 +1,4 @@
--- A log and an output whose bytes are told.
+-- A log and an output whose bytes are known.
 use Rattle.std.specs.Prelude.{◌≡◌, ℕ, List, ◌++◌}
 use Rattle.run_journal.specs.LoggedLines.{logged}
 

@@ -31,7 +31,7 @@ report 5 finish 0 0\nlate 5 job 0 on machine 0 since 0 due 3\norder 5 0 0 1\n\
 report 7 finish 0 1\norder 7 0 1 out\norder 7 1 out 1\nreport 11 finish 1 1\norder 11 1 1 0\n\
 report 12 finish 1 0\norder 12 1 0 out\n";
 
-/// The run of these lines in this manner, with a log of which so many calls don't fail.
+/// The run of these lines by this protocol, with a log of which so many calls don't fail.
 fn driven(
     alloc: Global,
     protocol: Protocol,

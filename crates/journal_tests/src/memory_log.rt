@@ -96,7 +96,7 @@ impl MemoryLog {
         self.calls
     }
 
-    /// Tells this fault.
+    /// Answers this fault.
     fn told<T: Drop>(&mut self, fault: FileFault) -> Result<T, FileFault>
         ensures told { result ≡ Err fault }
         ensures seen { self.new.seen ≡ self.old.seen }
@@ -110,7 +110,7 @@ impl MemoryLog {
         Err(fault)
     }
 
-    /// Counts a call, and tells whether it doesn't fail.
+    /// Counts a call, and answers whether it doesn't fail.
     fn passes(&mut self) -> bool
         ensures { self.new ≡ self.old }
     {

@@ -64,7 +64,7 @@ impl MemoryLogs {
         (self.bytes.is_some(), self.named)
     }
 
-    /// Counts a call, and tells whether it doesn't fail.
+    /// Counts a call, and answers whether it doesn't fail.
     fn passes(&mut self) -> bool
         ensures { self.new ≡ self.old }
     {

@@ -1,4 +1,4 @@
-//! Runs that are taken up from what a crash left of their logs.
+//! Runs that are recovered from what a crash left of their logs.
 
 use super::MemoryLog;
 use super::two_jobs::{
@@ -23,7 +23,7 @@ fn broken_off(alloc: Global, protocol: Protocol, calls: usize) -> Result<MemoryL
     Ok(run.log)
 }
 
-/// The log at the end of the run that is taken up from these bytes, to which all reports are sent once more.
+/// The log at the end of the run that is recovered from these bytes, to which all reports are sent once more.
 fn recoverable(alloc: Global, protocol: Protocol, left: Vec<u8>) -> Result<Vec<u8>, Fail> {
     let mut log = MemoryLog::new(left, 1000, 0);
     let text = read_log(alloc, &mut log)?;
@@ -61,7 +61,7 @@ fn without_empty_lines(alloc: Global, lines: &[u8]) -> Result<Vec<u8>, Fail> {
     Ok(others)
 }
 
-/// Whether the run is taken up, and comes to the same events, whatever a crash leaves of its log.
+/// Whether the run is recovered, and comes to the same events, whatever a crash leaves of its log.
 fn goes_on(
     alloc: Global,
     protocol: Protocol,

@@ -1,4 +1,4 @@
-//! Runs with a log and an output whose bytes are told, so that what is said of these is asked for, and used.
+//! Runs with a log and an output whose bytes are known, so that what is said of these is asked for, and used.
 
 ghost use Rattle.std.specs.Prelude.{◌≡◌, [], None, Some, true, false, IfOk};
 ghost use Rattle.run_journal.specs.LogFiles.{IsDurable};
@@ -44,7 +44,7 @@ fn drive_from_nothing(
     drive_logged(begun, room, &mut reader, log, output, NothingYet)
 }
 
-/// Goes on with a run that was taken up from a log without a whole line, with an output that has no bytes.
+/// Goes on with a run that was recovered from a log without a whole line, with an output that has no bytes.
 fn go_on_from_nothing(
     run: Replayed,
     room: WritingRoom,
@@ -107,7 +107,7 @@ pub fn driven_from_nothing(
     }
 }
 
-/// What they have after a run of these lines that is taken up from a log without bytes.
+/// What they have after a run of these lines that is recovered from a log without bytes.
 pub fn gone_on_from_nothing(
     alloc: Global,
     shaped: Shaped,
@@ -127,7 +127,7 @@ pub fn gone_on_from_nothing(
     let Ok(room) = WritingRoom::new(alloc) else {
         return Err(FileFault::Memory);
     };
-    // There is nothing to be told again.
+    // There is nothing to be written again.
     let Ok(recovered) = replay_in(recovered, protocol, &mut IntoSink::new(Vec::new(alloc))) else {
         return Err(FileFault::Log);
     };

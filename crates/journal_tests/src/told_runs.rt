@@ -1,4 +1,4 @@
-//! What is in a log and an output whose bytes are told.
+//! What is in a log and an output whose bytes are known.
 
 use super::driven::{DONE, REFUSED};
 use super::two_jobs::{FIRST, LATER, PLAIN, REPORTS, accepted, joined, shaped};

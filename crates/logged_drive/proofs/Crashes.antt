@@ -1,4 +1,4 @@
--- What a crash leaves of a log is taken up.
+-- What a crash leaves of a log is recovered.
 use Rattle.std.proofs.Common.{◌≡◌, ℕ, List, [], ◌∷◌, ◌++◌, length, map, drop, Option, refl, sym, ap, ◌∙◌, subst, arith, append_assoc, append-nil, take-append-drop}
 use Rattle.std.proofs.lemmas.List.{append_cancel_left}
 use Rattle.shop_base.specs.declared.move_order.MoveOrder.{MoveOrder}
@@ -44,7 +44,7 @@ none_in_front : (front back : List Entry) → front ++ back ≡ [] → front ≡
 none_in_front [] back none = refl
 none_in_front (entry ∷ front) back none = absurd (cc none)
 
--- a text tells events behind those of whole lines, with which they are a run; of its first bytes some were shown
+-- a text records events behind those of whole lines, with which they are a run; of its first bytes some were shown
 module _ (p : PlannedShop) (base : List ℕ) (recorded : List Entry) (text shown pending lost left : List ℕ) (all : List Entry) where
   again : whole_lines base ≡ base → LinesParse p (ended_lines base) recorded → LinesParse p (lines_of text) all → IsRun p (events_of (recorded ++ all)) → IsFormed text → text ≡ (shown ++ pending) ++ lost
       → IsLeft (length (base ++ logged shown)) (base ++ logged (shown ++ pending)) left → HasNoCycle p → (recorded ≡ [] → IsAcceptable p) → IsRecoveredAgain p recorded all shown left
@@ -100,7 +100,7 @@ driven_run p protocol base lines answers closing shown pending left end shaped a
     (formed-both answers closing (answered_formed p shaped protocol (undriven p) end lines answers on are) (last_formed p shaped end closing given.closes))
     given.given is acceptable.acyclic (λ none. acceptable)
 
--- ---- a run that was taken up
+-- ---- a run that was recovered
 
 empty_line : (p : PlannedShop) → ParsesFirst p (10 ∷ []) []
 empty_line p rest later parses = ([], later, refl, parses, refl)

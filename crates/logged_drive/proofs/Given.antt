@@ -132,7 +132,7 @@ module _ {S : Type 0} (answers : S → ℕ → Option (List ℕ) → List ℕ �
 
 -- ---- of a driven cell
 
--- the answers are those of a cell, which is driven in a manner
+-- the answers are those of a cell, which is driven by a protocol
 pub record IsFirstOfCell (p : PlannedShop) (protocol : Protocol) (start : DrivenCell) (before after : Option (List ℕ)) : Type 0 where
   pub lines : List (Option (List ℕ))
   pub text : List ℕ

@@ -48,7 +48,7 @@ module _ (protocol : Protocol) (recovered : Recovered) where
   abbrev p : PlannedShop
   p = plan_of recovered
 
-  -- the cell that was taken up is that after its events
+  -- the cell that was recovered is that after its events
   seen_from : IsRecoveredRun recovered → seen_in recovered ≡ driven_so_far p recovered.log.entries
   seen_from run = ap (λ (c : Cell). let d : DrivenCell = record { cell = c; entries = recovered.log.entries } in d) run.kept.replayed.cell
 

@@ -1,4 +1,4 @@
--- A run with a log is taken up from whatever a crash leaves.
+-- A run with a log is recovered from whatever a crash leaves.
 use Rattle.std.proofs.Common.{◌≡◌, ℕ, List, [], ◌++◌, Option, None, Some, IfSome, Result, sym, ap, ◌∙◌, subst, append_assoc, append-nil}
 use Rattle.std.specs.Io.KnownBytes.{Appends, append_known}
 use Rattle.std.proofs.lemmas.List.{append_cancel_left}

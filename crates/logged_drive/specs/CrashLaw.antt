@@ -1,4 +1,4 @@
--- A run is taken up from whatever a crash leaves of its log.
+-- A run is recovered from whatever a crash leaves of its log.
 use Rattle.std.specs.Prelude.{◌≡◌, ◌⊎◌, ℕ, true, List, [], ◌++◌, length, Option, None, Some}
 use Rattle.shop_base.specs.Plan.{PlannedShop, IsWellShaped}
 use Rattle.text_lines.specs.Lines.{ended_lines, lines_of}
@@ -19,7 +19,7 @@ use Rattle.run_journal.specs.WholeLines.{torn_end, whole_lines}
 use Rattle.run_journal.specs.LoggedLines.{logged}
 use Rattle.run_journal.specs.TornEnds.{is_torn}
 
--- what was left can be taken up by the plan: behind the events that the log told before, it tells the first of those that came, with all that were shown, and its end can be what a crash left of a line
+-- what was left can be recovered by the plan: behind the events that the log recorded before, it records the first of those that came, with all that were shown, and its end can be what a crash left of a line
 pub record IsRecoveredAgain (p : PlannedShop) (recorded came : List Entry) (shown left : List ℕ) : Type 0 where
   pub kept : List Entry
   pub lost : List Entry
@@ -29,7 +29,7 @@ pub record IsRecoveredAgain (p : PlannedShop) (recorded came : List Entry) (show
   pub can : IsRecoverable p (ended_lines (whole_lines left)) None
   pub torn : is_torn (torn_end left) ≡ true
 
--- these lines are answered by this text in a manner
+-- these lines are answered by this text by a protocol
 abbrev pub AreAnswered : PlannedShop → Protocol → DrivenCell → List (Option (List ℕ)) → List ℕ → DrivenCell → Type 0
 AreAnswered p protocol start lines text end = AnswerAll (ProtocolAnswers p protocol) start 1 lines text end
 
@@ -39,13 +39,13 @@ pub record IsGiven (p : PlannedShop) (text shown pending closing : List ℕ) (en
   pub lost : List ℕ
   pub given : text ++ closing ≡ (shown ++ pending) ++ lost
 
--- so it is with a log of whole lines that told no event, and then got of what `drive` writes what a log gets
+-- so it is with a log of whole lines that recorded no event, and then got of what `drive` writes what a log gets
 abbrev pub ADrivenRunIsRecovered : Type 0
 ADrivenRunIsRecovered = (p : PlannedShop) (protocol : Protocol) (base : List ℕ) (lines : List (Option (List ℕ))) (answers closing shown pending left : List ℕ) (end : DrivenCell) → IsWellShaped p → IsAcceptable p
     → whole_lines base ≡ base → LinesParse p (ended_lines base) [] → AreAnswered p protocol (undriven p) lines answers end → IsGiven p answers shown pending closing end
     → IsLeft (length (base ++ logged shown)) (base ++ logged (shown ++ pending)) left → IsRecoveredAgain p [] end.entries shown left
 
--- the run in whole lines was taken up, and goes on with these events; of what is written then, the log got what a log gets behind them
+-- the run in whole lines was recovered, and goes on with these events; of what is written then, the log got what a log gets behind them
 pub record IsRecoveredOnceMore (p : PlannedShop) (recovered : Recovered) (shown left : List ℕ) (end : DrivenCell) : Type 0 where
   pub came : List Entry
   pub whole : end.entries ≡ replayed_events recovered ++ came
@@ -57,14 +57,14 @@ ARecoveredRunIsRecovered = (p : PlannedShop) (protocol : Protocol) (base : List 
     → AreAnswered p protocol (driven_so_far p recovered.log.entries) lines answers end → IsGiven p (due_text recovered ++ answers) shown pending closing end
     → IsLeft (length (base ++ logged shown)) (base ++ logged (shown ++ pending)) left → IsRecoveredOnceMore p recovered shown left end
 
--- behind a start an output has recovered what was shown. From whatever a crash leaves of the log the run is taken up, with all events of that
+-- behind a start an output has written what was shown. From whatever a crash leaves of the log the run is recovered, with all events of that
 pub record IsRecoveredAfter (p : PlannedShop) (recorded : List Entry) (start : List ℕ) (crash_states : List ℕ → Type 0) (written : Option (List ℕ)) : Type 0 where
   pub shown : List ℕ
   pub output : written ≡ Some (start ++ shown)
   pub came : List Entry
   pub again : (left : List ℕ) → crash_states left → IsRecoveredAgain p recorded came shown left
 
--- what was left names the plan of these digits last, and can be taken up by the plan so
+-- what was left names the plan of these digits last, and can be recovered by the plan so
 pub record IsOfItsPlan (p : PlannedShop) (digits : RunDigits) (recorded came : List Entry) (shown left : List ℕ) : Type 0 where
   pub named : NameLast (lines_of (whole_lines left)) digits
   pub again : IsRecoveredAgain p recorded came shown left

@@ -1,4 +1,4 @@
--- A run that is taken up from its log file.
+-- A run that is recovered from its log file.
 use Rattle.std.specs.Prelude.{◌≡◌, ℕ, List, length, Bool, true, false, Option, None, Some}
 use Rattle.shop_base.specs.Plan.{PlannedShop}
 use Rattle.shop_base.specs.Run.{IsRun}
@@ -16,7 +16,7 @@ use Rattle.run_journal.specs.TornEnds.{is_torn}
 use Rattle.logged_drive.specs.declared.recovered_log.RecoverFault.{RecoverFault}
 use Rattle.logged_drive.specs.declared.recovered_log.RecoverFault.TheVariants.{Resume, NoTornEnd, File}
 
--- these lines tell a run of the plan
+-- these lines record a run of the plan
 pub record ParseARun (p : PlannedShop) (lines : List (List ℕ)) : Type 0 where
   pub recorded : List Entry
   pub parses : LinesParse p lines recorded
@@ -33,7 +33,7 @@ IsAfterEnd (Past last) torn = torn ≡ true
 IsAfterEnd (Refused back why) torn = torn ≡ true
 IsAfterEnd Memory torn = Unit {0}
 
--- why no run is taken up from a log with this text: its whole lines aren't taken up; or they tell a run, so many they are, and what follows can't be what a crash left of a line; or the log couldn't be cut, written or synced
+-- why no run is recovered from a log with this text: its whole lines aren't recovered; or they record a run, so many they are, and what follows can't be what a crash left of a line; or the log couldn't be cut, written or synced
 abbrev pub IsRecoverFault : PlannedShop → List ℕ → Option ℕ → RecoverFault → Type 0
 IsRecoverFault p text at (Resume fault) = IsResumeFault p (ended_lines (whole_lines text)) at fault × IsAfterEnd fault (is_torn (torn_end text))
 IsRecoverFault p text at (NoTornEnd lines) = ParseARun p (ended_lines (whole_lines text)) × (is_torn (torn_end text) ≡ false) × (lines ≡ length (lines_of (whole_lines text)))
@@ -51,7 +51,7 @@ IsOfText (Resume fault) = Unit {0}
 IsOfText (NoTornEnd lines) = Unit {0}
 IsOfText (File fault) = ⊥
 
--- what the log itself tells of it
+-- what the log itself says of it
 abbrev pub file_fault : RecoverFault → Option FileFault
 file_fault (Resume fault) = None
 file_fault (NoTornEnd lines) = None

@@ -18,7 +18,7 @@ use cell_drive::{Protocol, Replayed, RestEnd, go_on_in};
 use run_journal::laws::a_crash_keeps_what_was_shown;
 use run_journal::{InitialState, LogFile, Logged, WritingRoom};
 
-/// Goes on with a run that was taken up, and whose events were told again, as [`go_on_in`] does, with its log. The
+/// Goes on with a run that was recovered, and whose events were written again, as [`go_on_in`] does, with its log. The
 /// mark, the orders that are due and the answers are put into it as far as a log gets them, and onto the disk, before
 /// any of it is shown.
 ///
@@ -45,8 +45,8 @@ pub fn go_on_logged<R: Source, W: BufferedSink + Drop, D: LogFile + Drop, B: Ini
     ensures crash { IfSome B.before
         (λ known. KeepsShown known.0 known.1 (D.crash_states result.log) (W.written result.output)) }
 
-    // From whatever it leaves of the log by which the run was taken up it is taken up again, with all events that were
-    // shown.
+    // From whatever it leaves of the log by which the run was recovered it is recovered again, with all events that
+    // were shown.
     ensures recoverable { IfSome B.before
         (λ known. (p : PlannedShop) (at : Option ℕ) → IsRecovered p (ended_lines known.0) at run
         → IsRecoveredAfter p (replayed_events run) known.1 (D.crash_states result.log) (W.written result.output)) }

@@ -2,7 +2,7 @@
 //!
 //! [`drive_logged`] drives a cell from its start: each event is in the log, on the disk, before it is shown.
 //! [`recover_log`] takes the run up from what a crash has left of the log, with all the memory that it goes on with,
-//! and [`go_on_logged`] goes on with it. [`laws`] says that whatever a crash leaves is taken up.
+//! and [`go_on_logged`] goes on with it. [`laws`] says that whatever a crash leaves is recovered.
 #![tactic(auto)]
 
 mod going_on;

@@ -54,8 +54,8 @@ pub fn drive_logged<R: Source, W: BufferedSink + Drop, D: LogFile + Drop, B: Ini
     ensures crash { IfSome B.before
         (λ known. KeepsShown known.0 known.1 (D.crash_states result.log) (W.written result.output)) }
 
-    // From whatever it leaves of a log that told no event the run is taken up by the same plan, with all events that
-    // were shown.
+    // From whatever it leaves of a log that recorded no event the run is recovered by the same plan, with all events
+    // that were shown.
     ensures recoverable { IfSome B.before (λ known. LinesParse begun.verified.planned (ended_lines known.0) []
         → IsRecoveredAfter begun.verified.planned [] known.1 (D.crash_states result.log) (W.written result.output)) }
 

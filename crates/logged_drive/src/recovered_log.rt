@@ -1,10 +1,10 @@
-//! A run that is taken up from its log file.
+//! A run that is recovered from its log file.
 
 use cell_drive::{RecoveredRun, ResumeFault};
 use run_journal::{FileFault, WritingRoom};
 use std::alloc::AllocError;
 
-/// A run that was taken up from its log file, and all the memory with which it goes on.
+/// A run that was recovered from its log file, and all the memory with which it goes on.
 #[derive(Drop)]
 pub struct RecoveredLog {
     /// The run.
@@ -13,10 +13,10 @@ pub struct RecoveredLog {
     pub room: WritingRoom,
 }
 
-/// Why no run is taken up from a log file.
+/// Why no run is recovered from a log file.
 #[derive(Debug, Drop)]
 pub enum RecoverFault {
-    /// Its whole lines aren't taken up.
+    /// Its whole lines aren't recovered.
     Resume(ResumeFault),
     /// What comes after the whole lines, of which there are so many, can't be what a crash left of a line.
     NoTornEnd { lines: usize },

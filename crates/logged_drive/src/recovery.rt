@@ -1,4 +1,4 @@
-//! The taking up of a run from its log file.
+//! The recovery of a run from its log file.
 
 ghost use Rattle.std.specs.Prelude.{◌≡◌, ◌≤◌, List, ℕ, length, true, false, None, Some, IfOk, IfErr, IfSome, OnOk};
 ghost use Rattle.shop_base.specs.declared.limits.TheConstants.{MAX_MOMENT};
@@ -29,7 +29,7 @@ fn no_torn_end(text: &LogText) -> RecoverFault
     }
 }
 
-/// Takes up the run that the whole lines tell, if a crash can have left what comes after them.
+/// Recovers the run that the whole lines record, if a crash can have left what comes after them.
 fn recover_text(
     alloc: Global,
     shaped: Shaped,
@@ -73,7 +73,7 @@ fn recover_text(
     }
 }
 
-/// Takes up the run that the whole lines tell, with all the memory that it goes on with.
+/// Recovers the run that the whole lines record, with all the memory that it goes on with.
 fn recover_ready(
     alloc: Global,
     shaped: Shaped,
@@ -122,7 +122,7 @@ fn cut_and_name<D: LogFile>(
     name_plan(log, text, digits)
 }
 
-/// Takes up the run in a log that was read, cuts off its torn end, and puts the line of the plan, which has these
+/// Recovers the run in a log that was read, cuts off its torn end, and puts the line of the plan, which has these
 /// digits, behind its whole lines, unless it is their last line of a plan. All the memory with which the run goes on is
 /// taken first: where it runs out, as where the log's text is at fault, the log stays as it is.
 pub fn recover_log<D: LogFile>(

@@ -174,7 +174,7 @@ module _ (p : PlannedShop) (budgets : List ℕ) where
   lines_again [] es is = is
   lines_again (line ∷ lines) es is = (is.0, is.1, line_again line is.0 is.2, lines_again lines is.1 is.3, is.4)
 
-  -- so lines tell a run of it too, and lead to the same cell
+  -- so lines record a run of it too, and lead to the same cell
   pub run_again : (lines : List (List ℕ)) → ParseAsRun p lines → ParseAsRun (rebudgeted p budgets) lines
   run_again lines (entries, parse, run) = (entries, lines_again lines entries parse, events_again (start p) (events_of entries) run)
 

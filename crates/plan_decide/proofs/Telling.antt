@@ -1,4 +1,4 @@
--- What is told of promises that can't be kept, as it is collected.
+-- What is listed of promises that can't be kept, as it is collected.
 use Rattle.std.proofs.Common.{◌≡◌, ℕ, ◌+◌, ◌<◌, ◌≤◌, List, [], ◌∷◌, ◌++◌, length, Contains, arith, refl, sym, ap, subst, inl, inr, le_refl, ◌⊎◌, ◌∙◌}
 use Rattle.std.proofs.lemmas.Bool.{cases_eq}
 use Rattle.std.proofs.lemmas.List.{length_push, nil_from_length}
@@ -60,7 +60,7 @@ module _ (t : Case) where
     before = All-nil (λ e. ComesBefore e next);
   }
 
-  -- one more is told
+  -- one more is listed
   one_more_before : (e next : Excluded) (es : List Excluded) → IsExclusion t e → ((other : Excluded) → ComesBefore other e → ComesBefore other next) → ComesBefore e next → AreExclusionsBefore t e es
       → AreExclusionsBefore t next (es ++ e ∷ [])
   one_more_before e next es exclusion later before known = record {
@@ -100,7 +100,7 @@ module _ (t : Case) where
   pub row_passed : (i j k : ℕ) (es : List Excluded) → AreExclusionsBefore t (Pair i j) es → AreExclusionsBefore t (Pair (i + 1) k) es
   row_passed i j k es known = all_before (Pair i j) (Pair (i + 1) k) es (λ e before. before_pair e i j (i + 1) k (inl (omega arith)) before) known
 
-  -- no job is alone where none is told
+  -- no job is alone where none is listed
   pub none_alone : (n : ℕ) (es : List Excluded) → n ≡ job_count t → length es ≡ 0 → AreAllAlone t n es → NoneIsAlone t
   none_alone n es all none known j never = (let has = known.alone j (omega (arith, all, never.promised.inside)) never in omega (arith, none, has.1))
 

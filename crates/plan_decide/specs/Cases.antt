@@ -19,7 +19,7 @@ use Rattle.run_log.specs.Audits.{ParseAsRun}
 use Rattle.plan_decide.specs.declared.aim.Objective.{Objective}
 use Rattle.plan_decide.specs.declared.aim.Objective.TheVariants.{Makespan, Leaving}
 
--- what has happened: nothing, or the run that these lines tell, which has led to a cell; and then the present moment
+-- what has happened: nothing, or the run that these lines record, which has led to a cell; and then the present moment
 pub data Past : Type 0 where
   nothing : Past
   run_to : (lines : List (List ℕ)) (cell : Cell) (present : ℕ) → Past
@@ -40,7 +40,7 @@ pub record IsLeavingAhead (p : PlannedShop) (c : Cell) (present j n : ℕ) : Typ
   pub left : IsGone p c j → n ≡ since c j
   pub ahead : (IsGone p c j → ⊥) → IsGreatestAhead p c present (leaving p j) n
 
--- the plan keeps what has happened: the lines tell a run of it too
+-- the plan keeps what has happened: the lines record a run of it too
 abbrev pub KeepsPast : Past → PlannedShop → Type 0
 KeepsPast nothing p = Unit {0}
 KeepsPast (run_to lines c present) p = ParseAsRun p lines

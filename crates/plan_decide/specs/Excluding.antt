@@ -61,7 +61,7 @@ pub record IsExclusion (t : Case) (e : Excluded) : Type 0 where
   pub excluded : AreExcluded t (jobs_in e)
   pub said : IsSaidOf t e
 
--- one is told before the other: jobs alone first, ascending, and then pairs, ascending; several are told only where nothing else is
+-- one is listed before the other: jobs alone first, ascending, and then pairs, ascending; several are listed only where nothing else is
 abbrev pub ComesBefore : Excluded → Excluded → Type 0
 ComesBefore (Alone i) (Alone j) = i < j
 ComesBefore (Alone i) (Pair k l) = Unit {0}
@@ -71,7 +71,7 @@ ComesBefore (Pair i j) (Pair k l) = (i < k) ⊎ ((i ≡ k) × (j < l))
 ComesBefore (Pair i j) (Several js or_fewer) = ⊥
 ComesBefore (Several js or_fewer) e = ⊥
 
--- what is told where no plan keeps all promises: some such jobs, and each job that is never in time by its bound
+-- what is listed where no plan keeps all promises: some such jobs, and each job that is never in time by its bound
 pub record AreExclusions (t : Case) (es : List Excluded) : Type 0 where
   pub some : 0 < length es
   pub each : All (IsExclusion t) es

@@ -1,4 +1,4 @@
--- What a log tells of what has happened, and why nothing is decided.
+-- What a log records of what has happened, and why nothing is decided.
 use Rattle.std.specs.Prelude.{◌≡◌, ℕ, ◌<◌, ◌≤◌, List, [], Option, Some}
 use Rattle.shop_base.specs.declared.limits.TheConstants.{MAX_MOMENT}
 use Rattle.shop_base.specs.Plan.{PlannedShop}
@@ -25,7 +25,7 @@ case_of p past = record { task = task_in p; past = past }
 abbrev pub whole_case : PlannedShop → Case
 whole_case p = case_of p nothing
 
--- what has happened by the lines of a log and a present moment, the one that is given or else the last one: where they tell no event and that moment is 0, nothing; and else their run, to its cell and that moment
+-- what has happened by the lines of a log and a present moment, the one that is given or else the last one: where they record no event and that moment is 0, nothing; and else their run, to its cell and that moment
 pub data IsPastOf (lines : List (List ℕ)) (at : Option ℕ) (p : PlannedShop) : Past → Type 0 where
   unbegun : LinesParse p lines [] → present_of at 0 ≡ 0 → IsPastOf lines at p nothing
   begun : (c : Cell) → IsCellOf lines p c → IsNextMoment c (present_of at c.last) → IsPastOf lines at p (run_to lines c (present_of at c.last))

@@ -1,4 +1,4 @@
--- What is told of promises that can't be kept, while it is collected.
+-- What is listed of promises that can't be kept, while it is collected.
 use Rattle.std.specs.Prelude.{ℕ, ◌<◌, ◌≤◌, List, All, AllPairs, Contains, length}
 use Rattle.plan_decide.specs.declared.decided.Excluded.{Excluded}
 use Rattle.plan_decide.specs.declared.decided.Excluded.TheVariants.{Alone}
@@ -17,12 +17,12 @@ pub record AreExclusionsBefore (t : Case) (next : Excluded) (es : List Excluded)
   pub listed : AreOrderedExclusions t es
   pub before : All (λ e. ComesBefore e next) es
 
--- of the first n jobs, each that is never in time by its bound is told
+-- of the first n jobs, each that is never in time by its bound is listed
 pub record AreAllAlone (t : Case) (n : ℕ) (es : List Excluded) : Type 0 where
   pub listed : AreExclusionsBefore t (Alone n) es
   pub alone : (j : ℕ) → j < n → IsNeverInTime t j → Contains es (Alone j)
 
--- more is told, and what was told stays
+-- more is listed, and what was listed stays
 pub record AddsExclusions (old new : List Excluded) : Type 0 where
   pub kept : (e : Excluded) → Contains old e → Contains new e
   pub more : length old ≤ length new

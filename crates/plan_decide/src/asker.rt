@@ -24,7 +24,7 @@ pub trait Watch {
 /// The most choices of a search for a plan that keeps the promises to two jobs, even where more are allowed.
 pub const PAIR_CHOICES: u64 = 1_000;
 
-/// A chooser whose choices are counted in each search, and told to a watch.
+/// A chooser whose choices are counted in each search, and reported to a watch.
 #[derive(Drop)]
 pub(crate) struct Asker<'a, C, W> {
     chooser: &'a mut C,

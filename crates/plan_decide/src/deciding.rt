@@ -42,10 +42,10 @@ pub(crate) enum Found {
 /// on a machine that is decided one way and, where that fails, the other, is one. The chooser and the watch need not be
 /// trusted.
 ///
-/// Where all promises together can't be kept, they exclude each other: each job that its bound excludes is told, before
-/// anything is searched; then each pair of others, where these are at most `PAIRED_JOBS`; and where nothing is told
-/// then, the jobs that are left where of all promised ones each is left out, from the greatest number down, without
-/// which the others still exclude each other.
+/// Where all promises together can't be kept, they exclude each other: each job that its bound excludes is listed,
+/// before anything is searched; then each pair of others, where these are at most `PAIRED_JOBS`; and where nothing is
+/// listed then, the jobs that are left where of all promised ones each is left out, from the greatest number down,
+/// without which the others still exclude each other.
 ///
 /// The least value of an objective is found by halving what lies between its bound and the value of the plan that was
 /// found first.

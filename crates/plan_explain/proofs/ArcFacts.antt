@@ -1,4 +1,4 @@
--- What arcs are told as, and how long paths are.
+-- What arcs are printed as, and how long paths are.
 use Rattle.std.proofs.Common.{◌≡◌, ◌≢◌, ◌==◌, ℕ, ◌+◌, ◌<◌, ◌≤◌, List, [], ◌∷◌, ◌++◌, if◌then◌else◌, arith, refl, sym, ap, subst, ◌∙◌}
 use Rattle.std.proofs.lemmas.Bool.{eq-eqb, eqb-true, false_from_ne_true}
 use Rattle.shop_base.specs.declared.node.Node.{Node}
@@ -53,7 +53,7 @@ module _ (p : PlannedShop) (shaped : IsWellShaped p) where
   pub job_step : (u v : Node) → u.job ≡ v.job → HasArc p u v → u.place < steps p u.job
   job_step u v same arc = job_within u v arc.0 arc.1 same
 
-  -- an arc is as long as is told
+  -- an arc is as long as is printed
   pub arc_time : (u v : Node) (d : ℕ) → Arc p u v d → time_of (arc_kind p u v) ≡ d
   arc_time _ _ _ (job_arc j k within) = ap time_of (job_arc_kind_same p (node j k) (node j (k + 1)) refl)
   arc_time _ _ _ (blocking_arc m a i k j l one other) =

@@ -81,7 +81,7 @@ module _ (names : NameBook) (p : PlannedShop) where
       → (lines : List ℕ) × (last : Node) × (cycle_lines names p (first ∷ rest) ≡ lines ++ arc_line names p last first) × EndsIn (first ∷ rest) last × HasArc p last first
   cycle_closes first rest cycle = lines_close first rest first cycle.1
 
--- what an accepted plan is told by is the plan's alone
+-- what an accepted plan is printed by is the plan's alone
 accepted_once : (p : PlannedShop) (one other : List ℕ) → IsAcceptedFirstLine p one → IsAcceptedFirstLine p other → one ≡ other
 accepted_once p one other here there =
     let makespans : here.makespan ≡ there.makespan = omega (arith, makespan_le p here.makespan there.makespan here.is there.is, makespan_le p there.makespan here.makespan there.is here.is) in

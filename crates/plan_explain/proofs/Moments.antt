@@ -37,7 +37,7 @@ pub moments_same : (f g : ℕ → ℕ) (n : ℕ) → ((j : ℕ) → j < n → f 
 moments_same f g zero same = refl
 moments_same f g (suc n) same = ap (λ l. l ++ f n ∷ []) (moments_same f g n (λ j lt. same j (omega arith))) ∙ ap (λ m. moments_below g n ++ m ∷ []) (same n (omega arith))
 
--- a line that tells the greatest lengths of the paths to the leavings tells the plan's
+-- a line that gives the greatest lengths of the paths to the leavings gives the plan's
 pub accepted_line_is : (p : PlannedShop) (leaves : ℕ → ℕ) (line : List ℕ) → AreLeavings p leaves → IsAcceptedText p leaves line → IsAcceptedFirstLine p line
 accepted_line_is p leaves line are (n, last, words) = record { makespan = n; is = makespan_is p leaves n are last; leaves = leaves; leavings = are; words = words }
 

@@ -57,7 +57,7 @@ module _ (p : PlannedShop) (c : Cell) (t : ℕ) (shaped : IsWellShaped p) where
   ahead_led _ _ _ (held a due v goes holds) = record { along = tt; ends = refl; start = due; begins = held a due v goes holds; size = refl; again = λ s begin. begin }
   ahead_led _ _ _ (onward nodes u v n d path arc) = led_more nodes u v n d arc (ahead_led nodes u n path)
 
--- ---- what is told of a node begins a path ahead
+-- ---- what is printed of a node begins a path ahead
 
 module _ (p : PlannedShop) (c : Cell) (t : ℕ) where
   held_path : (h : Hold) (due : Option ℕ) (v : Node) (m : ℕ) → IsHeldBy p c h due v → due ≡ Some m → PathAhead p c t (v ∷ []) v m

@@ -37,12 +37,12 @@ chain_parts names p c t first rest b (Ok x) old mid new is one two = (
 )
 chain_parts names p c t first rest b (Err e) old mid new is one two = tt
 
--- by the earliest moments, and of the chain that is told, the lines are those behind the first one
+-- by the earliest moments, and of the chain that is printed, the lines are those behind the first one
 pub moment_lines_of : (names : NameBook) (p : PlannedShop) (c : Cell) (t : ℕ) (times : NodeTimes) (chain : List Node) (Is : (ℕ → ℕ) → List Node → Type 0) → AreOrderedAhead p c t times → Is (leaves_in p times) chain
     → (lines : List ℕ) → AreLinesOf names p c t (leaves_in p times) chain lines → AreMomentLines (AreLeavingsAhead p c t) (rest_leaving_lines names p c) (AreRestChainLines names p c t) Is lines
 moment_lines_of names p c t times chain Is ordered is lines are = record { leaves = leaves_in p times; leavings = leavings_ahead p c t times ordered; chain = chain; is = is; are = are }
 
--- ---- the chain that is told
+-- ---- the chain that is printed
 
 pub some_chain : (p : PlannedShop) (c : Cell) (t : ℕ) (nodes : List Node) → IsRestChain p c t nodes → IsChainOrNone p c t nodes
 some_chain p c t [] is = tt
@@ -67,7 +67,7 @@ module _ (p : PlannedShop) (c : Cell) (t : ℕ) (times : NodeTimes) where
   pub nobody_found : ((j : ℕ) → j < jobs p → IsGone p c j) → IsFound p c t times (IsChainToLastAhead p c t) []
   nobody_found gone = record { is = inl (gone, refl); fit = tt }
 
--- the line of a verdict tells of the rest
+-- the line of a verdict is of the rest
 pub first_line_by_times : (p : PlannedShop) (c : Cell) (t : ℕ) (verdict : Judged) (line : List ℕ) → IsRestJudged p c t verdict → IsLineByTimes p verdict line → IsRestFirstLine p c t verdict line
 first_line_by_times p c t (Accepted times) line judged is = record { leaves = leaves_in p times; leavings = leavings_ahead p c t times judged.accepted.0; text = is }
 first_line_by_times p c t (Refused why) line judged is = is

@@ -1,4 +1,4 @@
--- The rest of a run that hasn't begun is told as the whole plan, and the plan as that.
+-- The rest of a run that hasn't begun is printed as the whole plan, and the plan as that.
 use Rattle.std.proofs.Common.{◌≡◌, ℕ, zero, suc, ◌<◌, ◌≤◌, List, [], ◌∷◌, ◌++◌, Option, None, Some, IfSome, if◌then◌else◌, inl, inr, arith, refl, sym, ap, subst, ◌∙◌}
 use Rattle.std.proofs.lemmas.Bool.{le-ltb}
 use Rattle.std.proofs.Math.Nat.{zero-max}
@@ -130,7 +130,7 @@ module _ (names : NameBook) (p : PlannedShop) (shaped : IsWellShaped p) where
                 last.first i front (leaves i) lt sooner);
           }
 
-  -- ---- the chain that is told, and the lines with it
+  -- ---- the chain that is printed, and the lines with it
 
   -- what is said of the nodes of a chain, of the rest and of the plan, comes to the same
   record AreOneChain (Ahead Whole : (ℕ → ℕ) → List Node → Type 0) : Type 0 where

@@ -1,4 +1,4 @@
--- The chain that is told, and the lines behind a verdict's first one, while they are made.
+-- The chain that is printed, and the lines behind a verdict's first one, while they are made.
 use Rattle.std.specs.Prelude.{◌≡◌, ℕ, List}
 use Rattle.shop_base.specs.declared.node.Node.{Node}
 use Rattle.shop_base.specs.Plan.{PlannedShop}

@@ -16,7 +16,7 @@ use Rattle.plan_explain.specs.Cycles.{cycle_lines}
 use Rattle.plan_explain.specs.Chains.{chain_lines}
 use Rattle.plan_explain.specs.Parts.{AreBoth}
 
--- which chain is told: where one is asked for, that to the leaving of this job, else one of which Else holds
+-- which chain is printed: where one is asked for, that to the leaving of this job, else one of which Else holds
 abbrev pub IsChosen : (ℕ → (ℕ → ℕ) → List Node → Type 0) → Option ℕ → ((ℕ → ℕ) → List Node → Type 0) → (ℕ → ℕ) → List Node → Type 0
 IsChosen IsTo None Else leaves chain = Else leaves chain
 IsChosen IsTo (Some j) Else leaves chain = IsTo j leaves chain
@@ -31,7 +31,7 @@ module _ (AreLeaves : (ℕ → ℕ) → Type 0) (job_lines : (ℕ → ℕ) → L
     pub is : IsChain leaves chain
     pub are : AreBoth (λ jobs. jobs ≡ job_lines leaves) (AreChain chain) lines
 
-  -- the lines behind the first one of a verdict: the arcs of the cycle; or the leavings, and the arcs of a chain: the one that is asked for, else of what is accepted that to the last, of a late one that which the first line tells
+  -- the lines behind the first one of a verdict: the arcs of the cycle; or the leavings, and the arcs of a chain: the one that is asked for, else of what is accepted that to the last, of a late one that which the first line gives
   abbrev pub AreLinesBehind : (ℕ → (ℕ → ℕ) → List Node → Type 0) → ((ℕ → ℕ) → List Node → Type 0) → NameBook → Option ℕ → PlannedShop → Judged → List ℕ → Type 0
   AreLinesBehind IsTo IsToLast names asked p (Accepted times) lines = AreMomentLines (IsChosen IsTo asked IsToLast) lines
   AreLinesBehind IsTo IsToLast names asked p (Refused (Cycle nodes)) lines = lines ≡ cycle_lines names p nodes.items

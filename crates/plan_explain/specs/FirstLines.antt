@@ -45,11 +45,11 @@ abbrev pub moments_below : (ℕ → ℕ) → ℕ → List ℕ
 moments_below leaves zero = []
 moments_below leaves (suc n) = moments_below leaves n ++ leaves n ∷ []
 
--- the line tells these leavings, and the last of them
+-- the line gives these leavings, and the last of them
 abbrev pub IsAcceptedText : PlannedShop → (ℕ → ℕ) → List ℕ → Type 0
 IsAcceptedText p leaves line = (n : ℕ) × IsLastLeaving p leaves n × (line ≡ accepted_line n (moments_below leaves (jobs p)))
 
--- the line tells the makespan and the leavings of the plan
+-- the line gives the makespan and the leavings of the plan
 pub record IsAcceptedFirstLine (p : PlannedShop) (line : List ℕ) : Type 0 where
   pub makespan : ℕ
   pub is : IsMakespan p makespan

@@ -12,7 +12,7 @@ use Rattle.plan_explain.specs.Cycles.{arc_line, cycle_lines}
 use Rattle.plan_explain.specs.Chains.{release_line, reached_line, reached_lines, chain_lines}
 use Rattle.plan_explain.specs.FirstLines.{IsFirstLine}
 
--- each arc of the plan is told as it is, and takes the time that is told
+-- each arc of the plan is printed as it is, and takes the time that is printed
 pub record AreExactArcs (p : PlannedShop) : Type 0 where
   pub job : (j k : ℕ) → k < steps p j → arc_kind p (node j k) (node j (k + 1)) ≡ Job j (machine_of p j k) (nominal p j k)
   pub blocking : (m a i k j l : ℕ) → Stands p m a i k → Stands p m (a + 1) j l → arc_kind p (node i (k + 1)) (node j l) ≡ Blocking m i j (clean p m)
@@ -22,7 +22,7 @@ pub record AreExactArcs (p : PlannedShop) : Type 0 where
 abbrev pub ArcsAreExact : Type 0
 ArcsAreExact = (p : PlannedShop) → IsWellShaped p → AreExactArcs p
 
--- the line of a node behind a path tells the length of the path up to it, which is that of the path before and the arc between
+-- the line of a node behind a path gives the length of the path up to it, which is that of the path before and the arc between
 abbrev pub EachLineIsItsPath : Type 0
 EachLineIsItsPath = (names : NameBook) (p : PlannedShop) (path nodes : List Node) (u v : Node) (n d : ℕ) → IsWellShaped p → Path p path u n → Arc p u v d
     → chain_lines names p (path ++ v ∷ nodes) ≡ chain_lines names p path ++ (reached_line names (n + d) v (arc_kind p u v) ++ reached_lines names p (n + d) v nodes)
@@ -32,7 +32,7 @@ abbrev pub IsLastLine : NameBook → PlannedShop → List Node → Node → ℕ 
 IsLastLine names p nodes v n line =
     ((front : List Node) × (u : Node) × (nodes ≡ front ++ u ∷ v ∷ []) × (line ≡ reached_line names n v (arc_kind p u v))) ⊎ ((nodes ≡ v ∷ []) × (line ≡ release_line names n v))
 
--- the last line of a path's lines is of its last node, and tells its length
+-- the last line of a path's lines is of its last node, and gives its length
 abbrev pub TheLastLineIsTheLength : Type 0
 TheLastLineIsTheLength = (names : NameBook) (p : PlannedShop) (nodes : List Node) (v : Node) (n : ℕ) → IsWellShaped p → Path p nodes v n
     → (lines last : List ℕ) × (chain_lines names p nodes ≡ lines ++ last) × IsLastLine names p nodes v n last

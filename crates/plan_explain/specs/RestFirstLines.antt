@@ -12,7 +12,7 @@ abbrev pub IsLineByTimes : PlannedShop → Judged → List ℕ → Type 0
 IsLineByTimes p (Accepted times) line = IsAcceptedText p (leaves_in p times) line
 IsLineByTimes p (Refused why) line = line ≡ refused_line why
 
--- the line tells the makespan and the leavings of the rest
+-- the line gives the makespan and the leavings of the rest
 pub record IsRestAcceptedFirstLine (p : PlannedShop) (c : Cell) (t : ℕ) (line : List ℕ) : Type 0 where
   pub leaves : ℕ → ℕ
   pub leavings : AreLeavingsAhead p c t leaves

@@ -1,4 +1,4 @@
--- The law of the start: of a run that hasn't begun the rest is told as the whole plan.
+-- The law of the start: of a run that hasn't begun the rest is printed as the whole plan.
 use Rattle.std.specs.Prelude.{◌↔◌, ℕ, ◌<◌, List, Option, IfSome}
 use Rattle.shop_base.specs.Plan.{PlannedShop, jobs, IsWellShaped}
 use Rattle.shop_base.specs.Cell.{start}
@@ -18,7 +18,7 @@ abbrev pub said_of : PlannedShop → Judged → Verdict
 said_of p (AcceptedRest times) = Accepted (record { planned = p; times = times })
 said_of p (RefusedRest why) = Refused p why
 
--- of a verdict on the rest from the start and moment 0 on the same is told as of the plan: its first line is the plan's, and its explanations are the plan's, by any names and with the chain to any job
+-- of a verdict on the rest from the start and moment 0 on the same is printed as of the plan: its first line is the plan's, and its explanations are the plan's, by any names and with the chain to any job
 abbrev pub TheStartIsExplainedAsThePlan : Type 0
 TheStartIsExplainedAsThePlan = (p : PlannedShop) (verdict : Judged) (text : List ℕ) → IsWellShaped p → IsRestJudged p (start p) 0 verdict
     → (IsRestFirstLine p (start p) 0 verdict text ↔ IsFirstLine (said_of p verdict) text)

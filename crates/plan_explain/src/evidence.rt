@@ -25,7 +25,7 @@ pub fn explain(alloc: Global, verdict: &Verdict) -> Result<Vec<u8>, AllocError>
 /// budget and what is left to it or by how much it is late, and the arcs of a chain: the one to the leaving of the job
 /// that is asked for; else the one to the late job's leaving that the first line gives, or a longest one to the leaving
 /// of the least job that leaves last. A refusal has the evidence that `verify` gave. Behind the first line jobs,
-/// machines and moments are told by names and clock.
+/// machines and moments are written by names and clock.
 pub fn explain_for(
     alloc: Global,
     names: &Names,

@@ -28,7 +28,7 @@ const USUAL_LINE: usize = 48;
 /// left if it is gone; and what the first node of a chain waits for, followed by the chain's arcs. The chain is the one
 /// to the leaving of the job that is asked for; else the one to the late job's leaving that the first line gives, or a
 /// longest one to the leaving of the least job that leaves last of those that aren't gone. To the leaving of a job that
-/// is gone there is no chain. Behind the first line jobs, machines and moments are told by names and clock.
+/// is gone there is no chain. Behind the first line jobs, machines and moments are written by names and clock.
 pub fn explain_after<P: Planned>(
     alloc: Global,
     names: &Names,

@@ -42,8 +42,8 @@ pub fn a_verdict_has_one_first_line()
     ensures { AVerdictHasOneFirstLine }
 {}
 
-/// From the cell at the start and moment 0 on, just what is told of the plan is told of the rest of a run: the same
-/// first line, and the same explanations.
+/// From the cell at the start and moment 0 on, just what is printed of the plan is printed of the rest of a run: the
+/// same first line, and the same explanations.
 pub fn the_start_is_explained_as_the_plan()
     ensures { TheStartIsExplainedAsThePlan }
 {}

@@ -58,7 +58,7 @@ fn push_job_line<P: Planned>(
     push_job_at(text, names, &mut line, job, b" leaves ", leaves)
 }
 
-/// Writes the budget, if it is told, and what is left to it, or by how much the leaving is past it.
+/// Writes the budget, if it is printed, and what is left to it, or by how much the leaving is past it.
 fn put_margin(line: &mut Line, names: &Names, leaves: Moment, budget: Moment)
     requires { length line.old ≤ 1 }
     ensures written { line.new ≡ before (margin_words names.now leaves budget) line.old }
@@ -87,7 +87,7 @@ fn put_budget(line: &mut Line, names: &Names, budget: Moment)
     line.put_text(b" budget ");
 }
 
-/// Writes the budget, if it is told.
+/// Writes the budget, if it is printed.
 fn put_given_budget(line: &mut Line, names: &Names, budget: Moment)
     requires { length line.old ≤ 1 }
     ensures written { line.new ≡ before (budget_words names.now budget []) line.old }

@@ -1,7 +1,7 @@
 //! Verdicts that explain themselves: the first line of a verdict, and after it the arcs of its evidence in
 //! lines that name machines and jobs.
 //!
-//! All is told of the rest of a run, from a cell and a present moment on; a whole plan is that of a run that hasn't
+//! All is printed of the rest of a run, from a cell and a present moment on; a whole plan is that of a run that hasn't
 //! begun.
 #![tactic(auto)]
 

@@ -10,7 +10,7 @@ use Rattle.plan_improve.proofs.Common.{AreSound, Cell, Entry, IsBegun, IsCellOf,
 use Rattle.plan_improve.proofs.Common.{LinesParse, PlannedShop, cell_of, one_reading, present_of, range_with_len}
 use Rattle.plan_improve.proofs.OneCell.{cell_once}
 
--- whether lines tell an event, by what they tell
+-- whether lines record an event, by what they record
 pub event_read : (lines : List (List ℕ)) (p : PlannedShop) (entries : List Entry) (n : ℕ) → LinesParse p lines entries → n ≡ length entries → (nat_lt 0 n ≡ false) ↔ LinesParse p lines []
 event_read lines p [] n parse is = (λ _. parse, λ _. rw is refl)
 event_read lines p (e ∷ es) n parse is = (
@@ -28,7 +28,7 @@ pub few_rounds : {A E : Type 0} (r : Result A E) (rounds : ℕ) → rounds ≤ M
 few_rounds (Ok found) rounds few = few
 few_rounds (Err e) rounds few = tt
 
--- the run of a log, as it is taken up
+-- the run of a log, as it is recovered
 pub begun_is : (lines : List (List ℕ)) (p q r : PlannedShop) (c : Cell) (entries : List Entry) (begun : Begun) → q ≡ p → r ≡ p → LinesParse p lines entries → IsReplayed p c entries
     → cell_of q begun.tables ≡ c → AreSound q begun.tables → IsNextMoment c begun.present → IsRestOf r c begun.present begun.rest → ((begun.has_event ≡ false) ↔ LinesParse p lines []) → IsBegun lines p begun
 begun_is lines p q r c entries begun same also parse run cell sound next rest event = record {

@@ -10,7 +10,7 @@ use Rattle.plan_improve.proofs.Common.{setting_of, reported_bound}
 use Rattle.plan_improve.proofs.Comparing.{most_of_most, not_both, most_same, most_less}
 use Rattle.plan_improve.proofs.Once.{OneCost, reordered_on}
 
--- nothing was told, and then more
+-- nothing was reported, and then more
 pub reports_nothing : (before : Option (List Progress)) → ReportsMore before [] before
 reports_nothing None = tt
 reports_nothing (Some before) = ap (λ reported. Some reported) (sym (append-nil before))

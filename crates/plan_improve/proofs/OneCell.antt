@@ -1,4 +1,4 @@
--- Lines that tell runs of plans that differ in their orders alone tell the same events, and lead to one cell.
+-- Lines that record runs of plans that differ in their orders alone record the same events, and lead to one cell.
 use Rattle.std.proofs.Common.{◌≡◌, ℕ, zero, suc, List, [], ◌∷◌, refl, sym, ap, ◌∙◌, subst}
 use Rattle.shop_base.specs.declared.move_order.Spot.TheVariants.{Out, At}
 use Rattle.shop_base.specs.declared.report.Report.TheVariants.{Arrive, Finish, Clean}
@@ -34,7 +34,7 @@ module _ (p : PlannedShop) (order : List (List ℕ)) where
   pub ends_same : (es : List Event) → ends_in other_plan es ≡ ends_in p es
   ends_same es = all_same (start p) es
 
-  -- and what a line tells on the numbers of jobs and machines
+  -- and what a line records on the numbers of jobs and machines
   spot_same : (s : Spot) → IsSpotOf other_plan s → IsSpotOf p s
   spot_same Out is = tt
   spot_same (At m) is = is
@@ -66,6 +66,6 @@ one_cell lines p q c d same one other = cell_same p q.plan.order lines c d one (
 pub cell_once : (lines : List (List ℕ)) (p : PlannedShop) (c d : Cell) → IsCellOf lines p c → IsCellOf lines p d → c ≡ d
 cell_once lines p c d one other = one_cell lines p p c d refl one other
 
--- lines that lead to a cell tell a run
+-- lines that lead to a cell record a run
 pub parses_run : (lines : List (List ℕ)) (p : PlannedShop) (c : Cell) → IsCellOf lines p c → ParseAsRun p lines
 parses_run lines p c is = (is.entries, is.parse, is.run.run)

@@ -10,7 +10,7 @@ use Rattle.plan_improve.proofs.Lawful.{rest_accepted}
 use Rattle.plan_improve.proofs.Searched.{same_numbers, never_worse_either, found_reported_either}
 
 module _ (lines : List (List ℕ)) (t : ℕ) (before after : Option (List Progress)) (made : List Progress → Asked) (start : PlannedShop) where
-  -- the present moment can be the next after the run that the lines tell by the plan that is found
+  -- the present moment can be the next after the run that the lines record by the plan that is found
   pub come_next : (x : PlannedCell PlannedShop) (c : Cell) → IsCellOf lines start c → IsNextMoment c t → IsComeTo (rest_after lines t) before after made start x → IsNextMoment x.cell t
   come_next x c here next come =
       subst (λ (d : Cell). IsNextMoment d t) (one_cell lines start x.plan c x.cell (same_numbers (rest_after lines t) before after made start x.plan come.0) here come.1) next
@@ -30,7 +30,7 @@ module _ (lines : List (List ℕ)) (t : ℕ) (before after : Option (List Progre
   acyclic_unless p (inl stays) = inr stays.0
   acyclic_unless p (inr came) = inl came.is.costs.acyclic
 
--- the same, where the present moment is told by the cell of the log
+-- the same, where the present moment is known by the cell of the log
 module _ (lines : List (List ℕ)) (at : Option ℕ) (t : ℕ) (before after : Option (List Progress)) (made : ℕ → List Progress → Asked) (start : PlannedShop) (begun : Cell)
     (led : IsCellOf lines start begun) (present : t ≡ present_of at begun.last) (found : Improved) (is : IsImprovedReported lines t before after (made t) start found)
     (c : Cell) (here : IsCellOf lines start c) where

@@ -47,7 +47,7 @@ module _ (s : Setting) where
       never_worse begin begins = subst (IsNoWorse s p) (begin_only start is.begin begin is.begins_at begins)
           (record { cost = is.cost; other = is.first; is = is.is; than = is.than; most = is.most })
 
-      -- what is found, with what is told
+      -- what is found, with what is reported
       pub found_reported : IsFoundReported s before after made start p
       found_reported = record { reported = is.reported; more = is.more; found = record { begin = is.begin; begins_at = is.begins_at; run = is.run } }
 
@@ -81,7 +81,7 @@ module _ (s : Setting) where
     back_same p (Ok found) comes back = tt
     back_same p (Err e) comes back = subst (IsReordered start) (sym back) (same_numbers p comes)
 
-  -- whatever is told
+  -- whatever is reported
   pub found_of_reported : (before after : Option (List Progress)) (made : List Progress → Asked) (start p : PlannedShop) → IsFoundReported s before after made start p
       → IsFound s (λ x y. (reported : List Progress) × made reported x y) start p
   found_of_reported before after made start p is = record { begin = is.found.begin; begins_at = is.found.begins_at; run = (is.reported, is.found.run) }

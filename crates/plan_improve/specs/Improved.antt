@@ -27,7 +27,7 @@ module _ (s : Setting) where
     pub begins_at : IsBegin start begin
     pub run : made begin p
 
-  -- it is what rounds make of that plan, in which whoever watches is told these very things
+  -- it is what rounds make of that plan, in which whoever watches gets these very things
   pub record IsFoundReported (before after : Option (List Progress)) (made : List Progress → Asked) (start p : PlannedShop) : Type 0 where
     pub reported : List Progress
     pub more : ReportsMore before reported after
@@ -37,7 +37,7 @@ module _ (s : Setting) where
   abbrev pub IsNeverWorse : PlannedShop → PlannedShop → Type 0
   IsNeverWorse start p = (begin : PlannedShop) → IsBegin start begin → IsNoWorse s p begin
 
--- the same for the rest of the run that these lines tell: they tell an event
+-- the same for the rest of the run that these lines record: they record an event
 abbrev pub HasNoRestBegin : List (List ℕ) → PlannedShop → Type 0
 HasNoRestBegin lines start = HasCycle start × (LinesParse start lines [] → ⊥)
 

@@ -31,7 +31,7 @@ abbrev pub setting_of : Fixed → Setting
 setting_of (Nothing at_least) = whole_plan
 setting_of (Run log present rest) = rest_after (ended_lines log.now) present
 
--- what an improver is told that is left
+-- what an improver gets as what is left
 abbrev pub rest_in : Fixed → Option Rest
 rest_in (Nothing at_least) = None
 rest_in (Run log present rest) = Some rest.now
@@ -90,13 +90,13 @@ module _ (s : Setting) where
     pub is : s.costs kept.cell.plan kept.cost
     pub most : IsAtMost kept.cost c
 
-  -- the best plan that rounds make of one with its cost, and what is told meanwhile
+  -- the best plan that rounds make of one with its cost, and what is reported meanwhile
   pub record IsLastReported (before after : Option (List Progress)) (made : List Progress → Asked) (p : PlannedShop) (c : Cost) (kept : Best) : Type 0 where
     pub reported : List Progress
     pub more : ReportsMore before reported after
     pub last : IsLast (made reported) p c kept
 
-  -- the plan that questions make of the one with which the search begins, and what is told meanwhile
+  -- the plan that questions make of the one with which the search begins, and what is reported meanwhile
   pub record IsSearched (before after : Option (List Progress)) (made : List Progress → Asked) (start p : PlannedShop) : Type 0 where
     pub begin : PlannedShop
     pub begins_at : IsBegin s start begin

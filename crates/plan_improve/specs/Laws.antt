@@ -33,7 +33,7 @@ NoWorseIsPassedOn = (p q r : PlannedShop) → IsNoWorse whole_plan q p → IsNoW
 abbrev pub NobodyBettersIt : Type 0
 NobodyBettersIt = (p q : PlannedShop) → IsAtBound whole_plan p → IsReordered p q → IsBetter whole_plan q p → ⊥
 
--- lines that tell a run of two plans that differ in their orders alone lead to one cell
+-- lines that record a run of two plans that differ in their orders alone lead to one cell
 abbrev pub EachOrderHasOneCell : Type 0
 EachOrderHasOneCell = (lines : List (List ℕ)) (p q : PlannedShop) (c d : Cell) → IsReordered p q → IsCellOf lines p c → IsCellOf lines q d → c ≡ d
 
@@ -41,7 +41,7 @@ EachOrderHasOneCell = (lines : List (List ℕ)) (p q : PlannedShop) (c d : Cell)
 abbrev pub BeginsWithEntries : Cell → PlannedShop → Type 0
 BeginsWithEntries c q = (m : ℕ) → IsPrefix (entries c m) (order q m)
 
--- lines that tell a run of a plan tell one of another that differs in its orders alone exactly where the entries of the cell at the end begin the other's orders
+-- lines that record a run of a plan record one of another that differs in its orders alone exactly where the entries of the cell at the end begin the other's orders
 abbrev pub ALogIsKeptByTheEntries : Type 0
 ALogIsKeptByTheEntries = (lines : List (List ℕ)) (p q : PlannedShop) (c : Cell) → IsWellShaped p → IsWellShaped q → IsReordered p q → IsCellOf lines p c
     → ParseAsRun q lines ↔ BeginsWithEntries c q

@@ -10,7 +10,7 @@ use Rattle.run_log.specs.Audits.{IsReplayed}
 use Rattle.plan_verifier.specs.Leavings.{AreLeavingsAhead, IsLastLeaving}
 use Rattle.plan_improve.specs.declared.cost.Cost.{Cost}
 
--- the lines tell a run of the plan, and this is the cell at its end
+-- the lines record a run of the plan, and this is the cell at its end
 pub record IsCellOf (lines : List (List ℕ)) (p : PlannedShop) (c : Cell) : Type 0 where
   pub entries : List Entry
   pub parse : LinesParse p lines entries
@@ -29,7 +29,7 @@ pub record IsCostFrom (p : PlannedShop) (c : Cell) (t : ℕ) (cost : Cost) : Typ
   pub makespan : IsLastLeaving p leaves cost.makespan
 
 module _ (lines : List (List ℕ)) (t : ℕ) where
-  -- the same of the rest of the run that the lines tell by the plan
+  -- the same of the rest of the run that the lines record by the plan
   pub record IsRestCost (p : PlannedShop) (cost : Cost) : Type 0 where
     pub cell : Cell
     pub run : IsCellOf lines p cell

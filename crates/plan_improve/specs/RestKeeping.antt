@@ -27,7 +27,7 @@ the_last_leaving = 2020200000000
 abbrev pub LeaveSoon : PlannedShop → Cell → (ℕ → ℕ) → Type 0
 LeaveSoon p c leaves = (j : ℕ) → j < jobs p → (IsGone p c j → ⊥) → leaves j ≤ the_last_leaving
 
--- the run that the lines tell by the plan, before its rest is looked at: its present moment, what is left of it, whether they tell an event, and the cell at its end
+-- the run that the lines record by the plan, before its rest is looked at: its present moment, what is left of it, whether they record an event, and the cell at its end
 pub record IsBegun (lines : List (List ℕ)) (p : PlannedShop) (begun : Begun) : Type 0 where
   pub sound : AreSound p begun.tables
   pub cell : IsCellOf lines p (cell_of p begun.tables)

@@ -1,4 +1,4 @@
--- What a run has left of its plan, as an improver is told it.
+-- What a run has left of its plan, as an improver gets it.
 use Rattle.std.specs.Prelude.{◌≡◌, ℕ, nat_lt, if◌then◌else◌, map}
 use Rattle.std.specs.List.{range_with_len}
 use Rattle.shop_base.specs.Plan.{PlannedShop, jobs, machines, steps}

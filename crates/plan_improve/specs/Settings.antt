@@ -10,11 +10,11 @@ use Rattle.plan_improve.specs.AtBound.{IsBound, Meets}
 use Rattle.plan_improve.specs.RestCosts.{IsCellOf, IsRestCost}
 use Rattle.plan_improve.specs.RestOf.{IsRestOf}
 
--- what a run has left of a plan, as an improver is told it; nothing where no run has begun
+-- what a run has left of a plan, as an improver gets it; nothing where no run has begun
 abbrev pub Left : Type 0
 Left = Option Rest
 
--- what is fixed: the cell to which what has happened leads by a plan, that nothing has happened yet, what a plan costs that keeps it and has no cycle, what an improver is told that is left of it, and the bound of its makespan, if one is known
+-- what is fixed: the cell to which what has happened leads by a plan, that nothing has happened yet, what a plan costs that keeps it and has no cycle, what an improver gets as what is left of it, and the bound of its makespan, if one is known
 pub record Setting : Type 1 where
   pub cells : PlannedShop → Cell → Type 0
   pub fresh : PlannedShop → Type 0
@@ -27,16 +27,16 @@ abbrev pub IsBoundThere : PlannedShop → Option ℕ → Type 0
 IsBoundThere p None = ⊥
 IsBoundThere p (Some n) = IsBound p n
 
--- nothing is fixed: whole plans are compared, and nothing is told to be left
+-- nothing is fixed: whole plans are compared, and nothing is given as left
 abbrev pub whole_plan : Setting
 whole_plan = record { cells = λ p c. c ≡ start p; fresh = λ p. Unit {0}; costs = IsCost; leaves = λ p rest. rest ≡ None; bounds = IsBoundThere }
 
--- this is left of the plan from the cell of the run that the lines tell, and the present moment t on
+-- this is left of the plan from the cell of the run that the lines record, and the present moment t on
 abbrev pub IsRestThere : List (List ℕ) → ℕ → PlannedShop → Left → Type 0
 IsRestThere lines t p None = ⊥
 IsRestThere lines t p (Some rest) = (c : Cell) × IsCellOf lines p c × IsRestOf p c t rest
 
--- the run that the lines tell is fixed: the rests of this run from the present moment t on are compared
+-- the run that the lines record is fixed: the rests of this run from the present moment t on are compared
 abbrev pub rest_after : List (List ℕ) → ℕ → Setting
 rest_after lines t = record {
   cells = IsCellOf lines;

@@ -1,4 +1,4 @@
--- What whoever watches a search is told.
+-- What whoever watches a search gets.
 use Rattle.std.specs.Prelude.{◌≡◌, ℕ, List, ◌++◌, Option, None, Some}
 use Rattle.plan_improve.specs.declared.cost.Cost.{Cost}
 
@@ -8,12 +8,12 @@ pub record Progress : Type 0 where
   pub cost : Cost
   pub at_least : ℕ
 
--- whoever was told these things before, where that is said, was then told those more
+-- whoever got these things before, where that is said, then got those more
 abbrev pub ReportsMore : Option (List Progress) → List Progress → Option (List Progress) → Type 0
 ReportsMore None more after = Unit {0}
 ReportsMore (Some before) more after = after ≡ Some (before ++ more)
 
--- the bound that is told: 0 where none is known
+-- the bound that is reported: 0 where none is known
 abbrev pub reported_bound : Option ℕ → ℕ
 reported_bound None = 0
 reported_bound (Some n) = n

@@ -49,7 +49,7 @@ pub(crate) fn ask_in_rounds<W: Watch>(
     Ok(best)
 }
 
-/// The bound that is told: 0 where none is known.
+/// The bound that is reported: 0 where none is known.
 fn bound_or_zero(at_least: Option<Moment>) -> Moment
     ensures { result ≡ reported_bound at_least }
 {

@@ -5,7 +5,7 @@ use shop_base::Moment;
 
 /// A watcher that gets how far a search has come. It changes nothing in the search.
 pub trait Watch {
-    // What it was told so far, in order; `None` where it doesn't say.
+    // What it got so far, in order; `None` where it doesn't say.
     ghost reported: { Self → Option (List Progress) };
 
     /// Called before each round, which is numbered from 0, with the total lateness (0 if no job is late) and the

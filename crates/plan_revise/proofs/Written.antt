@@ -95,7 +95,7 @@ not_on m r none k within here = go (cases_lt (position_or_len (λ (step : Step).
     go (inl less) = let some = rw (lt-ltb (position_or_len (λ (step : Step). eqb step.machine m) r) (length r) less) at none in found some
     go (inr all) = none_pass (λ (step : Step). eqb step.machine m) r no_step all k within (eq-eqb (step_at r k).machine m here)
 
--- what is told of one kind is of another
+-- what is answered of one kind is of another
 pub reason_more : {X : Type 0} (One Other : ChangeFault → Type 0) → ((fault : ChangeFault) → One fault → Other fault) → (answer : Result X Refusal) → IfErr answer (UnlessMemory One) → IfErr answer (UnlessMemory Other)
 reason_more One Other more (Ok x) why = tt
 reason_more One Other more (Err (Fault fault)) why = more fault why
@@ -159,13 +159,13 @@ made_more s p (first ∷ changes) (suc n) q r change there (next, begun, rest) o
 pub changes_more : (s : Setting) (p : PlannedShop) (changes : List Change) (n : ℕ) (q r : PlannedShop) (change : Change) → slice_get changes n ≡ Some change → AreMade s p (take n changes) q → Becomes s q change r → AreMade s p (take (n + 1) changes) r
 changes_more s p changes n q r change there made one = subst (λ k. AreMade s p (take k changes) r) (sym (add-one n)) (made_more s p changes n q r change there made one)
 
--- the refusal of a change is told at its place
+-- the refusal of a change is answered at its place
 pub first_reason_at : (s : Setting) (p : PlannedShop) (changes : List Change) (n : ℕ) (q : PlannedShop) (change : Change) (refusal : Refusal) → slice_get changes n ≡ Some change → AreMade s p (take n changes) q → UnlessMemory (IsRefused s q change) refusal
     → ParsesFirst s p changes (refused_at n refusal)
 first_reason_at s p changes n q change (Fault fault) there made refused = record { reached = q; before = made; change = change; there = there; refused = refused }
 first_reason_at s p changes n q change Memory there made refused = tt
 
--- what is told first of the changes that are given
+-- what is answered first of the changes that are given
 pub first_reason : (p : PlannedShop) (c : Cell) (t : ℕ) (changes : List Change) (plant : ℕ) (answer : NotRevised) → IsPlant p plant → ParsesFirst (setting p c t plant) p changes answer → IsReason p c t changes answer
 first_reason p c t changes plant (Refused n fault) is_plant first = record { plant = plant; is_plant = is_plant; first = first }
 first_reason p c t changes plant NoMemory is_plant first = tt

@@ -15,7 +15,7 @@ use Rattle.plan_revise.specs.Revised.{IsFirstRefused}
 use Rattle.plan_revise.specs.Settings.{Setting, moves_made, IsAtWork}
 use Rattle.plan_revise.specs.Aside.{HasRoom}
 
--- the fault that is told, unless memory ran out, is one of these
+-- the fault that is answered, unless memory ran out, is one of these
 abbrev pub UnlessMemory : (ChangeFault → Type 0) → Refusal → Type 0
 UnlessMemory Is (Fault fault) = Is fault
 UnlessMemory Is Memory = Unit {0}
@@ -39,12 +39,12 @@ pub record AreFitFor (s : Setting) (p : PlannedShop) (steps : List Step) (releas
   pub release_in_range : release ≤ MAX_RELEASE
   pub budget_in_range : budget ≤ MAX_MOMENT
 
--- what is told of a refusal of the change at place n
+-- what is answered of a refusal of the change at place n
 abbrev pub refused_at : ℕ → Refusal → NotRevised
 refused_at n (Fault fault) = Refused n fault
 refused_at n Memory = NoMemory
 
--- the answer tells the first of the changes that can't be, unless memory ran out
+-- the answer says the first of the changes that can't be, unless memory ran out
 abbrev pub ParsesFirst : Setting → PlannedShop → List Change → NotRevised → Type 0
 ParsesFirst s p changes (Refused n fault) = IsFirstRefused s p changes n fault
 ParsesFirst s p changes NoMemory = Unit {0}

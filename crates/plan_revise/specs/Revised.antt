@@ -37,7 +37,7 @@ module _ (p : PlannedShop) (c : Cell) (t : ℕ) (changes : List Change) where
     pub is_plant : IsPlant p plant
     pub first : IsFirstRefused (setting p c t plant) p changes n fault
 
-  -- the answer tells which, unless memory ran out
+  -- the answer says which, unless memory ran out
   abbrev pub IsReason : NotRevised → Type 0
   IsReason (Refused n fault) = IsRefusedAt n fault
   IsReason Memory = Unit {0}

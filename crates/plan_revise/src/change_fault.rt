@@ -6,7 +6,7 @@ ghost use Rattle.plan_revise.specs.Names.{fault_name};
 use std::alloc::AllocError;
 use thiserror::Error;
 
-/// Why a change can't be: the first reason, in the order in which those of its kind are told.
+/// Why a change can't be: the first reason, in the order in which those of its kind are answered.
 #[derive(Clone, Copy, Debug, PartialEq, Eq, Error)]
 pub enum ChangeFault {
     /// The machine isn't one of the plant's.

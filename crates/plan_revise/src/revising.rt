@@ -80,7 +80,7 @@ impl Draft {
     }
 }
 
-/// What is told of a refusal of the change at this place.
+/// What is answered of a refusal of the change at this place.
 fn refused_at(place: usize, refusal: Refusal) -> NotRevised
     ensures { result ≡ refused_at place refusal }
 {

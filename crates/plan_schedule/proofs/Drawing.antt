@@ -73,7 +73,7 @@ module _ (p : PlannedShop) (c : Cell) (at : Node → ℕ) where
       let none : steps p j - made c j ≡ 0 = omega (arith, is, gone) in
       sym (append-nil visits) ∙ ap (λ (k : ℕ). visits ++ job_visits p at j (made c j) k) (sym none)
 
--- one more of the visits that are told
+-- one more of the visits that are known
 pub one_more_drawn : (of : DrawnVisit → DrawnVisit) (start now new drawn : List DrawnVisit) (i : ℕ) (d : DrawnVisit) → i < length drawn → now ++ map of (drop i drawn) ≡ start ++ map of drawn
     → new ≡ now ++ of (get_or drawn i d) ∷ [] → new ++ map of (drop (i + 1) drawn) ≡ start ++ map of drawn
 one_more_drawn of start now new drawn i d below so_far pushed =
@@ -114,7 +114,7 @@ past_uncleaned p c t m sound past =
     let none = ap (λ (x : MachineState). x.cleaning) (get_or_past c.machines m unused (omega (arith, sound.machine_count, past))) in
     rw none refl
 
--- those that are told, and then those ahead
+-- those that are known, and then those ahead
 pub run_visits : (start mid new drawn ahead : List DrawnVisit) → start ≡ [] → mid ≡ start ++ drawn → new ≡ mid ++ ahead → new ≡ drawn ++ ahead
 run_visits start mid new drawn ahead none ended added = added ∙ ap (λ (l : List DrawnVisit). l ++ ahead) (ended ∙ ap (λ (l : List DrawnVisit). l ++ drawn) none)
 

@@ -1,4 +1,4 @@
--- The moments of a schedule are those of the exact run: no move comes later than they allow, none earlier than a path allows, and so each job and each cleaning has begun as it is told.
+-- The moments of a schedule are those of the exact run: no move comes later than they allow, none earlier than a path allows, and so each job and each cleaning has begun as it is scheduled.
 use Rattle.std.proofs.Common.{◌≡◌, ℕ, ◌+◌, ◌<◌, ◌≤◌, inl, inr, List, [], ◌∷◌, ◌++◌, length, Option, Some, None, refl, sym, ap, ◌∙◌, subst, arith, append_assoc}
 use Rattle.std.proofs.lemmas.Bool.{cases_lt, cases_eq}
 use Rattle.shop_base.specs.declared.node.Node.{Node}
@@ -72,7 +72,7 @@ module _ (p : PlannedShop) (rank moments : Node → ℕ) (shaped : IsWellShaped 
       each_move_is_in_time-holds p rank moments [] 0 rs es end tt (at_once p) from_there goes
       (punctual_reports_are_within-holds p rank moments [] 0 rs es end tt (at_once p) from_there goes punctual)
 
-  -- each job of the shop has made its last move, and each cleaning has begun, as it is told
+  -- each job of the shop has made its last move, and each cleaning has begun, as it is scheduled
   record HasBegunOnTime (c : Cell) : Type 0 where
     jobs_moved : (j k : ℕ) → j < jobs p → made c j ≡ k + 1 → since c j ≡ moments (node j k)
     cleanings_begun : (m from : ℕ) → cleaning c m ≡ Some from → (j : ℕ) × (k : ℕ) × IsLastVisit p c j k m × (from ≡ moments (node j (k + 1)))
@@ -129,7 +129,7 @@ module _ (p : PlannedShop) (rank moments : Node → ℕ) (shaped : IsWellShaped 
     move_on_time begun = record { jobs_moved = move_jobs begun; cleanings_begun = move_cleanings begun }
 
   module _ (due : Node → Option ℕ) where
-    -- so what goes on then is due as it is told
+    -- so what goes on then is due as it is scheduled
     ends_on_time : (c : Cell) (a : Activity) (t : ℕ) → HasBegunOnTime c → GoesOn p c a t → EndsOnTime p moments due c a t
     ends_on_time c (Arrival j) t begun awaited = awaited.is_due
     ends_on_time c (Operation j m) t begun (k, worked) =

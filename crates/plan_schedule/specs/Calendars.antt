@@ -1,4 +1,4 @@
--- What a schedule is told by: a plan and the cell of a run by it, the present moment, the earliest moments, and the deadlines where the rest is accepted.
+-- What a schedule is printed by: a plan and the cell of a run by it, the present moment, the earliest moments, and the deadlines where the rest is accepted.
 use Rattle.std.specs.Prelude.{ℕ, ◌+◌, ◌*◌, ◌≤◌, Option, None, Some, IfSome, List}
 use Rattle.shop_base.specs.declared.node.Node.{Node}
 use Rattle.shop_base.specs.declared.limits.TheConstants.{MAX_MOMENT, MAX_JOBS, MAX_MACHINES, MAX_NOMINAL}

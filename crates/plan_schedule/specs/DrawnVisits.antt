@@ -1,4 +1,4 @@
--- The visits of a run, as a picture draws them: those that are told so far, and those ahead.
+-- The visits of a run, as a picture draws them: those that are known so far, and those ahead.
 use Rattle.std.specs.Prelude.{◌≡◌, ℕ, zero, suc, ◌+◌, ◌-◌, ◌<◌, ◌==◌, nat_le, if◌then◌else◌, List, [], ◌++◌, map, flat_map, Option, None, Some, unwrap_or}
 use Rattle.std.specs.List.{range_with_len}
 use Rattle.shop_base.specs.declared.node.Node.{Node}
@@ -44,7 +44,7 @@ abbrev pub place_behind : ℕ → Option ℕ
 place_behind zero = None
 place_behind (suc k) = Some k
 
--- a cleaning whose end isn't told ends so
+-- a cleaning whose end isn't known ends so
 abbrev pub ended_cleaning : Cleaned → Option ℕ → Cleaned
 ended_cleaning Never end = Never
 ended_cleaning (By at) end = By at
@@ -78,7 +78,7 @@ module _ (p : PlannedShop) (c : Cell) (t : ℕ) where
   }
 
 module _ (p : PlannedShop) (c : Cell) (t : ℕ) (at : Node → ℕ) where
-  -- the visit that a job is in by its step k: its operation ends as it is told, or else when it is due; the job leaves with its next move
+  -- the visit that a job is in by its step k: its operation ends as it is known, or else when it is due; the job leaves with its next move
   abbrev pub going_visit : DrawnVisit → ℕ → DrawnVisit
   going_visit visit k = record {
     job = visit.job;
@@ -94,7 +94,7 @@ module _ (p : PlannedShop) (c : Cell) (t : ℕ) (at : Node → ℕ) where
   staying_visit visit None = visit
   staying_visit visit (Some k) = going_visit visit k
 
-  -- a visit that is told so far, with its ends
+  -- a visit that is known so far, with its ends
   abbrev pub ended_by : DrawnVisit → Option ℕ → DrawnVisit
   ended_by visit None = staying_visit visit (place_inside p c visit.job)
   ended_by visit (Some left) = left_visit p c t visit
@@ -115,7 +115,7 @@ module _ (p : PlannedShop) (c : Cell) (at : Node → ℕ) where
 abbrev pub leavings_by : PlannedShop → (Node → ℕ) → ℕ → List (Option ℕ)
 leavings_by p at count = map (λ j. Some (at (leaving p j))) (range_with_len 0 count)
 
--- the run that goes on from a cell c and a present moment t, of which these visits are told so far: they end, and those ahead follow, by the earliest moments; a job that is gone leaves when it left
+-- the run that goes on from a cell c and a present moment t, of which these visits are known so far: they end, and those ahead follow, by the earliest moments; a job that is gone leaves when it left
 pub record IsDrawnRun (p : PlannedShop) (c : Cell) (t : ℕ) (drawn : List DrawnVisit) (run : DrawnRun) : Type 0 where
   pub moments : Node → ℕ
   pub earliest : AreRestMoments p c t moments
@@ -135,6 +135,6 @@ pub record AreDrawnVisits (p : PlannedShop) (visits : List DrawnVisit) : Type 0 
   pub earliest : AreEarliest p moments
   pub are : visits ≡ all_visits p moments (jobs p)
 
--- from the start and moment 0 on, with nothing told, the visits are those of the plan
+-- from the start and moment 0 on, with nothing known, the visits are those of the plan
 abbrev pub TheRunOfTheStartIsDrawnAsThePlan : Type 0
 TheRunOfTheStartIsDrawnAsThePlan = (p : PlannedShop) (run : DrawnRun) → IsWellShaped p → IsDrawnRun p (start p) 0 [] run → AreDrawnVisits p run.visits.items

@@ -7,7 +7,7 @@ use Rattle.plan_schedule.specs.declared.lines.Visit.{Visit}
 use Rattle.plan_schedule.specs.declared.lines.Cleaning.{Cleaning}
 
 module _ (names : NameBook) where
-  -- ` by D`, where there is a deadline and it is told
+  -- ` by D`, where there is a deadline and it is printed
   abbrev pub due_words : Option ℕ → List (List ℕ)
   due_words None = []
   due_words (Some due) = if is_deadline_printed names due then codes " by " ∷ moment_word names due ∷ [] else []

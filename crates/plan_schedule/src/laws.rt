@@ -22,7 +22,7 @@ pub fn the_rest_of_the_start_is_scheduled_as_the_plan()
     ensures { TheRestOfTheStartIsScheduledAsThePlan }
 {}
 
-/// From the cell at the start and moment 0 on, with no visit told, the visits that are drawn are those of the plan's
+/// From the cell at the start and moment 0 on, with no visit known, the visits that are drawn are those of the plan's
 /// exact run: the jobs ascending, each job's visits in the order of its route.
 #[tactic(auto, using(crate::proofs::Drawing::start_drawn))]
 pub fn the_run_of_the_start_is_drawn_as_the_plan()

@@ -1,7 +1,7 @@
 //! The schedule of a plan: when each job arrives, when each visit and each cleaning begins and ends in the exact
 //! run, and how late each may end.
 //!
-//! All is told of the rest of a run, from a cell and a present moment on; a whole plan is that of a run that hasn't
+//! All is printed of the rest of a run, from a cell and a present moment on; a whole plan is that of a run that hasn't
 //! begun.
 #![tactic(auto)]
 

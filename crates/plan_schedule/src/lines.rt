@@ -32,7 +32,7 @@ pub(crate) struct Cleaning {
     pub due: Option<Moment>,
 }
 
-/// Adds `job J arrives R by D`, without ` by D` if there is no deadline to tell.
+/// Adds `job J arrives R by D`, without ` by D` if there is no deadline to print.
 pub(crate) fn push_arrival_line(
     text: &mut Vec<u8>,
     names: &Names,
@@ -111,7 +111,7 @@ pub(crate) fn push_cleaning_line(
     push_line(text, &line)
 }
 
-/// Writes the deadline, if there is one to tell.
+/// Writes the deadline, if there is one to print.
 #[inline(always)]
 fn put_due(line: &mut Line, names: &Names, due: Option<Moment>)
     requires { length line.old ≤ 60 }

@@ -1,4 +1,4 @@
-//! The visits of a run, as a picture draws them: those told so far with their ends, and those ahead.
+//! The visits of a run, as a picture draws them: those known so far with their ends, and those ahead.
 
 ghost use Rattle.std.specs.Prelude.{◌≡◌, ◌+◌, ◌-◌, ◌<◌, ◌≤◌, ◌++◌, map, IfOk, IfSome, OnOk, unwrap_or};
 ghost use Rattle.shop_base.specs.{Report.IsNextMoment, Plan.jobs, Plan.steps, Cell.made};
@@ -28,9 +28,9 @@ pub struct DrawnRun {
 }
 
 /// The run that goes on from a cell and the present moment, by the earliest moments ahead: first the visits that are
-/// told so far, in their order, with their ends, and then those ahead, the jobs ascending, each job's visits in the
+/// known so far, in their order, with their ends, and then those ahead, the jobs ascending, each job's visits in the
 /// order of its route. What is overdue is taken to end at the present moment. A whole plan is such a run from the start
-/// on, of which nothing is told. Fails only when out of memory.
+/// on, of which nothing is known. Fails only when out of memory.
 pub fn drawn_run<'a, P: Planned>(
     alloc: Global,
     cell: &'a WorkCell<P>,
@@ -67,7 +67,7 @@ fn leavings_by<P: Planned>(
     Ok(leavings)
 }
 
-/// Adds the visits that are told so far, with their ends.
+/// Adds the visits that are known so far, with their ends.
 fn push_drawn<P: Planned>(
     visits: &mut Vec<DrawnVisit>,
     calendar: &Calendar<'_, P>,
@@ -83,7 +83,7 @@ fn push_drawn<P: Planned>(
     Ok(())
 }
 
-/// A visit that is told so far, with its ends.
+/// A visit that is known so far, with its ends.
 fn ended_visit<P: Planned>(calendar: &Calendar<'_, P>, visit: DrawnVisit) -> DrawnVisit
     ensures { let k = calendar.now in result ≡ ended_visit k.plan k.cell k.present (at_of k) visit }
 {
@@ -119,7 +119,7 @@ fn cleaning_end<P: Planned>(calendar: &Calendar<'_, P>, machine: MachineNo) -> O
     Some(cleaning.to)
 }
 
-/// A cleaning, with this end if its own isn't told.
+/// A cleaning, with this end if its own isn't known.
 fn ended_cleaning(cleaned: Cleaned, end: Option<Moment>) -> Cleaned
     ensures { result ≡ ended_cleaning cleaned end }
 {
@@ -182,7 +182,7 @@ fn going_visit<P: Planned>(calendar: &Calendar<'_, P>, visit: DrawnVisit, place:
     }
 }
 
-/// A moment as it is told, else this one.
+/// A moment as it is known, else this one.
 fn moment_or(moment: Option<Moment>, other: Moment) -> Moment
     ensures { result ≡ unwrap_or moment other }
 {

@@ -23,7 +23,7 @@ pub fn schedule(alloc: Global, verdict: &Verdict) -> Result<Vec<u8>, AllocError>
 /// ascending order, its arrival, its visits in the order of its route, and after each visit of a machine with
 /// a cleaning time the cleaning. Moments are those of the exact run, in which each activity takes its nominal time; if
 /// the plan is accepted, the deadlines follow them. A plan with a cycle has only its first line, as no run of it has
-/// moments for all. Behind the first line jobs, machines and moments are told by names and clock.
+/// moments for all. Behind the first line jobs, machines and moments are written by names and clock.
 pub fn schedule_for(alloc: Global, names: &Names, verdict: &Verdict) -> Result<Vec<u8>, AllocError>
     requires { OnRefused IsReason verdict.now }
     ensures { IfOk result (λ text. IsScheduled names.now verdict.now text.items) }

@@ -14,10 +14,10 @@ use std::cell::Cell;
 use std::rc::Rc;
 use std::test::Fail;
 
-/// Counts the rounds that it is told of.
+/// Counts the rounds that are reported to it.
 #[derive(Drop)]
 struct Watched {
-    /// How many there were. One that is told out of turn counts as a million.
+    /// How many there were. One that is reported out of turn counts as a million.
     rounds: u32,
 }
 
@@ -113,7 +113,7 @@ const SILENT: Answer = Answer::Silent;
 const SERIAL: Answer = Answer::Serial;
 
 /// A plan, the improvers, the rounds, the plan that comes out or back, whether it is accepted or the fault, how many
-/// rounds are told to the watch, and how often improvers are asked.
+/// rounds are reported to the watch, and how often improvers are asked.
 type Search = (
     &'static [u8],
     [Answer; 3],
@@ -217,7 +217,7 @@ const SEARCHES: &[Search] = &[
         1000,
         3000,
     ),
-    // Once the best plan meets its bound, no round is told, and nobody is asked, in a round that has begun either.
+    // Once the best plan meets its bound, no round is reported, and nobody is asked, in a round that has begun either.
     (
         AT_ITS_BOUND,
         [Answer::Hungry, SILENT, SILENT],
@@ -266,7 +266,7 @@ const SEARCHES: &[Search] = &[
     ),
 ];
 
-/// How the search ends, how many rounds are told, and how often improvers are asked.
+/// How the search ends, how many rounds are reported, and how often improvers are asked.
 fn searched(
     alloc: Global,
     plans: [&[u8]; 2],

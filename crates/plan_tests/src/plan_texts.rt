@@ -30,7 +30,7 @@ fn is_told(alloc: Global, plan: &Plan, told: &str) -> Result<bool, Fail> {
     Ok(format!(in alloc; "{plan:?}")?.as_str() == told)
 }
 
-/// Whether the plan of the text is told so.
+/// Whether the plan of the text is read so.
 fn is_read(alloc: Global, text: &[u8], told: &str) -> Result<bool, Fail> {
     let plan = read_plan(alloc, text)?;
     is_told(alloc, &plan, told)

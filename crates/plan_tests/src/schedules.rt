@@ -1,5 +1,5 @@
-//! What a schedule tells of an accepted plan, of a late one, and of one with a cycle, and what is drawn, where there is
-//! memory enough.
+//! What a schedule answers of an accepted plan, of a late one, and of one with a cycle, and what is drawn, where there
+//! is memory enough.
 
 ghost use Rattle.std.specs.Prelude.{◌≡◌, IfOk};
 ghost use Rattle.plan_verifier.specs.Verdicts.{OnRefused, IsReason};

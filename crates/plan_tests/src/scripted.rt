@@ -46,7 +46,7 @@ pub(crate) struct Scripted {
 }
 
 impl Scripted {
-    /// Counts a question, and tells what is given.
+    /// Counts a question, and answers what is given.
     fn asked(&self, round: u32) -> Answer {
         let turn = round.saturating_mul(ASKED).saturating_add(self.place);
         let before = self.questions.get();

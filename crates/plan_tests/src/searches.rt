@@ -150,7 +150,7 @@ const SEARCHES: &[Search] = &[
     (TIGHT, WRONG, 0, 20, "Exhausted", 60),
     (AMPLE, [HUNGRY, SILENT, SILENT], 0, 20, "Memory", 1),
     (AMPLE, [SILENT, Answer::Crossed, HUNGRY], 0, 20, "Memory", 3),
-    // None is asked for what is refused. Bad numbers are told before too many rounds.
+    // None is asked for what is refused. Bad numbers are answered before too many rounds.
     (
         ONE_RELEASE,
         [HUNGRY, SILENT, SILENT],

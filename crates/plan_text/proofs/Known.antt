@@ -15,7 +15,7 @@ use Rattle.plan_text.specs.Plans.{IsCommonKey, IsKeyOf, HasOnlyKeys}
 use Rattle.plan_text.specs.Answers.{IsFirstOf}
 use Rattle.plan_text.specs.Listing.{is_common_key, is_known_key, key_faults}
 
--- ---- what the test of all keys tells
+-- ---- what the test of all keys shows
 
 pub unknown_first : (cleaning : Bool) (entries : List (String Global × Value)) → list_all (λ key. is_known_key cleaning (string_bytes key)) (keys_of entries) ≡ false
     → IsFirstOf (key_faults cleaning (members_view entries)) UnknownKey

@@ -79,7 +79,7 @@ came_drawn Is files (Ok drawn) before after outcome asked is draws = inl (is.1, 
 came_drawn Is files (Err fault) before after outcome asked is draws = inr (draws.0 ∙ ap Err is, draws.1)
 
 module _ (content : List ℕ → Result (List ℕ) CommandFault) where
-  -- a file that is there was asked for, and what it tells was read
+  -- a file that is there was asked for, and what it gives was read
   pub asked_and_read : {A : Type 0} (Is : List ℕ → Result A CommandFault → Type 0) (path text : List ℕ) → content path ≡ Ok text → (before : List (List ℕ)) (came : Result (List ℕ) CommandFault) (mid : List (List ℕ))
       (read : Result A CommandFault) (after : List (List ℕ)) → Asks (Shelf content) path before came mid → GoesOn (λ t. Concludes (Is t)) came mid read after → Is text read × (after ≡ before ++ path ∷ [])
   asked_and_read Is path text is before (Ok t) mid read after given on =
@@ -99,7 +99,7 @@ module _ (content : List ℕ → Result (List ℕ) CommandFault) where
       facts_answered path text description name shop outcome asked parses read.0 read.1
 
 module _ (content : List ℕ → Result (List ℕ) CommandFault) (pair : PairOfFiles) (p : PlannedShop) (good : ParseAsPlan content pair p) where
-  -- the plan's text tells its plan
+  -- the plan's text gives its plan
   plan_came : (shop : JobShop) (came : Result ShopPlan CommandFault) (mid : List (List ℕ)) (read : Result PlannedShop CommandFault) (asked : List (List ℕ)) → shop ≡ p.shop → IsPlanRead good.plan came
       → mid ≡ pair.path ∷ pair.plan ∷ [] → GoesOn (λ plan. Concludes (λ r. r ≡ Ok (record { shop = shop; plan = plan }))) came mid read asked → IsAnswered (λ q. q ≡ p) (pair.path ∷ pair.plan ∷ []) read asked
   plan_came shop (Ok plan) mid read asked same_shop is files on =
@@ -110,7 +110,7 @@ module _ (content : List ℕ → Result (List ℕ) CommandFault) (pair : PairOfF
       subst (λ r. IsAnswered (λ q. q ≡ p) (pair.path ∷ pair.plan ∷ []) r asked) (sym on.0) (same, on.1 ∙ files)
   plan_came shop (Err f) mid read asked same_shop is files on = wanting _ _ read asked (on.0 ∙ ap Err (is.only p.plan good.tell.plan))
 
-  -- so does the instance's text tell its shop
+  -- so does the instance's text give its shop
   instance_came : (came : Result Named CommandFault) (mid : List (List ℕ)) (read : Result PlannedShop CommandFault) (asked : List (List ℕ)) → IsInstanceRead good.instance pair.name came → mid ≡ pair.path ∷ []
       → GoesOn (λ named. Then (ReadsPlan (Shelf content) pair.plan) (λ plan. Concludes (λ r. r ≡ Ok (record { shop = named.shop; plan = plan })))) came mid read asked
       → IsAnswered (λ q. q ≡ p) (pair.path ∷ pair.plan ∷ []) read asked
@@ -298,7 +298,7 @@ module _ (content : List ℕ → Result (List ℕ) CommandFault) (pair : PairOfF
   good_drive protocol before after outcome asked shaped acceptable run =
       loaded_drives protocol run.loaded asked before after outcome shaped acceptable (good_plan IsLoaded run.loaded asked run.loads) run.drives
 
-  -- the text of the log that came is taken up
+  -- the text of the log that came is recovered
   log_resumes : (protocol : Protocol) (at : Option ℕ) (log text : List ℕ) (came : Result (List ℕ) CommandFault) (mid asked : List (List ℕ)) (before after : Streams) (outcome : Result Answer CommandFault) → content log ≡ Ok text
       → mid ≡ pair.path ∷ pair.plan ∷ [] → Asks (Shelf content) log mid came asked → ResumesText protocol at p came before after outcome
       → (asked ≡ pair.path ∷ pair.plan ∷ log ∷ []) × ResumesText protocol at p (Ok text) before after outcome

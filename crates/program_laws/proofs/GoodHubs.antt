@@ -46,7 +46,7 @@ cells_drive protocol files plans (Ok (Line answer)) before after outcome asked i
 cells_drive protocol files plans (Ok (AllAccepted cells)) before after outcome asked is drives = inl (is.1, (cells.items, is.0, drives))
 
 module _ (content : List ℕ → Result (List ℕ) CommandFault) (instance : List ℕ) (name : Option (List ℕ)) where
-  -- a plan's text tells its plan
+  -- a plan's text gives its plan
   plan_came : (path : List ℕ) (p : PlannedShop) (good : ParsesAsPlanOf content instance name path p) (shop : JobShop) (came : Result ShopPlan CommandFault) (before mid : List (List ℕ))
       (loaded : Result Loaded CommandFault) (asked : List (List ℕ)) → shop ≡ p.shop → IsPlanRead good.plan came → mid ≡ before ++ path ∷ []
       → GoesOn (λ plan. Concludes (IsOrMemory (IsLoaded (record { shop = shop; plan = plan })))) came mid loaded asked → IsAnswered (IsLoaded p) (before ++ path ∷ []) loaded asked

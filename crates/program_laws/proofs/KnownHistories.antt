@@ -60,7 +60,7 @@ new_log_has_history gives words before logs start digits there output none are c
 
 -- ---- a log with bytes
 
--- what is told again of a log that was taken up is one text
+-- what is written again of a log that was recovered is one text
 same_replay : (protocol : Protocol) (p : PlannedShop) (lines : List (List ℕ)) (at : Option ℕ) (recovered other : Recovered) → IsRecovered p lines at recovered → IsRecovered p lines at other → replay_text protocol other ≡ replay_text protocol recovered
 same_replay protocol p lines at recovered other up also =
     let one = one_recovery p lines at recovered other up also in

@@ -47,7 +47,7 @@ module _ (p : PlannedShop) where
   undriven None driven = absurd (cc driven.2)
   undriven (Some bytes) driven = absurd (cc driven.2)
 
-  -- the plan by which it goes on is the one by which it was taken up
+  -- the plan by which it goes on is the one by which it was recovered
   recovered_plan : (protocol : Protocol) (q : PlannedShop) (t : Recovered) (mid : Output) (replay : Result Recovered DriveFault) (step : Step) → plan_of t ≡ q → GoesOnAfter protocol t mid replay step → DrivenBy p step.log → p ≡ q
   recovered_plan protocol q t mid (Ok done) step planned run driven = (let same : p ≡ plan_of t = cc (sym driven.2 ∙ run.log) in same ∙ planned)
   recovered_plan protocol q t mid (Err fault) step planned is driven = absurd (cc (sym driven.2 ∙ is.2))

@@ -16,7 +16,7 @@ use Rattle.drive_laws.proofs.GoneOnAsOne.{it_is_one_so_far, it_is_recovered_as_o
 use Rattle.drive_laws.proofs.Resumes.{recovered_to_rest}
 use Rattle.program_laws.specs.OneLogLaw.{ANewLogIsOfOneRun, ARecoveredLogIsOfOneRun}
 
--- what was left tells the first events of a run
+-- what was left records the first events of a run
 from_left : (p : PlannedShop) (recorded came entries : List Entry) (shown left : List ℕ) → IsRecoveredAgain p recorded came shown left → entries ≡ recorded ++ came → IsRunPrefix p (whole_lines left) entries
 from_left p recorded came entries shown left again whole = record {
   recorded = recorded ++ again.kept;

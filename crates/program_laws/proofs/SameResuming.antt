@@ -1,4 +1,4 @@
--- A run that is taken up writes the same, and behind a log without events what `drive` writes.
+-- A run that is recovered writes the same, and behind a log without events what `drive` writes.
 use Rattle.std.proofs.Common.{◌≡◌, ℕ, ◌≤◌, ◌++◌, List, [], ◌∷◌, Bool, true, false, Option, None, Some, Result, Ok, Err, length, get_or, map, option_map, inl, inr, ap, sym, ◌∙◌, subst, arith, refl}
 use Rattle.std.specs.Prelude.{unwrap_or}
 use Rattle.std.specs.Io.KnownBytes.{Appends}
@@ -84,7 +84,7 @@ asked_log words pair log chosen ask is = ap (λ (fs : List (List ℕ)). get_or f
 
 -- ---- what a good run wrote
 
--- the text for its input from what was taken up, in this manner
+-- the text for its input from what was recovered, by this protocol
 record Resumed (p : PlannedShop) (protocol : Protocol) (lines : List (List ℕ)) (at : Option ℕ) (input : List ℕ) (status : ℕ) (written : List ℕ) : Type 0 where
   pub recovered : Recovered
   pub up : IsRecovered p lines at recovered
@@ -164,7 +164,7 @@ module _ (content : List ℕ → Result (List ℕ) CommandFault) (words : List (
     resumed_so protocol lines at recovered up (Err fault) (inr on) answer =
         absurd (never_broke SessionAnswer SessionCloses (session_from protocol recovered) on.end (again_of protocol recovered) on.middle fault on.streamed answer)
 
-    -- a log that can be taken up
+    -- a log that can be recovered
     log_resumed : (protocol : Protocol) (at : Option ℕ) (text : List ℕ) → IsRecoverable p (ended_lines text) at → (recovered : Result Recovered ResumeFault) → IsRecovery p at text recovered
         → ResumesRecovered protocol recovered well.before.streams mid outcome → Resumed p protocol (ended_lines text) at input status written
     log_resumed protocol at text can (Ok recovered) is on = resumed_so protocol (ended_lines text) at recovered is.is on.end on.is on.answer

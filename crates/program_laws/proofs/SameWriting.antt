@@ -154,7 +154,7 @@ ended_as done (Ok answer) before after printed_before printed_after status unfai
     (printed.0 ∙ is.1, (answer.text.items, is.0, printed.1))
 ended_as done (Err fault) before after printed_before printed_after status unfailed is ends = absurd is
 
--- what a good run of `drive` wrote: the answer text of its input in this manner
+-- what a good run of `drive` wrote: the answer text of its input by this protocol
 pub record Wrote (p : PlannedShop) (protocol : Protocol) (input : List ℕ) (status : ℕ) (written : List ℕ) : Type 0 where
   pub state : DrivenCell
   pub done : Bool

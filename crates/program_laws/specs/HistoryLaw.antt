@@ -20,15 +20,15 @@ use Rattle.command_run.specs.Program.{IsHistoryOfWords, is_second, pair_in}
 use Rattle.command_run.specs.Laws.{Shelf, ParseAsPlan}
 use Rattle.program_laws.specs.ResumeLaw.{moment_given}
 
--- the manner that words ask for
+-- the protocol that words ask for
 abbrev pub manner_of : List (List ℕ) → Protocol
 manner_of words = record { version_2 = is_second (lines_in (rows_found (found_in words))); max_gap = leap_in (rows_found (found_in words)); from = unwrap_or (moment_given words) 0 }
 
--- each plan that the files which the words name may tell has these digits, with its shop
+-- each plan that the files which the words name may give has these digits, with its shop
 abbrev pub AreDigitsOfPlan : {W : Type 0} → (W → List ℕ → Result (List ℕ) CommandFault → W → Type 0) → List (List ℕ) → W → RunDigits → Type 0
 AreDigitsOfPlan {W} gives words texts digits = (chosen : Chosen) (p : PlannedShop) (mid : W) → IsChoiceOf words (found_in words) chosen → Shapes gives (pair_in chosen) texts (Ok (Ok p)) mid → digits_in p ≡ digits
 
--- of a log that isn't there, or has no bytes, it is told that it has the line of the plan, and of the output what it has taken
+-- of a log that isn't there, or has no bytes, it is known that it has the line of the plan, and of the output what it has taken
 abbrev pub NewLogHasHistory : {W : Type 0} → (W → List ℕ → Result (List ℕ) CommandFault → W → Type 0) → Type 0
 NewLogHasHistory {W} gives = (words : List (List ℕ)) (before : Devices W) (logs : List NamedLog) (start : List ℕ) (digits : RunDigits) → before.folder.logs ≡ Some logs → before.streams.output.written ≡ Some start
     → ((path : List ℕ) → kept_in (rows_found (found_in words)) ≡ Some path → IfSome (held logs path) (λ bytes. bytes ≡ [])) → AreDigitsOfPlan gives words before.texts digits
@@ -41,7 +41,7 @@ pub record AskForLog (words : List (List ℕ)) (pair : PairOfFiles) (log : List 
   pub name : pair.name ≡ instance_in (rows_found (found_in words))
   pub plan : pair.plan ≡ get_or (files_in (rows_found (found_in words))) 1 []
 
--- of a log with bytes, from which the run is taken up by the plan that the files tell, its whole lines are told, with the line of the plan behind them unless it is their last one; and behind what the output has taken the events that are told again
+-- of a log with bytes, from which the run is recovered by the plan that the files give, its whole lines are known, with the line of the plan behind them unless it is their last one; and behind what the output has taken the events that are written again
 abbrev pub OldLogHasHistory : Type 0
 OldLogHasHistory = (content : List ℕ → Result (List ℕ) CommandFault) (words : List (List ℕ)) (pair : PairOfFiles) (log : List ℕ) (byte : ℕ) (bytes base : List ℕ) (p : PlannedShop) (recovered : Recovered)
     (before : Devices (List (List ℕ))) (logs : List NamedLog) (start : List ℕ)

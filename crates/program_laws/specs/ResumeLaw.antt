@@ -1,4 +1,4 @@
--- The laws that a run which is taken up writes the same, and behind a log without events what `drive` writes.
+-- The laws that a run which is recovered writes the same, and behind a log without events what `drive` writes.
 use Rattle.std.specs.Prelude.{◌≡◌, ℕ, ◌≤◌, List, [], ◌∷◌, length, get_or, Option, None, Result, Ok}
 use Rattle.shop_base.specs.Plan.{PlannedShop, IsWellShaped}
 use Rattle.text_lines.specs.declared.limits.TheConstants.{MAX_INPUT}
@@ -25,7 +25,7 @@ pub record AskForResume (words : List (List ℕ)) (pair : PairOfFiles) (log : Li
 abbrev pub moment_given : List (List ℕ) → Option ℕ
 moment_given words = at_in (rows_found (found_in words))
 
--- `resume` of a log that can be taken up writes the same, and ends with the same status, whenever it is run on the same words, files and input, of no more bytes than the limit
+-- `resume` of a log that can be recovered writes the same, and ends with the same status, whenever it is run on the same words, files and input, of no more bytes than the limit
 abbrev pub ResumeWritesTheSame : Type 0
 ResumeWritesTheSame = (content : List ℕ → Result (List ℕ) CommandFault) (words : List (List ℕ)) (pair : PairOfFiles) (log text : List ℕ) (p : PlannedShop) (input : List ℕ) (status other_status : ℕ) (written other : List ℕ)
     → AskForResume words pair log → ParseAsPlan content pair p → IsWellShaped p → content log ≡ Ok text → IsRecoverable p (ended_lines text) (moment_given words) → length input ≤ MAX_INPUT

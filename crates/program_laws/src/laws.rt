@@ -114,9 +114,9 @@ pub fn drive_writes_the_same()
     ensures { DriveWritesTheSame }
 {}
 
-/// The same holds of `resume`, where the plan is well shaped and the log can be taken up by it. If the log tells no
+/// The same holds of `resume`, where the plan is well shaped and the log can be recovered by it. If the log records no
 /// event, the plan is accepted and no present moment is given, `resume` writes an empty line, and then what `drive`
-/// writes with the same files, the same input and the same manner of the lines.
+/// writes with the same files, the same input and the same protocol.
 pub fn resume_writes_the_same()
     ensures same { ResumeWritesTheSame }
     ensures as_drive { ResumeWritesAsDrive }
@@ -137,16 +137,16 @@ pub fn nothing_is_held_back<T: Texts>()
 {}
 
 /// If a run ends with 2 or more, only what driven cells answered was written on the output (for a run that was
-/// taken up, its events once more before that), or a picture, whole or up to a write that failed. They are the cells of
-/// the plans, and the picture of the plan or the log, in the files that the words name. Such a plan is accepted, or a
-/// run was taken up by it. After that come at most the first bytes of the command's answer, if a write of it failed.
+/// recovered, its events once more before that), or a picture, whole or up to a write that failed. They are the cells
+/// of the plans, and the picture of the plan or the log, in the files that the words name. Such a plan is accepted, or
+/// a run was recovered by it. After that come at most the first bytes of the command's answer, if a write of it failed.
 pub fn what_fails_is_no_answer<T: Texts>()
     ensures { WhatFailsIsNoAnswer T.gives }
 {}
 
-/// Where the logs and the output are told, what `run` asks of the history of a log can be told: of a log that isn't
+/// Where the logs and the output are known, what `run` asks of the history of a log can be said: of a log that isn't
 /// there or is empty, that it has no bytes; of any other, by files that don't change, its whole lines and the text that
-/// tells its events again, if a run is taken up from it.
+/// writes its events again, if a run is recovered from it.
 pub fn a_log_has_history<T: Texts>()
     ensures new_log { NewLogHasHistory T.gives }
     ensures old_log { OldLogHasHistory }
@@ -161,15 +161,15 @@ pub fn no_other_plan_drives<T: Texts>()
 
 /// A run that ends with 4, since memory ran out, has changed no byte of its log: it appended none, and cut none off.
 /// (What a log that is held at the end has is said by the clause of `run`, and *written* of [`run_journal::LogFile`] is
-/// what that tells.)
+/// what says that.)
 pub fn want_of_memory_changes_no_log<T: Texts>()
     ensures { WantOfMemoryChangesNoLog T.gives }
 {}
 
-/// However often a crash cuts its log and the run is taken up from there, by its own plan and with no moment given, all
-/// its events are one controlled run: what a crash leaves of the log tells the first of them, and the orders that are
-/// due are the next. So by [`drive_laws::laws::a_driven_run_goes_on_as_one`] an accepted plan's budgets are kept as if
-/// there had been no crash.
+/// However often a crash cuts its log and the run is recovered from there, by its own plan and with no moment given,
+/// all its events are one controlled run: what a crash leaves of the log records the first of them, and the orders that
+/// are due are the next. So by [`drive_laws::laws::a_driven_run_goes_on_as_one`] an accepted plan's budgets are kept as
+/// if there had been no crash.
 pub fn a_log_is_of_one_run()
     ensures new_log { ANewLogIsOfOneRun }
     ensures recoverable { ARecoveredLogIsOfOneRun }

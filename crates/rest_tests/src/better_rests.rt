@@ -16,7 +16,7 @@ use std::cell::Cell;
 use std::rc::Rc;
 use std::test::Fail;
 
-/// Notes what it is told in each of two rounds.
+/// Notes what it gets in each of two rounds.
 #[derive(Drop)]
 struct Told {
     /// The total lateness and the makespan of the best plan before each round.
@@ -24,7 +24,7 @@ struct Told {
 }
 
 impl Told {
-    /// Nothing is told yet.
+    /// Nothing is reported yet.
     fn nothing() -> Told {
         Told {
             costs: [(0, 0), (0, 0)],

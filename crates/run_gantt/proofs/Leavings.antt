@@ -1,4 +1,4 @@
--- Tables of what is told first: at first no entry is noted, and in the end all are.
+-- Tables of what is recorded first: at first no entry is noted, and in the end all are.
 use Rattle.std.proofs.Common.{◌≡◌, ℕ, List, [], Option, None, length, drop, sym, ap, subst, ◌∙◌, arith}
 use Rattle.std.proofs.lemmas.List.{ext_get_or}
 use Rattle.std.proofs.lemmas.List.FromFn.{length-map-range_with_len, get_or-map-range_with_len}

@@ -1,4 +1,4 @@
--- What an entry tells of a job on a machine, and the table in which it is noted.
+-- What an entry records of a job on a machine, and the table in which it is noted.
 use Rattle.std.proofs.Common.{◌≡◌, ℕ, ◌+◌, ◌*◌, ◌<◌, ◌⊎◌, inl, inr, Bool, true, false, ◌==◌, ◌&&◌, if◌then◌else◌, List, ◌∷◌, length, get_or, set, None, Some, refl, sym, ap, ◌∙◌, arith, get_or-set_other, length-set}
 use Rattle.std.proofs.lemmas.Bool.{cases_eq, eq-eqb, eqb-true}
 use Rattle.std.proofs.lemmas.Grind.{get_or-set_at}
@@ -11,12 +11,12 @@ use Rattle.run_gantt.specs.declared.visit_ends.VisitEnd.{VisitEnd}
 use Rattle.run_gantt.specs.Visits.{finish_in, leave_in, visit_end}
 use Rattle.run_gantt.specs.VisitEnds.{no_end, IsPlace, AreVisitEnds}
 
--- an entry tells nothing of this job and machine
+-- an entry records nothing of this job and machine
 pub record HasNoEnd (entry : Entry) (j m : ℕ) : Type 0 where
   pub finish : finish_in j m entry ≡ None
   pub leave : leave_in j m entry ≡ None
 
--- so the end of the visit is what the later entries tell
+-- so the end of the visit is what the later entries record
 no_end-passed : (j m : ℕ) (entry : Entry) (later : List Entry) → HasNoEnd entry j m → visit_end j m (entry ∷ later) ≡ visit_end j m later
 no_end-passed j m entry later nothing = rw (nothing.finish, nothing.leave) refl
 
@@ -50,7 +50,7 @@ leave-first : (order : MoveOrder) (m : ℕ) (later : List Entry) → order.sourc
     → visit_end order.job m (OrderEntry order ∷ later) ≡ record { finish = (visit_end order.job m later).finish; leave = Some order.at }
 leave-first order m later from = rw (from, eq-eqb order.job order.job refl, eq-eqb m m refl) refl
 
--- an entry that tells nothing of what the table is for leaves it as it was
+-- an entry that records nothing of what the table is for leaves it as it was
 pub ends-kept : (ends : List VisitEnd) (entry : Entry) (later : List Entry)
     → ((i n place : ℕ) → IsPlace (length ends) i n place → HasNoEnd entry i n) → AreVisitEnds ends later → AreVisitEnds ends (entry ∷ later)
 ends-kept ends entry later nothing are = record {

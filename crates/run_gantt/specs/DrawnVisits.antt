@@ -19,16 +19,16 @@ cleaning_in m (ReportEntry (Finish job machine at)) = None
 cleaning_in m (ReportEntry (Clean machine at)) = if machine == m then Some at else None
 cleaning_in m (OrderEntry order) = None
 
--- the end of a cleaning as it is told, if it is
+-- the end of a cleaning as it is recorded, if it is
 abbrev pub cleaned_at : Option ℕ → Cleaned
 cleaned_at None = NotYet
 cleaned_at (Some end) = By end
 
--- what is told of a cleaning of machine m, by the moment of its report
+-- what is recorded of a cleaning of machine m, by the moment of its report
 abbrev pub cleaned_by : PlannedShop → ℕ → Option ℕ → Cleaned
 cleaned_by p m end = if clean p m == 0 then Never else cleaned_at end
 
--- a visit to machine m that an order begins; what becomes of it is told by the later entries
+-- a visit to machine m that an order begins; what becomes of it is recorded by the later entries
 abbrev pub drawn_visit : PlannedShop → MoveOrder → ℕ → List Entry → DrawnVisit
 drawn_visit p order m later = record {
   job = order.job;

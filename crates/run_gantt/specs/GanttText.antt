@@ -42,7 +42,7 @@ abbrev pub bar_of : ℕ → ℕ → List Visit → List ℕ
 bar_of scale columns visits = map (λ c. column_sign (first_of (sign_of (c * scale)) visits)) (range_with_len 0 columns)
 
 module _ (names : NameBook) where
-  -- a moment, or `?` for one that isn't told
+  -- a moment, or `?` for one that isn't recorded
   abbrev pub moment_or_unknown : Option ℕ → List ℕ
   moment_or_unknown None = codes "?"
   moment_or_unknown (Some moment) = moment_word names moment
@@ -56,7 +56,7 @@ module _ (names : NameBook) where
   visit_lines scale columns m visits =
       codes "machine " ++ machine_word names m ++ flat_map visit_word visits ++ codes "\nbar " ++ bar_of scale columns visits ++ codes "\n"
 
-  -- those of the visits that the entries tell
+  -- those of the visits that the entries record
   abbrev pub machine_lines : ℕ → ℕ → List Entry → ℕ → List ℕ
   machine_lines scale columns entries m = visit_lines scale columns m (visits_to m entries)
 

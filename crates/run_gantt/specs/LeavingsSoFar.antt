@@ -1,4 +1,4 @@
--- The jobs' leavings, as a list of entries tells them.
+-- The jobs' leavings, as a list of entries records them.
 use Rattle.std.specs.Prelude.{ℕ, Bool, true, false, ◌==◌, ◌&&◌, if◌then◌else◌, List, map, Option, None, Some}
 use Rattle.std.specs.List.{range_with_len}
 use Rattle.shop_base.specs.declared.move_order.Spot.{Spot}

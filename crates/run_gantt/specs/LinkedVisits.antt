@@ -37,6 +37,6 @@ pub record AreAllLinked (table : List LinkedVisit) (first : List (Option ℕ)) :
   pub chains : (m : ℕ) → m < length first
       → AreLinked table (slice_index_or first m None) (linked_from table (length table) (slice_index_or first m None))
 
--- if the one rows are the visits that the later entries tell, the others are those that the entry tells with them
+-- if the one rows are the visits that the later entries record, the others are those that the entry records with them
 abbrev pub AreVisitsBefore : List (List Visit) → Entry → List Entry → List (List Visit) → Type 0
 AreVisitsBefore old entry later new = (n : ℕ) → old ≡ machine_visits n later → new ≡ machine_visits n (entry ∷ later)

@@ -1,4 +1,4 @@
--- The visits of jobs to machines, as a list of entries tells them.
+-- The visits of jobs to machines, as a list of entries records them.
 use Rattle.std.specs.Prelude.{ℕ, Bool, false, ◌==◌, ◌&&◌, if◌then◌else◌, max, List, [], ◌∷◌, map, Option, None, Some}
 use Rattle.std.specs.Option.{option_or}
 use Rattle.std.specs.List.{range_with_len}
@@ -48,7 +48,7 @@ leave_in j m (OrderEntry order) = if (order.job == j) && is_at m order.source th
 abbrev pub visit_end : ℕ → ℕ → List Entry → VisitEnd
 visit_end j m entries = record { finish = first_of (finish_in j m) entries; leave = first_of (leave_in j m) entries }
 
--- a visit to machine m that an order begins; what becomes of it is told by the later entries
+-- a visit to machine m that an order begins; what becomes of it is recorded by the later entries
 abbrev pub visit_of : MoveOrder → ℕ → List Entry → Visit
 visit_of order m later = record {
   job = order.job;

@@ -1,4 +1,4 @@
-//! The leavings that a log tells, found in one pass over the entries, from the last to the first.
+//! The leavings that a log records, found in one pass over the entries, from the last to the first.
 
 ghost use Rattle.std.specs.Prelude.{◌≡◌, IfOk};
 ghost use Rattle.shop_base.specs.Plan.{jobs};

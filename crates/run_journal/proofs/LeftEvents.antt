@@ -1,4 +1,4 @@
--- The events that a log tells which a crash has left.
+-- The events that a log records which a crash has left.
 use Rattle.std.proofs.Common.{◌≡◌, ℕ, zero, suc, ◌+◌, ◌-◌, Bool, true, false, nat_eq, if◌then◌else◌, ◌==◌, List, [], ◌∷◌, ◌++◌, length, take, drop, codes, inl, inr, refl, sym, ap, ◌∙◌, subst, arith, append_assoc, append-nil, take-append-drop}
 use Rattle.std.specs.List.{ends_with}
 use Rattle.std.proofs.lemmas.Bool.{cases_Bool, eqb-true}
@@ -73,7 +73,7 @@ ended-base base text whole =
     ended-append [] base text ∙ ap (λ l. ended_behind [] base ++ ended_behind l text) (none_open base whole)
     ∙ ap (λ l. l ++ ended_behind [] text) (sym (ended_is [] base tt)) ∙ ap (λ l. ended_lines base ++ l) (sym (ended_is [] text tt))
 
--- ---- what a log doesn't get tells nothing
+-- ---- what a log doesn't get records nothing
 
 pub without_return-front : (front : List ℕ) → (end : List ℕ) × (front ≡ without_return front ++ end)
 without_return-front front = elim (cases_Bool (ends_with nat_eq front (13 ∷ []))) [
@@ -102,7 +102,7 @@ none_logged front none = elim (cases_Bool (is_logged front)) [
   | inr not ↦ rw not tt
 ]
 
--- what a log gets of a text tells what the text tells
+-- what a log gets of a text records what the text records
 module _ (p : PlannedShop) where
   parses_logged : (front text : List ℕ) (recorded : List Entry) → HasNone 10 front → LinesParse p (ended_behind front text) recorded → LinesParse p (ended_lines (logged_line front ++ added front text)) recorded
   parses_logged front [] recorded none parses = subst (λ lines. LinesParse p lines recorded) (sym (ended-none (logged_line front ++ []) (none_logged front none))) parses

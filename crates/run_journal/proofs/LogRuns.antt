@@ -1,4 +1,4 @@
--- What lines tell of a run, line by line.
+-- What lines record of a run, line by line.
 use Rattle.std.proofs.Common.{◌≡◌, ◌⊎◌, ℕ, List, [], ◌∷◌, ◌++◌, codes, Option, None, Some, MatchOption, inl, inr, refl, sym, ap, ◌∙◌}
 use Rattle.std.proofs.lemmas.List.{append_cancel_left}
 use Rattle.event_lines.specs.RunDigits.{IsPlanLine}

@@ -100,7 +100,7 @@ pub named_whole : (digits : RunDigits) (lines base : List ℕ) → whole_lines l
 named_whole digits lines base whole (inl is) = ap whole_lines is.1 ∙ whole ∙ sym is.1
 named_whole digits lines base whole (inr is) = ap whole_lines is.1 ∙ whole-behind lines (plan_line digits) whole ∙ ap (λ (l : List ℕ). lines ++ l) (whole_plan digits) ∙ sym is.1
 
--- ---- what the line of a plan tells
+-- ---- what the line of a plan records
 
 hex_spaced : (b : ℕ) → is_small_hex b ≡ true → nat_lt 32 b ≡ true
 hex_spaced b is = elim (cases_lt 32 b) [
@@ -136,7 +136,7 @@ plan_ended digits are = sym (ended-part (plan_line digits) (plan_words digits) [
 pub plan_parses : (p : PlannedShop) (digits : RunDigits) → AreDigits digits → LinesParse p (ended_lines (plan_line digits)) []
 plan_parses p digits are = subst (λ (lines : List (List ℕ)). LinesParse p lines []) (sym (plan_ended digits are)) ([], [], refl, refl, refl)
 
--- the lines with that of a plan tell what they told
+-- the lines with that of a plan record what they recorded
 pub named_parses : (p : PlannedShop) (digits : RunDigits) (lines base : List ℕ) (recorded : List Entry) → AreDigits digits → whole_lines lines ≡ lines → IsNamedFor digits lines base → LinesParse p (ended_lines lines) recorded
     → LinesParse p (ended_lines base) recorded
 named_parses p digits lines base recorded are whole (inl is) parses = subst (λ (l : List ℕ). LinesParse p (ended_lines l) recorded) (sym is.1) parses

@@ -190,7 +190,7 @@ begun_order at job Out Out t j s d = or-right _ _ (
 begun_late : (at : ℕ) → IsNarrow (moment at) → begins_late (words_before (late_words at) []) ≡ true
 begun_late at fits = or-left _ _ (or-left _ _ (moment_on at (codes " job % arrives # and % more") [] fits (λ k. refl)))
 
--- behind the words of what is overdue, others may be told
+-- behind the words of what is overdue, others may be written
 abbrev others_text : ℕ → List ℕ
 others_text zero = []
 others_text (suc k) = 32 ∷ (codes "and" ++ 32 ∷ (decimal (suc k) ++ 32 ∷ (codes "more" ++ [])))

@@ -9,7 +9,7 @@ pub record NamedLog : Type 0 where
   pub bytes : List ℕ
   pub named : Bool
 
--- the logs that are there, where they are told; the fault of the last call that has failed, if one has; and whether a log was opened or made
+-- the logs that are there, where they are known; the fault of the last call that has failed, if one has; and whether a log was opened or made
 pub record Folder : Type 0 where
   pub logs : Option (List NamedLog)
   pub fault : Option FileFault

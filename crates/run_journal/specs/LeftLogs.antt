@@ -1,4 +1,4 @@
--- The events that a log tells which a crash has left.
+-- The events that a log records which a crash has left.
 use Rattle.std.specs.Prelude.{◌≡◌, ℕ, List, ◌++◌, length}
 use Rattle.shop_base.specs.Plan.{PlannedShop}
 use Rattle.text_lines.specs.Lines.{ended_lines}
@@ -8,7 +8,7 @@ use Rattle.run_journal.specs.LogFiles.{IsLeft}
 use Rattle.run_journal.specs.WholeLines.{whole_lines}
 use Rattle.run_journal.specs.LoggedLines.{logged}
 
--- the ended lines of what was left tell the events that were told before, and behind them the first of those that came, with all that were shown
+-- the ended lines of what was left record the events that were recorded before, and behind them the first of those that came, with all that were shown
 pub record HasShownEvents (p : PlannedShop) (recorded came : List Entry) (shown left : List ℕ) : Type 0 where
   pub kept : List Entry
   pub lost : List Entry
@@ -16,7 +16,7 @@ pub record HasShownEvents (p : PlannedShop) (recorded came : List Entry) (shown 
   pub parses : LinesParse p (ended_lines left) (recorded ++ kept)
   pub has_shown : (entries : List Entry) → LinesParse p (ended_lines shown) entries → (more : List Entry) × (kept ≡ entries ++ more)
 
--- whole lines told some events; a text came that tells others, some of it was shown, and the log got what it gets. Whatever a crash leaves is such a log
+-- whole lines recorded some events; a text came that records others, some of it was shown, and the log got what it gets. Whatever a crash leaves is such a log
 abbrev pub ACrashLeavesALog : Type 0
 ACrashLeavesALog = (p : PlannedShop) (base shown pending left : List ℕ) (recorded came : List Entry) → whole_lines base ≡ base
     → IsLeft (length (base ++ logged shown)) (base ++ logged (shown ++ pending)) left

@@ -19,7 +19,7 @@ pub record IsLeft (least : ℕ) (most left : List ℕ) : Type 0 where
 abbrev pub Leaves : (List ℕ → Type 0) → ℕ → List ℕ → Type 0
 Leaves crash_states least most = (left : List ℕ) → crash_states left → IsLeft least most left
 
--- where the bytes of the file are told, a crash leaves just these
+-- where the bytes of the file are known, a crash leaves just these
 abbrev pub IsDurable : Option (List ℕ) → (List ℕ → Type 0) → Type 0
 IsDurable seen crash_states = IfSome seen (λ file. (left : List ℕ) → crash_states left → left ≡ file)
 

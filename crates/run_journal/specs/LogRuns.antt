@@ -1,4 +1,4 @@
--- What the whole lines of a log tell of its run.
+-- What the whole lines of a log record of its run.
 use Rattle.std.specs.Prelude.{◌≡◌, ◌⊎◌, ℕ, List, [], ◌∷◌, ◌++◌}
 use Rattle.text_lines.specs.Lines.{lines_of}
 use Rattle.cell_tables.specs.declared.entry.Entry.{Entry}
@@ -27,7 +27,7 @@ abbrev pub NameLast : List (List ℕ) → RunDigits → Type 0
 NameLast [] digits = ⊥
 NameLast (line ∷ lines) digits = (IsPlanLine line digits × NameNone lines) ⊎ NameLast lines digits
 
--- what lines tell of a run: that it hasn't begun, that no line says by which plan, or which does last
+-- what lines record of a run: that it hasn't begun, that no line says by which plan, or which does last
 abbrev pub IsRunOf : List (List ℕ) → LogRun → Type 0
 IsRunOf lines Unbegun = HasBegun lines → ⊥
 IsRunOf lines Unnamed = HasBegun lines × NameNone lines

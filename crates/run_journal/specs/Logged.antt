@@ -10,7 +10,7 @@ use Rattle.run_journal.specs.LogFiles.{Leaves, IsDurable}
 use Rattle.run_journal.specs.LoggedLines.{logged}
 use Rattle.run_journal.specs.Selecting.{IsFront, open_line}
 
--- what the output has taken, where that is told, what has come since and isn't out, whether a call has failed, and whether the log has
+-- what the output has taken, where that is known, what has come since and isn't out, whether a call has failed, and whether the log has
 pub record Held : Type 0 where
   pub written : Option (List ℕ)
   pub pending : List ℕ
@@ -41,11 +41,11 @@ pub record AreFaultsKnown (failed log_failed : Bool) (log_has : Option FileFault
 abbrev pub HoldsNothing : List ℕ → Bool → Type 0
 HoldsNothing pending failed = (pending ≡ []) ⊎ (failed ≡ true)
 
--- where it is told what they held
+-- where it is known what they held
 abbrev pub StayInStep : Option (List ℕ × List ℕ) → Option (List ℕ) → (List ℕ → Type 0) → Held → Type 0
 StayInStep before seen crash_states held = IfSome before (λ known. AreInStep known.0 known.1 seen crash_states held.written held.pending held.failed)
 
--- the log and the output hold what is told of them
+-- the log and the output hold what is known of them
 abbrev pub AreInitial : Option (List ℕ × List ℕ) → Option (List ℕ) → Option (List ℕ) → Type 0
 AreInitial before seen written = IfSome before (λ known. (seen ≡ Some known.0) × (written ≡ Some known.1))
 

@@ -13,7 +13,7 @@ use std::alloc::Global;
 /// which each call after the crash fails and does nothing. A crash in the middle of a call leaves what it may leave
 /// before that call or after it.
 pub trait LogFile {
-    // The bytes that a read gives, where they are told.
+    // The bytes that a read gives, where they are known.
     ghost seen: { Self → Option (List ℕ) };
 
     // What a crash may leave now.

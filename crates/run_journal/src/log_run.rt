@@ -1,4 +1,4 @@
-//! What the whole lines of a log tell of its run.
+//! What the whole lines of a log record of its run.
 
 ghost use Rattle.std.specs.Prelude.{◌≡◌, ◌↔◌, IsTrue, MatchOption};
 ghost use Rattle.text_lines.specs.Lines.{lines_of};
@@ -8,7 +8,7 @@ ghost use Rattle.run_journal.specs.LogRuns.{HasBegun, IsOfRun, IsRunOf, NameLast
 use event_lines::{RunDigits, digits_of_line, entry_of};
 use text_lines::next_line;
 
-/// What the whole lines of a log tell of its run.
+/// What the whole lines of a log record of its run.
 #[derive(Clone, Copy, Debug, PartialEq, Eq)]
 pub enum LogRun {
     /// It hasn't begun: no line has the form of a report, of an order or of the line of a plan.
@@ -19,7 +19,7 @@ pub enum LogRun {
     Named(RunDigits),
 }
 
-/// What these lines tell of a run.
+/// What these lines record of a run.
 pub(crate) fn run_of(lines: &[u8]) -> LogRun
     ensures { IsRunOf (lines_of lines.now) result }
 {

@@ -25,7 +25,7 @@ pub const MAX_PENDING: usize = 81_920;
 pub trait InitialState: Drop {
     ghost use Rattle.std.specs.Prelude.{ℕ, List, Option};
 
-    // Both, where they are told.
+    // Both, where they are known.
     ghost before: { Option (List ℕ × List ℕ) };
 }
 

@@ -23,7 +23,7 @@ use std::alloc::Global;
 use std::marker::Model;
 use text_lines::MAX_INPUT;
 
-/// The bytes of a log: its whole lines, what comes after the last of them, and what they tell of its run.
+/// The bytes of a log: its whole lines, what comes after the last of them, and what they record of its run.
 #[derive(Debug, Drop)]
 pub struct LogText {
     bytes: Vec<u8>,
@@ -56,7 +56,7 @@ impl LogText {
         LogText { bytes, whole, run }
     }
 
-    /// What the whole lines tell of the run.
+    /// What the whole lines record of the run.
     pub fn run(&self) -> LogRun
         ensures { IsRunOf (lines_of (whole_lines self.now)) result }
     {
@@ -154,7 +154,7 @@ pub fn open_log<L: Logs>(
         IfSome (L.folder logs.old).logs (λ logs. option_map (λ there. there.1) opened ≡ held logs path.now)) }
     ensures opened { IfOk result (λ opened. L.folder logs.new ≡ handed_if (is_some opened) (L.folder logs.old)) }
 
-    // Why not is what the folder tells, and then no log was opened; or what the log tells, which is given back as it
+    // Why not is what the folder says, and then no log was opened; or what the log says, which is given back as it
     // was found.
     ensures unopened { IfErr result (λ back. MatchOption back.log
         (IsOpenFault back.fault × (L.folder logs.new ≡ with_fault back.fault (L.folder logs.old)))
@@ -194,7 +194,7 @@ pub fn new_log<L: Logs>(
     ensures made { OnOk result
         (L.folder logs.new ≡ with_name path.now (with_log (is_some opened) path.now (L.folder logs.old))) }
 
-    // Why not is what the folder or the log tells, which has no byte but those of the line.
+    // Why not is what the folder or the log records, which has no byte but those of the line.
     ensures unnamed { IfErr result (λ back. MatchOption back.log
         (IsUnmade (is_some opened) path.now (L.folder logs.old) (L.folder logs.new) back.fault)
         (λ log. IsUnnamed path.now digits.now (with_log (is_some opened) path.now (L.folder logs.old))

@@ -76,7 +76,7 @@ IsFaultOf p c (OrderEntry o) (OutOfOrder line) = IsTimely c o × IsOutOfTurn p c
 IsFaultOf p c (OrderEntry o) (WrongPlace line) = IsTimely c o × IsOpen p c o.target o.job × (IsItsWay p c o → ⊥)
 IsFaultOf p c entry fault = ⊥
 
--- the line isn't passed over, and tells no event of the shop
+-- the line isn't passed over, and records no event of the shop
 pub record IsBadLine (p : PlannedShop) (line : List ℕ) : Type 0 where
   pub considered : is_passed_over line ≡ false
   pub unparsed : ParsesNoEntry p line
@@ -99,7 +99,7 @@ fault_line (WrongPlace line) = line
 fault_line (NotClean line) = line
 fault_line Memory = 0
 
--- the fault is the first of these lines: those before its line tell a run
+-- the fault is the first of these lines: those before its line record a run
 pub record IsFirstBad (p : PlannedShop) (lines : List (List ℕ)) (fault : AuditFault) : Type 0 where
   pub before : List (List ℕ)
   pub line : List ℕ
@@ -116,7 +116,7 @@ pub record IsReplayed (p : PlannedShop) (c : Cell) (recorded : List Entry) : Typ
   pub run : IsRun p (events_of recorded)
   pub cell : c ≡ ends_in p (events_of recorded)
 
--- what an audit found of lines that tell a run
+-- what an audit found of lines that record a run
 pub record IsAudit (p : PlannedShop) (lines : List (List ℕ)) (audit : Audit) : Type 0 where
   pub parses : LinesParse p lines audit.entries.items
   pub run : IsRun p (events_of audit.entries.items)
@@ -130,7 +130,7 @@ abbrev pub IsAuditFault : PlannedShop → List (List ℕ) → AuditFault → Typ
 IsAuditFault p lines Memory = Unit {0}
 IsAuditFault p lines fault = IsFirstBad p lines fault
 
--- the lines tell a run
+-- the lines record a run
 abbrev pub ParseAsRun : PlannedShop → List (List ℕ) → Type 0
 ParseAsRun p lines = (recorded : List Entry) × LinesParse p lines recorded × IsRun p (events_of recorded)
 

@@ -19,7 +19,7 @@ clean_end_or_none (By end) = end
 abbrev pub last_of_visit : DrawnVisit → ℕ
 last_of_visit visit = max visit.enter (max (moment_or_none visit.finish) (max (moment_or_none visit.leave) (clean_end_or_none visit.cleaned)))
 
--- the greatest moment that visits tell, 0 where they tell none
+-- the greatest moment that visits give, 0 where they record none
 abbrev pub last_of : List DrawnVisit → ℕ
 last_of [] = 0
 last_of (visit ∷ visits) = max (last_of_visit visit) (last_of visits)

@@ -48,7 +48,7 @@ module _ (is_such : Text → Bool) (vals : List (Bor Text)) (values : List Text)
 
 -- ---- the moment that is the value at a place
 
--- what is told of a word is the moment that it is
+-- what is read of a word is the moment that it is
 replayed_is : (word : Text) (told : Option ℕ) → MatchOption told (is_moment word ≡ false) (λ n. (is_moment word ≡ true) × (n ≡ value_of word) × (n ≤ latest_moment)) → told ≡ moment_read word
 replayed_is word None isnt = sym (cond-false (is_moment word) (Some (value_of word)) None isnt)
 replayed_is word (Some n) is = ap (λ k. Some k) is.1 ∙ sym (cond-true (is_moment word) (Some (value_of word)) None is.0)
@@ -67,7 +67,7 @@ module _ (vals : List (Bor Text)) (values : List Text) (place : ℕ) (same : tex
       ∙ sym (ap (λ (o : Option Text). option_and_then moment_read o) (slice_get-map (λ (v : Bor Text). v.now) vals place ∙ ap (option_map (λ (v : Bor Text). v.now)) (slice_get-get_or vals place d inside)))
       ∙ ap (λ (vs : List Text). moment_at vs place) same
 
--- a word of which none is told
+-- a word of which none is read
 pub not_all_read : (vals : List (Bor Text)) (values : List Text) (i : ℕ) (d : Bor Text) (told : Option ℕ) → texts vals ≡ values → list_all is_moment (texts vals) ≡ list_all is_moment (texts (drop i vals)) → i < length vals
     → MatchOption told (is_moment (get_or vals i d).now ≡ false) (λ n. (is_moment (get_or vals i d).now ≡ true) × (n ≡ value_of (get_or vals i d).now) × (n ≤ latest_moment))
     → is_some told ≡ false → list_all is_moment values ≡ false

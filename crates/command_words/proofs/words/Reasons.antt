@@ -1,4 +1,4 @@
--- Which reasons a fault tells of.
+-- Which reasons a fault names.
 use Rattle.std.proofs.Common.{◌≡◌, ◌∙◌, [], ◌∷◌, List, Option, Some, None, option_map, Result, Ok, Err, IfOk, IfErr, IsErrAnd, ap, subst, sym, refl, inl}
 use Rattle.clap.specs.Words.{IsAmong, Kinds, Row, Text}
 use Rattle.clap.specs.Kinds.{or_else}
@@ -15,7 +15,7 @@ tells kind (Usage help text) is = is
 pub names_reason : (kind same : ErrorKind) (fault : WordsFault) → kind ≡ same → IsFaultOf kind fault → NamesReason same fault
 names_reason kind same fault e is = subst (λ k. NamesReason k fault) e (tells kind fault is)
 
--- it tells of the only one
+-- it names the only one
 pub names_only : (kind : ErrorKind) (kinds : Kinds) (fault : WordsFault) → kinds ≡ kind ∷ [] → NamesReason kind fault → NamesOneOf kinds fault
 names_only kind kinds fault only is = subst (λ (ks : Kinds). NamesOneOf ks fault) (sym only) (told fault is)
   where

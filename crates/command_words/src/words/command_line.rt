@@ -113,7 +113,7 @@ fn least<'a>(alloc: Global) -> Arg<'a>
     switch(alloc, "least", help)
 }
 
-/// The job of whose leaving is asked or told.
+/// The job of whose leaving is asked or printed.
 fn job<'a>(alloc: Global, help: &'a str) -> Arg<'a>
     ensures rule { rule_of result ≡ option_rule (codes "job") }
     ensures local { result.global ≡ false }
@@ -269,7 +269,7 @@ fn drawing<'a>(alloc: Global) -> Result<Command<'a>, AllocError>
     with_arg(drawn, names(alloc))
 }
 
-/// A run that is taken up.
+/// A run that is recovered.
 fn resumed<'a>(alloc: Global) -> Result<Command<'a>, AllocError>
     ensures { IfOk result (Describes (leaf (described CommandName.Resume))) }
 {

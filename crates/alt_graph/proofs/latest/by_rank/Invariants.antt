@@ -4,7 +4,7 @@ use Rattle.shop_base.specs.Graph.{node}
 use Rattle.alt_graph.specs.ByRank.{IsAtItsRank, AreAtTheirRanks}
 use Rattle.alt_graph.proofs.latest.by_rank.Given as goal
 
--- the nodes of the jobs looked at are told, and no others
+-- the nodes of the jobs looked at are recorded, and no others
 abbrev pub invariant-loop-job : goal.invariant-loop-job
 invariant-loop-job l = record {
   size : length l.nodes.items ≡ l.fn.count;

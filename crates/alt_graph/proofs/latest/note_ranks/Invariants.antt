@@ -4,7 +4,7 @@ use Rattle.shop_base.specs.Graph.{IsNode, node}
 use Rattle.alt_graph.specs.ByRank.{IsAtItsRank, AreAtTheirRanks}
 use Rattle.alt_graph.proofs.latest.note_ranks.Given as goal
 
--- the nodes looked at are told, those told before are so still, and no others
+-- the nodes looked at are recorded, those recorded before are so still, and no others
 abbrev pub invariant-loop-place : goal.invariant-loop-place
 invariant-loop-place l = record {
   ranked : AreAtTheirRanks l.shaped l.times l.nodes;

@@ -3,7 +3,7 @@ use Rattle.shop_base.specs.Plan.{jobs, job_at}
 use Rattle.alt_graph.specs.Lookups.{slot_of}
 use Rattle.alt_graph.proofs.lookups.note_places.Given as goal
 
--- the places looked at are told, and nothing of other machines has changed
+-- the places looked at are recorded, and nothing of other machines has changed
 abbrev pub invariant-loop-place : goal.invariant-loop-place
 invariant-loop-place l = record {
   noted : (a : ℕ) → a < l.place → get_or l.places (slot_of l.machine (job_at l.shaped l.machine a)) 0 ≡ a;

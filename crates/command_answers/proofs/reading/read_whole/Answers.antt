@@ -22,7 +22,7 @@ whole_below (Some all) limit start items empty read below =
       | inr long ↦ absurd (omega (arith, ap length is, length-take-le limit all long))
     ]
 
--- no bytes are told at a fault
+-- no bytes are printed at a fault
 none_at_fault : (P : Vec ℕ Global → Type 0) (Q : CommandFault → Type 0) (answer : Result (Vec ℕ Global) CommandFault) → IsErrAnd answer Q → IfOk answer P
 none_at_fault P Q (Ok bytes) failed = absurd failed
 none_at_fault P Q (Err fault) failed = tt

@@ -2,6 +2,6 @@ use Rattle.plan_decide.specs.Settings.{case_in}
 use Rattle.plan_decide.specs.Told.{AreAllAlone}
 use Rattle.plan_decide.proofs.alone.all_alone.Given as goal
 
--- of the jobs before this one all are told
+-- of the jobs before this one all are listed
 abbrev pub invariant-loop-job : goal.invariant-loop-job
 invariant-loop-job l = AreAllAlone (case_in l.setting) l.job l.listed.items
