@@ -225,7 +225,7 @@ fn is_shown_in(rt: &HostRuntime, file: &File) -> bool {
 /// which the path doesn't lead any more.
 fn locked(
     rt: &HostRuntime,
-    path: &str,
+    path: String,
     file: File,
     len: Option<u64>,
 ) -> Result<SystemLog, FileFault>
@@ -236,10 +236,6 @@ fn locked(
     if file.as_raw_fd() <= STANDARD_ERROR || is_shown_in(rt, &file) {
         return Err(FileFault::Log);
     }
-    let path = match own_path(rt, path) {
-        Ok(path) => path,
-        Err(error) => return Err(LogFailure::from(error).0),
-    };
     match file.try_lock() {
         Ok(()) => {
             let log = SystemLog {
@@ -260,9 +256,14 @@ fn locked(
     }
 }
 
-/// A path that a log keeps.
-fn own_path(rt: &HostRuntime, path: &str) -> io::Result<String> {
-    Ok(String::from_str(rt.alloc(), path)?)
+/// A path that a log keeps. It is had before the file is opened, so that none is made where memory is wanting.
+fn own_path(rt: &HostRuntime, path: &str) -> Result<String, FileFault>
+    ensures { IfErr result IsDiskFault }
+{
+    match String::from_str(rt.alloc(), path) {
+        Ok(own) => Ok(own),
+        Err(_) => Err(FileFault::Memory),
+    }
 }
 
 /// Puts the names in the folder of the file of this path onto the disk.
@@ -317,11 +318,12 @@ fn opened(rt: &HostRuntime, path: &str) -> Result<Option<SystemLog>, FileFault>
     ensures unwritten { IfOk result (λ found. IfSome found (λ log. log.written ≡ false)) }
     ensures fault { IfErr result IsOpenFault }
 {
+    let own = own_path(rt, path)?;
     let mut how = OpenOptions::new();
     how.read(true).append(true);
     match how.open(rt, path) {
         Ok(file) => {
-            let log = locked(rt, path, file, None)?;
+            let log = locked(rt, own, file, None)?;
             // Whoever put it there may not have synced its name.
             sync_names(rt, path)?;
             Ok(Some(log))
@@ -339,12 +341,13 @@ fn made(rt: &HostRuntime, path: &str) -> Result<SystemLog, FileFault>
     ensures unwritten { IfOk result (λ log. log.written ≡ false) }
     ensures fault { IfErr result IsOpenFault }
 {
+    let own = own_path(rt, path)?;
     let mut how = OpenOptions::new();
     how.read(true).append(true).create(true);
     match how.open(rt, path) {
         // Where another process has made it meanwhile, and is done with it, it has bytes: then it isn't as long as it
         // should be.
-        Ok(file) => locked(rt, path, file, Some(0)),
+        Ok(file) => locked(rt, own, file, Some(0)),
         Err(error) => Err(LogFailure::from(error).0),
     }
 }
