@@ -18,6 +18,7 @@ use event_lines::{Claim, Overdue, Request};
 use shop_base::Planned;
 
 /// What the line says is overdue as the report comes. It is looked for only if something is.
+#[inline(always)]
 pub(crate) fn printed_overdue<P: Planned>(
     protocol: Protocol,
     cell: &WorkCell<P>,
