@@ -260,10 +260,14 @@ fn locked(
 fn own_path(rt: &HostRuntime, path: &str) -> Result<String, FileFault>
     ensures { IfErr result IsDiskFault }
 {
-    match String::from_str(rt.alloc(), path) {
+    match copied(rt, path) {
         Ok(own) => Ok(own),
-        Err(_) => Err(FileFault::Memory),
+        Err(error) => Err(LogFailure::from(error).0),
     }
+}
+
+fn copied(rt: &HostRuntime, path: &str) -> io::Result<String> {
+    Ok(String::from_str(rt.alloc(), path)?)
 }
 
 /// Puts the names in the folder of the file of this path onto the disk.
