@@ -196,6 +196,9 @@ fn push_moment_or_unknown(
 fn push_moment(text: &mut String, names: &Names, moment: Moment) -> Result<(), AllocError>
     ensures { OnOk result (IsPushed text.old text.new (moment_word names.now moment)) }
 {
+    let Some(_clock) = names.clock() else {
+        return push_number(text, moment);
+    };
     let mut word = LineText::<LONGEST_MOMENT>::empty();
     names.put_moment(&mut word, moment);
     match str::from_utf8(word.bytes()) {
