@@ -17,7 +17,6 @@ use crate::naming::names_of;
 use crate::shapes::not_shaped_answer;
 use crate::texts::Texts;
 use people_names::Names;
-use plan_explain::explain_for;
 use plan_verifier::verify;
 use shop_base::{JobNo, Shaped};
 use std::alloc::{AllocError, Global};
@@ -81,7 +80,7 @@ fn plan_explained(
     let _shop = shaped.shop();
     match verify(alloc, shaped) {
         Ok(verdict) => {
-            let text = explain_for(alloc, names, job, &verdict)?;
+            let text = plan_explain::explain(alloc, names, job, &verdict)?;
             let status = status_of(&verdict);
             Ok(Answer { text, status })
         }
@@ -97,7 +96,7 @@ fn loaded_explained(alloc: Global, loaded: &Loaded) -> Result<Answer, AllocError
     match loaded {
         Loaded::NotShaped(fault) => not_shaped_answer(alloc, *fault),
         Loaded::Judged(verdict) => {
-            let text = plan_explain::explain(alloc, verdict)?;
+            let text = plan_explain::explain(alloc, &Names::none(alloc), None, verdict)?;
             let status = status_of(verdict);
             Ok(Answer { text, status })
         }

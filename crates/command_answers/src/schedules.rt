@@ -15,7 +15,6 @@ use crate::naming::names_of;
 use crate::shapes::not_shaped_answer;
 use crate::texts::Texts;
 use people_names::Names;
-use plan_schedule::schedule_for;
 use plan_verifier::verify;
 use shop_base::Shaped;
 use std::alloc::{AllocError, Global};
@@ -57,7 +56,7 @@ fn plan_scheduled(alloc: Global, names: &Names, shaped: Shaped) -> Result<Answer
     let _shop = shaped.shop();
     match verify(alloc, shaped) {
         Ok(verdict) => {
-            let text = schedule_for(alloc, names, &verdict)?;
+            let text = plan_schedule::schedule(alloc, names, &verdict)?;
             let status = status_of(&verdict);
             Ok(Answer { text, status })
         }
@@ -73,7 +72,7 @@ fn loaded_scheduled(alloc: Global, loaded: &Loaded) -> Result<Answer, AllocError
     match loaded {
         Loaded::NotShaped(fault) => not_shaped_answer(alloc, *fault),
         Loaded::Judged(verdict) => {
-            let text = plan_schedule::schedule(alloc, verdict)?;
+            let text = plan_schedule::schedule(alloc, &Names::none(alloc), verdict)?;
             let status = status_of(verdict);
             Ok(Answer { text, status })
         }

@@ -1,12 +1,10 @@
 -- What arcs are printed as, and how long paths are.
 use Rattle.std.proofs.Common.{◌≡◌, ◌≢◌, ◌==◌, ℕ, ◌+◌, ◌<◌, ◌≤◌, List, [], ◌∷◌, ◌++◌, if◌then◌else◌, arith, refl, sym, ap, subst, ◌∙◌}
 use Rattle.std.proofs.lemmas.Bool.{eq-eqb, eqb-true, false_from_ne_true}
-use Rattle.shop_base.specs.declared.node.Node.{Node}
-use Rattle.shop_base.specs.Plan.{PlannedShop, jobs, release, steps, clean, Stands, IsWellShaped}
+use Rattle.shop_base.specs.{declared.node.Node.Node, Plan.{PlannedShop, jobs, release, steps, clean, Stands, IsWellShaped}}
 use Rattle.shop_base.specs.Graph.{node, Arc, job_arc, blocking_arc, HasArc, Path, begins, follows}
 use Rattle.shop_base.proofs.Visits.{visits-order}
-use Rattle.plan_explain.specs.Arcs.{time_of, arc_kind, job_arc_kind, blocking_arc_kind}
-use Rattle.plan_explain.specs.Chains.{AreAlong, reached_at, length_from}
+use Rattle.plan_explain.specs.{Arcs.{time_of, arc_kind, job_arc_kind, blocking_arc_kind}, Chains.{AreAlong, reached_at, length_from}}
 
 pub job_arc_kind_same : (p : PlannedShop) (u v : Node) → u.job ≡ v.job → arc_kind p u v ≡ job_arc_kind p u
 job_arc_kind_same p u v same = ap (λ yes. if yes then job_arc_kind p u else blocking_arc_kind p u.job v) (eq-eqb u.job v.job same)

@@ -1,18 +1,11 @@
 -- What holds up the nodes of the start, and the paths ahead of it from their first nodes on.
 use Rattle.std.proofs.Common.{◌≡◌, ℕ, ◌+◌, ◌<◌, ◌≤◌, List, [], ◌∷◌, ◌++◌, Option, Some, arith, refl, ap}
-use Rattle.shop_base.specs.declared.node.Node.{Node}
-use Rattle.shop_base.specs.Plan.{PlannedShop, jobs, release, IsWellShaped}
-use Rattle.shop_base.specs.Cell.{start}
-use Rattle.shop_base.specs.Activity.{Activity, Arrival, Operation, Cleaning, GoesOn}
-use Rattle.shop_base.specs.Graph.{Path, follows}
+use Rattle.shop_base.specs.{declared.node.Node.Node, Plan.{PlannedShop, jobs, release, IsWellShaped}, Cell.start}
+use Rattle.shop_base.specs.{Activity.{Activity, Arrival, Operation, Cleaning, GoesOn}, Graph.{Path, follows}}
 use Rattle.shop_base.specs.Ahead.{HoldsUp, PathAhead, now, held, onward}
-use Rattle.shop_base.proofs.Visits.{visits_job}
-use Rattle.shop_base.proofs.InShop.{outside_in_shop}
-use Rattle.shop_base.proofs.Keeping.{start-made, start-sound}
-use Rattle.shop_base.proofs.ControlledRuns.{start_not_ready}
+use Rattle.shop_base.proofs.{Visits.visits_job, InShop.outside_in_shop, Keeping.{start-made, start-sound}, ControlledRuns.start_not_ready}
 use Rattle.alt_graph.proofs.Paths.{first_path}
-use Rattle.plan_verifier.specs.Held.{IsHeldBy, awaited, arrived, worked, done, cleaned}
-use Rattle.plan_verifier.specs.declared.node_bound.Hold.{Hold}
+use Rattle.plan_verifier.specs.{Held.{IsHeldBy, awaited, arrived, worked, done, cleaned}, declared.node_bound.Hold.Hold}
 use Rattle.plan_verifier.specs.declared.node_bound.Hold.TheVariants.{Awaited}
 use Rattle.plan_verifier.proofs.AtStart.{start_clean}
 use Rattle.plan_explain.proofs.RestPaths.{ahead_led}

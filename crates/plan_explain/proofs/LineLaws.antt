@@ -1,22 +1,17 @@
 -- What the lines of explanations say.
 use Rattle.std.proofs.Common.{◌≡◌, ℕ, ◌+◌, List, [], ◌∷◌, ◌++◌, inl, inr, arith, refl, sym, ap, ◌∙◌}
 use Rattle.std.proofs.lemmas.List.{append-nil, append_assoc}
-use Rattle.shop_base.specs.declared.node.Node.{Node}
-use Rattle.shop_base.specs.Plan.{PlannedShop, jobs, release, clean, IsWellShaped}
+use Rattle.shop_base.specs.{declared.node.Node.Node, Plan.{PlannedShop, jobs, release, clean, IsWellShaped}}
 use Rattle.shop_base.specs.Graph.{node, leaving, Arc, HasArc, ArcsLead, Path, begins, follows, IsSimpleCycle}
 use Rattle.alt_graph.specs.Evidence.{EndsIn}
 use Rattle.people_names.specs.NameBooks.{NameBook}
-use Rattle.plan_verifier.specs.declared.verdict.Verdict.{Verdict}
-use Rattle.plan_verifier.specs.declared.verdict.Verdict.TheVariants.{Accepted, Refused}
+use Rattle.plan_verifier.specs.{declared.verdict.Verdict.Verdict, declared.verdict.Verdict.TheVariants.{Accepted, Refused}}
 use Rattle.plan_verifier.proofs.Reasons.{greatest_once, makespan_le}
 use Rattle.plan_explain.specs.FirstLines.{accepted_line, moments_below, IsAcceptedFirstLine, IsFirstLine}
-use Rattle.plan_explain.specs.declared.arcs.ArcKind.TheVariants.{Blocking}
-use Rattle.plan_explain.specs.Arcs.{arc_kind}
-use Rattle.plan_explain.specs.Cycles.{arc_line, arc_lines, cycle_lines}
+use Rattle.plan_explain.specs.{declared.arcs.ArcKind.TheVariants.Blocking, Arcs.arc_kind, Cycles.{arc_line, arc_lines, cycle_lines}}
 use Rattle.plan_explain.specs.Chains.{reached_at, length_from, release_line, reached_line, reached_lines, chain_lines}
 use Rattle.plan_explain.specs.LineLaws.{AreExactArcs, IsLastLine}
-use Rattle.plan_explain.proofs.Moments.{moments_same}
-use Rattle.plan_explain.proofs.ArcFacts.{job_arc_kind_same, blocking_arc_kind_same, apart, arc_time, last_from, IsLedPath, path_led}
+use Rattle.plan_explain.proofs.{Moments.moments_same, ArcFacts.{job_arc_kind_same, blocking_arc_kind_same, apart, arc_time, last_from, IsLedPath, path_led}}
 
 pub exact_arcs : (p : PlannedShop) → IsWellShaped p → AreExactArcs p
 exact_arcs p shaped = record {

@@ -1,20 +1,14 @@
 -- The moments of leavings, and their words.
 use native.Mathlib.Numerals.{unary_clauses}
 use Rattle.std.proofs.Common.{◌≡◌, ℕ, zero, suc, ◌+◌, ◌<◌, List, [], ◌∷◌, ◌++◌, decimal, codes, arith, refl, sym, ap, ◌∙◌}
-use Rattle.std.proofs.lemmas.Grind.{flat_map-append}
-use Rattle.std.proofs.lemmas.List.{append-nil, append_assoc}
+use Rattle.std.proofs.{lemmas.Grind.flat_map-append, lemmas.List.{append-nil, append_assoc}}
 use Rattle.shop_base.specs.Plan.{PlannedShop}
 use Rattle.alt_graph.proofs.WholePlans.{times_ranks}
-use Rattle.plan_verifier.specs.Accepted.{IsVerified}
-use Rattle.plan_verifier.specs.Leavings.{leaves_in, AreLeavings}
-use Rattle.plan_verifier.specs.Seen.{judged, as_rest}
-use Rattle.plan_verifier.specs.Verdicts.{OnAccepted}
-use Rattle.plan_verifier.specs.declared.verdict.Verdict.{Verdict}
-use Rattle.plan_verifier.specs.declared.verdict.Verdict.TheVariants.{Accepted, Refused}
+use Rattle.plan_verifier.specs.{Accepted.IsVerified, Leavings.{leaves_in, AreLeavings}, Seen.{judged, as_rest}, Verdicts.OnAccepted}
+use Rattle.plan_verifier.specs.{declared.verdict.Verdict.Verdict, declared.verdict.Verdict.TheVariants.{Accepted, Refused}}
 use Rattle.plan_verifier.proofs.Reasons.{verified_greatest, makespan_is}
 use Rattle.plan_explain.specs.FirstLines.{moment_words, moments_below, IsAcceptedText, IsAcceptedFirstLine, IsFirstLine}
-use Rattle.plan_explain.specs.RestFirstLines.{IsLineByTimes}
-use Rattle.plan_explain.specs.RestVerdicts.{HasRanks}
+use Rattle.plan_explain.specs.{RestFirstLines.IsLineByTimes, RestVerdicts.HasRanks}
 
 -- one more moment
 pub moments_more : (f : ℕ → ℕ) (n : ℕ) → moments_below f (n + 1) ≡ moments_below f n ++ f n ∷ []

@@ -1,27 +1,16 @@
 -- Paths ahead, from their first node on.
 use Rattle.std.proofs.Common.{◌≡◌, ℕ, ◌+◌, ◌^◌, ◌<◌, List, [], ◌∷◌, ◌++◌, Option, Some, inl, inr, arith, refl, sym, ap, subst}
 use Rattle.std.proofs.lemmas.Bool.{cases_lt}
-use Rattle.shop_base.specs.declared.node.Node.{Node}
-use Rattle.shop_base.specs.Plan.{PlannedShop, jobs, IsWellShaped}
-use Rattle.shop_base.specs.Cell.{Cell, made, IsGone}
-use Rattle.shop_base.specs.Sound.{IsSound}
-use Rattle.shop_base.specs.Activity.{Arrival, Operation, Cleaning}
-use Rattle.shop_base.specs.Graph.{Arc, HasArc, IsNode, leaving}
+use Rattle.shop_base.specs.{declared.node.Node.Node, Plan.{PlannedShop, jobs, IsWellShaped}, Cell.{Cell, made, IsGone}, Sound.IsSound}
+use Rattle.shop_base.specs.{Activity.{Arrival, Operation, Cleaning}, Graph.{Arc, HasArc, IsNode, leaving}}
 use Rattle.shop_base.specs.Ahead.{next_node, IsAhead, PathAhead, now, held, onward}
 use Rattle.alt_graph.specs.Times.{NodeTimes, earliest_of, IsPathFromBy}
-use Rattle.plan_verifier.specs.Rest.{AreOrderedAhead}
-use Rattle.plan_verifier.specs.declared.node_bound.Hold.{Hold}
-use Rattle.plan_verifier.specs.declared.node_bound.NodeBound.{NodeBound}
+use Rattle.plan_verifier.specs.{Rest.AreOrderedAhead, declared.node_bound.Hold.Hold, declared.node_bound.NodeBound.NodeBound}
 use Rattle.plan_verifier.specs.Held.{IsHeldBy, awaited, arrived, worked, done, cleaned, BeginHeldUp, IsHoldBound, IsBoundOf}
-use Rattle.plan_verifier.proofs.Tables.{later_is}
-use Rattle.plan_verifier.proofs.Acceptable.{leaving_node}
-use Rattle.plan_verifier.proofs.GoingOn.{leaving_ahead}
-use Rattle.plan_verifier.proofs.Holding.{hold_up, free_passed}
+use Rattle.plan_verifier.proofs.{Tables.later_is, Acceptable.leaving_node, GoingOn.leaving_ahead, Holding.{hold_up, free_passed}}
 use Rattle.plan_verifier.proofs.PathsAhead.{along_greatest}
-use Rattle.plan_explain.specs.Arcs.{time_of, arc_kind}
-use Rattle.plan_explain.specs.Chains.{AreAlong, length_from}
+use Rattle.plan_explain.specs.{Arcs.{time_of, arc_kind}, Chains.{AreAlong, length_from}, RestChains.IsRestChain}
 use Rattle.plan_explain.proofs.ArcFacts.{arc_time, last_from, last_more, along_more, length_more}
-use Rattle.plan_explain.specs.RestChains.{IsRestChain}
 
 -- what a path ahead to v of length n is, from its first node on; any other length with which a path ahead begins there leads to such a path too
 pub record IsLedAhead (p : PlannedShop) (c : Cell) (t : ℕ) (u : Node) (us : List Node) (v : Node) (n : ℕ) : Type 0 where

@@ -1,29 +1,16 @@
 -- Texts of the rest of a run from their parts.
 use Rattle.std.proofs.Common.{◌≡◌, ℕ, ◌<◌, ◌^◌, List, [], ◌∷◌, ◌++◌, inl, inr, Result, Ok, Err, OnOk, refl, ap, subst, ◌∙◌}
 use Rattle.std.proofs.lemmas.List.{append_assoc}
-use Rattle.shop_base.specs.declared.node.Node.{Node}
-use Rattle.shop_base.specs.Plan.{PlannedShop, jobs}
-use Rattle.shop_base.specs.Cell.{Cell, IsGone}
-use Rattle.shop_base.specs.Graph.{leaving}
-use Rattle.shop_base.specs.Ahead.{PathAhead}
+use Rattle.shop_base.specs.{declared.node.Node.Node, Plan.{PlannedShop, jobs}, Cell.{Cell, IsGone}, Graph.leaving, Ahead.PathAhead}
 use Rattle.alt_graph.specs.Times.{NodeTimes, IsPathFromBy}
 use Rattle.people_names.specs.NameBooks.{NameBook}
-use Rattle.plan_verifier.specs.Leavings.{leaves_in, AreLeavingsAhead, LeavesLast}
-use Rattle.plan_verifier.specs.Rest.{AreOrderedAhead}
-use Rattle.plan_verifier.specs.declared.node_bound.NodeBound.{NodeBound}
-use Rattle.plan_verifier.specs.declared.verdict.Judged.{Judged}
-use Rattle.plan_verifier.specs.declared.verdict.Judged.TheVariants.{Accepted, Refused}
-use Rattle.plan_verifier.specs.Held.{IsBoundOf}
+use Rattle.plan_verifier.specs.{Leavings.{leaves_in, AreLeavingsAhead, LeavesLast}, Rest.AreOrderedAhead}
+use Rattle.plan_verifier.specs.{declared.node_bound.NodeBound.NodeBound, declared.verdict.Judged.Judged}
+use Rattle.plan_verifier.specs.{declared.verdict.Judged.TheVariants.{Accepted, Refused}, Held.IsBoundOf}
 use Rattle.plan_verifier.proofs.GoingOn.{leavings_ahead}
-use Rattle.plan_explain.specs.Added.{Adds}
-use Rattle.plan_explain.specs.Chains.{reached_lines}
-use Rattle.plan_explain.specs.ChainsFound.{AreLinesOf, IsFound}
-use Rattle.plan_explain.specs.Explained.{AreMomentLines}
-use Rattle.plan_explain.specs.Holds.{bound_line}
-use Rattle.plan_explain.specs.RestChains.{IsRestChain, IsChainOrNone, AreRestChainLines}
-use Rattle.plan_explain.specs.RestLeavings.{rest_leaving_lines}
-use Rattle.plan_explain.specs.RestVerdicts.{IsRestJudged}
-use Rattle.plan_explain.specs.RestFirstLines.{IsLineByTimes, IsRestFirstLine}
+use Rattle.plan_explain.specs.{Added.Adds, Chains.reached_lines, ChainsFound.{AreLinesOf, IsFound}, Explained.AreMomentLines}
+use Rattle.plan_explain.specs.{Holds.bound_line, RestChains.{IsRestChain, IsChainOrNone, AreRestChainLines}}
+use Rattle.plan_explain.specs.{RestLeavings.rest_leaving_lines, RestVerdicts.IsRestJudged, RestFirstLines.{IsLineByTimes, IsRestFirstLine}}
 use Rattle.plan_explain.specs.RestExplained.{IsChainTo, IsChainToLastAhead}
 use Rattle.plan_explain.proofs.RestPaths.{leaving_chain}
 

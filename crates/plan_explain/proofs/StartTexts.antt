@@ -1,45 +1,26 @@
 -- The rest of a run that hasn't begun is printed as the whole plan, and the plan as that.
 use Rattle.std.proofs.Common.{◌≡◌, ℕ, zero, suc, ◌<◌, ◌≤◌, List, [], ◌∷◌, ◌++◌, Option, None, Some, IfSome, if◌then◌else◌, inl, inr, arith, refl, sym, ap, subst, ◌∙◌}
-use Rattle.std.proofs.lemmas.Bool.{le-ltb}
-use Rattle.std.proofs.Math.Nat.{zero-max}
-use Rattle.shop_base.specs.declared.node.Node.{Node}
-use Rattle.shop_base.specs.Plan.{PlannedShop, jobs, steps, budget, release, IsWellShaped}
-use Rattle.shop_base.specs.Cell.{start}
-use Rattle.shop_base.specs.Graph.{leaving, Path}
-use Rattle.shop_base.specs.Ahead.{PathAhead, next_node}
-use Rattle.shop_base.proofs.Keeping.{start-made}
-use Rattle.shop_base.proofs.ControlledRuns.{start_not_ready}
-use Rattle.alt_graph.proofs.NodeNumbers.{node_same}
-use Rattle.alt_graph.proofs.Paths.{path_begins, path_some}
+use Rattle.std.proofs.{lemmas.Bool.le-ltb, Math.Nat.zero-max}
+use Rattle.shop_base.specs.{declared.node.Node.Node, Plan.{PlannedShop, jobs, steps, budget, release, IsWellShaped}, Cell.start}
+use Rattle.shop_base.specs.{Graph.{leaving, Path}, Ahead.{PathAhead, next_node}}
+use Rattle.shop_base.proofs.{Keeping.start-made, ControlledRuns.start_not_ready}
+use Rattle.alt_graph.proofs.{NodeNumbers.node_same, Paths.{path_begins, path_some}}
 use Rattle.people_names.specs.NameBooks.{NameBook}
-use Rattle.plan_verifier.specs.Accepted.{IsGreatest}
-use Rattle.plan_verifier.specs.Held.{IsHeldBy, awaited, IsBoundOf, BeginHeldUp, later_than, overdue_at}
-use Rattle.plan_verifier.specs.Leavings.{AreLeavings, AreLeavingsAhead, LeavesLast}
-use Rattle.plan_verifier.specs.declared.node_bound.Hold.TheVariants.{Awaited}
-use Rattle.plan_verifier.specs.declared.node_bound.NodeBound.{NodeBound}
-use Rattle.plan_verifier.specs.declared.verdict.Judged.{Judged}
-use Rattle.plan_verifier.specs.declared.verdict.Judged.TheVariants.{Accepted, Refused}
-use Rattle.plan_verifier.specs.declared.verdict.Verdict.{Verdict}
+use Rattle.plan_verifier.specs.{Accepted.IsGreatest, Held.{IsHeldBy, awaited, IsBoundOf, BeginHeldUp, later_than, overdue_at}}
+use Rattle.plan_verifier.specs.{Leavings.{AreLeavings, AreLeavingsAhead, LeavesLast}, declared.node_bound.Hold.TheVariants.Awaited}
+use Rattle.plan_verifier.specs.{declared.node_bound.NodeBound.NodeBound, declared.verdict.Judged.Judged}
+use Rattle.plan_verifier.specs.{declared.verdict.Judged.TheVariants.{Accepted, Refused}, declared.verdict.Verdict.Verdict}
 use Rattle.plan_verifier.specs.declared.verdict.Verdict.TheVariants.{Accepted as AcceptedPlan, Refused as RefusedPlan}
-use Rattle.plan_verifier.specs.declared.verdict.Why.TheVariants.{Cycle, Late}
-use Rattle.plan_verifier.specs.RestVerdicts.{IsReasonAhead}
-use Rattle.plan_verifier.specs.Seen.{judged, as_rest}
-use Rattle.plan_verifier.proofs.AtStart.{start_clean, nobody_gone, case, leavings_to, leavings_from}
-use Rattle.plan_verifier.proofs.Reasons.{makespan_is, makespan_last}
-use Rattle.plan_explain.specs.Chains.{release_line, reached_lines, chain_lines}
-use Rattle.plan_explain.specs.FirstLines.{IsFirstLine}
+use Rattle.plan_verifier.specs.{declared.verdict.Why.TheVariants.{Cycle, Late}, RestVerdicts.IsReasonAhead, Seen.{judged, as_rest}}
+use Rattle.plan_verifier.proofs.{AtStart.{start_clean, nobody_gone, case, leavings_to, leavings_from}, Reasons.{makespan_is, makespan_last}}
+use Rattle.plan_explain.specs.{Chains.{release_line, reached_lines, chain_lines}, FirstLines.IsFirstLine}
 use Rattle.plan_explain.specs.Leavings.{IsLastToLeave, leaving_line, leaving_lines}
-use Rattle.plan_explain.specs.Explained.{IsChosen, IsChainOf, IsChainToLast, AreMomentLines, IsExplained}
-use Rattle.plan_explain.specs.Holds.{bound_line}
-use Rattle.plan_explain.specs.RestChains.{AreRestChainLines}
-use Rattle.plan_explain.specs.RestLeavings.{gone_line, rest_leaving_line, rest_leaving_lines}
-use Rattle.plan_explain.specs.RestFirstLines.{IsRestFirstLine}
-use Rattle.plan_explain.specs.RestVerdicts.{IsRestJudged}
+use Rattle.plan_explain.specs.{Explained.{IsChosen, IsChainOf, IsChainToLast, AreMomentLines, IsExplained}, Holds.bound_line}
+use Rattle.plan_explain.specs.{RestChains.AreRestChainLines, RestLeavings.{gone_line, rest_leaving_line, rest_leaving_lines}}
+use Rattle.plan_explain.specs.{RestFirstLines.IsRestFirstLine, RestVerdicts.IsRestJudged}
 use Rattle.plan_explain.specs.RestExplained.{IsChainTo, IsChainToLastAhead, IsRestExplained}
 use Rattle.plan_explain.specs.StartTexts.{said_of, TheStartIsExplainedAsThePlan}
-use Rattle.plan_explain.proofs.Moments.{accepted_line_is}
-use Rattle.plan_explain.proofs.Texts.{texts_same, both_map}
-use Rattle.plan_explain.proofs.RestPaths.{ahead_led}
+use Rattle.plan_explain.proofs.{Moments.accepted_line_is, Texts.{texts_same, both_map}, RestPaths.ahead_led}
 use Rattle.plan_explain.proofs.AtStart.{BeginFirst, held_first, path_along}
 
 -- the line of a node that waits for its job's release

@@ -2,8 +2,7 @@
 use native.Mathlib.Numerals.{unary_clauses}
 use Rattle.std.proofs.Common.{◌≡◌, ℕ, zero, suc, ◌+◌, ◌<◌, List, [], ◌++◌, Result, Ok, Err, OnOk, arith, refl, sym, ap, ◌∙◌}
 use Rattle.std.proofs.lemmas.List.{append-nil, append_assoc}
-use Rattle.plan_explain.specs.Added.{Adds}
-use Rattle.plan_explain.specs.Parts.{AreBoth, AreTextsFrom, no_text, next_text, texts_below}
+use Rattle.plan_explain.specs.{Added.Adds, Parts.{AreBoth, AreTextsFrom, no_text, next_text, texts_below}}
 
 -- what is added may be written in another way
 pub on_ok_same : {T E : Type 0} (r : Result T E) (new one other : List ℕ) → one ≡ other → OnOk r (new ≡ one) → OnOk r (new ≡ other)

@@ -1,14 +1,9 @@
 -- Lines that are printed one after another.
 use Rattle.std.proofs.Common.{◌≡◌, ℕ, ◌+◌, ◌^◌, ◌<◌, ◌≤◌, List, ◌∷◌, ◌++◌, length, get_or, drop, add-one, drop-cons, sym, ap, subst, ◌∙◌, arith}
-use Rattle.std.proofs.Math.ListN.{drop_of_length-le}
-use Rattle.std.proofs.lemmas.List.{append-nil, append_assoc}
-use Rattle.shop_base.specs.declared.node.Node.{Node}
-use Rattle.shop_base.specs.Plan.{PlannedShop}
-use Rattle.shop_base.specs.Graph.{HasArc, ArcsLead, IsSimpleCycle}
+use Rattle.std.proofs.{Math.ListN.drop_of_length-le, lemmas.List.{append-nil, append_assoc}}
+use Rattle.shop_base.specs.{declared.node.Node.Node, Plan.PlannedShop, Graph.{HasArc, ArcsLead, IsSimpleCycle}}
 use Rattle.people_names.specs.NameBooks.{NameBook}
-use Rattle.plan_explain.specs.declared.arcs.ArcKind.{ArcKind}
-use Rattle.plan_explain.specs.Arcs.{time_of, arc_kind}
-use Rattle.plan_explain.specs.Cycles.{arc_line, arc_lines}
+use Rattle.plan_explain.specs.{declared.arcs.ArcKind.ArcKind, Arcs.{time_of, arc_kind}, Cycles.{arc_line, arc_lines}}
 use Rattle.plan_explain.specs.Chains.{AreAlong, reached_at, length_from, reached_line, reached_lines}
 use Rattle.plan_explain.proofs.ArcFacts.{length_grows}
 

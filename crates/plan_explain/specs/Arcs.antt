@@ -1,9 +1,7 @@
 -- The arcs of the graph in words.
 use Rattle.std.specs.Prelude.{ℕ, ◌==◌, if◌then◌else◌, List, [], ◌∷◌, ◌++◌, codes, decimal}
-use Rattle.shop_base.specs.declared.node.Node.{Node}
-use Rattle.shop_base.specs.Plan.{PlannedShop, machine_of, nominal, clean}
-use Rattle.people_names.specs.NameBooks.{NameBook}
-use Rattle.people_names.specs.Words.{job_word, machine_word}
+use Rattle.shop_base.specs.{declared.node.Node.Node, Plan.PlannedShop, Plan.machine_of, Plan.nominal, Plan.clean}
+use Rattle.people_names.specs.{NameBooks.NameBook, Words.job_word, Words.machine_word}
 use Rattle.plan_explain.specs.declared.arcs.ArcKind.{ArcKind}
 use Rattle.plan_explain.specs.declared.arcs.ArcKind.TheVariants.{Job, Blocking}
 

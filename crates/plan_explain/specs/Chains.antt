@@ -1,15 +1,9 @@
 -- The lines of a chain.
 use Rattle.std.specs.Prelude.{ℕ, ◌+◌, None, List, [], ◌∷◌, ◌++◌, codes}
-use Rattle.shop_base.specs.declared.node.Node.{Node}
-use Rattle.shop_base.specs.NodeText.{node_text}
-use Rattle.shop_base.specs.Plan.{PlannedShop, release}
-use Rattle.shop_base.specs.Graph.{HasArc}
-use Rattle.people_names.specs.NameBooks.{NameBook}
-use Rattle.people_names.specs.Words.{moment_word}
+use Rattle.shop_base.specs.{declared.node.Node.Node, NodeText.node_text, Plan.PlannedShop, Plan.release, Graph.HasArc}
+use Rattle.people_names.specs.{NameBooks.NameBook, Words.moment_word}
 use Rattle.plan_verifier.specs.declared.node_bound.Hold.TheVariants.{Awaited}
-use Rattle.plan_explain.specs.declared.arcs.ArcKind.{ArcKind}
-use Rattle.plan_explain.specs.Arcs.{before, time_of, arc_words, arc_kind}
-use Rattle.plan_explain.specs.Holds.{bound_line}
+use Rattle.plan_explain.specs.{declared.arcs.ArcKind.ArcKind, Arcs.before, Arcs.time_of, Arcs.arc_words, Arcs.arc_kind, Holds.bound_line}
 
 -- when v is reached over the arc from u, which is reached at moment t
 abbrev pub reached_at : PlannedShop → ℕ → Node → Node → ℕ

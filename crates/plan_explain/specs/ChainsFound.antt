@@ -1,14 +1,10 @@
 -- The chain that is printed, and the lines behind a verdict's first one, while they are made.
 use Rattle.std.specs.Prelude.{◌≡◌, ℕ, List}
-use Rattle.shop_base.specs.declared.node.Node.{Node}
-use Rattle.shop_base.specs.Plan.{PlannedShop}
-use Rattle.shop_base.specs.Cell.{Cell}
+use Rattle.shop_base.specs.{declared.node.Node.Node, Plan.PlannedShop, Cell.Cell}
 use Rattle.alt_graph.specs.Times.{NodeTimes}
 use Rattle.people_names.specs.NameBooks.{NameBook}
 use Rattle.plan_verifier.specs.Leavings.{leaves_in}
-use Rattle.plan_explain.specs.Parts.{AreBoth}
-use Rattle.plan_explain.specs.RestChains.{IsChainOrNone, AreRestChainLines}
-use Rattle.plan_explain.specs.RestLeavings.{rest_leaving_lines}
+use Rattle.plan_explain.specs.{Parts.AreBoth, RestChains.IsChainOrNone, RestChains.AreRestChainLines, RestLeavings.rest_leaving_lines}
 
 -- the nodes are such a chain by the earliest moments, and lines can be written of it
 pub record IsFound (p : PlannedShop) (c : Cell) (t : ℕ) (times : NodeTimes) (Is : (ℕ → ℕ) → List Node → Type 0) (nodes : List Node) : Type 0 where

@@ -1,8 +1,6 @@
 -- The lines of a cycle's arcs.
 use Rattle.std.specs.Prelude.{ℕ, List, [], ◌∷◌, ◌++◌, codes}
-use Rattle.shop_base.specs.declared.node.Node.{Node}
-use Rattle.shop_base.specs.NodeText.{node_text}
-use Rattle.shop_base.specs.Plan.{PlannedShop}
+use Rattle.shop_base.specs.{declared.node.Node.Node, NodeText.node_text, Plan.PlannedShop}
 use Rattle.people_names.specs.NameBooks.{NameBook}
 use Rattle.plan_explain.specs.Arcs.{before, arc_words, arc_kind}
 

@@ -1,20 +1,14 @@
 -- The explanations of verdicts.
 use Rattle.std.specs.Prelude.{◌≡◌, ℕ, List, Option, None, Some}
-use Rattle.shop_base.specs.declared.node.Node.{Node}
-use Rattle.shop_base.specs.Plan.{PlannedShop}
-use Rattle.shop_base.specs.Graph.{leaving, Path}
+use Rattle.shop_base.specs.{declared.node.Node.Node, Plan.PlannedShop, Graph.leaving, Graph.Path}
 use Rattle.people_names.specs.NameBooks.{NameBook}
 use Rattle.plan_verifier.specs.declared.verdict.Judged.{Judged}
 use Rattle.plan_verifier.specs.declared.verdict.Judged.TheVariants.{Accepted, Refused}
 use Rattle.plan_verifier.specs.declared.verdict.Verdict.{Verdict}
-use Rattle.plan_verifier.specs.declared.verdict.Why.TheVariants.{Cycle, Late}
-use Rattle.plan_verifier.specs.Leavings.{AreLeavings}
+use Rattle.plan_verifier.specs.{declared.verdict.Why.TheVariants.Cycle, declared.verdict.Why.TheVariants.Late, Leavings.AreLeavings}
 use Rattle.plan_verifier.specs.Seen.{judged, as_rest}
-use Rattle.plan_explain.specs.FirstLines.{IsFirstLine}
-use Rattle.plan_explain.specs.Leavings.{IsLastToLeave, leaving_lines}
-use Rattle.plan_explain.specs.Cycles.{cycle_lines}
-use Rattle.plan_explain.specs.Chains.{chain_lines}
-use Rattle.plan_explain.specs.Parts.{AreBoth}
+use Rattle.plan_explain.specs.{FirstLines.IsFirstLine, Leavings.IsLastToLeave, Leavings.leaving_lines, Cycles.cycle_lines}
+use Rattle.plan_explain.specs.{Chains.chain_lines, Parts.AreBoth}
 
 -- which chain is printed: where one is asked for, that to the leaving of this job, else one of which Else holds
 abbrev pub IsChosen : (ℕ → (ℕ → ℕ) → List Node → Type 0) → Option ℕ → ((ℕ → ℕ) → List Node → Type 0) → (ℕ → ℕ) → List Node → Type 0

@@ -1,15 +1,11 @@
 -- The first lines of verdicts.
 use Rattle.std.specs.Prelude.{◌≡◌, ℕ, zero, suc, List, [], ◌∷◌, ◌++◌, codes, decimal}
 use Rattle.std.specs.List.{flat_map}
-use Rattle.shop_base.specs.declared.node.Node.{Node}
-use Rattle.shop_base.specs.NodeText.{node_text}
-use Rattle.shop_base.specs.Plan.{PlannedShop, jobs}
+use Rattle.shop_base.specs.{declared.node.Node.Node, NodeText.node_text, Plan.PlannedShop, Plan.jobs}
 use Rattle.plan_verifier.specs.declared.verdict.Verdict.{Verdict}
 use Rattle.plan_verifier.specs.declared.verdict.Verdict.TheVariants.{Accepted, Refused}
-use Rattle.plan_verifier.specs.declared.verdict.Why.{Why}
-use Rattle.plan_verifier.specs.declared.verdict.Why.TheVariants.{Cycle, Late}
-use Rattle.plan_verifier.specs.Accepted.{IsMakespan}
-use Rattle.plan_verifier.specs.Leavings.{AreLeavings, IsLastLeaving}
+use Rattle.plan_verifier.specs.{declared.verdict.Why.Why, declared.verdict.Why.TheVariants.Cycle, declared.verdict.Why.TheVariants.Late}
+use Rattle.plan_verifier.specs.{Accepted.IsMakespan, Leavings.AreLeavings, Leavings.IsLastLeaving}
 
 -- the nodes, with a blank before each
 abbrev pub node_words : List Node → List ℕ

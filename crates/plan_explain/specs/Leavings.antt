@@ -1,13 +1,9 @@
 -- The lines of the jobs of a plan without a cycle, and which of them leaves last.
 use Rattle.std.specs.Prelude.{ℕ, ◌-◌, ◌<◌, nat_lt, if◌then◌else◌, List, [], ◌∷◌, ◌++◌, codes, decimal}
-use Rattle.shop_base.specs.declared.node.Node.{Node}
-use Rattle.shop_base.specs.Plan.{PlannedShop, jobs, budget}
-use Rattle.shop_base.specs.Graph.{leaving, Path}
-use Rattle.people_names.specs.NameBooks.{NameBook}
-use Rattle.people_names.specs.Words.{job_word, moment_word, is_budget_printed}
+use Rattle.shop_base.specs.{declared.node.Node.Node, Plan.PlannedShop, Plan.jobs, Plan.budget, Graph.leaving, Graph.Path}
+use Rattle.people_names.specs.{NameBooks.NameBook, Words.job_word, Words.moment_word, Words.is_budget_printed}
 use Rattle.plan_verifier.specs.Accepted.{IsMakespan}
-use Rattle.plan_explain.specs.Arcs.{before}
-use Rattle.plan_explain.specs.Parts.{texts_below}
+use Rattle.plan_explain.specs.{Arcs.before, Parts.texts_below}
 
 -- the least job that leaves last, and when: at the makespan, before which each job with a lesser number leaves
 pub record IsLastToLeave (p : PlannedShop) (j n : ℕ) : Type 0 where

@@ -7,10 +7,8 @@ use Rattle.alt_graph.specs.Evidence.{EndsIn}
 use Rattle.people_names.specs.NameBooks.{NameBook}
 use Rattle.plan_verifier.specs.declared.verdict.Verdict.{Verdict}
 use Rattle.plan_explain.specs.declared.arcs.ArcKind.TheVariants.{Job, Blocking}
-use Rattle.plan_explain.specs.Arcs.{time_of, arc_kind}
-use Rattle.plan_explain.specs.Cycles.{arc_line, cycle_lines}
-use Rattle.plan_explain.specs.Chains.{release_line, reached_line, reached_lines, chain_lines}
-use Rattle.plan_explain.specs.FirstLines.{IsFirstLine}
+use Rattle.plan_explain.specs.{Arcs.time_of, Arcs.arc_kind, Cycles.arc_line, Cycles.cycle_lines}
+use Rattle.plan_explain.specs.{Chains.release_line, Chains.reached_line, Chains.reached_lines, Chains.chain_lines, FirstLines.IsFirstLine}
 
 -- each arc of the plan is printed as it is, and takes the time that is printed
 pub record AreExactArcs (p : PlannedShop) : Type 0 where

@@ -1,14 +1,9 @@
 -- The lines of a chain ahead.
 use Rattle.std.specs.Prelude.{◌≡◌, ℕ, ◌^◌, ◌<◌, ◌≤◌, List, [], ◌∷◌, ◌++◌}
-use Rattle.shop_base.specs.declared.node.Node.{Node}
-use Rattle.shop_base.specs.Plan.{PlannedShop}
-use Rattle.shop_base.specs.Cell.{Cell}
-use Rattle.shop_base.specs.Ahead.{PathAhead}
+use Rattle.shop_base.specs.{declared.node.Node.Node, Plan.PlannedShop, Cell.Cell, Ahead.PathAhead}
 use Rattle.people_names.specs.NameBooks.{NameBook}
-use Rattle.plan_verifier.specs.Held.{BeginHeldUp, IsBoundOf}
-use Rattle.plan_verifier.specs.declared.node_bound.NodeBound.{NodeBound}
-use Rattle.plan_explain.specs.Chains.{reached_lines}
-use Rattle.plan_explain.specs.Holds.{bound_line}
+use Rattle.plan_verifier.specs.{Held.BeginHeldUp, Held.IsBoundOf, declared.node_bound.NodeBound.NodeBound}
+use Rattle.plan_explain.specs.{Chains.reached_lines, Holds.bound_line}
 
 module _ (p : PlannedShop) (c : Cell) (t : ℕ) where
   -- a longest path ahead along these nodes, from one that is held up, whose length is a moment

@@ -1,17 +1,9 @@
 -- The explanations of verdicts on the rest of a run.
 use Rattle.std.specs.Prelude.{◌≡◌, ℕ, ◌<◌, ◌⊎◌, List, [], Option}
-use Rattle.shop_base.specs.declared.node.Node.{Node}
-use Rattle.shop_base.specs.Plan.{PlannedShop, jobs}
-use Rattle.shop_base.specs.Cell.{Cell, IsGone}
-use Rattle.shop_base.specs.Graph.{leaving}
-use Rattle.shop_base.specs.Ahead.{PathAhead}
+use Rattle.shop_base.specs.{declared.node.Node.Node, Plan.PlannedShop, Plan.jobs, Cell.Cell, Cell.IsGone, Graph.leaving, Ahead.PathAhead}
 use Rattle.people_names.specs.NameBooks.{NameBook}
-use Rattle.plan_verifier.specs.Leavings.{AreLeavingsAhead, LeavesLast}
-use Rattle.plan_verifier.specs.declared.verdict.Judged.{Judged}
-use Rattle.plan_explain.specs.Explained.{AreLinesBehind}
-use Rattle.plan_explain.specs.Parts.{AreBoth}
-use Rattle.plan_explain.specs.RestChains.{AreRestChainLines}
-use Rattle.plan_explain.specs.RestLeavings.{rest_leaving_lines}
+use Rattle.plan_verifier.specs.{Leavings.AreLeavingsAhead, Leavings.LeavesLast, declared.verdict.Judged.Judged}
+use Rattle.plan_explain.specs.{Explained.AreLinesBehind, Parts.AreBoth, RestChains.AreRestChainLines, RestLeavings.rest_leaving_lines}
 use Rattle.plan_explain.specs.RestFirstLines.{IsRestFirstLine}
 
 module _ (p : PlannedShop) (c : Cell) (t : ℕ) where

@@ -1,7 +1,6 @@
 -- The first lines of verdicts on the rest of a run.
 use Rattle.std.specs.Prelude.{◌≡◌, ℕ, List}
-use Rattle.shop_base.specs.Plan.{PlannedShop}
-use Rattle.shop_base.specs.Cell.{Cell}
+use Rattle.shop_base.specs.{Plan.PlannedShop, Cell.Cell}
 use Rattle.plan_explain.specs.FirstLines.{refused_line, IsAcceptedText}
 use Rattle.plan_verifier.specs.declared.verdict.Judged.{Judged}
 use Rattle.plan_verifier.specs.declared.verdict.Judged.TheVariants.{Accepted, Refused}

@@ -1,12 +1,8 @@
 -- The lines of the jobs in the rest of a run.
 use Rattle.std.specs.Prelude.{ℕ, nat_lt, if◌then◌else◌, List, [], ◌∷◌, ◌++◌, codes}
-use Rattle.shop_base.specs.Plan.{PlannedShop, jobs, steps, budget}
-use Rattle.shop_base.specs.Cell.{Cell, made}
-use Rattle.people_names.specs.NameBooks.{NameBook}
-use Rattle.people_names.specs.Words.{job_word, moment_word}
-use Rattle.plan_explain.specs.Arcs.{before}
-use Rattle.plan_explain.specs.Parts.{texts_below}
-use Rattle.plan_explain.specs.Leavings.{budget_words, leaving_line}
+use Rattle.shop_base.specs.{Plan.PlannedShop, Plan.jobs, Plan.steps, Plan.budget, Cell.Cell, Cell.made}
+use Rattle.people_names.specs.{NameBooks.NameBook, Words.job_word, Words.moment_word}
+use Rattle.plan_explain.specs.{Arcs.before, Parts.texts_below, Leavings.budget_words, Leavings.leaving_line}
 
 -- `job J left L budget B`
 abbrev pub gone_line : NameBook → ℕ → ℕ → ℕ → List ℕ

@@ -1,10 +1,8 @@
 -- What is known of a verdict on the rest of a run.
 use Rattle.std.specs.Prelude.{ℕ}
-use Rattle.shop_base.specs.Plan.{PlannedShop}
-use Rattle.shop_base.specs.Cell.{Cell}
+use Rattle.shop_base.specs.{Plan.PlannedShop, Cell.Cell}
 use Rattle.alt_graph.specs.Times.{AreRanks}
-use Rattle.plan_verifier.specs.RestVerdicts.{IsAcceptedAhead, IsReasonAhead}
-use Rattle.plan_verifier.specs.declared.verdict.Judged.{Judged}
+use Rattle.plan_verifier.specs.{RestVerdicts.IsAcceptedAhead, RestVerdicts.IsReasonAhead, declared.verdict.Judged.Judged}
 use Rattle.plan_verifier.specs.declared.verdict.Judged.TheVariants.{Accepted, Refused}
 
 -- it is accepted with its earliest moments, or refused with the reason

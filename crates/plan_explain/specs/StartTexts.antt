@@ -1,16 +1,12 @@
 -- The law of the start: of a run that hasn't begun the rest is printed as the whole plan.
 use Rattle.std.specs.Prelude.{◌↔◌, ℕ, ◌<◌, List, Option, IfSome}
-use Rattle.shop_base.specs.Plan.{PlannedShop, jobs, IsWellShaped}
-use Rattle.shop_base.specs.Cell.{start}
+use Rattle.shop_base.specs.{Plan.PlannedShop, Plan.jobs, Plan.IsWellShaped, Cell.start}
 use Rattle.people_names.specs.NameBooks.{NameBook}
 use Rattle.plan_verifier.specs.declared.verdict.Judged.{Judged}
 use Rattle.plan_verifier.specs.declared.verdict.Judged.TheVariants.{Accepted as AcceptedRest, Refused as RefusedRest}
 use Rattle.plan_verifier.specs.declared.verdict.Verdict.{Verdict}
 use Rattle.plan_verifier.specs.declared.verdict.Verdict.TheVariants.{Accepted, Refused}
-use Rattle.plan_explain.specs.FirstLines.{IsFirstLine}
-use Rattle.plan_explain.specs.Explained.{IsExplained}
-use Rattle.plan_explain.specs.RestFirstLines.{IsRestFirstLine}
-use Rattle.plan_explain.specs.RestVerdicts.{IsRestJudged}
+use Rattle.plan_explain.specs.{FirstLines.IsFirstLine, Explained.IsExplained, RestFirstLines.IsRestFirstLine, RestVerdicts.IsRestJudged}
 use Rattle.plan_explain.specs.RestExplained.{IsRestExplained}
 
 -- a verdict on the rest, said of the whole plan

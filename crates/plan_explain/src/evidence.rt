@@ -1,8 +1,7 @@
 //! The explanation of the verdict on a plan: that of the rest of a run that hasn't begun.
 
-ghost use Rattle.std.specs.Prelude.{◌<◌, IfOk, IfSome, None};
+ghost use Rattle.std.specs.Prelude.{◌<◌, IfOk, IfSome};
 ghost use Rattle.shop_base.specs.Plan.{jobs};
-ghost use Rattle.people_names.specs.NameBooks.{no_names};
 ghost use Rattle.plan_verifier.specs.{Seen.judged, Verdicts.OnRefused, Verdicts.IsReason};
 ghost use Rattle.plan_explain.specs.Explained.{IsExplained};
 
@@ -13,20 +12,12 @@ use plan_verifier::Verdict;
 use shop_base::JobNo;
 use std::alloc::{AllocError, Global};
 
-/// Why a plan is accepted or refused, in numbers, with the chain that the verdict gives: [`explain_for`] without names.
-pub fn explain(alloc: Global, verdict: &Verdict) -> Result<Vec<u8>, AllocError>
-    requires { OnRefused IsReason verdict.now }
-    ensures { IfOk result (λ text. IsExplained no_names None verdict.now text.items) }
-{
-    explain_for(alloc, &Names::none(alloc), None, verdict)
-}
-
 /// Why a plan is accepted or refused. After [`crate::first_line`] come the arcs of a cycle; or each job's leaving, its
 /// budget and what is left to it or by how much it is late, and the arcs of a chain: the one to the leaving of the job
 /// that is asked for; else the one to the late job's leaving that the first line gives, or a longest one to the leaving
 /// of the least job that leaves last. A refusal has the evidence that `verify` gave. Behind the first line jobs,
 /// machines and moments are written by names and clock.
-pub fn explain_for(
+pub fn explain(
     alloc: Global,
     names: &Names,
     job: Option<JobNo>,

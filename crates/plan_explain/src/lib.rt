@@ -15,7 +15,7 @@ pub mod laws;
 mod leaving_lines;
 mod words;
 
-pub use evidence::{explain, explain_for};
+pub use evidence::explain;
 pub use explaining::explain_after;
 pub use first_lines::{first_line, first_line_after, push_cycle_line};
 pub use words::{LINE_ROOM, Line, push_job_at, push_line, put_job};

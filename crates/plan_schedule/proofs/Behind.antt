@@ -1,15 +1,10 @@
 -- The lines by a calendar are those behind the first line of a verdict.
 use Rattle.std.proofs.Common.{ℕ, List, None, Some, refl}
-use Rattle.shop_base.specs.Plan.{PlannedShop}
-use Rattle.shop_base.specs.Cell.{Cell}
-use Rattle.shop_base.specs.Deadlines.{AreDeadlines}
-use Rattle.alt_graph.specs.Times.{NodeTimes, earliest_of}
-use Rattle.alt_graph.specs.Latest.{NodeMoments, moment_of}
+use Rattle.shop_base.specs.{Plan.PlannedShop, Cell.Cell, Deadlines.AreDeadlines}
+use Rattle.alt_graph.specs.{Times.{NodeTimes, earliest_of}, Latest.{NodeMoments, moment_of}}
 use Rattle.people_names.specs.NameBooks.{NameBook}
 use Rattle.plan_verifier.specs.Rest.{AreOrderedAhead}
-use Rattle.plan_schedule.specs.Calendars.{due_in}
-use Rattle.plan_schedule.specs.RestSchedules.{AreRestLines}
-use Rattle.plan_schedule.specs.Scheduled.{AreInTime, AreLate, AreLinesBy}
+use Rattle.plan_schedule.specs.{Calendars.due_in, RestSchedules.AreRestLines, Scheduled.{AreInTime, AreLate, AreLinesBy}}
 use Rattle.plan_schedule.specs.RestScheduled.{AreRestMoments}
 
 -- earliest moments are greatest lengths

@@ -1,23 +1,15 @@
 -- The visits of a run, one after another.
 use Rattle.std.proofs.Common.{◌≡◌, ℕ, zero, suc, subst, ◌+◌, ◌-◌, ◌<◌, ◌≤◌, List, [], ◌∷◌, ◌++◌, length, map, drop, drop-cons, get_or, Option, None, Some, refl, sym, ap, ◌∙◌, append-nil, append_assoc, add-one, arith}
-use Rattle.std.specs.Prelude.{flat_map}
-use Rattle.std.specs.List.{range_with_len}
-use Rattle.std.proofs.lemmas.List.{map-id, flat_map_more, get_or_past}
-use Rattle.std.proofs.lemmas.List.FromFn.{map-range_with_len_more}
-use Rattle.std.proofs.lemmas.Bool.{eq-eqb, ne_eqb, le-leb, lt-leb}
-use Rattle.std.proofs.Math.ListN.{drop_of_length-le}
-use Rattle.shop_base.specs.declared.node.Node.{Node}
-use Rattle.shop_base.specs.Plan.{PlannedShop, jobs, machines, steps, machine_of, clean}
-use Rattle.shop_base.specs.Cell.{Cell, MachineState, absent, unused, made, start}
-use Rattle.shop_base.specs.declared.job_state.JobState.{JobState}
+use Rattle.std.proofs.{lemmas.List.{map-id, flat_map_more, get_or_past}, lemmas.List.FromFn.map-range_with_len_more}
+use Rattle.std.proofs.{lemmas.Bool.{eq-eqb, ne_eqb, le-leb, lt-leb}, Math.ListN.drop_of_length-le}
+use Rattle.std.specs.{Prelude.flat_map, List.range_with_len}
+use Rattle.shop_base.specs.{declared.node.Node.Node, Plan.{PlannedShop, jobs, machines, steps, machine_of, clean}}
+use Rattle.shop_base.specs.{Cell.{Cell, MachineState, absent, unused, made, start}, declared.job_state.JobState.JobState, Sound.IsSound}
+use Rattle.shop_base.specs.Graph.{leaving}
 use Rattle.shop_base.proofs.Keeping.{start-made}
 use Rattle.plan_verifier.proofs.AtStart.{greatest_to}
-use Rattle.shop_base.specs.Sound.{IsSound}
-use Rattle.shop_base.specs.Graph.{leaving}
-use Rattle.run_picture.specs.declared.visit.Cleaned.TheVariants.{By}
-use Rattle.run_picture.specs.declared.visit.DrawnVisit.{DrawnVisit}
-use Rattle.plan_schedule.specs.declared.lines.Cleaning.{Cleaning}
-use Rattle.plan_schedule.specs.Schedules.{IsCleaningBehind}
+use Rattle.run_picture.specs.{declared.visit.Cleaned.TheVariants.By, declared.visit.DrawnVisit.DrawnVisit}
+use Rattle.plan_schedule.specs.{declared.lines.Cleaning.Cleaning, Schedules.IsCleaningBehind}
 use Rattle.plan_schedule.specs.DrawnVisits.{known_cleaning, cleaned_behind, drawn_visit, job_visits, place_behind, place_inside, cleaning_end, job_ahead, visits_ahead, leavings_by, TheRunOfTheStartIsDrawnAsThePlan}
 
 range-more : (n : ℕ) → range_with_len 0 (n + 1) ≡ range_with_len 0 n ++ n ∷ []

@@ -1,33 +1,22 @@
 -- The moments of a schedule are those of the exact run: no move comes later than they allow, none earlier than a path allows, and so each job and each cleaning has begun as it is scheduled.
 use Rattle.std.proofs.Common.{◌≡◌, ℕ, ◌+◌, ◌<◌, ◌≤◌, inl, inr, List, [], ◌∷◌, ◌++◌, length, Option, Some, None, refl, sym, ap, ◌∙◌, subst, arith, append_assoc}
 use Rattle.std.proofs.lemmas.Bool.{cases_lt, cases_eq}
-use Rattle.shop_base.specs.declared.node.Node.{Node}
-use Rattle.shop_base.specs.declared.job_state.JobState.{JobState}
-use Rattle.shop_base.specs.declared.report.Report.{Report}
+use Rattle.shop_base.specs.{declared.node.Node.Node, declared.job_state.JobState.JobState, declared.report.Report.Report}
 use Rattle.shop_base.specs.Plan.{PlannedShop, jobs, nominal, release, clean, IsWellShaped}
 use Rattle.shop_base.specs.Cell.{Cell, MachineState, made, since, entries, cleaning, start, IsOn}
-use Rattle.shop_base.specs.Activity.{Activity, Arrival, Operation, Cleaning, GoesOn}
-use Rattle.shop_base.specs.Report.{ended, at, IsNextMoment, after_report}
-use Rattle.shop_base.specs.Move.{CanMove, after_move}
-use Rattle.shop_base.specs.Run.{Event, Reported, Moved, AreEvents, ends_in, IsRun}
-use Rattle.shop_base.specs.Controlled.{IsControlledRun}
+use Rattle.shop_base.specs.{Activity.{Activity, Arrival, Operation, Cleaning, GoesOn}, Report.{ended, at, IsNextMoment, after_report}}
+use Rattle.shop_base.specs.{Move.{CanMove, after_move}, Run.{Event, Reported, Moved, AreEvents, ends_in, IsRun}, Controlled.IsControlledRun}
 use Rattle.shop_base.specs.Punctual.{IsPunctual, ArePunctualFrom, AreExact, AreNotEarly}
-use Rattle.shop_base.specs.Graph.{node, IsNode, Arc, job_arc, blocking_arc, Path, begins, follows, RanksRise, MomentsFit}
-use Rattle.shop_base.specs.Sound.{IsSound}
-use Rattle.shop_base.specs.Ahead.{next_node, IsScheduleAhead, GoesOnTo}
-use Rattle.shop_base.specs.Within.{AreMadeBy}
-use Rattle.shop_base.proofs.Visits.{steps_job, visits_job, visits_once, visits-stands, on_or_not}
-use Rattle.shop_base.proofs.InShop.{ready_in_shop, start_unused}
-use Rattle.shop_base.proofs.Cycles.{source_node}
-use Rattle.shop_base.proofs.Changes.{IsMoved, after_move-moved, moves_within}
+use Rattle.shop_base.specs.{Graph.{node, IsNode, Arc, job_arc, blocking_arc, Path, begins, follows, RanksRise, MomentsFit}, Sound.IsSound}
+use Rattle.shop_base.specs.{Ahead.{next_node, IsScheduleAhead, GoesOnTo}, Within.AreMadeBy}
+use Rattle.shop_base.proofs.{Visits.{steps_job, visits_job, visits_once, visits-stands, on_or_not}, InShop.{ready_in_shop, start_unused}}
+use Rattle.shop_base.proofs.{Cycles.source_node, Changes.{IsMoved, after_move-moved, moves_within}}
 use Rattle.shop_base.proofs.Keeping.{IsLike, start-made, start-sound, after_report-like, after_report-sound, after_move-sound, target_free}
-use Rattle.shop_base.proofs.ControlledRuns.{after_all_join, controlled_to_run}
-use Rattle.shop_base.proofs.InTime.{exact-punctual}
+use Rattle.shop_base.proofs.{ControlledRuns.{after_all_join, controlled_to_run}, InTime.exact-punctual}
 use Rattle.shop_base.proofs.Within.{each_move_is_in_time-holds, punctual_reports_are_within-holds, punctual-from}
 use Rattle.shop_base.proofs.StartAhead.{the_start_is_a_case-holds, start-keeps_moments, from_start, no_exact_move_is_earlier-holds}
 use Rattle.shop_base.proofs.SomeExact.{some_continuation_is_exact-holds}
-use Rattle.plan_schedule.specs.Scheduled.{AreEarliest}
-use Rattle.plan_schedule.specs.OnTime.{IsLastVisit, EndsOnTime, AreOnTime}
+use Rattle.plan_schedule.specs.{Scheduled.AreEarliest, OnTime.{IsLastVisit, EndsOnTime, AreOnTime}}
 use Rattle.plan_schedule.specs.ScheduleLaw.{ScheduleIsTheExactRun, SomeRunIsExact}
 
 -- an arc leads to a node of the shop

@@ -1,31 +1,21 @@
 -- The rest of a run that hasn't begun is scheduled as the whole plan.
 use Rattle.std.proofs.Common.{◌≡◌, ℕ, zero, suc, ◌<◌, List, [], ◌++◌, Option, None, Some, max, if◌then◌else◌, inl, inr, arith, refl, sym, ap, subst, ◌∙◌}
-use Rattle.std.proofs.Math.Nat.{max-zero}
-use Rattle.std.proofs.lemmas.List.{append-nil}
-use Rattle.shop_base.specs.declared.node.Node.{Node}
-use Rattle.shop_base.specs.Plan.{PlannedShop, jobs, machines, release, IsWellShaped}
-use Rattle.shop_base.specs.Cell.{Cell, start}
+use Rattle.std.proofs.{Math.Nat.max-zero, lemmas.List.append-nil}
+use Rattle.shop_base.specs.{declared.node.Node.Node, Plan.{PlannedShop, jobs, machines, release, IsWellShaped}, Cell.{Cell, start}}
 use Rattle.shop_base.specs.Graph.{node}
-use Rattle.shop_base.proofs.Keeping.{start-made}
-use Rattle.shop_base.proofs.ControlledRuns.{start_not_ready}
-use Rattle.plan_verifier.specs.declared.verdict.Judged.{Judged}
-use Rattle.plan_verifier.specs.declared.verdict.Judged.TheVariants.{Accepted, Refused}
+use Rattle.shop_base.proofs.{Keeping.start-made, ControlledRuns.start_not_ready}
+use Rattle.plan_verifier.specs.{declared.verdict.Judged.Judged, declared.verdict.Judged.TheVariants.{Accepted, Refused}}
 use Rattle.plan_verifier.specs.declared.verdict.Verdict.{Verdict}
 use Rattle.plan_verifier.specs.declared.verdict.Verdict.TheVariants.{Accepted as AcceptedPlan, Refused as RefusedPlan}
-use Rattle.plan_verifier.specs.declared.verdict.Why.TheVariants.{Cycle, Late}
-use Rattle.plan_verifier.specs.Seen.{judged, as_rest}
+use Rattle.plan_verifier.specs.{declared.verdict.Why.TheVariants.{Cycle, Late}, Seen.{judged, as_rest}}
 use Rattle.plan_verifier.proofs.AtStart.{start_clean, nobody_gone, greatest_to, greatest_from}
-use Rattle.plan_explain.specs.Parts.{AreTextsFrom, no_text, next_text}
-use Rattle.plan_explain.specs.StartTexts.{said_of}
-use Rattle.plan_explain.proofs.Texts.{both_map, texts_map}
-use Rattle.plan_explain.proofs.StartTexts.{first_line_whole, first_line_back}
+use Rattle.plan_explain.specs.{Parts.{AreTextsFrom, no_text, next_text}, StartTexts.said_of}
+use Rattle.plan_explain.proofs.{Texts.{both_map, texts_map}, StartTexts.{first_line_whole, first_line_back}}
 use Rattle.people_names.specs.NameBooks.{NameBook}
-use Rattle.plan_schedule.specs.Lines.{arrival_line, arrived_line}
-use Rattle.plan_schedule.specs.Schedules.{IsJobText, AreScheduleLines}
+use Rattle.plan_schedule.specs.{Lines.{arrival_line, arrived_line}, Schedules.{IsJobText, AreScheduleLines}}
 use Rattle.plan_schedule.specs.Scheduled.{AreEarliest, AreLinesBy, AreLinesBehind, IsScheduled}
 use Rattle.plan_schedule.specs.RestSchedules.{arrival_after, IsCleanedText, IsRestJobText, AreRestLines}
-use Rattle.plan_schedule.specs.RestScheduled.{AreRestMoments, IsRestScheduled}
-use Rattle.plan_schedule.specs.StartSchedule.{TheRestOfTheStartIsScheduledAsThePlan}
+use Rattle.plan_schedule.specs.{RestScheduled.{AreRestMoments, IsRestScheduled}, StartSchedule.TheRestOfTheStartIsScheduledAsThePlan}
 
 -- ---- no cleaning goes on there
 

@@ -2,17 +2,11 @@
 use Rattle.std.specs.Prelude.{ℕ, ◌+◌, ◌*◌, ◌≤◌, Option, None, Some, IfSome, List}
 use Rattle.shop_base.specs.declared.node.Node.{Node}
 use Rattle.shop_base.specs.declared.limits.TheConstants.{MAX_MOMENT, MAX_JOBS, MAX_MACHINES, MAX_NOMINAL}
-use Rattle.shop_base.specs.Plan.{PlannedShop}
-use Rattle.shop_base.specs.Cell.{Cell}
-use Rattle.shop_base.specs.Graph.{IsNode}
-use Rattle.shop_base.specs.Ahead.{IsAhead}
-use Rattle.alt_graph.specs.Bounds.{MAX_BOUND}
-use Rattle.alt_graph.specs.Times.{NodeTimes, earliest_of, AreRanks}
+use Rattle.shop_base.specs.{Plan.PlannedShop, Cell.Cell, Graph.IsNode, Ahead.IsAhead}
+use Rattle.alt_graph.specs.{Bounds.MAX_BOUND, Times.NodeTimes, Times.earliest_of, Times.AreRanks}
 use Rattle.alt_graph.specs.Latest.{NodeMoments, HasMoment, moment_of}
 use Rattle.people_names.specs.NameBooks.{NameBook}
-use Rattle.plan_schedule.specs.declared.lines.Visit.{Visit}
-use Rattle.plan_schedule.specs.Schedules.{IsVisitText}
-use Rattle.plan_schedule.specs.RestSchedules.{IsRestJobText, IsCleanedText}
+use Rattle.plan_schedule.specs.{declared.lines.Visit.Visit, Schedules.IsVisitText, RestSchedules.IsRestJobText, RestSchedules.IsCleanedText}
 
 -- the moments of the rest of a run, and its deadlines, if it has any
 pub record PlanCalendar : Type 0 where

@@ -3,16 +3,12 @@ use Rattle.std.specs.Prelude.{◌≡◌, ℕ, zero, suc, ◌+◌, ◌-◌, ◌<�
 use Rattle.std.specs.List.{range_with_len}
 use Rattle.shop_base.specs.declared.node.Node.{Node}
 use Rattle.shop_base.specs.Plan.{PlannedShop, jobs, steps, machine_of, nominal, clean, IsWellShaped}
-use Rattle.shop_base.specs.Cell.{Cell, made, since, cleaning, start, IsGone}
-use Rattle.shop_base.specs.Graph.{node, leaving}
+use Rattle.shop_base.specs.{Cell.Cell, Cell.made, Cell.since, Cell.cleaning, Cell.start, Cell.IsGone, Graph.node, Graph.leaving}
 use Rattle.run_picture.specs.declared.visit.Cleaned.{Cleaned}
 use Rattle.run_picture.specs.declared.visit.Cleaned.TheVariants.{Never, NotYet, By}
 use Rattle.run_picture.specs.declared.visit.DrawnVisit.{DrawnVisit}
-use Rattle.plan_schedule.specs.declared.lines.Cleaning.{Cleaning}
-use Rattle.plan_schedule.specs.declared.picture_visits.DrawnRun.{DrawnRun}
-use Rattle.plan_schedule.specs.Scheduled.{AreEarliest}
-use Rattle.plan_schedule.specs.RestSchedules.{operation_end, cleaned_by}
-use Rattle.plan_schedule.specs.RestScheduled.{AreRestMoments}
+use Rattle.plan_schedule.specs.{declared.lines.Cleaning.Cleaning, declared.picture_visits.DrawnRun.DrawnRun, Scheduled.AreEarliest}
+use Rattle.plan_schedule.specs.{RestSchedules.operation_end, RestSchedules.cleaned_by, RestScheduled.AreRestMoments}
 
 -- the end of a cleaning, if there is one
 abbrev pub known_cleaning : Option Cleaning → Cleaned

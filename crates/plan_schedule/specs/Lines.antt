@@ -1,10 +1,8 @@
 -- The lines of a schedule in words.
 use Rattle.std.specs.Prelude.{ℕ, if◌then◌else◌, List, [], ◌∷◌, ◌++◌, codes, Option, None, Some}
-use Rattle.people_names.specs.NameBooks.{NameBook}
-use Rattle.people_names.specs.Words.{job_word, machine_word, moment_word, is_deadline_printed}
+use Rattle.people_names.specs.{NameBooks.NameBook, Words.job_word, Words.machine_word, Words.moment_word, Words.is_deadline_printed}
 use Rattle.plan_explain.specs.Arcs.{before}
-use Rattle.plan_schedule.specs.declared.lines.Visit.{Visit}
-use Rattle.plan_schedule.specs.declared.lines.Cleaning.{Cleaning}
+use Rattle.plan_schedule.specs.{declared.lines.Visit.Visit, declared.lines.Cleaning.Cleaning}
 
 module _ (names : NameBook) where
   -- ` by D`, where there is a deadline and it is printed

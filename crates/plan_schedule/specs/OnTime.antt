@@ -1,10 +1,8 @@
 -- Runs whose events come at just the moments of a schedule.
 use Rattle.std.specs.Prelude.{◌≡◌, ℕ, ◌+◌, ◌<◌, List, [], ◌∷◌, length, Option}
-use Rattle.shop_base.specs.declared.node.Node.{Node}
-use Rattle.shop_base.specs.Plan.{PlannedShop, steps, release, clean, Stands}
+use Rattle.shop_base.specs.{declared.node.Node.Node, Plan.PlannedShop, Plan.steps, Plan.release, Plan.clean, Plan.Stands}
 use Rattle.shop_base.specs.Cell.{Cell, made, entries, IsOn}
-use Rattle.shop_base.specs.Activity.{Activity, Arrival, Operation, Cleaning}
-use Rattle.shop_base.specs.Report.{ended, at}
+use Rattle.shop_base.specs.{Activity.Activity, Activity.Arrival, Activity.Operation, Activity.Cleaning, Report.ended, Report.at}
 use Rattle.shop_base.specs.Run.{Event, Reported, Moved, after}
 use Rattle.plan_schedule.specs.Schedules.{visit_of}
 

@@ -1,17 +1,10 @@
 -- The schedules of verdicts on the rest of a run.
 use Rattle.std.specs.Prelude.{ℕ, List}
-use Rattle.shop_base.specs.declared.node.Node.{Node}
-use Rattle.shop_base.specs.Plan.{PlannedShop}
-use Rattle.shop_base.specs.Cell.{Cell}
-use Rattle.shop_base.specs.Graph.{IsNode}
-use Rattle.shop_base.specs.Ahead.{IsAhead}
+use Rattle.shop_base.specs.{declared.node.Node.Node, Plan.PlannedShop, Cell.Cell, Graph.IsNode, Ahead.IsAhead}
 use Rattle.people_names.specs.NameBooks.{NameBook}
-use Rattle.plan_verifier.specs.Rest.{IsGreatestAhead}
-use Rattle.plan_verifier.specs.declared.verdict.Judged.{Judged}
-use Rattle.plan_explain.specs.RestFirstLines.{IsRestFirstLine}
-use Rattle.plan_explain.specs.Parts.{AreBoth}
-use Rattle.plan_schedule.specs.RestSchedules.{AreRestLines}
-use Rattle.plan_schedule.specs.Scheduled.{AreLinesBehind}
+use Rattle.plan_verifier.specs.{Rest.IsGreatestAhead, declared.verdict.Judged.Judged}
+use Rattle.plan_explain.specs.{RestFirstLines.IsRestFirstLine, Parts.AreBoth}
+use Rattle.plan_schedule.specs.{RestSchedules.AreRestLines, Scheduled.AreLinesBehind}
 
 -- of each node ahead the greatest length of a path ahead to it
 abbrev pub AreRestMoments : PlannedShop → Cell → ℕ → (Node → ℕ) → Type 0

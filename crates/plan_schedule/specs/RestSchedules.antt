@@ -2,13 +2,11 @@
 use Rattle.std.specs.Prelude.{◌≡◌, ℕ, ◌+◌, ◌<◌, ◌≤◌, ◌⊎◌, max, if◌then◌else◌, List, codes, length, Option, None, Some, MatchOption}
 use Rattle.shop_base.specs.declared.node.Node.{Node}
 use Rattle.shop_base.specs.Plan.{PlannedShop, jobs, machines, steps, order, machine_of, nominal, release, clean, Stands}
-use Rattle.shop_base.specs.Cell.{Cell, made, ready, since, entries, cleaning, IsGone}
-use Rattle.shop_base.specs.Graph.{node}
+use Rattle.shop_base.specs.{Cell.Cell, Cell.made, Cell.ready, Cell.since, Cell.entries, Cell.cleaning, Cell.IsGone, Graph.node}
 use Rattle.people_names.specs.NameBooks.{NameBook}
 use Rattle.plan_explain.specs.Parts.{AreBoth, AreTextsFrom}
 use Rattle.plan_schedule.specs.Lines.{arrival_line, cleaning_line, left_line, arrived_line}
-use Rattle.plan_schedule.specs.Schedules.{IsVisitText, AreVisitsFrom}
-use Rattle.plan_schedule.specs.declared.lines.Visit.{Visit}
+use Rattle.plan_schedule.specs.{Schedules.IsVisitText, Schedules.AreVisitsFrom, declared.lines.Visit.Visit}
 use Rattle.plan_schedule.specs.declared.lines.Cleaning.{Cleaning}
 
 module _ (p : PlannedShop) (c : Cell) (due : Node → Option ℕ) where

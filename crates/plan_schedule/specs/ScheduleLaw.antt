@@ -1,16 +1,9 @@
 -- The law that ties a schedule to the run that it is of.
 use Rattle.std.specs.Prelude.{ℕ, ◌<◌, ◌≤◌, List, Option}
-use Rattle.shop_base.specs.declared.node.Node.{Node}
-use Rattle.shop_base.specs.declared.limits.TheConstants.{MAX_MOMENT}
-use Rattle.shop_base.specs.declared.report.Report.{Report}
-use Rattle.shop_base.specs.Plan.{PlannedShop, jobs, IsWellShaped}
-use Rattle.shop_base.specs.Cell.{Cell, start, IsGone}
-use Rattle.shop_base.specs.Run.{Event}
-use Rattle.shop_base.specs.Controlled.{IsControlledRun}
-use Rattle.shop_base.specs.Punctual.{AreExact}
-use Rattle.shop_base.specs.Graph.{leaving, RanksRise}
-use Rattle.plan_schedule.specs.Scheduled.{AreEarliest}
-use Rattle.plan_schedule.specs.OnTime.{AreOnTime}
+use Rattle.shop_base.specs.{declared.node.Node.Node, declared.limits.TheConstants.MAX_MOMENT, declared.report.Report.Report}
+use Rattle.shop_base.specs.{Plan.PlannedShop, Plan.jobs, Plan.IsWellShaped, Cell.Cell, Cell.start, Cell.IsGone, Run.Event}
+use Rattle.shop_base.specs.{Controlled.IsControlledRun, Punctual.AreExact, Graph.leaving, Graph.RanksRise}
+use Rattle.plan_schedule.specs.{Scheduled.AreEarliest, OnTime.AreOnTime}
 
 -- schedules have the exact run: where ranks rise along every arc, each event of a controlled run whose reports are exact comes at just the moment that the lines by the earliest moments have
 abbrev pub ScheduleIsTheExactRun : Type 0

@@ -1,19 +1,13 @@
 -- The schedules of verdicts.
 use Rattle.std.specs.Prelude.{◌≡◌, ℕ, List, [], Option, None, Some}
-use Rattle.shop_base.specs.declared.node.Node.{Node}
-use Rattle.shop_base.specs.Plan.{PlannedShop}
-use Rattle.shop_base.specs.Cell.{Cell, start}
-use Rattle.shop_base.specs.Graph.{IsNode}
-use Rattle.shop_base.specs.Deadlines.{AreDeadlines}
+use Rattle.shop_base.specs.{declared.node.Node.Node, Plan.PlannedShop, Cell.Cell, Cell.start, Graph.IsNode, Deadlines.AreDeadlines}
 use Rattle.people_names.specs.NameBooks.{NameBook}
 use Rattle.plan_verifier.specs.declared.verdict.Judged.{Judged}
 use Rattle.plan_verifier.specs.declared.verdict.Judged.TheVariants.{Accepted, Refused}
 use Rattle.plan_verifier.specs.declared.verdict.Verdict.{Verdict}
-use Rattle.plan_verifier.specs.declared.verdict.Why.TheVariants.{Cycle, Late}
-use Rattle.plan_verifier.specs.Accepted.{IsGreatest}
+use Rattle.plan_verifier.specs.{declared.verdict.Why.TheVariants.Cycle, declared.verdict.Why.TheVariants.Late, Accepted.IsGreatest}
 use Rattle.plan_verifier.specs.Seen.{judged, as_rest}
-use Rattle.plan_explain.specs.FirstLines.{IsFirstLine}
-use Rattle.plan_explain.specs.Parts.{AreBoth}
+use Rattle.plan_explain.specs.{FirstLines.IsFirstLine, Parts.AreBoth}
 use Rattle.plan_schedule.specs.Schedules.{AreScheduleLines}
 
 -- each node of an accepted plan has its deadline

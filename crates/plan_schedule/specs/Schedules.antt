@@ -1,13 +1,11 @@
 -- Which lines a schedule has, by the moment of each node in the exact run, and its deadline where there is one.
 use Rattle.std.specs.Prelude.{◌≡◌, ℕ, false, ◌+◌, ◌<◌, List, [], codes, Option, None, Some, MatchOption}
 use Rattle.shop_base.specs.declared.node.Node.{Node}
-use Rattle.shop_base.specs.Plan.{PlannedShop, jobs, steps, machine_of, nominal, release, clean}
-use Rattle.shop_base.specs.Graph.{node}
+use Rattle.shop_base.specs.{Plan.PlannedShop, Plan.jobs, Plan.steps, Plan.machine_of, Plan.nominal, Plan.release, Plan.clean, Graph.node}
 use Rattle.people_names.specs.NameBooks.{NameBook}
 use Rattle.alt_graph.specs.Sources.{IsBlockingArc, IsTarget}
 use Rattle.plan_explain.specs.Parts.{AreBoth, AreTextsFrom}
-use Rattle.plan_schedule.specs.declared.lines.Visit.{Visit}
-use Rattle.plan_schedule.specs.declared.lines.Cleaning.{Cleaning}
+use Rattle.plan_schedule.specs.{declared.lines.Visit.Visit, declared.lines.Cleaning.Cleaning}
 use Rattle.plan_schedule.specs.Lines.{arrival_line, visit_line, cleaning_line}
 
 -- the deadline of a node, if there is a node

@@ -15,4 +15,4 @@ mod scheduling;
 
 pub use picture_visits::{DrawnRun, drawn_run};
 pub use rest_schedules::schedule_after;
-pub use schedules::{schedule, schedule_for};
+pub use schedules::schedule;

@@ -1,7 +1,6 @@
 //! The schedule of the verdict on a plan: that of the rest of a run that hasn't begun.
 
 ghost use Rattle.std.specs.Prelude.{IfOk};
-ghost use Rattle.people_names.specs.NameBooks.{no_names};
 ghost use Rattle.plan_verifier.specs.Verdicts.{OnRefused, IsReason};
 ghost use Rattle.plan_schedule.specs.Scheduled.{IsScheduled};
 
@@ -11,20 +10,12 @@ use people_names::Names;
 use plan_verifier::Verdict;
 use std::alloc::{AllocError, Global};
 
-/// When what begins and ends, and how late it may end, in numbers: [`schedule_for`] without names.
-pub fn schedule(alloc: Global, verdict: &Verdict) -> Result<Vec<u8>, AllocError>
-    requires { OnRefused IsReason verdict.now }
-    ensures { IfOk result (λ text. IsScheduled no_names verdict.now text.items) }
-{
-    schedule_for(alloc, &Names::none(alloc), verdict)
-}
-
 /// When what begins and ends, and how late it may end: after the verdict's first line the lines of each job in
 /// ascending order, its arrival, its visits in the order of its route, and after each visit of a machine with
 /// a cleaning time the cleaning. Moments are those of the exact run, in which each activity takes its nominal time; if
 /// the plan is accepted, the deadlines follow them. A plan with a cycle has only its first line, as no run of it has
 /// moments for all. Behind the first line jobs, machines and moments are written by names and clock.
-pub fn schedule_for(alloc: Global, names: &Names, verdict: &Verdict) -> Result<Vec<u8>, AllocError>
+pub fn schedule(alloc: Global, names: &Names, verdict: &Verdict) -> Result<Vec<u8>, AllocError>
     requires { OnRefused IsReason verdict.now }
     ensures { IfOk result (λ text. IsScheduled names.now verdict.now text.items) }
 {

@@ -5,6 +5,7 @@ ghost use Rattle.std.specs.Prelude.{◌≡◌, IfOk};
 ghost use Rattle.plan_verifier.specs.Verdicts.{OnRefused, IsReason};
 
 use crate::plans::{CLEANED, CROSSED, TWO, planned};
+use people_names::Names;
 use plan_schedule::schedule;
 use plan_verifier::{Verdict, verify};
 use shop_base::Shaped;
@@ -54,7 +55,7 @@ fn judged(alloc: Global, shaped: Shaped) -> Result<Verdict, AllocError>
 fn tells(alloc: Global, plan: &[u8], text: &[u8]) -> Result<bool, Fail> {
     let shaped = planned(alloc, TWO, plan)?;
     let verdict = judged(alloc, shaped)?;
-    Ok(schedule(alloc, &verdict)?.as_slice() == text)
+    Ok(schedule(alloc, &Names::none(alloc), &verdict)?.as_slice() == text)
 }
 
 #[test]

@@ -1,5 +1,4 @@
-use Rattle.plan_explain.proofs.RestPaths.{chain_along, chain_small}
-use Rattle.plan_explain.proofs.RestTexts.{chain_parts}
+use Rattle.plan_explain.proofs.{RestPaths.{chain_along, chain_small}, RestTexts.chain_parts}
 use Rattle.plan_explain.proofs.chains.push_from.Goals as goal
 
 pub bound_after-requires-clause-node : goal.bound_after-requires-clause-node

@@ -1,6 +1,5 @@
 use Rattle.std.proofs.Common.{ap, arith, subst}
-use Rattle.shop_base.specs.declared.node.Node.{Node}
-use Rattle.shop_base.specs.declared.job_state.JobState.{JobState}
+use Rattle.shop_base.specs.{declared.node.Node.Node, declared.job_state.JobState.JobState}
 use Rattle.alt_graph.specs.Times.{IsPathFromBy}
 use Rattle.plan_explain.proofs.RestTexts.{chain_found}
 use Rattle.plan_explain.proofs.explaining.chain_to.Goals as goal

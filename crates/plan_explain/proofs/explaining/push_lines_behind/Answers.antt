@@ -1,9 +1,7 @@
 use Rattle.std.proofs.Common.{◌≡◌, Some, None, arith}
 use Rattle.shop_base.specs.Graph.{leaving}
-use Rattle.plan_explain.specs.Explained.{IsChosen}
-use Rattle.plan_explain.specs.RestExplained.{IsChainTo, IsChainToLastAhead}
-use Rattle.plan_explain.proofs.RestTexts.{some_chain, moment_lines_of}
-use Rattle.plan_explain.proofs.Texts.{on_ok_each}
+use Rattle.plan_explain.specs.{Explained.IsChosen, RestExplained.{IsChainTo, IsChainToLastAhead}}
+use Rattle.plan_explain.proofs.{RestTexts.{some_chain, moment_lines_of}, Texts.on_ok_each}
 use Rattle.plan_explain.proofs.explaining.push_lines_behind.Goals as goal
 
 pub push_moment_lines-requires-clause-chain : goal.push_moment_lines-requires-clause-chain

@@ -1,7 +1,6 @@
 use Rattle.std.proofs.Common.{◌≡◌, ℕ, List, refl}
 use Rattle.plan_verifier.specs.Leavings.{leaves_in}
-use Rattle.plan_explain.specs.RestLeavings.{rest_leaving_lines}
-use Rattle.plan_explain.specs.RestChains.{AreRestChainLines}
+use Rattle.plan_explain.specs.{RestLeavings.rest_leaving_lines, RestChains.AreRestChainLines}
 use Rattle.plan_explain.proofs.Texts.{both_added}
 use Rattle.plan_explain.proofs.explaining.push_moment_lines.Goals as goal
 

@@ -1,7 +1,6 @@
 use Rattle.std.proofs.Common.{◌≡◌, ◌++◌}
 use Rattle.plan_verifier.specs.Leavings.{leaves_in}
-use Rattle.plan_explain.specs.Parts.{texts_below}
-use Rattle.plan_explain.specs.RestLeavings.{rest_leaving_line}
+use Rattle.plan_explain.specs.{Parts.texts_below, RestLeavings.rest_leaving_line}
 use Rattle.plan_explain.proofs.leaving_lines.push_leaving_lines.Given as goal
 
 -- the lines of the jobs looked at are written

@@ -1,6 +1,5 @@
 use Rattle.alt_graph.specs.Times.{earliest_of}
-use Rattle.plan_schedule.proofs.Behind.{are_moments}
-use Rattle.plan_schedule.proofs.Drawing.{run_visits}
+use Rattle.plan_schedule.proofs.{Behind.are_moments, Drawing.run_visits}
 use Rattle.plan_schedule.proofs.picture_visits.drawn_run.Goals as goal
 
 pub returns : goal.returns

@@ -1,6 +1,5 @@
 use Rattle.std.proofs.Common.{◌≡◌, ◌++◌}
-use Rattle.plan_schedule.specs.Calendars.{at_of}
-use Rattle.plan_schedule.specs.DrawnVisits.{visits_ahead}
+use Rattle.plan_schedule.specs.{Calendars.at_of, DrawnVisits.visits_ahead}
 use Rattle.plan_schedule.proofs.picture_visits.push_ahead.Given as goal
 
 abbrev pub invariant-loop-job : goal.invariant-loop-job

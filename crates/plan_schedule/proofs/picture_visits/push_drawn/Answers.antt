@@ -1,6 +1,5 @@
 use Rattle.std.proofs.Common.{◌++◌, ◌∷◌, [], ap, ◌∙◌, refl, arith}
-use Rattle.plan_schedule.specs.Calendars.{at_of}
-use Rattle.plan_schedule.specs.DrawnVisits.{ended_visit}
+use Rattle.plan_schedule.specs.{Calendars.at_of, DrawnVisits.ended_visit}
 use Rattle.plan_schedule.proofs.Drawing.{one_more_drawn, all_drawn}
 use Rattle.plan_schedule.proofs.picture_visits.push_drawn.Goals as goal
 

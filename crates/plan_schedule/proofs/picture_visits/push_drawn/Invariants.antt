@@ -1,6 +1,5 @@
 use Rattle.std.proofs.Common.{◌≡◌, ◌++◌, map, drop}
-use Rattle.plan_schedule.specs.Calendars.{at_of}
-use Rattle.plan_schedule.specs.DrawnVisits.{ended_visit}
+use Rattle.plan_schedule.specs.{Calendars.at_of, DrawnVisits.ended_visit}
 use Rattle.plan_schedule.proofs.picture_visits.push_drawn.Given as goal
 
 -- those added, and the ones that are left, are all

@@ -1,7 +1,6 @@
 use Rattle.std.proofs.Common.{◌≡◌, ◌-◌, ◌++◌, ℕ, OnOk, subst}
 use Rattle.shop_base.specs.Plan.{steps}
-use Rattle.plan_schedule.specs.Calendars.{at_of}
-use Rattle.plan_schedule.specs.DrawnVisits.{job_visits}
+use Rattle.plan_schedule.specs.{Calendars.at_of, DrawnVisits.job_visits}
 use Rattle.plan_schedule.proofs.picture_visits.push_job.Goals as goal
 
 pub returns : goal.returns

@@ -1,6 +1,5 @@
 use Rattle.std.proofs.Common.{◌≡◌, ◌-◌, ◌≤◌, ◌++◌}
-use Rattle.plan_schedule.specs.Calendars.{at_of}
-use Rattle.plan_schedule.specs.DrawnVisits.{job_visits}
+use Rattle.plan_schedule.specs.{Calendars.at_of, DrawnVisits.job_visits}
 use Rattle.plan_schedule.proofs.picture_visits.push_visits.Given as goal
 
 abbrev pub invariant-loop-place : goal.invariant-loop-place

@@ -1,5 +1,4 @@
-use Rattle.plan_explain.specs.Added.{Adds}
-use Rattle.plan_explain.specs.Parts.{AreTextsFrom}
+use Rattle.plan_explain.specs.{Added.Adds, Parts.AreTextsFrom}
 use Rattle.plan_schedule.specs.Calendars.{IsCleanedTextBy}
 use Rattle.plan_schedule.proofs.scheduling.push_cleanings.Given as goal
 

@@ -1,8 +1,6 @@
 use Rattle.std.proofs.Common.{◌≡◌, ℕ, List, refl}
 use Rattle.plan_explain.proofs.Texts.{both_added, on_ok_adds}
-use Rattle.plan_schedule.specs.Calendars.{at_of, due_at}
-use Rattle.plan_schedule.specs.Lines.{visit_line}
-use Rattle.plan_schedule.specs.Schedules.{IsCleaningText}
+use Rattle.plan_schedule.specs.{Calendars.{at_of, due_at}, Lines.visit_line, Schedules.IsCleaningText}
 use Rattle.plan_schedule.proofs.scheduling.push_visit.Goals as goal
 
 pub returns : goal.returns

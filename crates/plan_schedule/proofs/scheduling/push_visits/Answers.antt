@@ -1,7 +1,6 @@
 use Rattle.std.proofs.Common.{codes}
 use Rattle.plan_explain.proofs.Texts.{none_added, one_more_added}
-use Rattle.plan_schedule.specs.Calendars.{at_of, due_at, IsVisitTextBy}
-use Rattle.plan_schedule.specs.Schedules.{visit_of}
+use Rattle.plan_schedule.specs.{Calendars.{at_of, due_at, IsVisitTextBy}, Schedules.visit_of}
 use Rattle.plan_schedule.proofs.scheduling.push_visits.Goals as goal
 
 pub loop-place-init : goal.loop-place-init

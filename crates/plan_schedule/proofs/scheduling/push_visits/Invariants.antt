@@ -1,6 +1,5 @@
 use Rattle.plan_explain.specs.Added.{Adds}
-use Rattle.plan_schedule.specs.Calendars.{at_of, due_at}
-use Rattle.plan_schedule.specs.Schedules.{AreVisitsFrom}
+use Rattle.plan_schedule.specs.{Calendars.{at_of, due_at}, Schedules.AreVisitsFrom}
 use Rattle.plan_schedule.proofs.scheduling.push_visits.Given as goal
 
 -- the lines of the visits looked at are written

@@ -1,6 +1,5 @@
 use Rattle.std.proofs.Common.{◌+◌, ◌<◌, arith, rules, ap, subst}
-use Rattle.shop_base.specs.Plan.{PlannedShop, machines, clean}
-use Rattle.shop_base.specs.Graph.{node}
+use Rattle.shop_base.specs.{Plan.{PlannedShop, machines, clean}, Graph.node}
 use Rattle.shop_base.proofs.Sizes.{steps_few}
 use Rattle.plan_schedule.proofs.calendar.Calendar.cleaning.Goals as goal
 

@@ -1,6 +1,5 @@
 use Rattle.std.proofs.Common.{ℕ, ◌<◌, length, sym, subst}
-use Rattle.shop_base.specs.Plan.{PlannedShop, machines, Visits}
-use Rattle.shop_base.specs.Cell.{entries}
+use Rattle.shop_base.specs.{Plan.{PlannedShop, machines, Visits}, Cell.entries}
 use Rattle.shop_base.proofs.Visits.{visits_job}
 use Rattle.plan_schedule.proofs.calendar.Calendar.next_due.Goals as goal
 

@@ -1,6 +1,5 @@
 use Rattle.std.proofs.Common.{arith, ap}
-use Rattle.shop_base.specs.declared.shop.Step.{Step}
-use Rattle.shop_base.specs.Graph.{node}
+use Rattle.shop_base.specs.{declared.shop.Step.Step, Graph.node}
 use Rattle.shop_base.proofs.Sizes.{steps_few}
 use Rattle.plan_schedule.proofs.calendar.Calendar.visit.Goals as goal
 

@@ -1,7 +1,6 @@
-use Rattle.plan_verifier.proofs.Answers.{ok_each}
-use Rattle.plan_verifier.proofs.AtStart.{accepted_ahead, reason_ahead}
+use Rattle.plan_verifier.proofs.{Answers.ok_each, AtStart.{accepted_ahead, reason_ahead}}
 use Rattle.plan_explain.proofs.StartTexts.{explained_whole}
-use Rattle.plan_explain.proofs.evidence.explain_for.Goals as goal
+use Rattle.plan_explain.proofs.evidence.explain.Goals as goal
 
 pub explain_after-requires-clause-judged : goal.explain_after-requires-clause-judged
 explain_after-requires-clause-judged c =

@@ -1,7 +1,6 @@
-use Rattle.plan_verifier.proofs.Answers.{ok_each}
-use Rattle.plan_verifier.proofs.AtStart.{at_once, accepted_ahead, reason_ahead}
+use Rattle.plan_verifier.proofs.{Answers.ok_each, AtStart.{at_once, accepted_ahead, reason_ahead}}
 use Rattle.plan_schedule.proofs.StartSchedule.{scheduled_whole}
-use Rattle.plan_schedule.proofs.schedules.schedule_for.Goals as goal
+use Rattle.plan_schedule.proofs.schedules.schedule.Goals as goal
 
 pub schedule_after-requires-clause-present : goal.schedule_after-requires-clause-present
 schedule_after-requires-clause-present c = rw c.in-Ok.ensures.start (at_once c.shaped-shaped.result.now)
