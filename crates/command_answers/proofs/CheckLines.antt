@@ -14,7 +14,6 @@ use Rattle.command_answers.specs.declared.loading.Loaded.{Loaded}
 use Rattle.command_answers.specs.declared.loading.Loaded.TheVariants.{NotShaped, Judged}
 use Rattle.command_answers.specs.Checks.{IsLoaded, IsLineOf, IsCheckLine}
 use Rattle.command_answers.specs.Explains.{HasEvidence, IsExplanationOf, IsExplanation}
-use Rattle.command_answers.specs.Timetables.{IsTimetableOf, IsTimetable}
 use Rattle.command_answers.specs.Margins.{IsMarginAnswer, IsMarginAnswerOf, IsMarginLine}
 
 -- the line of what is said of a plan is that of its check
@@ -36,11 +35,6 @@ loaded_evidence p (Judged verdict) judged = evident p verdict judged.refused
 pub explanation_of_loaded : (p : PlannedShop) (loaded : Loaded) (answer : Answer) → IsLoaded p loaded → IsExplanationOf loaded answer → IsExplanation p answer
 explanation_of_loaded p (NotShaped fault) answer first line = inl (record { fault = fault; first = first; line = line })
 explanation_of_loaded p (Judged verdict) answer judged explained = inr (record { verdict = verdict; judged = judged; explained = explained })
-
--- the schedule of what is said of a plan is the plan's
-pub timetable_of_loaded : (p : PlannedShop) (loaded : Loaded) (answer : Answer) → IsLoaded p loaded → IsTimetableOf loaded answer → IsTimetable p answer
-timetable_of_loaded p (NotShaped fault) answer first line = inl (record { fault = fault; first = first; line = line })
-timetable_of_loaded p (Judged verdict) answer judged scheduled = inr (record { verdict = verdict; judged = judged; scheduled = scheduled })
 
 -- what is printed of the margin by the verdict is of the plan's
 pub margin_of_verdict : (names : NameBook) (p : PlannedShop) (verdict : Verdict) (answer : Answer) → OnAccepted (λ verified. (verified.planned ≡ p) × IsAcceptable p) verdict → OnRefused (λ back why. (back ≡ p) × IsReason p why) verdict

@@ -36,6 +36,7 @@ use Rattle.command_answers.specs.Improving.{IsImproveAnswer, ordered}
 use Rattle.command_answers.specs.declared.logs.LogAnswer.{LogAnswer}
 use Rattle.command_answers.specs.LogLines.{IsLogLine}
 use Rattle.command_answers.specs.declared.rests.PlanAnswer.{PlanAnswer}
+use Rattle.command_answers.specs.declared.rests.PlanAnswer.TheVariants.{Verdict, Reasons, Moments}
 use Rattle.command_answers.specs.Rests.{IsRestLine, job_asked}
 use Rattle.command_answers.specs.ImprovingRests.{RestAsked, IsRestAnswer}
 use Rattle.text_lines.specs.Lines.{ended_lines}
@@ -163,6 +164,17 @@ module _ {W : Type 0} (gives : W → List ℕ → Result (List ℕ) CommandFault
   abbrev pub RunsRest : PlanAnswer → Option ℕ → PairOfFiles → Option (List ℕ) → List ℕ → W → Result Answer CommandFault → W → Type 0
   RunsRest wanted at pair names log =
       WithBoth pair (λ p. IfShaped p (IfThere (job_asked wanted) p (WithNamesAndLog names log p (λ book. IsRestLine book wanted at p))))
+
+  -- what is answered of the plan, by names where it isn't its verdict alone
+  abbrev pub RunsOfPlan : PlanAnswer → PairOfFiles → Option (List ℕ) → W → Result Answer CommandFault → W → Type 0
+  RunsOfPlan Verdict pair names = RunsCheck pair
+  RunsOfPlan (Reasons job) pair names = RunsExplain pair names job
+  RunsOfPlan Moments pair names = RunsSchedule pair names
+
+  -- what is answered of the plan, or of the rest of the run in a log, if there is one
+  abbrev pub RunsPlanAnswer : PlanAnswer → Option ℕ → PairOfFiles → Option (List ℕ) → Option (List ℕ) → W → Result Answer CommandFault → W → Type 0
+  RunsPlanAnswer wanted at pair names None = RunsOfPlan wanted pair names
+  RunsPlanAnswer wanted at pair names (Some log) = RunsRest wanted at pair names log
 
   -- `schedule --moves` of the rest of a run: both are read, then the names, and then its log
   abbrev pub RunsRestMoves : Option ℕ → PairOfFiles → Option (List ℕ) → List ℕ → W → Result Answer CommandFault → W → Type 0

@@ -37,7 +37,7 @@ run_text names Drawing p run = gantt_text names (machines p) run.entries.items
 abbrev pub IsRunAnswer : NameBook → LogAnswer → PlannedShop → Audit → Answer → Type 0
 IsRunAnswer names wanted p run answer = (answer.text.items ≡ run_text names wanted p run) × (answer.status ≡ 0)
 
--- what is printed of a log that records a run of the plan
+-- what is answered of a log that records a run of the plan
 pub record IsLogKept (names : NameBook) (wanted : LogAnswer) (p : PlannedShop) (log : List ℕ) (answer : Answer) : Type 0 where
   pub run : Audit
   pub is : IsAudit p (lines_of log) run

@@ -59,7 +59,7 @@ abbrev pub IsCellAnswer : (PlannedShop → Cell → ℕ → Answer → Type 0) �
 IsCellAnswer AnswersAt at p c answer =
     ((present_at at c < c.last) × IsPastLine c.last answer) ⊎ ((c.last ≤ present_at at c) × AnswersAt p c (present_at at c) answer)
 
--- what is printed of a log whose whole lines record a run of the plan: that of the cell at its end
+-- what is answered of a log whose whole lines record a run of the plan: that of the cell at its end
 pub record IsRestOfLog (AnswersAt : PlannedShop → Cell → ℕ → Answer → Type 0) (at : Option ℕ) (p : PlannedShop) (log : List ℕ) (answer : Answer) : Type 0 where
   pub run : ParseAsRun p (ended_lines log)
   pub told : IsCellAnswer AnswersAt at p (ends_in p (events_of run.0)) answer

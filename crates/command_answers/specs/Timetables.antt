@@ -24,8 +24,3 @@ pub record IsPlanScheduled (names : NameBook) (p : PlannedShop) (answer : Answer
 -- when what of a plan begins and ends, without names: the line of the first fault of its shape, or the schedule of the verdict on it
 abbrev pub IsTimetable : PlannedShop → Answer → Type 0
 IsTimetable p answer = IsNotShapedLine p answer ⊎ IsPlanScheduled no_names p answer
-
--- the schedule of what is said of a plan
-abbrev pub IsTimetableOf : Loaded → Answer → Type 0
-IsTimetableOf (NotShaped fault) answer = IsRefusedLine answer
-IsTimetableOf (Judged verdict) answer = IsVerdictScheduled no_names verdict answer

@@ -9,8 +9,9 @@ ghost use Rattle.command_answers.specs.Steps.{IsOrMemory};
 ghost use Rattle.command_answers.specs.Commands.{RunsBounds, WithSoundNames};
 
 use crate::answer::{Answer, Answered, GOOD, REFUSED};
-use crate::both::{Both, Pair, read_both, serially};
+use crate::both::{Both, read_both, serially};
 use crate::bound_lines::{push_bound_lines, push_makespan_line};
+use crate::files::Files;
 use crate::lines::bad_numbers_answer;
 use crate::naming::names_of;
 use crate::readings::{load_instance, load_plan};
@@ -33,16 +34,11 @@ pub fn bounds(alloc: Global, instance: &[u8], name: Option<&[u8]>, plan: &[u8]) 
 
 /// What no plan can do for the instance of a file with the releases and the cleaning times of the plan of another, with
 /// the names and the clock of a third, which is read once the numbers are sound.
-pub fn bounds_answer<T: Texts>(
-    alloc: Global,
-    texts: &mut T,
-    pair: &Pair<'_>,
-    names: Option<&str>,
-) -> Answered
-    ensures { RunsBounds T.gives pair.now (option_copied names.entry) texts.old result texts.new }
+pub fn bounds_answer<T: Texts>(alloc: Global, texts: &mut T, files: &Files<'_>) -> Answered
+    ensures { RunsBounds T.gives files.now.pair (option_copied files.now.names) texts.old result texts.new }
 {
-    let both = read_both(alloc, texts, pair)?;
-    named_bounded(alloc, texts, both, names)
+    let both = read_both(alloc, texts, &files.pair)?;
+    named_bounded(alloc, texts, both, files.names)
 }
 
 /// The bounds for a shop with the numbers of a plan, if these are sound, else their first fault.

@@ -12,9 +12,10 @@ ghost use Rattle.command_answers.specs.Commands.{RunsDecide, WithSoundNames};
 
 use crate::answer::{Answer, Answered, GOOD, REFUSED};
 use crate::asked_job::no_job_answer;
-use crate::both::{Both, Pair, read_both, serially};
+use crate::both::{Both, read_both, serially};
 use crate::command_fault::Unanswered;
 use crate::decision_lines::{push_never_lines, push_within_line};
+use crate::files::Files;
 use crate::lines::{bad_numbers_answer, document_answer, headed_answer, line_answer};
 use crate::logs::log_fault_answer;
 use crate::naming::names_of;
@@ -35,17 +36,25 @@ use std::alloc::{AllocError, Global};
 pub fn decide_answer<T: Texts, C: Choose, W: Watch>(
     alloc: Global,
     texts: &mut T,
-    pair: &Pair<'_>,
-    names: Option<&str>,
+    files: &Files<'_>,
     aim: Aim,
     choices: u64,
     chooser: &mut C,
     watch: &mut W,
 ) -> Answered
-    ensures { RunsDecide T.gives aim pair.now (option_copied names.entry) texts.old result texts.new }
+    ensures { RunsDecide T.gives aim files.now.pair (option_copied files.now.names) texts.old result texts.new }
 {
-    let both = read_both(alloc, texts, pair)?;
-    both_decided(alloc, texts, both, names, aim, choices, chooser, watch)
+    let both = read_both(alloc, texts, &files.pair)?;
+    both_decided(
+        alloc,
+        texts,
+        both,
+        files.names,
+        aim,
+        choices,
+        chooser,
+        watch,
+    )
 }
 
 /// What is decided for a shop with the numbers of a plan, if these are sound, else their first fault.

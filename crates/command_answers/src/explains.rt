@@ -10,8 +10,9 @@ ghost use Rattle.command_answers.specs.Commands.{IfThere, RunsExplain, WithNames
 
 use crate::answer::{Answer, Answered};
 use crate::asked_job::{absent_job, no_job_answer};
-use crate::both::{Pair, read_both};
+use crate::both::read_both;
 use crate::checks::status_of;
+use crate::files::Files;
 use crate::loading::{Loaded, load};
 use crate::naming::names_of;
 use crate::shapes::not_shaped_answer;
@@ -36,14 +37,13 @@ pub fn explain(alloc: Global, instance: &[u8], name: Option<&[u8]>, plan: &[u8])
 pub fn explain_answer<T: Texts>(
     alloc: Global,
     texts: &mut T,
-    pair: &Pair<'_>,
-    names: Option<&str>,
+    files: &Files<'_>,
     job: Option<JobNo>,
 ) -> Answered
-    ensures { RunsExplain T.gives pair.now (option_copied names.entry) job texts.old result texts.new }
+    ensures { RunsExplain T.gives files.now.pair (option_copied files.now.names) job texts.old result texts.new }
 {
-    match read_both(alloc, texts, pair)?.shaped() {
-        Ok(shaped) => shaped_explained(alloc, texts, shaped, names, job),
+    match read_both(alloc, texts, &files.pair)?.shaped() {
+        Ok(shaped) => shaped_explained(alloc, texts, shaped, files.names, job),
         Err(fault) => Ok(not_shaped_answer(alloc, fault)?),
     }
 }

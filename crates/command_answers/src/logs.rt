@@ -7,8 +7,9 @@ ghost use Rattle.command_answers.specs.Steps.{IsOrMemory};
 ghost use Rattle.command_answers.specs.Commands.{RunsLog};
 
 use crate::answer::{Answer, Answered, GOOD};
-use crate::both::{Pair, read_both};
+use crate::both::read_both;
 use crate::command_fault::Unanswered;
+use crate::files::Files;
 use crate::lines::{log_refused, push_fact};
 use crate::naming::names_of;
 use crate::shapes::not_shaped_answer;
@@ -33,16 +34,15 @@ pub enum LogAnswer {
 pub fn log_answer<T: Texts>(
     alloc: Global,
     texts: &mut T,
-    pair: &Pair<'_>,
-    names: Option<&str>,
+    files: &Files<'_>,
     log: &str,
     wanted: LogAnswer,
 ) -> Answered
-    ensures { RunsLog T.gives wanted pair.now (option_copied names.entry) log.now texts.old result texts.new }
+    ensures { RunsLog T.gives wanted files.now.pair (option_copied files.now.names) log.now texts.old result texts.new }
 {
-    match read_both(alloc, texts, pair)?.shaped() {
+    match read_both(alloc, texts, &files.pair)?.shaped() {
         Ok(shaped) => {
-            let names = names_of(alloc, texts, names, &shaped)?;
+            let names = names_of(alloc, texts, files.names, &shaped)?;
             let text = texts.text(alloc, log)?;
             audited(alloc, &names, &shaped, &text, wanted)
         }

@@ -6,8 +6,9 @@ ghost use Rattle.command_answers.specs.Margins.{IsMarginAnswer, IsMarginAnswerOf
 ghost use Rattle.command_answers.specs.Commands.{RunsMargin};
 
 use crate::answer::{Answer, Answered, GOOD};
-use crate::both::{Pair, read_both};
+use crate::both::read_both;
 use crate::checks::verdict_answer;
+use crate::files::Files;
 use crate::naming::names_of;
 use crate::shapes::not_shaped_answer;
 use crate::texts::Texts;
@@ -19,17 +20,12 @@ use std::alloc::{AllocError, Global};
 
 /// How much longer everything may take by the plan of a file for the instance of another, with the names of a third,
 /// which is read once the plan is shaped. A plan that isn't accepted has the line of `check`.
-pub fn margin_answer<T: Texts>(
-    alloc: Global,
-    texts: &mut T,
-    pair: &Pair<'_>,
-    names: Option<&str>,
-) -> Answered
-    ensures { RunsMargin T.gives pair.now (option_copied names.entry) texts.old result texts.new }
+pub fn margin_answer<T: Texts>(alloc: Global, texts: &mut T, files: &Files<'_>) -> Answered
+    ensures { RunsMargin T.gives files.now.pair (option_copied files.now.names) texts.old result texts.new }
 {
-    match read_both(alloc, texts, pair)?.shaped() {
+    match read_both(alloc, texts, &files.pair)?.shaped() {
         Ok(shaped) => {
-            let names = names_of(alloc, texts, names, &shaped)?;
+            let names = names_of(alloc, texts, files.names, &shaped)?;
             Ok(plan_margin(alloc, &names, shaped)?)
         }
         Err(fault) => Ok(not_shaped_answer(alloc, fault)?),

@@ -12,8 +12,9 @@ ghost use Rattle.command_answers.specs.Steps.{IsOrMemory};
 ghost use Rattle.command_answers.specs.Commands.{RunsMoves, RunsRestMoves};
 
 use crate::answer::{Answer, Answered, Outcome};
-use crate::both::{Pair, read_both};
+use crate::both::read_both;
 use crate::command_fault::{CommandFault, Unanswered};
+use crate::files::{Ahead, Files};
 use crate::logs::log_fault_answer;
 use crate::naming::names_of;
 use crate::rests::{past_answer, present_at, rest_status};
@@ -31,17 +32,12 @@ use std::alloc::Global;
 /// The moves of the run in which everything is reported when it is due, by the plan of a file for the instance of
 /// another: below the line of `check` a line for each, with the names and the clock of a third file, which is read once
 /// the plan is shaped. A plan with a cycle has none.
-pub fn moves_answer<T: Texts>(
-    alloc: Global,
-    texts: &mut T,
-    pair: &Pair<'_>,
-    names: Option<&str>,
-) -> Answered
-    ensures { RunsMoves T.gives pair.now (option_copied names.entry) texts.old result texts.new }
+pub fn moves_answer<T: Texts>(alloc: Global, texts: &mut T, files: &Files<'_>) -> Answered
+    ensures { RunsMoves T.gives files.now.pair (option_copied files.now.names) texts.old result texts.new }
 {
-    match read_both(alloc, texts, pair)?.shaped() {
+    match read_both(alloc, texts, &files.pair)?.shaped() {
         Ok(shaped) => {
-            let names = names_of(alloc, texts, names, &shaped)?;
+            let names = names_of(alloc, texts, files.names, &shaped)?;
             plan_moves(alloc, &names, shaped)
         }
         Err(fault) => Ok(not_shaped_answer(alloc, fault)?),
@@ -49,22 +45,16 @@ pub fn moves_answer<T: Texts>(
 }
 
 /// The moves ahead in the run in the log of a file, from a present moment on, or from the last one of that run.
-pub fn rest_moves_answer<T: Texts>(
-    alloc: Global,
-    texts: &mut T,
-    pair: &Pair<'_>,
-    names: Option<&str>,
-    log: &str,
-    at: Option<Moment>,
-) -> Answered
-    requires { IfSome at (λ present. present ≤ MAX_MOMENT) }
-    ensures { RunsRestMoves T.gives at pair.now (option_copied names.entry) log.now texts.old result texts.new }
+pub fn rest_moves_answer<T: Texts>(alloc: Global, texts: &mut T, ahead: &Ahead<'_>) -> Answered
+    requires { IfSome ahead.now.at (λ present. present ≤ MAX_MOMENT) }
+    ensures { RunsRestMoves T.gives ahead.now.at ahead.now.files.pair
+        (option_copied ahead.now.files.names) ahead.now.log.now texts.old result texts.new }
 {
-    match read_both(alloc, texts, pair)?.shaped() {
+    match read_both(alloc, texts, &ahead.files.pair)?.shaped() {
         Ok(shaped) => {
-            let names = names_of(alloc, texts, names, &shaped)?;
-            let text = texts.text(alloc, log)?;
-            log_moves(alloc, &names, shaped, &text, at)
+            let names = names_of(alloc, texts, ahead.files.names, &shaped)?;
+            let text = texts.text(alloc, ahead.log)?;
+            log_moves(alloc, &names, shaped, &text, ahead.at)
         }
         Err(fault) => Ok(not_shaped_answer(alloc, fault)?),
     }

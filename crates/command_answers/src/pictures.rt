@@ -12,7 +12,6 @@ ghost use Rattle.run_gantt.specs.DrawnVisits.{drawn_visits};
 ghost use Rattle.run_gantt.specs.LeavingsSoFar.{leavings_so_far};
 ghost use Rattle.plan_verifier.specs.RestVerdicts.{IsReasonAhead};
 ghost use Rattle.plan_verifier.specs.declared.verdict.Judged.TheVariants.{Refused};
-ghost use Rattle.plan_explain.specs.FirstLines.{cycle_line};
 ghost use Rattle.plan_explain.specs.RestVerdicts.{IsRestJudged};
 ghost use Rattle.command_answers.specs.Steps.{IsOrMemory};
 ghost use Rattle.command_answers.specs.Pictures.{DrawsLog, DrawsRest, DrawsSchedule, IsCellDrawn, IsLogDrawn};
@@ -20,21 +19,22 @@ ghost use Rattle.command_answers.specs.Pictures.{IsPlanDrawn, IsRestDrawing, IsR
 ghost use Rattle.command_answers.specs.Pictures.{line_at, log_sheet, run_head, run_sheet};
 
 use crate::answer::{Answer, GOOD, Outcome, REFUSED};
-use crate::both::{Pair, read_both};
+use crate::both::read_both;
+use crate::files::{Ahead, Files};
 use crate::logs::log_fault_answer;
 use crate::naming::names_of;
+use crate::rest_improves::cycle_answer;
 use crate::rests::{past_answer, present_at};
 use crate::shapes::not_shaped_answer;
 use crate::texts::Texts;
 use alt_graph::Times;
 use cell_tables::{Entry, WorkCell};
 use people_names::Names;
-use plan_explain::push_cycle_line;
 use plan_schedule::{DrawnRun, drawn_run};
 use plan_verifier::{Judged, Why, verify_after};
 use run_log::{Audit, audit, run_of_log};
 use run_picture::{DrawnVisit, Head, Picture, Sheet, last_moment, late_leavings, lateness, latest};
-use shop_base::{Moment, Node, Shaped};
+use shop_base::{Moment, Shaped};
 use std::alloc::{AllocError, Global};
 
 /// What a command draws.
@@ -56,15 +56,14 @@ pub enum Drawn {
 pub fn log_picture<T: Texts>(
     alloc: Global,
     texts: &mut T,
-    pair: &Pair<'_>,
-    names: Option<&str>,
+    files: &Files<'_>,
     log: &str,
 ) -> Outcome<Drawn>
-    ensures { DrawsLog T.gives pair.now (option_copied names.entry) log.now texts.old result texts.new }
+    ensures { DrawsLog T.gives files.now.pair (option_copied files.now.names) log.now texts.old result texts.new }
 {
-    match read_both(alloc, texts, pair)?.shaped() {
+    match read_both(alloc, texts, &files.pair)?.shaped() {
         Ok(shaped) => {
-            let names = names_of(alloc, texts, names, &shaped)?;
+            let names = names_of(alloc, texts, files.names, &shaped)?;
             let text = texts.text(alloc, log)?;
             log_drawn(alloc, names, &shaped, &text)
         }
@@ -118,17 +117,12 @@ fn log_sheet(shaped: &Shaped, run: &Audit) -> Sheet
 
 /// Draws the exact run of the plan of one file for the instance of another, whether it is in time or late, with the
 /// names of a third if there is one. A plan that isn't well shaped, or has a cycle, has the line of its check instead.
-pub fn schedule_picture<T: Texts>(
-    alloc: Global,
-    texts: &mut T,
-    pair: &Pair<'_>,
-    names: Option<&str>,
-) -> Outcome<Drawn>
-    ensures { DrawsSchedule T.gives pair.now (option_copied names.entry) texts.old result texts.new }
+pub fn schedule_picture<T: Texts>(alloc: Global, texts: &mut T, files: &Files<'_>) -> Outcome<Drawn>
+    ensures { DrawsSchedule T.gives files.now.pair (option_copied files.now.names) texts.old result texts.new }
 {
-    match read_both(alloc, texts, pair)?.shaped() {
+    match read_both(alloc, texts, &files.pair)?.shaped() {
         Ok(shaped) => {
-            let names = names_of(alloc, texts, names, &shaped)?;
+            let names = names_of(alloc, texts, files.names, &shaped)?;
             Ok(plan_drawn(alloc, names, shaped)?)
         }
         Err(fault) => Ok(Drawn::Line(not_shaped_answer(alloc, fault)?)),
@@ -149,22 +143,16 @@ fn plan_drawn(alloc: Global, names: Names, shaped: Shaped) -> Result<Drawn, Allo
 /// of a fourth if there is one: from a present moment on, or from the last one of that run. What comes after the log's
 /// last line feed isn't looked at. A plan that isn't well shaped or has a cycle, a log that records no run of it, or a
 /// present moment before the last one has a line instead.
-pub fn rest_picture<T: Texts>(
-    alloc: Global,
-    texts: &mut T,
-    pair: &Pair<'_>,
-    names: Option<&str>,
-    log: &str,
-    at: Option<Moment>,
-) -> Outcome<Drawn>
-    requires { IfSome at (λ present. present ≤ MAX_MOMENT) }
-    ensures { DrawsRest T.gives at pair.now (option_copied names.entry) log.now texts.old result texts.new }
+pub fn rest_picture<T: Texts>(alloc: Global, texts: &mut T, ahead: &Ahead<'_>) -> Outcome<Drawn>
+    requires { IfSome ahead.now.at (λ present. present ≤ MAX_MOMENT) }
+    ensures { DrawsRest T.gives ahead.now.at ahead.now.files.pair
+        (option_copied ahead.now.files.names) ahead.now.log.now texts.old result texts.new }
 {
-    match read_both(alloc, texts, pair)?.shaped() {
+    match read_both(alloc, texts, &ahead.files.pair)?.shaped() {
         Ok(shaped) => {
-            let names = names_of(alloc, texts, names, &shaped)?;
-            let text = texts.text(alloc, log)?;
-            rest_of_log(alloc, names, shaped, &text, at)
+            let names = names_of(alloc, texts, ahead.files.names, &shaped)?;
+            let text = texts.text(alloc, ahead.log)?;
+            rest_of_log(alloc, names, shaped, &text, ahead.at)
         }
         Err(fault) => Ok(Drawn::Line(not_shaped_answer(alloc, fault)?)),
     }
@@ -276,26 +264,12 @@ fn refused_drawn(
 {
     match why {
         Why::Cycle(nodes) => Ok(Drawn::Line(cycle_answer(alloc, nodes)?)),
-        Why::Late {
-            job: _,
-            leaves: _,
-            chain: _,
-            times,
-        } => {
+        Why::Late { times, .. } => {
             let picture = run_picture(alloc, names, cell, present, line, told, times, false)?;
             let status = REFUSED;
             Ok(Drawn::Picture { picture, status })
         }
     }
-}
-
-/// The line of a cycle, which is no run.
-fn cycle_answer(alloc: Global, nodes: &[Node]) -> Result<Answer, AllocError>
-    ensures { IfOk result (λ answer. (answer.text.items ≡ cycle_line nodes.now) × (answer.status ≡ 1)) }
-{
-    let (mut text, status) = (Vec::new(alloc), REFUSED);
-    push_cycle_line(&mut text, nodes)?;
-    Ok(Answer { text, status })
 }
 
 /// The picture of the run that goes on from a cell and a present moment, by its earliest moments.

@@ -9,8 +9,9 @@ ghost use Rattle.command_answers.specs.DecidingRests.{IsRestDecisionAnswer, refu
 ghost use Rattle.command_answers.specs.Commands.{RunsDecideRest, WithRestDecision};
 
 use crate::answer::{Answer, Answered};
-use crate::both::{Both, Pair, read_both};
+use crate::both::{Both, read_both};
 use crate::decides::{decided_answer, undecided_answer};
+use crate::files::Ahead;
 use crate::improves::with_orders;
 use crate::lines::{bad_numbers_answer, fault_answer};
 use crate::naming::names_of;
@@ -30,23 +31,19 @@ use std::alloc::{AllocError, Global};
 pub fn decide_rest_answer<T: Texts, C: Choose, W: Watch>(
     alloc: Global,
     texts: &mut T,
-    pair: &Pair<'_>,
-    names: Option<&str>,
-    log: &str,
-    at: Option<Moment>,
+    ahead: &Ahead<'_>,
     aim: Aim,
     choices: u64,
     chooser: &mut C,
     watch: &mut W,
 ) -> Answered
-    requires { IfSome at (λ present. present ≤ MAX_MOMENT) }
-    ensures { RunsDecideRest T.gives aim at pair.now (option_copied names.entry) log.now texts.old result texts.new }
+    requires { IfSome ahead.now.at (λ present. present ≤ MAX_MOMENT) }
+    ensures { RunsDecideRest T.gives aim ahead.now.at ahead.now.files.pair
+        (option_copied ahead.now.files.names) ahead.now.log.now texts.old result texts.new }
 {
-    let both = read_both(alloc, texts, pair)?;
+    let both = read_both(alloc, texts, &ahead.files.pair)?;
     let both = with_orders(alloc, both)?;
-    both_rest_decided(
-        alloc, texts, both, names, log, at, aim, choices, chooser, watch,
-    )
+    both_rest_decided(alloc, texts, both, ahead, aim, choices, chooser, watch)
 }
 
 /// What is decided of the rest of the run in a log by a plan, if it is well shaped, else its first fault.
@@ -54,23 +51,22 @@ fn both_rest_decided<T: Texts, C: Choose, W: Watch>(
     alloc: Global,
     texts: &mut T,
     both: Both,
-    names: Option<&str>,
-    log: &str,
-    at: Option<Moment>,
+    ahead: &Ahead<'_>,
     aim: Aim,
     choices: u64,
     chooser: &mut C,
     watch: &mut W,
 ) -> Answered
-    requires { IfSome at (λ present. present ≤ MAX_MOMENT) }
-    ensures { WithRestDecision T.gives aim at (option_copied names.entry) log.now both texts.old result texts.new }
+    requires { IfSome ahead.now.at (λ present. present ≤ MAX_MOMENT) }
+    ensures { WithRestDecision T.gives aim ahead.now.at
+        (option_copied ahead.now.files.names) ahead.now.log.now both texts.old result texts.new }
 {
     match both.shaped() {
         Ok(shaped) => {
-            let names = names_of(alloc, texts, names, &shaped)?;
-            let text = texts.text(alloc, log)?;
+            let names = names_of(alloc, texts, ahead.files.names, &shaped)?;
+            let text = texts.text(alloc, ahead.log)?;
             rest_decided(
-                alloc, &names, shaped, &text, at, aim, choices, chooser, watch,
+                alloc, &names, shaped, &text, ahead.at, aim, choices, chooser, watch,
             )
         }
         Err(fault) => Ok(unfit_answer(alloc, fault)?),

@@ -9,8 +9,9 @@ ghost use Rattle.command_answers.specs.ImprovingRests.{IsCycleLine, improve_comm
 ghost use Rattle.command_answers.specs.Commands.{RunsImproveRest, WithRest};
 
 use crate::answer::{Answer, Answered, GOOD, REFUSED};
-use crate::both::{Both, Pair, read_both};
+use crate::both::{Both, read_both};
 use crate::command_fault::Unanswered;
+use crate::files::Ahead;
 use crate::improves::with_orders;
 use crate::lines::{document_answer, line_answer};
 use crate::logs::log_fault_answer;
@@ -31,20 +32,18 @@ use std::alloc::{AllocError, Global};
 pub fn improve_rest_answer<T: Texts, W: Watch>(
     alloc: Global,
     texts: &mut T,
-    pair: &Pair<'_>,
-    log: &str,
-    at: Option<Moment>,
+    ahead: &Ahead<'_>,
     improvers: &[Box<dyn Improver>],
     rounds: u32,
     watch: &mut W,
 ) -> Answered
-    requires { IfSome at (λ present. present ≤ MAX_MOMENT) }
-    ensures { RunsImproveRest T.gives (RestRoundsOf rounds (λ b. may b) improvers.now) at rounds pair.now log.now
-        texts.old result texts.new }
+    requires { IfSome ahead.now.at (λ present. present ≤ MAX_MOMENT) }
+    ensures { RunsImproveRest T.gives (RestRoundsOf rounds (λ b. may b) improvers.now) ahead.now.at rounds
+        ahead.now.files.pair ahead.now.log.now texts.old result texts.new }
 {
-    let both = read_both(alloc, texts, pair)?;
+    let both = read_both(alloc, texts, &ahead.files.pair)?;
     let both = with_orders(alloc, both)?;
-    better_rest_answer(alloc, texts, both, log, at, improvers, rounds, watch)
+    better_rest_answer(alloc, texts, both, ahead, improvers, rounds, watch)
 }
 
 /// The answer of the search from a plan for the rest of the run in a log, if it is well shaped, else its first fault.
@@ -52,20 +51,19 @@ fn better_rest_answer<T: Texts, W: Watch>(
     alloc: Global,
     texts: &mut T,
     both: Both,
-    log: &str,
-    at: Option<Moment>,
+    ahead: &Ahead<'_>,
     improvers: &[Box<dyn Improver>],
     rounds: u32,
     watch: &mut W,
 ) -> Answered
-    requires { IfSome at (λ present. present ≤ MAX_MOMENT) }
-    ensures { WithRest T.gives (RestRoundsOf rounds (λ b. may b) improvers.now) at rounds log.now both
-        texts.old result texts.new }
+    requires { IfSome ahead.now.at (λ present. present ≤ MAX_MOMENT) }
+    ensures { WithRest T.gives (RestRoundsOf rounds (λ b. may b) improvers.now) ahead.now.at rounds ahead.now.log.now
+        both texts.old result texts.new }
 {
     match both.shaped() {
         Ok(start) => {
-            let text = texts.text(alloc, log)?;
-            found_answer(alloc, start, &text, at, improvers, rounds, watch)
+            let text = texts.text(alloc, ahead.log)?;
+            found_answer(alloc, start, &text, ahead.at, improvers, rounds, watch)
         }
         Err(fault) => Ok(not_shaped_answer(alloc, fault)?),
     }
@@ -98,14 +96,7 @@ fn judged_answer(alloc: Global, found: &Improved) -> Answered
     match &found.verdict {
         Judged::Accepted(_) => document_answer(alloc, found.shaped.plan(), GOOD),
         Judged::Refused(Why::Cycle(nodes)) => Ok(cycle_answer(alloc, nodes)?),
-        Judged::Refused(
-            Why::Late {
-                job: _,
-                leaves: _,
-                chain: _,
-                times: _,
-            },
-        ) => document_answer(alloc, found.shaped.plan(), REFUSED),
+        Judged::Refused(Why::Late { .. }) => document_answer(alloc, found.shaped.plan(), REFUSED),
     }
 }
 

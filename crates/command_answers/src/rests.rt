@@ -14,7 +14,8 @@ ghost use Rattle.plan_verifier.specs.Seen.{lent};
 
 use crate::answer::{Answer, Answered, GOOD, REFUSED};
 use crate::asked_job::{absent_job, no_job_answer};
-use crate::both::{Pair, read_both};
+use crate::both::read_both;
+use crate::files::Ahead;
 use crate::lines::push_fact;
 use crate::logs::log_fault_answer;
 use crate::naming::names_of;
@@ -59,17 +60,15 @@ impl PlanAnswer {
 pub fn rest_answer<T: Texts>(
     alloc: Global,
     texts: &mut T,
-    pair: &Pair<'_>,
-    names: Option<&str>,
-    log: &str,
-    at: Option<Moment>,
+    ahead: &Ahead<'_>,
     wanted: PlanAnswer,
 ) -> Answered
-    requires { IfSome at (λ present. present ≤ MAX_MOMENT) }
-    ensures { RunsRest T.gives wanted at pair.now (option_copied names.entry) log.now texts.old result texts.new }
+    requires { IfSome ahead.now.at (λ present. present ≤ MAX_MOMENT) }
+    ensures { RunsRest T.gives wanted ahead.now.at ahead.now.files.pair
+        (option_copied ahead.now.files.names) ahead.now.log.now texts.old result texts.new }
 {
-    match read_both(alloc, texts, pair)?.shaped() {
-        Ok(shaped) => shaped_rest(alloc, texts, shaped, names, log, at, wanted),
+    match read_both(alloc, texts, &ahead.files.pair)?.shaped() {
+        Ok(shaped) => shaped_rest(alloc, texts, shaped, ahead, wanted),
         Err(fault) => Ok(not_shaped_answer(alloc, fault)?),
     }
 }
@@ -79,21 +78,19 @@ fn shaped_rest<T: Texts>(
     alloc: Global,
     texts: &mut T,
     shaped: Shaped,
-    names: Option<&str>,
-    log: &str,
-    at: Option<Moment>,
+    ahead: &Ahead<'_>,
     wanted: PlanAnswer,
 ) -> Answered
-    requires { IfSome at (λ present. present ≤ MAX_MOMENT) }
-    ensures { IfThere T.gives (job_asked wanted) shaped (WithNamesAndLog T.gives (option_copied names.entry) log.now
-        shaped (λ book. IsRestLine book wanted at shaped)) texts.old result texts.new }
+    requires { IfSome ahead.now.at (λ present. present ≤ MAX_MOMENT) }
+    ensures { IfThere T.gives (job_asked wanted) shaped (WithNamesAndLog T.gives (option_copied ahead.now.files.names)
+        ahead.now.log.now shaped (λ book. IsRestLine book wanted ahead.now.at shaped)) texts.old result texts.new }
 {
     if let Some(absent) = absent_job(&shaped, wanted.job_asked()) {
         return Ok(no_job_answer(alloc, absent)?);
     }
-    let names = names_of(alloc, texts, names, &shaped)?;
-    let text = texts.text(alloc, log)?;
-    answer_rest_of_log(alloc, &names, shaped, &text, at, wanted)
+    let names = names_of(alloc, texts, ahead.files.names, &shaped)?;
+    let text = texts.text(alloc, ahead.log)?;
+    answer_rest_of_log(alloc, &names, shaped, &text, ahead.at, wanted)
 }
 
 /// What is answered for the rest of the run in a log.

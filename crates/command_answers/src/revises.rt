@@ -144,14 +144,7 @@ fn rest_revised(
     let verdict = verify_after(alloc, cell, present)?;
     match &verdict {
         Judged::Refused(Why::Cycle(nodes)) => Ok(cycle_answer(alloc, nodes)?),
-        Judged::Refused(
-            Why::Late {
-                job: _,
-                leaves: _,
-                chain: _,
-                times: _,
-            },
-        ) => changed(alloc, cell, present, description, wanted),
+        Judged::Refused(Why::Late { .. }) => changed(alloc, cell, present, description, wanted),
         Judged::Accepted(_) => changed(alloc, cell, present, description, wanted),
     }
 }

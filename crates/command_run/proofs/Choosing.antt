@@ -1,4 +1,4 @@
--- What the command that was chosen runs, and what is known of its log.
+-- What the command that was chosen runs, and what is answered of its log.
 use Rattle.std.proofs.Common.{◌≡◌, ℕ, List, Option, None, Some, IfSome, Result, sym, subst}
 use Rattle.command_words.specs.Choice.{IsChoiceOf, found_in}
 use Rattle.command_words.specs.declared.words.Chosen.{Chosen}
@@ -33,3 +33,19 @@ module _ {W : Type 0} (gives : W → List ℕ → Result (List ℕ) CommandFault
       → IfSome known (IsHistoryOfChosen gives chosen before)
   history_of_chosen words chosen before None choice is = tt
   history_of_chosen words chosen before (Some t) choice is = is chosen choice
+
+-- what is answered of the rest of a run, and of a plan, as the words ask for it
+pub ahead_asked : (Is : Option ℕ → PairOfFiles → Option (List ℕ) → Option (List ℕ) → Type 0) (at present : Option ℕ) (pair files : PairOfFiles) (names book : Option (List ℕ)) (log path : List ℕ) (kept : Option (List ℕ))
+    → at ≡ present → pair ≡ files → names ≡ book → log ≡ path → Some path ≡ kept → Is at pair names (Some log) → Is present files book kept
+ahead_asked Is at present pair files names book log path kept same_at same_pair same_names same_log asked is =
+    subst (λ (l : Option (List ℕ)). Is present files book l) asked
+    (subst (λ (l : List ℕ). Is present files book (Some l)) same_log
+    (subst (λ (n : Option (List ℕ)). Is present files n (Some log)) same_names
+    (subst (λ (q : PairOfFiles). Is present q names (Some log)) same_pair
+    (subst (λ (a : Option ℕ). Is a pair names (Some log)) same_at is))))
+
+pub plan_asked : (Is : PairOfFiles → Option (List ℕ) → Option (List ℕ) → Type 0) (pair files : PairOfFiles) (names book kept : Option (List ℕ)) → pair ≡ files → names ≡ book → None ≡ kept → Is pair names None → Is files book kept
+plan_asked Is pair files names book kept same_pair same_names asked is =
+    subst (λ (l : Option (List ℕ)). Is files book l) asked
+    (subst (λ (n : Option (List ℕ)). Is files n None) same_names
+    (subst (λ (q : PairOfFiles). Is q names None) same_pair is))

@@ -49,7 +49,7 @@ use Rattle.command_run.specs.Hubs.{AreDrivesIn, DrivesAll}
 use Rattle.command_run.specs.Ending.{Ends, EndsBy, EndsAside, IsPrinted, IsFaultPrinted, IsPrintedAfter, IsOfText, IsLineOut, WasPrinted}
 use Rattle.command_run.specs.Logs.{LogEnd, is_driven, step_of}
 use Rattle.command_run.specs.Program.{AreWordsRead, RunsCommand, RunsChosen, Follows, starts_again, status_by, draws_in, file_at, form_in, kept_log_in, log_in, manner_in, name_in, names_in, pair_in, plans_in}
-use Rattle.command_run.specs.Laws.{IsOutcomeOfWords, IsFailureOf, EndsOnTime, HoldsNothing, WereDriven, WereRefused, IsUnanswered, Ran, RanCommand, WroteNoMore}
+use Rattle.command_run.specs.Laws.{IsOutcomeOfWords, IsFailureOf, PrintsFaultsAlone, HoldsNothing, WereDriven, WereRefused, IsUnanswered, Ran, RanCommand, WroteNoMore}
 use Rattle.command_run.proofs.LowStatuses.{IsLow, low}
 use Rattle.command_run.proofs.Keepers.{keeper}
 use Rattle.command_run.proofs.LoggedEndings.{logged_shown, logged_written, low_logged}
@@ -333,7 +333,7 @@ module _ {W : Type 0} (gives : W → List ℕ → Result (List ℕ) CommandFault
 
   -- what was printed at the end of what ran
   ends_printed : (outcome : Result Answer CommandFault) (mid : Streams) (own : ℕ) → IsOwnOr own status → Ran gives words before outcome mid after end
-      → EndsWell outcome after.streams.output before.errors after.errors own → EndsOnTime gives words before status after end
+      → EndsWell outcome after.streams.output before.errors after.errors own → PrintsFaultsAlone gives words before status after end
   ends_printed outcome mid own rel ran (inl failure) =
       inl (status_high own status rel failure.high, inr (record { outcome = outcome; mid = mid; ran = ran; fault = failure.fault; failed = failure.failed; own = own; told = failure.told; status_is = rel }))
   ends_printed outcome mid own rel ran (inr good) = inr (subst (λ (n : ℕ). n ≤ 1) (sym (low_own own status rel good.0)) good.0, inl good.1)
@@ -341,7 +341,7 @@ module _ {W : Type 0} (gives : W → List ℕ → Result (List ℕ) CommandFault
   -- of a command
   command_printed : (chosen : Chosen) (accepted : reasons_in words ≡ []) (is : IsChoiceOf words (found_in words) chosen) (outcome : Result Answer CommandFault) (mid : Streams) (own : ℕ) → IsOwnOr own status
       → RunsChosen gives (kept_log_in chosen) chosen before outcome mid after end
-      → EndsWellBy (draws_in chosen) outcome after.streams.output before.errors after.errors own → EndsOnTime gives words before status after end
+      → EndsWellBy (draws_in chosen) outcome after.streams.output before.errors after.errors own → PrintsFaultsAlone gives words before status after end
   command_printed chosen accepted is outcome mid own rel runs (inl well) = ends_printed outcome mid own rel (ran chosen accepted is outcome mid runs) well
   command_printed chosen accepted is outcome mid own rel runs (inr (low, (answer, same, draws, told, answered))) =
       let run : RunsChosen gives (kept_log_in chosen) chosen before (Ok answer) mid after end =
@@ -356,7 +356,7 @@ module _ {W : Type 0} (gives : W → List ℕ → Result (List ℕ) CommandFault
       let status_is = low_own own status rel low in
       inr (subst (λ (n : ℕ). n ≤ 1) (sym status_is) low, inr (record { answer = answer; mid = mid; ran = here; draws = draws; told = told; own = status_is ∙ answered }))
 
-  pub follows_ends : (read : Result Chosen WordsFault) → AreWordsRead words read → Follows gives read before status after end → EndsOnTime gives words before status after end
+  pub follows_ends : (read : Result Chosen WordsFault) → AreWordsRead words read → Follows gives read before status after end → PrintsFaultsAlone gives words before status after end
   follows_ends (Ok chosen) are is =
       command_printed chosen are.accepted are.chosen is.outcome is.mid is.own (own_or (kept_log_in chosen) end is.outcome is.own status is.status_is) is.runs
       (by_ends (draws_in chosen) is.outcome is.mid.output after.streams.output before.errors after.errors is.own (chosen_low gives chosen before after is.outcome is.mid end (kept_log_in chosen) is.runs) is.ends)

@@ -3,6 +3,11 @@ use Rattle.std.proofs.Common.{◌≡◌, ◌⊎◌, ℕ, List, [], Bool, false, 
 use Rattle.std.specs.Prelude.{IsOk, MatchOption, is_some}
 use Rattle.text_lines.specs.Lines.{ended_lines}
 use Rattle.shop_base.specs.Plan.{PlannedShop}
+use Rattle.plan_verifier.specs.declared.verdict.Verdict.{Verdict}
+use Rattle.plan_verifier.specs.declared.verdict.Verdict.TheVariants.{Accepted, Refused}
+use Rattle.plan_verifier.specs.Accepted.{IsAcceptable}
+use Rattle.plan_verifier.specs.Seen.{judged}
+use Rattle.plan_verifier.specs.Verdicts.{OnAccepted, OnRefused, IsReason}
 use Rattle.byte_streams.specs.declared.drive_fault.DriveFault.{DriveFault}
 use Rattle.cell_drive.specs.declared.begin.DriveEnd.{DriveEnd}
 use Rattle.cell_drive.specs.declared.resume.RestEnd.{RestEnd}
@@ -56,7 +61,7 @@ pub gone_on_to_end : {X : Type 0} (log_failed : Bool) (end : Result RestEnd Driv
 gone_on_to_end log_failed (Ok end) outcome answer x good = x
 gone_on_to_end log_failed (Err fault) outcome answer x good = at_good_end log_failed (Err fault) outcome answer x good
 
--- a log with the line of the plan alone has whole lines alone, and says no event
+-- a log with the line of the plan alone has whole lines alone, and records no event
 pub line_whole : (p : PlannedShop) (known : Option (List ℕ × List ℕ)) → IfSome known (λ t. t.0 ≡ plan_line (digits_in p)) → IfSome known (λ t. whole_lines t.0 ≡ t.0)
 line_whole p None line = tt
 line_whole p (Some t) line = subst (λ (l : List ℕ). whole_lines l ≡ l) (sym line) (whole_plan (digits_in p))
@@ -76,6 +81,11 @@ known_both (Some t) becomes one other = becomes t one other
 
 pub at_known : {X : Type 0} (o : Option X) (x : X) (P : X → Type 0) → o ≡ Some x → IfSome o P → P x
 at_known o x P is holds = subst (λ o. IfSome o P) is holds
+
+-- the plan that a verdict is on
+pub judged_plan : (p : PlannedShop) (verdict : Verdict) → OnAccepted (λ verified. (verified.planned ≡ p) × IsAcceptable p) verdict → OnRefused (λ back why. (back ≡ p) × IsReason p why) verdict → judged verdict ≡ p
+judged_plan p (Accepted verified) accepted refused = accepted.0
+judged_plan p (Refused back why) accepted refused = refused.0
 
 -- one that was opened and has no bytes is left so
 pub undriven : (there : Bool) → false ≡ is_driven (left_if there)

@@ -29,7 +29,7 @@ use Rattle.command_run.specs.Resumes.{end_of_rest}
 use Rattle.command_run.specs.Logs.{Begins, DrivesFitting, DrivesFound, DrivesWithLog, HasFewLines, IsEmptyLog, IsFoundLog, IsRecoveredFromLog, IsHistoryOf, IsHistoryOfFound, IsHistoryOfNew, IsHistoryOfOld, IsHistoryOfPath, Step, RecoversRun, digits_in}
 use Rattle.command_run.proofs.HeldLogs.{at_known}
 
--- ---- what is written again
+-- ---- what is replayed
 
 pub never_shown : (protocol : Protocol) (t run : Recovered) (before mid after : Output) → IsReplayedIn protocol t (output_sink before) (output_sink mid) (Ok run) → Keeps mid.written after.written → after.failed ≡ true
     → IsReplayedIn {T = Recovered} protocol t (output_sink before) (output_sink after) (Err NotWritten)

@@ -8,6 +8,7 @@ pub mod Revising
 pub mod LowStatuses
 pub mod KnownLogs
 pub mod HeldLogs
+pub mod Readied
 pub mod LoggedEndings
 pub mod Keepers
 pub mod Choosing

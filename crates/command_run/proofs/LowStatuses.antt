@@ -88,7 +88,7 @@ use Rattle.text_lines.specs.Lines.{ended_lines}
 use Rattle.command_answers.specs.ImprovingRests.{RestAsked, IsRestAnswer}
 use Rattle.command_run.specs.Choosers.{Decides}
 use Rattle.command_run.specs.Improvers.{AsksOne, AsksOneForRest, ImprovesPlan, ImprovesRest, Improves}
-use Rattle.command_run.specs.Tellings.{RunsPlanAnswer}
+use Rattle.command_answers.specs.Commands.{RunsPlanAnswer}
 use Rattle.command_run.specs.Program.{RunsCommand, aim_in, file_at, form_in, log_in, names_in, manner_in, name_in, pair_in, plans_in}
 
 -- the answer's status is 0 or 1

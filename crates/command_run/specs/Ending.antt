@@ -59,7 +59,7 @@ abbrev pub IsPrinted : Answer → Output → Output → Result ℕ CommandFault 
 IsPrinted answer before after (Ok status) = (status ≡ answer.status) × Appends before.written after.written answer.text.items × (after.failed ≡ before.failed) × (after.pending ≡ [])
 IsPrinted answer before after (Err fault) = (fault ≡ Write) × TookPart before.written after.written answer.text.items × (after.failed ≡ true)
 
--- nothing goes to the standard error where all is printed
+-- nothing is printed where all is printed
 abbrev pub IsPrintedAfter : Result ℕ CommandFault → Errors → Errors → ℕ → Type 0
 IsPrintedAfter (Ok printed) before after status = (after ≡ before) × (status ≡ printed)
 IsPrintedAfter (Err fault) before after status = IsFaultPrinted fault before after status

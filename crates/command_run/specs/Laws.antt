@@ -76,7 +76,7 @@ use Rattle.command_run.specs.Program.{RunsDrive, RunsResume, RunsHub, RunsChosen
 abbrev pub Shelf : (List ℕ → Result (List ℕ) CommandFault) → List (List ℕ) → List ℕ → Result (List ℕ) CommandFault → List (List ℕ) → Type 0
 Shelf content asked path given later = (given ≡ content path) × (later ≡ asked ++ path ∷ [])
 
--- the instance's fault was printed, unless memory ran out, and no other file was asked for
+-- the instance's fault was answered, unless memory ran out, and no other file was asked for
 abbrev pub IsInstanceRefused : {A : Type 0} → List ℕ → OrFault → Result A CommandFault → List (List ℕ) → Type 0
 IsInstanceRefused path fault outcome asked = (asked ≡ path ∷ []) × ((outcome ≡ Err (Instance fault)) ⊎ (outcome ≡ Err Memory))
 
@@ -219,13 +219,13 @@ MarginAnswersPlan = AnswersPlan (λ gives pair. RunsMargin gives pair None) (λ 
 abbrev pub MovesAnswerPlan : Type 0
 MovesAnswerPlan = AnswersPlan (λ gives pair. RunsMoves gives pair None) (λ p answer. IsNotShapedLine p answer ⊎ AreMovesOfPlan no_names p answer)
 
--- `audit` and `gantt`: where the plan is well shaped, what is printed of the log
+-- `audit` and `gantt`: where the plan is well shaped, what is answered of the log
 abbrev pub LogIsAnswered : Type 0
 LogIsAnswered = (wanted : LogAnswer) (content : List ℕ → Result (List ℕ) CommandFault) (pair : PairOfFiles) (log text : List ℕ) (p : PlannedShop) (outcome : Result Answer CommandFault) (asked : List (List ℕ))
     → ParseAsPlan content pair p → content log ≡ Ok text → IsWellShaped p → RunsLog (Shelf content) wanted pair None log [] outcome asked
     → IsAnswered (IsLogLine no_names wanted p text) (pair.path ∷ pair.plan ∷ log ∷ []) outcome asked
 
--- `check`, `explain` and `schedule` of the rest of a run: where the plan is well shaped, and no job asked for, what is printed of its log
+-- `check`, `explain` and `schedule` of the rest of a run: where the plan is well shaped, and no job asked for, what is answered of its log
 abbrev pub RestIsAnswered : Type 0
 RestIsAnswered = (wanted : PlanAnswer) (at : Option ℕ) (content : List ℕ → Result (List ℕ) CommandFault) (pair : PairOfFiles) (log text : List ℕ) (p : PlannedShop) (outcome : Result Answer CommandFault) (asked : List (List ℕ))
     → ParseAsPlan content pair p → content log ≡ Ok text → IsWellShaped p → job_asked wanted ≡ None → RunsRest (Shelf content) wanted at pair None log [] outcome asked
@@ -348,7 +348,7 @@ ResumeAnswersUnshaped = (protocol : Protocol) (at : Option ℕ) (log : List ℕ)
     → ParseAsPlan content pair p → (IsWellShaped p → ⊥) → RunsResume (Shelf content) protocol at pair log [] before outcome asked after
     → IsAnswered (IsCheckLine p) (pair.path ∷ pair.plan ∷ []) outcome asked × (after ≡ before)
 
--- by it the run of these lines can't go on: the plan has a cycle; or they record no events, and it isn't accepted
+-- by it the run of these lines can't go on: the plan has a cycle; or they record no event, and it isn't accepted
 abbrev pub IsNoPlanFor : PlannedShop → List Entry → Type 0
 IsNoPlanFor p told = (HasNoCycle p → ⊥) ⊎ ((told ≡ []) × (IsAcceptable p → ⊥))
 
@@ -548,13 +548,13 @@ module _ {W : Type 0} (gives : W → List ℕ → Result (List ℕ) CommandFault
     pub unanswered : IsUnanswered outcome mid.output after.streams.output
 
   -- the status is 2 or more, and what failed was printed; or it is 0 or 1, and nothing was printed but what is answered in place of a picture
-  abbrev pub EndsOnTime : List (List ℕ) → Devices W → ℕ → Devices W → Option LogEnd → Type 0
-  EndsOnTime words before status after log =
+  abbrev pub PrintsFaultsAlone : List (List ℕ) → Devices W → ℕ → Devices W → Option LogEnd → Type 0
+  PrintsFaultsAlone words before status after log =
       ((2 ≤ status) × (WereRefused words before status after ⊎ WasFailurePrinted words before status after log)) ⊎ ((status ≤ 1) × ((after.errors ≡ before.errors) ⊎ WasPrintedAside words before status after log))
 
   -- in each run of the program what fails is printed on the error output with its status, and nothing else is printed but what is answered in place of a picture
   abbrev pub FaultsArePrinted : Type 0
-  FaultsArePrinted = (words : List (List ℕ)) (before : Devices W) (status : ℕ) (after : Devices W) (log : Option LogEnd) → RunsProgram gives words before status after log → EndsOnTime words before status after log
+  FaultsArePrinted = (words : List (List ℕ)) (before : Devices W) (status : ℕ) (after : Devices W) (log : Option LogEnd) → RunsProgram gives words before status after log → PrintsFaultsAlone words before status after log
 
   -- at the end of each run of the program nothing is held back, unless a write of the output has failed
   abbrev pub NothingIsHeldBack : Type 0

@@ -12,8 +12,8 @@ pub mod Misfits
 pub mod Logs
 pub mod Hubs
 pub mod Ending
-pub mod Tellings
 pub mod Program
 pub mod Laws
 -- Of proofs and private contracts alone.
 pub mod Unchosen
+pub mod Readiness

@@ -72,7 +72,7 @@ abbrev pub IsLoggedAnswer : Bool → Result Bool DriveFault → Result Answer Co
 IsLoggedAnswer log_failed (Ok done) outcome = IsEnded done outcome
 IsLoggedAnswer log_failed (Err fault) outcome = outcome ≡ Err (logged_command_fault log_failed fault)
 
--- what is printed of a log that isn't recovered: as by `resume`; of an end that no crash leaves, that the line behind the whole ones is bad; or the fault of the log
+-- what is answered of a log that isn't recovered: as by `resume`; of an end that no crash leaves, that the line behind the whole ones is bad; or the fault of the log
 abbrev pub IsLogFaultPrinted : RecoverFault → Result Answer CommandFault → Type 0
 IsLogFaultPrinted (Resume fault) outcome = IsUnrecoveredAnswer fault outcome
 IsLogFaultPrinted (NoTornEnd lines) outcome = IsLogFaultAnswer (BadLine (suc lines)) outcome
@@ -185,13 +185,13 @@ pub record RecoversLog (p : PlannedShop) (at : Option ℕ) (text : List ℕ) (re
   pub only_fault : IfErr recovered (IsOnlyRecoverFault p (ended_lines (whole_lines text)))
   pub only : IsRecoverable p (ended_lines (whole_lines text)) at → is_torn (torn_end text) ≡ true → IfErr recovered IsOfDevice
 
--- the events in the log were written again, and shown; or that failed
+-- the events in the log were replayed, and shown; or that failed
 pub record ReplaysEvents (protocol : Protocol) (t : Recovered) (before after : Output) (replay : Result Recovered DriveFault) : Type 0 where
   pub is : IsReplayedIn protocol t (output_sink before) (output_sink after) replay
   pub same : IfOk replay (λ run. run ≡ t)
   pub shown : OnOk replay (after.pending ≡ [])
 
--- an input, with an output that has taken the events
+-- an input, with an output that has the events
 abbrev pub with_output : Streams → Output → Streams
 with_output before mid = record { input = before.input; output = mid }
 
@@ -199,7 +199,7 @@ with_output before mid = record { input = before.input; output = mid }
 abbrev pub from_output : Output → Step → Step
 from_output mid step = record step { before = with_output step.before mid }
 
--- then the run goes on with the log; or the telling has failed, with no byte read, and the log is left
+-- then the run goes on with the log; or the replay has failed, with no byte read, and the log is left
 abbrev pub GoesOnAfter : Protocol → Recovered → Output → Result Recovered DriveFault → Step → Type 0
 GoesOnAfter protocol t mid (Ok done) step = DrivesWithLog (plan_of t) (replayed_events t) (IsGoneOnIn protocol t) end_of_rest (from_output mid step)
 GoesOnAfter protocol t mid (Err fault) step = (step.outcome ≡ Err (drive_command_fault fault)) × (step.after ≡ with_output step.before mid) × (step.log ≡ Some Left)
@@ -211,7 +211,7 @@ pub record GoesOnWithLog (protocol : Protocol) (t : Recovered) (step : Step) : T
   pub replays : ReplaysEvents protocol t step.before.output mid replay
   pub goes_on : GoesOnAfter protocol t mid replay step
 
--- what follows the recovery from a log with these bytes: the run goes on with it; of one that isn't recovered the fault is printed, with no byte read or written, and it is held
+-- what follows the recovery of a log with these bytes: the run goes on with it; of one that isn't recovered the fault is printed, with no byte read or written, and it is held
 abbrev pub ContinuesRecovered : PlannedShop → Protocol → List ℕ → Result Recovered RecoverFault → Step → Type 0
 ContinuesRecovered p protocol text (Ok t) step = GoesOnWithLog protocol t step
 ContinuesRecovered p protocol text (Err fault) step = IsLogFaultPrinted fault step.outcome × DrivesNothing (Some (NotRecovered p text fault)) step
@@ -249,7 +249,7 @@ module _ (folder folder_after : Folder) (path : List ℕ) where
     pub drives : DrivesAs misfit protocol at p there step
 
 module _ (folder folder_after : Folder) (path : List ℕ) (start : LogStart) (protocol : Protocol) (at : Option ℕ) (p : PlannedShop) where
-  -- the folder says that no log could be opened, or locked; or the log that it couldn't be synced or read
+  -- the folder says that no log could be opened, or locked; or the log says that it couldn't be synced or read
   abbrev pub IsOpeningFault : FileFault → Option LogEnd → Type 0
   IsOpeningFault fault log = (IsOpenFault fault × (folder_after ≡ with_fault fault folder) × (log ≡ None))
       ⊎ (((fault ≡ NotLogged) ⊎ IsReadFault fault) × (folder_after ≡ handed folder) × (log ≡ Some (Unread fault)))
@@ -316,7 +316,7 @@ IsUntouched written (Found bytes) = written ≡ false
 IsUntouched written (NotRecovered p text fault) = IsOfText fault → written ≡ false
 IsUntouched written other = Unit {0}
 
--- so it is with the log that is held, if one is: it says just this fault, and where it is known what there was before, it has this
+-- so it is with the log that is held, if one is: it names just this fault, and where it is known what there was before, it has this
 abbrev pub IsHeldAfter : {D : Type 0} → (D → Option (List ℕ)) → (D → List ℕ → Type 0) → (D → Option FileFault) → (D → Bool) → Option (List ℕ × List ℕ) → Option (List ℕ) → Type 0 → Option D → Option LogEnd → Type 0
 IsHeldAfter seen crash_states fault written known printed good None None = Unit {0}
 IsHeldAfter seen crash_states fault written known printed good None (Some end) = ⊥
@@ -368,20 +368,20 @@ IsRecoveredFromLog t base = (whole_lines base ≡ base) × (at : Option ℕ) × 
 
 -- ---- what the log holds before
 
--- behind what the output has taken stands this text
+-- behind what the output has written stands this text
 pub record IsWrittenBehind (printed : Option (List ℕ)) (text known : List ℕ) : Type 0 where
   pub start : List ℕ
   pub was : printed ≡ Some start
   pub is : known ≡ start ++ text
 
--- what is known of a new log by this plan, in a folder that is known: the line of the plan; and of what the output has taken
+-- what is known of a new log by this plan, in a folder that is known: the line of the plan; and of what the output has written
 pub record IsHistoryOfNew (folder : Folder) (p : PlannedShop) (printed : Option (List ℕ)) (known : List ℕ × List ℕ) : Type 0 where
   pub logs : List NamedLog
   pub there : folder.logs ≡ Some logs
   pub log : known.0 ≡ plan_line (digits_in p)
   pub output : printed ≡ Some known.1
 
--- what is known of the whole lines of a log, with the line of the plan behind them unless it is their last one; and of what the output has taken once the events in it are written again
+-- what is known of the whole lines of a log, with the line of the plan behind them unless it is their last one; and of what the output has written once the events in it are replayed
 pub record IsHistoryOfOld (p : PlannedShop) (protocol : Protocol) (at : Option ℕ) (bytes : List ℕ) (printed : Option (List ℕ)) (known : List ℕ × List ℕ) : Type 0 where
   pub log : IsNamedFor (digits_in p) (whole_lines bytes) known.0
   pub output : (t : Recovered) → IsRecovered p (ended_lines (whole_lines bytes)) at t → IsWrittenBehind printed (replay_text protocol t) known.1

@@ -20,7 +20,7 @@ GoesOn start = (start ≡ Continue) ⊎ (start ≡ HandOver)
 abbrev pub KeepsPlan : LogStart → Type 0
 KeepsPlan start = (start ≡ Any) ⊎ (start ≡ Continue)
 
--- why a log whose lines record this of its run isn't driven by a plan with these digits: it has begun, and should be new; it hasn't begun, and should have; or its last line of a plan is another one's
+-- why a log whose lines say this of its run isn't driven by a plan with these digits: it has begun, and should be new; it hasn't begun, and should have; or its last line of a plan is another one's
 abbrev pub IsMisfit : LogStart → LogRun → RunDigits → Misfit → Type 0
 IsMisfit start run digits NotNew = (start ≡ New) × (run ≢ Unbegun)
 IsMisfit start run digits NotBegun = GoesOn start × (run ≡ Unbegun)

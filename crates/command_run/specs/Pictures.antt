@@ -12,7 +12,7 @@ use Rattle.command_answers.specs.declared.rests.PlanAnswer.TheVariants.{Moments}
 use Rattle.command_answers.specs.Commands.{PairOfFiles, RunsLog, RunsMoves, RunsRestMoves}
 use Rattle.command_answers.specs.Pictures.{DrawsLog, DrawsRest, DrawsSchedule}
 use Rattle.command_run.specs.Streams.{Streams, Output}
-use Rattle.command_run.specs.Tellings.{RunsPlanAnswer}
+use Rattle.command_answers.specs.Commands.{RunsPlanAnswer}
 use Rattle.command_run.specs.declared.pictures.Timetable.{Timetable}
 use Rattle.command_run.specs.declared.pictures.Timetable.TheVariants.{Moments as ByMoments, Moves as ByMoves, Picture as AsPicture}
 

@@ -28,7 +28,7 @@ use Rattle.command_answers.specs.Commands.{PairOfFiles, RunsFacts, RunsShape, Ru
 use Rattle.command_answers.specs.Cells.{LoadsCells}
 use Rattle.command_run.specs.Streams.{Streams, Devices}
 use Rattle.command_run.specs.Inputs.{RunsInput}
-use Rattle.command_run.specs.Tellings.{RunsPlanAnswer}
+use Rattle.command_answers.specs.Commands.{RunsPlanAnswer}
 use Rattle.command_run.specs.Pictures.{RunsTimetable, RunsDrawing}
 use Rattle.command_run.specs.declared.pictures.Timetable.{Timetable}
 use Rattle.command_run.specs.declared.pictures.Timetable.TheVariants.{Moments, Moves, Picture}
@@ -158,7 +158,7 @@ module _ {W : Type 0} (gives : W → List ℕ → Result (List ℕ) CommandFault
     pub shapes : Shapes gives pair texts shaped texts_after
     pub drives : DrivesShaped folder folder_after path start protocol at shaped step
 
-  -- the plan is read, then its log recovered at a moment, and then the input is read
+  -- the plan is read, then its run recovered at a moment, and then the input is read
   pub record RunsResume (protocol : Protocol) (at : Option ℕ) (pair : PairOfFiles) (log : List ℕ) (texts : W) (before : Streams) (outcome : Result Answer CommandFault) (texts_after : W) (after : Streams) : Type 0 where
     pub shaped : Result (Result PlannedShop ShapeFault) CommandFault
     pub texts_mid : W
@@ -251,11 +251,11 @@ module _ {W : Type 0} (gives : W → List ℕ → Result (List ℕ) CommandFault
     pub is : AreWordsRead words read
     pub follows : Follows read before status after log
 
--- what is known of the log that the command keeps, if it keeps one, and of what the output has taken once the events in that are written again
+-- what is known of the log that the command keeps, if it keeps one, and of what the output has written once the events in that are replayed
 abbrev pub IsHistoryOfChosen : {W : Type 0} → (W → List ℕ → Result (List ℕ) CommandFault → W → Type 0) → Chosen → Devices W → List ℕ × List ℕ → Type 0
 IsHistoryOfChosen gives chosen before known = (path : List ℕ) → kept_log_in chosen ≡ Some path
     → IsHistoryOfLog gives before.folder (pair_in chosen) path (manner_in chosen) chosen.at before.texts before.streams.output.written known
 
--- what is known of the log that the words ask for, and of what the output has taken once the events in that are written again
+-- what is known of the log that the words ask for, and of what the output has written once the events in that are replayed
 abbrev pub IsHistoryOfWords : {W : Type 0} → (W → List ℕ → Result (List ℕ) CommandFault → W → Type 0) → List (List ℕ) → Devices W → List ℕ × List ℕ → Type 0
 IsHistoryOfWords gives words before known = (chosen : Chosen) → IsChoiceOf words (found_in words) chosen → IsHistoryOfChosen gives chosen before known

@@ -1,38 +1,38 @@
 //! The command `decide`.
 
-ghost use Rattle.std.specs.Prelude.{◌≤◌, IfSome};
+ghost use Rattle.std.specs.Prelude.{◌<◌, ◌≤◌, length, IfSome};
 ghost use Rattle.std.specs.Option.{option_copied};
 ghost use Rattle.shop_base.specs.declared.limits.TheConstants.{MAX_MOMENT};
 ghost use Rattle.command_answers.specs.Commands.{RunsDecide, RunsDecideRest};
 ghost use Rattle.command_run.specs.Choosers.{Decides};
+ghost use Rattle.command_run.specs.Program.{log_in, names_in, pair_in};
 
 use crate::choice_progress::ChoiceProgress;
+use crate::command::{ahead, files, rest_log};
 use crate::devices::Screen;
 use arc_choice::LeastSlack;
-use command_answers::{Answered, Pair, Texts, decide_answer, decide_rest_answer};
+use command_answers::{Ahead, Answered, Files, Texts, decide_answer, decide_rest_answer};
+use command_words::Chosen;
 use plan_decide::Aim;
-use shop_base::Moment;
 use std::alloc::Global;
 
 /// The decision whether any plan keeps the promises or, where a log is given, any for the rest of its run.
 pub(crate) fn decided_answer<T: Texts, S: Screen>(
     alloc: Global,
-    texts: &mut T,
-    pair: &Pair<'_>,
-    names: Option<&str>,
-    log: Option<&str>,
-    at: Option<Moment>,
+    chosen: &Chosen,
     aim: Aim,
-    choices: u32,
+    texts: &mut T,
     screen: &mut S,
 ) -> Answered
-    requires { IfSome at (λ present. present ≤ MAX_MOMENT) }
-    ensures { Decides T.gives aim at pair.now (option_copied names.entry)
-        (option_copied log.entry) texts.old result texts.new }
+    requires files { 1 < length chosen.now.files.items }
+    requires at { IfSome chosen.now.at (λ present. present ≤ MAX_MOMENT) }
+    ensures { Decides T.gives aim chosen.now.at (pair_in chosen.now) (names_in chosen.now) (log_in chosen.now)
+        texts.old result texts.new }
 {
-    match log {
-        Some(log) => rest_decision_answer(alloc, texts, pair, names, log, at, aim, choices, screen),
-        None => decision_answer(alloc, texts, pair, names, aim, choices, screen),
+    let choices = u64::from(chosen.choices);
+    match rest_log(chosen) {
+        Some(log) => rest_decision_answer(alloc, texts, &ahead(chosen, log), aim, choices, screen),
+        None => decision_answer(alloc, texts, &files(chosen), aim, choices, screen),
     }
 }
 
@@ -41,21 +41,19 @@ pub(crate) fn decided_answer<T: Texts, S: Screen>(
 fn decision_answer<T: Texts, S: Screen>(
     alloc: Global,
     texts: &mut T,
-    pair: &Pair<'_>,
-    names: Option<&str>,
+    files: &Files<'_>,
     aim: Aim,
-    choices: u32,
+    choices: u64,
     screen: &mut S,
 ) -> Answered
-    ensures { RunsDecide T.gives aim pair.now (option_copied names.entry) texts.old result texts.new }
+    ensures { RunsDecide T.gives aim files.now.pair (option_copied files.now.names) texts.old result texts.new }
 {
-    let (mut chooser, choices) = (LeastSlack::new(alloc), u64::from(choices));
+    let mut chooser = LeastSlack::new(alloc);
     let mut progress = ChoiceProgress { screen };
     let answer = decide_answer(
         alloc,
         texts,
-        pair,
-        names,
+        files,
         aim,
         choices,
         &mut chooser,
@@ -69,26 +67,21 @@ fn decision_answer<T: Texts, S: Screen>(
 fn rest_decision_answer<T: Texts, S: Screen>(
     alloc: Global,
     texts: &mut T,
-    pair: &Pair<'_>,
-    names: Option<&str>,
-    log: &str,
-    at: Option<Moment>,
+    ahead: &Ahead<'_>,
     aim: Aim,
-    choices: u32,
+    choices: u64,
     screen: &mut S,
 ) -> Answered
-    requires { IfSome at (λ present. present ≤ MAX_MOMENT) }
-    ensures { RunsDecideRest T.gives aim at pair.now (option_copied names.entry) log.now texts.old result texts.new }
+    requires { IfSome ahead.now.at (λ present. present ≤ MAX_MOMENT) }
+    ensures { RunsDecideRest T.gives aim ahead.now.at ahead.now.files.pair (option_copied ahead.now.files.names)
+        ahead.now.log.now texts.old result texts.new }
 {
-    let (mut chooser, choices) = (LeastSlack::new(alloc), u64::from(choices));
+    let mut chooser = LeastSlack::new(alloc);
     let mut progress = ChoiceProgress { screen };
     let answer = decide_rest_answer(
         alloc,
         texts,
-        pair,
-        names,
-        log,
-        at,
+        ahead,
         aim,
         choices,
         &mut chooser,

@@ -5,9 +5,8 @@ ghost use Rattle.std.specs.Option.{option_copied};
 ghost use Rattle.std.specs.String.{string_bytes};
 ghost use Rattle.shop_base.specs.declared.limits.TheConstants.{MAX_MOMENT};
 ghost use Rattle.command_words.specs.Choice.{IsWithin};
-ghost use Rattle.command_run.specs.Choosers.{Decides};
+ghost use Rattle.command_answers.specs.Commands.{RunsPlanAnswer};
 ghost use Rattle.command_run.specs.Improvers.{Improves};
-ghost use Rattle.command_run.specs.Tellings.{RunsPlanAnswer};
 ghost use Rattle.command_run.specs.Program.{RunsCommand, aim_in, file_at, is_second, kept_log_in, form_in, log_in};
 ghost use Rattle.command_run.specs.Program.{names_in, manner_in, name_in, overall_aim, pair_in};
 
@@ -21,11 +20,10 @@ use crate::pictures::{Timetable, drawing_answer, timetable_answer};
 use crate::planners::seek_answer;
 use crate::resumes::resume_answer;
 use crate::revisions::revision_answer;
-use crate::tellings::plan_answer;
 use cell_drive::{BufferedSink, Protocol, Source};
 use command_answers::{
-    Answered, LogAnswer, Pair, PlanAnswer, Texts, bounds_answer, digest_answer, facts_answer,
-    log_answer, margin_answer, shape_answer,
+    Ahead, Answered, Files, LogAnswer, Pair, PlanAnswer, Texts, answer_of_plan, bounds_answer,
+    digest_answer, facts_answer, log_answer, margin_answer, rest_answer, shape_answer,
 };
 use command_words::{Chosen, CommandName, Lines};
 use plan_decide::{Aim, Objective};
@@ -61,7 +59,7 @@ fn path_of(path: &Option<String>) -> Option<&str>
 }
 
 /// The log of whose rest is asked.
-fn rest_log(chosen: &Chosen) -> Option<&str>
+pub(crate) fn rest_log(chosen: &Chosen) -> Option<&str>
     ensures { option_copied result ≡ log_in chosen.now }
 {
     path_of(&chosen.after)
@@ -86,16 +84,49 @@ pub(crate) fn pair(chosen: &Chosen) -> Pair<'_>
     }
 }
 
+/// The files of the plan and of names.
+pub(crate) fn files(chosen: &Chosen) -> Files<'_>
+    requires { 1 < length chosen.now.files.items }
+    ensures pair { result.pair ≡ pair_in chosen.now }
+    ensures names { option_copied result.names ≡ names_in chosen.now }
+{
+    Files {
+        pair: pair(chosen),
+        names: names(chosen),
+    }
+}
+
+/// What is ahead of the run in this log.
+pub(crate) fn ahead<'a>(chosen: &'a Chosen, log: &'a str) -> Ahead<'a>
+    requires { 1 < length chosen.now.files.items }
+    ensures pair { result.files.pair ≡ pair_in chosen.now }
+    ensures names { option_copied result.files.names ≡ names_in chosen.now }
+    ensures log { result.log.now ≡ log.now }
+    ensures at { result.at ≡ chosen.now.at }
+{
+    Ahead {
+        files: files(chosen),
+        log,
+        at: chosen.at,
+    }
+}
+
 /// What is answered for the plan, or for the rest of a run of it.
-fn told<T: Texts>(alloc: Global, chosen: &Chosen, texts: &mut T, wanted: PlanAnswer) -> Answered
+pub(crate) fn answered<T: Texts>(
+    alloc: Global,
+    chosen: &Chosen,
+    texts: &mut T,
+    wanted: PlanAnswer,
+) -> Answered
     requires files { 1 < length chosen.now.files.items }
     requires at { IfSome chosen.now.at (λ present. present ≤ MAX_MOMENT) }
     ensures { RunsPlanAnswer T.gives wanted chosen.now.at (pair_in chosen.now) (names_in chosen.now)
         (log_in chosen.now) texts.old result texts.new }
 {
-    let pair = pair(chosen);
-    let (names, log) = (names(chosen), rest_log(chosen));
-    plan_answer(alloc, texts, &pair, names, log, chosen.at, wanted)
+    match rest_log(chosen) {
+        Some(log) => rest_answer(alloc, texts, &ahead(chosen, log), wanted),
+        None => answer_of_plan(alloc, texts, &files(chosen), wanted),
+    }
 }
 
 /// Whether this is version 2.
@@ -141,41 +172,11 @@ fn bettered<T: Texts, S: Screen>(
     ensures { Improves T.gives chosen.now.at chosen.now.rounds (pair_in chosen.now)
         (log_in chosen.now) texts.old result texts.new }
 {
-    let pair = pair(chosen);
     let (rounds, seed) = (chosen.rounds, chosen.seed);
     match rest_log(chosen) {
-        Some(log) => {
-            better_rest_answer(alloc, texts, &pair, log, chosen.at, rounds, seed, screen)
-        }
-        None => better_answer(alloc, texts, &pair, rounds, seed, screen),
+        Some(log) => { better_rest_answer(alloc, texts, &ahead(chosen, log), rounds, seed, screen) }
+        None => better_answer(alloc, texts, &pair(chosen), rounds, seed, screen),
     }
-}
-
-/// The decision whether any plan, or any for the rest of a run, keeps the promises.
-fn decided<T: Texts, S: Screen>(
-    alloc: Global,
-    chosen: &Chosen,
-    aim: Aim,
-    texts: &mut T,
-    screen: &mut S,
-) -> Answered
-    requires files { 1 < length chosen.now.files.items }
-    requires at { IfSome chosen.now.at (λ present. present ≤ MAX_MOMENT) }
-    ensures { Decides T.gives aim chosen.now.at (pair_in chosen.now) (names_in chosen.now)
-        (log_in chosen.now) texts.old result texts.new }
-{
-    let (pair, choices) = (pair(chosen), chosen.choices);
-    decided_answer(
-        alloc,
-        texts,
-        &pair,
-        names(chosen),
-        rest_log(chosen),
-        chosen.at,
-        aim,
-        choices,
-        screen,
-    )
 }
 
 /// What is to be decided besides the budgets.
@@ -236,26 +237,14 @@ pub(crate) fn command<T: Texts, R: Source, W: BufferedSink, S: Screen>(
         CommandName::Input => input_answer(alloc, streams),
         CommandName::Facts => facts_answer(alloc, texts, file(chosen, 0), name(chosen)),
         CommandName::Shape => shape_answer(alloc, texts, &pair(chosen)),
-        CommandName::Check => told(alloc, chosen, texts, PlanAnswer::Verdict),
-        CommandName::Explain => told(alloc, chosen, texts, PlanAnswer::Reasons(chosen.job)),
-        CommandName::Schedule => {
-            let (pair, names, log) = (pair(chosen), names(chosen), rest_log(chosen));
-            timetable_answer(
-                alloc,
-                texts,
-                &pair,
-                names,
-                log,
-                chosen.at,
-                form(chosen),
-                streams,
-            )
-        }
-        CommandName::Bounds => bounds_answer(alloc, texts, &pair(chosen), names(chosen)),
-        CommandName::Margin => margin_answer(alloc, texts, &pair(chosen), names(chosen)),
+        CommandName::Check => answered(alloc, chosen, texts, PlanAnswer::Verdict),
+        CommandName::Explain => answered(alloc, chosen, texts, PlanAnswer::Reasons(chosen.job)),
+        CommandName::Schedule => timetable_answer(alloc, chosen, form(chosen), texts, streams),
+        CommandName::Bounds => bounds_answer(alloc, texts, &files(chosen)),
+        CommandName::Margin => margin_answer(alloc, texts, &files(chosen)),
         CommandName::Plan => seek_answer(alloc, texts, &pair(chosen), chosen.rounds),
         CommandName::Improve => bettered(alloc, chosen, texts, screen),
-        CommandName::Decide => decided(alloc, chosen, aim(chosen), texts, screen),
+        CommandName::Decide => decided_answer(alloc, chosen, aim(chosen), texts, screen),
         CommandName::Revise => {
             let (pair, log) = (pair(chosen), file(chosen, 2));
             let changes = chosen.changes.as_slice();
@@ -292,19 +281,15 @@ pub(crate) fn command<T: Texts, R: Source, W: BufferedSink, S: Screen>(
         CommandName::Digest => digest_answer(alloc, texts, &pair(chosen)),
         CommandName::Audit => {
             let log = file(chosen, 2);
-            log_answer(alloc, texts, &pair(chosen), None, log, LogAnswer::Numbers)
+            let files = Files {
+                pair: pair(chosen),
+                names: None,
+            };
+            log_answer(alloc, texts, &files, log, LogAnswer::Numbers)
         }
         CommandName::Gantt => {
             let log = file(chosen, 2);
-            drawing_answer(
-                alloc,
-                texts,
-                &pair(chosen),
-                names(chosen),
-                log,
-                chosen.svg,
-                streams,
-            )
+            drawing_answer(alloc, texts, &files(chosen), log, chosen.svg, streams)
         }
     }
 }

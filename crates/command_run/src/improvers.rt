@@ -6,9 +6,8 @@ ghost use Rattle.command_run.specs.Improvers.{ImprovesPlan, ImprovesRest};
 
 use crate::devices::Screen;
 use crate::progress::Progress;
-use command_answers::{Answered, Pair, Texts, improve_answer, improve_rest_answer};
+use command_answers::{Ahead, Answered, Pair, Texts, improve_answer, improve_rest_answer};
 use plan_improve::{AnnealingImprover, Improver};
-use shop_base::Moment;
 use std::alloc::{AllocError, Global};
 
 /// The search for a better plan by the annealing. Each round is shown on the screen, which is blank at the end.
@@ -35,30 +34,20 @@ pub(crate) fn better_answer<T: Texts, S: Screen>(
 pub(crate) fn better_rest_answer<T: Texts, S: Screen>(
     alloc: Global,
     texts: &mut T,
-    pair: &Pair<'_>,
-    log: &str,
-    at: Option<Moment>,
+    ahead: &Ahead<'_>,
     rounds: u32,
     seed: u32,
     screen: &mut S,
 ) -> Answered
-    requires { IfSome at (λ present. present ≤ MAX_MOMENT) }
-    ensures { ImprovesRest T.gives at rounds pair.now log.now texts.old result texts.new }
+    requires { IfSome ahead.now.at (λ present. present ≤ MAX_MOMENT) }
+    ensures { ImprovesRest T.gives ahead.now.at rounds ahead.now.files.pair ahead.now.log.now
+        texts.old result texts.new }
 {
     let mut improvers: Vec<Box<dyn Improver>> = Vec::new(alloc);
     let annealing = Box::new(alloc, AnnealingImprover::new(seed)).map_err(AllocError::from)?;
     improvers.push(annealing).map_err(AllocError::from)?;
     let mut progress = Progress { screen, rounds };
-    let answer = improve_rest_answer(
-        alloc,
-        texts,
-        pair,
-        log,
-        at,
-        &improvers,
-        rounds,
-        &mut progress,
-    );
+    let answer = improve_rest_answer(alloc, texts, ahead, &improvers, rounds, &mut progress);
     progress.screen.show(b"");
     answer
 }

@@ -10,15 +10,16 @@ mod ending;
 mod hubs;
 mod improvers;
 mod input;
+mod log_faults;
 mod logs;
 mod misfits;
 mod pictures;
 mod planners;
 mod program;
 mod progress;
+mod readiness;
 mod resumes;
 mod revisions;
-mod tellings;
 mod unchosen;
 
 pub use devices::{Devices, Screen, Streams};

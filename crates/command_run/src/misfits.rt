@@ -22,7 +22,7 @@ pub enum Misfit {
     OtherPlan(RunDigits),
 }
 
-/// Why a log whose lines record this of its run isn't as the words ask, for a plan with these digits.
+/// Why a log whose lines say this of its run isn't as the words ask, for a plan with these digits.
 pub(crate) fn misfit_of(start: LogStart, run: LogRun, digits: &RunDigits) -> Option<Misfit>
     ensures { SomeIfAny result (IsMisfit start run digits.now) }
 {

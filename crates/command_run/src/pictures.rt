@@ -1,21 +1,22 @@
 //! The commands `schedule` and `gantt`, whose answers are texts or pictures.
 
-ghost use Rattle.std.specs.Prelude.{◌≤◌, IfSome};
+ghost use Rattle.std.specs.Prelude.{◌<◌, ◌≤◌, length, IfSome};
 ghost use Rattle.std.specs.Option.{option_copied};
 ghost use Rattle.shop_base.specs.declared.limits.TheConstants.{MAX_MOMENT};
 ghost use Rattle.command_run.specs.Streams.{output_of};
 ghost use Rattle.command_run.specs.Pictures.{Draws, DrawsTimetable, IsPictureOut, RunsDrawing};
 ghost use Rattle.command_run.specs.Pictures.{RunsTimetable, AnswersMoves};
+ghost use Rattle.command_run.specs.Program.{log_in, names_in, pair_in};
 
+use crate::command::{ahead, answered, files, rest_log};
 use crate::devices::Streams;
-use crate::tellings::plan_answer;
 use cell_drive::{BufferedSink, Source};
 use command_answers::{
-    Answer, Answered, CommandFault, Drawn, LogAnswer, Outcome, Pair, PlanAnswer, Texts, log_answer,
-    log_picture, moves_answer, rest_moves_answer, rest_picture, schedule_picture,
+    Answer, Answered, CommandFault, Drawn, Files, LogAnswer, Outcome, PlanAnswer, Texts,
+    log_answer, log_picture, moves_answer, rest_moves_answer, rest_picture, schedule_picture,
 };
+use command_words::Chosen;
 use run_picture::Picture;
-use shop_base::Moment;
 use std::alloc::Global;
 
 /// In which form a schedule is printed.
@@ -32,65 +33,49 @@ pub(crate) enum Timetable {
 /// The schedule of a plan, or of the rest of the run in a log, in this form.
 pub(crate) fn timetable_answer<T: Texts, R: Source, W: BufferedSink>(
     alloc: Global,
-    texts: &mut T,
-    pair: &Pair<'_>,
-    names: Option<&str>,
-    log: Option<&str>,
-    at: Option<Moment>,
+    chosen: &Chosen,
     form: Timetable,
+    texts: &mut T,
     streams: &mut Streams<R, W>,
 ) -> Answered
-    requires { IfSome at (λ present. present ≤ MAX_MOMENT) }
-    ensures { RunsTimetable T.gives form at pair.now (option_copied names.entry)
-        (option_copied log.entry) texts.old streams.old result texts.new streams.new }
+    requires files { 1 < length chosen.now.files.items }
+    requires at { IfSome chosen.now.at (λ present. present ≤ MAX_MOMENT) }
+    ensures { RunsTimetable T.gives form chosen.now.at (pair_in chosen.now) (names_in chosen.now) (log_in chosen.now)
+        texts.old streams.old result texts.new streams.new }
 {
     match form {
-        Timetable::Moments => {
-            plan_answer(alloc, texts, pair, names, log, at, PlanAnswer::Moments)
-        }
-        Timetable::Moves => answer_moves(alloc, texts, pair, names, log, at),
+        Timetable::Moments => answered(alloc, chosen, texts, PlanAnswer::Moments),
+        Timetable::Moves => answer_moves(alloc, chosen, texts),
         Timetable::Picture => {
-            let drawn = timetable_drawn(alloc, texts, pair, names, log, at);
+            let drawn = timetable_drawn(alloc, chosen, texts);
             drawn_answer(alloc, drawn, streams)
         }
     }
 }
 
 /// The moves of a plan, or those ahead in the run in a log.
-fn answer_moves<T: Texts>(
-    alloc: Global,
-    texts: &mut T,
-    pair: &Pair<'_>,
-    names: Option<&str>,
-    log: Option<&str>,
-    at: Option<Moment>,
-) -> Answered
-    requires { IfSome at (λ present. present ≤ MAX_MOMENT) }
-    ensures { AnswersMoves T.gives at pair.now (option_copied names.entry)
-        (option_copied log.entry) texts.old result texts.new }
+fn answer_moves<T: Texts>(alloc: Global, chosen: &Chosen, texts: &mut T) -> Answered
+    requires files { 1 < length chosen.now.files.items }
+    requires at { IfSome chosen.now.at (λ present. present ≤ MAX_MOMENT) }
+    ensures { AnswersMoves T.gives chosen.now.at (pair_in chosen.now) (names_in chosen.now) (log_in chosen.now)
+        texts.old result texts.new }
 {
-    match log {
-        Some(log) => rest_moves_answer(alloc, texts, pair, names, log, at),
-        None => moves_answer(alloc, texts, pair, names),
+    match rest_log(chosen) {
+        Some(log) => rest_moves_answer(alloc, texts, &ahead(chosen, log)),
+        None => moves_answer(alloc, texts, &files(chosen)),
     }
 }
 
 /// The picture of a plan's exact run, or of the run in a log and its rest.
-fn timetable_drawn<T: Texts>(
-    alloc: Global,
-    texts: &mut T,
-    pair: &Pair<'_>,
-    names: Option<&str>,
-    log: Option<&str>,
-    at: Option<Moment>,
-) -> Outcome<Drawn>
-    requires { IfSome at (λ present. present ≤ MAX_MOMENT) }
-    ensures { DrawsTimetable T.gives at pair.now (option_copied names.entry)
-        (option_copied log.entry) texts.old result texts.new }
+fn timetable_drawn<T: Texts>(alloc: Global, chosen: &Chosen, texts: &mut T) -> Outcome<Drawn>
+    requires files { 1 < length chosen.now.files.items }
+    requires at { IfSome chosen.now.at (λ present. present ≤ MAX_MOMENT) }
+    ensures { DrawsTimetable T.gives chosen.now.at (pair_in chosen.now) (names_in chosen.now) (log_in chosen.now)
+        texts.old result texts.new }
 {
-    match log {
-        Some(log) => rest_picture(alloc, texts, pair, names, log, at),
-        None => schedule_picture(alloc, texts, pair, names),
+    match rest_log(chosen) {
+        Some(log) => rest_picture(alloc, texts, &ahead(chosen, log)),
+        None => schedule_picture(alloc, texts, &files(chosen)),
     }
 }
 
@@ -98,20 +83,19 @@ fn timetable_drawn<T: Texts>(
 pub(crate) fn drawing_answer<T: Texts, R: Source, W: BufferedSink>(
     alloc: Global,
     texts: &mut T,
-    pair: &Pair<'_>,
-    names: Option<&str>,
+    files: &Files<'_>,
     log: &str,
     svg: bool,
     streams: &mut Streams<R, W>,
 ) -> Answered
-    ensures { RunsDrawing T.gives svg pair.now
-        (option_copied names.entry) log.now texts.old streams.old result texts.new streams.new }
+    ensures { RunsDrawing T.gives svg files.now.pair
+        (option_copied files.now.names) log.now texts.old streams.old result texts.new streams.new }
 {
     if svg {
-        let drawn = log_picture(alloc, texts, pair, names, log);
+        let drawn = log_picture(alloc, texts, files, log);
         drawn_answer(alloc, drawn, streams)
     } else {
-        log_answer(alloc, texts, pair, names, log, LogAnswer::Drawing)
+        log_answer(alloc, texts, files, log, LogAnswer::Drawing)
     }
 }
 

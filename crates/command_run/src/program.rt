@@ -12,6 +12,7 @@ use crate::command::{command, kept_log, pair, protocol};
 use crate::devices::{Devices, Screen, Streams};
 use crate::ending::{end, end_aside, print_line};
 use crate::logs::{LoggedRun, logged_answer};
+use crate::readiness::LogAsked;
 use crate::unchosen::Unchosen;
 use cell_drive::{BufferedSink, Source};
 use command_answers::{Answered, CommandFault, Texts};
@@ -79,8 +80,22 @@ fn follow<
     match kept_log(chosen) {
         Some(path) => drive_logged(alloc, chosen, path, devices, before),
         None => {
-            let mut devices = devices;
-            let status = unlogged(alloc, chosen, &mut devices);
+            let Devices {
+                mut texts,
+                mut streams,
+                mut errors,
+                mut screen,
+                logs,
+            } = devices;
+            let outcome = command(alloc, chosen, &mut texts, &mut streams, &mut screen);
+            let status = end_chosen(alloc, chosen, outcome, &mut streams, &mut errors);
+            let devices = Devices {
+                texts,
+                streams,
+                errors,
+                screen,
+                logs,
+            };
             (status, devices, None)
         }
     }
@@ -109,24 +124,19 @@ fn drive_logged<T: Texts, R: Source, W: BufferedSink + Drop, E: Sink, S, L: Logs
         screen,
         mut logs,
     } = devices;
-    let (pair, protocol, at) = (pair(chosen), protocol(chosen), chosen.at);
+    let (pair, protocol) = (pair(chosen), protocol(chosen));
+    let asked = LogAsked {
+        path,
+        start: chosen.start,
+        protocol,
+        at: chosen.at,
+    };
     let LoggedRun {
         outcome,
         mut streams,
         driven,
         log,
-    } = logged_answer(
-        alloc,
-        &mut texts,
-        &pair,
-        chosen.start,
-        protocol,
-        at,
-        path,
-        streams,
-        &mut logs,
-        before,
-    );
+    } = logged_answer(alloc, &mut texts, &pair, asked, streams, &mut logs, before);
     let again = starts_again(&outcome, driven);
     let own = end(alloc, outcome, &mut streams, &mut errors);
     let status = status_with_log(own, again);
@@ -160,29 +170,8 @@ fn status_with_log(own: u8, again: bool) -> u8
     if own == 5 && again { 6 } else { own }
 }
 
-/// Runs the command that was chosen, which keeps no log, and ends.
-fn unlogged<T: Texts, R: Source, W: BufferedSink, E: Sink, S: Screen, L: Logs>(
-    alloc: Global,
-    chosen: &Chosen,
-    devices: &mut Devices<T, R, W, E, S, L>,
-) -> u8
-    requires within { IsWithin chosen.now }
-    requires unlogged { kept_log_in chosen.now ≡ None }
-    requires shown { devices.old.streams.output.pending ≡ [] }
-    ensures { Commands T.gives chosen.now devices.old result devices.new None }
-{
-    let Devices {
-        texts,
-        streams,
-        errors,
-        screen,
-        logs: _,
-    } = devices;
-    let outcome = command(alloc, chosen, texts, streams, screen);
-    end_chosen(alloc, chosen, outcome, streams, errors)
-}
-
-/// Prints the answer of the command that was chosen, or what stands in place of a picture.
+/// Prints the answer of the command that was chosen, or says it on the standard error where it stands in place of a
+/// picture.
 fn end_chosen<R: Source, W: BufferedSink, E: Sink>(
     alloc: Global,
     chosen: &Chosen,

@@ -104,7 +104,7 @@ fn rest_answer(alloc: Global, end: Result<RestEnd, DriveFault>) -> Answered
     }
 }
 
-/// A want of memory for taking a run up.
+/// A want of memory for recovering a run.
 #[derive(Drop)]
 struct Wanting {
     fault: ResumeFault,

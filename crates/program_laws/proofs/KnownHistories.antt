@@ -45,10 +45,10 @@ asked_pair words pair log chosen ask is =
 -- ---- a new log
 
 new_known : (folder : Folder) (logs : List NamedLog) (printed : Option (List ℕ)) (start line : List ℕ) (p : PlannedShop) (protocol : Protocol) (at : Option ℕ) (bytes : Option (List ℕ))
-    → folder.logs ≡ Some logs → printed ≡ Some start → line ≡ plan_line (digits_in p) → IfSome bytes (λ l. l ≡ []) → IsHistoryOf folder p protocol at bytes recovered (line, start)
-new_known folder logs recovered start line p protocol at None there output is none = record { logs = logs; there = there; log = is; output = output }
-new_known folder logs recovered start line p protocol at (Some []) there output is none = record { logs = logs; there = there; log = is; output = output }
-new_known folder logs recovered start line p protocol at (Some (byte ∷ bytes)) there output is none = absurd (cc none)
+    → folder.logs ≡ Some logs → printed ≡ Some start → line ≡ plan_line (digits_in p) → IfSome bytes (λ l. l ≡ []) → IsHistoryOf folder p protocol at bytes printed (line, start)
+new_known folder logs printed start line p protocol at None there output is none = record { logs = logs; there = there; log = is; output = output }
+new_known folder logs printed start line p protocol at (Some []) there output is none = record { logs = logs; there = there; log = is; output = output }
+new_known folder logs printed start line p protocol at (Some (byte ∷ bytes)) there output is none = absurd (cc none)
 
 pub new_log_has_history : {W : Type 0} (gives : W → List ℕ → Result (List ℕ) CommandFault → W → Type 0) → NewLogHasHistory gives
 new_log_has_history gives words before logs start digits there output none are chosen choice path kept p mid shapes = record {
@@ -60,7 +60,7 @@ new_log_has_history gives words before logs start digits there output none are c
 
 -- ---- a log with bytes
 
--- what is written again of a log that was recovered is one text
+-- what is replayed of a log that was recovered is one text
 same_replay : (protocol : Protocol) (p : PlannedShop) (lines : List (List ℕ)) (at : Option ℕ) (recovered other : Recovered) → IsRecovered p lines at recovered → IsRecovered p lines at other → replay_text protocol other ≡ replay_text protocol recovered
 same_replay protocol p lines at recovered other up also =
     let one = one_recovery p lines at recovered other up also in

@@ -150,7 +150,7 @@ after_has protocol t mid (Err OutOfMemory) step parses is = absurd parses.is
 
 recovered_has : (p : PlannedShop) (protocol : Protocol) (at : Option ℕ) (text : List ℕ) (recovered : Result Recovered RecoverFault) (step : Step) → RecoversLog p at text recovered → ContinuesRecovered p protocol text recovered step
     → IsChanged step.log → HasMemory step.outcome
-recovered_has p protocol at text (Ok t) step takes on changed = after_has protocol t on.mid on.replay step on.parses on.goes_on
+recovered_has p protocol at text (Ok t) step takes on changed = after_has protocol t on.mid on.replay step on.replays on.goes_on
 recovered_has p protocol at text (Err (Resume fault)) step takes is changed = never_changed step.log (Some (NotRecovered p text (Resume fault))) step.outcome is.1.is (λ bad. bad) changed
 recovered_has p protocol at text (Err (NoTornEnd lines)) step takes is changed = never_changed step.log (Some (NotRecovered p text (NoTornEnd lines))) step.outcome is.1.is (λ bad. bad) changed
 recovered_has p protocol at text (Err (File fault)) step takes is changed =

@@ -41,7 +41,7 @@ pub record AskForLog (words : List (List ℕ)) (pair : PairOfFiles) (log : List 
   pub name : pair.name ≡ instance_in (rows_found (found_in words))
   pub plan : pair.plan ≡ get_or (files_in (rows_found (found_in words))) 1 []
 
--- of a log with bytes, from which the run is recovered by the plan that the files give, its whole lines are known, with the line of the plan behind them unless it is their last one; and behind what the output has taken the events that are written again
+-- of a log with bytes, from which the run is recovered by the plan that the files give, its whole lines are known, with the line of the plan behind them unless it is their last one; and behind what the output has written the events that are replayed
 abbrev pub OldLogHasHistory : Type 0
 OldLogHasHistory = (content : List ℕ → Result (List ℕ) CommandFault) (words : List (List ℕ)) (pair : PairOfFiles) (log : List ℕ) (byte : ℕ) (bytes base : List ℕ) (p : PlannedShop) (recovered : Recovered)
     (before : Devices (List (List ℕ))) (logs : List NamedLog) (start : List ℕ)

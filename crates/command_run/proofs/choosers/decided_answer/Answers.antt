@@ -1,7 +1,11 @@
+use Rattle.command_run.specs.Choosers.{Decides}
+use Rattle.command_run.proofs.Choosing.{ahead_asked, plan_asked}
 use Rattle.command_run.proofs.choosers.decided_answer.Goals as goal
 
 pub returns-in-Some : goal.returns-in-Some
-returns-in-Some g c = rw c.in-Some.is c.rest_decision_answer.ensures
+returns-in-Some g c = ahead_asked (λ at pair names log. Decides g.T.Texts.gives c.args.aim at pair names log c.args.texts.now c.rest_decision_answer.result c.rest_decision_answer.new.texts)
+    _ _ _ _ _ _ _ _ _ c.ahead.ensures.at c.ahead.ensures.pair c.ahead.ensures.names c.ahead.ensures.log c.in-Some.ensures c.rest_decision_answer.ensures
 
 pub returns-in-None : goal.returns-in-None
-returns-in-None g c = rw c.in-None.is c.decision_answer.ensures
+returns-in-None g c = plan_asked (λ pair names log. Decides g.T.Texts.gives c.args.aim c.args.chosen.now.at pair names log c.args.texts.now c.decision_answer.result c.decision_answer.new.texts)
+    _ _ _ _ _ c.files.ensures.pair c.files.ensures.names c.in-None.ensures c.decision_answer.ensures

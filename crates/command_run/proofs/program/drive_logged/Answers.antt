@@ -9,8 +9,8 @@ use Rattle.command_run.proofs.LoggedEndings.{silent_logged}
 use Rattle.command_run.proofs.LogsAtEnd.{held_at_end}
 use Rattle.command_run.proofs.program.drive_logged.Goals as goal
 
-pub logged_answer-outcome-requires-clause-known : goal.logged_answer-outcome-requires-clause-known
-logged_answer-outcome-requires-clause-known g c =
+pub logged_answer-outcome-requires-clause-history : goal.logged_answer-outcome-requires-clause-history
+logged_answer-outcome-requires-clause-history g c =
     let chosen = c.args.chosen.now in
     rw (c.pair-pair.ensures, c.protocol-protocol.ensures)
     (subst (λ (d : Devices g.row.T.Denot). IfSome g.B.InitialState.before (IsHistoryOfLog g.T.Texts.gives d.folder (pair_in chosen) c.args.path.now (manner_in chosen) chosen.at d.texts d.streams.output.written)) (sym c.devices.view_is)
