@@ -1,13 +1,10 @@
 -- From where the rest of a run is looked at, and what is left of it.
 use Rattle.std.proofs.Common.{◌≡◌, ℕ, ◌≤◌, ◌↔◌, nat_lt, lt-ltb, arith, false, Option, Result, Ok, Err, IfErr, OnOk, List, [], ◌∷◌, length, refl, sym, subst, ◌+◌, ◌++◌, map, ap, ◌∙◌}
 use Rattle.std.proofs.lemmas.List.FromFn.{map-range_with_len_more}
-use Rattle.plan_improve.specs.declared.begun.Begun.{Begun}
-use Rattle.plan_seek.specs.declared.search.TheConstants.{MAX_ROUNDS}
-use Rattle.plan_improve.specs.Faults.{IsImproveRestFault}
-use Rattle.plan_improve.specs.declared.not_improved.NotImproved.{NotImproved}
+use Rattle.plan_improve.specs.{declared.begun.Begun.Begun, Faults.IsImproveRestFault, declared.not_improved.NotImproved.NotImproved}
 use Rattle.plan_improve.specs.declared.improve_fault.ImproveFault.TheVariants.{Memory as OutOfMemory}
-use Rattle.plan_improve.proofs.Common.{AreSound, Cell, Entry, IsBegun, IsCellOf, IsNextMoment, IsRestOf, IsReplayed}
-use Rattle.plan_improve.proofs.Common.{LinesParse, PlannedShop, cell_of, one_reading, present_of, range_with_len}
+use Rattle.plan_seek.specs.declared.search.TheConstants.{MAX_ROUNDS}
+use Rattle.plan_improve.proofs.Common.{AreSound, Cell, Entry, IsBegun, IsCellOf, IsNextMoment, IsRestOf, IsReplayed, LinesParse, PlannedShop, cell_of, one_reading, present_of, range_with_len}
 use Rattle.plan_improve.proofs.OneCell.{cell_once}
 
 -- whether lines record an event, by what they record

@@ -1,15 +1,8 @@
 -- A plan with other orders keeps a run exactly where each of its orders begins with the entries of the cell at the end of that run.
 use Rattle.std.proofs.Common.{◌≡◌, ◌⊎◌, ℕ, List, [], ◌∷◌, ◌++◌, append_assoc, inl, inr, refl, sym, ap, ◌∙◌, subst}
-use Rattle.shop_base.specs.declared.move_order.MoveOrder.{MoveOrder}
-use Rattle.shop_base.specs.Activity.{Activity, Arrival, Operation, Cleaning, GoesOn}
-use Rattle.shop_base.proofs.Visits.{visits_or_not}
-use Rattle.shop_base.proofs.Changes.{after_move-moved}
-use Rattle.plan_improve.proofs.Common.{ALogIsKeptByTheEntries, AreEvents, BeginsWithEntries, CanEnter, CanHappen}
-use Rattle.plan_improve.proofs.Common.{CanLeave, CanMove, CanObey, Cell, Event, IsCellOf, IsOn, IsPrefix, IsRun}
-use Rattle.plan_improve.proofs.Common.{IsSound, IsWellShaped, Moved, PlannedShop, Reported, Spot, ParseAsRun, Visits}
-use Rattle.plan_improve.proofs.Common.{after, after-sound, after_all, after_report-like, append-nil, ended, ends_in}
-use Rattle.plan_improve.proofs.Common.{entries, events_of, made, order, reordered, run-sound, start}
-use Rattle.plan_improve.proofs.Common.{start-sound, target}
+use Rattle.shop_base.specs.{declared.move_order.MoveOrder.MoveOrder, Activity.{Activity, Arrival, Operation, Cleaning, GoesOn}}
+use Rattle.shop_base.proofs.{Visits.visits_or_not, Changes.after_move-moved}
+use Rattle.plan_improve.proofs.Common.{ALogIsKeptByTheEntries, AreEvents, BeginsWithEntries, CanEnter, CanHappen, CanLeave, CanMove, CanObey, Cell, Event, IsCellOf, IsOn, IsPrefix, IsRun, IsSound, IsWellShaped, Moved, PlannedShop, Reported, Spot, ParseAsRun, Visits, after, after-sound, after_all, after_report-like, append-nil, ended, ends_in, entries, events_of, made, order, reordered, run-sound, start, start-sound, target}
 use Rattle.plan_improve.proofs.OneCell.{source_same, after_same, ends_same, parse_same, one_cell, parses_run}
 
 -- what begins a list begins what that begins

@@ -1,14 +1,8 @@
 -- What is known of the best plan so far, and how an answer keeps it.
 use Rattle.std.proofs.Common.{◌≡◌, ℕ, ◌+◌, ◌<◌, List, [], ◌∷◌, ◌++◌, append_assoc, Option, Result, Ok, Err, IfOk, length, get_or, None, Some, inr, refl, sym, ap, ◌∙◌, subst}
 use Rattle.std.proofs.lemmas.Option.{slice_get_read}
-use Rattle.plan_improve.proofs.Common.{AfterRound, AfterRounds, AfterSome, Asked, Becomes, Best, Cost, EndsAfter, Fixed}
-use Rattle.plan_improve.proofs.Common.{IsAtBound, IsAtMost, IsBetter, IsFixed, IsLast, IsLastReported, IsLess, IsNext}
-use Rattle.plan_improve.proofs.Common.{IsNextOf, IsReordered, ReportsMore, IsWellShaped, Meets, PlannedCell, PlannedShop}
-use Rattle.plan_improve.proofs.Common.{Proposal, Rest, ReportedRounds, Setting, Stands, Progress, append-nil, better, bound_in}
-use Rattle.plan_improve.proofs.Common.{no_answer, no_better, no_round, nobody, one_more, reordered, rest_in, round_more}
-use Rattle.plan_improve.proofs.Common.{setting_of, reported_bound}
-use Rattle.plan_improve.proofs.Comparing.{most_of_most, not_both, most_same, most_less}
-use Rattle.plan_improve.proofs.Once.{OneCost, reordered_on}
+use Rattle.plan_improve.proofs.Common.{AfterRound, AfterRounds, AfterSome, Asked, Becomes, Best, Cost, EndsAfter, Fixed, IsAtBound, IsAtMost, IsBetter, IsFixed, IsLast, IsLess, IsNext, IsNextOf, IsReordered, ReportsMore, IsWellShaped, Meets, PlannedCell, PlannedShop, Proposal, Rest, ReportedRounds, Setting, Stands, Progress, Watched, append-nil, better, bound_in, no_answer, no_better, no_round, nobody, one_more, reordered, rest_in, round_more, setting_of, reported_bound}
+use Rattle.plan_improve.proofs.{Comparing.{most_of_most, not_both, most_same, most_less}, Once.{OneCost, reordered_on}}
 
 -- nothing was reported, and then more
 pub reports_nothing : (before : Option (List Progress)) → ReportsMore before [] before
@@ -116,46 +110,42 @@ module _ (fixed : Fixed) where
 
     -- one more round, before which the best plan doesn't meet its bound
     pub one_more_round : (before between after : Option (List Progress)) (n : ℕ) (p : PlannedShop) (first : Cost) (best kept : Best) → IsFixed fixed p → (Meets best.cost (bound_in fixed) → ⊥)
-        → IsLastReported here before between (λ reported x. AfterRounds here may improvers x n reported) p first best
+        → IsLast here (Watched before between (λ reported x. AfterRounds here may improvers x n reported)) p first best
         → ReportsMore between (record { round = n; cost = best.cost; at_least = reported_bound (bound_in fixed) } ∷ []) after
         → IsLast here (AfterRound here may improvers n) best.cell.plan best.cost kept
-        → IsLastReported here before after (λ reported x. AfterRounds here may improvers x (n + 1) reported) p first kept
-    one_more_round before between after n p first best kept is unmet known more next = record {
-      reported = known.reported ++ record { round = n; cost = best.cost; at_least = reported_bound (bound_in fixed) } ∷ [];
-      more = reports_on before between after known.reported (record { round = n; cost = best.cost; at_least = reported_bound (bound_in fixed) } ∷ []) known.more more;
-      last = record {
-        run = round_more n known.reported best.cell.plan kept.cell.plan best.cost (bound_in fixed) known.last.run known.last.is (is.bound best.cell.plan known.last.same) unmet next.run;
-        same = reordered_on p best.cell.plan kept.cell.plan known.last.same next.same;
-        stands = next.stands;
-        is = next.is;
-        most = most_of_most kept.cost best.cost first next.most known.last.most;
-      };
-    }
+        → IsLast here (Watched before after (λ reported x. AfterRounds here may improvers x (n + 1) reported)) p first kept
+    one_more_round before between after n p first best kept is unmet known more next =
+        let (reported, so_far, run) = known.run in
+        let now : List Progress = record { round = n; cost = best.cost; at_least = reported_bound (bound_in fixed) } ∷ [] in
+        record {
+          run = (
+            reported ++ now,
+            reports_on before between after reported now so_far more,
+            round_more n reported best.cell.plan kept.cell.plan best.cost (bound_in fixed) run known.is (is.bound best.cell.plan known.same) unmet next.run,
+          );
+          same = reordered_on p best.cell.plan kept.cell.plan known.same next.same;
+          stands = next.stands;
+          is = next.is;
+          most = most_of_most kept.cost best.cost first next.most known.most;
+        }
 
     -- no round more
     pub rounds_end : (before after : Option (List Progress)) (n rounds : ℕ) (p : PlannedShop) (first : Cost) (best : Best)
-        → IsLastReported here before after (λ reported x. AfterRounds here may improvers x n reported) p first best
-        → EndsAfter here rounds n best.cell.plan → IsLastReported here before after (ReportedRounds here may improvers rounds) p first best
-    rounds_end before after n rounds p first best known ends = record {
-      reported = known.reported;
-      more = known.more;
-      last = record { run = record { asked = n; after = known.last.run; ends = ends }; same = known.last.same; stands = known.last.stands; is = known.last.is; most = known.last.most };
-    }
+        → IsLast here (Watched before after (λ reported x. AfterRounds here may improvers x n reported)) p first best
+        → EndsAfter here rounds n best.cell.plan → IsLast here (Watched before after (ReportedRounds here may improvers rounds)) p first best
+    rounds_end before after n rounds p first best known ends =
+        let (reported, so_far, run) = known.run in
+        record { run = (reported, so_far, record { asked = n; after = run; ends = ends }); same = known.same; stands = known.stands; is = known.is; most = known.most }
 
     pub bound_met : (before after : Option (List Progress)) (n rounds : ℕ) (p : PlannedShop) (first : Cost) (best : Best)
-        → IsLastReported here before after (λ reported x. AfterRounds here may improvers x n reported) p first best
-        → n < rounds → IsFixed fixed p → Meets best.cost (bound_in fixed) → IsLastReported here before after (ReportedRounds here may improvers rounds) p first best
+        → IsLast here (Watched before after (λ reported x. AfterRounds here may improvers x n reported)) p first best
+        → n < rounds → IsFixed fixed p → Meets best.cost (bound_in fixed) → IsLast here (Watched before after (ReportedRounds here may improvers rounds)) p first best
     bound_met before after n rounds p first best known few is meets =
-        rounds_end before after n rounds p first best known
-        (inr (few, at_bound (λ x. AfterRounds here may improvers x n known.reported) p first best known.last is meets))
+        rounds_end before after n rounds p first best known (inr (few, at_bound (Watched before after (λ reported x. AfterRounds here may improvers x n reported)) p first best known is meets))
 
     pub nobody_asked : (round : ℕ) (best : Best) → Stands here best.cell → here.costs best.cell.plan best.cost → IsLast here (λ x. AfterSome here may improvers round x 0) best.cell.plan best.cost best
     nobody_asked round best stands is = record { run = nobody; same = refl; stands = stands; is = is; most = most_same best.cost }
 
     pub no_rounds : (before : Option (List Progress)) (best : Best) → Stands here best.cell → here.costs best.cell.plan best.cost
-        → IsLastReported here before before (λ reported x. AfterRounds here may improvers x 0 reported) best.cell.plan best.cost best
-    no_rounds before best stands is = record {
-      reported = [];
-      more = reports_nothing before;
-      last = record { run = no_round; same = refl; stands = stands; is = is; most = most_same best.cost };
-    }
+        → IsLast here (Watched before before (λ reported x. AfterRounds here may improvers x 0 reported)) best.cell.plan best.cost best
+    no_rounds before best stands is = record { run = ([], reports_nothing before, no_round); same = refl; stands = stands; is = is; most = most_same best.cost }

@@ -1,15 +1,8 @@
 -- The laws of plans, and of plans for the rest of a run, that are no worse than others.
 use Rattle.std.proofs.Common.{◌≡◌, ℕ, ◌-◌, ◌<◌, ◌≤◌, Option, None, Some, inl, inr, arith, refl, ◌∙◌, le-ltb, lt-ltb, subst}
 use Rattle.plan_bounds.proofs.Bounded.{no_plan_is_sooner-holds}
-use Rattle.plan_improve.proofs.Common.{ASecondSearchIsNoWorse, AcceptedPlansStayAccepted, AcceptedRestsStayAccepted}
-use Rattle.plan_improve.proofs.Common.{Cell, Cost, IsAcceptable, IsAcceptableAhead, IsAtMost, IsBound, IsBoundThere}
-use Rattle.plan_improve.proofs.Common.{IsCost, IsCostFrom, IsGone, IsLess, IsMakespan, IsReordered, IsWellShaped, Meets}
-use Rattle.plan_improve.proofs.Common.{NoWorseIsPassedOn, NobodyBettersIt, PlannedShop, TheirMakespansNeverGrow, budget}
-use Rattle.plan_improve.proofs.Common.{cases_lt, jobs, late_by, made, makespan_le, steps, sum_below, sum_below-le}
-use Rattle.plan_improve.proofs.Common.{sum_below_zero}
-use Rattle.plan_improve.proofs.Comparing.{most_of_most, zero_most}
-use Rattle.plan_improve.proofs.OneCell.{cell_once}
-use Rattle.plan_improve.proofs.Once.{same_cost, same_bound}
+use Rattle.plan_improve.proofs.Common.{ASecondSearchIsNoWorse, AcceptedPlansStayAccepted, AcceptedRestsStayAccepted, Cell, Cost, IsAcceptable, IsAcceptableAhead, IsAtMost, IsBound, IsBoundThere, IsCost, IsCostFrom, IsGone, IsLess, IsMakespan, IsReordered, IsWellShaped, Meets, NoWorseIsPassedOn, NobodyBettersIt, PlannedShop, TheirMakespansNeverGrow, budget, cases_lt, jobs, late_by, made, makespan_le, steps, sum_below, sum_below-le, sum_below_zero}
+use Rattle.plan_improve.proofs.{Comparing.{most_of_most, zero_most}, OneCell.cell_once, Once.{same_cost, same_bound}}
 
 -- a plan to be accepted is never late
 plan_never_late : (p : PlannedShop) (c : Cost) → IsAcceptable p → IsCost p c → c.late ≡ 0

@@ -1,14 +1,8 @@
 -- Each plan has one cost; and what is fixed is so for all plans that differ in their orders alone.
 use Rattle.std.proofs.Common.{◌≡◌, ℕ, ◌-◌, ◌≤◌, List, Some, arith, refl, sym, ap, ◌∙◌, subst}
-use Rattle.plan_bounds.specs.Bounds.{times_of}
-use Rattle.plan_bounds.specs.Makespan.{IsBy}
-use Rattle.plan_improve.proofs.Common.{Cell, Cost, Fixed, HasCycle, IsBound, IsCellOf, IsCost, IsFixed, IsLateness}
-use Rattle.plan_improve.proofs.Common.{IsReordered, IsRestOf, IsRestThere, MAX_MOMENT, Nothing, PlannedShop, Rest, Run}
-use Rattle.plan_improve.proofs.Common.{Setting, budget, ended_lines, greatest_once, jobs, leaving, makespan_le}
-use Rattle.plan_improve.proofs.Common.{reordered, setting_of, sum_below, sum_below_same}
-use Rattle.plan_improve.proofs.Comparing.{cost_same}
-use Rattle.plan_improve.proofs.OneCell.{one_cell}
-use Rattle.plan_improve.proofs.RestCosts.{same_rest_cost}
+use Rattle.plan_bounds.specs.{Bounds.times_of, Makespan.IsBy}
+use Rattle.plan_improve.proofs.Common.{Cell, Cost, Fixed, HasCycle, IsBound, IsCellOf, IsCost, IsFixed, IsLateness, IsReordered, IsRestOf, IsRestThere, MAX_MOMENT, Nothing, PlannedShop, Rest, Run, Setting, budget, ended_lines, greatest_once, jobs, leaving, makespan_le, reordered, setting_of, sum_below, sum_below_same}
+use Rattle.plan_improve.proofs.{Comparing.cost_same, OneCell.one_cell, RestCosts.same_rest_cost}
 
 -- a plan has one cost
 abbrev pub OneCost : Setting → Type 0

@@ -1,13 +1,8 @@
 -- Lines that record runs of plans that differ in their orders alone record the same events, and lead to one cell.
 use Rattle.std.proofs.Common.{◌≡◌, ℕ, zero, suc, List, [], ◌∷◌, refl, sym, ap, ◌∙◌, subst}
-use Rattle.shop_base.specs.declared.move_order.Spot.TheVariants.{Out, At}
-use Rattle.shop_base.specs.declared.report.Report.TheVariants.{Arrive, Finish, Clean}
-use Rattle.cell_tables.specs.Moving.{IsSpotOf}
-use Rattle.cell_tables.specs.declared.entry.Entry.TheVariants.{Report as ReportEntry, Order as OrderEntry}
-use Rattle.plan_improve.proofs.Common.{Cell, EachOrderHasOneCell, Entry, Event, IsCellOf, IsEntryOf, LineParses}
-use Rattle.plan_improve.proofs.Common.{LinesParse, Moved, PlannedShop, Reported, Spot, ParseAsRun, after, after_all}
-use Rattle.plan_improve.proofs.Common.{after_leaving, ends_in, events_of, made, one_reading, reordered, source}
-use Rattle.plan_improve.proofs.Common.{spot_after, start, target, with_entry, with_moved}
+use Rattle.shop_base.specs.{declared.move_order.Spot.TheVariants.{Out, At}, declared.report.Report.TheVariants.{Arrive, Finish, Clean}}
+use Rattle.cell_tables.specs.{Moving.IsSpotOf, declared.entry.Entry.TheVariants.{Report as ReportEntry, Order as OrderEntry}}
+use Rattle.plan_improve.proofs.Common.{Cell, EachOrderHasOneCell, Entry, Event, IsCellOf, IsEntryOf, LineParses, LinesParse, Moved, PlannedShop, Reported, Spot, ParseAsRun, after, after_all, after_leaving, ends_in, events_of, made, one_reading, reordered, source, spot_after, start, target, with_entry, with_moved}
 
 module _ (p : PlannedShop) (order : List (List ℕ)) where
   abbrev other_plan : PlannedShop

@@ -3,13 +3,8 @@ use Rattle.std.proofs.Common.{◌≡◌, ℕ, suc, ◌+◌, ◌*◌, ◌-◌, �
 use Rattle.shop_base.specs.declared.node.Node.{Node}
 use Rattle.plan_verifier.specs.Held.{AreBegun}
 use Rattle.plan_verifier.proofs.Soon.{node_soon}
-use Rattle.plan_improve.proofs.Common.{AreLeavingsAhead, AreOrderedAhead, Cell, Cost, IsCostFrom, IsGreatestAhead}
-use Rattle.plan_improve.proofs.Common.{IsLastLeaving, IsRestCost, IsSound, LeaveSoon, MAX_MOMENT, NodeTimes}
-use Rattle.plan_improve.proofs.Common.{PlannedShop, acyclic, budget, cases_lt, jobs, late_by, leaves_in, leaving}
-use Rattle.plan_improve.proofs.Common.{leaving_ahead, leaving_node, leavings_ahead, made, rank_of, steps, sum_below}
-use Rattle.plan_improve.proofs.Common.{sum_below_same, the_last_leaving}
-use Rattle.plan_improve.proofs.Comparing.{cost_same}
-use Rattle.plan_improve.proofs.OneCell.{cell_once}
+use Rattle.plan_improve.proofs.Common.{AreLeavingsAhead, AreOrderedAhead, Cell, Cost, IsCostFrom, IsGreatestAhead, IsLastLeaving, IsRestCost, IsSound, LeaveSoon, MAX_MOMENT, NodeTimes, PlannedShop, acyclic, budget, cases_lt, jobs, late_by, leaves_in, leaving, leaving_ahead, leaving_node, leavings_ahead, made, rank_of, steps, sum_below, sum_below_same, the_last_leaving}
+use Rattle.plan_improve.proofs.{Comparing.cost_same, OneCell.cell_once}
 
 module _ (p : PlannedShop) (c : Cell) (t : ℕ) where
   greatest_once : (v : Node) (m n : ℕ) → IsGreatestAhead p c t v m → IsGreatestAhead p c t v n → m ≡ n

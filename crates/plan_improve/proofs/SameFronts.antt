@@ -1,16 +1,10 @@
 -- Cells by plans with other orders that begin with the entries so far.
 use Rattle.std.proofs.Common.{◌≡◌, ℕ, suc, ◌+◌, ◌<◌, ◌≤◌, List, [], ◌∷◌, ◌++◌, length, take, get_or, length-append, Some, inl, inr, arith, refl, sym, ap, ◌∙◌, subst}
 use Rattle.std.proofs.Math.Seq.{take-append_seam}
-use Rattle.cell_tables.specs.declared.tables.MachineRow.{MachineRow}
-use Rattle.cell_tables.specs.declared.tables.Tables.{Tables}
-use Rattle.cell_tables.specs.Tables.{cell_of}
+use Rattle.cell_tables.specs.{declared.tables.MachineRow.MachineRow, declared.tables.Tables.Tables, Tables.cell_of}
 use Rattle.cell_tables.proofs.Cells.{entries-read, entries-count}
-use Rattle.plan_improve.proofs.Common.{AreSound, Begin, BeginsWithEntries, Cell, IsPrefix, IsReached, IsSound}
-use Rattle.plan_improve.proofs.Common.{IsWellShaped, MAX_MOMENT, MachineState, PlannedCell, PlannedShop, cases_lt}
-use Rattle.plan_improve.proofs.Common.{cleaning, entered_at, entries, get_or_past, machines, no_row, order}
-use Rattle.plan_improve.proofs.Common.{reordered, run-sound, since, state_of, states_from}
-use Rattle.plan_improve.proofs.Fronts.{run_there}
-use Rattle.plan_improve.proofs.OneCell.{ends_same}
+use Rattle.plan_improve.proofs.Common.{AreSound, Begin, BeginsWithEntries, Cell, IsPrefix, IsReached, IsSound, IsWellShaped, MAX_MOMENT, MachineState, PlannedCell, PlannedShop, cases_lt, cleaning, entered_at, entries, get_or_past, machines, no_row, order, reordered, run-sound, since, state_of, states_from}
+use Rattle.plan_improve.proofs.{Fronts.run_there, OneCell.ends_same}
 
 -- a cell to which a run leads is sound
 pub reached_sound : (p : PlannedShop) (c : Cell) → IsWellShaped p → IsReached p c → IsSound p c

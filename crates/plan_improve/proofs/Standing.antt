@@ -1,11 +1,8 @@
 -- The cell to which what is fixed leads, by plans that differ in their orders alone.
 use Rattle.std.proofs.Common.{◌≡◌, ℕ, List, [], ◌++◌, refl, sym, ap, ◌∙◌, subst}
 use Rattle.shop_base.proofs.InShop.{start_unused}
-use Rattle.plan_improve.proofs.Common.{BeginsWithEntries, Cell, Cost, Fixed, IsReached, IsWellShaped, MachineState}
-use Rattle.plan_improve.proofs.Common.{Nothing, PlannedCell, PlannedShop, Run, Stands, ended_lines, entries, events_of}
-use Rattle.plan_improve.proofs.Common.{order, reordered, setting_of, start}
-use Rattle.plan_improve.proofs.Fronts.{log_there, entries_law}
-use Rattle.plan_improve.proofs.OneCell.{cell_once, parses_run}
+use Rattle.plan_improve.proofs.Common.{BeginsWithEntries, Cell, Cost, Fixed, IsReached, IsWellShaped, MachineState, Nothing, PlannedCell, PlannedShop, Run, Stands, ended_lines, entries, events_of, order, reordered, setting_of, start}
+use Rattle.plan_improve.proofs.{Fronts.{log_there, entries_law}, OneCell.{cell_once, parses_run}}
 
 -- nobody has entered a machine at the start
 start_begins : (p q : PlannedShop) (c : Cell) → c ≡ start p → BeginsWithEntries c q

@@ -1,10 +1,7 @@
 -- The rest of a run that hasn't begun costs what the whole plan does; and what a cell's plan costs where something is fixed.
 use Rattle.std.proofs.Common.{◌≡◌, ℕ, ◌-◌, if◌then◌else◌, le-ltb, Option, None, Some, Result, Ok, Err, IfOk, arith, sym, ap, ◌∙◌, subst}
 use Rattle.plan_verifier.proofs.AtStart.{leavings_to, leavings_from}
-use Rattle.plan_improve.proofs.Common.{Cell, Cost, Fixed, HasCycle, IsCost, IsCostFrom, IsWellShaped, MatchOption}
-use Rattle.plan_improve.proofs.Common.{Nothing, PlannedShop, Run, TheRestOfTheStartCostsThePlan, budget, jobs, late_by}
-use Rattle.plan_improve.proofs.Common.{made, makespan_is, makespan_last, present_in, setting_of, start, start-made}
-use Rattle.plan_improve.proofs.Common.{steps, sum_below, sum_below_same}
+use Rattle.plan_improve.proofs.Common.{Cell, Cost, Fixed, HasCycle, IsCost, IsCostFrom, IsWellShaped, MatchOption, Nothing, PlannedShop, Run, TheRestOfTheStartCostsThePlan, budget, jobs, late_by, made, makespan_is, makespan_last, present_in, setting_of, start, start-made, steps, sum_below, sum_below_same}
 
 late_whole : (p : PlannedShop) (leaves : ℕ → ℕ) → sum_below (late_by p (start p) leaves) (jobs p) ≡ sum_below (λ j. leaves j - budget p j) (jobs p)
 late_whole p leaves = sum_below_same _ _ (jobs p) (λ j inside.

@@ -1,9 +1,7 @@
 -- When nobody can better a plan: it meets the bound below which no plan with its numbers is.
 use Rattle.std.specs.Prelude.{◌≡◌, ℕ, Option, None, Some}
 use Rattle.shop_base.specs.Plan.{PlannedShop}
-use Rattle.plan_bounds.specs.declared.makespan.By.{By}
-use Rattle.plan_bounds.specs.Bounds.{times_of}
-use Rattle.plan_bounds.specs.Makespan.{IsBy}
+use Rattle.plan_bounds.specs.{declared.makespan.By.By, Bounds.times_of, Makespan.IsBy}
 use Rattle.plan_improve.specs.declared.cost.Cost.{Cost}
 
 -- the greatest of the bounds of the machines and the jobs, with the plan's releases and cleaning times, whatever its orders

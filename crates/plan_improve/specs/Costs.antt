@@ -1,9 +1,7 @@
 -- What a plan costs: its total lateness and its makespan, by the lengths of its paths; and which of two costs is less.
 use Rattle.std.specs.Prelude.{◌≡◌, ℕ, ◌-◌, ◌<◌, ◌≤◌, ◌⊎◌}
-use Rattle.shop_base.specs.Plan.{PlannedShop, jobs, budget}
-use Rattle.shop_base.specs.Ends.{sum_below}
-use Rattle.plan_verifier.specs.Accepted.{HasNoCycle, IsMakespan}
-use Rattle.plan_verifier.specs.Leavings.{AreLeavings}
+use Rattle.shop_base.specs.{Plan.PlannedShop, Plan.jobs, Plan.budget, Ends.sum_below}
+use Rattle.plan_verifier.specs.{Accepted.HasNoCycle, Accepted.IsMakespan, Leavings.AreLeavings}
 use Rattle.plan_improve.specs.declared.cost.Cost.{Cost}
 
 -- the total lateness (Pinedo, Scheduling: the sum of the T_j): over all jobs, what each leaves past its budget

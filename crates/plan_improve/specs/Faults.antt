@@ -1,10 +1,7 @@
 -- Why no plan is given.
 use Rattle.std.specs.Prelude.{◌≡◌, ℕ, ◌<◌, ◌≤◌, List, Option, Some}
-use Rattle.shop_base.specs.declared.limits.TheConstants.{MAX_MOMENT}
-use Rattle.shop_base.specs.Plan.{PlannedShop}
-use Rattle.shop_base.specs.Cell.{Cell}
-use Rattle.run_log.specs.declared.audit_fault.AuditFault.{AuditFault}
-use Rattle.run_log.specs.declared.audit_fault.AuditFault.TheVariants.{Memory as OutOfMemory}
+use Rattle.shop_base.specs.{declared.limits.TheConstants.MAX_MOMENT, Plan.PlannedShop, Cell.Cell}
+use Rattle.run_log.specs.{declared.audit_fault.AuditFault.AuditFault, declared.audit_fault.AuditFault.TheVariants.Memory as OutOfMemory}
 use Rattle.run_log.specs.Audits.{IsFirstBad}
 use Rattle.plan_seek.specs.declared.search.TheConstants.{MAX_ROUNDS}
 use Rattle.plan_improve.specs.declared.improve_fault.ImproveFault.{ImproveFault}

@@ -1,16 +1,12 @@
 -- Where a search for a better plan begins, and what it gives.
 use Rattle.std.specs.Prelude.{◌≡◌, ◌↔◌, ℕ, ◌⊎◌, List, [], Option, None, Some}
-use Rattle.shop_base.specs.Plan.{PlannedShop}
-use Rattle.shop_base.specs.Cell.{Cell}
+use Rattle.shop_base.specs.{Plan.PlannedShop, Cell.Cell}
 use Rattle.plan_verifier.specs.declared.verdict.Judged.{Judged}
 use Rattle.plan_verifier.specs.RestVerdicts.{IsAcceptedAhead, IsReasonAhead, IsAcceptableAhead, IsRestAccepted}
 use Rattle.event_lines.specs.LogLines.{LinesParse}
 use Rattle.alt_graph.specs.Solved.{HasCycle}
 use Rattle.plan_seek.specs.Orders.{serial_order}
-use Rattle.plan_improve.specs.Settings.{Setting, IsNoWorse}
-use Rattle.plan_improve.specs.Reordered.{reordered}
-use Rattle.plan_improve.specs.Watching.{Progress, ReportsMore}
-use Rattle.plan_improve.specs.Runs.{Asked}
+use Rattle.plan_improve.specs.{Settings.Setting, Settings.IsNoWorse, Reordered.reordered, Runs.Asked}
 
 module _ (s : Setting) where
   -- where the search begins: at the plan itself, or where that has a cycle and nothing has happened yet, at the serial plan
@@ -26,12 +22,6 @@ module _ (s : Setting) where
     pub begin : PlannedShop
     pub begins_at : IsBegin start begin
     pub run : made begin p
-
-  -- it is what rounds make of that plan, in which whoever watches gets these very things
-  pub record IsFoundReported (before after : Option (List Progress)) (made : List Progress → Asked) (start p : PlannedShop) : Type 0 where
-    pub reported : List Progress
-    pub more : ReportsMore before reported after
-    pub found : IsFound (made reported) start p
 
   -- the plan is no worse than the one with which the search begins
   abbrev pub IsNeverWorse : PlannedShop → PlannedShop → Type 0

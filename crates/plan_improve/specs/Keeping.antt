@@ -1,30 +1,19 @@
 -- The best plan so far with its cost, while answers are judged.
 use Rattle.std.specs.Prelude.{◌≡◌, ◌<◌, ◌≤◌, ◌⊎◌, ℕ, List, [], Option, None, Some, length, slice_index_or}
-use Rattle.shop_base.specs.declared.limits.TheConstants.{MAX_MOMENT}
-use Rattle.shop_base.specs.Plan.{PlannedShop, IsWellShaped}
-use Rattle.shop_base.specs.Cell.{Cell, entries}
-use Rattle.shop_base.specs.Move.{IsPrefix}
-use Rattle.shop_base.specs.Run.{Event, IsRun, ends_in}
-use Rattle.shop_base.specs.Vectors.{lists_of}
+use Rattle.shop_base.specs.{declared.limits.TheConstants.MAX_MOMENT, Plan.PlannedShop, Plan.IsWellShaped, Cell.Cell, Cell.entries}
+use Rattle.shop_base.specs.{Move.IsPrefix, Run.Event, Run.IsRun, Run.ends_in, Vectors.lists_of}
 use Rattle.text_lines.specs.Lines.{ended_lines}
 use Rattle.cell_tables.specs.PlannedCell.{PlannedCell}
 use Rattle.plan_annealing.specs.declared.rest.Rest.{Rest}
 use Rattle.plan_seek.specs.Orders.{Proposal}
-use Rattle.plan_improve.specs.declared.cost.Cost.{Cost}
-use Rattle.plan_improve.specs.declared.best.Best.{Best}
-use Rattle.plan_improve.specs.declared.beginning.First.{First}
+use Rattle.plan_improve.specs.{declared.cost.Cost.Cost, declared.best.Best.Best, declared.beginning.First.First}
 use Rattle.plan_improve.specs.declared.beginning.First.TheVariants.{Begins, Stays as StaysFirst}
 use Rattle.plan_improve.specs.declared.recasting.Recast.{Recast}
 use Rattle.plan_improve.specs.declared.recasting.Recast.TheVariants.{Fits, Stays}
-use Rattle.plan_improve.specs.declared.fixed.Fixed.{Fixed}
-use Rattle.plan_improve.specs.declared.fixed.Fixed.TheVariants.{Nothing, Run}
-use Rattle.plan_improve.specs.Costs.{IsLess, IsAtMost}
-use Rattle.plan_improve.specs.Settings.{Setting, whole_plan, rest_after}
-use Rattle.plan_improve.specs.Laws.{BeginsWithEntries}
-use Rattle.plan_improve.specs.Reordered.{reordered, IsReordered}
-use Rattle.plan_improve.specs.Watching.{Progress, ReportsMore}
-use Rattle.plan_improve.specs.Runs.{Asked, Becomes}
-use Rattle.plan_improve.specs.Improved.{IsBegin, HasNoBegin}
+use Rattle.plan_improve.specs.{declared.fixed.Fixed.Fixed, declared.fixed.Fixed.TheVariants.Nothing, declared.fixed.Fixed.TheVariants.Run}
+use Rattle.plan_improve.specs.{Costs.IsLess, Costs.IsAtMost, Settings.Setting, Settings.IsNoWorse, Settings.whole_plan, Settings.rest_after}
+use Rattle.plan_improve.specs.{Laws.BeginsWithEntries, Reordered.reordered, Reordered.IsReordered, Runs.Asked, Runs.Becomes}
+use Rattle.plan_improve.specs.Improved.{IsBegin, IsFound, HasNoBegin}
 
 -- what is fixed, by the definitions
 abbrev pub setting_of : Fixed → Setting
@@ -90,33 +79,19 @@ module _ (s : Setting) where
     pub is : s.costs kept.cell.plan kept.cost
     pub most : IsAtMost kept.cost c
 
-  -- the best plan that rounds make of one with its cost, and what is reported meanwhile
-  pub record IsLastReported (before after : Option (List Progress)) (made : List Progress → Asked) (p : PlannedShop) (c : Cost) (kept : Best) : Type 0 where
-    pub reported : List Progress
-    pub more : ReportsMore before reported after
-    pub last : IsLast (made reported) p c kept
-
-  -- the plan that questions make of the one with which the search begins, and what is reported meanwhile
-  pub record IsSearched (before after : Option (List Progress)) (made : List Progress → Asked) (start p : PlannedShop) : Type 0 where
-    pub begin : PlannedShop
-    pub begins_at : IsBegin s start begin
-    pub reported : List Progress
-    pub more : ReportsMore before reported after
-    pub run : made reported begin p
+  -- the plan that questions make of the one with which the search begins: no worse than that one
+  pub record IsSearched (made : Asked) (start p : PlannedShop) : Type 0 where
+    pub found : IsFound s made start p
     pub same : IsReordered start p
-    pub cost : Cost
-    pub first : Cost
-    pub is : s.costs p cost
-    pub than : s.costs begin first
-    pub most : IsAtMost cost first
+    pub no_worse : IsNoWorse s p found.begin
 
   -- it is that or, where there is no plan to begin with, the start
-  abbrev pub Comes : Option (List Progress) → Option (List Progress) → (List Progress → Asked) → PlannedShop → PlannedShop → Type 0
-  Comes before after made start p = (HasNoBegin s start × (p ≡ start)) ⊎ IsSearched before after made start p
+  abbrev pub Comes : Asked → PlannedShop → PlannedShop → Type 0
+  Comes made start p = (HasNoBegin s start × (p ≡ start)) ⊎ IsSearched made start p
 
   -- a cell by that plan
-  abbrev pub IsComeTo : Option (List Progress) → Option (List Progress) → (List Progress → Asked) → PlannedShop → PlannedCell PlannedShop → Type 0
-  IsComeTo before after made start x = Comes before after made start x.plan × Stands x
+  abbrev pub IsComeTo : Asked → PlannedShop → PlannedCell PlannedShop → Type 0
+  IsComeTo made start x = Comes made start x.plan × Stands x
 
 -- some run of the plan leads to the cell
 abbrev pub IsReached : PlannedShop → Cell → Type 0

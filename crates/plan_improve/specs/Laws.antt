@@ -1,17 +1,11 @@
 -- The laws of better plans: what is no worse stays accepted, a second search gives nothing worse than the first, nobody betters a plan that meets its bound, and a log has one cell.
 use Rattle.std.specs.Prelude.{◌≡◌, ◌↔◌, ℕ, ◌≤◌, List}
-use Rattle.shop_base.specs.Plan.{PlannedShop, order, IsWellShaped}
-use Rattle.shop_base.specs.Cell.{Cell, entries, start}
-use Rattle.shop_base.specs.Move.{IsPrefix}
+use Rattle.shop_base.specs.{Plan.PlannedShop, Plan.order, Plan.IsWellShaped, Cell.Cell, Cell.entries, Cell.start, Move.IsPrefix}
 use Rattle.run_log.specs.Audits.{ParseAsRun}
-use Rattle.plan_verifier.specs.Accepted.{HasNoCycle, IsAcceptable, IsMakespan}
-use Rattle.plan_verifier.specs.RestVerdicts.{IsAcceptableAhead}
-use Rattle.plan_improve.specs.declared.cost.Cost.{Cost}
-use Rattle.plan_improve.specs.Costs.{IsCost}
-use Rattle.plan_improve.specs.RestCosts.{IsCellOf, IsCostFrom}
+use Rattle.plan_verifier.specs.{Accepted.HasNoCycle, Accepted.IsAcceptable, Accepted.IsMakespan, RestVerdicts.IsAcceptableAhead}
+use Rattle.plan_improve.specs.{declared.cost.Cost.Cost, Costs.IsCost, RestCosts.IsCellOf, RestCosts.IsCostFrom}
 use Rattle.plan_improve.specs.Settings.{whole_plan, rest_after, IsBetter, IsNoWorse, IsAtBound}
-use Rattle.plan_improve.specs.Reordered.{IsReordered}
-use Rattle.plan_improve.specs.Improved.{IsNeverWorse}
+use Rattle.plan_improve.specs.{Reordered.IsReordered, Improved.IsNeverWorse}
 
 -- a plan that is no worse than one to be accepted is to be accepted itself
 abbrev pub AcceptedPlansStayAccepted : Type 0

@@ -1,8 +1,6 @@
 -- What the rest of a run costs by a plan: the total lateness of the jobs that aren't gone, and the makespan.
 use Rattle.std.specs.Prelude.{◌≡◌, ℕ, ◌-◌, nat_lt, if◌then◌else◌, List}
-use Rattle.shop_base.specs.Plan.{PlannedShop, jobs, steps, budget}
-use Rattle.shop_base.specs.Cell.{Cell, made}
-use Rattle.shop_base.specs.Ends.{sum_below}
+use Rattle.shop_base.specs.{Plan.PlannedShop, Plan.jobs, Plan.steps, Plan.budget, Cell.Cell, Cell.made, Ends.sum_below}
 use Rattle.alt_graph.specs.Solved.{HasCycle}
 use Rattle.cell_tables.specs.declared.entry.Entry.{Entry}
 use Rattle.event_lines.specs.LogLines.{LinesParse}

@@ -1,20 +1,11 @@
 -- The rest of a run, while a plan is improved for it.
 use Rattle.std.specs.Prelude.{◌≡◌, ℕ, ◌<◌, ◌≤◌, ◌↔◌, List, [], Option, false}
-use Rattle.shop_base.specs.declared.limits.TheConstants.{MAX_MOMENT}
-use Rattle.shop_base.specs.Plan.{PlannedShop, jobs}
-use Rattle.shop_base.specs.Cell.{Cell, IsGone}
+use Rattle.shop_base.specs.{declared.limits.TheConstants.MAX_MOMENT, Plan.PlannedShop, Plan.jobs, Cell.Cell, Cell.IsGone}
 use Rattle.shop_base.specs.Report.{IsNextMoment}
 use Rattle.cell_tables.specs.Tables.{cell_of, AreSound}
 use Rattle.event_lines.specs.LogLines.{LinesParse}
-use Rattle.plan_improve.specs.declared.improved.Improved.{Improved}
-use Rattle.plan_improve.specs.RestCosts.{IsCellOf}
-use Rattle.plan_improve.specs.declared.begun.Begun.{Begun}
-use Rattle.plan_improve.specs.RestOf.{IsRestOf}
-use Rattle.plan_improve.specs.Settings.{rest_after}
-use Rattle.plan_improve.specs.Watching.{Progress}
-use Rattle.plan_improve.specs.Runs.{Asked}
-use Rattle.plan_improve.specs.Improved.{IsVerdictOn, present_of}
-use Rattle.plan_improve.specs.Keeping.{Comes}
+use Rattle.plan_improve.specs.{declared.improved.Improved.Improved, RestCosts.IsCellOf, declared.begun.Begun.Begun, RestOf.IsRestOf}
+use Rattle.plan_improve.specs.{Settings.rest_after, Runs.Asked, Improved.IsVerdictOn, Improved.present_of, Keeping.Comes}
 
 -- this is the present moment after the last one
 abbrev pub IsPresent : Option ℕ → ℕ → ℕ → Type 0
@@ -37,8 +28,8 @@ pub record IsBegun (lines : List (List ℕ)) (p : PlannedShop) (begun : Begun) :
 
 module _ (lines : List (List ℕ)) (t : ℕ) where
   -- what is said of the plan that is found
-  pub record IsImprovedReported (before after : Option (List Progress)) (made : List Progress → Asked) (start : PlannedShop) (found : Improved) : Type 0 where
-    pub came : Comes (rest_after lines t) before after made start found.shaped
+  pub record IsImproved (made : Asked) (start : PlannedShop) (found : Improved) : Type 0 where
+    pub came : Comes (rest_after lines t) made start found.shaped
     pub cell : Cell
     pub run : IsCellOf lines found.shaped cell
     pub verdict : IsVerdictOn found.shaped cell t found.verdict

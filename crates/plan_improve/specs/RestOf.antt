@@ -1,11 +1,8 @@
 -- What a run has left of its plan, as an improver gets it.
-use Rattle.std.specs.Prelude.{◌≡◌, ℕ, nat_lt, if◌then◌else◌, map}
-use Rattle.std.specs.List.{range_with_len}
+use Rattle.std.specs.{Prelude.◌≡◌, Prelude.ℕ, Prelude.nat_lt, Prelude.if◌then◌else◌, Prelude.map, List.range_with_len}
 use Rattle.shop_base.specs.Plan.{PlannedShop, jobs, machines, steps}
-use Rattle.shop_base.specs.Cell.{Cell, job_in, made, since, cleaning}
-use Rattle.shop_base.specs.Movers.{due_of_job}
-use Rattle.plan_annealing.specs.declared.rest.JobRest.{JobRest}
-use Rattle.plan_annealing.specs.declared.rest.Rest.{Rest}
+use Rattle.shop_base.specs.{Cell.Cell, Cell.job_in, Cell.made, Cell.since, Cell.cleaning, Movers.due_of_job}
+use Rattle.plan_annealing.specs.{declared.rest.JobRest.JobRest, declared.rest.Rest.Rest}
 use Rattle.plan_verifier.specs.Held.{later_than}
 
 module _ (p : PlannedShop) (c : Cell) (t : ℕ) where

@@ -1,14 +1,10 @@
 -- What is fixed while a plan is improved: nothing of a whole plan, or a run so far; and which of two plans that keep it is better.
 use Rattle.std.specs.Prelude.{◌≡◌, ℕ, List, [], Option, None, Some}
-use Rattle.shop_base.specs.Plan.{PlannedShop, IsWellShaped}
-use Rattle.shop_base.specs.Cell.{Cell, start}
+use Rattle.shop_base.specs.{Plan.PlannedShop, Plan.IsWellShaped, Cell.Cell, Cell.start}
 use Rattle.event_lines.specs.LogLines.{LinesParse}
 use Rattle.plan_annealing.specs.declared.rest.Rest.{Rest}
-use Rattle.plan_improve.specs.declared.cost.Cost.{Cost}
-use Rattle.plan_improve.specs.Costs.{IsCost, IsLess, IsAtMost}
-use Rattle.plan_improve.specs.AtBound.{IsBound, Meets}
-use Rattle.plan_improve.specs.RestCosts.{IsCellOf, IsRestCost}
-use Rattle.plan_improve.specs.RestOf.{IsRestOf}
+use Rattle.plan_improve.specs.{declared.cost.Cost.Cost, Costs.IsCost, Costs.IsLess, Costs.IsAtMost, AtBound.IsBound, AtBound.Meets}
+use Rattle.plan_improve.specs.{RestCosts.IsCellOf, RestCosts.IsRestCost, RestOf.IsRestOf}
 
 -- what a run has left of a plan, as an improver gets it; nothing where no run has begun
 abbrev pub Left : Type 0

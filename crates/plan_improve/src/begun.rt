@@ -4,8 +4,7 @@ ghost use Rattle.std.specs.Prelude.{◌≡◌, ◌≤◌, IfOk, IfErr};
 ghost use Rattle.shop_base.specs.declared.limits.TheConstants.{MAX_MOMENT};
 ghost use Rattle.text_lines.specs.Lines.{ended_lines};
 ghost use Rattle.cell_tables.specs.Tables.{cell_of};
-ghost use Rattle.plan_improve.specs.Improved.{present_of};
-ghost use Rattle.plan_improve.specs.Faults.{IsMomentFault, IsBeginFault};
+ghost use Rattle.plan_improve.specs.{Improved.present_of, Faults.IsMomentFault, Faults.IsBeginFault};
 ghost use Rattle.plan_improve.specs.RestKeeping.{IsPresent, IsBegun};
 
 use crate::improve_fault::ImproveFault;

@@ -1,6 +1,5 @@
 ghost use Rattle.std.specs.Prelude.{MatchBool};
-ghost use Rattle.plan_improve.specs.Costs.{IsLess, IsAtMost};
-ghost use Rattle.plan_improve.specs.AtBound.{Meets};
+ghost use Rattle.plan_improve.specs.{Costs.IsLess, Costs.IsAtMost, AtBound.Meets};
 
 use shop_base::Moment;
 

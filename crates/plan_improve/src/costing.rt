@@ -1,14 +1,10 @@
 //! The costs of the rests of runs: that of a whole plan is the cost of the rest of a run that hasn't begun.
 
 ghost use Rattle.std.specs.Prelude.{◌≡◌, ◌<◌, ◌≤◌, IfOk, MatchOption};
-ghost use Rattle.shop_base.specs.declared.limits.TheConstants.{MAX_MOMENT};
-ghost use Rattle.shop_base.specs.Plan.{jobs};
-ghost use Rattle.shop_base.specs.Ends.{sum_below};
-ghost use Rattle.alt_graph.specs.Solved.{HasCycle};
-ghost use Rattle.alt_graph.specs.Times.{AreRanks};
+ghost use Rattle.shop_base.specs.{declared.limits.TheConstants.MAX_MOMENT, Plan.jobs, Ends.sum_below};
+ghost use Rattle.alt_graph.specs.{Solved.HasCycle, Times.AreRanks};
 ghost use Rattle.plan_verifier.specs.Leavings.{leaves_in, IsLastLeaving};
-ghost use Rattle.plan_improve.specs.RestCosts.{IsCostFrom, late_by};
-ghost use Rattle.plan_improve.specs.RestKeeping.{LeaveSoon};
+ghost use Rattle.plan_improve.specs.{RestCosts.IsCostFrom, RestCosts.late_by, RestKeeping.LeaveSoon};
 
 use crate::cost::Cost;
 use alt_graph::{Solved, Times};

@@ -2,14 +2,10 @@
 
 ghost use Rattle.std.specs.Prelude.{◌≡◌, ◌≤◌, ◌↔◌, OnOk, IfOk, IfErr};
 ghost use Rattle.plan_verifier.specs.Accepted.{HasNoCycle, IsAcceptable};
-ghost use Rattle.plan_verifier.specs.Verdicts.{SaysAccepted, OnRefused, IsReason};
-ghost use Rattle.plan_improve.specs.Reordered.{IsReordered};
-ghost use Rattle.plan_improve.specs.Settings.{whole_plan};
-ghost use Rattle.plan_improve.specs.Runs.{ReportedRounds, Rounds};
-ghost use Rattle.plan_verifier.specs.Seen.{judged};
-ghost use Rattle.plan_improve.specs.Faults.{IsImproveFault};
-ghost use Rattle.plan_improve.specs.Improved.{IsNeverWorse, IsFound, IsFoundReported};
-ghost use Rattle.plan_improve.specs.Keeping.{IsSearched};
+ghost use Rattle.plan_verifier.specs.{Verdicts.SaysAccepted, Verdicts.OnRefused, Verdicts.IsReason, Seen.judged};
+ghost use Rattle.plan_improve.specs.{Reordered.IsReordered, Settings.whole_plan};
+ghost use Rattle.plan_improve.specs.{Runs.ReportedRounds, Runs.Rounds, Runs.Watched, Faults.IsImproveFault};
+ghost use Rattle.plan_improve.specs.{Improved.IsNeverWorse, Improved.IsFound, Keeping.IsSearched};
 
 use crate::fixed::Fixed;
 use crate::improve_fault::ImproveFault;
@@ -47,8 +43,8 @@ pub fn improve<W: Watch>(
     ensures found { IfOk result (λ verdict.
         IsFound whole_plan (Rounds whole_plan (λ b. may b) improvers.now rounds) start (judged verdict)) }
     ensures reported { IfOk result (λ verdict.
-        IsFoundReported whole_plan (W.reported watch.old) (W.reported watch.new)
-        (ReportedRounds whole_plan (λ b. may b) improvers.now rounds) start (judged verdict)) }
+        IsFound whole_plan (Watched (W.reported watch.old) (W.reported watch.new)
+        (ReportedRounds whole_plan (λ b. may b) improvers.now rounds)) start (judged verdict)) }
     ensures stays_accepted { IfOk result (λ verdict. IsAcceptable start → SaysAccepted verdict) }
     ensures exact { IfOk result (λ verdict. SaysAccepted verdict ↔ IsAcceptable (judged verdict)) }
     ensures reason { IfOk result (OnRefused IsReason) }
@@ -79,8 +75,8 @@ fn improve_on<W: Watch>(
     rounds: u32,
     watch: &mut W,
 ) -> Result<Verdict, (AllocError, Shaped)>
-    ensures searched { IfOk result (λ verdict. IsSearched whole_plan (W.reported watch.old) (W.reported watch.new)
-        (ReportedRounds whole_plan (λ b. may b) improvers.now rounds) start (judged verdict)) }
+    ensures searched { IfOk result (λ verdict. IsSearched whole_plan (Watched (W.reported watch.old)
+        (W.reported watch.new) (ReportedRounds whole_plan (λ b. may b) improvers.now rounds)) start (judged verdict)) }
     ensures exact { IfOk result (λ verdict. SaysAccepted verdict ↔ IsAcceptable (judged verdict)) }
     ensures reason { IfOk result (OnRefused IsReason) }
     ensures handed_back { IfErr result (λ refused. IsReordered start refused.1) }

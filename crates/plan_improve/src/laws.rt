@@ -5,10 +5,10 @@
 
 // Nothing is done here: a function's contract is the law, so a check of this crate proves it.
 
-ghost use Rattle.plan_improve.specs.Laws.{AcceptedPlansStayAccepted, TheirMakespansNeverGrow, ASecondSearchIsNoWorse};
-ghost use Rattle.plan_improve.specs.Laws.{NoWorseIsPassedOn, NobodyBettersIt, EachOrderHasOneCell};
-ghost use Rattle.plan_improve.specs.Laws.{ALogIsKeptByTheEntries, AcceptedRestsStayAccepted};
-ghost use Rattle.plan_improve.specs.Laws.{TheRestOfTheStartCostsThePlan};
+ghost use Rattle.plan_improve.specs.Laws.{AcceptedPlansStayAccepted, TheirMakespansNeverGrow};
+ghost use Rattle.plan_improve.specs.Laws.{ASecondSearchIsNoWorse, NoWorseIsPassedOn, NobodyBettersIt};
+ghost use Rattle.plan_improve.specs.Laws.{EachOrderHasOneCell, ALogIsKeptByTheEntries};
+ghost use Rattle.plan_improve.specs.Laws.{AcceptedRestsStayAccepted, TheRestOfTheStartCostsThePlan};
 
 /// A plan that is no worse than an accepted one is accepted, and its makespan is no greater.
 pub fn accepted_plans_stay_accepted()

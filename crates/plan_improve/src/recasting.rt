@@ -1,11 +1,8 @@
 //! Cells whose plan's orders are replaced.
 
 ghost use Rattle.std.specs.Prelude.{◌≡◌, ◌↔◌, IsTrue};
-ghost use Rattle.shop_base.specs.Plan.{IsWellShaped, machines};
-ghost use Rattle.shop_base.specs.Move.{IsPrefix};
-ghost use Rattle.shop_base.specs.Vectors.{lists_of};
-ghost use Rattle.plan_improve.specs.Laws.{BeginsWithEntries};
-ghost use Rattle.plan_improve.specs.Reordered.{reordered};
+ghost use Rattle.shop_base.specs.{Plan.IsWellShaped, Plan.machines, Move.IsPrefix, Vectors.lists_of};
+ghost use Rattle.plan_improve.specs.{Laws.BeginsWithEntries, Reordered.reordered};
 ghost use Rattle.plan_improve.specs.Keeping.{IsReached, IsRecast, Begin};
 
 use crate::reordering::{Replaced, put_back, replace};

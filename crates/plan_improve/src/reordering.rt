@@ -1,8 +1,7 @@
 //! Plans whose orders are replaced.
 
 ghost use Rattle.std.specs.Prelude.{◌≡◌, IfOk};
-ghost use Rattle.shop_base.specs.Plan.{IsWellShaped};
-ghost use Rattle.shop_base.specs.Vectors.{lists_of};
+ghost use Rattle.shop_base.specs.{Plan.IsWellShaped, Vectors.lists_of};
 ghost use Rattle.plan_improve.specs.Reordered.{with_orders, reordered, IsReplaced};
 
 use shop_base::{JobNo, Plan, Shaped, Shop, shape};

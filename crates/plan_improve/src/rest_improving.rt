@@ -1,21 +1,16 @@
 //! A plan that is improved for the rest of a run, and judged at the end.
 
 ghost use Rattle.std.specs.Prelude.{◌≡◌, ◌≤◌, ◌⊎◌, OnOk, IfOk, IfErr};
-ghost use Rattle.shop_base.specs.Cell.{Cell};
-ghost use Rattle.shop_base.specs.Report.{IsNextMoment};
+ghost use Rattle.shop_base.specs.{Cell.Cell, Report.IsNextMoment};
 ghost use Rattle.text_lines.specs.Lines.{ended_lines};
 ghost use Rattle.run_log.specs.Audits.{ParseAsRun};
 ghost use Rattle.alt_graph.specs.Solved.{HasCycle};
 ghost use Rattle.plan_verifier.specs.RestVerdicts.{IsAcceptableAhead, IsRestAccepted};
-ghost use Rattle.plan_improve.specs.declared.improve_fault.ImproveFault.TheVariants.{Memory};
-ghost use Rattle.plan_improve.specs.Reordered.{IsReordered};
-ghost use Rattle.plan_improve.specs.Settings.{rest_after};
-ghost use Rattle.plan_improve.specs.Faults.{IsImproveRestFault};
-ghost use Rattle.plan_improve.specs.RestCosts.{IsCellOf};
-ghost use Rattle.plan_improve.specs.Runs.{ReportedRounds, Rounds};
-ghost use Rattle.plan_improve.specs.Improved.{HasNoRestBegin, IsNeverWorse, IsFound};
-ghost use Rattle.plan_improve.specs.Improved.{IsFoundReported, IsVerdictOn, present_of};
-ghost use Rattle.plan_improve.specs.RestKeeping.{IsBegun, IsImprovedReported};
+ghost use Rattle.plan_improve.specs.{declared.improve_fault.ImproveFault.TheVariants.Memory, Reordered.IsReordered};
+ghost use Rattle.plan_improve.specs.{Settings.rest_after, Faults.IsImproveRestFault, RestCosts.IsCellOf};
+ghost use Rattle.plan_improve.specs.Runs.{ReportedRounds, Rounds, Watched};
+ghost use Rattle.plan_improve.specs.Improved.{HasNoRestBegin, IsNeverWorse, IsFound, IsVerdictOn, present_of};
+ghost use Rattle.plan_improve.specs.RestKeeping.{IsBegun, IsImproved};
 
 use crate::begun::{Begun, begun_at};
 use crate::fixed::Fixed;
@@ -65,8 +60,8 @@ pub fn improve_after<W: Watch>(
         (Rounds (rest_after lines (present_of at c.last)) (λ b. may b) improvers.now rounds) start found.shaped) }
     ensures reported { let lines = ended_lines log.now in
         IfOk result (λ found. (c : Cell) → IsCellOf lines start c → HasNoRestBegin lines start
-        ⊎ IsFoundReported (rest_after lines (present_of at c.last)) (W.reported watch.old) (W.reported watch.new)
-        (ReportedRounds (rest_after lines (present_of at c.last)) (λ b. may b) improvers.now rounds) start
+        ⊎ IsFound (rest_after lines (present_of at c.last)) (Watched (W.reported watch.old) (W.reported watch.new)
+        (ReportedRounds (rest_after lines (present_of at c.last)) (λ b. may b) improvers.now rounds)) start
         found.shaped) }
     ensures verdict { IfOk result (λ found. (c : Cell) → IsCellOf (ended_lines log.now) start c
         → IsVerdictOn found.shaped c (present_of at c.last) found.verdict) }
@@ -99,9 +94,9 @@ fn improve_begun<W: Watch>(
     watch: &mut W,
 ) -> Result<Improved, NotImproved>
     requires { IsBegun (ended_lines log.now) start begun }
-    ensures improved { IfOk result (IsImprovedReported (ended_lines log.now) begun.present
-        (W.reported watch.old) (W.reported watch.new)
-        (ReportedRounds (rest_after (ended_lines log.now) begun.present) (λ b. may b) improvers.now rounds) start) }
+    ensures improved { IfOk result (IsImproved (ended_lines log.now) begun.present
+        (Watched (W.reported watch.old) (W.reported watch.new)
+        (ReportedRounds (rest_after (ended_lines log.now) begun.present) (λ b. may b) improvers.now rounds)) start) }
     ensures memory { IfErr result (λ refused. refused.fault ≡ Memory) }
     ensures handed_back { IfErr result (λ refused. refused.start ≡ start) }
 {
@@ -125,9 +120,9 @@ fn improve_from<W: Watch>(
     watch: &mut W,
 ) -> Result<Improved, (AllocError, Shaped)>
     requires { IsBegun (ended_lines log.now) start begun }
-    ensures improved { IfOk result (IsImprovedReported (ended_lines log.now) begun.present
-        (W.reported watch.old) (W.reported watch.new)
-        (ReportedRounds (rest_after (ended_lines log.now) begun.present) (λ b. may b) improvers.now rounds) start) }
+    ensures improved { IfOk result (IsImproved (ended_lines log.now) begun.present
+        (Watched (W.reported watch.old) (W.reported watch.new)
+        (ReportedRounds (rest_after (ended_lines log.now) begun.present) (λ b. may b) improvers.now rounds)) start) }
     ensures handed_back { IfErr result (λ refused. IsReordered start refused.1) }
 {
     let Begun {

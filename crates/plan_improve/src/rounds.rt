@@ -2,10 +2,9 @@
 
 ghost use Rattle.std.specs.Prelude.{◌≡◌, Option, IfOk, IfErr, option_copied};
 ghost use Rattle.plan_seek.specs.Orders.{proposal_of};
-ghost use Rattle.plan_improve.specs.Reordered.{IsReordered};
-ghost use Rattle.plan_improve.specs.Watching.{reported_bound};
-ghost use Rattle.plan_improve.specs.Runs.{AfterRound, ReportedRounds};
-ghost use Rattle.plan_improve.specs.Keeping.{setting_of, rest_in, IsFixed, IsNextOf, IsLast, IsLastReported, Stands};
+ghost use Rattle.plan_improve.specs.{Reordered.IsReordered, Watching.reported_bound};
+ghost use Rattle.plan_improve.specs.Runs.{AfterRound, ReportedRounds, Watched};
+ghost use Rattle.plan_improve.specs.Keeping.{setting_of, rest_in, IsFixed, IsNextOf, IsLast, Stands};
 
 use crate::best::Best;
 use crate::fixed::Fixed;
@@ -29,8 +28,8 @@ pub(crate) fn ask_in_rounds<W: Watch>(
     requires stands { Stands (setting_of fixed.now) best.cell }
     requires cost { (setting_of fixed.now).costs best.cell.plan best.cost }
     requires fixed { IsFixed fixed.now best.cell.plan }
-    ensures last { IfOk result (IsLastReported (setting_of fixed.now) (W.reported watch.old) (W.reported watch.new)
-        (ReportedRounds (setting_of fixed.now) (λ b. may b) improvers.now rounds) best.cell.plan best.cost) }
+    ensures last { IfOk result (IsLast (setting_of fixed.now) (Watched (W.reported watch.old) (W.reported watch.new)
+        (ReportedRounds (setting_of fixed.now) (λ b. may b) improvers.now rounds)) best.cell.plan best.cost) }
     ensures handed_back { IfErr result (λ refused. IsReordered best.cell.plan refused.1) }
 {
     let at_least = fixed.at_least();

@@ -1,8 +1,7 @@
 //! A search from its beginning to its last round.
 
 ghost use Rattle.std.specs.Prelude.{◌≡◌, ◌↔◌, false, IfOk, IfErr};
-ghost use Rattle.plan_improve.specs.Reordered.{IsReordered};
-ghost use Rattle.plan_improve.specs.Runs.{ReportedRounds};
+ghost use Rattle.plan_improve.specs.{Reordered.IsReordered, Runs.ReportedRounds, Runs.Watched};
 ghost use Rattle.plan_improve.specs.Keeping.{setting_of, IsFixed, IsComeTo, Stands};
 
 use crate::beginning::{First, first_plan};
@@ -29,8 +28,8 @@ pub(crate) fn search<W: Watch>(
     requires fixed { IsFixed fixed.now start.plan }
     requires stands { Stands (setting_of fixed.now) start }
     requires event { (has_event ≡ false) ↔ (setting_of fixed.now).fresh start.plan }
-    ensures comes { IfOk result (IsComeTo (setting_of fixed.now) (W.reported watch.old) (W.reported watch.new)
-        (ReportedRounds (setting_of fixed.now) (λ b. may b) improvers.now rounds) start.plan) }
+    ensures comes { IfOk result (IsComeTo (setting_of fixed.now) (Watched (W.reported watch.old) (W.reported watch.new)
+        (ReportedRounds (setting_of fixed.now) (λ b. may b) improvers.now rounds)) start.plan) }
     ensures handed_back { IfErr result (λ refused. IsReordered start.plan refused.1) }
 {
     match first_plan(alloc, start, fixed, has_event)? {

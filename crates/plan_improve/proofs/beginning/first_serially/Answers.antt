@@ -1,6 +1,5 @@
 use Rattle.std.proofs.Common.{◌≡◌, inr, ap, subst, ◌∙◌}
-use Rattle.plan_improve.proofs.Common.{HasCycle, PlannedShop, lists_of, reordered, serial_order}
-use Rattle.plan_improve.proofs.Serially.{serial_fits, serial_acyclic}
+use Rattle.plan_improve.proofs.{Common.{HasCycle, PlannedShop, lists_of, reordered, serial_order}, Serially.{serial_fits, serial_acyclic}}
 use Rattle.plan_improve.proofs.Standing.{stands_reached, stands_by, fresh_begins}
 use Rattle.plan_improve.proofs.beginning.first_serially.Goals as goal
 

@@ -1,6 +1,5 @@
 use Rattle.std.proofs.Common.{length, arith, sym, ap, ◌∙◌}
-use Rattle.plan_improve.proofs.Common.{ended_lines}
-use Rattle.plan_improve.proofs.Beginnings.{event_read, begun_is}
+use Rattle.plan_improve.proofs.{Common.ended_lines, Beginnings.{event_read, begun_is}}
 use Rattle.plan_improve.proofs.begun.begun_at.Goals as goal
 
 pub returns-clause-begun : goal.returns-clause-begun

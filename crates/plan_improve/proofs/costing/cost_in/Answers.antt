@@ -1,6 +1,5 @@
 use Rattle.std.proofs.Common.{◌≡◌, ◌<◌, arith}
-use Rattle.plan_improve.proofs.Common.{jobs, leaves_in}
-use Rattle.plan_improve.proofs.RestCosts.{late_none, late_few, late_more}
+use Rattle.plan_improve.proofs.{Common.{jobs, leaves_in}, RestCosts.{late_none, late_few, late_more}}
 use Rattle.plan_improve.proofs.costing.cost_in.Goals as goal
 
 pub loop-job-init : goal.loop-job-init

@@ -1,5 +1,4 @@
-use Rattle.plan_improve.proofs.Common.{ReportedRounds, judged, whole_plan}
-use Rattle.plan_improve.proofs.Searched.{never_worse, found_reported, found_of_reported, stays_accepted}
+use Rattle.plan_improve.proofs.{Common.{ReportedRounds, Watched, judged, whole_plan}, Searched.{never_worse, unwatched, stays_accepted}}
 use Rattle.plan_improve.proofs.improving.improve.Goals as goal
 
 pub returns-in-Ok-improve_on : goal.returns-in-Ok-improve_on
@@ -10,14 +9,13 @@ returns-in-Ok-improve_on g c =
     let start = c.args.start in
     let verdict = c.in-Ok-improve_on.verdict in
     let is = c.in-Ok-improve_on.ensures.searched in
-    let reported = found_reported whole_plan before after made start (judged verdict) is in
     record {
       same = is.same;
-      acyclic = is.is.acyclic;
-      never_worse = never_worse whole_plan before after made start (judged verdict) is;
-      found = found_of_reported whole_plan before after made start (judged verdict) reported;
-      reported = reported;
-      stays_accepted = stays_accepted before after made start verdict is c.in-Ok-improve_on.ensures.exact;
+      acyclic = is.no_worse.is.acyclic;
+      never_worse = never_worse whole_plan (Watched before after made) start (judged verdict) is;
+      found = unwatched whole_plan before after made start (judged verdict) is.found;
+      reported = is.found;
+      stays_accepted = stays_accepted (Watched before after made) start verdict is c.in-Ok-improve_on.ensures.exact;
       exact = c.in-Ok-improve_on.ensures.exact;
       reason = c.in-Ok-improve_on.ensures.reason;
       few_rounds = c.if-rounds-gt-MAX_ROUNDS.false;

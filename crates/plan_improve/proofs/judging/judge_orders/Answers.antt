@@ -1,8 +1,6 @@
 use Rattle.std.proofs.Common.{sym, subst, ◌∙◌}
-use Rattle.plan_improve.proofs.Common.{BeginsWithEntries, Cell, PlannedShop, lists_of, setting_of}
-use Rattle.plan_improve.proofs.Once.{fixed_once}
-use Rattle.plan_improve.proofs.Keeping.{next_unfit, next_better, next_worse}
-use Rattle.plan_improve.proofs.Standing.{stands_reached, stands_by, costs_begin}
+use Rattle.plan_improve.proofs.{Common.{BeginsWithEntries, Cell, PlannedShop, lists_of, setting_of}, Once.fixed_once}
+use Rattle.plan_improve.proofs.{Keeping.{next_unfit, next_better, next_worse}, Standing.{stands_reached, stands_by, costs_begin}}
 use Rattle.plan_improve.proofs.judging.judge_orders.Goals as goal
 
 pub reorder-requires : goal.reorder-requires

@@ -1,6 +1,5 @@
 use Rattle.std.proofs.Common.{◌<◌, [], get_or, below_more, refl, sym, arith, ◌∙◌}
-use Rattle.plan_improve.proofs.Common.{IsPrefix, entries, length-map, lists_of, machines}
-use Rattle.plan_improve.proofs.Copies.{fronts}
+use Rattle.plan_improve.proofs.{Common.{IsPrefix, entries, length-map, lists_of, machines}, Copies.fronts}
 use Rattle.plan_improve.proofs.recasting.begin.Goals as goal
 
 pub returns-then-not-begins : goal.returns-then-not-begins

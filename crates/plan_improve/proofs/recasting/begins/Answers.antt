@@ -1,6 +1,4 @@
-use Rattle.std.proofs.Common.{length, drop}
-use Rattle.std.proofs.lemmas.Bool.Decides.{Decides-eqb}
-use Rattle.std.proofs.lemmas.Slice.Eq.{starts_is}
+use Rattle.std.proofs.{Common.{length, drop}, lemmas.Bool.Decides.Decides-eqb, lemmas.Slice.Eq.starts_is}
 use Rattle.plan_improve.proofs.recasting.begins.Goals as goal
 
 pub returns : goal.returns

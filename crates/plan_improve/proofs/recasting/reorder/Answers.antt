@@ -1,6 +1,5 @@
 use Rattle.std.proofs.Common.{◌≡◌, arith, refl, sym, subst, ◌∙◌}
-use Rattle.plan_improve.proofs.Common.{Begin, false≢true, lists_of, machines}
-use Rattle.plan_improve.proofs.SameFronts.{again_sound, again_cell, recast}
+use Rattle.plan_improve.proofs.{Common.{Begin, false≢true, lists_of, machines}, SameFronts.{again_sound, again_cell, recast}}
 use Rattle.plan_improve.proofs.recasting.reorder.Goals as goal
 
 pub returns-then-not-begin : goal.returns-then-not-begin

@@ -1,6 +1,5 @@
 use Rattle.std.proofs.Common.{◌≡◌, sym, ap, ◌∙◌}
-use Rattle.plan_improve.proofs.Common.{lists_of, reordered}
-use Rattle.plan_improve.proofs.SameFronts.{by_other}
+use Rattle.plan_improve.proofs.{Common.{lists_of, reordered}, SameFronts.by_other}
 use Rattle.plan_improve.proofs.recasting.reorder_by.Goals as goal
 
 pub of_parts-requires : goal.of_parts-requires

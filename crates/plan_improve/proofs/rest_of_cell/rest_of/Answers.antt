@@ -1,5 +1,4 @@
-use Rattle.plan_improve.proofs.Common.{cleaning, job_rest}
-use Rattle.plan_improve.proofs.Beginnings.{one_more}
+use Rattle.plan_improve.proofs.{Common.{cleaning, job_rest}, Beginnings.one_more}
 use Rattle.plan_improve.proofs.rest_of_cell.rest_of.Goals as goal
 
 pub loop-job-preserved : goal.loop-job-preserved

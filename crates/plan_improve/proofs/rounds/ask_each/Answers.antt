@@ -1,7 +1,5 @@
 use Rattle.std.proofs.Common.{arith, inl, inr}
-use Rattle.plan_improve.proofs.Common.{AfterSome, setting_of}
-use Rattle.plan_improve.proofs.Once.{fixed_on}
-use Rattle.plan_improve.proofs.Keeping.{at_bound, one_more_asked, nobody_asked, round_ends}
+use Rattle.plan_improve.proofs.{Common.{AfterSome, setting_of}, Once.fixed_on, Keeping.{at_bound, one_more_asked, nobody_asked, round_ends}}
 use Rattle.plan_improve.proofs.rounds.ask_each.Goals as goal
 
 pub loop-improver-init : goal.loop-improver-init

@@ -1,13 +1,12 @@
 use Rattle.std.proofs.Common.{arith, inl}
-use Rattle.plan_improve.proofs.Once.{fixed_on}
-use Rattle.plan_improve.proofs.Keeping.{one_more_round, no_rounds, bound_met, rounds_end}
+use Rattle.plan_improve.proofs.{Once.fixed_on, Keeping.{one_more_round, no_rounds, bound_met, rounds_end}}
 use Rattle.plan_improve.proofs.rounds.ask_in_rounds.Goals as goal
 
 pub loop-round-init : goal.loop-round-init
 loop-round-init g c = no_rounds c.args.fixed.now (λ b. (goal.Improver-dyn g (b.vtable, b.value)).may b.value) c.args.improvers.now (g.W.Watch.reported c.args.watch.now) c.args.best c.requires.stands c.requires.cost
 
 pub ask_each-requires-clause-fixed : goal.ask_each-requires-clause-fixed
-ask_each-requires-clause-fixed g c = fixed_on c.args.fixed.now c.args.best.cell.plan c.loop-round.best.cell.plan c.requires.fixed c.loop-round.invariant.last.same
+ask_each-requires-clause-fixed g c = fixed_on c.args.fixed.now c.args.best.cell.plan c.loop-round.best.cell.plan c.requires.fixed c.loop-round.invariant.same
 
 pub loop-round-preserved : goal.loop-round-preserved
 loop-round-preserved g c = one_more_round c.args.fixed.now (λ b. (goal.Improver-dyn g (b.vtable, b.value)).may b.value) c.args.improvers.now (g.W.Watch.reported c.args.watch.now)

@@ -1,7 +1,5 @@
 use Rattle.std.proofs.Common.{inl, inr}
-use Rattle.plan_improve.proofs.Common.{ReportedRounds, setting_of}
-use Rattle.plan_improve.proofs.Once.{fixed_on}
-use Rattle.plan_improve.proofs.Searched.{begin_same, searched}
+use Rattle.plan_improve.proofs.{Common.{ReportedRounds, Watched, setting_of}, Once.fixed_on, Searched.{begin_same, searched}}
 use Rattle.plan_improve.proofs.searching.search.Goals as goal
 
 pub ask_in_rounds-requires-clause-fixed : goal.ask_in_rounds-requires-clause-fixed
@@ -13,10 +11,10 @@ pub returns-in_ok-best-in-Begins-clause-comes : goal.returns-in_ok-best-in-Begin
 returns-in_ok-best-in-Begins-clause-comes g c =
     let first = rw c.in-Begins.is at c.in_ok-best.ensures.first in
     let last = c.in_ok-best-in-Begins.ensures.last in (
-      inr (searched (setting_of c.args.fixed.now) (g.W.Watch.reported c.args.watch.now) (g.W.Watch.reported c.ask_in_rounds.new.watch)
-          (ReportedRounds (setting_of c.args.fixed.now) (λ b. (goal.Improver-dyn g (b.vtable, b.value)).may b.value) c.args.improvers.now c.args.rounds)
+      inr (searched (setting_of c.args.fixed.now) (Watched (g.W.Watch.reported c.args.watch.now) (g.W.Watch.reported c.ask_in_rounds.new.watch)
+          (ReportedRounds (setting_of c.args.fixed.now) (λ b. (goal.Improver-dyn g (b.vtable, b.value)).may b.value) c.args.improvers.now c.args.rounds))
           c.args.start.plan c.in-Begins.best.cell.plan c.in-Begins.best.cost c.in_ok-best-in-Begins.best first.0 first.2 last),
-      last.last.stands,
+      last.stands,
     )
 
 pub returns-in-Stays-clause-comes : goal.returns-in-Stays-clause-comes

@@ -1,6 +1,4 @@
-use Rattle.plan_improve.proofs.Common.{setting_of}
-use Rattle.plan_improve.proofs.Once.{fixed_once, no_cost}
-use Rattle.plan_improve.proofs.Keeping.{none_below}
+use Rattle.plan_improve.proofs.{Common.setting_of, Once.{fixed_once, no_cost}, Keeping.none_below}
 use Rattle.plan_improve.proofs.fixed.Fixed.cost_below.Goals as goal
 
 pub returns-else-is_less : goal.returns-else-is_less
