@@ -17,7 +17,7 @@ use Rattle.command_answers.specs.Readings.{AreTextsAnswered}
 use Rattle.cellplan_c.specs.Calls.{IsEarliestLeaving, IsStarted, loaded_status, IsStatusOfBoth, IsStatusOfPlan}
 use Rattle.cellplan_c.specs.Begun.{IsControllerOf}
 use Rattle.cellplan_c.specs.Held.{Held}
-use Rattle.cellplan_c.specs.contracts.slot.Inner as Inner
+use Rattle.cellplan_c.specs.contracts.inner.Inner as Inner
 use Rattle.cellplan_c.proofs.Judging.{verdict_bound}
 
 status_bound : (loaded : Loaded) → loaded_status loaded ≤ 1

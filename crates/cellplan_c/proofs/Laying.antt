@@ -12,7 +12,7 @@ use denote.RawPtr.{Ptr, block_ptr, null_ptr, ptr_val, in_a_block}
 use denote.Steps.{nothing}
 use denote.Struct.Struct.{within}
 use denote.Struct.Owning.{shape}
-use Rattle.core.proofs.alloc.Calls.{token, Fits, handle_reads}
+use Rattle.core.proofs.alloc.Calls.{token, Fits, handle_tells}
 use Rattle.std_alloc.specs.Box.Ownership.{box_owns}
 use Rattle.std_alloc.proofs.BoxSteps.Form.{Bx, X, R, P, τ, handle, word}
 use Rattle.cellplan_c.specs.contracts.raw_box.RawBox as RawBox_type
@@ -29,7 +29,7 @@ module _ (E : Bx) where
     takes t raw_box vs then_with =
         let owned = λ (p : Ptr). box_owns (token E.al raw_box.from) (R E) p raw_box.value in
         fsplit t $ fpick t (λ parts. fsplit t $ feq_l t (λ whole. fsplit t $ feq_l t (λ at. fsplit t $
-        handle_reads E.al t raw_box.from parts.1.0 (λ hv eh fits. move t (1 ∷ []) $ drop t $ move t (1 ∷ []) $
+        handle_tells E.al t raw_box.from parts.1.0 (λ hv eh fits. move t (1 ∷ []) $ drop t $ move t (1 ∷ []) $
         in_a_block t raw_box.place owned (fst∗ 𝓤 (never 𝓤) (sem 𝓛 (token E.al raw_box.from (bare (τ E)) null_ptr))) (λ b o lies.
         let one : vs ≡ vstruct (of_list (ptr_val raw_box.place ∷ (parts.1.0 ++ []))) ∷ [] =
         subst (λ (ps : List Val). vs ≡ vstruct (of_list (ps ++ (parts.1.0 ++ []))) ∷ []) at whole in

@@ -5,7 +5,7 @@ use Rattle.cellplan_c.specs.declared.cell.Cell.{Cell}
 use Rattle.cellplan_c.specs.Told.{answer_of}
 use Rattle.cellplan_c.specs.Readings.{Finds, Tells}
 use Rattle.cellplan_c.specs.Held.{Held}
-use Rattle.cellplan_c.specs.contracts.slot.Inner as Inner
+use Rattle.cellplan_c.specs.contracts.inner.Inner as Inner
 
 module _ {A : Type 0} (old new : Cell) (status : ℕ) (before after : A) (inner : Inner.the_row.Denot)
     (held : old.slot.held ≡ Some inner) (kept : new.slot.held ≡ Some inner) where

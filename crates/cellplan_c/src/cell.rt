@@ -1,12 +1,10 @@
 //! A cell, as C holds it.
 
 ghost use Rattle.std.specs.Prelude.{◌≡◌, None, Some, is_some, MatchOption};
-ghost use Rattle.cellplan_c.specs.Cells.{GoesAsPromised};
 
+use crate::inner::Inner;
 use crate::raw_box::RawBox;
-use crate::slot::{Inner, Slot};
-use cell_control::laws::never_goes_wrong;
-use cell_control::{RestController, TourneyDues};
+use crate::slot::Slot;
 use std::alloc::Global;
 use std::mem::replace;
 
@@ -58,11 +56,4 @@ impl Cell {
         );
         slot.discard();
     }
-}
-
-/// Called for its clause alone: whatever was reported, the controller goes as is promised.
-pub(crate) fn is_as_promised(controller: &RestController<TourneyDues>)
-    ensures { GoesAsPromised controller.now }
-{
-    never_goes_wrong(controller);
 }

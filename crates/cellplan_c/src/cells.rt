@@ -15,9 +15,10 @@ ghost use Rattle.cellplan_c.specs.Calls.{IsTextFault, IsStarted, loaded_status, 
 ghost use Rattle.cellplan_c.specs.Cells.{Holding, GoesAsPromised};
 ghost use Rattle.cellplan_c.specs.Begun.{IsControllerOf};
 
-use crate::cell::{Cell, is_as_promised};
+use crate::cell::Cell;
+use crate::inner::Inner;
 use crate::instances::name_in;
-use crate::slot::Inner;
+use crate::promised::is_as_promised;
 use crate::statuses::{GOOD, REFUSED, status_of_refused};
 use cell_control::{Controller, RestController};
 use command_answers::{Loaded, load};

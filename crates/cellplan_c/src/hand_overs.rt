@@ -9,10 +9,11 @@ ghost use Rattle.cellplan_c.specs.Told.{named};
 ghost use Rattle.cellplan_c.specs.Cells.{Holding, GoesAsPromised, Handing, AreOrdersPut, IsKeptBehind};
 ghost use Rattle.cellplan_c.specs.HandOvers.{IsHandOver, IsHandOverStatus, rest_fault_status};
 
-use crate::cell::{Cell, is_as_promised};
+use crate::cell::Cell;
+use crate::inner::Inner;
 use crate::instances::name_in;
+use crate::promised::is_as_promised;
 use crate::rooms::put_orders;
-use crate::slot::Inner;
 use crate::statuses::{BACKWARDS, GOOD, KEEPS_NOT, MOMENT_TOO_LARGE, NO_CELL, REFUSED};
 use crate::told::Order;
 use cell_control::RestFault;

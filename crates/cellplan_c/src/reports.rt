@@ -7,9 +7,10 @@ ghost use Rattle.cellplan_c.specs.Ended.{ended_by, CanEnd, IsFirstFor, IsOnlyFor
 ghost use Rattle.cellplan_c.specs.Cells.{Holding, GoesAsPromised, Reporting, IsReportAnswered};
 ghost use Rattle.cellplan_c.specs.Cells.{AreOrdersPut, IsKeptBehind};
 
-use crate::cell::{Cell, is_as_promised};
+use crate::cell::Cell;
+use crate::inner::Inner;
+use crate::promised::is_as_promised;
 use crate::rooms::put_orders;
-use crate::slot::Inner;
 use crate::statuses::{GOOD, NO_CELL, NO_KIND};
 use crate::told::{Ended, Order, fault_detail, fault_number, report_by};
 use cell_control::{Ack, ReportFault, RestController, TourneyDues};

@@ -4,16 +4,10 @@ ghost use Rattle.std.specs.Prelude.{◌≡◌, None, Some, IsSome};
 ghost use Rattle.cellplan_c.specs.Held.{Held, held_coded};
 ghost use Rattle.cellplan_c.specs.Slot.{slot_owns};
 
+use crate::inner::Inner;
 use crate::raw_box::RawBox;
-use cell_control::{RestController, TourneyDues};
 use std::alloc::Global;
 use std::marker::Model;
-
-/// A controller, of a whole run or of the rest of one, under a type that names no other one.
-#[derive(Drop)]
-pub struct Inner {
-    pub controller: RestController<TourneyDues>,
-}
 
 /// What lies at the pointer, which C never reads.
 pub struct Block {

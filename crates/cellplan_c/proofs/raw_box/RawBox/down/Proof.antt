@@ -26,7 +26,7 @@ use denote.Triple.Clauses.{Lasts, lasts}
 use denote.Triple.Spec.{triple_of}
 use denote.Triple.Call.{calls_at}
 use denote.Triple.Walked.{says, Stays, stay_dropped, walk_of, ends_at}
-use Rattle.core.proofs.alloc.Calls.{token, handle_reads, Goes-blank}
+use Rattle.core.proofs.alloc.Calls.{token, handle_tells, Goes-blank}
 use Rattle.core.proofs.atomic.Steps.{fm}
 use Rattle.std.proofs.raw_atomic.Walks.{proved_at}
 use Rattle.std_alloc.specs.Box.Ownership.{box_owns}
@@ -71,7 +71,7 @@ down_spec 𝓤 𝓛 𝓜 𝓡 wired T A L LA g d dx dd allocator glue glued =
     in_a_block ! r.0 owned (fst∗ 𝓤 (never 𝓤) (sem 𝓛 (token E.al held.alloc (bare (τ E)) null_ptr))) (λ b' o' lies'.
     -- [what the box owned; the tokens with the pair]
     move ! (1 ∷ []) $ split ! $ move ! (1 ∷ []) $ fpick ! (λ parts. fsplit ! $ feq_l ! (λ whole'. fsplit ! $ feq_l ! (λ at. fsplit ! $
-    rewrite ! 0 (λ (s : A.Denot). ‵ ((P E).own_val s parts.1.0)) same refl $ handle_reads E.al ! held.alloc parts.1.0 (λ hw eh fits'.
+    rewrite ! 0 (λ (s : A.Denot). ‵ ((P E).own_val s parts.1.0)) same refl $ handle_tells E.al ! held.alloc parts.1.0 (λ hw eh fits'.
     -- [the allocator; true; the tokens; what the box owned]
     let typed = box_typed E hw b' o' fits' in
     lands_as ! (ap only (whole' ∙ (λ j. vstruct (of_list ((at ∙ ap (λ (p : Ptr). ptr_val p ∷ []) lies') j ++ (eh j ++ []))) ∷ []))) refl typed $
