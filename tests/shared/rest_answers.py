@@ -171,7 +171,7 @@ class Rest:
                 self.arcs[(job, place), target] = cleaned, words
 
     def bound(self, node, due, words, rank):
-        """The move isn't made before now, nor before the due moment, if there is one. Of equal bounds the one of the lower rank is told."""
+        """The move isn't made before now, nor before the due moment, if there is one. Of equal bounds the one of the lower rank is printed."""
         overdue = " overdue since %d" % due if due is not None and due < self.now else ""
         moment = self.now if due is None else max(due, self.now)
         self.bounds.setdefault(node, []).append((-moment, rank, words + overdue))
@@ -272,13 +272,13 @@ def node(text):
     return int(job), int(place)
 
 
-def first_line(rest, told):
-    """The verdict, whose cycle or longest path is the told one."""
-    words = told.split()
+def first_line(rest, printed):
+    """The verdict, whose cycle or longest path is the printed one."""
+    words = printed.split()
     if rest.row is None:
         want("the verdict on a rest that locks", words[:2], ["refused", "cycle"])
         rest.cycle_lines([node(word) for word in words[2:]])
-        return told
+        return printed
     late = rest.late()
     if not late:
         return "accepted makespan %d leaves %s" % (max(rest.leaves()), " ".join(map(str, rest.leaves())))
@@ -295,24 +295,24 @@ def leaving_line(rest, job):
     return "job %d leaves %d budget %d %s" % (job, at, budget, "slack %d" % (budget - at) if at <= budget else "late %d" % (at - budget))
 
 
-def explained(rest, told):
-    """The lines of `explain`, whose cycle or longest path is the told one."""
-    lines = [first_line(rest, told[0])]
+def explained(rest, printed):
+    """The lines of `explain`, whose cycle or longest path is the printed one."""
+    lines = [first_line(rest, printed[0])]
     if rest.row is None:
-        return lines + rest.cycle_lines([node(word) for word in told[0].split()[2:]])
+        return lines + rest.cycle_lines([node(word) for word in printed[0].split()[2:]])
     lines += [leaving_line(rest, job) for job in range(rest.shop.jobs)]
     late = rest.late()
     if late:
-        return lines + rest.chain_lines([node(word) for word in told[0].split()[4:]], late[0])
+        return lines + rest.chain_lines([node(word) for word in printed[0].split()[4:]], late[0])
     if not rest.jobs:
         return lines
     last = max(rest.jobs, key=lambda job: (rest.at[rest.leaving(job)], -job))
-    return lines + rest.chain_lines([node(line.split()[1]) for line in told[len(lines):]], last)
+    return lines + rest.chain_lines([node(line.split()[1]) for line in printed[len(lines):]], last)
 
 
-def scheduled(rest, told):
+def scheduled(rest, printed):
     """The lines of `schedule`."""
-    lines = [first_line(rest, told[0])]
+    lines = [first_line(rest, printed[0])]
     if rest.row is None:
         return lines
     due = {} if rest.late() else rest.deadlines()
@@ -356,14 +356,14 @@ def scheduled_job(rest, job, by):
     return lines
 
 
-def answer(command, shop, plan, log, at, told):
-    """The lines of the command and its status, whose cycle or longest path is the told one, and the kind of the answer."""
+def answer(command, shop, plan, log, at, printed):
+    """The lines of the command and its status, whose cycle or longest path is the printed one, and the kind of the answer."""
     cell, refused = cell_of(shop, plan, log)
     if refused:
         return ["log refused " + refused], 1, "refused"
     if at is not None and at < cell.last:
         return ["log past %d" % cell.last], 1, "past"
     rest = Rest(cell, cell.last if at is None else at)
-    tells = {"check": lambda: [first_line(rest, told[0])], "explain": lambda: explained(rest, told), "schedule": lambda: scheduled(rest, told)}
+    tells = {"check": lambda: [first_line(rest, printed[0])], "explain": lambda: explained(rest, printed), "schedule": lambda: scheduled(rest, printed)}
     kind = "cycle" if rest.row is None else "late" if rest.late() else "accepted"
     return tells[command](), 0 if kind == "accepted" else 1, kind

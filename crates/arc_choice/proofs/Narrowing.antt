@@ -4,7 +4,7 @@ use Rattle.std.proofs.lemmas.Bool.{cases_eq}
 use Rattle.std.proofs.lemmas.List.{get_or_default}
 use Rattle.arc_choice.specs.declared.question.Arc.{Arc}
 use Rattle.arc_choice.specs.declared.question.Question.{Question}
-use Rattle.arc_choice.specs.declared.choosing.State.{State}
+use Rattle.arc_choice.specs.declared.branch.State.{State}
 use Rattle.arc_choice.specs.declared.branch.Branch.{Branch}
 use Rattle.arc_choice.specs.declared.rules.Clash.{Clash}
 use Rattle.arc_choice.specs.declared.branch.Decision.{Decision}
@@ -28,9 +28,6 @@ none_after P q s t one none = λ w answers holds within. none w answers tt (one.
 pub narrows_by : (P : (ℕ → ℕ) → Type 0) (q : Question) (s t : Branch) → ((w : ℕ → ℕ) → Answers q w → IsWithin q s w → P w) → Narrows P q s t → Narrows Always q s t
 narrows_by P q s t holds one = record { branch = one.branch; keeps = λ w answers always within. one.keeps w answers (holds w answers within) within }
 
-pub none_by : (P : (ℕ → ℕ) → Type 0) (q : Question) (s : Branch) → ((w : ℕ → ℕ) → Answers q w → IsWithin q s w → P w) → HasNone P q s → HasNone Always q s
-none_by P q s holds none = λ w answers always within. none w answers (holds w answers within) within
-
 -- a step by what was known before another
 pub narrows_then : (P : (ℕ → ℕ) → Type 0) (q : Question) (s t u : Branch) → Narrows Always q s t → Narrows P q t u → Narrows P q s u
 narrows_then P q s t u one other = record { branch = other.branch; keeps = λ w answers holds within. other.keeps w answers holds (one.keeps w answers tt within) }
@@ -39,10 +36,6 @@ narrows_then P q s t u one other = record { branch = other.branch; keeps = λ w 
 pub propagates_on : {A : Type 0} (P : (ℕ → ℕ) → Type 0) (q : Question) (s t u : Branch) (r : Result A Clash) → Narrows P q s t → Propagates P q t u r → Propagates P q s u r
 propagates_on P q s t u (Ok x) one other = record { branch = other.branch; keeps = λ w answers holds within. other.keeps w answers holds (one.keeps w answers holds within) }
 propagates_on P q s t u (Err e) one none = λ w answers holds within. none w answers holds (one.keeps w answers holds within)
-
-pub propagates_by : {A : Type 0} (P : (ℕ → ℕ) → Type 0) (q : Question) (s t : Branch) (r : Result A Clash) → ((w : ℕ → ℕ) → Answers q w → IsWithin q s w → P w) → Propagates P q s t r → Propagates Always q s t r
-propagates_by P q s t (Ok x) holds one = narrows_by P q s t holds one
-propagates_by P q s t (Err e) holds none = none_by P q s holds none
 
 -- ---- heads and latest moments
 
@@ -92,6 +85,7 @@ module _ (q : Question) (arc : Arc) (is : IsArc (nodes q) arc) where
       → t.reach ≡ s.reach → t.decisions.items ≡ s.decisions.items → Narrows (λ w. Keeps w arc) q s t
   kept s t head last latest state fits at early heads heads_size latests latest_size reach decisions = record {
     branch = record {
+      sound = state.sound;
       heads = heads_size ∙ state.heads;
       latest = latest_size ∙ state.latest;
       reach = ap (λ o. o.nodes) reach ∙ state.reach;
@@ -122,6 +116,7 @@ pub deciding : (q : Question) (s t : Branch) (p : ℕ) (one : Bool) (arc : Arc) 
     → Narrows (λ w. Keeps w (side_of q p one)) q s t
 deciding q s t p one arc is_side state inside same decisions reach_nodes reach = record {
   branch = record {
+    sound = state.sound;
     heads = ap (λ (x : State). length x.heads.items) same ∙ state.heads;
     latest = ap (λ (x : State). length x.latest.items) same ∙ state.latest;
     reach = reach_nodes ∙ state.reach;
@@ -152,10 +147,6 @@ other_forced q s p inside none = record { pair = inside; keeps = λ w answers wi
     go w answers within (inl one) = absurd (none w answers one within)
     go w answers within (inr other) = other
 
--- what is decided is kept
-pub one_decided : (q : Question) (s : Branch) (p : ℕ) (x : Decision) → p < length q.pairs.items → x ≡ decision_at s p → x ≡ One → (w : ℕ → ℕ) → IsWithin q s w → Keeps w (side_of q p true)
-one_decided q s p x inside at is w within = subst (λ (y : Decision). KeepsDecision w (pair_at q p) y) (sym at ∙ is) (within.decisions p inside)
-
 -- a side is an arc
 pub side_arc : (q : Question) (p : ℕ) (one : Bool) → IsSound q → p < length q.pairs.items → IsArc (nodes q) (side_of q p one)
 side_arc q p true sound inside = sound.ones p inside
@@ -165,6 +156,7 @@ side_arc q p false sound inside = sound.others p inside
 pub copied : (q : Question) (s t : Branch) → IsBranch q s → IsCopy s t → Narrows Always q s t
 copied q s t state copy = record {
   branch = record {
+    sound = state.sound;
     heads = ap length copy.heads ∙ state.heads;
     latest = ap length copy.latest ∙ state.latest;
     reach = ap (λ o. o.nodes) copy.reach ∙ state.reach;

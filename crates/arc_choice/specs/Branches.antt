@@ -1,14 +1,15 @@
 -- What a branch of the search says of the moments that answer a question.
 use Rattle.std.specs.Prelude.{ℕ, ◌≡◌, ◌<◌, ◌≤◌, Bool, if◌then◌else◌, List, length, slice_index, slice_index_or}
-use Rattle.std.specs.Prelude.{Option, IfSome, Result, MatchResult}
+use Rattle.std.specs.Prelude.{Option, IfSome, MatchOption, Result, MatchResult}
+use Rattle.arc_choice.specs.declared.question.Arc.{Arc}
 use Rattle.arc_choice.specs.declared.question.Pair.{Pair}
 use Rattle.arc_choice.specs.declared.question.Question.{Question}
-use Rattle.arc_choice.specs.declared.choosing.Side.{Side}
+use Rattle.arc_choice.specs.declared.question.Side.{Side}
 use Rattle.arc_choice.specs.declared.branch.Branch.{Branch}
 use Rattle.arc_choice.specs.declared.branch.Decision.{Decision}
 use Rattle.arc_choice.specs.declared.branch.Decision.TheVariants.{Open, One, Other}
 use Rattle.arc_choice.specs.declared.rules.Clash.{Clash}
-use Rattle.arc_choice.specs.Choices.{Keeps, Answers, nodes, pair_at, side_of}
+use Rattle.arc_choice.specs.Choices.{Keeps, Answers, IsArc, IsImpossible, IsSound, nodes, pair_at, side_of}
 use Rattle.arc_choice.specs.Reach.{Rises}
 
 -- no node comes before its head
@@ -34,8 +35,9 @@ abbrev pub decision_for : Bool → Decision
 decision_for one = if one then One else Other
 
 module _ (q : Question) where
-  -- the branch is one of this question
+  -- the branch is one of this question, which can be searched
   pub record IsBranch (b : Branch) : Type 0 where
+    pub sound : IsSound q
     pub heads : length b.state.heads.items ≡ nodes q
     pub latest : length b.state.latest.items ≡ nodes q
     pub reach : b.reach.nodes ≡ nodes q
@@ -47,6 +49,14 @@ module _ (q : Question) where
     pub latest : AreLatest b.state.latest.items w
     pub reach : Rises b.reach w
     pub decisions : (p : ℕ) → p < length q.pairs.items → KeepsDecision w (pair_at q p) (decision_at b p)
+
+-- all answers of the question are among those of the branch
+abbrev pub HasAll : Question → Branch → Type 0
+HasAll q b = (w : ℕ → ℕ) → Answers q w → IsWithin q b w
+
+-- a branch with all answers of the question or, where there is none, it has none
+abbrev pub IsRoot : Question → Option Branch → Type 0
+IsRoot q result = MatchOption result (IsImpossible q) (λ b. IsBranch q b × HasAll q b)
 
 -- one branch is another but for the pairs that are open
 pub record IsCopy (b c : Branch) : Type 0 where
@@ -77,6 +87,11 @@ module _ (P : (ℕ → ℕ) → Type 0) (q : Question) where
 pub record IsForced (q : Question) (b : Branch) (side : Side) : Type 0 where
   pub pair : side.pair < length q.pairs.items
   pub keeps : (w : ℕ → ℕ) → Answers q w → IsWithin q b w → Keeps w (side_of q side.pair side.one)
+
+-- the arc is one that each answer of the branch keeps
+pub record IsHeld (q : Question) (b : Branch) (arc : Arc) : Type 0 where
+  pub is : IsArc (nodes q) arc
+  pub keeps : (w : ℕ → ℕ) → Answers q w → IsWithin q b w → Keeps w arc
 
 -- it is so of the side that is named, if one is; at a clash the branch has no answers
 abbrev pub Forces : Question → Branch → Result (Option Side) Clash → Type 0

@@ -1,6 +1,6 @@
 -- What a search comes to.
-use Rattle.arc_choice.specs.declared.outcome.Outcome.{Outcome}
-use Rattle.arc_choice.specs.declared.outcome.Outcome.TheVariants.{Never, Chosen, Open}
+use Rattle.arc_choice.specs.declared.exploring.Outcome.{Outcome}
+use Rattle.arc_choice.specs.declared.exploring.Outcome.TheVariants.{Never, Chosen, Open}
 
 -- a fact that holds at `Never`
 abbrev pub OnNever : Type 0 → Outcome → Type 0

@@ -4,16 +4,27 @@ ghost use Rattle.std.specs.Prelude.{◌≡◌, ℕ, ◌<◌, ◌≤◌, IfOk, If
 ghost use Rattle.arc_choice.specs.Choices.{IsSound, Answers, nodes};
 ghost use Rattle.arc_choice.specs.Outcomes.{OnNever};
 ghost use Rattle.arc_choice.specs.Reach.{Rises};
-ghost use Rattle.arc_choice.specs.Branches.{IsBranch, IsWithin, IsCopy, decision_at};
+ghost use Rattle.arc_choice.specs.Branches.{IsBranch, HasAll, IsCopy, decision_at};
 
-use crate::choosing::{Choose, Side, State};
-use crate::outcome::Outcome;
-use crate::question::Question;
+use crate::choosing::Choose;
+use crate::exploring::Outcome;
+use crate::question::{Question, Side};
 use crate::reach::Reach;
 use std::alloc::{AllocError, Global};
 
 /// The bytes that branches take at one time.
 const ROOM: usize = 64_000_000;
+
+/// What is known of all moments that answer a question and keep the sides that are decided.
+#[derive(Debug, Drop)]
+pub struct State {
+    /// The earliest moment of each node.
+    pub heads: Vec<u64>,
+    /// The latest moment of each node.
+    pub latest: Vec<u64>,
+    /// The pairs of which no side is decided.
+    pub open: Vec<usize>,
+}
 
 /// Which side of a pair is decided, if one is.
 #[derive(Clone, Copy)]
@@ -32,24 +43,39 @@ pub(crate) struct Branch {
     pub(crate) decisions: Vec<Decision>,
 }
 
+impl State {
+    /// The same again.
+    fn copy(&self, alloc: Global) -> Result<State, AllocError>
+        ensures heads { IfOk result (λ state. state.heads.items ≡ self.now.heads.items) }
+        ensures latest { IfOk result (λ state. state.latest.items ≡ self.now.latest.items) }
+    {
+        Ok(State {
+            heads: Vec::from_slice(alloc, self.heads.as_slice())?,
+            latest: Vec::from_slice(alloc, self.latest.as_slice())?,
+            open: Vec::from_slice(alloc, self.open.as_slice())?,
+        })
+    }
+}
+
 impl Branch {
     /// What is known before anything is decided.
     pub(crate) fn start(alloc: Global, question: &Question) -> Result<Branch, AllocError>
         requires { IsSound question.now }
         ensures branch { IfOk result (IsBranch question.now) }
-        ensures within { IfOk result (λ branch. (w : ℕ → ℕ) → Answers question.now w → IsWithin question.now branch w) }
+        ensures all { IfOk result (HasAll question.now) }
     {
         let heads = Vec::from_slice(alloc, question.first.as_slice())?;
         let latest = Vec::from_slice(alloc, question.last.as_slice())?;
         let open = all_below(alloc, question.pairs.len())?;
         let decisions = vec![in alloc; Decision::Open; question.pairs.len()]?;
         let reach = reach_of(alloc, question)?;
+        let state = State {
+            heads,
+            latest,
+            open,
+        };
         Ok(Branch {
-            state: State {
-                heads,
-                latest,
-                open,
-            },
+            state,
             reach,
             decisions,
         })
@@ -59,19 +85,10 @@ impl Branch {
     pub(crate) fn copy(&self, alloc: Global) -> Result<Branch, AllocError>
         ensures { IfOk result (IsCopy self.now) }
     {
-        let heads = Vec::from_slice(alloc, self.state.heads.as_slice())?;
-        let latest = Vec::from_slice(alloc, self.state.latest.as_slice())?;
-        let open = Vec::from_slice(alloc, self.state.open.as_slice())?;
-        let decisions = Vec::from_slice(alloc, self.decisions.as_slice())?;
-        let reach = self.reach.copy(alloc)?;
         Ok(Branch {
-            state: State {
-                heads,
-                latest,
-                open,
-            },
-            reach,
-            decisions,
+            state: self.state.copy(alloc)?,
+            reach: self.reach.copy(alloc)?,
+            decisions: Vec::from_slice(alloc, self.decisions.as_slice())?,
         })
     }
 

@@ -3,16 +3,26 @@
 ghost use Rattle.std.specs.Prelude.{◌<◌, length, IfOk};
 ghost use Rattle.arc_choice.specs.Choices.{IsSound, IsImpossible};
 ghost use Rattle.arc_choice.specs.Outcomes.{OnNever};
-ghost use Rattle.arc_choice.specs.Branches.{IsBranch};
+ghost use Rattle.arc_choice.specs.Branches.{IsBranch, HasAll, IsRoot};
 ghost use Rattle.arc_choice.specs.Waits.{AreWaiting, GoesOn, Splits};
 
 use crate::branch::Branch;
-use crate::choosing::{Choose, Side};
+use crate::choosing::Choose;
 use crate::links::Links;
-use crate::outcome::Outcome;
-use crate::question::Question;
+use crate::question::{Question, Side};
 use crate::work::Work;
 use std::alloc::{AllocError, Global};
+
+/// What a search comes to.
+#[derive(Debug, Drop)]
+pub enum Outcome {
+    /// No moments answer the question.
+    Never,
+    /// A side of each pair is decided; these, the earliest of each node, may be moments that keep them all.
+    Chosen(Vec<u64>),
+    /// It isn't decided: the choices or the room for states were used up, or none was made.
+    Open,
+}
 
 /// A branch that is still to be looked at, with a side of a pair that is to be decided in it.
 #[derive(Drop)]
@@ -38,27 +48,61 @@ pub fn explore<C: Choose>(
     chooser.begin(alloc, question)?;
     let links = Links::of(alloc, question)?;
     let mut work = Work::full(alloc, question.first.len())?;
+    match root(alloc, question, &links, &mut work)? {
+        Some(branch) => explore_from(alloc, question, &links, &mut work, chooser, branch, choices),
+        None => Ok(Outcome::Never),
+    }
+}
+
+/// The branch in which nothing is decided, if it may have moments.
+fn root(
+    alloc: Global,
+    question: &Question,
+    links: &Links,
+    work: &mut Work,
+) -> Result<Option<Branch>, AllocError>
+    requires { IsSound question.now }
+    ensures { IfOk result (IsRoot question.now) }
+{
     let mut branch = Branch::start(alloc, question)?;
     if !branch.fits(question) {
-        return Ok(Outcome::Never);
+        return Ok(None);
     }
     if !branch.admits_arcs(question) {
-        return Ok(Outcome::Never);
+        return Ok(None);
     }
-    if let Err(_) = branch.tighten(question, &links, &mut work) {
-        return Ok(Outcome::Never);
+    match branch.tighten(question, links, work) {
+        Ok(()) => Ok(Some(branch)),
+        Err(_) => Ok(None),
     }
+}
+
+/// Explores from a branch on.
+fn explore_from<C: Choose>(
+    alloc: Global,
+    question: &Question,
+    links: &Links,
+    work: &mut Work,
+    chooser: &mut C,
+    branch: Branch,
+    choices: u64,
+) -> Result<Outcome, AllocError>
+    requires branch { IsBranch question.now branch }
+    requires all { HasAll question.now branch }
+    ensures { IfOk result (OnNever (IsImpossible question.now)) }
+{
     let most = branch.most();
+    let mut branch = branch;
     let mut waiting = Vec::new(alloc);
     for _ in 0..choices {
         if waiting.len() >= most {
-            return Ok(branch.into_outcome());
+            break;
         }
         let Some(side) = branch.choose(question, chooser) else {
-            return Ok(branch.into_outcome());
+            break;
         };
         split(alloc, question, branch, side, &mut waiting)?;
-        branch = match next(question, &links, &mut work, chooser, &mut waiting) {
+        branch = match next(question, links, work, chooser, &mut waiting) {
             Some(branch) => branch,
             None => return Ok(Outcome::Never),
         };
@@ -101,8 +145,7 @@ fn next<C: Choose>(
     chooser: &mut C,
     waiting: &mut Vec<Waiting>,
 ) -> Option<Branch>
-    requires sound { IsSound question.now }
-    requires waiting { AreWaiting question.now waiting.old.items }
+    requires { AreWaiting question.now waiting.old.items }
     ensures { GoesOn question.now waiting.old.items waiting.new.items result }
 {
     while let Some(last) = waiting.pop() {

@@ -5,17 +5,14 @@
 mod branch;
 mod choosing;
 mod exploring;
-mod least_slack;
 mod links;
-mod outcome;
 mod question;
 mod reach;
 mod rules;
 mod settling;
 mod work;
 
-pub use choosing::{Choose, Side, State};
-pub use exploring::explore;
-pub use least_slack::LeastSlack;
-pub use outcome::Outcome;
-pub use question::{Arc, Pair, Question};
+pub use branch::State;
+pub use choosing::{Choose, LeastSlack};
+pub use exploring::{Outcome, explore};
+pub use question::{Arc, Pair, Question, Side};

@@ -1,22 +1,25 @@
 //! The arcs at each node. No promise rests on these: they say what is looked at again once a node's moments change.
 
-use crate::choosing::Side;
-use crate::question::{Arc, Question};
+use crate::question::{Arc, Pair, Question};
+use crate::work::End;
 use std::alloc::{AllocError, Global};
 
-/// The arcs at one end of a node.
-#[derive(Drop)]
-pub(crate) struct End {
-    /// Numbers of arcs of the question.
-    pub(crate) arcs: Vec<usize>,
-    pub(crate) sides: Vec<Side>,
+/// An arc at a node.
+#[derive(Clone, Copy)]
+pub(crate) enum Link {
+    /// The arc of this number.
+    Given(usize),
+    /// The one of this pair, which holds once it is decided.
+    One(usize),
+    /// The other of this pair, which holds once it is decided.
+    Other(usize),
 }
 
 /// For each node the arcs that begin and those that end there.
 #[derive(Drop)]
 pub(crate) struct Links {
-    from: Vec<End>,
-    to: Vec<End>,
+    from: Vec<Vec<Link>>,
+    to: Vec<Vec<Link>>,
 }
 
 impl Links {
@@ -28,54 +31,44 @@ impl Links {
             to: ends(alloc, nodes)?,
         };
         for number in 0..question.arcs.len() {
-            links.add_arc(question.arcs[number], number)?;
+            links.add(question.arcs[number], Link::Given(number))?;
         }
         for pair in 0..question.pairs.len() {
-            links.add_side(question.pairs[pair].one, Side { pair, one: true })?;
-            links.add_side(question.pairs[pair].other, Side { pair, one: false })?;
+            let Pair { one, other } = question.pairs[pair];
+            links.add(one, Link::One(pair))?;
+            links.add(other, Link::Other(pair))?;
         }
         Ok(links)
     }
 
-    fn add_arc(&mut self, arc: Arc, number: usize) -> Result<(), AllocError> {
-        if let Some(end) = self.from.get_mut(arc.from as usize) {
-            end.arcs.push(number)?;
+    fn add(&mut self, arc: Arc, link: Link) -> Result<(), AllocError> {
+        if let Some(links) = self.from.get_mut(arc.from as usize) {
+            links.push(link)?;
         }
-        if let Some(end) = self.to.get_mut(arc.to as usize) {
-            end.arcs.push(number)?;
-        }
-        Ok(())
-    }
-
-    fn add_side(&mut self, arc: Arc, side: Side) -> Result<(), AllocError> {
-        if let Some(end) = self.from.get_mut(arc.from as usize) {
-            end.sides.push(side)?;
-        }
-        if let Some(end) = self.to.get_mut(arc.to as usize) {
-            end.sides.push(side)?;
+        if let Some(links) = self.to.get_mut(arc.to as usize) {
+            links.push(link)?;
         }
         Ok(())
     }
 
-    /// The arcs that begin at a node.
-    pub(crate) fn from(&self, node: usize) -> Option<&End> {
-        self.from.get(node)
-    }
-
-    /// The arcs that end at a node.
-    pub(crate) fn to(&self, node: usize) -> Option<&End> {
-        self.to.get(node)
+    /// The arcs at an end of a node.
+    pub(crate) fn at(&self, end: End) -> &[Link] {
+        let links = match end {
+            End::From(node) => self.from.get(node),
+            End::To(node) => self.to.get(node),
+        };
+        match links {
+            Some(links) => links.as_slice(),
+            None => &[],
+        }
     }
 }
 
 /// So many nodes without arcs.
-fn ends(alloc: Global, nodes: usize) -> Result<Vec<End>, AllocError> {
+fn ends(alloc: Global, nodes: usize) -> Result<Vec<Vec<Link>>, AllocError> {
     let mut ends = Vec::with_capacity(alloc, nodes)?;
     for _ in 0..nodes {
-        ends.push(End {
-            arcs: Vec::new(alloc),
-            sides: Vec::new(alloc),
-        })?;
+        ends.push(Vec::new(alloc))?;
     }
     Ok(ends)
 }

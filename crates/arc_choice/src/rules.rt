@@ -1,13 +1,13 @@
 //! The rules by which more becomes known, one step each.
 
-ghost use Rattle.std.specs.Prelude.{◌≡◌, ℕ, ◌<◌, ◌≤◌, length, true, false};
-ghost use Rattle.arc_choice.specs.Choices.{Keeps, IsArc, IsSound, nodes, side_of};
-ghost use Rattle.arc_choice.specs.Branches.{IsBranch, Narrows, HasNone, Propagates, Forces, Always};
+ghost use Rattle.std.specs.Prelude.{◌≡◌, ℕ, ◌<◌, ◌≤◌, IfSome, length, true, false};
+ghost use Rattle.arc_choice.specs.Choices.{Keeps, IsArc, nodes, side_of};
+ghost use Rattle.arc_choice.specs.Branches.{IsBranch, IsHeld, Narrows, HasNone, Propagates, Forces, Always};
 ghost use Rattle.arc_choice.specs.Branches.{AreHeads, AreLatest, decision_for};
 
 use crate::branch::{Branch, Decision};
-use crate::choosing::Side;
-use crate::question::{Arc, Question};
+use crate::links::Link;
+use crate::question::{Arc, Question, Side};
 use crate::work::Work;
 
 /// There are no such moments.
@@ -16,6 +16,9 @@ pub(crate) struct Clash {
     /// A pair of which neither side can be, if it was found there.
     pub(crate) at: Option<usize>,
 }
+
+/// What a rule comes to.
+pub(crate) type Kept = Result<(), Clash>;
 
 /// No head is lower than this one.
 fn raise(heads: &mut Vec<u64>, work: &mut Work, node: usize, head: u64)
@@ -52,7 +55,7 @@ fn decision_of(one: bool) -> Decision
 
 impl Branch {
     /// An arc that holds moves the moments of its ends.
-    fn keep(&mut self, question: &Question, work: &mut Work, arc: Arc) -> Result<(), Clash>
+    pub(crate) fn keep(&mut self, question: &Question, work: &mut Work, arc: Arc) -> Kept
         requires branch { IsBranch question.now self.old }
         requires arc { IsArc (nodes question.now) arc }
         ensures { Propagates (λ w. Keeps w arc) question.now self.old self.new result }
@@ -84,7 +87,6 @@ impl Branch {
 
     /// A side is decided: its target, and what comes after that, comes after its source and all before that.
     fn note(&mut self, question: &Question, side: Side)
-        requires sound { IsSound question.now }
         requires branch { IsBranch question.now self.old }
         requires pair { side.pair < length question.now.pairs.items }
         ensures { Narrows (λ w. Keeps w (side_of question.now side.pair side.one)) question.now self.old self.new }
@@ -99,13 +101,7 @@ impl Branch {
     }
 
     /// Decides a side, and keeps it.
-    pub(crate) fn decide(
-        &mut self,
-        question: &Question,
-        work: &mut Work,
-        side: Side,
-    ) -> Result<(), Clash>
-        requires sound { IsSound question.now }
+    pub(crate) fn decide(&mut self, question: &Question, work: &mut Work, side: Side) -> Kept
         requires branch { IsBranch question.now self.old }
         requires pair { side.pair < length question.now.pairs.items }
         ensures { Propagates (λ w. Keeps w (side_of question.now side.pair side.one)) question.now
@@ -117,7 +113,6 @@ impl Branch {
 
     /// The side of a pair that is kept since the other can't be, if there is one.
     pub(crate) fn forced(&self, question: &Question, pair: usize) -> Result<Option<Side>, Clash>
-        requires sound { IsSound question.now }
         requires branch { IsBranch question.now self.now }
         requires pair { pair < length question.now.pairs.items }
         ensures { Forces question.now self.now result }
@@ -150,7 +145,6 @@ impl Branch {
 
     /// Whether no arc of the question is one that can't be, as each on a cycle is.
     pub(crate) fn admits_arcs(&self, question: &Question) -> bool
-        requires sound { IsSound question.now }
         requires branch { IsBranch question.now self.now }
         ensures { result ≡ false → HasNone Always question.now self.now }
     {
@@ -162,41 +156,31 @@ impl Branch {
         true
     }
 
-    /// Keeps an arc of the question, if there is one of this number.
-    pub(crate) fn keep_arc(
-        &mut self,
-        question: &Question,
-        work: &mut Work,
-        number: usize,
-    ) -> Result<(), Clash>
-        requires sound { IsSound question.now }
-        requires branch { IsBranch question.now self.old }
-        ensures { Propagates Always question.now self.old self.new result }
+    /// The arc, if it is one of the question or a side that is decided.
+    pub(crate) fn held(&self, question: &Question, link: Link) -> Option<Arc>
+        requires { IsBranch question.now self.now }
+        ensures { IfSome result (IsHeld question.now self.now) }
     {
-        if number >= question.arcs.len() {
-            return Ok(());
+        match link {
+            Link::Given(number) if number < question.arcs.len() => Some(question.arcs[number]),
+            Link::Given(_) => None,
+            Link::One(pair) => self.decided(question, Side { pair, one: true }),
+            Link::Other(pair) => self.decided(question, Side { pair, one: false }),
         }
-        self.keep(question, work, question.arcs[number])
     }
 
-    /// Keeps a side of a pair, if it is decided.
-    pub(crate) fn keep_side(
-        &mut self,
-        question: &Question,
-        work: &mut Work,
-        side: Side,
-    ) -> Result<(), Clash>
-        requires sound { IsSound question.now }
-        requires branch { IsBranch question.now self.old }
-        ensures { Propagates Always question.now self.old self.new result }
+    /// The arc of a side, if it is decided.
+    fn decided(&self, question: &Question, side: Side) -> Option<Arc>
+        requires { IsBranch question.now self.now }
+        ensures { IfSome result (IsHeld question.now self.now) }
     {
         if side.pair >= question.pairs.len() {
-            return Ok(());
+            return None;
         }
         match (self.decision(side.pair), side.one) {
-            (Decision::One, true) => self.keep(question, work, question.side(side)),
-            (Decision::Other, false) => self.keep(question, work, question.side(side)),
-            _ => Ok(()),
+            (Decision::One, true) => Some(question.side(side)),
+            (Decision::Other, false) => Some(question.side(side)),
+            _ => None,
         }
     }
 }

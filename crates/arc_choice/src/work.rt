@@ -39,7 +39,7 @@ impl Queue {
     }
 
     /// The next node, if there is one.
-    pub(crate) fn pop(&mut self) -> Option<usize> {
+    fn pop(&mut self) -> Option<usize> {
         let node = self.nodes.pop_front()?;
         if node < self.marks.len() {
             self.marks[node] = false;
@@ -54,6 +54,15 @@ impl Queue {
             *mark = false;
         }
     }
+}
+
+/// An end of the arcs at a node.
+#[derive(Clone, Copy)]
+pub(crate) enum End {
+    /// They begin there.
+    From(usize),
+    /// They end there.
+    To(usize),
 }
 
 /// The nodes whose moments have become later at the earliest, and those whose moments have become earlier at the
@@ -71,6 +80,15 @@ impl Work {
             raised: Queue::full(alloc, nodes)?,
             lowered: Queue::full(alloc, nodes)?,
         })
+    }
+
+    /// The arcs that are looked at next: those that begin where moments have become later, then those that end where
+    /// they have become earlier.
+    pub(crate) fn pop(&mut self) -> Option<End> {
+        match self.raised.pop() {
+            Some(node) => Some(End::From(node)),
+            None => Some(End::To(self.lowered.pop()?)),
+        }
     }
 
     /// Nothing is left to be looked at.

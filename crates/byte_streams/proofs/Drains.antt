@@ -1,5 +1,6 @@
 -- An input that is read piece by piece.
-use Rattle.std.proofs.Common.{◌≡◌, ℕ, ◌+◌, ◌≤◌, List, [], ◌++◌, Option, Some, Ok, Err, length, take, refl, sym, ap, ◌∙◌, arith, append-nil, length-append, subst, inl, inr}
+use Rattle.std.proofs.Common.{◌≡◌, ℕ, ◌+◌, ◌<◌, ◌≤◌, List, [], ◌++◌, Option, Some, Ok, Err, length, take, refl, sym, ap, ◌∙◌, arith, append-nil, length-append, subst, inl, inr}
+use Rattle.std.proofs.lemmas.Bool.{cases_lt}
 use Rattle.std.proofs.lemmas.List.{take_all}
 use Rattle.std.proofs.Math.Seq.{take-append-add}
 use Rattle.std.specs.Io.KnownBytes.{Consumes, Keeps, IsAtEnd}
@@ -9,10 +10,11 @@ use Rattle.byte_streams.specs.declared.drive_fault.DriveFault.{DriveFault}
 use Rattle.byte_streams.specs.declared.drive_fault.DriveFault.TheVariants.{Read, Write, InputTooLong, Memory}
 use Rattle.byte_streams.specs.Lent.{SinkState, Input, Output, Streams, output_sink}
 use Rattle.byte_streams.specs.Holding.{ended, held_after}
-use Rattle.byte_streams.specs.Answering.{AnswerAll, AreCutOff, AreCutShort}
-use Rattle.byte_streams.specs.Reading.{Reached, at_first, IsPieceAnswered, IsReadOn, IsReadAnswered, IsDrained}
+use Rattle.byte_streams.specs.Answering.{AnswerAll, AreAnswered, AreCutOff, AreCutShort}
+use Rattle.byte_streams.specs.Reading.{Reached, at_first, IsPastLimit, IsPieceAnswered, IsReadOn, IsReadAnswered, IsDrained}
+use Rattle.byte_streams.specs.Streams.{IsShownAt}
 use Rattle.byte_streams.proofs.Held.{ended-append, held_after-append, length-ended}
-use Rattle.byte_streams.proofs.Told.{AnswerAll-append, cut_behind}
+use Rattle.byte_streams.proofs.AnsweredLines.{AnswerAll-append, cut_behind}
 
 module _ {S : Type 0} (answers : S → ℕ → Option (List ℕ) → List ℕ → S → Type 0) (start : S) (now : Reached S) (bytes piece : List ℕ) (before middle : SinkState)
     (first : IsPieceAnswered answers (at_first start) bytes now before middle) where
@@ -58,6 +60,27 @@ module _ {S : Type 0} (answers : S → ℕ → Option (List ℕ) → List ℕ �
         are_answers = answers_more second.text end second.are_answers;
         written = Appends-trans before.written middle.written after first.text second.text first.written second.written;
       })
+
+-- the lines that end in a piece are answered
+pub all_answered : {S : Type 0} (answers : S → ℕ → Option (List ℕ) → List ℕ → S → Type 0) (now next : Reached S) (piece : List ℕ) (before after : SinkState)
+    → AreAnswered answers now.state (now.lines + 1) (ended now.held piece) next.state before after → next.held ≡ held_after now.held piece → next.lines ≡ now.lines + length (ended now.held piece)
+    → IsPieceAnswered answers now piece next before after
+all_answered answers now next piece before after were held lines =
+    record { text = were.text; are_answers = were.are_answers; written = were.written; unfailed = were.unfailed; lines_are = lines; held_is = held }
+
+-- the bytes of a piece within the limit
+pub within_limit : (piece : List ℕ) (left within : ℕ) → within ≤ left → (within < length piece → within ≡ left) → take within piece ≡ take left piece
+within_limit piece left within few all = elim (cases_lt within (length piece)) [
+  | inl less ↦ ap (λ (n : ℕ). take n piece) (all less)
+  | inr not_less ↦ take_all within piece (omega (arith, not_less)) ∙ sym (take_all left piece (omega (arith, not_less, few)))
+]
+
+-- nothing is held back past the limit, unless that failed
+pub shown_past : (e : DriveFault) (before after : Output) → IsPastLimit e before after → IsShownAt e after.pending
+shown_past Read before after fault = absurd fault
+shown_past Write before after fault = tt
+shown_past InputTooLong before after fault = fault.1
+shown_past Memory before after fault = absurd fault
 
 -- so much was read, the lines that end in it are answered, and no device failed; so many bytes are left of the limit
 pub record Draining {S : Type 0} (answers : S → ℕ → Option (List ℕ) → List ℕ → S → Type 0) (start : S) (now : Reached S) (left : ℕ) (before after : Streams) : Type 0 where
@@ -167,6 +190,31 @@ module _ {S : Type 0} (answers : S → ℕ → Option (List ℕ) → List ℕ �
           count = omega (arith, length-append so_far.bytes piece);
           answered = piece_more answers start now so_far.bytes piece (output_sink before.output) (output_sink middle.output) so_far.answered next (output_sink output) reading.1;
         }
+
+    -- it was answered as far as so many bytes were left, and more came: showing that, or the fault that more came
+    pub past_limit : (e : DriveFault) (next : Reached S) (output shown : Output) → left < length piece → IsPieceAnswered answers now (take left piece) next (output_sink middle.output) (output_sink output)
+        → Keeps output.written shown.written → IsPastLimit e output shown → IsReadAnswered (Err e) answers now piece left next (output_sink middle.output) (output_sink shown)
+    past_limit Read next output shown over answered kept fault = absurd fault
+    past_limit Memory next output shown over answered kept fault = absurd fault
+    past_limit Write next output shown over answered kept fault = (
+      fault,
+      inr (record {
+        text = answered.text;
+        are_answers = answered.are_answers;
+        written = Appends-kept middle.output.written output.written shown.written answered.text answered.written kept;
+      }),
+    )
+    past_limit InputTooLong next output shown over answered kept fault = (
+      over,
+      record {
+        text = answered.text;
+        are_answers = answered.are_answers;
+        written = Appends-kept middle.output.written output.written shown.written answered.text answered.written kept;
+        unfailed = fault.0 ∙ answered.unfailed;
+        lines_are = answered.lines_are;
+        held_is = answered.held_is;
+      },
+    )
 
     -- what is left of the limit takes so much of the piece
     cut : so_far.bytes ++ take left piece ≡ take MAX_INPUT (so_far.bytes ++ piece)

@@ -1,6 +1,6 @@
 pub mod Written
 pub mod Held
-pub mod Told
+pub mod AnsweredLines
 pub mod Taking
 pub mod Drains
 pub mod WholeLines

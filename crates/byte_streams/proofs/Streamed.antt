@@ -12,7 +12,7 @@ use Rattle.byte_streams.specs.Holding.{held_line, ended}
 use Rattle.byte_streams.specs.Answering.{AnswerAll, AreAnswered, AreCutOff, AreCutShort, IsClosingCut, WereAnswered}
 use Rattle.byte_streams.specs.Streams.{IsShownAt, IsStreamed}
 use Rattle.byte_streams.specs.Reading.{Reached, at_first, IsPieceAnswered, IsDrained, IsWhollyFinished, IsFinished, last_line}
-use Rattle.byte_streams.proofs.Told.{AnswerAll-append, AnswerAll-one, cut_behind, closing_cut_behind, cut_one}
+use Rattle.byte_streams.proofs.AnsweredLines.{AnswerAll-append, AnswerAll-one, cut_behind, closing_cut_behind, cut_one}
 use Rattle.byte_streams.proofs.WholeLines.{input_lines-ended, complete_lines-ended, last_line-some}
 
 -- ---- the last line

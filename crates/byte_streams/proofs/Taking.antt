@@ -7,7 +7,7 @@ use Rattle.byte_streams.specs.Holding.{joined, held_line, ended, held_after}
 use Rattle.byte_streams.specs.Lent.{SinkState, WroteOne}
 use Rattle.byte_streams.specs.Answering.{AnswerAll, AreAnswered, AreCutOff}
 use Rattle.byte_streams.proofs.Held.{ended-first, held_after-first, ended-none, held_after-none}
-use Rattle.byte_streams.proofs.Told.{AnswerAll-append, AnswerAll-one, cut_behind, cut_one}
+use Rattle.byte_streams.proofs.AnsweredLines.{AnswerAll-append, AnswerAll-one, cut_behind, cut_one}
 
 -- of a piece some lines were answered and no write failed; these bytes are left of it
 pub record Taking {S : Type 0} (answers : S → ℕ → Option (List ℕ) → List ℕ → S → Type 0) (start : S) (lines : ℕ) (held : Option (List ℕ)) (piece : List ℕ)

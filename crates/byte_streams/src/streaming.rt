@@ -1,11 +1,11 @@
 //! A whole input, read piece by piece and answered line by line.
 
-ghost use Rattle.std.specs.Prelude.{◌≡◌, ◌+◌, ◌^◌, ◌<◌, ◌≤◌, [], length, Some, IfOk, IfErr, OnOk};
+ghost use Rattle.std.specs.Prelude.{◌≡◌, ◌+◌, ◌^◌, ◌<◌, ◌≤◌, [], length, IfOk, OnOk};
 ghost use Rattle.std.specs.Io.KnownBytes.{Keeps, ReadConsumes};
 ghost use Rattle.byte_streams.specs.Lent.{sink_state, output_of, streams_of, lent};
 ghost use Rattle.byte_streams.specs.Answering.{WereAnswered};
-ghost use Rattle.byte_streams.specs.Reading.{IsReadOn, IsPastLimit, IsReadAnswered, IsFinished, last_line, reached};
-ghost use Rattle.byte_streams.specs.Streams.{IsShown, IsShownAt, IsStreamed};
+ghost use Rattle.byte_streams.specs.Reading.{IsReadOn, IsPastLimit, IsFinished, last_line, reached};
+ghost use Rattle.byte_streams.specs.Streams.{IsShown, IsStreamed};
 
 use crate::buffered_sink::BufferedSink;
 use crate::drive_fault::DriveFault;
@@ -25,29 +25,6 @@ fn past_limit<W: BufferedSink>(writer: &mut W) -> DriveFault
         Ok(()) => DriveFault::InputTooLong,
         Err(_) => DriveFault::Write,
     }
-}
-
-/// Takes what was read, up to the number of bytes that are left of the limit, and returns how many are left then.
-fn take_read<H: LineHandler, W: BufferedSink>(
-    handler: &mut H,
-    input: &mut Input,
-    piece: &[u8],
-    left: usize,
-    writer: &mut W,
-) -> Result<usize, DriveFault>
-    requires { input.old.lines + left < 2 ^ 64 }
-    ensures written { IsReadAnswered result H.answers (reached handler.old input.old) piece.now left
-        (reached handler.new input.new) (sink_state W.Sink writer.old) (sink_state W.Sink writer.new) }
-    ensures shown { IfErr result (λ fault. IsShownAt fault (W.pending writer.new)) }
-{
-    let within = piece.len().min(left);
-    if take_piece(handler, input, &piece[..within], writer).is_err() {
-        return Err(DriveFault::Write);
-    }
-    if within < piece.len() {
-        return Err(past_limit(writer));
-    }
-    Ok(left - within)
 }
 
 /// Shows what was answered, and then reads on.
@@ -135,6 +112,15 @@ pub fn stream<H: LineHandler, R: Source, W: BufferedSink>(
                 Err(_) => Err(DriveFault::Write),
             };
         }
-        left = take_read(handler, &mut input, &room[..count], left, writer)?;
+        let piece = &room[..count];
+        let within = piece.len().min(left);
+        match take_piece(handler, &mut input, &piece[..within], writer) {
+            Ok(()) => {}
+            Err(_) => return Err(DriveFault::Write),
+        }
+        if within < piece.len() {
+            return Err(past_limit(writer));
+        }
+        left -= within;
     }
 }

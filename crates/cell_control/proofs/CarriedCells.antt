@@ -1,10 +1,9 @@
 -- A cell that is carried over to a plan that the run so far keeps is one as it can be in a run of that plan.
 use Rattle.std.proofs.Common.{◌≡◌, ℕ, ◌+◌, ◌-◌, ◌<◌, ◌≤◌, inl, inr, List, [], length, get_or, false, None, Some, refl, sym, ap, ◌∙◌, subst, arith, length-append, lt-ltb, le-ltb, if◌then◌else◌}
 use Rattle.std.proofs.{lemmas.Bool.cases_lt, lemmas.List.get_or_past, Math.ListN.get_or-append}
-use Rattle.shop_base.specs.declared.job_state.JobState.{JobState}
+use Rattle.shop_base.specs.{declared.job_state.JobState.JobState, Move.IsPrefix, Sound.IsSound}
 use Rattle.shop_base.specs.Plan.{PlannedShop, jobs, machines, steps, machine_of, order, job_at, clean, Visits, Stands, IsWellShaped}
 use Rattle.shop_base.specs.Cell.{Cell, MachineState, absent, unused, job_in, machine_in, made, ready, since, entries, cleaning, IsGone, IsFree}
-use Rattle.shop_base.specs.{Move.IsPrefix, Sound.IsSound}
 use Rattle.shop_base.proofs.Visits.{visits_job, visits_machine, visits_once, visits-stands, stands_once}
 use Rattle.cell_control.specs.{Kept.KeepsSoFar, Carried.{awaited, IsCarried}}
 use Rattle.cell_control.proofs.KeptSoFar.{kept_begins}

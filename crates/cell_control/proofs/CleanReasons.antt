@@ -4,8 +4,7 @@ use Rattle.shop_base.specs.{Plan.{PlannedShop, jobs, machines, order, clean, IsW
 use Rattle.shop_base.specs.{Report.CanReport, Sound.IsSound, declared.report.Report.TheVariants.Clean}
 use Rattle.shop_base.proofs.{Sizes.place_job, InShop.cleaned_in_shop}
 use Rattle.cell_tables.specs.Readings.{IsCleanedAfter}
-use Rattle.cell_control.specs.declared.report_fault.ReportFault.{ReportFault}
-use Rattle.cell_control.specs.declared.report_fault.ReportFault.TheVariants.{JobOutOfRange, MachineOutOfRange, MomentTooLarge, Backwards, NotExpected, WrongKind, WrongMachine}
+use Rattle.cell_control.specs.declared.report_fault.ReportFault.{ReportFault, TheVariants.{JobOutOfRange, MachineOutOfRange, MomentTooLarge, Backwards, NotExpected, WrongKind, WrongMachine}}
 use Rattle.cell_control.specs.Reports.{CanCleanAfter, AreOfShop, IsFirstCleanReason, IsOnlyCleanReason}
 use Rattle.cell_control.proofs.OneReason.{in_time, late_found, other_found}
 

@@ -1,9 +1,11 @@
 -- The due moments stay tied to the cell: at the start, after a move, and after the end of an activity.
-use Rattle.std.proofs.Common.{◌≡◌, ◌≢◌, ℕ, ◌+◌, ◌<◌, List, length, length-set, get_or-set_same, get_or-set_other, set, Option, None, sym, ◌∙◌, ap, arith, inl, inr}
+use Rattle.std.proofs.Common.{◌≡◌, ◌≢◌, ℕ, ◌+◌, ◌<◌, Bool, false, cond, List, length, length-set, get_or-set_same, get_or-set_other, set, Option, None, refl, sym, subst, ◌∙◌, ap, arith, inl, inr}
 use Rattle.std.proofs.lemmas.Bool.{cases_eq}
-use Rattle.shop_base.specs.Plan.{PlannedShop, jobs, machines, machine_of}
-use Rattle.shop_base.specs.{Cell.{Cell, job_in, cleaning, IsOutside, IsOn}, Movers.{due_of_job, due_of_cleaning}}
-use Rattle.shop_base.proofs.Changes.{IsMoved}
+use Rattle.shop_base.specs.{Plan.{PlannedShop, jobs, machines, machine_of}, Movers.{due_of_job, due_after, due_of_cleaning}}
+use Rattle.shop_base.specs.{Cell.{Cell, job_in, ready, cleaning, IsOutside, IsOn}, Sound.IsSound}
+use Rattle.shop_base.specs.{Report.{CanReport, with_ready, with_clean}, declared.report.Report.TheVariants.{Arrive, Finish, Clean}}
+use Rattle.shop_base.proofs.{Changes.{IsMoved, with_ready-readied, with_clean-tidied}, Visits.visits_job}
+use Rattle.shop_base.proofs.InShop.{outside_in_shop, cleaned_in_shop}
 use Rattle.cell_control.specs.{Dues.due_at, DueMoments.AreDueMoments, Noted.AreDueMomentsOf}
 
 module _ (p : PlannedShop) (c : Cell) (dues : List (Option ℕ)) (J M : ℕ → Type 0) (are : AreDueMomentsOf p c dues J M) where
@@ -85,3 +87,31 @@ due_moments-moved p c new dues j k m t inside within due_moments moved on =
     place {n} l here =
         let same : l ≡ k = omega (arith, here.entered, on.entered) in
         sym here.visits.here ∙ ap (machine_of p j) same ∙ on.visits.here
+
+-- after the end of an activity
+module _ (p : PlannedShop) (c : Cell) (dues : List (Option ℕ)) (t : ℕ) (sound : IsSound p c) (due_moments : AreDueMoments p c dues) where
+  readied : (j : ℕ) → j < jobs p → ready c j ≡ false → AreDueMoments p (with_ready c j t) (set dues j None)
+  readied j inside idle =
+      let new = with_ready c j t in
+      let is = with_ready-readied c j t idle (omega (arith, inside, sound.job_count)) in
+      let none : due_of_job p j (job_in new j) ≡ None = ap (λ (b : Bool). cond b None (due_after p j (job_in new j).made (job_in new j).since)) is.ready_mine in
+      subst (λ (d : Option ℕ). AreDueMoments p new (set dues j d)) none
+      (due_moments_but-none p new (set dues j (due_of_job p j (job_in new j))) (due_moments-renewed p c new dues j (machines p) inside due_moments is.others λ n other. refl))
+
+  pub arrived_dues : (j : ℕ) → CanReport p c (Arrive j t) → AreDueMoments p (with_ready c j t) (set dues j None)
+  arrived_dues j can = readied j (outside_in_shop p c j sound can.going.1.outside) can.going.1.not_ready
+
+  pub worked_dues : (j m : ℕ) → CanReport p c (Finish j m t) → AreDueMoments p (with_ready c j t) (set dues j None)
+  worked_dues j m can = let worked = can.going.1.1 in readied j (visits_job p j can.going.1.0 m worked.on.visits) worked.not_ready
+
+  pub cleaned_dues : (m : ℕ) → CanReport p c (Clean m t) → AreDueMoments p (with_clean c m t) (set dues (jobs p + m) None)
+  cleaned_dues m can =
+      let new = with_clean c m t in
+      let cleaned = can.going.1.1.is_cleaned in
+      let is = with_clean-tidied c m can.going.1.0 t cleaned in
+      subst (λ (s : Option ℕ). AreDueMoments p new (set dues (jobs p + m) (due_of_cleaning p m s))) is.cleaning_mine
+      (due_moments_but-renewed p new dues m (cleaned_in_shop p c m can.going.1.0 sound cleaned) (record {
+        count = due_moments.count;
+        of_jobs = due_moments.of_jobs;
+        of_others = λ n below other. due_moments.of_machines n below ∙ ap (due_of_cleaning p n) (sym (is.cleaning_elsewhere n other));
+      }))

@@ -1,16 +1,11 @@
 -- A controller that begins with a cell in mid-run, and why one doesn't.
 use Rattle.std.specs.Prelude.{◌≡◌, ℕ, ◌<◌, ◌≤◌, true}
-use Rattle.shop_base.specs.declared.limits.TheConstants.{MAX_MOMENT}
-use Rattle.shop_base.specs.Plan.{PlannedShop}
-use Rattle.shop_base.specs.Cell.{Cell}
-use Rattle.shop_base.specs.Report.{IsNextMoment}
+use Rattle.shop_base.specs.{declared.limits.TheConstants.MAX_MOMENT, Plan.PlannedShop, Cell.Cell, Report.IsNextMoment}
 use Rattle.shop_base.specs.ReportsLeft.{reports_left}
 use Rattle.alt_graph.specs.Evidence.{IsCycle}
 use Rattle.plan_verifier.specs.Rest.{AreOrderedAhead}
-use Rattle.cell_control.specs.declared.rest_fault.RestFault.{RestFault}
+use Rattle.cell_control.specs.{declared.rest_fault.RestFault.RestFault, Control.Control, Settled.HasSettled}
 use Rattle.cell_control.specs.declared.rest_fault.RestFault.TheVariants.{MomentTooLarge, IncompatiblePlan, Backwards, Cycle, Memory}
-use Rattle.cell_control.specs.Control.{Control}
-use Rattle.cell_control.specs.Settled.{HasSettled}
 
 -- one that begins with cell c of this plan at moment t: the moments kept are the greatest lengths of paths ahead of that cell, and what could move then has moved
 pub record IsBegun (p : PlannedShop) (c : Cell) (t : ℕ) (new : Control) : Type 0 where

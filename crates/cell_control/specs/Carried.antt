@@ -1,8 +1,7 @@
 -- A cell as one of another plan: p is the plan by which it was made, q the other.
 use Rattle.std.specs.Prelude.{◌≡◌, ℕ, ◌<◌, length, Option, None, false, nat_lt, if◌then◌else◌}
-use Rattle.shop_base.specs.declared.job_state.JobState.{JobState}
+use Rattle.shop_base.specs.{declared.job_state.JobState.JobState, Cell.Cell, Cell.job_in, Cell.entries, Cell.cleaning}
 use Rattle.shop_base.specs.Plan.{PlannedShop, jobs, machines, clean}
-use Rattle.shop_base.specs.Cell.{Cell, job_in, entries, cleaning}
 
 -- a job of which nothing was reported
 abbrev pub awaited : JobState

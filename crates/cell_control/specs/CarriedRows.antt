@@ -1,11 +1,8 @@
 -- The rows of a cell that is carried over to another plan.
 use Rattle.std.specs.Prelude.{◌≡◌, ℕ, ◌<◌, ◌≤◌, List, length, slice_index_or, IfSome}
-use Rattle.shop_base.specs.declared.limits.TheConstants.{MAX_MOMENT}
-use Rattle.shop_base.specs.declared.job_state.JobState.{JobState}
-use Rattle.shop_base.specs.Plan.{PlannedShop}
-use Rattle.shop_base.specs.Cell.{Cell, absent, entries}
-use Rattle.cell_tables.specs.declared.tables.MachineRow.{MachineRow}
-use Rattle.cell_tables.specs.Tables.{no_row}
+use Rattle.shop_base.specs.{declared.limits.TheConstants.MAX_MOMENT, declared.job_state.JobState.JobState}
+use Rattle.shop_base.specs.{Plan.PlannedShop, Cell.Cell, Cell.absent, Cell.entries}
+use Rattle.cell_tables.specs.{declared.tables.MachineRow.MachineRow, Tables.no_row}
 use Rattle.cell_control.specs.Carried.{carried_job, carried_cleaning}
 
 -- the rows of the first n jobs

@@ -1,12 +1,10 @@
 -- What the fields of a controller stand for, and what holds of them.
 use Rattle.std.specs.Prelude.{◌≡◌, ℕ, ◌+◌, max, List, length, Bool, true, Option}
-use Rattle.shop_base.specs.declared.move_order.MoveOrder.{MoveOrder}
-use Rattle.shop_base.specs.Plan.{PlannedShop, jobs, machines}
+use Rattle.shop_base.specs.{declared.move_order.MoveOrder.MoveOrder, Plan.PlannedShop, Plan.jobs, Plan.machines}
 use Rattle.shop_base.specs.ReportsLeft.{reports_left}
 use Rattle.alt_graph.specs.Times.{NodeTimes}
 use Rattle.cell_tables.specs.PlannedCell.{PlannedCell}
-use Rattle.cell_control.specs.Control.{Control, IsControl}
-use Rattle.cell_control.specs.DueMoments.{AreDueMoments}
+use Rattle.cell_control.specs.{Control.Control, Control.IsControl, DueMoments.AreDueMoments}
 
 -- what they stand for
 abbrev pub control_of : {P : Type 0} → PlannedCell P → NodeTimes → List MoveOrder → ℕ → ℕ → Bool → Control

@@ -1,16 +1,10 @@
 -- How a controller is handed over to another plan: where it is, and why it isn't.
 use Rattle.std.specs.Prelude.{◌≡◌, ℕ, ◌<◌, ◌≤◌}
-use Rattle.shop_base.specs.declared.limits.TheConstants.{MAX_MOMENT}
-use Rattle.shop_base.specs.Plan.{PlannedShop}
-use Rattle.shop_base.specs.Cell.{Cell}
-use Rattle.shop_base.specs.Report.{IsNextMoment}
+use Rattle.shop_base.specs.{declared.limits.TheConstants.MAX_MOMENT, Plan.PlannedShop, Cell.Cell, Report.IsNextMoment}
 use Rattle.alt_graph.specs.Evidence.{IsCycle}
-use Rattle.cell_control.specs.declared.rest_fault.RestFault.{RestFault}
+use Rattle.cell_control.specs.{declared.rest_fault.RestFault.RestFault, Kept.KeepsSoFar, Carried.IsCarried}
 use Rattle.cell_control.specs.declared.rest_fault.RestFault.TheVariants.{MomentTooLarge, IncompatiblePlan, Backwards, Cycle, Memory}
-use Rattle.cell_control.specs.Kept.{KeepsSoFar}
-use Rattle.cell_control.specs.Carried.{IsCarried}
-use Rattle.cell_control.specs.Control.{Control}
-use Rattle.cell_control.specs.Begun.{IsBegun}
+use Rattle.cell_control.specs.{Control.Control, Begun.IsBegun}
 
 -- this is the first reason for which plan q can't take over cell c of plan p at moment t, or memory ran out
 abbrev pub IsHandOverFault : PlannedShop → Cell → PlannedShop → ℕ → RestFault → Type 0

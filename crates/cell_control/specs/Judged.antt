@@ -1,9 +1,6 @@
 -- Reports that were judged possible.
 use Rattle.std.specs.Prelude.{◌≡◌, ◌↔◌, Bool, false}
-use Rattle.shop_base.specs.declared.report.Report.{Report}
-use Rattle.shop_base.specs.Plan.{PlannedShop}
-use Rattle.shop_base.specs.Cell.{Cell}
-use Rattle.shop_base.specs.Report.{CanReport}
+use Rattle.shop_base.specs.{declared.report.Report.Report, Plan.PlannedShop, Cell.Cell, Report.CanReport}
 use Rattle.shop_base.specs.Punctual.{IsPunctual}
 
 -- a report, and whether it is late

@@ -1,8 +1,7 @@
 -- When the run so far keeps another plan, as can be seen from its cell c: p is the plan by which it was made, q the other.
 use Rattle.std.specs.Prelude.{◌≡◌, ℕ, ◌<◌, ◌≤◌, false, is_some, if◌then◌else◌}
 use Rattle.shop_base.specs.Plan.{PlannedShop, jobs, machines, steps, machine_of, order, clean, Visits}
-use Rattle.shop_base.specs.Cell.{Cell, made, ready, entries, cleaning, IsGone}
-use Rattle.shop_base.specs.Move.{IsPrefix}
+use Rattle.shop_base.specs.{Cell.Cell, Cell.made, Cell.ready, Cell.entries, Cell.cleaning, Cell.IsGone, Move.IsPrefix}
 use Rattle.shop_base.specs.ReportsLeft.{departures}
 
 module _ (p : PlannedShop) (c : Cell) (q : PlannedShop) where

@@ -1,7 +1,6 @@
 -- Due moments of some of a cell's jobs and machines.
 use Rattle.std.specs.Prelude.{◌≡◌, ℕ, ◌+◌, ◌<◌, List, length, Option}
-use Rattle.shop_base.specs.Plan.{PlannedShop, jobs, machines}
-use Rattle.shop_base.specs.Cell.{Cell, job_in, cleaning}
+use Rattle.shop_base.specs.{Plan.PlannedShop, Plan.jobs, Plan.machines, Cell.Cell, Cell.job_in, Cell.cleaning}
 use Rattle.shop_base.specs.Movers.{due_of_job, due_of_cleaning}
 use Rattle.cell_control.specs.Dues.{due_at}
 

@@ -1,10 +1,7 @@
 -- The law that an end that names its job is accepted once.
 use Rattle.std.specs.Prelude.{◌≡◌, ℕ, List, ◌∷◌, ◌++◌}
-use Rattle.shop_base.specs.declared.report.Report.{Report}
-use Rattle.shop_base.specs.Plan.{PlannedShop, IsWellShaped}
-use Rattle.shop_base.specs.Cell.{Cell}
-use Rattle.shop_base.specs.Activity.{Arrival, Operation, Cleaning}
-use Rattle.shop_base.specs.Report.{ended, CanReport}
+use Rattle.shop_base.specs.{declared.report.Report.Report, Plan.PlannedShop, Plan.IsWellShaped, Cell.Cell}
+use Rattle.shop_base.specs.{Activity.Arrival, Activity.Operation, Activity.Cleaning, Report.ended, Report.CanReport}
 use Rattle.shop_base.specs.Run.{Event, Reported, IsRun, ends_in}
 use Rattle.cell_tables.specs.Readings.{IsCleanedAfter}
 

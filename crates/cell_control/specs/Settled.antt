@@ -1,11 +1,8 @@
 -- How a cell settles: by moves at one moment, always that of the first job that can move.
 use Rattle.std.specs.Prelude.{◌≡◌, ℕ, ◌<◌, List, [], ◌∷◌}
-use Rattle.shop_base.specs.declared.move_order.MoveOrder.{MoveOrder}
-use Rattle.shop_base.specs.Plan.{PlannedShop}
-use Rattle.shop_base.specs.Cell.{Cell}
+use Rattle.shop_base.specs.{declared.move_order.MoveOrder.MoveOrder, Plan.PlannedShop, Cell.Cell, Ahead.Settles}
 use Rattle.shop_base.specs.Move.{CanMove, KeepsPlan, after_move}
 use Rattle.shop_base.specs.Controlled.{after_moves, orders_for}
-use Rattle.shop_base.specs.Ahead.{Settles}
 
 -- job j can move at moment t and keep the plan, and no job before it can
 pub record IsFirstMover (p : PlannedShop) (c : Cell) (t j : ℕ) : Type 0 where

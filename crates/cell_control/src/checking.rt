@@ -11,6 +11,7 @@ use shop_base::limits::MAX_MOMENT;
 use shop_base::{JobNo, MachineNo, Moment, Planned, Report};
 
 /// Checks that the report is possible.
+#[inline(always)]
 pub fn check_report<P: Planned>(cell: &WorkCell<P>, report: Report) -> Result<(), ReportFault>
     ensures possible { OnOk result (CanReport cell.now.plan cell.now.cell report) }
     ensures first { IfErr result (IsFirstReason cell.now.plan cell.now.cell report) }
@@ -33,6 +34,7 @@ fn check_arrival<P: Planned>(cell: &WorkCell<P>, job: JobNo, at: Moment) -> Resu
     }
 }
 
+#[inline(always)]
 fn check_finish<P: Planned>(
     cell: &WorkCell<P>,
     job: JobNo,
@@ -94,6 +96,7 @@ pub fn check_cleaning_after<P: Planned>(
 }
 
 /// Checks what any report of a job asks for: that it is one of the shop's, and has an activity.
+#[inline(always)]
 fn check_job<P: Planned>(cell: &WorkCell<P>, job: JobNo, at: Moment) -> Result<(), ReportFault>
     ensures in_turn { OnOk result (IsBusyInTurn cell.now.plan cell.now.cell job at) }
     ensures first { IfErr result (IsJobReason cell.now.plan cell.now.cell job at) }
@@ -110,6 +113,7 @@ fn check_job<P: Planned>(cell: &WorkCell<P>, job: JobNo, at: Moment) -> Result<(
 }
 
 /// Checks that the moment isn't past the latest, nor before the last one.
+#[inline(always)]
 fn check_moment<P: Planned>(cell: &WorkCell<P>, at: Moment) -> Result<(), ReportFault>
     ensures moment { OnOk result (IsNextMoment cell.now.cell at) }
     ensures first { IfErr result (IsMomentReason cell.now.cell at) }

@@ -1,13 +1,12 @@
 ghost use Rattle.std.specs.Prelude.{◌≡◌, ◌<◌, ◌≤◌, ◌↔◌, false, [], List, OnOk, IfOk, IfErr, IsOk, IsTrue, MatchOption};
-ghost use Rattle.shop_base.specs.{Plan.jobs, Report.CanReport, Run.Event, Run.IsAtRest, Ends.HasEnded};
-ghost use Rattle.shop_base.specs.{ReportsLeft.reports_left, Graph.leaving};
+ghost use Rattle.shop_base.specs.{Plan.jobs, Report.CanReport, Run.Event, Run.IsAtRest, Ends.HasEnded, Graph.leaving};
+ghost use Rattle.shop_base.specs.ReportsLeft.{reports_left};
 ghost use Rattle.alt_graph.specs.Times.{earliest_of};
 ghost use Rattle.cell_tables.specs.Readings.{IsCleanedFor};
-ghost use Rattle.cell_control.specs.Control.{IsAnswered, IfEndsNow, IsControl};
+ghost use Rattle.cell_control.specs.{Control.IsAnswered, Control.IfEndsNow, Control.IsControl, Promises.IsCalled};
 ghost use Rattle.cell_control.specs.{Fields.begun_with, Fields.IsRoomFor, Judged.IsJudged, Judged.IsPossible};
 ghost use Rattle.cell_control.specs.Reports.{IsFirstReason, IsOnlyReason, CanCleanAfter};
 ghost use Rattle.cell_control.specs.Reports.{IsFirstCleanReason, IsOnlyCleanReason};
-ghost use Rattle.cell_control.specs.Promises.{IsCalled};
 ghost use Rattle.cell_control.specs.Readings.{IsPhaseOf, IsJobOn, IsDueOf, IsDueOfCleaning, IsOnTime};
 
 use crate::ack::Ack;
@@ -36,7 +35,7 @@ use std::marker::Model;
 ///
 /// A [`crate::Controller`] has an accepted plan, and began with it; a [`crate::RestController`] began in mid-run, or
 /// was handed over. None of the calls here takes memory.
-#[derive(Debug, Drop)]
+#[derive(Drop)]
 pub struct Core<P: Timed, D: Dues> {
     pub(crate) cell: WorkCell<P>,
     pub(crate) dues: D,
@@ -96,6 +95,7 @@ impl<P: Timed, D: Dues> Core<P, D> {
 
     /// Judges a report: it is possible, and late or not, or this is the first reason for which it isn't possible.
     /// Nothing changes.
+    #[inline(always)]
     pub fn judge(&self, report: Report) -> Result<Possible, ReportFault>
         ensures possible { IsOk result ↔ CanReport self.now.planned self.now.cell report }
         ensures judged { IfOk result (IsJudged self.now.planned self.now.cell report) }
@@ -248,7 +248,7 @@ impl<P: Timed, D: Dues> Core<P, D> {
     pub fn is_late(&self, at: Moment) -> bool
         ensures { (result ≡ false) ↔ IsOnTime self.now.planned self.now.cell at }
     {
-        is_past_due(&self.dues, at)
+        is_past_due(&self.cell, &self.dues, at)
     }
 
     /// The moment of the last event, 0 before the first.

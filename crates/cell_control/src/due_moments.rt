@@ -30,7 +30,7 @@ fn renew<D: Dues>(dues: &mut D, key: u32, due: Option<Moment>)
 }
 
 /// Notes what goes on with the job, anew.
-pub fn renew_job<P: Planned, D: Dues>(cell: &WorkCell<P>, dues: &mut D, job: JobNo)
+pub(crate) fn renew_job<P: Planned, D: Dues>(cell: &WorkCell<P>, dues: &mut D, job: JobNo)
     requires job { job < jobs cell.now.plan }
     requires count { length (D.dues dues.old) ≡ jobs cell.now.plan + machines cell.now.plan }
     ensures { IsJobRenewed cell.now.plan cell.now.cell (D.dues dues.old) job (D.dues dues.new) }
@@ -40,7 +40,11 @@ pub fn renew_job<P: Planned, D: Dues>(cell: &WorkCell<P>, dues: &mut D, job: Job
 }
 
 /// Notes what goes on with the machine, anew.
-pub fn renew_machine<P: Planned, D: Dues>(cell: &WorkCell<P>, dues: &mut D, machine: MachineNo)
+pub(crate) fn renew_machine<P: Planned, D: Dues>(
+    cell: &WorkCell<P>,
+    dues: &mut D,
+    machine: MachineNo,
+)
     requires machine { machine < machines cell.now.plan }
     requires count { length (D.dues dues.old) ≡ jobs cell.now.plan + machines cell.now.plan }
     ensures { IsMachineRenewed cell.now.plan cell.now.cell (D.dues dues.old) machine (D.dues dues.new) }

@@ -30,7 +30,13 @@ pub(crate) fn prepare<P: Planned, D: Dues>(
 {
     check_moment(cell, present)?;
     match solve_after(alloc, cell, present)? {
-        Solved::Ordered(times) => Ok((times, take_room(alloc, cell)?)),
+        Solved::Ordered(times) => match take_room(alloc, cell) {
+            Ok(room) => Ok((times, room)),
+            Err(error) => {
+                drop(times);
+                Err(RestFault::from(error))
+            }
+        },
         Solved::Cyclic(nodes) => Err(RestFault::Cycle(nodes)),
     }
 }

@@ -11,7 +11,7 @@ ghost use Rattle.cell_control.specs.Sequences.{OnlyMay, IsMover, IsSequence};
 use crate::due_moments::{renew_job, renew_machine};
 use crate::dues::Dues;
 use cell_tables::WorkCell;
-use shop_base::{JobNo, MoveOrder, Planned, Spot};
+use shop_base::{JobNo, Moment, MoveOrder, Planned, Spot};
 use smallvec::SmallVec;
 
 /// The moves that a report releases. A few are kept in the value, more in memory reserved at first.
@@ -39,7 +39,8 @@ pub(crate) fn release_moves<P: Planned, D: Dues>(
     while let Some(job) = mover(cell, candidate) {
         let _plan = cell.shaped();
         candidate = follower(cell, job);
-        let order = advance(cell, dues, job);
+        let at = cell.last();
+        let order = advance(cell, dues, job, at);
         orders.push_reserved(order);
     }
 }
@@ -66,18 +67,22 @@ fn follower<P: Planned>(cell: &WorkCell<P>, job: JobNo) -> Option<JobNo>
     cell.next_on(machine)
 }
 
-/// Moves a job that can move, and notes what begins with that.
-fn advance<P: Planned, D: Dues>(cell: &mut WorkCell<P>, dues: &mut D, job: JobNo) -> MoveOrder
+/// Moves a job that can move at this moment, and notes what begins with that.
+pub fn advance<P: Planned, D: Dues>(
+    cell: &mut WorkCell<P>,
+    dues: &mut D,
+    job: JobNo,
+    at: Moment,
+) -> MoveOrder
     requires due_moments { AreDueMoments cell.old.plan cell.old.cell (D.dues dues.old) }
-    requires can { let c = cell.old.cell in CanMove cell.old.plan c job c.last }
+    requires can { CanMove cell.old.plan cell.old.cell job at }
     requires keeps { KeepsPlan cell.old.plan cell.old.cell job }
-    ensures order { let c = cell.old.cell in result ≡ order_for cell.old.plan c job c.last }
-    ensures moved { let c = cell.old.cell in
-        cell.new ≡ record cell.old { cell = after_move cell.old.plan c job c.last } }
+    ensures order { result ≡ order_for cell.old.plan cell.old.cell job at }
+    ensures moved { cell.new ≡ record cell.old { cell = after_move cell.old.plan cell.old.cell job at } }
     ensures due_moments { AreDueMoments cell.old.plan cell.new.cell (D.dues dues.new) }
 {
     let _plan = cell.shaped();
-    let order = cell.make_move(job, cell.last());
+    let order = cell.make_move(job, at);
     renew_job(cell, dues, job);
     if let Spot::At(machine) = order.source {
         renew_machine(cell, dues, machine);

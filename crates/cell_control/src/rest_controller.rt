@@ -17,6 +17,7 @@ use alt_graph::Times;
 use cell_tables::WorkCell;
 use shop_base::{Moment, Shaped};
 use std::alloc::Global;
+use std::mem::replace;
 
 /// Runs the rest of a run by a plan without a cycle: a [`Core`] that was begun in mid-run or handed over, with its plan
 /// and the moments kept. No budgets are asked for.
@@ -114,12 +115,26 @@ impl<D: Dues> Core<Held, D> {
         ensures unchanged { IfErr result (λ refused. self.new ≡ self.old) }
         ensures handed_back { IfErr result (λ refused. refused.1 ≡ shaped) }
     {
+        let new = self.successor(alloc, shaped, present)?;
+        drop(replace(self, new));
+        Ok(())
+    }
+
+    /// The controller of another plan that goes on with the cell.
+    fn successor(
+        &self,
+        alloc: Global,
+        shaped: Shaped,
+        present: Moment,
+    ) -> Result<RestController<D>, (RestFault, Shaped)>
+        ensures handed_over { IfOk result (IsHandedOver self.now shaped present) }
+        ensures fault { IfErr result
+            (λ refused. IsHandOverFault self.now.planned self.now.cell shaped present refused.0) }
+        ensures handed_back { IfErr result (λ refused. refused.1 ≡ shaped) }
+    {
         let cell = take_over(alloc, &self.cell, shaped, present)?;
         match RestController::begin(alloc, cell, present) {
-            Ok(new) => {
-                *self = new;
-                Ok(())
-            }
+            Ok(new) => Ok(new),
             Err((fault, cell)) => Err((fault, cell.into_basis())),
         }
     }

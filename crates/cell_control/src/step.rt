@@ -2,11 +2,11 @@
 
 ghost use Rattle.std.specs.Prelude.{◌≡◌, ◌≤◌, ◌↔◌, ◌⊎◌, IsTrue, [], false};
 ghost use Rattle.shop_base.specs.{Plan.jobs, Report.at, Report.CanReport, Run.IsAtRest, Punctual.IsPunctual};
-ghost use Rattle.cell_control.specs.{DueMoments.AreDueMoments, Steps.IsMade, Steps.AreDueFrom};
+ghost use Rattle.cell_control.specs.{DueMoments.AreDueMoments, Steps.IsMade, Readings.IsOnTime};
 
 use crate::ack::Ack;
 use crate::dues::Dues;
-use crate::ending::end_activity;
+use crate::ending::{candidate_after, end_activity};
 use crate::releasing::{Orders, release_moves};
 use cell_tables::WorkCell;
 use shop_base::{Moment, Planned, Report};
@@ -34,15 +34,19 @@ pub(crate) fn make_step<P: Planned, D: Dues>(
     let _plan = cell.shaped();
     let ack = Ack { late };
     drop_orders(orders);
-    let candidate = end_activity(cell, dues, report);
+    let candidate = candidate_after(cell, report);
+    end_activity(cell, dues, report);
     release_moves(cell, dues, orders, candidate);
     ack
 }
 
-/// Whether the moment is past a due moment.
-pub fn is_past_due<D: Dues>(dues: &D, at: Moment) -> bool
-    ensures { (result ≡ false) ↔ AreDueFrom (D.dues dues.now) at }
+/// Whether something that is going on should have ended before this moment.
+pub fn is_past_due<P: Planned, D: Dues>(cell: &WorkCell<P>, dues: &D, at: Moment) -> bool
+    requires { AreDueMoments cell.now.plan cell.now.cell (D.dues dues.now) }
+    ensures { (result ≡ false) ↔ IsOnTime cell.now.plan cell.now.cell at }
 {
+    // Called for its clause alone: the cell is sound.
+    let _plan = cell.shaped();
     match dues.least() {
         Some(due) => at > due,
         None => false,

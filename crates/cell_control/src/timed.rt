@@ -25,7 +25,7 @@ impl Timed for Verified {
 
 /// A plan without a cycle, with the ranks of its nodes, and moments for those that were ahead where a controller began
 /// with it.
-#[derive(Debug, Drop)]
+#[derive(Drop)]
 pub struct Held {
     pub(crate) shaped: Shaped,
     pub(crate) times: Times,

@@ -2,17 +2,11 @@
 use Rattle.std.proofs.Common.{◌≡◌, ◌==◌, ℕ, zero, suc, ◌+◌, List, [], ◌∷◌, ◌++◌, drop, Some, cond, refl, sym, ap, subst, inl, inr, add-one}
 use Rattle.std.proofs.lemmas.Bool.{eqb-true, eqb-false, ne_eqb, cases_Bool}
 use Rattle.std.specs.Prelude.{slice_get}
-use Rattle.shop_base.specs.Plan.{PlannedShop, IsWellShaped}
-use Rattle.shop_base.specs.Cell.{Cell}
-use Rattle.shop_base.specs.Run.{IsAtRest}
-use Rattle.shop_base.specs.Ends.{HasEnded}
-use Rattle.shop_base.specs.ReportsLeft.{reports_left}
-use Rattle.shop_base.specs.Sound.{IsSound}
+use Rattle.shop_base.specs.{Plan.{PlannedShop, IsWellShaped}, Cell.Cell, Run.IsAtRest, Ends.HasEnded}
+use Rattle.shop_base.specs.{ReportsLeft.reports_left, Sound.IsSound}
 use Rattle.shop_base.proofs.ReportsLeft.{ended_where_none, none_where_ended}
-use Rattle.event_lines.specs.AnswerLines.{done_line, unfinished_line}
-use Rattle.event_lines.specs.SentLines.{cell_prefix}
-use Rattle.cell_drive.specs.LineAnswers.{IsClosingLine, closing_line}
-use Rattle.cell_drive.specs.ManyCells.{PlannedCell, CellsClose, AreAllDone}
+use Rattle.event_lines.specs.{AnswerLines.{done_line, unfinished_line}, SentLines.cell_prefix}
+use Rattle.cell_drive.specs.{LineAnswers.{IsClosingLine, closing_line}, ManyCells.{PlannedCell, CellsClose, AreAllDone}}
 use Rattle.cell_drive.specs.Numbers.{AreInRun, closing_text}
 
 pub closing_unfinished : (p : PlannedShop) (c : Cell) → (reports_left p c ≡ 0 → ⊥) → closing_line p c ≡ unfinished_line (reports_left p c)

@@ -1,34 +1,23 @@
 -- A log that was cut is recovered.
 use Rattle.std.proofs.Common.{◌≡◌, ℕ, ◌+◌, List, [], ◌∷◌, ◌++◌, map, Option, Some, None, length, ◌⊎◌, inl, inr, sym, ap, ◌∙◌, subst, arith, append_assoc, append-nil}
-use Rattle.shop_base.specs.declared.report.Report.{Report}
-use Rattle.shop_base.specs.Plan.{PlannedShop, IsWellShaped}
-use Rattle.shop_base.specs.Cell.{Cell, start}
+use Rattle.shop_base.specs.{declared.report.Report.Report, Plan.{PlannedShop, IsWellShaped}, Cell.{Cell, start}}
 use Rattle.shop_base.specs.Run.{Event, Reported, IsRun}
 use Rattle.shop_base.specs.Controlled.{Leads, accepted, done, refused, moved, step_orders, after_step, IsControlledRun}
 use Rattle.shop_base.proofs.ControlledRuns.{controlled_to_run}
 use Rattle.text_lines.specs.Lines.{lines_of, ended_lines}
-use Rattle.cell_tables.specs.declared.entry.Entry.{Entry}
-use Rattle.cell_tables.specs.declared.entry.Entry.TheVariants.{Report as ReportEntry, Order as OrderEntry}
+use Rattle.cell_tables.specs.declared.entry.Entry.{Entry, TheVariants.{Report as ReportEntry, Order as OrderEntry}}
 use Rattle.cell_tables.specs.Events.{events_of}
-use Rattle.event_lines.specs.LogLines.{LinesParse}
-use Rattle.event_lines.proofs.Readings.{parse-parts}
+use Rattle.event_lines.specs.{LogLines.LinesParse, Requests.claimed, ReadBack.ParsesFirst}
+use Rattle.event_lines.specs.declared.requests.Request.{Request, TheVariants.{Claim as ClaimRequest, Status}}
+use Rattle.event_lines.proofs.{Readings.parse-parts, Telling.parses_none}
 use Rattle.run_log.proofs.Audits.{events-join}
 use Rattle.byte_streams.specs.Answering.{AnswerAll}
-use Rattle.event_lines.specs.declared.requests.Request.{Request}
-use Rattle.event_lines.specs.declared.requests.Request.TheVariants.{Claim as ClaimRequest, Status}
-use Rattle.event_lines.specs.Requests.{claimed}
-use Rattle.cell_drive.specs.declared.protocol.Protocol.{Protocol}
-use Rattle.cell_drive.specs.AnswerText.{DrivenCell, undriven, CellCloses}
-use Rattle.cell_drive.specs.ProtocolText.{RequestAnswer, ProtocolAnswers}
-use Rattle.cell_drive.specs.OneRun.{cell_after, IsRunOf}
-use Rattle.event_lines.specs.ReadBack.{ParsesFirst}
-use Rattle.event_lines.proofs.Telling.{parses_none}
-use Rattle.cell_drive.proofs.ReadBack.{closing_parses}
+use Rattle.cell_drive.specs.{declared.protocol.Protocol.Protocol, AnswerText.{DrivenCell, undriven, CellCloses}}
+use Rattle.cell_drive.specs.{ProtocolText.{RequestAnswer, ProtocolAnswers}, OneRun.{cell_after, IsRunOf}}
 use Rattle.cell_drive.specs.CutLaw.{IsCutFrom, ACutLogIsRecovered, ACutLogHasItsOrders}
-use Rattle.cell_drive.proofs.Parts.{events-orders, entries_moved}
-use Rattle.cell_drive.proofs.CutRuns.{cut_of_run}
-use Rattle.text_lines.proofs.EndedLines.{ended-more}
+use Rattle.cell_drive.proofs.{ReadBack.closing_parses, Parts.{events-orders, entries_moved}, CutRuns.cut_of_run}
 use Rattle.cell_drive.proofs.OwnRuns.{own_run, due_events, front_events}
+use Rattle.text_lines.proofs.EndedLines.{ended-more}
 
 -- the events of a controlled run, with the cell to which they lead
 pub run_of_leads : (p : PlannedShop) (reports : List Report) (entries : List Entry) (end : Cell) → IsWellShaped p → IsControlledRun p reports (events_of entries) end → IsRunOf p entries

@@ -1,15 +1,10 @@
 -- A run that goes on, whose events were written again before.
-use Rattle.std.proofs.Common.{◌≡◌, List, ℕ, ◌++◌, Result, Err, inl, inr, ◌∙◌, refl, subst}
+use Rattle.std.proofs.{Common.{◌≡◌, List, ℕ, ◌++◌, Result, Err, inl, inr, ◌∙◌, refl, subst}, KnownBytes.Appends-trans}
 use Rattle.std.specs.Io.KnownBytes.{Appends}
-use Rattle.std.proofs.KnownBytes.{Appends-trans}
-use Rattle.byte_streams.specs.declared.drive_fault.DriveFault.{DriveFault}
-use Rattle.byte_streams.specs.declared.drive_fault.DriveFault.TheVariants.{Read, Write, InputTooLong, Memory}
+use Rattle.byte_streams.specs.declared.drive_fault.DriveFault.{DriveFault, TheVariants.{Read, Write, InputTooLong, Memory}}
 use Rattle.byte_streams.specs.Lent.{Output, Streams, SinkState, output_sink}
-use Rattle.cell_drive.specs.declared.protocol.Protocol.{Protocol}
-use Rattle.cell_drive.specs.declared.resume.RestEnd.{RestEnd}
-use Rattle.cell_drive.specs.Recovered.{Recovered}
-use Rattle.cell_drive.specs.Resuming.{GoesOn, WritesAndGoesOn}
-use Rattle.cell_drive.specs.Replay.{IsReplayWritten}
+use Rattle.cell_drive.specs.{declared.protocol.Protocol.Protocol, declared.resume.RestEnd.RestEnd, Recovered.Recovered}
+use Rattle.cell_drive.specs.{Resuming.{GoesOn, WritesAndGoesOn}, Replay.IsReplayWritten}
 use Rattle.cell_drive.proofs.CellTexts.{took_first, took_second}
 
 module _ (protocol : Protocol) (recovered : Recovered) where

@@ -1,20 +1,15 @@
 -- What several cells answer to a line.
 use Rattle.std.proofs.Common.{◌≡◌, ℕ, zero, suc, ◌<◌, List, [], ◌∷◌, ◌++◌, codes, set, length, get_or, Option, Some, None, refl, sym, ap, ◌∙◌, subst, arith}
 use Rattle.std.specs.Prelude.{slice_get}
+use Rattle.shop_base.specs.declared.report.Report.{Report}
 use Rattle.plan_verifier.specs.Accepted.{VerifiedPlan}
 use Rattle.cell_control.specs.Control.{Control}
-use Rattle.event_lines.specs.AnswerLines.{refused_line}
-use Rattle.event_lines.specs.SentLines.{cell_prefix}
-use Rattle.event_lines.specs.declared.requests.Request.{Request}
-use Rattle.cell_drive.specs.declared.protocol.Protocol.{Protocol}
-use Rattle.cell_drive.specs.declared.replies.Reply.{Reply}
-use Rattle.cell_drive.specs.ManyCells.{PlannedCell, cell_start, hub_start}
+use Rattle.event_lines.specs.{AnswerLines.refused_line, SentLines.cell_prefix, declared.requests.Request.Request}
+use Rattle.cell_drive.specs.{declared.protocol.Protocol.Protocol, ManyCells.{PlannedCell, cell_start, hub_start}}
 use Rattle.cell_drive.specs.ProtocolCells.{AsksCell, AsksOf, IsReplyIn, CellsReply, ProtocolCellsAnswer, HubAnswer, hub_of}
-use Rattle.cell_drive.specs.Replies.{IsReply, reply_events, reply_text}
+use Rattle.cell_drive.specs.Replies.{RepliesBy, HasAccepted, accepted_events}
 use Rattle.cell_drive.specs.Numbers.{AnsweredByCells, AreInRun, planned_cell, planned_cells}
-use Rattle.cell_drive.proofs.LineAnswers.{asked_line}
-use Rattle.cell_drive.proofs.OneText.{replies_keep}
-use Rattle.cell_drive.proofs.Replied.{plan_after, replied_so}
+use Rattle.cell_drive.proofs.{LineAnswers.asked_line, OneText.replies_keep, Replied.plan_after}
 
 -- ---- the cell of a number
 
@@ -61,17 +56,15 @@ module _ (protocol : Protocol) (controls : List Control) (number k : ℕ) where
       (record { text_is = refl; end_is = refl })
 
   -- its controller replies
-  pub reply_answers : (v new : Control) (request : Request) (reply : Reply) → slice_get (planned_cells controls) k ≡ Some (planned_cell v) → IsReply protocol v request reply new
-      → CellsReply protocol (planned_cells controls) number (record { cell = k; request = request }) (reply_text protocol (cell_prefix k) number new reply) (planned_cells (set controls k new))
-  reply_answers v new request reply found is =
-      let text = reply_text protocol (cell_prefix k) number new reply in
+  pub reply_answers : (v new : Control) (request : Request) (accepted : Option Report) (text : List ℕ) → slice_get (planned_cells controls) k ≡ Some (planned_cell v) → HasAccepted v accepted new
+      → RepliesBy protocol (cell_prefix k) v number request accepted new text → CellsReply protocol (planned_cells controls) number (record { cell = k; request = request }) text (planned_cells (set controls k new))
+  reply_answers v new request accepted text found is answer =
       let end = planned_cells (set controls k new) in
       subst (λ (o : Option PlannedCell). IsReplyIn protocol o (planned_cells controls) number (record { cell = k; request = request }) text end) (sym found) (record {
-        events = reply_events new reply;
+        events = accepted_events new accepted;
         next = new.cell;
-        answer = replied_so protocol v (cell_prefix k) number request reply new is;
-        end_is = set_there controls k new
-            ∙ ap (λ (plan : VerifiedPlan). set (planned_cells controls) k (record { plan = plan; cell = new.cell })) (plan_after protocol v request reply new is);
+        answer = answer;
+        end_is = set_there controls k new ∙ ap (λ (plan : VerifiedPlan). set (planned_cells controls) k (record { plan = plan; cell = new.cell })) (plan_after v accepted new is);
       })
 
 -- ---- lines

@@ -15,7 +15,6 @@ pub mod CutRuns
 pub mod OwnRuns
 pub mod CutLogs
 pub mod Sessions
-pub mod LateOnes
 pub mod FollowedEvents
 pub mod OneFault
 pub mod Recovering
@@ -24,5 +23,6 @@ pub mod ReplayLines
 pub mod StateTexts
 pub mod ProtocolParses
 pub mod OnTime
+pub mod Overdues
 pub mod Hubs
 pub mod GoneOn

@@ -1,8 +1,7 @@
 -- What answers a line, whatever it asks for.
 use Rattle.std.proofs.Common.{◌≡◌, ℕ, List, [], ◌∷◌, codes, length, ◌==◌, Bool, true, false, Some, Result, OnOk, refl, sym, ap, ◌∙◌, subst, arith, inl, inr}
 use Rattle.std.proofs.lemmas.Bool.{eqb-true, false≢true}
-use Rattle.byte_streams.specs.Sinks.{Wrote}
-use Rattle.byte_streams.specs.Lent.{SinkState, WroteOne}
+use Rattle.byte_streams.specs.{Sinks.Wrote, Lent.{SinkState, WroteOne}}
 use Rattle.event_lines.specs.AnswerLines.{refused_line}
 use Rattle.cell_drive.specs.LineAnswers.{LineAnswer, AsksNothing}
 

@@ -1,11 +1,9 @@
 -- Several driven cells, each as it can be in a run.
 use Rattle.std.proofs.Common.{◌≡◌, ℕ, zero, suc, List, [], ◌∷◌, ◌++◌, set, Some, subst}
 use Rattle.std.specs.Prelude.{slice_get}
-use Rattle.shop_base.proofs.Keeping.{start-sound}
-use Rattle.shop_base.proofs.ControlledRuns.{start_at_rest}
+use Rattle.shop_base.proofs.{Keeping.start-sound, ControlledRuns.start_at_rest}
 use Rattle.plan_verifier.specs.Accepted.{VerifiedPlan, IsVerified}
-use Rattle.cell_drive.specs.ManyCells.{PlannedCell, AreVerified, cell_start, hub_start}
-use Rattle.cell_drive.specs.Numbers.{IsInRun, AreInRun}
+use Rattle.cell_drive.specs.{ManyCells.{PlannedCell, AreVerified, cell_start, hub_start}, Numbers.{IsInRun, AreInRun}}
 
 pub starts_in_run : (v : VerifiedPlan) → IsVerified v → IsInRun (cell_start v)
 starts_in_run v verified = record { verified = verified; sound = start-sound v.planned verified.schedule.shaped; rest = start_at_rest v.planned }

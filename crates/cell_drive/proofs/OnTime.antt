@@ -1,10 +1,8 @@
 -- Where nothing that goes on should have ended before a moment, nothing is found overdue.
 use Rattle.std.proofs.Common.{◌≡◌, ℕ, zero, suc, ◌+◌, nat_lt, Bool, true, false, cond, Option, Some, None, le-ltb, ltb-true, refl, sym, ap, ◌∙◌, add-one}
 use Rattle.shop_base.specs.Plan.{PlannedShop, jobs, machines, steps, release, nominal, clean, machine_of}
-use Rattle.shop_base.specs.Cell.{Cell, made, ready, since, cleaning}
-use Rattle.shop_base.specs.Activity.{Arrival, Operation, Cleaning}
-use Rattle.cell_tables.specs.declared.standing.Standing.{Standing}
-use Rattle.cell_tables.specs.declared.standing.Standing.TheVariants.{Gone}
+use Rattle.shop_base.specs.{Cell.{Cell, made, ready, since, cleaning}, Activity.{Arrival, Operation, Cleaning}}
+use Rattle.cell_tables.specs.{declared.standing.Standing.Standing, declared.standing.Standing.TheVariants.Gone}
 use Rattle.cell_tables.specs.Standings.{job_standing, machine_standing, outside_standing, inside_standing, standing_after, cleaning_standing, is_overdue}
 use Rattle.cell_control.specs.Readings.{IsOnTime}
 use Rattle.event_lines.specs.declared.details.Overdue.{Overdue}

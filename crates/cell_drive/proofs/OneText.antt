@@ -1,43 +1,25 @@
 -- By each protocol an input has one answer text.
 use Rattle.std.proofs.Common.{◌≡◌, ◌↔◌, ◌⊎◌, ℕ, suc, ◌+◌, List, [], ◌∷◌, ◌++◌, set, map, Bool, true, false, Option, Some, None, Result, Err, refl, sym, ap, ◌∙◌, subst, inl, inr}
 use Rattle.std.specs.Prelude.{slice_get}
-use Rattle.shop_base.specs.declared.move_order.MoveOrder.{MoveOrder}
-use Rattle.shop_base.specs.Plan.{PlannedShop, IsWellShaped}
-use Rattle.shop_base.specs.Cell.{Cell}
-use Rattle.shop_base.specs.Run.{IsAtRest}
-use Rattle.shop_base.specs.Controlled.{after_step, step_orders}
-use Rattle.shop_base.specs.Sound.{IsSound}
-use Rattle.shop_base.proofs.Keeping.{start-sound}
-use Rattle.shop_base.proofs.ControlledRuns.{start_at_rest, after_step-sound}
-use Rattle.shop_base.proofs.OneStep.{one_step}
+use Rattle.shop_base.specs.{declared.move_order.MoveOrder.MoveOrder, Plan.{PlannedShop, IsWellShaped}, Cell.Cell}
+use Rattle.shop_base.specs.{Run.IsAtRest, Controlled.{after_step, step_orders}, Sound.IsSound}
+use Rattle.shop_base.proofs.{Keeping.start-sound, ControlledRuns.{start_at_rest, after_step-sound}, OneStep.one_step}
 use Rattle.plan_verifier.specs.Accepted.{VerifiedPlan}
-use Rattle.cell_tables.specs.declared.entry.Entry.{Entry}
-use Rattle.cell_tables.specs.declared.entry.Entry.TheVariants.{Report as ReportEntry, Order as OrderEntry}
-use Rattle.byte_streams.specs.declared.drive_fault.DriveFault.{DriveFault}
-use Rattle.byte_streams.specs.declared.drive_fault.DriveFault.TheVariants.{Memory}
-use Rattle.byte_streams.specs.Lent.{Streams}
-use Rattle.byte_streams.specs.Lines.{input_lines}
-use Rattle.byte_streams.specs.Answering.{AnswerAll}
-use Rattle.event_lines.specs.StandingLines.{refused_detail_line}
-use Rattle.event_lines.specs.SentLines.{cell_prefix}
-use Rattle.event_lines.specs.declared.requests.Claim.{Claim}
-use Rattle.event_lines.specs.declared.requests.Claim.TheVariants.{Report, CleanAfter}
-use Rattle.event_lines.specs.declared.requests.Request.{Request}
-use Rattle.event_lines.specs.declared.requests.Request.TheVariants.{Claim as ClaimRequest, Status}
-use Rattle.event_lines.specs.Requests.{claimed}
+use Rattle.cell_tables.specs.declared.entry.Entry.{Entry, TheVariants.{Report as ReportEntry, Order as OrderEntry}}
+use Rattle.byte_streams.specs.{declared.drive_fault.DriveFault.{DriveFault, TheVariants.Memory}, Lent.Streams}
+use Rattle.byte_streams.specs.{Lines.input_lines, Answering.AnswerAll}
+use Rattle.event_lines.specs.{StandingLines.refused_detail_line, SentLines.cell_prefix, Requests.claimed}
+use Rattle.event_lines.specs.declared.requests.Claim.{Claim, TheVariants.{Report, CleanAfter}}
+use Rattle.event_lines.specs.declared.requests.Request.{Request, TheVariants.{Claim as ClaimRequest, Status}}
 use Rattle.event_lines.proofs.Readings.{one_report, one_request, one_cell_report, one_cell_request}
-use Rattle.cell_drive.specs.declared.protocol.Protocol.{Protocol}
-use Rattle.cell_drive.specs.declared.refusals.Refusal.{Refusal}
-use Rattle.cell_drive.specs.declared.hub.HubEnd.{HubEnd}
-use Rattle.cell_drive.specs.Refusals.{refusal_word, refusal_detail}
-use Rattle.cell_drive.specs.LineAnswers.{LineAnswer, IsClosingLine}
-use Rattle.cell_drive.specs.AnswerText.{DrivenCell, undriven, CellCloses}
+use Rattle.cell_drive.specs.{declared.protocol.Protocol.Protocol, declared.refusals.Refusal.Refusal}
+use Rattle.cell_drive.specs.{declared.hub.HubEnd.HubEnd, Refusals.{refusal_word, refusal_detail}}
+use Rattle.cell_drive.specs.{LineAnswers.{LineAnswer, IsClosingLine}, AnswerText.{DrivenCell, undriven, CellCloses}}
 use Rattle.cell_drive.specs.ProtocolText.{AsksFor, IsClaimRefused, IsClaimAccepted, RequestAnswer, CellRequests, refusal_prefix, ProtocolAnswers, acceptance_lines, prints_end, printed_overdue}
-use Rattle.cell_drive.specs.ProtocolLaw.{OneAnswerText, OneTextForLines}
+use Rattle.cell_drive.specs.{ProtocolLaw.{OneAnswerText, OneTextForLines}, Numbers.{IsInRun, AreInRun}}
 use Rattle.cell_drive.specs.ManyCells.{PlannedCell, CellsClose, hub_start}
 use Rattle.cell_drive.specs.ProtocolCells.{AsksCell, AsksOf, OfCell, IsReplyIn, CellsReply, AreDrivesIn, hub_of_plans}
 use Rattle.cell_drive.specs.ProtocolCellsLaw.{OneCellsTextForLines, OneCellsText}
-use Rattle.cell_drive.specs.Numbers.{IsInRun, AreInRun}
 use Rattle.cell_drive.proofs.ManyCells.{start_in_run, one_in_run, set_in_run}
 use Rattle.cell_drive.proofs.Refusing.{one_refusal, refused_or_admissible}
 

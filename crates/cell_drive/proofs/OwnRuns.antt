@@ -1,17 +1,11 @@
 -- Controlled runs of their own reports, and of events with orders behind them.
 use Rattle.std.proofs.Common.{◌≡◌, List, [], ◌∷◌, ◌++◌, map, refl, sym, ap, ◌∙◌, subst}
-use Rattle.shop_base.specs.declared.move_order.MoveOrder.{MoveOrder}
-use Rattle.shop_base.specs.declared.report.Report.{Report}
-use Rattle.shop_base.specs.Plan.{PlannedShop}
-use Rattle.shop_base.specs.Cell.{Cell, start}
-use Rattle.shop_base.specs.Run.{Event, Reported, AreEvents, after}
+use Rattle.shop_base.specs.{declared.move_order.MoveOrder.MoveOrder, declared.report.Report.Report, Plan.PlannedShop}
+use Rattle.shop_base.specs.{Cell.{Cell, start}, Run.{Event, Reported, AreEvents, after}}
 use Rattle.shop_base.specs.Controlled.{moved, step_orders, Leads, done, accepted, refused}
-use Rattle.cell_tables.specs.declared.entry.Entry.{Entry}
-use Rattle.cell_tables.specs.declared.entry.Entry.TheVariants.{Order as OrderEntry}
-use Rattle.cell_tables.specs.Events.{events_of}
+use Rattle.cell_tables.specs.{declared.entry.Entry.{Entry, TheVariants.Order as OrderEntry}, Events.events_of}
 use Rattle.run_log.proofs.Audits.{events-join}
-use Rattle.cell_drive.specs.OneRun.{cell_after, IsRunOf}
-use Rattle.cell_drive.specs.CutLogs.{reported, IsOwnRun}
+use Rattle.cell_drive.specs.{OneRun.{cell_after, IsRunOf}, CutLogs.{reported, IsOwnRun}}
 use Rattle.cell_drive.proofs.Parts.{events-orders}
 
 reported-moved : (os : List MoveOrder) (es : List Event) → reported (moved os ++ es) ≡ reported es

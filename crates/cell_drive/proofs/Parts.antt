@@ -1,11 +1,8 @@
 -- Lists in parts, and moves among events.
 use Rattle.std.proofs.Common.{◌≡◌, List, [], ◌∷◌, ◌++◌, map, ◌⊎◌, inl, inr, refl, sym, ap}
-use Rattle.shop_base.specs.declared.move_order.MoveOrder.{MoveOrder}
-use Rattle.shop_base.specs.declared.report.Report.{Report}
+use Rattle.shop_base.specs.{declared.move_order.MoveOrder.MoveOrder, declared.report.Report.Report, Controlled.moved}
 use Rattle.shop_base.specs.Run.{Event, Reported, Moved}
-use Rattle.shop_base.specs.Controlled.{moved}
-use Rattle.cell_tables.specs.declared.entry.Entry.{Entry}
-use Rattle.cell_tables.specs.declared.entry.Entry.TheVariants.{Report as ReportEntry, Order as OrderEntry}
+use Rattle.cell_tables.specs.declared.entry.Entry.{Entry, TheVariants.{Report as ReportEntry, Order as OrderEntry}}
 use Rattle.cell_tables.specs.Events.{events_of}
 use Rattle.cell_drive.specs.OneRun.{IsBeforeReport}
 

@@ -1,39 +1,24 @@
 -- What a cell that is driven by a protocol wrote, as a log is read.
 use Rattle.std.proofs.Common.{◌≡◌, ◌==◌, ℕ, zero, suc, List, [], ◌∷◌, ◌++◌, map, codes, Bool, true, false, cond, Option, Some, None, refl, sym, ap, ◌∙◌, subst, inl, inr, append-nil}
-use Rattle.shop_base.specs.Plan.{PlannedShop, IsWellShaped, jobs, machines}
-use Rattle.shop_base.specs.Cell.{Cell}
-use Rattle.shop_base.specs.Controlled.{step_orders}
-use Rattle.shop_base.specs.ReportsLeft.{reports_left}
-use Rattle.shop_base.specs.Sound.{IsSound}
-use Rattle.shop_base.specs.Report.{at}
-use Rattle.cell_tables.specs.declared.entry.Entry.{Entry}
-use Rattle.cell_tables.specs.declared.entry.Entry.TheVariants.{Report as ReportEntry, Order as OrderEntry}
-use Rattle.cell_tables.specs.declared.standing.Standing.{Standing}
-use Rattle.cell_tables.specs.Standings.{job_standing, machine_standing}
+use Rattle.shop_base.specs.{Plan.{PlannedShop, IsWellShaped, jobs, machines}, Cell.Cell, Controlled.step_orders}
+use Rattle.shop_base.specs.{ReportsLeft.reports_left, Sound.IsSound, Report.at}
+use Rattle.cell_tables.specs.declared.entry.Entry.{Entry, TheVariants.{Report as ReportEntry, Order as OrderEntry}}
+use Rattle.cell_tables.specs.{declared.standing.Standing.Standing, Standings.{job_standing, machine_standing}}
 use Rattle.byte_streams.specs.Lines.{input_lines}
-use Rattle.event_lines.specs.EventLines.{report_line, order_lines}
-use Rattle.event_lines.specs.AnswerLines.{done_line, unfinished_line}
-use Rattle.event_lines.specs.ReadBack.{IsSpaceless, ParsesFirst}
+use Rattle.event_lines.specs.{EventLines.{report_line, order_lines}, AnswerLines.{done_line, unfinished_line}}
+use Rattle.event_lines.specs.{ReadBack.{IsSpaceless, ParsesFirst}, declared.details.Overdue.Overdue, Requests.claimed}
 use Rattle.event_lines.specs.StandingLines.{unfinished_standing_line, refused_detail_line}
-use Rattle.event_lines.specs.declared.details.Overdue.{Overdue}
-use Rattle.event_lines.specs.declared.requests.Request.{Request}
-use Rattle.event_lines.specs.declared.requests.Request.TheVariants.{Claim as ClaimRequest, Status}
-use Rattle.event_lines.specs.Requests.{claimed}
+use Rattle.event_lines.specs.declared.requests.Request.{Request, TheVariants.{Claim as ClaimRequest, Status}}
 use Rattle.event_lines.proofs.Telling.{parses_none, parses_both, others_parse_none}
-use Rattle.cell_drive.specs.declared.protocol.Protocol.{Protocol}
-use Rattle.cell_drive.specs.declared.refusals.Refusal.{Refusal}
-use Rattle.cell_drive.specs.declared.refusals.Refusal.TheVariants.{Reason, Leap}
-use Rattle.cell_drive.specs.Refusals.{refusal_word, refusal_detail}
+use Rattle.cell_drive.specs.{declared.protocol.Protocol.Protocol, Refusals.{refusal_word, refusal_detail}}
+use Rattle.cell_drive.specs.{declared.refusals.Refusal.{Refusal, TheVariants.{Reason, Leap}}, LineAnswers.closing_line}
 use Rattle.cell_drive.specs.States.{is_over, standing_part, texts_from, jobs_text, machines_text, state_text}
-use Rattle.cell_drive.specs.LineAnswers.{closing_line}
-use Rattle.cell_drive.specs.AnswerText.{DrivenCell, undriven}
+use Rattle.cell_drive.specs.{AnswerText.{DrivenCell, undriven}, AuditLaw.AnAnswerTextIsALog}
 use Rattle.cell_drive.specs.ProtocolText.{RequestAnswer, ProtocolAnswers, lateness_part, end_part, printed_overdue, prints_end}
-use Rattle.cell_drive.specs.AuditLaw.{AnAnswerTextIsALog}
-use Rattle.cell_drive.proofs.OneText.{start_on_course, protocol_lines_keep}
-use Rattle.cell_drive.proofs.Replied.{no_prefix}
+use Rattle.cell_drive.proofs.{OneText.{start_on_course, protocol_lines_keep}, Replied.no_prefix}
 use Rattle.cell_drive.proofs.ReadBack.{AreParsed, all_parsed, log_of_parsed, name_spaceless, nothing_parsed, step_moves, step_report, step_parses}
 
-word_spaceless : (refusal : Refusal) → IsSpaceless (refusal_word refusal)
+pub word_spaceless : (refusal : Refusal) → IsSpaceless (refusal_word refusal)
 word_spaceless (Reason reason) = name_spaceless reason
 word_spaceless Leap = refl
 

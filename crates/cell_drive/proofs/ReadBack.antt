@@ -1,33 +1,23 @@
 -- What a driven cell wrote, as a log is read.
 use Rattle.std.proofs.Common.{◌≡◌, ℕ, ◌+◌, List, [], ◌∷◌, ◌++◌, Option, map, refl, sym, ap, ◌∙◌, subst, inl, inr, append_assoc, append-nil}
-use Rattle.shop_base.specs.declared.report.Report.{Report}
-use Rattle.shop_base.specs.Plan.{PlannedShop, IsWellShaped}
-use Rattle.shop_base.specs.Cell.{Cell}
-use Rattle.shop_base.specs.Report.{at, after_report}
-use Rattle.shop_base.specs.Move.{order_for, after_move}
+use Rattle.shop_base.specs.{declared.report.Report.Report, Plan.{PlannedShop, IsWellShaped}, Cell.Cell, Sound.IsSound}
+use Rattle.shop_base.specs.{Report.{at, after_report}, Move.{order_for, after_move}}
 use Rattle.shop_base.specs.Run.{AreEvents, after_all, IsRun, ends_in}
 use Rattle.shop_base.specs.Controlled.{moved, AreMoves, IsStep, after_step, orders_for, step_orders}
-use Rattle.shop_base.specs.Sound.{IsSound}
 use Rattle.shop_base.proofs.Keeping.{after_report-sound, after_move-sound}
 use Rattle.shop_base.proofs.ControlledRuns.{events_join, after_all_join, moves-events, after_all-moves}
 use Rattle.text_lines.specs.Lines.{lines_of}
-use Rattle.cell_control.specs.declared.report_fault.ReportFault.{ReportFault}
-use Rattle.cell_control.specs.declared.report_fault.ReportFault.TheVariants.{JobOutOfRange, MachineOutOfRange, MomentTooLarge, Backwards, NotExpected, WrongKind, WrongMachine}
+use Rattle.cell_control.specs.declared.report_fault.ReportFault.{ReportFault, TheVariants.{JobOutOfRange, MachineOutOfRange, MomentTooLarge, Backwards, NotExpected, WrongKind, WrongMachine}}
 use Rattle.cell_control.specs.ReasonNames.{reason_name}
-use Rattle.cell_tables.specs.declared.entry.Entry.{Entry}
-use Rattle.cell_tables.specs.declared.entry.Entry.TheVariants.{Report as ReportEntry, Order as OrderEntry}
+use Rattle.cell_tables.specs.declared.entry.Entry.{Entry, TheVariants.{Report as ReportEntry, Order as OrderEntry}}
 use Rattle.cell_tables.specs.Events.{events_of}
-use Rattle.event_lines.specs.EventLines.{report_line, order_line, order_lines}
-use Rattle.event_lines.specs.LogLines.{LinesParse}
+use Rattle.event_lines.specs.{EventLines.{report_line, order_line, order_lines}, LogLines.LinesParse}
 use Rattle.event_lines.specs.ReadBack.{IsSpaceless, ParsesFirst}
 use Rattle.event_lines.proofs.Telling.{parses_none, parses_both, parses_entry, others_parse_none}
 use Rattle.run_log.proofs.Audits.{events-join}
 use Rattle.byte_streams.specs.Answering.{AnswerAll}
-use Rattle.cell_drive.specs.AnswerText.{DrivenCell, undriven, CellCloses}
-use Rattle.cell_drive.specs.AuditLaw.{IsLogOf}
-use Rattle.cell_drive.proofs.Parts.{events-orders}
-use Rattle.cell_drive.proofs.OneText.{IsOnCourse}
-use Rattle.cell_drive.proofs.ShopEntries.{report_of_shop, order_of_shop}
+use Rattle.cell_drive.specs.{AnswerText.{DrivenCell, undriven, CellCloses}, AuditLaw.IsLogOf}
+use Rattle.cell_drive.proofs.{Parts.events-orders, OneText.IsOnCourse, ShopEntries.{report_of_shop, order_of_shop}}
 
 pub name_spaceless : (reason : ReportFault) → IsSpaceless (reason_name reason)
 name_spaceless JobOutOfRange = refl

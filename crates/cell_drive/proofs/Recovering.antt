@@ -1,33 +1,23 @@
 -- A log that is recovered.
 use Rattle.std.proofs.Common.{◌≡◌, ℕ, ◌+◌, ◌*◌, ◌<◌, ◌≤◌, Bool, List, [], ◌∷◌, ◌++◌, length, map, take, Option, Result, Ok, Err, refl, sym, ap, ◌∙◌, subst, arith, length-append}
+use Rattle.std.proofs.{Math.Seq.take-append_seam, lemmas.List.length-map}
 use Rattle.std.specs.Prelude.{unwrap_or, IsOk, IsErr, IfErr}
-use Rattle.std.proofs.Math.Seq.{take-append_seam}
-use Rattle.shop_base.specs.Plan.{PlannedShop, IsWellShaped}
-use Rattle.shop_base.specs.Cell.{Cell, start}
-use Rattle.shop_base.specs.Run.{IsRun, after}
+use Rattle.shop_base.specs.{Plan.{PlannedShop, IsWellShaped}, Cell.{Cell, start}, Run.{IsRun, after}}
 use Rattle.shop_base.specs.Ends.{stated_number}
 use Rattle.shop_base.proofs.ControlledRuns.{moves-events}
-use Rattle.std.proofs.lemmas.List.{length-map}
 use Rattle.alt_graph.proofs.CycleParts.{cycle_simple}
 use Rattle.plan_verifier.specs.declared.verdict.Why.TheVariants.{Cycle, Late}
-use Rattle.cell_tables.specs.declared.entry.Entry.{Entry}
-use Rattle.cell_tables.specs.declared.entry.Entry.TheVariants.{Order as OrderEntry}
+use Rattle.cell_tables.specs.declared.entry.Entry.{Entry, TheVariants.Order as OrderEntry}
 use Rattle.cell_tables.specs.Events.{event_of, events_of}
 use Rattle.event_lines.specs.LogLines.{LinesParse}
 use Rattle.event_lines.proofs.Readings.{one_reading}
-use Rattle.run_log.specs.Log.{Noted}
-use Rattle.run_log.specs.Audits.{IsReplayed, IsAuditFault}
-use Rattle.run_log.specs.declared.audit_fault.AuditFault.{AuditFault}
-use Rattle.run_log.specs.declared.audit_fault.AuditFault.TheVariants.{BadLine, NotExpected, Backwards, NotReady, Occupied, OutOfOrder, WrongPlace, NotClean, Memory as OutOfMemory}
+use Rattle.run_log.specs.{Log.Noted, Audits.{IsReplayed, IsAuditFault}}
+use Rattle.run_log.specs.declared.audit_fault.AuditFault.{AuditFault, TheVariants.{BadLine, NotExpected, Backwards, NotReady, Occupied, OutOfOrder, WrongPlace, NotClean, Memory as OutOfMemory}}
 use Rattle.run_log.proofs.Audits.{run-few, first_bad-no_run}
-use Rattle.cell_control.specs.Control.{Control, IsControl}
-use Rattle.cell_control.specs.Begun.{IsBegun}
-use Rattle.cell_drive.specs.OneRun.{cell_after}
-use Rattle.cell_drive.specs.LateEvents.{AreLate}
+use Rattle.cell_control.specs.{Control.{Control, IsControl}, Begun.IsBegun}
+use Rattle.cell_drive.specs.{OneRun.cell_after, LateEvents.AreLate, ResumeFaults.{IsResumeFault, IsRunFault, log_fault}}
 use Rattle.cell_drive.specs.Recovered.{IsRecoveredRun, IsRecoverable, recovered_by}
-use Rattle.cell_drive.specs.ResumeFaults.{IsResumeFault, IsRunFault, log_fault}
-use Rattle.cell_drive.specs.declared.resume_fault.ResumeFault.{ResumeFault}
-use Rattle.cell_drive.specs.declared.resume_fault.ResumeFault.TheVariants.{Log, Past, Refused, Memory}
+use Rattle.cell_drive.specs.declared.resume_fault.ResumeFault.{ResumeFault, TheVariants.{Log, Past, Refused, Memory}}
 use Rattle.cell_drive.proofs.Rooms.{replayed_moves}
 
 -- it is known of each event whether it is late

@@ -1,23 +1,15 @@
 -- What is claimed, and why it is refused.
 use Rattle.std.proofs.Common.{◌≡◌, Bool, true, false, cond, sym, ap, ◌∙◌, subst, inl, inr}
-use Rattle.shop_base.specs.Plan.{PlannedShop, IsWellShaped}
-use Rattle.shop_base.specs.Cell.{Cell}
-use Rattle.shop_base.specs.Report.{ended, CanReport}
-use Rattle.shop_base.specs.Sound.{IsSound}
+use Rattle.shop_base.specs.{Plan.{PlannedShop, IsWellShaped}, Cell.Cell, Report.{ended, CanReport}, Sound.IsSound}
 use Rattle.shop_base.specs.declared.report.Report as reports
 use Rattle.shop_base.specs.declared.report.Report.TheVariants.{Arrive, Finish, Clean}
-use Rattle.cell_control.specs.declared.report_fault.ReportFault.{ReportFault}
-use Rattle.cell_control.specs.declared.report_fault.ReportFault.TheVariants.{JobOutOfRange, MachineOutOfRange, MomentTooLarge, Backwards, NotExpected, WrongKind, WrongMachine}
+use Rattle.cell_control.specs.declared.report_fault.ReportFault.{ReportFault, TheVariants.{JobOutOfRange, MachineOutOfRange, MomentTooLarge, Backwards, NotExpected, WrongKind, WrongMachine}}
 use Rattle.cell_control.specs.Reports.{IsOfShop}
-use Rattle.cell_control.proofs.CleanReasons.{can_clean, clean_reason-cannot, only_clean_reason}
-use Rattle.cell_control.proofs.OneReason.{only_reason}
+use Rattle.cell_control.proofs.{CleanReasons.{can_clean, clean_reason-cannot, only_clean_reason}, OneReason.only_reason}
 use Rattle.cell_control.proofs.Reasons.{reason-cannot}
-use Rattle.event_lines.specs.declared.requests.Claim.{Claim}
-use Rattle.event_lines.specs.declared.requests.Claim.TheVariants.{Report, CleanAfter}
-use Rattle.event_lines.specs.Requests.{claimed}
+use Rattle.event_lines.specs.{declared.requests.Claim.{Claim, TheVariants.{Report, CleanAfter}}, Requests.claimed}
 use Rattle.cell_drive.specs.declared.protocol.Protocol.{Protocol}
-use Rattle.cell_drive.specs.declared.refusals.Refusal.{Refusal}
-use Rattle.cell_drive.specs.declared.refusals.Refusal.TheVariants.{Reason, Leap}
+use Rattle.cell_drive.specs.declared.refusals.Refusal.{Refusal, TheVariants.{Reason, Leap}}
 use Rattle.cell_drive.specs.Refusals.{CanClaim, IsClaimReason, IsRefusal, IsAdmissible, claim_leaps, first_refusal, is_before_leap}
 use Rattle.cell_drive.proofs.ShopEntries.{report_of_shop}
 

@@ -1,28 +1,18 @@
 -- The log of a session, and the room in it.
 use Rattle.std.proofs.Common.{◌≡◌, ◌+◌, ◌*◌, ◌≤◌, ℕ, List, ◌∷◌, ◌++◌, length, map, Bool, sym, ap, ◌∙◌, arith, subst, length-append, ◌↔◌}
 use Rattle.std.specs.Prelude.{IsTrue}
-use Rattle.shop_base.specs.declared.move_order.MoveOrder.{MoveOrder}
-use Rattle.shop_base.specs.declared.report.Report.{Report}
-use Rattle.shop_base.specs.Plan.{PlannedShop, IsWellShaped}
-use Rattle.shop_base.specs.Cell.{Cell, start}
-use Rattle.shop_base.specs.Report.{at, after_report}
-use Rattle.shop_base.specs.Run.{IsRun, AreEvents, after_all}
-use Rattle.shop_base.specs.Controlled.{moved, orders_for, after_moves, step_orders}
-use Rattle.shop_base.specs.Ends.{stated_number, HasEnded}
+use Rattle.shop_base.specs.{declared.move_order.MoveOrder.MoveOrder, declared.report.Report.Report, Cell.{Cell, start}}
+use Rattle.shop_base.specs.{Plan.{PlannedShop, IsWellShaped}, Report.{at, after_report}, Ends.{stated_number, HasEnded}}
+use Rattle.shop_base.specs.{Run.{IsRun, AreEvents, after_all}, Controlled.{moved, orders_for, after_moves, step_orders}}
 use Rattle.shop_base.specs.ReportsLeft.{reports_left}
 use Rattle.shop_base.proofs.ControlledRuns.{events_join, after_all_join, moves-events, after_all-moves}
-use Rattle.shop_base.proofs.StatedNumber.{run-stated_number}
-use Rattle.shop_base.proofs.ReportsLeft.{ended_where_none, none_where_ended}
-use Rattle.cell_control.specs.declared.ack.Ack.{Ack}
-use Rattle.cell_tables.specs.declared.entry.Entry.{Entry}
-use Rattle.cell_tables.specs.declared.entry.Entry.TheVariants.{Report as ReportEntry, Order as OrderEntry}
+use Rattle.shop_base.proofs.{StatedNumber.run-stated_number, ReportsLeft.{ended_where_none, none_where_ended}}
+use Rattle.cell_control.specs.{declared.ack.Ack.Ack, Control.{Control, IsControl, IsAnswered}}
+use Rattle.cell_tables.specs.declared.entry.Entry.{Entry, TheVariants.{Report as ReportEntry, Order as OrderEntry}}
 use Rattle.cell_tables.specs.Events.{events_of}
-use Rattle.run_log.specs.Log.{Noted, Notes}
-use Rattle.run_log.specs.Audits.{IsReplayed}
+use Rattle.run_log.specs.{Log.{Noted, Notes}, Audits.IsReplayed}
 use Rattle.run_log.proofs.Audits.{events-join, run-few}
-use Rattle.cell_control.specs.Control.{Control, IsControl, IsAnswered}
-use Rattle.cell_drive.specs.OneRun.{cell_after, IsSoFar, IsNeverFull}
-use Rattle.cell_drive.specs.Session.{IsKept}
+use Rattle.cell_drive.specs.{OneRun.{cell_after, IsSoFar, IsNeverFull}, Session.IsKept}
 use Rattle.cell_drive.proofs.Parts.{events-orders}
 
 -- events behind a run that was recorded

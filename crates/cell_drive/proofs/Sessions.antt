@@ -1,38 +1,24 @@
 -- What a session answers, and what it comes to.
 use Rattle.std.proofs.Common.{◌≡◌, ℕ, ◌+◌, List, [], ◌∷◌, ◌++◌, Option, Ok, Err, Result, refl, sym, ap, ◌∙◌, subst}
 use Rattle.std.specs.Prelude.{◌↔◌, IsTrue}
-use Rattle.shop_base.specs.Plan.{PlannedShop}
-use Rattle.shop_base.specs.Run.{IsRun}
-use Rattle.shop_base.specs.Controlled.{IsControlledRun}
+use Rattle.shop_base.specs.{Plan.PlannedShop, declared.report.Report.Report, Run.IsRun, Controlled.IsControlledRun}
 use Rattle.shop_base.specs.Ends.{HasEnded}
 use Rattle.plan_verifier.specs.Accepted.{VerifiedPlan, IsVerified}
-use Rattle.cell_tables.specs.declared.entry.Entry.{Entry}
-use Rattle.cell_tables.specs.Events.{events_of}
+use Rattle.cell_tables.specs.{declared.entry.Entry.Entry, Events.events_of}
 use Rattle.cell_control.specs.Control.{Control, verified_in}
 use Rattle.run_log.specs.Log.{Noted, Notes}
-use Rattle.byte_streams.specs.declared.drive_fault.DriveFault.{DriveFault}
-use Rattle.byte_streams.specs.declared.drive_fault.DriveFault.TheVariants.{Memory}
-use Rattle.byte_streams.specs.Lent.{Streams}
-use Rattle.byte_streams.specs.Lines.{input_lines}
-use Rattle.byte_streams.specs.Answering.{AnswerAll}
+use Rattle.byte_streams.specs.{declared.drive_fault.DriveFault.{DriveFault, TheVariants.Memory}, Lent.Streams}
+use Rattle.byte_streams.specs.{Lines.input_lines, Answering.AnswerAll}
 use Rattle.event_lines.specs.declared.requests.Request.{Request}
-use Rattle.cell_drive.specs.declared.protocol.Protocol.{Protocol}
-use Rattle.cell_drive.specs.declared.begin.DriveEnd.{DriveEnd}
-use Rattle.cell_drive.specs.declared.resume.RestEnd.{RestEnd}
-use Rattle.cell_drive.specs.declared.replies.Reply.{Reply}
-use Rattle.cell_drive.specs.LineAnswers.{LineAnswer, closing_line}
-use Rattle.cell_drive.specs.AnswerText.{CellCloses, undriven}
-use Rattle.cell_drive.specs.OneRun.{IsNeverFull, IsRunOf, IsSoFar, NeverWentWrong, cell_after}
+use Rattle.cell_drive.specs.{declared.protocol.Protocol.Protocol, declared.begin.DriveEnd.DriveEnd}
+use Rattle.cell_drive.specs.{declared.resume.RestEnd.RestEnd, LineAnswers.{LineAnswer, closing_line}}
+use Rattle.cell_drive.specs.{AnswerText.{CellCloses, undriven}, Replies.{RepliesBy, HasAccepted, accepted_events}}
+use Rattle.cell_drive.specs.{OneRun.{IsNeverFull, IsRunOf, IsSoFar, NeverWentWrong, cell_after}, InProtocol.IsDriveIn}
 use Rattle.cell_drive.specs.ProtocolText.{AsksFor, CellRequests, IsProtocolText, ProtocolAnswers}
-use Rattle.cell_drive.specs.Replies.{IsReply, reply_events, reply_text}
 use Rattle.cell_drive.specs.Session.{AnsweredBy, IsEndOf, IsKept, IsRestEndOf, SessionAnswer, SessionCloses, SessionState, seen, session_by, session_start}
 use Rattle.cell_drive.specs.ProtocolLaw.{ASessionAnswersSo}
-use Rattle.cell_drive.specs.InProtocol.{IsDriveIn}
-use Rattle.cell_drive.proofs.Closing.{closing_line_is}
-use Rattle.cell_drive.proofs.CutLogs.{run_of_leads, protocol_answers_lead}
-use Rattle.cell_drive.proofs.LineAnswers.{asked_line}
-use Rattle.cell_drive.proofs.PromisesKept.{stays_as_promised}
-use Rattle.cell_drive.proofs.Replied.{plan_after, replied_so}
+use Rattle.cell_drive.proofs.{Closing.closing_line_is, CutLogs.{run_of_leads, protocol_answers_lead}}
+use Rattle.cell_drive.proofs.{LineAnswers.asked_line, PromisesKept.stays_as_promised, Replied.plan_after}
 use Rattle.cell_drive.proofs.Rooms.{never_full, so_far}
 
 -- ---- lines
@@ -43,15 +29,12 @@ pub unchanged : (s : SessionState) (number : ℕ) (line : Option (List ℕ)) (te
 unchanged s number line text answer = record { answer = answer; plan = refl; reserved = refl; protocol = refl }
 
 -- one that asks for something
-pub replied : (protocol : Protocol) (v new : Control) (log longer : Noted) (number : ℕ) (line : List ℕ) (request : Request) (reply : Reply) → (line ≡ [] → ⊥) → AsksFor protocol.version_2 line request
-    → IsReply protocol v request reply new → Notes log longer (reply_events new reply) → AnsweredBy protocol v log number line new longer (reply_text protocol [] number new reply)
-replied protocol v new log longer number line request reply some asked is notes = record {
-  answer = asked_line (AsksFor protocol.version_2) (CellRequests v.planned protocol) (seen (session_by protocol v log)) number line _ request (seen (session_by protocol new longer)) some asked (record {
-    more = reply_events new reply;
-    answer = replied_so protocol v [] number request reply new is;
-    entries = notes.entries;
-  });
-  plan = plan_after protocol v request reply new is;
+pub replied : (protocol : Protocol) (v new : Control) (log longer : Noted) (number : ℕ) (line text : List ℕ) (request : Request) (accepted : Option Report) → (line ≡ [] → ⊥) → AsksFor protocol.version_2 line request
+    → HasAccepted v accepted new → Notes log longer (accepted_events new accepted) → RepliesBy protocol [] v number request accepted new text → AnsweredBy protocol v log number line new longer text
+replied protocol v new log longer number line text request accepted some asked is notes answer = record {
+  answer = asked_line (AsksFor protocol.version_2) (CellRequests v.planned protocol) (seen (session_by protocol v log)) number line text request (seen (session_by protocol new longer)) some asked
+      (record { more = accepted_events new accepted; answer = answer; entries = notes.entries });
+  plan = plan_after v accepted new is;
   reserved = notes.reserved;
   protocol = refl;
 }

@@ -1,19 +1,13 @@
 -- What can happen in a cell is of its shop.
-use Rattle.std.proofs.Common.{ℕ, ◌≤◌, ◌⊎◌, inl, inr, sym, ◌∙◌}
-use Rattle.std.proofs.lemmas.Bool.{cases_lt, false≢true}
-use Rattle.shop_base.specs.declared.report.Report.{Report}
-use Rattle.shop_base.specs.Plan.{PlannedShop, steps, IsWellShaped}
-use Rattle.shop_base.specs.Cell.{Cell, made}
-use Rattle.shop_base.specs.Report.{CanReport}
+use Rattle.std.proofs.{Common.{ℕ, ◌≤◌, ◌⊎◌, inl, inr, sym, ◌∙◌}, lemmas.Bool.{cases_lt, false≢true}}
+use Rattle.shop_base.specs.{declared.report.Report.{Report, TheVariants.{Arrive, Finish, Clean}}, Cell.{Cell, made}}
+use Rattle.shop_base.specs.{Plan.{PlannedShop, steps, IsWellShaped}, Report.CanReport, Sound.IsSound}
 use Rattle.shop_base.specs.Move.{CanMove, CanLeave, CanEnter, target, order_for}
-use Rattle.shop_base.specs.Sound.{IsSound}
-use Rattle.shop_base.specs.declared.report.Report.TheVariants.{Arrive, Finish, Clean}
-use Rattle.shop_base.proofs.Visits.{visits_job, visits_machine, leaves_past}
+use Rattle.shop_base.proofs.{Visits.{visits_job, visits_machine, leaves_past}, CellFacts.{target_visited, target_out}}
 use Rattle.shop_base.proofs.InShop.{outside_in_shop, ready_in_shop, cleaned_in_shop}
-use Rattle.shop_base.proofs.CellFacts.{target_visited, target_out}
 use Rattle.cell_tables.specs.Moving.{IsSpotOf}
-use Rattle.cell_tables.proofs.MoveParts.{source_or_out}
 use Rattle.cell_tables.specs.declared.entry.Entry.TheVariants.{Report as ReportEntry, Order as OrderEntry}
+use Rattle.cell_tables.proofs.MoveParts.{source_or_out}
 use Rattle.event_lines.specs.LogLines.{IsEntryOf}
 
 pub report_of_shop : (p : PlannedShop) (c : Cell) (report : Report) → IsWellShaped p → IsSound p c → CanReport p c report → IsEntryOf p (ReportEntry report)

@@ -1,7 +1,6 @@
 -- Texts of one number after another, and what is overdue among them.
 use Rattle.std.proofs.Common.{◌≡◌, ℕ, suc, ◌+◌, ◌-◌, ◌<◌, ◌≤◌, Bool, true, false, cond, List, [], ◌++◌, Option, Some, None, sym, ap, ◌∙◌, add-one, arith}
-use Rattle.cell_tables.specs.declared.standing.Standing.{Standing}
-use Rattle.cell_tables.specs.Standings.{is_overdue}
+use Rattle.cell_tables.specs.{declared.standing.Standing.Standing, Standings.is_overdue}
 use Rattle.event_lines.specs.declared.details.Overdue.{Overdue}
 use Rattle.cell_drive.specs.States.{texts_from, count_of, one_more, with_one, with_those}
 

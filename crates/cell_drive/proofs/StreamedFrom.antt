@@ -1,9 +1,7 @@
 -- A stream of answers, as what driving comes to.
 use Rattle.std.proofs.Common.{◌≡◌, ℕ, List, Option, Ok, Err, subst, arith}
-use Rattle.byte_streams.specs.declared.drive_fault.DriveFault.{DriveFault}
-use Rattle.byte_streams.specs.declared.drive_fault.DriveFault.TheVariants.{Read, Write, InputTooLong, Memory}
-use Rattle.byte_streams.specs.Lent.{Streams}
-use Rattle.byte_streams.specs.Streams.{ComesTo, IsStreamed}
+use Rattle.byte_streams.specs.declared.drive_fault.DriveFault.{DriveFault, TheVariants.{Read, Write, InputTooLong, Memory}}
+use Rattle.byte_streams.specs.{Lent.Streams, Streams.{ComesTo, IsStreamed}}
 use Rattle.cell_drive.specs.OneRun.{IsStreamedFrom}
 
 module _ {S : Type 0} (answers : S → ℕ → Option (List ℕ) → List ℕ → S → Type 0) (closes : S → List ℕ → Type 0) (start end : S) (before after : Streams) where

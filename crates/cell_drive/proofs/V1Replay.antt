@@ -1,5 +1,6 @@
 -- The lines of events that are written once more, one after another.
-use Rattle.std.proofs.Common.{◌≡◌, ℕ, zero, suc, ◌+◌, ◌<◌, Bool, List, [], ◌∷◌, ◌++◌, length, take, drop, drop-cons, add-one, get_or, refl, sym, ap, ◌∙◌, arith, append_assoc}
+use Rattle.std.proofs.Common.{◌≡◌, ℕ, zero, suc, ◌+◌, ◌<◌, Bool, List, [], ◌∷◌, ◌++◌, length, take, drop, get_or, refl, sym, ap, ◌∙◌, arith, append_assoc}
+use Rattle.std.proofs.lemmas.List.{drop_more}
 use Rattle.cell_tables.specs.declared.entry.Entry.{Entry}
 use Rattle.cell_drive.specs.PlainLines.{plain_line, plain_lines}
 
@@ -24,9 +25,7 @@ none_plain (e ∷ es) late = none_plain es late
 pub next_plain : (es : List Entry) (late : List Bool) (i : ℕ) (d : Entry) (e : Bool) → i < length es → length es ≡ length late
     → plain_line (get_or es i d) (get_or late i e) ++ plain_lines (drop (i + 1) es) (drop (i + 1) late) ≡ plain_lines (drop i es) (drop i late)
 next_plain es late i d e below same =
-    let one : drop i es ≡ get_or es i d ∷ drop (i + 1) es = drop-cons es i d below ∙ ap (λ (n : ℕ). get_or es i d ∷ drop n es) (sym (add-one i)) in
-    let two : drop i late ≡ get_or late i e ∷ drop (i + 1) late = drop-cons late i e (omega (arith, below, same)) ∙ ap (λ (n : ℕ). get_or late i e ∷ drop n late) (sym (add-one i)) in
-    sym (ap (λ xs. plain_lines xs (drop i late)) one ∙ ap (plain_lines (get_or es i d ∷ drop (i + 1) es)) two)
+    sym (ap (λ xs. plain_lines xs (drop i late)) (drop_more es i d below) ∙ ap (plain_lines (get_or es i d ∷ drop (i + 1) es)) (drop_more late i e (omega (arith, below, same))))
 
 -- a line written before those behind it
 pub plain_before : (es : List Entry) (late : List Bool) (i place : ℕ) (d : Entry) (f : Bool) (text old : List ℕ)

@@ -1,16 +1,11 @@
 -- The law that what a driven cell writes is a log, which an audit keeps.
 use Rattle.std.specs.Prelude.{◌≡◌, ℕ, ◌+◌, List, Bool}
-use Rattle.shop_base.specs.Plan.{PlannedShop, IsWellShaped}
-use Rattle.shop_base.specs.Run.{IsRun}
-use Rattle.shop_base.specs.Ends.{stated_number, moves_in}
+use Rattle.shop_base.specs.{Plan.PlannedShop, Plan.IsWellShaped, Run.IsRun, Ends.stated_number, Ends.moves_in}
 use Rattle.text_lines.specs.Lines.{lines_of}
-use Rattle.cell_tables.specs.declared.entry.Entry.{Entry}
+use Rattle.cell_tables.specs.{declared.entry.Entry.Entry, Events.events_of}
 use Rattle.run_log.specs.declared.audit_result.Audit.{Audit}
-use Rattle.cell_tables.specs.Events.{events_of}
 use Rattle.event_lines.specs.LogLines.{LinesParse}
-use Rattle.cell_drive.specs.declared.protocol.Protocol.{Protocol}
-use Rattle.cell_drive.specs.AnswerText.{DrivenCell}
-use Rattle.cell_drive.specs.OneRun.{cell_after}
+use Rattle.cell_drive.specs.{declared.protocol.Protocol.Protocol, AnswerText.DrivenCell, OneRun.cell_after}
 use Rattle.cell_drive.specs.ProtocolText.{IsProtocolText}
 
 -- the lines of the text record exactly what was accepted and ordered, which is a run of the plan that leads to the cell

@@ -1,19 +1,14 @@
 -- The laws that a log which was cut is recovered.
 use Rattle.std.specs.Prelude.{◌≡◌, ℕ, List, [], ◌++◌, map, length, ◌≤◌, Bool, Option, None, ◌⊎◌}
-use Rattle.shop_base.specs.declared.move_order.MoveOrder.{MoveOrder}
-use Rattle.shop_base.specs.Plan.{PlannedShop, IsWellShaped}
-use Rattle.shop_base.specs.Run.{IsRun}
+use Rattle.shop_base.specs.{declared.move_order.MoveOrder.MoveOrder, Plan.PlannedShop, Plan.IsWellShaped, Run.IsRun}
 use Rattle.text_lines.specs.Lines.{lines_of, ended_lines}
 use Rattle.plan_verifier.specs.Accepted.{IsAcceptable}
-use Rattle.cell_tables.specs.declared.entry.Entry.{Entry}
-use Rattle.cell_tables.specs.declared.entry.Entry.TheVariants.{Order as OrderEntry}
+use Rattle.cell_tables.specs.{declared.entry.Entry.Entry, declared.entry.Entry.TheVariants.Order as OrderEntry}
 use Rattle.cell_tables.specs.Events.{events_of}
 use Rattle.event_lines.specs.LogLines.{LinesParse}
 use Rattle.byte_streams.specs.Answering.{AnswerAll}
-use Rattle.cell_drive.specs.declared.protocol.Protocol.{Protocol}
-use Rattle.cell_drive.specs.AnswerText.{DrivenCell, CellCloses}
-use Rattle.cell_drive.specs.OneRun.{IsRunOf}
-use Rattle.cell_drive.specs.CutLogs.{IsCutLog}
+use Rattle.cell_drive.specs.{declared.protocol.Protocol.Protocol, AnswerText.DrivenCell, AnswerText.CellCloses}
+use Rattle.cell_drive.specs.{OneRun.IsRunOf, CutLogs.IsCutLog}
 use Rattle.cell_drive.specs.ProtocolText.{ProtocolAnswers, AreProtocolAnswers}
 use Rattle.cell_drive.specs.Recovered.{Recovered, IsRecovered, IsRecoverable, replayed_events}
 use Rattle.cell_drive.specs.Resuming.{again_text, driven_so_far, IsRunToRest}

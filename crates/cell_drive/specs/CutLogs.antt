@@ -1,12 +1,8 @@
 -- Logs of controlled runs that may have been cut.
 use Rattle.std.specs.Prelude.{◌≡◌, ℕ, ◌≤◌, List, [], ◌∷◌, ◌++◌, length, map, take}
-use Rattle.shop_base.specs.Plan.{PlannedShop}
-use Rattle.shop_base.specs.declared.move_order.MoveOrder.{MoveOrder}
-use Rattle.shop_base.specs.declared.report.Report.{Report}
-use Rattle.shop_base.specs.Run.{Event, Reported, Moved}
-use Rattle.shop_base.specs.Controlled.{IsControlledRun}
-use Rattle.cell_tables.specs.declared.entry.Entry.{Entry}
-use Rattle.cell_tables.specs.declared.entry.Entry.TheVariants.{Order as OrderEntry}
+use Rattle.shop_base.specs.{Plan.PlannedShop, declared.move_order.MoveOrder.MoveOrder, declared.report.Report.Report}
+use Rattle.shop_base.specs.{Run.Event, Run.Reported, Run.Moved, Controlled.IsControlledRun}
+use Rattle.cell_tables.specs.{declared.entry.Entry.Entry, declared.entry.Entry.TheVariants.Order as OrderEntry}
 use Rattle.cell_tables.specs.Events.{events_of}
 use Rattle.event_lines.specs.LogLines.{LinesParse}
 use Rattle.cell_drive.specs.OneRun.{cell_after}

@@ -2,15 +2,11 @@
 use Rattle.std.specs.Prelude.{◌≡◌, Result, IfOk}
 use Rattle.plan_verifier.specs.Accepted.{VerifiedPlan}
 use Rattle.cell_control.specs.Control.{verified_in}
-use Rattle.byte_streams.specs.declared.drive_fault.DriveFault.{DriveFault}
-use Rattle.byte_streams.specs.Lent.{Streams, SinkState}
-use Rattle.cell_drive.specs.declared.protocol.Protocol.{Protocol}
-use Rattle.cell_drive.specs.declared.begin.DriveEnd.{DriveEnd}
-use Rattle.cell_drive.specs.declared.resume.RestEnd.{RestEnd}
-use Rattle.cell_drive.specs.OneRun.{IsStreamedFrom}
+use Rattle.byte_streams.specs.{declared.drive_fault.DriveFault.DriveFault, Lent.Streams, Lent.SinkState}
+use Rattle.cell_drive.specs.{declared.protocol.Protocol.Protocol, declared.begin.DriveEnd.DriveEnd}
+use Rattle.cell_drive.specs.{declared.resume.RestEnd.RestEnd, OneRun.IsStreamedFrom}
 use Rattle.cell_drive.specs.Session.{SessionState, SessionAnswer, SessionCloses, IsEndOf, session_start}
-use Rattle.cell_drive.specs.Recovered.{Recovered}
-use Rattle.cell_drive.specs.Resuming.{WritesAndGoesOn, again_of, due_text}
+use Rattle.cell_drive.specs.{Recovered.Recovered, Resuming.WritesAndGoesOn, Resuming.again_of, Resuming.due_text}
 use Rattle.cell_drive.specs.Replay.{IsReplayWritten, replay_text}
 
 -- a run that has begun: its plan, and the protocol by which it is to be driven

@@ -1,12 +1,8 @@
 -- Which events are reports that are late.
 use Rattle.std.specs.Prelude.{◌≡◌, List, [], ◌∷◌, Bool, false, ◌↔◌}
-use Rattle.shop_base.specs.Plan.{PlannedShop}
-use Rattle.shop_base.specs.Cell.{Cell}
-use Rattle.shop_base.specs.Run.{after}
-use Rattle.shop_base.specs.Punctual.{IsPunctual}
-use Rattle.cell_tables.specs.declared.entry.Entry.{Entry}
+use Rattle.shop_base.specs.{Plan.PlannedShop, Cell.Cell, Run.after, Punctual.IsPunctual}
+use Rattle.cell_tables.specs.{declared.entry.Entry.Entry, Events.event_of}
 use Rattle.cell_tables.specs.declared.entry.Entry.TheVariants.{Report as ReportEntry, Order as OrderEntry}
-use Rattle.cell_tables.specs.Events.{event_of}
 
 -- whether the event is a late report
 abbrev pub IsLateEvent : PlannedShop → Cell → Entry → Bool → Type 0

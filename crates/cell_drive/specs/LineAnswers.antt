@@ -1,19 +1,12 @@
 -- What is answered, line by line.
 use Rattle.std.specs.Prelude.{◌≡◌, ◌↔◌, ℕ, List, [], ◌∷◌, ◌++◌, codes, map, Option, None, Some, Bool, false, ◌⊎◌, ◌==◌, if◌then◌else◌}
 use Rattle.std.specs.List.{flat_map}
-use Rattle.shop_base.specs.declared.move_order.MoveOrder.{MoveOrder}
-use Rattle.shop_base.specs.declared.report.Report.{Report}
-use Rattle.shop_base.specs.Plan.{PlannedShop}
-use Rattle.shop_base.specs.Cell.{Cell}
-use Rattle.shop_base.specs.Controlled.{IsStep, after_step, step_orders}
-use Rattle.shop_base.specs.Punctual.{IsPunctual}
-use Rattle.shop_base.specs.Ends.{HasEnded}
-use Rattle.shop_base.specs.ReportsLeft.{reports_left}
-use Rattle.shop_base.specs.Report.{at}
+use Rattle.shop_base.specs.{declared.move_order.MoveOrder.MoveOrder, declared.report.Report.Report, Plan.PlannedShop}
+use Rattle.shop_base.specs.{Cell.Cell, Controlled.IsStep, Controlled.after_step, Controlled.step_orders}
+use Rattle.shop_base.specs.{Punctual.IsPunctual, Ends.HasEnded, ReportsLeft.reports_left, Report.at}
 use Rattle.cell_tables.specs.declared.entry.Entry.{Entry}
 use Rattle.cell_tables.specs.declared.entry.Entry.TheVariants.{Report as ReportEntry, Order as OrderEntry}
-use Rattle.cell_control.specs.declared.report_fault.ReportFault.{ReportFault}
-use Rattle.cell_control.specs.ReasonNames.{reason_name}
+use Rattle.cell_control.specs.{declared.report_fault.ReportFault.ReportFault, ReasonNames.reason_name}
 use Rattle.cell_control.specs.Reports.{IsFirstReason}
 use Rattle.event_lines.specs.EventLines.{report_line, order_line}
 use Rattle.event_lines.specs.AnswerLines.{late_line, refused_line, done_line, unfinished_line}

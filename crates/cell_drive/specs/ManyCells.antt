@@ -1,12 +1,9 @@
 -- Several cells that are driven by lines, in the order of their numbers.
 use Rattle.std.specs.Prelude.{◌≡◌, ℕ, suc, List, [], ◌∷◌, ◌++◌, codes, map, Option, None, Some, slice_get, slice_set}
-use Rattle.shop_base.specs.declared.report.Report.{Report}
-use Rattle.shop_base.specs.Cell.{Cell, start}
-use Rattle.shop_base.specs.Ends.{HasEnded}
+use Rattle.shop_base.specs.{declared.report.Report.Report, Cell.Cell, Cell.start, Ends.HasEnded}
 use Rattle.plan_verifier.specs.Accepted.{VerifiedPlan, IsVerified}
 use Rattle.cell_tables.specs.declared.entry.Entry.{Entry}
-use Rattle.event_lines.specs.AnswerLines.{refused_line}
-use Rattle.event_lines.specs.SentLines.{IsCellReport, cell_prefix}
+use Rattle.event_lines.specs.{AnswerLines.refused_line, SentLines.IsCellReport, SentLines.cell_prefix}
 use Rattle.cell_drive.specs.LineAnswers.{SaysOnly, LineAnswer, ReportAnswer, IsClosingLine}
 
 -- a cell that runs by a plan

@@ -1,13 +1,10 @@
 -- The controllers of several cells, in the order of their numbers. No public clause cites this module.
 use Rattle.std.specs.Prelude.{ℕ, suc, List, [], ◌∷◌, ◌++◌, map, Some}
-use Rattle.shop_base.specs.Run.{IsAtRest}
-use Rattle.shop_base.specs.Sound.{IsSound}
+use Rattle.shop_base.specs.{Run.IsAtRest, Sound.IsSound}
 use Rattle.plan_verifier.specs.Accepted.{IsVerified}
 use Rattle.cell_control.specs.Control.{Control, verified_in}
 use Rattle.event_lines.specs.SentLines.{cell_prefix}
-use Rattle.cell_drive.specs.declared.protocol.Protocol.{Protocol}
-use Rattle.cell_drive.specs.LineAnswers.{closing_line}
-use Rattle.cell_drive.specs.ManyCells.{PlannedCell}
+use Rattle.cell_drive.specs.{declared.protocol.Protocol.Protocol, LineAnswers.closing_line, ManyCells.PlannedCell}
 use Rattle.cell_drive.specs.ProtocolCells.{HubAnswer, hub_of}
 
 -- a controller's cell

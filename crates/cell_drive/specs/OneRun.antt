@@ -1,23 +1,15 @@
 -- What the log of a driven cell comes to.
 use Rattle.std.specs.Prelude.{◌≡◌, ℕ, ◌+◌, ◌*◌, ◌<◌, ◌≤◌, ◌↔◌, List, [], ◌∷◌, ◌++◌, length, Option, Bool, IsTrue, Result, Err}
-use Rattle.shop_base.specs.declared.report.Report.{Report}
-use Rattle.shop_base.specs.Plan.{PlannedShop, jobs}
-use Rattle.shop_base.specs.Cell.{Cell, start}
-use Rattle.shop_base.specs.Run.{Event, Reported, Moved, ends_in, IsRun}
-use Rattle.shop_base.specs.Controlled.{IsControlledRun}
-use Rattle.shop_base.specs.Punctual.{ArePunctual}
-use Rattle.shop_base.specs.Ends.{stated_number, reports_in, HasEnded, IsInTime}
+use Rattle.shop_base.specs.{declared.report.Report.Report, Plan.PlannedShop, Plan.jobs, Cell.Cell, Cell.start}
+use Rattle.shop_base.specs.{Run.Event, Run.Reported, Run.Moved, Run.ends_in, Run.IsRun, Controlled.IsControlledRun}
+use Rattle.shop_base.specs.{Punctual.ArePunctual, Ends.stated_number, Ends.reports_in, Ends.HasEnded, Ends.IsInTime}
 use Rattle.shop_base.specs.KeptMoments.{KeepsLeaving}
 use Rattle.plan_verifier.specs.Accepted.{VerifiedPlan, kept_at}
 use Rattle.cell_control.specs.Promises.{RestsUnstuck}
-use Rattle.cell_tables.specs.declared.entry.Entry.{Entry}
+use Rattle.cell_tables.specs.{declared.entry.Entry.Entry, Events.events_of}
 use Rattle.run_log.specs.Log.{Noted}
-use Rattle.cell_tables.specs.Events.{events_of}
-use Rattle.byte_streams.specs.declared.drive_fault.DriveFault.{DriveFault}
-use Rattle.byte_streams.specs.declared.drive_fault.DriveFault.TheVariants.{Memory}
-use Rattle.byte_streams.specs.declared.rooms.TheConstants.{MAX_PIECE}
-use Rattle.byte_streams.specs.Lent.{Streams}
-use Rattle.byte_streams.specs.Streams.{IsStreamed}
+use Rattle.byte_streams.specs.{declared.drive_fault.DriveFault.DriveFault, declared.rooms.TheConstants.MAX_PIECE}
+use Rattle.byte_streams.specs.{declared.drive_fault.DriveFault.TheVariants.Memory, Lent.Streams, Streams.IsStreamed}
 
 -- the cell after the events of a log
 abbrev pub cell_after : PlannedShop → List Entry → Cell

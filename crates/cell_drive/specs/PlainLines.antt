@@ -3,8 +3,7 @@ use Rattle.std.specs.Prelude.{ℕ, List, [], ◌∷◌, ◌++◌, Bool, if◌the
 use Rattle.shop_base.specs.Report.{at}
 use Rattle.cell_tables.specs.declared.entry.Entry.{Entry}
 use Rattle.cell_tables.specs.declared.entry.Entry.TheVariants.{Report as ReportEntry, Order as OrderEntry}
-use Rattle.event_lines.specs.EventLines.{report_line, order_line}
-use Rattle.event_lines.specs.AnswerLines.{late_line}
+use Rattle.event_lines.specs.{EventLines.report_line, EventLines.order_line, AnswerLines.late_line}
 
 -- the line of an event, and behind that of a late report the line that it is late
 abbrev pub plain_line : Entry → Bool → List ℕ

@@ -3,20 +3,14 @@ use Rattle.std.specs.Prelude.{◌≡◌, ◌↔◌, ℕ, List, codes, Bool, true
 use Rattle.shop_base.specs.Cell.{Cell}
 use Rattle.plan_verifier.specs.Accepted.{VerifiedPlan}
 use Rattle.cell_tables.specs.declared.entry.Entry.{Entry}
-use Rattle.byte_streams.specs.declared.drive_fault.DriveFault.{DriveFault}
-use Rattle.byte_streams.specs.Lent.{Streams}
-use Rattle.event_lines.specs.AnswerLines.{refused_line}
-use Rattle.event_lines.specs.SentLines.{IsCellReport, cell_prefix}
-use Rattle.event_lines.specs.Requests.{IsCellRequest}
+use Rattle.byte_streams.specs.{declared.drive_fault.DriveFault.DriveFault, Lent.Streams}
+use Rattle.event_lines.specs.{AnswerLines.refused_line, SentLines.IsCellReport, SentLines.cell_prefix}
+use Rattle.event_lines.specs.{Requests.IsCellRequest, declared.requests.Request.Request}
 use Rattle.event_lines.specs.declared.requests.Claim.TheVariants.{Report, CleanAfter}
-use Rattle.event_lines.specs.declared.requests.Request.{Request}
 use Rattle.event_lines.specs.declared.requests.Request.TheVariants.{Claim as ClaimRequest, Status}
-use Rattle.cell_drive.specs.declared.protocol.Protocol.{Protocol}
-use Rattle.cell_drive.specs.declared.hub.HubEnd.{HubEnd}
-use Rattle.cell_drive.specs.LineAnswers.{SaysOnly, LineAnswer}
-use Rattle.cell_drive.specs.OneRun.{IsStreamedFrom}
+use Rattle.cell_drive.specs.{declared.protocol.Protocol.Protocol, declared.hub.HubEnd.HubEnd, OneRun.IsStreamedFrom}
+use Rattle.cell_drive.specs.{LineAnswers.SaysOnly, LineAnswers.LineAnswer, ProtocolText.RequestAnswer}
 use Rattle.cell_drive.specs.ManyCells.{PlannedCell, hub_start, AreVerified, CellsClose, AreAllDone}
-use Rattle.cell_drive.specs.ProtocolText.{RequestAnswer}
 
 -- the line asks this of the cell of this number: in version 1 of the lines it is a report on it, in version 2 whatever is a request
 abbrev pub AsksCell : Bool → List ℕ → ℕ → Request → Type 0

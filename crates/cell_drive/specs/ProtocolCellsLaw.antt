@@ -1,23 +1,14 @@
 -- The laws of several cells that are driven by a protocol.
 use Rattle.std.specs.Prelude.{◌≡◌, ◌↔◌, ℕ, ◌+◌, List, [], ◌∷◌, ◌++◌, Bool, Option, Some, slice_get}
-use Rattle.shop_base.specs.declared.report.Report.{Report}
-use Rattle.shop_base.specs.Plan.{PlannedShop}
-use Rattle.shop_base.specs.Cell.{Cell, start}
-use Rattle.shop_base.specs.Controlled.{IsControlledRun}
-use Rattle.shop_base.specs.Ends.{stated_number, reports_in, HasEnded}
+use Rattle.shop_base.specs.{declared.report.Report.Report, Plan.PlannedShop, Cell.Cell, Cell.start}
+use Rattle.shop_base.specs.{Controlled.IsControlledRun, Ends.stated_number, Ends.reports_in, Ends.HasEnded}
 use Rattle.plan_verifier.specs.Accepted.{VerifiedPlan}
-use Rattle.cell_tables.specs.declared.entry.Entry.{Entry}
-use Rattle.cell_tables.specs.Events.{events_of}
-use Rattle.byte_streams.specs.Lines.{input_lines}
-use Rattle.byte_streams.specs.Answering.{AnswerAll}
-use Rattle.event_lines.specs.SentLines.{cell_prefix}
-use Rattle.event_lines.specs.declared.requests.Request.{Request}
-use Rattle.cell_drive.specs.declared.protocol.Protocol.{Protocol}
-use Rattle.cell_drive.specs.Protocols.{plain_from}
+use Rattle.cell_tables.specs.{declared.entry.Entry.Entry, Events.events_of}
+use Rattle.byte_streams.specs.{Lines.input_lines, Answering.AnswerAll}
+use Rattle.event_lines.specs.{SentLines.cell_prefix, declared.requests.Request.Request}
+use Rattle.cell_drive.specs.{declared.protocol.Protocol.Protocol, Protocols.plain_from, OneRun.StaysAsPromised}
 use Rattle.cell_drive.specs.ManyCells.{PlannedCell, hub_start, AreVerified, CellsAnswer, CellsClose}
-use Rattle.cell_drive.specs.OneRun.{StaysAsPromised}
-use Rattle.cell_drive.specs.ProtocolText.{RequestAnswer}
-use Rattle.cell_drive.specs.ProtocolCells.{AsksCell, ProtocolCellsAnswer}
+use Rattle.cell_drive.specs.{ProtocolText.RequestAnswer, ProtocolCells.AsksCell, ProtocolCells.ProtocolCellsAnswer}
 
 -- the first lines of an input of cells by these plans are answered by this text
 abbrev pub AreCellsAnswers : List VerifiedPlan → Protocol → List (Option (List ℕ)) → List ℕ → List PlannedCell → Type 0

@@ -1,41 +1,26 @@
 -- The laws of cells that are driven by a protocol.
 use Rattle.std.specs.Prelude.{◌≡◌, ℕ, List, ◌∷◌, ◌++◌, Option, None, Some, Bool, false, Result, Ok, IfOk, IfErr, MatchResult}
-use Rattle.shop_base.specs.Plan.{PlannedShop, IsWellShaped}
-use Rattle.shop_base.specs.Cell.{Cell}
-use Rattle.shop_base.specs.Run.{IsRun}
-use Rattle.shop_base.specs.Punctual.{IsPunctual}
-use Rattle.shop_base.specs.Sound.{IsSound}
-use Rattle.shop_base.specs.Report.{at}
+use Rattle.shop_base.specs.{Plan.PlannedShop, Plan.IsWellShaped, Cell.Cell, Run.IsRun, Punctual.IsPunctual}
+use Rattle.shop_base.specs.{Sound.IsSound, Report.at}
 use Rattle.shop_base.specs.declared.report.Report as reports
 use Rattle.shop_base.specs.declared.report.Report.TheVariants.{Arrive, Finish, Clean}
 use Rattle.text_lines.specs.Lines.{lines_of}
 use Rattle.plan_verifier.specs.Accepted.{VerifiedPlan}
-use Rattle.cell_tables.specs.declared.entry.Entry.{Entry}
-use Rattle.cell_tables.specs.declared.entry.Entry.TheVariants.{Report as ReportEntry}
+use Rattle.cell_tables.specs.{declared.entry.Entry.Entry, declared.entry.Entry.TheVariants.Report as ReportEntry}
 use Rattle.cell_tables.specs.Events.{events_of}
 use Rattle.cell_control.specs.OnceLaw.{NamedEnd, Arrived, Finished, Cleaned, ReportsEnd}
 use Rattle.cell_control.specs.Control.{verified_in}
-use Rattle.run_log.specs.declared.audit_result.Audit.{Audit}
-use Rattle.run_log.specs.declared.audit_fault.AuditFault.{AuditFault}
-use Rattle.run_log.specs.declared.audit_fault.AuditFault.TheVariants.{Memory}
-use Rattle.run_log.specs.Audits.{IsAudit, ParseAsRun}
-use Rattle.byte_streams.specs.Lent.{Streams}
-use Rattle.byte_streams.specs.Answering.{AnswerAll}
+use Rattle.run_log.specs.{declared.audit_result.Audit.Audit, declared.audit_fault.AuditFault.AuditFault}
+use Rattle.run_log.specs.{declared.audit_fault.AuditFault.TheVariants.Memory, Audits.IsAudit, Audits.ParseAsRun}
+use Rattle.byte_streams.specs.{Lent.Streams, Answering.AnswerAll}
 use Rattle.event_lines.specs.declared.requests.Claim.{Claim}
 use Rattle.event_lines.specs.declared.requests.Claim.TheVariants.{Report, CleanAfter}
 use Rattle.event_lines.specs.declared.requests.Request.TheVariants.{Claim as ClaimRequest}
-use Rattle.cell_drive.specs.declared.protocol.Protocol.{Protocol}
-use Rattle.cell_drive.specs.Protocols.{plain_from}
-use Rattle.cell_drive.specs.AnswerText.{DrivenCell, CellAnswers}
-use Rattle.cell_drive.specs.declared.begin.DriveEnd.{DriveEnd}
-use Rattle.cell_drive.specs.AuditLaw.{IsFoundAgain}
-use Rattle.cell_drive.specs.Session.{SessionState, SessionAnswer, seen}
-use Rattle.cell_drive.specs.InProtocol.{IsDriveIn}
-use Rattle.cell_drive.specs.Replay.{replay_lines}
-use Rattle.cell_drive.specs.PlainLines.{plain_lines}
-use Rattle.cell_drive.specs.OneRun.{cell_after}
-use Rattle.cell_drive.specs.Refusals.{CanClaim, IsAdmissible, standing_of}
-use Rattle.cell_drive.specs.States.{overdue_in}
+use Rattle.cell_drive.specs.{declared.protocol.Protocol.Protocol, Protocols.plain_from}
+use Rattle.cell_drive.specs.{AnswerText.DrivenCell, AnswerText.CellAnswers, declared.begin.DriveEnd.DriveEnd}
+use Rattle.cell_drive.specs.{AuditLaw.IsFoundAgain, Session.SessionState, Session.SessionAnswer, Session.seen}
+use Rattle.cell_drive.specs.{InProtocol.IsDriveIn, Replay.replay_lines, PlainLines.plain_lines, OneRun.cell_after}
+use Rattle.cell_drive.specs.{Refusals.CanClaim, Refusals.IsAdmissible, Refusals.standing_of, States.overdue_in}
 use Rattle.cell_drive.specs.ProtocolText.{ProtocolAnswers, CellRequests, AreProtocolAnswers, IsProtocolText}
 
 -- by each protocol an input has one answer text at most, which leads to one cell with one list of events

@@ -1,33 +1,23 @@
 -- A cell that is driven by a protocol: what is asked for, and how it is answered.
 use Rattle.std.specs.Prelude.{◌≡◌, ◌↔◌, ℕ, List, [], ◌∷◌, ◌++◌, map, Option, None, Some, Bool, true, false, ◌&&◌, ◌==◌, ◌⊎◌, if◌then◌else◌}
 use Rattle.std.specs.List.{flat_map}
-use Rattle.shop_base.specs.declared.move_order.MoveOrder.{MoveOrder}
-use Rattle.shop_base.specs.Plan.{PlannedShop}
-use Rattle.shop_base.specs.Cell.{Cell}
-use Rattle.shop_base.specs.Controlled.{IsStep, after_step, step_orders}
-use Rattle.shop_base.specs.Punctual.{IsPunctual}
-use Rattle.shop_base.specs.ReportsLeft.{reports_left}
+use Rattle.shop_base.specs.{declared.move_order.MoveOrder.MoveOrder, Plan.PlannedShop, Cell.Cell, Punctual.IsPunctual}
+use Rattle.shop_base.specs.{Controlled.IsStep, Controlled.after_step, Controlled.step_orders, ReportsLeft.reports_left}
 use Rattle.shop_base.specs.Report.{at}
 use Rattle.shop_base.specs.declared.report.Report as reports
 use Rattle.cell_tables.specs.declared.entry.Entry.{Entry}
 use Rattle.cell_tables.specs.declared.entry.Entry.TheVariants.{Report as ReportEntry, Order as OrderEntry}
-use Rattle.byte_streams.specs.Lines.{input_lines}
-use Rattle.byte_streams.specs.Answering.{AnswerAll}
-use Rattle.event_lines.specs.EventLines.{report_line, order_line}
-use Rattle.event_lines.specs.AnswerLines.{late_line, done_line}
-use Rattle.event_lines.specs.SentLines.{IsReportLine}
+use Rattle.byte_streams.specs.{Lines.input_lines, Answering.AnswerAll}
+use Rattle.event_lines.specs.{EventLines.report_line, EventLines.order_line, SentLines.IsReportLine}
+use Rattle.event_lines.specs.{AnswerLines.late_line, AnswerLines.done_line, Requests.claimed, Requests.IsRequestLine}
 use Rattle.event_lines.specs.StandingLines.{refused_detail_line, late_overdue_line}
-use Rattle.event_lines.specs.Requests.{claimed, IsRequestLine}
-use Rattle.event_lines.specs.declared.details.Overdue.{Overdue}
-use Rattle.event_lines.specs.declared.requests.Claim.{Claim}
+use Rattle.event_lines.specs.{declared.details.Overdue.Overdue, declared.requests.Claim.Claim}
 use Rattle.event_lines.specs.declared.requests.Claim.TheVariants.{Report, CleanAfter}
 use Rattle.event_lines.specs.declared.requests.Request.{Request}
 use Rattle.event_lines.specs.declared.requests.Request.TheVariants.{Claim as ClaimRequest, Status}
-use Rattle.cell_drive.specs.declared.protocol.Protocol.{Protocol}
-use Rattle.cell_drive.specs.declared.refusals.Refusal.{Refusal}
+use Rattle.cell_drive.specs.{declared.protocol.Protocol.Protocol, declared.refusals.Refusal.Refusal}
 use Rattle.cell_drive.specs.Refusals.{IsRefusal, IsAdmissible, refusal_word, refusal_detail, standing_of}
-use Rattle.cell_drive.specs.States.{overdue_in, state_text}
-use Rattle.cell_drive.specs.LineAnswers.{LineAnswer}
+use Rattle.cell_drive.specs.{States.overdue_in, States.state_text, LineAnswers.LineAnswer}
 use Rattle.cell_drive.specs.AnswerText.{DrivenCell, undriven, CellCloses}
 
 -- the line asks for this: in version 1 of the lines a report, in version 2 whatever is a request

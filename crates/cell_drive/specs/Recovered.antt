@@ -1,22 +1,13 @@
 -- A run that was recovered from its log, and which logs are recovered.
 use Rattle.std.specs.Prelude.{◌≡◌, ℕ, ◌≤◌, Bool, List, [], ◌++◌, length, map, take, Option, unwrap_or}
-use Rattle.shop_base.specs.Plan.{PlannedShop}
-use Rattle.shop_base.specs.Cell.{Cell, start}
-use Rattle.shop_base.specs.Run.{IsRun}
+use Rattle.shop_base.specs.{Plan.PlannedShop, Cell.Cell, Cell.start, Run.IsRun}
 use Rattle.plan_verifier.specs.Accepted.{HasNoCycle, IsAcceptable}
-use Rattle.cell_tables.specs.declared.entry.Entry.{Entry}
-use Rattle.cell_tables.specs.declared.entry.Entry.TheVariants.{Order as OrderEntry}
-use Rattle.cell_tables.specs.Events.{events_of}
-use Rattle.cell_tables.specs.declared.tables.Tables.{Tables}
-use Rattle.cell_tables.specs.Tables.{AreSound, cell_of}
+use Rattle.cell_tables.specs.{declared.entry.Entry.Entry, declared.entry.Entry.TheVariants.Order as OrderEntry}
+use Rattle.cell_tables.specs.{Events.events_of, declared.tables.Tables.Tables, Tables.AreSound, Tables.cell_of}
 use Rattle.event_lines.specs.LogLines.{LinesParse}
-use Rattle.cell_control.specs.Begun.{IsBegun}
-use Rattle.cell_control.specs.Control.{Control}
+use Rattle.cell_control.specs.{Begun.IsBegun, Control.Control}
 use Rattle.run_log.specs.Log.{Noted}
-use Rattle.cell_drive.specs.AnswerText.{DrivenCell}
-use Rattle.cell_drive.specs.OneRun.{cell_after}
-use Rattle.cell_drive.specs.LateEvents.{AreLate}
-use Rattle.cell_drive.specs.Session.{IsKept}
+use Rattle.cell_drive.specs.{AnswerText.DrivenCell, OneRun.cell_after, LateEvents.AreLate, Session.IsKept}
 
 -- a controller, the log of the whole run, and of each event that the log recorded whether it is a late report
 pub record Recovered : Type 0 where

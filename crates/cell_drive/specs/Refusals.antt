@@ -1,23 +1,16 @@
 -- Why what a line claims is refused, and what is printed of it.
 use Rattle.std.specs.Prelude.{◌≡◌, ℕ, List, codes, Bool, true, false, ◌⊎◌, if◌then◌else◌}
-use Rattle.shop_base.specs.Plan.{PlannedShop}
-use Rattle.shop_base.specs.Cell.{Cell}
-use Rattle.shop_base.specs.Report.{at, CanReport}
+use Rattle.shop_base.specs.{Plan.PlannedShop, Cell.Cell, Report.at, Report.CanReport}
 use Rattle.shop_base.specs.declared.report.Report as reports
 use Rattle.shop_base.specs.declared.report.Report.TheVariants.{Arrive, Finish, Clean}
-use Rattle.cell_tables.specs.declared.standing.Standing.{Standing}
-use Rattle.cell_tables.specs.Standings.{job_standing, machine_standing}
-use Rattle.cell_control.specs.declared.report_fault.ReportFault.{ReportFault}
+use Rattle.cell_tables.specs.{declared.standing.Standing.Standing, Standings.job_standing, Standings.machine_standing}
+use Rattle.cell_control.specs.{declared.report_fault.ReportFault.ReportFault, ReasonNames.reason_name}
 use Rattle.cell_control.specs.declared.report_fault.ReportFault.TheVariants.{JobOutOfRange, MachineOutOfRange, MomentTooLarge, Backwards, NotExpected, WrongKind, WrongMachine}
-use Rattle.cell_control.specs.ReasonNames.{reason_name}
 use Rattle.cell_control.specs.Reports.{IsFirstReason, CanCleanAfter, IsFirstCleanReason}
-use Rattle.event_lines.specs.declared.details.Detail.{Detail}
+use Rattle.event_lines.specs.{declared.details.Detail.Detail, declared.requests.Claim.Claim, Requests.claimed}
 use Rattle.event_lines.specs.declared.details.Detail.TheVariants.{Nothing, Last, Stands}
-use Rattle.event_lines.specs.declared.requests.Claim.{Claim}
 use Rattle.event_lines.specs.declared.requests.Claim.TheVariants.{Report, CleanAfter}
-use Rattle.event_lines.specs.Requests.{claimed}
-use Rattle.cell_drive.specs.declared.protocol.Protocol.{Protocol}
-use Rattle.cell_drive.specs.Protocols.{leap_base, leaps}
+use Rattle.cell_drive.specs.{declared.protocol.Protocol.Protocol, Protocols.leap_base, Protocols.leaps}
 use Rattle.cell_drive.specs.declared.refusals.Refusal.{Refusal}
 use Rattle.cell_drive.specs.declared.refusals.Refusal.TheVariants.{Reason, Leap}
 

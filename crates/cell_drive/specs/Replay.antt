@@ -1,16 +1,10 @@
 -- What is written again of the events of a log, by a protocol.
 use Rattle.std.specs.Prelude.{◌≡◌, ℕ, List, [], ◌∷◌, ◌++◌, Bool, true, Result, Ok, Err}
 use Rattle.std.specs.Io.KnownBytes.{Appends}
-use Rattle.shop_base.specs.Plan.{PlannedShop}
-use Rattle.shop_base.specs.Cell.{Cell, start}
-use Rattle.shop_base.specs.Run.{after}
-use Rattle.shop_base.specs.Report.{at}
-use Rattle.cell_tables.specs.declared.entry.Entry.{Entry}
+use Rattle.shop_base.specs.{Plan.PlannedShop, Cell.Cell, Cell.start, Run.after, Report.at}
+use Rattle.cell_tables.specs.{declared.entry.Entry.Entry, Events.event_of}
 use Rattle.cell_tables.specs.declared.entry.Entry.TheVariants.{Report as ReportEntry, Order as OrderEntry}
-use Rattle.cell_tables.specs.Events.{event_of}
-use Rattle.byte_streams.specs.Sinks.{TookPart}
-use Rattle.byte_streams.specs.Lent.{SinkState}
-use Rattle.byte_streams.specs.declared.drive_fault.DriveFault.{DriveFault}
+use Rattle.byte_streams.specs.{Sinks.TookPart, Lent.SinkState, declared.drive_fault.DriveFault.DriveFault}
 use Rattle.byte_streams.specs.declared.drive_fault.DriveFault.TheVariants.{Read, Write, InputTooLong, Memory}
 use Rattle.event_lines.specs.EventLines.{report_line, order_line}
 use Rattle.cell_drive.specs.declared.protocol.Protocol.{Protocol}

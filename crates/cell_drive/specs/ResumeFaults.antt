@@ -1,19 +1,14 @@
 -- Why a run isn't recovered from its log.
 use Rattle.std.specs.Prelude.{◌≡◌, ℕ, ◌<◌, ◌≤◌, List, [], Bool, true, Option, unwrap_or}
-use Rattle.shop_base.specs.Plan.{PlannedShop}
-use Rattle.shop_base.specs.Run.{IsRun}
+use Rattle.shop_base.specs.{Plan.PlannedShop, Run.IsRun}
 use Rattle.alt_graph.specs.Evidence.{IsCycle}
-use Rattle.plan_verifier.specs.declared.verdict.Why.{Why}
+use Rattle.plan_verifier.specs.{declared.verdict.Why.Why, Verdicts.IsReason}
 use Rattle.plan_verifier.specs.declared.verdict.Why.TheVariants.{Cycle, Late}
-use Rattle.plan_verifier.specs.Verdicts.{IsReason}
-use Rattle.cell_tables.specs.declared.entry.Entry.{Entry}
-use Rattle.cell_tables.specs.Events.{events_of}
+use Rattle.cell_tables.specs.{declared.entry.Entry.Entry, Events.events_of}
 use Rattle.event_lines.specs.LogLines.{LinesParse}
-use Rattle.run_log.specs.declared.audit_fault.AuditFault.{AuditFault}
+use Rattle.run_log.specs.{declared.audit_fault.AuditFault.AuditFault, Audits.IsFirstBad}
 use Rattle.run_log.specs.declared.audit_fault.AuditFault.TheVariants.{Memory as OutOfMemory}
-use Rattle.run_log.specs.Audits.{IsFirstBad}
-use Rattle.cell_drive.specs.OneRun.{cell_after}
-use Rattle.cell_drive.specs.declared.resume_fault.ResumeFault.{ResumeFault}
+use Rattle.cell_drive.specs.{OneRun.cell_after, declared.resume_fault.ResumeFault.ResumeFault}
 use Rattle.cell_drive.specs.declared.resume_fault.ResumeFault.TheVariants.{Log, Past, Refused, Memory}
 
 -- the fault that a fault of an audit is

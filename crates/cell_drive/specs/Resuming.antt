@@ -1,36 +1,22 @@
 -- What a run that is recovered goes on to write.
 use Rattle.std.specs.Prelude.{◌≡◌, ℕ, ◌≤◌, List, ◌∷◌, ◌++◌, length, take, drop, Some, Bool, true, Result, Ok, Err, IfOk, IfErr, MatchResult, ◌⊎◌}
 use Rattle.std.specs.Io.KnownBytes.{Appends}
-use Rattle.shop_base.specs.declared.report.Report.{Report}
-use Rattle.shop_base.specs.Plan.{PlannedShop, IsWellShaped}
-use Rattle.shop_base.specs.Cell.{start}
-use Rattle.shop_base.specs.Run.{IsRun, IsAtRest}
-use Rattle.shop_base.specs.Ahead.{GoesOnTo}
+use Rattle.shop_base.specs.{declared.report.Report.Report, Plan.PlannedShop, Plan.IsWellShaped, Cell.start}
+use Rattle.shop_base.specs.{Run.IsRun, Run.IsAtRest, Ahead.GoesOnTo}
 use Rattle.text_lines.specs.Lines.{lines_of}
-use Rattle.cell_tables.specs.declared.entry.Entry.{Entry}
-use Rattle.cell_tables.specs.Events.{events_of}
-use Rattle.run_log.specs.declared.audit_result.Audit.{Audit}
-use Rattle.run_log.specs.declared.audit_fault.AuditFault.{AuditFault}
+use Rattle.cell_tables.specs.{declared.entry.Entry.Entry, Events.events_of}
+use Rattle.run_log.specs.{declared.audit_result.Audit.Audit, declared.audit_fault.AuditFault.AuditFault}
 use Rattle.run_log.specs.declared.audit_fault.AuditFault.TheVariants.{Memory as OutOfMemory}
 use Rattle.run_log.specs.Audits.{IsAudit, ParseAsRun}
 use Rattle.event_lines.specs.EventLines.{entry_lines}
-use Rattle.byte_streams.specs.Sinks.{TookPart}
-use Rattle.byte_streams.specs.declared.drive_fault.DriveFault.{DriveFault}
-use Rattle.byte_streams.specs.declared.drive_fault.DriveFault.TheVariants.{Write}
-use Rattle.byte_streams.specs.declared.rooms.TheConstants.{MAX_PIECE}
-use Rattle.byte_streams.specs.Lent.{Output, Streams}
-use Rattle.byte_streams.specs.Lines.{input_lines}
-use Rattle.byte_streams.specs.Streams.{IsStreamed}
-use Rattle.byte_streams.specs.Answering.{AnswerAll}
-use Rattle.cell_drive.specs.declared.protocol.Protocol.{Protocol}
-use Rattle.cell_drive.specs.declared.resume.RestEnd.{RestEnd}
-use Rattle.cell_drive.specs.AnswerText.{DrivenCell, CellCloses}
-use Rattle.cell_drive.specs.OneRun.{cell_after}
-use Rattle.cell_drive.specs.AuditLaw.{IsLogOf, IsFoundAgain}
-use Rattle.cell_drive.specs.ProtocolText.{ProtocolAnswers}
+use Rattle.byte_streams.specs.{Sinks.TookPart, declared.drive_fault.DriveFault.DriveFault, Lent.Output, Lent.Streams}
+use Rattle.byte_streams.specs.{declared.drive_fault.DriveFault.TheVariants.Write, declared.rooms.TheConstants.MAX_PIECE}
+use Rattle.byte_streams.specs.{Lines.input_lines, Streams.IsStreamed, Answering.AnswerAll}
+use Rattle.cell_drive.specs.{declared.protocol.Protocol.Protocol, declared.resume.RestEnd.RestEnd, OneRun.cell_after}
+use Rattle.cell_drive.specs.{AnswerText.DrivenCell, AnswerText.CellCloses, AuditLaw.IsLogOf, AuditLaw.IsFoundAgain}
+use Rattle.cell_drive.specs.{ProtocolText.ProtocolAnswers, Replay.replay_lines, Replay.replay_text}
 use Rattle.cell_drive.specs.Session.{SessionState, SessionAnswer, SessionCloses, IsRestEndOf, session_by, seen}
 use Rattle.cell_drive.specs.Recovered.{Recovered, IsRecoveredRun, plan_of, replayed_events, replayed_cell}
-use Rattle.cell_drive.specs.Replay.{replay_lines, replay_text}
 
 -- an empty line, the mark, and the lines of these events
 abbrev pub marked : List Entry → List ℕ

@@ -1,19 +1,13 @@
 -- A session: a controller, begun from any cell, and the log of its whole run, whose lines are read and answered by a protocol.
 use Rattle.std.specs.Prelude.{◌≡◌, ℕ, ◌*◌, List, [], Option, Some}
-use Rattle.shop_base.specs.Plan.{PlannedShop, IsWellShaped}
-use Rattle.shop_base.specs.Run.{IsRun}
-use Rattle.shop_base.specs.Ends.{stated_number}
+use Rattle.shop_base.specs.{Plan.PlannedShop, Plan.IsWellShaped, Run.IsRun, Ends.stated_number}
 use Rattle.plan_verifier.specs.Accepted.{VerifiedPlan}
 use Rattle.cell_tables.specs.Events.{events_of}
 use Rattle.cell_control.specs.Control.{Control, IsControl, at_start, verified_in}
 use Rattle.event_lines.specs.declared.requests.Request.{Request}
-use Rattle.run_log.specs.Log.{Noted}
-use Rattle.run_log.specs.Audits.{IsReplayed}
-use Rattle.cell_drive.specs.declared.protocol.Protocol.{Protocol}
-use Rattle.cell_drive.specs.declared.begin.DriveEnd.{DriveEnd}
-use Rattle.cell_drive.specs.declared.resume.RestEnd.{RestEnd}
-use Rattle.cell_drive.specs.LineAnswers.{IsClosingLine}
-use Rattle.cell_drive.specs.AnswerText.{DrivenCell}
+use Rattle.run_log.specs.{Log.Noted, Audits.IsReplayed}
+use Rattle.cell_drive.specs.{declared.protocol.Protocol.Protocol, declared.begin.DriveEnd.DriveEnd}
+use Rattle.cell_drive.specs.{declared.resume.RestEnd.RestEnd, LineAnswers.IsClosingLine, AnswerText.DrivenCell}
 use Rattle.cell_drive.specs.OneRun.{IsNeverFull, IsRunOf, IsSoFar, NeverWentWrong, cell_after}
 use Rattle.cell_drive.specs.ProtocolText.{AsksFor, ProtocolAnswers}
 

@@ -1,13 +1,10 @@
 -- The rows of a state. No public clause cites this module.
 use Rattle.std.specs.Prelude.{ℕ, List, Option}
-use Rattle.shop_base.specs.Plan.{PlannedShop, jobs, machines}
-use Rattle.shop_base.specs.Cell.{Cell}
-use Rattle.cell_tables.specs.declared.standing.Standing.{Standing}
-use Rattle.cell_tables.specs.Standings.{job_standing, machine_standing}
+use Rattle.shop_base.specs.{Plan.PlannedShop, Plan.jobs, Plan.machines, Cell.Cell}
+use Rattle.cell_tables.specs.{declared.standing.Standing.Standing, Standings.job_standing, Standings.machine_standing}
 use Rattle.event_lines.specs.declared.details.Overdue.{Overdue}
-use Rattle.cell_drive.specs.declared.states.Rows.{Rows}
+use Rattle.cell_drive.specs.{declared.states.Rows.Rows, States.standing_part, States.texts_from, States.with_those}
 use Rattle.cell_drive.specs.declared.states.Rows.TheVariants.{Jobs, Machines}
-use Rattle.cell_drive.specs.States.{standing_part, texts_from, with_those}
 
 -- how many there are
 abbrev pub row_count : PlannedShop → Rows → ℕ

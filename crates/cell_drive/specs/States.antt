@@ -1,12 +1,10 @@
 -- What is printed of the state of a cell: what is under way in it, and what of that is overdue.
 use Rattle.std.specs.Prelude.{ℕ, zero, suc, ◌+◌, List, [], ◌++◌, Option, None, Some, Bool, true, false, if◌then◌else◌}
-use Rattle.shop_base.specs.Plan.{PlannedShop, jobs, machines}
-use Rattle.shop_base.specs.Cell.{Cell}
+use Rattle.shop_base.specs.{Plan.PlannedShop, Plan.jobs, Plan.machines, Cell.Cell}
 use Rattle.cell_tables.specs.declared.standing.Standing.{Standing}
 use Rattle.cell_tables.specs.declared.standing.Standing.TheVariants.{Awaited, Outside, Worked, Done, Gone, Cleaned, Clean}
 use Rattle.cell_tables.specs.Standings.{job_standing, machine_standing, is_overdue}
-use Rattle.event_lines.specs.declared.details.Overdue.{Overdue}
-use Rattle.event_lines.specs.StandingLines.{unfinished_standing_line}
+use Rattle.event_lines.specs.{declared.details.Overdue.Overdue, StandingLines.unfinished_standing_line}
 use Rattle.cell_drive.specs.LineAnswers.{closing_line}
 
 -- ---- the state

@@ -71,7 +71,13 @@ fn begin(
 ) -> Result<Session<Verified, TourneyDues>, AllocError>
     ensures { IfOk result (λ session. session ≡ session_start protocol verified) }
 {
-    let log = RunLog::for_run(alloc, &verified)?;
+    let log = match RunLog::for_run(alloc, &verified) {
+        Ok(log) => log,
+        Err(error) => {
+            drop(verified);
+            return Err(error);
+        }
+    };
     match Controller::new(alloc, verified) {
         Ok(controller) => {
             // Called for its clauses alone: what holds of every such controller.
@@ -82,7 +88,10 @@ fn begin(
                 log,
             })
         }
-        Err((error, _)) => Err(error),
+        Err((error, verified)) => {
+            drop(verified);
+            Err(error)
+        }
     }
 }
 
@@ -166,7 +175,10 @@ pub fn drive_begun<R: Source, W: BufferedSink>(
     } = begun;
     match stream(&mut session, reader, &mut room, writer) {
         Ok(()) => Ok(end(session)),
-        Err(fault) => Err(fault),
+        Err(fault) => {
+            drop(session);
+            Err(fault)
+        }
     }
 }
 

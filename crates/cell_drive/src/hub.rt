@@ -9,9 +9,9 @@ ghost use Rattle.cell_drive.specs.ManyCells.{AreAllDone, AreVerified, cell_start
 ghost use Rattle.cell_drive.specs.ProtocolCells.{AreDrivesIn, AsksCell, AsksNoCell, hub_of};
 ghost use Rattle.cell_drive.specs.Numbers.{AnsweredByCells, AreInRun, closing_text, planned_cell, planned_cells};
 
-use crate::judging::reply_to;
 use crate::protocol::Protocol;
-use crate::replies::{put_closing, put_refused, put_reply};
+use crate::replies::{put_closing, put_refused};
+use crate::requests::reply_to;
 use byte_streams::{
     BufferedSink, DriveFault, LineHandler, Sink, Source, WriteFault, reading_room, stream,
 };
@@ -71,7 +71,10 @@ fn begin_cell<D: Dues>(alloc: Global, verified: Verified) -> Result<Controller<D
             let _plan = controller.verified();
             Ok(controller)
         }
-        Err((error, _)) => Err(error),
+        Err((error, verified)) => {
+            drop(verified);
+            Err(error)
+        }
     }
 }
 
@@ -111,9 +114,16 @@ fn answer_line<D: Dues, W: Sink>(
         return put_refused(number, b"NoSuchCell", writer);
     }
     let controller = &mut cells[place];
-    let reply = reply_to(protocol, controller, request);
     let prefix = cell_prefix(u64::from(cell));
-    put_reply(protocol, prefix.bytes(), number, controller, reply, writer)
+    reply_to(
+        protocol,
+        prefix.bytes(),
+        number,
+        controller,
+        request,
+        writer,
+    )
+    .written
 }
 
 /// Writes the closing line of each cell.

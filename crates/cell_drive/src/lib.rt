@@ -15,6 +15,7 @@ mod recover;
 mod refusals;
 mod replay;
 mod replies;
+mod requests;
 mod resume;
 mod resume_fault;
 mod session;

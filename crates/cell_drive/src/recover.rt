@@ -19,7 +19,7 @@ use crate::lateness::late_events;
 use crate::resume_fault::{AllocFailure, ResumeFault};
 use byte_streams::reading_room;
 use cell_control::{RestController, RestFault, TourneyDues};
-use cell_tables::{Tables, WorkCell};
+use cell_tables::{Entry, Tables, WorkCell};
 use plan_verifier::{Verdict, Why, verify};
 use run_log::{LoggedRun, RunLog, run_of_log};
 use shop_base::{Moment, Shaped};
@@ -117,11 +117,11 @@ fn recover_run(
     let last = cell.last();
     let present = present_at(at, last);
     if present < last {
+        drop(cell);
         return Err(ResumeFault::Past { last });
     }
     let starts = entries.is_empty();
-    let late = late_events(alloc, cell.shaped(), &entries)?;
-    let start = start_tables(alloc, cell.shaped())?;
+    let (late, start) = ready_again(alloc, cell.shaped(), &entries)?;
     match begin(alloc, cell, starts, present) {
         Ok(controller) => Ok(RecoveredRun {
             run: with_due(controller, RunLog::of_entries(entries), late, room),
@@ -129,6 +129,22 @@ fn recover_run(
         }),
         Err(fault) => Err(fault),
     }
+}
+
+/// What it takes to write the events of a run again: of each whether it is a late report, and the tables of the cell at
+/// its start.
+fn ready_again(
+    alloc: Global,
+    shaped: &Shaped,
+    entries: &[Entry],
+) -> Result<(Vec<bool>, Tables), AllocError>
+    requires { IsRun shaped.now (events_of entries.now) }
+    ensures late { IfOk result (λ ready. AreLate shaped.now (start shaped.now) entries.now ready.0.items) }
+    ensures start { IfOk result (λ ready. AreAtStart shaped.now ready.1) }
+{
+    let late = late_events(alloc, shaped, entries)?;
+    let start = start_tables(alloc, shaped)?;
+    Ok((late, start))
 }
 
 /// The tables of the cell at the start of a run.
@@ -204,7 +220,10 @@ fn check_plan(alloc: Global, cell: WorkCell<Shaped>) -> Result<WorkCell<Shaped>,
     match verify(alloc, shaped) {
         Ok(Verdict::Accepted(verified)) => Ok(WorkCell::of_parts(verified.into_shaped(), tables)),
         Ok(Verdict::Refused(shaped, why)) => Err(ResumeFault::Refused(shaped, why)),
-        Err((error, _)) => Err(ResumeFault::from(error)),
+        Err((error, shaped)) => {
+            drop(shaped);
+            Err(ResumeFault::from(error))
+        }
     }
 }
 

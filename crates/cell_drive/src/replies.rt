@@ -1,47 +1,30 @@
-//! The replies of a cell to what it is asked, and their lines, with the same bytes before each.
+//! The lines of a cell's answers, with the same bytes before each.
 
-ghost use Rattle.std.specs.Prelude.{◌≡◌, ◌++◌, ◌≤◌, length, OnOk};
+ghost use Rattle.std.specs.Prelude.{◌≡◌, ◌+◌, ◌≤◌, [], ◌++◌, length, OnOk, true};
 ghost use Rattle.std.specs.List.{flat_map};
 ghost use Rattle.shop_base.specs.Report.{at};
-ghost use Rattle.event_lines.specs.{EventLines.report_line, EventLines.order_line};
-ghost use Rattle.event_lines.specs.{AnswerLines.refused_line, AnswerLines.done_line};
-ghost use Rattle.event_lines.specs.StandingLines.{refused_detail_line};
+ghost use Rattle.event_lines.specs.{EventLines.entry_line, EventLines.order_line, StandingLines.refused_detail_line};
+ghost use Rattle.event_lines.specs.AnswerLines.{refused_line, done_line};
 ghost use Rattle.byte_streams.specs.Lent.{WroteTo};
-ghost use Rattle.cell_drive.specs.{LineAnswers.closing_line, Refusals.refusal_word};
-ghost use Rattle.cell_drive.specs.ProtocolText.{end_part, lateness_line, lateness_part};
-ghost use Rattle.cell_drive.specs.ProtocolText.{refusal_prefix, acceptance_lines};
-ghost use Rattle.cell_drive.specs.Replies.{reply_text};
+ghost use Rattle.cell_drive.specs.{declared.replies.TheConstants.MAX_PREFIX, LineAnswers.closing_line};
+ghost use Rattle.cell_drive.specs.Refusals.{refusal_word};
+ghost use Rattle.cell_drive.specs.ProtocolText.{acceptance_lines, end_part, lateness_line, lateness_part};
 
-use crate::protocol::Protocol;
 use crate::refusals::Refusal;
-use crate::states::put_state;
 use byte_streams::{Sink, WriteFault, put_all};
 use cell_control::{Core, Dues, Report, Timed};
+use cell_tables::Entry;
 use event_lines::{
-    Detail, LineText, Overdue, done_line, late_line, late_overdue_line, put_order, put_report,
+    Detail, LineText, Overdue, done_line, late_line, late_overdue_line, put_entry_line,
     refused_detail_line, refused_line, unfinished_line,
 };
 use shop_base::{Moment, MoveOrder};
 
-/// What a cell replies to what it is asked.
-#[derive(Clone, Copy)]
-pub(crate) enum Reply {
-    /// What was claimed is refused, with what the line says after the name.
-    Refused {
-        refusal: Refusal,
-        detail: Detail,
-    },
-    /// The report is accepted, late or not, with what is printed as overdue, and whether the end of the run is printed.
-    /// The moves that it released are the controller's last orders.
-    Accepted {
-        report: Report,
-        late: bool,
-        overdue: Option<Overdue>,
-        ended: bool,
-    },
-    /// The state of the cell.
-    State,
-}
+/// The most bytes before a line: the number of a cell, and a space.
+pub(crate) const MAX_PREFIX: usize = 21;
+
+/// The line of a report and that of an order, with as many bytes as may be before each. Both are shorter than its room.
+type TwoLines = text_lines::LineText<176>;
 
 /// Writes the line after the prefix. An empty prefix costs nothing.
 #[inline(always)]
@@ -58,20 +41,6 @@ pub(crate) fn put_behind<W: Sink>(
     }
     put_all(writer, prefix)?;
     put_all(writer, line)
-}
-
-#[inline(always)]
-pub(crate) fn put_report_line<W: Sink>(
-    prefix: &[u8],
-    report: Report,
-    writer: &mut W,
-) -> Result<(), WriteFault>
-    ensures wrote { WroteTo W.Sink result writer.old writer.new (prefix.now ++ report_line report) }
-    ensures unfailed { OnOk result (W.failed writer.new ≡ W.failed writer.old) }
-{
-    let mut line = LineText::ended();
-    put_report(&mut line, report);
-    put_behind(prefix, line.bytes(), writer)
 }
 
 /// Writes the line that a report was late, and in it what was overdue, if that is given.
@@ -111,6 +80,45 @@ pub(crate) fn put_lateness<W: Sink>(
     }
 }
 
+/// Writes the line of the event.
+#[inline(always)]
+pub(crate) fn put_event<W: Sink>(
+    prefix: &[u8],
+    entry: Entry,
+    writer: &mut W,
+) -> Result<(), WriteFault>
+    ensures wrote { WroteTo W.Sink result writer.old writer.new (prefix.now ++ entry_line entry) }
+    ensures unfailed { OnOk result (W.failed writer.new ≡ W.failed writer.old) }
+{
+    let mut line = LineText::empty();
+    put_entry_line(&mut line, entry);
+    put_behind(prefix, line.bytes(), writer)
+}
+
+/// Writes the line of the first order before what there is, unless the report was late, and returns the orders whose
+/// lines aren't written.
+#[inline(always)]
+fn put_first<'a>(
+    lines: &mut TwoLines,
+    prefix: &[u8],
+    late: bool,
+    orders: &'a [MoveOrder],
+) -> &'a [MoveOrder]
+    requires none { lines.old ≡ [] }
+    requires short { length prefix.now ≤ MAX_PREFIX }
+    ensures written { lines.new ++ flat_map (λ o. prefix.now ++ order_line o) result.now
+        ≡ flat_map (λ o. prefix.now ++ order_line o) orders.now }
+    ensures late { late ≡ true → lines.new ≡ [] }
+    ensures length { length lines.new ≤ 60 + MAX_PREFIX }
+{
+    if late || orders.is_empty() {
+        return orders;
+    }
+    put_entry_line(lines, Entry::Order(orders[0]));
+    lines.put_text(prefix);
+    &orders[1..]
+}
+
 #[inline(always)]
 fn put_orders<W: Sink>(
     prefix: &[u8],
@@ -122,9 +130,7 @@ fn put_orders<W: Sink>(
     ensures unfailed { OnOk result (W.failed writer.new ≡ W.failed writer.old) }
 {
     for order in orders {
-        let mut line = LineText::ended();
-        put_order(&mut line, *order);
-        put_behind(prefix, line.bytes(), writer)?;
+        put_event(prefix, Entry::Order(*order), writer)?;
     }
     Ok(())
 }
@@ -156,7 +162,8 @@ fn put_end<W: Sink>(
     }
 }
 
-/// Writes the line of the report, the line that it was late, the lines of the orders, and the line of the end.
+/// Writes the line of the report, the line that it was late, the lines of the orders, and the line of the end. The first
+/// order is written together with the report, where no line comes between.
 #[inline(always)]
 pub(crate) fn put_accepted<W: Sink>(
     prefix: &[u8],
@@ -167,13 +174,18 @@ pub(crate) fn put_accepted<W: Sink>(
     ended: bool,
     writer: &mut W,
 ) -> Result<(), WriteFault>
+    requires { length prefix.now ≤ MAX_PREFIX }
     ensures wrote { WroteTo W.Sink result writer.old writer.new
         (acceptance_lines prefix.now report late overdue orders.now ended) }
     ensures unfailed { OnOk result (W.failed writer.new ≡ W.failed writer.old) }
 {
-    put_report_line(prefix, report, writer)?;
+    let mut lines = TwoLines::empty();
+    let others = put_first(&mut lines, prefix, late, orders);
+    put_entry_line(&mut lines, Entry::Report(report));
+    lines.put_text(prefix);
+    put_all(writer, lines.bytes())?;
     put_lateness(prefix, report, late, overdue, writer)?;
-    put_orders(prefix, orders, writer)?;
+    put_orders(prefix, others, writer)?;
     put_end(prefix, report, ended, writer)
 }
 
@@ -193,8 +205,9 @@ pub(crate) fn put_refused<W: Sink>(
 }
 
 /// Refuses what a cell was asked by the line of this number.
+#[cold]
 #[inline(never)]
-fn put_refusal<W: Sink>(
+pub(crate) fn put_refusal<W: Sink>(
     prefix: &[u8],
     number: u64,
     refusal: Refusal,
@@ -207,50 +220,6 @@ fn put_refusal<W: Sink>(
 {
     let line = refused_detail_line(number, refusal.name().as_bytes(), detail);
     put_behind(prefix, line.bytes(), writer)
-}
-
-/// What stands before a refusal.
-fn before_refusal(protocol: Protocol, prefix: &[u8]) -> &[u8]
-    ensures { result.now ≡ refusal_prefix protocol prefix.now }
-{
-    if protocol.version_2 { prefix } else { b"" }
-}
-
-/// Writes the reply of the cell to the line of this number.
-#[inline(always)]
-pub(crate) fn put_reply<P: Timed, D: Dues, W: Sink>(
-    protocol: Protocol,
-    prefix: &[u8],
-    number: u64,
-    controller: &Core<P, D>,
-    reply: Reply,
-    writer: &mut W,
-) -> Result<(), WriteFault>
-    ensures wrote { WroteTo W.Sink result writer.old writer.new
-        (reply_text protocol prefix.now number controller.now reply) }
-    ensures unfailed { OnOk result (W.failed writer.new ≡ W.failed writer.old) }
-{
-    match reply {
-        Reply::Refused { refusal, detail } => {
-            put_refusal(
-                before_refusal(protocol, prefix),
-                number,
-                refusal,
-                detail,
-                writer,
-            )
-        }
-        Reply::Accepted {
-            report,
-            late,
-            overdue,
-            ended,
-        } => {
-            let orders = controller.orders();
-            put_accepted(prefix, report, late, overdue, orders, ended, writer)
-        }
-        Reply::State => put_state(prefix, controller, writer),
-    }
 }
 
 /// Writes the closing line: whether the run is done, and when, or how many reports are left.

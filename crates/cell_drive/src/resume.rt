@@ -1,10 +1,11 @@
 //! A run that was recovered and goes on, by any protocol.
 
-ghost use Rattle.std.specs.Prelude.{◌≡◌, ◌≢◌, ◌≤◌, ◌∷◌, drop, length, Err, IfOk, OnOk};
+ghost use Rattle.std.specs.Prelude.{◌≡◌, ◌≢◌, ◌≤◌, ◌∷◌, drop, length, vec_len, Err, IfOk, OnOk};
+ghost use Rattle.byte_streams.specs.{declared.rooms.TheConstants.MAX_PIECE, Streams.IsStreamed};
 ghost use Rattle.byte_streams.specs.Lent.{WroteTo, streams_of, sink_state};
 ghost use Rattle.event_lines.specs.EventLines.{entry_lines};
 ghost use Rattle.cell_drive.specs.{Recovered.AreAtStart, Recovered.plan_of, Resuming.due_text, Replay.replay_text};
-ghost use Rattle.cell_drive.specs.Session.{IsRestEndOf};
+ghost use Rattle.cell_drive.specs.Session.{IsRestEndOf, SessionAnswer, SessionCloses, SessionState};
 ghost use Rattle.cell_drive.specs.InProtocol.{IsGoneOnIn, IsResumeIn, IsReplayedIn};
 
 use crate::protocol::Protocol;
@@ -66,7 +67,10 @@ pub fn replay_in<W: Sink>(
     let RecoveredRun { run, start } = recovered;
     match put_replay_in(&run, start, protocol, writer) {
         Ok(()) => Ok(run),
-        Err(_) => Err(DriveFault::Write),
+        Err(_) => {
+            drop(run);
+            Err(DriveFault::Write)
+        }
     }
 }
 
@@ -97,11 +101,41 @@ fn end(session: Session<Held, TourneyDues>) -> RestEnd
         controller,
         log,
     } = session;
+    let (done, last, left) = (
+        controller.is_done(),
+        controller.now(),
+        controller.reports_left(),
+    );
+    drop(controller);
     RestEnd {
-        done: controller.is_done(),
-        last: controller.now(),
-        left: controller.reports_left(),
+        done,
+        last,
+        left,
         log,
+    }
+}
+
+/// Drives the session on to the end of its input.
+fn drive_on<R: Source, W: BufferedSink>(
+    session: Session<Held, TourneyDues>,
+    room: Vec<u8>,
+    reader: &mut R,
+    writer: &mut W,
+) -> Result<RestEnd, DriveFault>
+    requires { vec_len room ≡ MAX_PIECE }
+    ensures { (last : SessionState)
+        × IsStreamed result MAX_PIECE SessionAnswer SessionCloses session last
+        (streams_of R.Source W.Sink W.pending reader.old writer.old)
+        (streams_of R.Source W.Sink W.pending reader.new writer.new)
+        × IfOk result (IsRestEndOf session.control.planned last) }
+{
+    let (mut session, mut room) = (session, room);
+    match stream(&mut session, reader, &mut room, writer) {
+        Ok(()) => Ok(end(session)),
+        Err(fault) => {
+            drop(session);
+            Err(fault)
+        }
     }
 }
 
@@ -119,23 +153,21 @@ pub fn go_on_in<R: Source, W: BufferedSink>(
         (streams_of R.Source W.Sink W.pending reader.new writer.new) result }
 {
     let Ok(()) = put_due(&run, writer) else {
+        drop(run);
         return Err(DriveFault::Write);
     };
     let Replayed {
         controller,
         log,
         late: _,
-        mut room,
+        room,
     } = run;
-    let mut session = Session {
+    let session = Session {
         protocol,
         controller,
         log,
     };
-    match stream(&mut session, reader, &mut room, writer) {
-        Ok(()) => Ok(end(session)),
-        Err(fault) => Err(fault),
-    }
+    drive_on(session, room, reader, writer)
 }
 
 /// Goes on with a run that was recovered by this protocol: writes its events again as [`replay_in`] does, and then goes

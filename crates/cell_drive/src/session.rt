@@ -3,12 +3,11 @@
 ghost use Rattle.std.specs.Prelude.{◌≡◌, ◌+◌, ◌≤◌, ◌∷◌, length, map};
 ghost use Rattle.run_log.specs.Log.{Notes};
 ghost use Rattle.byte_streams.specs.Lent.{WroteOneTo};
-ghost use Rattle.cell_drive.specs.Replies.{reply_events};
-ghost use Rattle.cell_drive.specs.Session.{AnsweredBy, AnswersRequest, IsKept};
+ghost use Rattle.cell_drive.specs.{Replies.accepted_events, Session.AnswersRequest, Session.IsKept};
 
-use crate::judging::reply_to;
 use crate::protocol::Protocol;
-use crate::replies::{Reply, put_closing, put_refused, put_reply};
+use crate::replies::{put_closing, put_refused};
+use crate::requests::reply_to;
 use byte_streams::{LineHandler, Sink, WriteFault};
 use cell_control::{Core, Dues, Report, Timed};
 use cell_tables::Entry;
@@ -44,24 +43,19 @@ fn note(log: &mut RunLog, report: Report, orders: &[MoveOrder])
     log.note_orders(orders).unwrap();
 }
 
-/// Notes the events that the reply adds.
+/// Notes the report that was accepted, if one was, and the moves that it released.
 #[inline(always)]
-fn note_reply<P: Timed, D: Dues>(log: &mut RunLog, controller: &Core<P, D>, reply: Reply)
-    requires { length log.old.entries + length (reply_events controller.now reply) ≤ log.old.reserved }
-    ensures { Notes log.old log.new (reply_events controller.now reply) }
+fn note_accepted<P: Timed, D: Dues>(
+    log: &mut RunLog,
+    controller: &Core<P, D>,
+    accepted: Option<Report>,
+)
+    requires { length log.old.entries + length (accepted_events controller.now accepted) ≤ log.old.reserved }
+    ensures { Notes log.old log.new (accepted_events controller.now accepted) }
 {
-    match reply {
-        Reply::Accepted {
-            report,
-            late: _,
-            overdue: _,
-            ended: _,
-        } => note(log, report, controller.orders()),
-        Reply::Refused {
-            refusal: _,
-            detail: _,
-        }
-        | Reply::State => {}
+    match accepted {
+        Some(report) => note(log, report, controller.orders()),
+        None => {}
     }
 }
 
@@ -80,40 +74,9 @@ fn answer_request<P: Timed, D: Dues, W: Sink>(
     ensures answered { WroteOneTo W.Sink result writer.old writer.new
         (AnswersRequest protocol controller.old log.old number request controller.new log.new) }
 {
-    let reply = reply_to(protocol, controller, request);
-    note_reply(log, controller, reply);
-    put_reply(protocol, b"", number, controller, reply, writer)
-}
-
-/// Answers a line. An empty one has no answer.
-#[inline(never)]
-fn answer_line<P: Timed, D: Dues, W: Sink>(
-    protocol: Protocol,
-    controller: &mut Core<P, D>,
-    log: &mut RunLog,
-    number: u64,
-    line: &[u8],
-    writer: &mut W,
-) -> Result<(), WriteFault>
-    requires { IsKept controller.old log.old }
-    ensures kept { IsKept controller.new log.new }
-    ensures answered { WroteOneTo W.Sink result writer.old writer.new
-        (AnsweredBy protocol controller.old log.old number line.now controller.new log.new) }
-{
-    if line.is_empty() {
-        return Ok(());
-    }
-    if protocol.version_2 {
-        let Some(request) = request_of(line) else {
-            return put_refused(number, b"BadLine", writer);
-        };
-        return answer_request(protocol, controller, log, number, request, writer);
-    }
-    let Some(report) = report_of(line) else {
-        return put_refused(number, b"BadLine", writer);
-    };
-    let request = Request::Claim(Claim::Report(report));
-    answer_request(protocol, controller, log, number, request, writer)
+    let reply = reply_to(protocol, b"", number, controller, request, writer);
+    note_accepted(log, controller, reply.accepted);
+    reply.written
 }
 
 impl<P: Timed, D: Dues> LineHandler for Session<P, D> {
@@ -123,25 +86,44 @@ impl<P: Timed, D: Dues> LineHandler for Session<P, D> {
 
     ghost closes = { SessionCloses };
 
+    #[inline(never)]
     fn answer<W: Sink>(
         &mut self,
         number: u64,
         line: Option<&[u8]>,
         writer: &mut W,
     ) -> Result<(), WriteFault> {
-        match line {
-            Some(line) => {
-                answer_line(
-                    self.protocol,
-                    &mut self.controller,
-                    &mut self.log,
-                    number,
-                    line,
-                    writer,
-                )
-            }
-            None => put_refused(number, b"LongLine", writer),
+        let Some(line) = line else {
+            return put_refused(number, b"LongLine", writer);
+        };
+        if line.is_empty() {
+            return Ok(());
         }
+        if self.protocol.version_2 {
+            let Some(request) = request_of(line) else {
+                return put_refused(number, b"BadLine", writer);
+            };
+            return answer_request(
+                self.protocol,
+                &mut self.controller,
+                &mut self.log,
+                number,
+                request,
+                writer,
+            );
+        }
+        let Some(report) = report_of(line) else {
+            return put_refused(number, b"BadLine", writer);
+        };
+        let request = Request::Claim(Claim::Report(report));
+        answer_request(
+            self.protocol,
+            &mut self.controller,
+            &mut self.log,
+            number,
+            request,
+            writer,
+        )
     }
 
     fn put_closing<W: Sink>(&self, writer: &mut W) -> Result<(), WriteFault> {

@@ -120,6 +120,7 @@ fn put_rows<P: Planned, W: Sink>(
 }
 
 /// Writes what is under way in the cell.
+#[tactic(auto, using(crate::proofs::CellTexts::wrote_next, crate::proofs::CellTexts::broke_first))]
 fn put_under_way<P: Planned, W: Sink>(
     prefix: &[u8],
     cell: &WorkCell<P>,

@@ -6,10 +6,9 @@ use Rattle.slab.specs.Slab.{Slab, get, Updates}
 use Rattle.plan_verifier.specs.Accepted.{VerifiedPlan}
 use Rattle.cell_control.specs.{Control.{Control, at_start}, Reports.IsFirstReason, declared.ack.Ack.Ack}
 use Rattle.cell_control.proofs.OneReason.{only_reason}
-use Rattle.cell_hub.specs.{declared.slots.Ticket.Ticket, declared.slots.Placed.Placed}
-use Rattle.cell_hub.specs.declared.hub_fault.HubFault.{HubFault}
-use Rattle.cell_hub.specs.declared.hub_fault.HubFault.TheVariants.{NoSuchCell, SerialsSpent, Memory, Cell}
-use Rattle.cell_hub.specs.{Hub.{HubState, cell_at, Puts}, Slots.hub_of}
+use Rattle.cell_hub.specs.{declared.slots.Ticket.Ticket, declared.slots.Placed.Placed, Hub.{HubState, cell_at, Puts}}
+use Rattle.cell_hub.specs.declared.hub_fault.HubFault.{HubFault, TheVariants.{NoSuchCell, SerialsSpent, Memory, Cell}}
+use Rattle.cell_hub.specs.Slots.{hub_of}
 use Rattle.cell_hub.specs.Calls.{Reported, Dismissed, no_serial, IsAdmitted, IsReported, IsNotReported, IsOnlyRefusal, IsDismissed, IsCall}
 use Rattle.cell_hub.proofs.{Puts.HasSerial, Hubs.{none_there, puts_there}}
 

@@ -5,13 +5,12 @@ use Rattle.std.specs.declared.result.Result.TheVariants.{Ok, Err}
 use Rattle.shop_base.specs.declared.report.Report.{Report}
 use Rattle.plan_verifier.specs.Accepted.{VerifiedPlan}
 use Rattle.cell_control.specs.{declared.ack.Ack.Ack, Control.{Control, at_start, IsAnswered}, Reports.IsFirstReason}
-use Rattle.cell_hub.specs.{declared.slots.Ticket.Ticket, declared.hub_fault.HubFault.HubFault}
-use Rattle.cell_hub.specs.declared.hub_fault.HubFault.TheVariants.{NoSuchCell, SerialsSpent, Memory, Cell}
-use Rattle.cell_hub.specs.Hub.{HubState, hub_from, cell_at, Puts, AreSerialsBelow}
-use Rattle.cell_hub.specs.Calls as call
+use Rattle.cell_hub.specs.{declared.slots.Ticket.Ticket, Hub.{HubState, hub_from, cell_at, Puts, AreSerialsBelow}}
+use Rattle.cell_hub.specs.declared.hub_fault.HubFault.{HubFault, TheVariants.{NoSuchCell, SerialsSpent, Memory, Cell}}
 use Rattle.cell_hub.specs.Calls.{HubCall, Admitted, Reported, Shown, Dismissed, IsCall, AreCalls, IsAdmitted, IsReported, IsNotReported, IsDismissed}
-use Rattle.cell_hub.specs.Laws as law
 use Rattle.cell_hub.specs.Laws.{DismissedNeverAnswers, CellsAreApart, Life, not_given, stands, dismissed, content_in, Lives, AreLived, FindsNoCell, IsOnTicket}
+use Rattle.cell_hub.specs.Calls as call
+use Rattle.cell_hub.specs.Laws as law
 use Rattle.cell_hub.proofs.{Tickets.same_ticket, Puts.serials_below}
 
 -- after any call the serials are still below the next one

@@ -5,14 +5,13 @@ use Rattle.std.specs.declared.result.Result.TheVariants.{Ok, Err}
 use Rattle.shop_base.specs.{declared.report.Report.Report, Plan.{PlannedShop, IsWellShaped}, Run.Event, Sound.IsSound}
 use Rattle.shop_base.proofs.{Keeping.start-sound, ControlledRuns.after_step-sound}
 use Rattle.plan_verifier.specs.Accepted.{VerifiedPlan}
-use Rattle.cell_control.specs.{declared.ack.Ack.Ack, Control.{Control, at_start, IsAnswered}}
+use Rattle.cell_control.specs.{declared.ack.Ack.Ack, Control.{Control, at_start, IsAnswered}, Promises.AreCalled}
 use Rattle.cell_control.specs.Promises as promise
-use Rattle.cell_control.specs.Promises.{AreCalled}
 use Rattle.cell_control.proofs.{Promises.calls_make_the_controlled_run, Reasons.reason-cannot}
 use Rattle.cell_hub.specs.{declared.slots.Ticket.Ticket, declared.hub_fault.HubFault.TheVariants.Cell, Hub.is_ticket}
 use Rattle.cell_hub.specs.Calls.{HubCall, Admitted, Reported, Shown, Dismissed}
-use Rattle.cell_hub.specs.Laws as law
 use Rattle.cell_hub.specs.Laws.{Life, not_given, stands, dismissed, content_in, Lives, AreLived, FindsNoCell, IsOnTicket, reports_on, CallsMakeTheControlledRuns}
+use Rattle.cell_hub.specs.Laws as law
 use Rattle.cell_hub.proofs.Lives.{cells_are_apart}
 
 its_own : (t : Ticket) → is_ticket t t ≡ true

@@ -1,16 +1,12 @@
 -- The calls on a hub.
 use Rattle.std.specs.Prelude.{◌≡◌, ℕ, ◌+◌, ◌-◌, ◌^◌, ◌<◌, List, [], ◌∷◌, Option, None, Some, Result}
 use Rattle.std.specs.declared.result.Result.TheVariants.{Ok, Err}
-use Rattle.shop_base.specs.declared.report.Report.{Report}
-use Rattle.shop_base.specs.Activity.{GoesOn}
-use Rattle.shop_base.specs.Report.{ended, at}
+use Rattle.shop_base.specs.{declared.report.Report.Report, Activity.GoesOn, Report.ended, Report.at}
 use Rattle.shop_base.specs.declared.report.Report.TheVariants.{Clean}
 use Rattle.plan_verifier.specs.Accepted.{VerifiedPlan}
-use Rattle.cell_control.specs.declared.ack.Ack.{Ack}
-use Rattle.cell_control.specs.Control.{Control, at_start, IsAnswered}
+use Rattle.cell_control.specs.{declared.ack.Ack.Ack, Control.Control, Control.at_start, Control.IsAnswered}
 use Rattle.cell_control.specs.Reports.{IsFirstReason, IsFirstCleanReason}
-use Rattle.cell_hub.specs.declared.slots.Ticket.{Ticket}
-use Rattle.cell_hub.specs.declared.hub_fault.HubFault.{HubFault}
+use Rattle.cell_hub.specs.{declared.slots.Ticket.Ticket, declared.hub_fault.HubFault.HubFault}
 use Rattle.cell_hub.specs.declared.hub_fault.HubFault.TheVariants.{NoSuchCell, SerialsSpent, Memory, Cell}
 use Rattle.cell_hub.specs.Hub.{HubState, cell_at, Puts}
 

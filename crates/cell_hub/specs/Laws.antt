@@ -1,17 +1,13 @@
 -- What holds of every list of calls on a hub.
 use Rattle.std.specs.Prelude.{◌≡◌, ◌≢◌, ℕ, List, [], ◌∷◌, ◌++◌, Option, None, Some, All, if◌then◌else◌}
 use Rattle.std.specs.declared.result.Result.TheVariants.{Ok, Err}
-use Rattle.shop_base.specs.declared.report.Report.{Report}
-use Rattle.shop_base.specs.Run.{Event}
+use Rattle.shop_base.specs.{declared.report.Report.Report, Run.Event}
 use Rattle.plan_verifier.specs.Accepted.{VerifiedPlan, IsVerified}
-use Rattle.cell_control.specs.declared.ack.Ack.{Ack}
-use Rattle.cell_control.specs.declared.report_fault.ReportFault.{ReportFault}
-use Rattle.cell_control.specs.Control.{Control, at_start, IsAnswered}
-use Rattle.cell_control.specs.Reports.{IsFirstReason}
+use Rattle.cell_control.specs.{declared.ack.Ack.Ack, declared.report_fault.ReportFault.ReportFault}
+use Rattle.cell_control.specs.{Control.Control, Control.at_start, Control.IsAnswered, Reports.IsFirstReason}
 use Rattle.cell_control.specs.Promises.{IsControllerAfter}
-use Rattle.cell_hub.specs.declared.slots.Ticket.{Ticket}
+use Rattle.cell_hub.specs.{declared.slots.Ticket.Ticket, Hub.HubState, Hub.hub_from, Hub.is_ticket, Hub.cell_at}
 use Rattle.cell_hub.specs.declared.hub_fault.HubFault.TheVariants.{NoSuchCell, Cell}
-use Rattle.cell_hub.specs.Hub.{HubState, hub_from, is_ticket, cell_at}
 use Rattle.cell_hub.specs.Calls.{HubCall, Admitted, Reported, Shown, Dismissed, AreCalls}
 
 -- the call gives this ticket to no plan, and finds no cell under it

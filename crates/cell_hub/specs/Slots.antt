@@ -2,11 +2,8 @@
 use Rattle.std.specs.Prelude.{ℕ, map, IfSome}
 use Rattle.shop_base.specs.declared.report.Report.{Report}
 use Rattle.slab.specs.Slab.{Slab, entries}
-use Rattle.cell_control.specs.declared.ack.Ack.{Ack}
-use Rattle.cell_control.specs.Control.{Control}
-use Rattle.cell_hub.specs.declared.slots.Ticket.{Ticket}
-use Rattle.cell_hub.specs.declared.slots.Placed.{Placed}
-use Rattle.cell_hub.specs.Hub.{HubState, cell_at}
+use Rattle.cell_control.specs.{declared.ack.Ack.Ack, Control.Control}
+use Rattle.cell_hub.specs.{declared.slots.Ticket.Ticket, declared.slots.Placed.Placed, Hub.HubState, Hub.cell_at}
 use Rattle.cell_hub.specs.Calls.{IsReported, IsDismissed}
 
 module _ {D : Type 0} where

@@ -21,7 +21,7 @@ use std::marker::Model;
 /// others that were or will be in its slot. Only [`Hub::admit`] takes memory; the other calls take as long with a
 /// thousand cells as with one. A contract sees the hub as a finite map from tickets to what their controllers hold, and
 /// the serial of the next ticket: neither slots, nor which of them are vacant.
-#[derive(Debug, Drop)]
+#[derive(Drop)]
 pub struct Hub<D: Dues> {
     alloc: Global,
     cells: Slab<Placed<D>>,

@@ -23,7 +23,7 @@ pub struct Ticket {
 }
 
 /// A cell, with the serial of its ticket.
-#[derive(Debug, Drop)]
+#[derive(Drop)]
 pub(crate) struct Placed<D: Dues> {
     pub serial: u64,
     pub controller: Controller<D>,

@@ -10,6 +10,7 @@ use shop_base::{JobNo, MachineNo, Planned};
 
 impl<P: Planned> WorkCell<P> {
     /// The machine that the job is on; `None` if it is outside or gone.
+    #[inline(always)]
     pub fn machine_of(&self, job: JobNo) -> Option<MachineNo>
         requires { job < jobs self.now.plan }
         ensures { IsMachineOf self.now.plan self.now.cell job result }

@@ -71,7 +71,7 @@ impl SystemLog {
         }
     }
 
-    /// Whether its path leads to it, and it has as many bytes as were read and written: else it was moved, taken away,
+    /// Whether its path leads to it, and it has as many bytes as were read and written: else it was moved, removed,
     /// replaced or cut by somebody else.
     fn is_itself(&self) -> bool {
         let Ok(own) = self.file.metadata() else {

@@ -58,7 +58,7 @@ module _ (instance : List ℕ) (name : Option (List ℕ)) (plan : List ℕ) wher
         acceptable = subst IsAcceptable (sym judged.0) judged.1;
         verified = is.0;
         start = is.1;
-        same = λ p told. ap (λ (c : Control). c.planned) is.1 ∙ (are.only p told).accepted.0;
+        same = λ p tell. ap (λ (c : Control). c.planned) is.1 ∙ (are.only p tell).accepted.0;
         left = subst (λ (c : Control). reports_left c.planned c.cell ≡ stated_number c.planned) (sym is.1) (start-reports_left verified.planned);
         leavings = subst (λ (c : Control). (j : ℕ) → j < jobs c.planned → IsEarliestLeaving c j) (sym is.1) (leavings_kept verified is.0);
       }

@@ -9,9 +9,9 @@ use Rattle.cell_control.specs.declared.report_fault.ReportFault.TheVariants.{Job
 use Rattle.cell_control.specs.Reports.{CanCleanAfter}
 use Rattle.cell_control.specs.Control.{Control, IsAnswered}
 use Rattle.cell_control.specs.Promises as promise
-use Rattle.cellplan_c.specs.declared.told.Ended.{Ended}
-use Rattle.cellplan_c.specs.declared.told.Ended.TheVariants.{Reported, CleanedAfter}
-use Rattle.cellplan_c.specs.Told.{fault_number, fault_detail}
+use Rattle.cellplan_c.specs.declared.numbers.Ended.{Ended}
+use Rattle.cellplan_c.specs.declared.numbers.Ended.TheVariants.{Reported, CleanedAfter}
+use Rattle.cellplan_c.specs.Numbers.{fault_number, fault_detail}
 use Rattle.cellplan_c.specs.Ended.{CanEnd, IsFirstFor, IsOnlyFor, IfGoesOnNow, Calls}
 use Rattle.cellplan_c.specs.Cells.{IsReportAnswered}
 
@@ -37,7 +37,7 @@ module _ (v : Control) (machine job at : ℕ) where
   })
 
   -- the report of a cleaning after a job calls for that of the cleaning, or changes nothing
-  pub clean_called : (told : Result Ack ReportFault) (new : Control) → IfOk told (λ ack. IsAnswered v (Clean machine at) ack new) → IfErr told (λ fault. new ≡ v)
+  pub clean_called : (outcome : Result Ack ReportFault) (new : Control) → IfOk outcome (λ ack. IsAnswered v (Clean machine at) ack new) → IfErr outcome (λ fault. new ≡ v)
       → Calls v (CleanedAfter machine job at) new
   clean_called (Ok ack) new answered same = inl (_, promise.answered v (Clean machine at) ack new answered)
   clean_called (Err fault) new answered same = inr same
@@ -60,5 +60,5 @@ refused_answer old ended fault number detail late new Accepted refused possible 
   answered = λ good. absurd (omega (arith, good, number_is, number_high fault));
   reason = λ bad. (fault, number_is, detail_is, first, only);
   called = called;
-  never_refused = goes_further old ended Accepted (number ≡ 0) (λ taken. absurd (refused taken)) goes;
+  never_refused = goes_further old ended Accepted (number ≡ 0) (λ accepted. absurd (refused accepted)) goes;
 }

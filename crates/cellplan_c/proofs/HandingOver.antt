@@ -32,7 +32,7 @@ module _ (old : Control) (t : ℕ) where
   acyclic : (q : PlannedShop) (new : Control) → IsHandedOver old q t new → HasCycle q → ⊥
   acyclic q new handed cycle = ranks_exclude_cycle q (rank_of new.times) cycle.0 handed.begun.ordered.ranks.rise cycle.1
 
-  -- the plan that is given has taken over
+  -- the cell is handed over to the plan that is given
   pub handed_over_status : (shaped : PlannedShop) (new : Control) → IsHandedOver old shaped t new → (q : PlannedShop) → IsShapedOrNot q (Ok shaped) → IsHandOverStatus old q t 0
   handed_over_status shaped new handed q is =
       let by : IsHandedOver old q t new = subst (λ (p : PlannedShop). IsHandedOver old p t new) is.0 handed in
@@ -52,7 +52,7 @@ module _ (old : Control) (t : ℕ) where
   fault_status q (Cycle nodes) low shaped is = has_cycle nodes.items refl (record { well_shaped = shaped; kept = is.0; moment = is.1 }) is.2
   fault_status q Memory low shaped is = no_memory refl
 
-  -- it hasn't taken over for this reason
+  -- it isn't handed over for this reason
   pub refused_status : (shaped : PlannedShop) (fault : RestFault) → t ≤ MAX_MOMENT → IsHandOverFault old.planned old.cell shaped t fault
       → (q : PlannedShop) → IsShapedOrNot q (Ok shaped) → IsHandOverStatus old q t (rest_fault_status fault)
   refused_status shaped fault low why q is = fault_status q fault low is.1 (subst (λ (p : PlannedShop). IsHandOverFault old.planned old.cell p t fault) is.0 why)
@@ -95,17 +95,17 @@ module _ (instance : List ℕ) (name : Option (List ℕ)) (plan : List ℕ) (t :
       }
 
   -- a plan is given, and this came of it
-  pub plan_handed_over : (told : Result PlannedShop ShapeFault) (status : ℕ) (old new : Control) → t ≤ MAX_MOMENT → AreTextsAnswered instance name plan IsShapedOrNot (Ok told)
-      → ((q : PlannedShop) → IsShapedOrNot q told → IsHandOverStatus old q t status)
-      → ((q : PlannedShop) → IsShapedOrNot q told → status ≡ 0 → IsHandedOver old q t new)
+  pub plan_handed_over : (loaded : Result PlannedShop ShapeFault) (status : ℕ) (old new : Control) → t ≤ MAX_MOMENT → AreTextsAnswered instance name plan IsShapedOrNot (Ok loaded)
+      → ((q : PlannedShop) → IsShapedOrNot q loaded → IsHandOverStatus old q t status)
+      → ((q : PlannedShop) → IsShapedOrNot q loaded → status ≡ 0 → IsHandedOver old q t new)
       → status ≢ 3 → status ≢ 18 → IsHandOver instance name plan t status old new
-  plan_handed_over told status old new low are judged taken no_fault soon = record {
+  plan_handed_over loaded status old new low are judged handed no_fault soon = record {
     too_large = ((λ large. absurd (soon large)), λ over. absurd (omega (arith, low, over)));
     handed_over_by = λ good. record {
       planned = are.found.planned;
       tell = are.found.tell;
-      handed_over = taken are.found.planned are.found.is good;
-      same = λ p tell. (taken p (are.only p tell) good).begun.planned;
+      handed_over = handed are.found.planned are.found.is good;
+      same = λ p tell. (handed p (are.only p tell) good).begun.planned;
     };
     fault = λ three. absurd (no_fault three);
     first = λ _ fault is. absurd (are.first fault is);

@@ -36,7 +36,7 @@ rest_bound (AcceptedRest times) = omega arith
 rest_bound (Refused why) = omega arith
 
 pub known_bound : (wanted : PlanAnswer) (p : PlannedShop) (c : Cell) (t : ℕ) (answer : Answer) → AnswersRest no_names wanted p c t answer → answer.status ≤ 1
-known_bound wanted p c t answer told = omega (arith, told.status, rest_bound told.verdict)
+known_bound wanted p c t answer is = omega (arith, is.status, rest_bound is.verdict)
 
 pub fault_bounds : (instance : List ℕ) (name : Option (List ℕ)) (plan : List ℕ) (fault : CommandFault)
     → IsRightOfBoth instance name plan fault → (3 ≤ status_of fault) × (status_of fault ≤ 4)

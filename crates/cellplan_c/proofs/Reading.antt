@@ -1,8 +1,8 @@
--- A call that reads a cell, by what the cell holds. It has looked at what was taken out and then put back.
+-- A call that reads a cell, by what the cell holds. It has looked at what was lent and then put back.
 use Rattle.std.proofs.Common.{◌≡◌, ◌≢◌, ℕ, ◌⊎◌, Option, Some, IfSome, inl, inr, sym, ◌∙◌, subst, arith}
 use Rattle.cell_control.specs.Control.{Control}
 use Rattle.cellplan_c.specs.declared.cell.Cell.{Cell}
-use Rattle.cellplan_c.specs.Told.{answer_of}
+use Rattle.cellplan_c.specs.Numbers.{answer_of}
 use Rattle.cellplan_c.specs.Readings.{Finds, Tells}
 use Rattle.cellplan_c.specs.Held.{Held}
 use Rattle.cellplan_c.specs.contracts.inner.Inner as Inner
@@ -21,7 +21,7 @@ module _ {A : Type 0} (old new : Cell) (status : ℕ) (before after : A) (inner 
 
   pub tells : (Is : Control → A → Type 0) → status ≡ 0 → Is inner.controller after → Tells old new status before after Is
   tells Is good is = record {
-    told = subst (λ (h : Held). IfSome h (λ held. (status ≡ 0) × Is held.controller after)) (sym held) (good, is);
+    written = subst (λ (h : Held). IfSome h (λ held. (status ≡ 0) × Is held.controller after)) (sym held) (good, is);
     no_cell = (λ none. absurd (cc (none, held)), λ eight. absurd (omega (arith, good, eight)));
     unchanged = kept ∙ sym held;
     unwritten = λ no. absurd (no good);

@@ -13,45 +13,45 @@ use Rattle.command_answers.specs.Statuses.{status_of}
 use Rattle.cellplan_c.specs.Calls.{IsPut, Answers, IsTextFaultReport, IsTextsReport, AreTextsReported}
 use Rattle.cellplan_c.specs.FaultsWithoutLine.{HasNoLine}
 
-put_result : (Is : Answer → Type 0) (told : Result Answer CommandFault) (result : ℕ) (old new : List ℕ) (needed : ℕ)
-    → IfErr told (λ fault. (result ≡ status_of fault) × (needed ≡ 0) × (new ≡ old))
-    → IfOk told (λ answer. IsPut answer.text.items answer.status result old new needed)
-    → IfErr told (λ fault. fault ≡ Memory) → IfOk told Is → Answers result old new needed Is
+put_result : (Is : Answer → Type 0) (outcome : Result Answer CommandFault) (result : ℕ) (old new : List ℕ) (needed : ℕ)
+    → IfErr outcome (λ fault. (result ≡ status_of fault) × (needed ≡ 0) × (new ≡ old))
+    → IfOk outcome (λ answer. IsPut answer.text.items answer.status result old new needed)
+    → IfErr outcome (λ fault. fault ≡ Memory) → IfOk outcome Is → Answers result old new needed Is
 put_result Is (Err fault) result old new needed unsaid put memory is = inl (unsaid.0 ∙ ap status_of memory, unsaid.1, unsaid.2)
 put_result Is (Ok answer) result old new needed unsaid put memory is = inr (answer, is, put)
 
-memory_no_line : (Is : Answer → Type 0) (told : Result Answer CommandFault) → IfOk told (IsTextFaultReport Memory) → IfOk told Is
+memory_no_line : (Is : Answer → Type 0) (outcome : Result Answer CommandFault) → IfOk outcome (IsTextFaultReport Memory) → IfOk outcome Is
 memory_no_line Is (Err fault) line = tt
 memory_no_line Is (Ok answer) line = absurd line.0
 
-no_line : (Is : Answer → Type 0) (fault : CommandFault) (told : Result Answer CommandFault) → fault ≡ Memory
-    → IfOk told (IsTextFaultReport fault) → IfOk told Is
-no_line Is fault told is line =
-    memory_no_line Is told (subst (λ (f : CommandFault). IfOk told (IsTextFaultReport f)) is line)
+no_line : (Is : Answer → Type 0) (fault : CommandFault) (outcome : Result Answer CommandFault) → fault ≡ Memory
+    → IfOk outcome (IsTextFaultReport fault) → IfOk outcome Is
+no_line Is fault outcome is line =
+    memory_no_line Is outcome (subst (λ (f : CommandFault). IfOk outcome (IsTextFaultReport f)) is line)
 
-instance_line : (fault : CommandFault) (why : OrFault) (told : Result Answer CommandFault) → IsInstanceRefusal {A = Answer} (Err fault) why
-    → IfOk told (IsTextFaultReport fault) → IfOk told (IsTextFaultReport (Instance why))
-instance_line (Instance answered) why told is line = line
-instance_line Memory why told is line = memory_no_line (IsTextFaultReport (Instance why)) told line
-instance_line (Plan fault) why told is line = absurd is
-instance_line (Names names) why told is line = absurd is
-instance_line Read why told is line = absurd is
-instance_line Write why told is line = absurd is
-instance_line InputTooLong why told is line = absurd is
-instance_line Log why told is line = absurd is
-instance_line LogInUse why told is line = absurd is
+instance_line : (fault : CommandFault) (why : OrFault) (outcome : Result Answer CommandFault) → IsInstanceRefusal {A = Answer} (Err fault) why
+    → IfOk outcome (IsTextFaultReport fault) → IfOk outcome (IsTextFaultReport (Instance why))
+instance_line (Instance answered) why outcome is line = line
+instance_line Memory why outcome is line = memory_no_line (IsTextFaultReport (Instance why)) outcome line
+instance_line (Plan fault) why outcome is line = absurd is
+instance_line (Names names) why outcome is line = absurd is
+instance_line Read why outcome is line = absurd is
+instance_line Write why outcome is line = absurd is
+instance_line InputTooLong why outcome is line = absurd is
+instance_line Log why outcome is line = absurd is
+instance_line LogInUse why outcome is line = absurd is
 
-plan_line : (fault : CommandFault) (why : PlanFault) (told : Result Answer CommandFault) → IsPlanRefusal {A = Answer} (Err fault) why
-    → IfOk told (IsTextFaultReport fault) → IfOk told (IsTextFaultReport (Plan why))
-plan_line (Plan answered) why told is line = line
-plan_line Memory why told is line = memory_no_line (IsTextFaultReport (Plan why)) told line
-plan_line (Instance fault) why told is line = absurd is
-plan_line (Names names) why told is line = absurd is
-plan_line Read why told is line = absurd is
-plan_line Write why told is line = absurd is
-plan_line InputTooLong why told is line = absurd is
-plan_line Log why told is line = absurd is
-plan_line LogInUse why told is line = absurd is
+plan_line : (fault : CommandFault) (why : PlanFault) (outcome : Result Answer CommandFault) → IsPlanRefusal {A = Answer} (Err fault) why
+    → IfOk outcome (IsTextFaultReport fault) → IfOk outcome (IsTextFaultReport (Plan why))
+plan_line (Plan answered) why outcome is line = line
+plan_line Memory why outcome is line = memory_no_line (IsTextFaultReport (Plan why)) outcome line
+plan_line (Instance fault) why outcome is line = absurd is
+plan_line (Names names) why outcome is line = absurd is
+plan_line Read why outcome is line = absurd is
+plan_line Write why outcome is line = absurd is
+plan_line InputTooLong why outcome is line = absurd is
+plan_line Log why outcome is line = absurd is
+plan_line LogInUse why outcome is line = absurd is
 
 -- a fault that has a line is of a text
 of_text : (fault : CommandFault) (answer : Answer) → IsTextFaultReport fault answer → status_of fault ≡ 3
@@ -80,8 +80,8 @@ memory_alone instance name plan LogInUse other is unsaid = absurd is
 
 module _ (instance : List ℕ) (name : Option (List ℕ)) (plan : List ℕ) (Is : PlannedShop → Answer → Type 0)
     (bound : (p : PlannedShop) (answer : Answer) → Is p answer → answer.status ≤ 1) where
-  memory_reported : (fault : CommandFault) (told : Result Answer CommandFault) → IsRightOfBoth instance name plan fault
-      → IfErr told (HasNoLine fault) → IfErr told (λ other. other ≡ Memory)
+  memory_reported : (fault : CommandFault) (outcome : Result Answer CommandFault) → IsRightOfBoth instance name plan fault
+      → IfErr outcome (HasNoLine fault) → IfErr outcome (λ other. other ≡ Memory)
   memory_reported fault (Ok answer) is unsaid = tt
   memory_reported fault (Err other) is unsaid = memory_alone instance name plan fault other is unsaid
 
@@ -94,48 +94,48 @@ module _ (instance : List ℕ) (name : Option (List ℕ)) (plan : List ℕ) (Is 
     second = λ fault tells is. absurd (are.second fault tells is);
   }
 
-  fault_found : (fault : CommandFault) (told : Result Answer CommandFault) → IsRightOfBoth instance name plan fault
-      → IfOk told (IsTextFaultReport fault) → IfOk told (IsTextsReport instance name plan Is)
+  fault_found : (fault : CommandFault) (outcome : Result Answer CommandFault) → IsRightOfBoth instance name plan fault
+      → IfOk outcome (IsTextFaultReport fault) → IfOk outcome (IsTextsReport instance name plan Is)
   fault_found fault (Err other) right line = tt
   fault_found fault (Ok answer) right line = inr (fault, record { right = right; status = of_text fault answer line }, line)
 
-  log_fault_answer : (fault : CommandFault) (told : Result Answer CommandFault) → AreTextsAnswered instance name plan Is (Err fault)
-      → IfOk told (IsTextFaultReport fault) → AreTextsReported instance name plan Is (IfOk told)
-  log_fault_answer fault told are line = record {
-    found = fault_found fault told are.fault line;
-    only = λ p tell. no_line (Is p) fault told (are.only p tell) line;
-    first = λ why is. instance_line fault why told (are.first why is) line;
-    second = λ why tells is. plan_line fault why told (are.second why tells is) line;
+  log_fault_answer : (fault : CommandFault) (outcome : Result Answer CommandFault) → AreTextsAnswered instance name plan Is (Err fault)
+      → IfOk outcome (IsTextFaultReport fault) → AreTextsReported instance name plan Is (IfOk outcome)
+  log_fault_answer fault outcome are line = record {
+    found = fault_found fault outcome are.fault line;
+    only = λ p tell. no_line (Is p) fault outcome (are.only p tell) line;
+    first = λ why is. instance_line fault why outcome (are.first why is) line;
+    second = λ why tells is. plan_line fault why outcome (are.second why tells is) line;
   }
 
-  put_texts : (told : Result Answer CommandFault) (result : ℕ) (old new : List ℕ) (needed : ℕ)
-      → IfErr told (λ fault. (result ≡ status_of fault) × (needed ≡ 0) × (new ≡ old))
-      → IfOk told (λ answer. IsPut answer.text.items answer.status result old new needed)
-      → IfErr told (λ fault. fault ≡ Memory)
-      → AreTextsReported instance name plan Is (IfOk told)
+  put_texts : (outcome : Result Answer CommandFault) (result : ℕ) (old new : List ℕ) (needed : ℕ)
+      → IfErr outcome (λ fault. (result ≡ status_of fault) × (needed ≡ 0) × (new ≡ old))
+      → IfOk outcome (λ answer. IsPut answer.text.items answer.status result old new needed)
+      → IfErr outcome (λ fault. fault ≡ Memory)
+      → AreTextsReported instance name plan Is (IfOk outcome)
       → AreTextsReported instance name plan Is (Answers result old new needed)
-  put_texts told result old new needed unsaid put memory are = record {
+  put_texts outcome result old new needed unsaid put memory are = record {
     found = answers _ are.found;
     only = λ p tell. answers _ (are.only p tell);
     first = λ fault is. answers _ (are.first fault is);
     second = λ fault tells is. answers _ (are.second fault tells is);
   }
     where
-      answers : (Tells : Answer → Type 0) → IfOk told Tells → Answers result old new needed Tells
-      answers Tells is = put_result Tells told result old new needed unsaid put memory is
+      answers : (Tells : Answer → Type 0) → IfOk outcome Tells → Answers result old new needed Tells
+      answers Tells is = put_result Tells outcome result old new needed unsaid put memory is
 
   -- what two texts are answered, and what is put
-  pub found_and_put : (answered told : Result Answer CommandFault) (result : ℕ) (old new : List ℕ) (needed : ℕ)
+  pub found_and_put : (answered outcome : Result Answer CommandFault) (result : ℕ) (old new : List ℕ) (needed : ℕ)
       → AreTextsAnswered instance name plan Is answered
-      → IfOk answered (λ answer. told ≡ Ok answer)
-      → IfErr answered (λ fault. IfOk told (IsTextFaultReport fault))
-      → IfErr answered (λ fault. IfErr told (HasNoLine fault))
-      → IfErr told (λ fault. (result ≡ status_of fault) × (needed ≡ 0) × (new ≡ old))
-      → IfOk told (λ answer. IsPut answer.text.items answer.status result old new needed)
+      → IfOk answered (λ answer. outcome ≡ Ok answer)
+      → IfErr answered (λ fault. IfOk outcome (IsTextFaultReport fault))
+      → IfErr answered (λ fault. IfErr outcome (HasNoLine fault))
+      → IfErr outcome (λ fault. (result ≡ status_of fault) × (needed ≡ 0) × (new ≡ old))
+      → IfOk outcome (λ answer. IsPut answer.text.items answer.status result old new needed)
       → AreTextsReported instance name plan Is (Answers result old new needed)
-  found_and_put (Err fault) told result old new needed are same line other unsaid put =
-      put_texts told result old new needed unsaid put (memory_reported fault told are.fault other) (log_fault_answer fault told are line)
-  found_and_put (Ok answer) told result old new needed are same line other unsaid put =
-      put_texts told result old new needed unsaid put
+  found_and_put (Err fault) outcome result old new needed are same line other unsaid put =
+      put_texts outcome result old new needed unsaid put (memory_reported fault outcome are.fault other) (log_fault_answer fault outcome are line)
+  found_and_put (Ok answer) outcome result old new needed are same line other unsaid put =
+      put_texts outcome result old new needed unsaid put
       (subst (λ (t : Result Answer CommandFault). IfErr t (λ fault. fault ≡ Memory)) (sym same) tt)
       (subst (λ (t : Result Answer CommandFault). AreTextsReported instance name plan Is (IfOk t)) (sym same) (answer_reported answer are))

@@ -29,13 +29,13 @@ pub record IsTextFault (instance : List ℕ) (name : Option (List ℕ)) (plan : 
 -- the text stands in front in the caller's room, and its length is answered
 pub record IsLaid (text old new : List ℕ) (needed : ℕ) : Type 0 where
   pub stands : new ≡ text ++ drop (length text) old
-  pub told : needed ≡ length text
+  pub needed_is : needed ≡ length text
 
 -- the text is longer than the caller's room, which stays as it was, and its length is answered
 pub record IsTooLong (text old new : List ℕ) (needed : ℕ) : Type 0 where
   pub beyond : length old < length text
   pub unchanged : new ≡ old
-  pub told : needed ≡ length text
+  pub needed_is : needed ≡ length text
 
 -- the status, with the text in the caller's room, or the status of too little room
 abbrev pub IsPut : List ℕ → ℕ → ℕ → List ℕ → List ℕ → ℕ → Type 0
@@ -46,7 +46,7 @@ IsPut text status result old new needed =
 abbrev pub Answers : ℕ → List ℕ → List ℕ → ℕ → (Answer → Type 0) → Type 0
 Answers result old new needed Is =
     ((result ≡ 4) × (needed ≡ 0) × (new ≡ old))
-    ⊎ ((told : Answer) × Is told × IsPut told.text.items told.status result old new needed)
+    ⊎ ((answer : Answer) × Is answer × IsPut answer.text.items answer.status result old new needed)
 
 -- the line that the program prints of the fault of a text on its standard error
 abbrev pub IsTextFaultLine : CommandFault → List ℕ → Type 0
@@ -56,13 +56,13 @@ IsTextFaultLine other line = ⊥
 
 -- the line of this fault, with the status of a text that is refused
 abbrev pub IsTextFaultReport : CommandFault → Answer → Type 0
-IsTextFaultReport fault told = IsTextFaultLine fault told.text.items × (told.status ≡ 3)
+IsTextFaultReport fault answer = IsTextFaultLine fault answer.text.items × (answer.status ≡ 3)
 
 -- an answer to the two texts of status 0 or 1, or the line of what is wrong with them
 abbrev pub IsTextsReport : List ℕ → Option (List ℕ) → List ℕ → (PlannedShop → Answer → Type 0) → Answer → Type 0
-IsTextsReport instance name plan Is told =
-    (IsOfBoth instance name plan Is told × (told.status ≤ 1))
-    ⊎ ((fault : CommandFault) × IsTextFault instance name plan fault × IsTextFaultReport fault told)
+IsTextsReport instance name plan Is answer =
+    (IsOfBoth instance name plan Is answer × (answer.status ≤ 1))
+    ⊎ ((fault : CommandFault) × IsTextFault instance name plan fault × IsTextFaultReport fault answer)
 
 -- an answer to the two texts is given, or the line of what is wrong with them: that of their shop and plan wherever they give them, else the line of the first fault of the instance, or of the plan's
 pub record AreTextsReported (instance : List ℕ) (name : Option (List ℕ)) (plan : List ℕ) (Is : PlannedShop → Answer → Type 0)

@@ -5,9 +5,9 @@ use Rattle.cell_control.specs.declared.report_fault.ReportFault.{ReportFault}
 use Rattle.cell_control.specs.Control.{Control, IsAnswered}
 use Rattle.cell_control.specs.Promises.{NeverGoesWrong, KeepsLeavings}
 use Rattle.cellplan_c.specs.declared.cell.Cell.{Cell}
-use Rattle.cellplan_c.specs.declared.told.Order.{Order}
-use Rattle.cellplan_c.specs.declared.told.Ended.{Ended}
-use Rattle.cellplan_c.specs.Told.{report_by, order_numbers, fault_number, fault_detail}
+use Rattle.cellplan_c.specs.declared.numbers.Order.{Order}
+use Rattle.cellplan_c.specs.declared.numbers.Ended.{Ended}
+use Rattle.cellplan_c.specs.Numbers.{report_by, order_numbers, fault_number, fault_detail}
 use Rattle.cellplan_c.specs.Ended.{ended_by, CanEnd, IsFirstFor, IsOnlyFor, IfGoesOnNow, Calls}
 
 -- of the controller that the cell holds, if it holds one

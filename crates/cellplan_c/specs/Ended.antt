@@ -9,8 +9,8 @@ use Rattle.cell_control.specs.Reports.{IsFirstReason, IsOnlyReason, CanCleanAfte
 use Rattle.cell_control.specs.declared.report_fault.ReportFault.{ReportFault}
 use Rattle.cell_control.specs.Control.{Control, IfEndsNow}
 use Rattle.cell_control.specs.Promises.{IsCalled}
-use Rattle.cellplan_c.specs.declared.told.Ended.{Ended}
-use Rattle.cellplan_c.specs.declared.told.Ended.TheVariants.{Reported, CleanedAfter}
+use Rattle.cellplan_c.specs.declared.numbers.Ended.{Ended}
+use Rattle.cellplan_c.specs.declared.numbers.Ended.TheVariants.{Reported, CleanedAfter}
 
 -- the report of what has ended: of a cleaning after a job it is that of the cleaning
 abbrev pub ended_by : Ended → Report

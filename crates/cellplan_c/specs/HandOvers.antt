@@ -35,7 +35,7 @@ pub record MayTakeOver (v : Control) (q : PlannedShop) (t : ℕ) : Type 0 where
   pub kept : KeepsSoFar v.planned v.cell q
   pub moment : IsNextMoment v.cell t
 
--- the status of handing over to plan q: that it has taken over, or else the first reason why not, or that memory ran out
+-- the status of handing over to plan q: that the cell is handed over, or else the first reason why not, or that memory ran out
 pub data IsHandOverStatus (v : Control) (q : PlannedShop) (t status : ℕ) : Type 0 where
   takes_over : status ≡ 0 → MayTakeOver v q t → (HasCycle q → ⊥) → IsHandOverStatus v q t status
   not_shaped : (fault : ShapeFault) → status ≡ 1 → IsFirstShapeFault q fault → IsHandOverStatus v q t status
@@ -45,7 +45,7 @@ pub data IsHandOverStatus (v : Control) (q : PlannedShop) (t status : ℕ) : Typ
   no_memory : status ≡ 4 → IsHandOverStatus v q t status
 
 module _ (instance : List ℕ) (name : Option (List ℕ)) (plan : List ℕ) (t : ℕ) where
-  -- the plan that the two texts give has taken over
+  -- the cell is handed over to the plan that the two texts give
   pub record HasHandedOver (old new : Control) : Type 0 where
     pub planned : PlannedShop
     pub tell : BothParse instance name plan planned

@@ -7,8 +7,8 @@ use Rattle.cell_control.specs.Readings.{IsPhaseOf}
 use Rattle.cell_control.specs.declared.phase.Phase.{Phase as Whereabouts}
 use Rattle.cell_control.specs.Control.{Control}
 use Rattle.cellplan_c.specs.declared.cell.Cell.{Cell}
-use Rattle.cellplan_c.specs.declared.told.Phase.{Phase}
-use Rattle.cellplan_c.specs.Told.{phase_numbers, answer_of}
+use Rattle.cellplan_c.specs.declared.numbers.Phase.{Phase}
+use Rattle.cellplan_c.specs.Numbers.{phase_numbers, answer_of}
 use Rattle.cellplan_c.specs.Calls.{kept_leaving}
 use Rattle.cellplan_c.specs.Cells.{Holding}
 
@@ -22,7 +22,7 @@ pub record Finds {A : Type 0} (old new : Cell) (status : ℕ) (before after : A)
 
 -- the call writes what is always there of the controller that the cell holds, at status 0; and 8 says that the cell holds none
 pub record Tells {A : Type 0} (old new : Cell) (status : ℕ) (before after : A) (Is : Control → A → Type 0) : Type 0 where
-  pub told : Holding old (λ held. (status ≡ 0) × Is held after)
+  pub written : Holding old (λ held. (status ≡ 0) × Is held after)
   pub no_cell : (old.slot.held ≡ None) ↔ (status ≡ 8)
   pub unchanged : new.slot.held ≡ old.slot.held
   pub unwritten : status ≢ 0 → after ≡ before

@@ -12,4 +12,4 @@ use Rattle.cellplan_c.specs.Calls.{Answers}
 pub record IsRestAsked (wanted : PlanAnswer) (t status : ℕ) (before after : List ℕ) (needed : ℕ) (held : Control) : Type 0 where
   pub too_large : (status ≡ 18) ↔ (MAX_MOMENT < t)
   pub backwards : (status ≡ 19) ↔ ((t ≤ MAX_MOMENT) × (t < held.cell.last))
-  pub told : IsNextMoment held.cell t → Answers status before after needed (AnswersRest no_names wanted held.planned held.cell t)
+  pub answered : IsNextMoment held.cell t → Answers status before after needed (AnswersRest no_names wanted held.planned held.cell t)

@@ -3,7 +3,7 @@
 ghost use Rattle.std.specs.Prelude.{◌≡◌, IfOk, IfErr};
 ghost use Rattle.command_answers.specs.Checks.{IsCheckLine};
 ghost use Rattle.command_answers.specs.Explains.{IsExplanation};
-ghost use Rattle.cellplan_c.specs.Told.{named};
+ghost use Rattle.cellplan_c.specs.Numbers.{named};
 ghost use Rattle.cellplan_c.specs.Calls.{Answers, AreTextsReported, IsTextFaultReport};
 ghost use Rattle.cellplan_c.specs.FaultsWithoutLine.{HasNoLine};
 
@@ -29,7 +29,7 @@ pub extern "C" fn cellplan_check(
         (Answers result line.old line.new length.new) }
 {
     let answered = check(alloc, instance, name_in(name), plan);
-    put_answer(told(alloc, answered), line, length)
+    put_answer(or_fault_line(alloc, answered), line, length)
 }
 
 /// The answer of the command `explain` to the two texts, or its fault's line, as the program writes it. The name is as
@@ -47,11 +47,14 @@ pub extern "C" fn cellplan_explain(
         (Answers result text.old text.new length.new) }
 {
     let answered = explain(alloc, instance, name_in(name), plan);
-    put_answer(told(alloc, answered), text, length)
+    put_answer(or_fault_line(alloc, answered), text, length)
 }
 
 /// The answer, or the line of a text's fault. A fault of no text is passed on.
-fn told(alloc: Global, answered: Result<Answer, CommandFault>) -> Result<Answer, CommandFault>
+fn or_fault_line(
+    alloc: Global,
+    answered: Result<Answer, CommandFault>,
+) -> Result<Answer, CommandFault>
     ensures answer { IfOk answered (λ answer. result ≡ Ok answer) }
     ensures line { IfErr answered (λ fault. IfOk result (IsTextFaultReport fault)) }
     ensures unsaid { IfErr answered (λ fault. IfErr result (HasNoLine fault)) }

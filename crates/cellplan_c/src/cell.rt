@@ -29,7 +29,7 @@ impl Cell {
 
     /// Takes out what the cell holds.
     pub fn take(&mut self, alloc: Global) -> Option<Box<Inner>>
-        ensures taken { MatchOption result (self.old.slot.held ≡ None)
+        ensures lent { MatchOption result (self.old.slot.held ≡ None)
             (λ inner. self.old.slot.held ≡ Some inner.value) }
         ensures emptied { self.new.slot.held ≡ None }
     {

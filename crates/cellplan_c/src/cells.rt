@@ -10,7 +10,7 @@ ghost use Rattle.cell_control.specs.Control.{at_start};
 ghost use Rattle.command_answers.specs.declared.command_fault.CommandFault.{CommandFault};
 ghost use Rattle.command_answers.specs.Instances.{IsFirstInstanceFault};
 ghost use Rattle.command_answers.specs.Plans.{BothParse, ParsesAsShop};
-ghost use Rattle.cellplan_c.specs.Told.{named};
+ghost use Rattle.cellplan_c.specs.Numbers.{named};
 ghost use Rattle.cellplan_c.specs.Calls.{IsTextFault, IsStarted, loaded_status, IsStatusOfBoth, IsStatusOfPlan};
 ghost use Rattle.cellplan_c.specs.Cells.{Holding, GoesAsPromised};
 ghost use Rattle.cellplan_c.specs.Begun.{IsControllerOf};

@@ -12,7 +12,7 @@ use std::alloc::{AllocError, Global};
 /// The line that the program writes for a text's fault on its standard error, as an answer with its status. A fault of
 /// no text is passed on.
 pub fn fault_answer(alloc: Global, fault: CommandFault) -> Result<Answer, CommandFault>
-    ensures told { IfOk result (IsTextFaultReport fault) }
+    ensures line { IfOk result (IsTextFaultReport fault) }
     ensures unsaid { IfErr result (HasNoLine fault) }
 {
     match fault {
@@ -36,8 +36,8 @@ fn refusal(
     what: &[u8],
     words: Result<String, AllocError>,
 ) -> Result<Answer, CommandFault>
-    ensures told { IfOk result (λ told. (words : List ℕ) × (told.text.items ≡ what.now ++ words ++ codes "\n")) }
-    ensures status { IfOk result (λ told. told.status ≡ 3) }
+    ensures text { IfOk result (λ answer. (words : List ℕ) × (answer.text.items ≡ what.now ++ words ++ codes "\n")) }
+    ensures status { IfOk result (λ answer. answer.status ≡ 3) }
     ensures memory { IfErr result (λ fault. fault ≡ Memory) }
 {
     let words = words?;

@@ -5,17 +5,17 @@ ghost use Rattle.shop_base.specs.declared.limits.TheConstants.{MAX_MOMENT};
 ghost use Rattle.shop_base.specs.Plan.{PlannedShop};
 ghost use Rattle.command_answers.specs.Shapes.{IsShapedOrNot};
 ghost use Rattle.cell_control.specs.HandedOver.{IsHandedOver};
-ghost use Rattle.cellplan_c.specs.Told.{named};
+ghost use Rattle.cellplan_c.specs.Numbers.{named};
 ghost use Rattle.cellplan_c.specs.Cells.{Holding, GoesAsPromised, Handing, AreOrdersPut, IsKeptBehind};
 ghost use Rattle.cellplan_c.specs.HandOvers.{IsHandOver, IsHandOverStatus, rest_fault_status};
 
 use crate::cell::Cell;
 use crate::inner::Inner;
 use crate::instances::name_in;
+use crate::numbers::Order;
 use crate::promised::is_as_promised;
 use crate::rooms::put_orders;
 use crate::statuses::{BACKWARDS, GOOD, KEEPS_NOT, MOMENT_TOO_LARGE, NO_CELL, REFUSED};
-use crate::told::Order;
 use cell_control::RestFault;
 use command_answers::load_shaped;
 use shop_base::limits::MAX_MOMENT;
@@ -79,7 +79,7 @@ fn hand_over_to(
         return MOMENT_TOO_LARGE;
     }
     match load_shaped(alloc, instance, name_in(name), plan) {
-        Ok(told) => hand_over_plan(alloc, inner, told, at),
+        Ok(loaded) => hand_over_plan(alloc, inner, loaded, at),
         Err(fault) => u32::from(fault.status()),
     }
 }
@@ -88,17 +88,17 @@ fn hand_over_to(
 fn hand_over_plan(
     alloc: Global,
     inner: &mut Inner,
-    told: Result<Shaped, ShapeFault>,
+    loaded: Result<Shaped, ShapeFault>,
     at: u64,
 ) -> u32
     requires { at ≤ MAX_MOMENT }
-    ensures status { (q : PlannedShop) → IsShapedOrNot q told → IsHandOverStatus inner.old.controller q at result }
-    ensures taken { (q : PlannedShop) → IsShapedOrNot q told → result ≡ 0
+    ensures status { (q : PlannedShop) → IsShapedOrNot q loaded → IsHandOverStatus inner.old.controller q at result }
+    ensures handed_over { (q : PlannedShop) → IsShapedOrNot q loaded → result ≡ 0
         → IsHandedOver inner.old.controller q at inner.new.controller }
     ensures unchanged { result ≢ 0 → inner.new ≡ inner.old }
     ensures statuses { (result ≢ 3) × (result ≢ 8) × (result ≢ 18) }
 {
-    let Ok(shaped) = told else {
+    let Ok(shaped) = loaded else {
         return REFUSED;
     };
     match inner.controller.hand_over(alloc, shaped, at) {

@@ -2,7 +2,7 @@
 
 ghost use Rattle.std.specs.Prelude.{◌≡◌};
 ghost use Rattle.std.specs.Option.{option_copied};
-ghost use Rattle.cellplan_c.specs.Told.{named};
+ghost use Rattle.cellplan_c.specs.Numbers.{named};
 
 /// The name of the instance, unless it is empty.
 pub fn name_in(name: &[u8]) -> Option<&[u8]>

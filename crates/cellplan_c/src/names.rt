@@ -3,12 +3,12 @@
 ghost use Rattle.std.specs.Prelude.{◌≡◌, ◌↔◌};
 ghost use Rattle.cell_control.specs.declared.report_fault.ReportFault.{ReportFault};
 ghost use Rattle.cell_control.specs.ReasonNames.{reason_name};
-ghost use Rattle.cellplan_c.specs.Told.{fault_number, NoReason};
+ghost use Rattle.cellplan_c.specs.Numbers.{fault_number, NoReason};
 ghost use Rattle.cellplan_c.specs.Calls.{IsPut};
 
+use crate::numbers::reason_by;
 use crate::rooms::put_text;
 use crate::statuses::{GOOD, NONE};
-use crate::told::reason_by;
 
 /// The version of the calls. A change of what a call takes or answers gets a new number.
 pub const VERSION: u32 = 2;

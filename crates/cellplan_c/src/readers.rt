@@ -8,9 +8,9 @@ ghost use Rattle.cell_control.specs.Readings.{IsJobOn, IsDueOf, IsDueOfCleaning}
 ghost use Rattle.cellplan_c.specs.Readings.{Finds, Tells, IsPhaseFound, IsLeaveOf, AreReportsLeft};
 
 use crate::cell::Cell;
+use crate::numbers::{Phase, phase_numbers};
 use crate::rooms::put_found;
 use crate::statuses::{GOOD, NO_CELL, NONE};
-use crate::told::{Phase, phase_numbers};
 use std::alloc::Global;
 
 /// Where the job is; `NONE` for a number that is no job's.

@@ -2,17 +2,17 @@
 
 ghost use Rattle.std.specs.Prelude.{◌≡◌, ◌≢◌, ◌<◌, ◌≤◌, ◌↔◌, None, IsSome, IfSome, IfOk, IfErr, IsOk, length, false};
 ghost use Rattle.cell_control.specs.Control.{IsAnswered};
-ghost use Rattle.cellplan_c.specs.Told.{report_by};
+ghost use Rattle.cellplan_c.specs.Numbers.{report_by};
 ghost use Rattle.cellplan_c.specs.Ended.{ended_by, CanEnd, IsFirstFor, IsOnlyFor, IfGoesOnNow, Calls};
 ghost use Rattle.cellplan_c.specs.Cells.{Holding, GoesAsPromised, Reporting, IsReportAnswered};
 ghost use Rattle.cellplan_c.specs.Cells.{AreOrdersPut, IsKeptBehind};
 
 use crate::cell::Cell;
 use crate::inner::Inner;
+use crate::numbers::{Ended, Order, fault_detail, fault_number, report_by};
 use crate::promised::is_as_promised;
 use crate::rooms::put_orders;
 use crate::statuses::{GOOD, NO_CELL, NO_KIND};
-use crate::told::{Ended, Order, fault_detail, fault_number, report_by};
 use cell_control::{Ack, ReportFault, RestController, TourneyDues};
 use std::alloc::Global;
 
@@ -103,9 +103,9 @@ fn report_to(inner: &mut Inner, ended: Ended, late: &mut bool, detail: &mut u64)
     ensures no_detail { result ≡ 0 → detail.new ≡ detail.old }
     ensures never_wrong { GoesAsPromised inner.new.controller }
 {
-    let told = take(&mut inner.controller, ended);
+    let answered = take(&mut inner.controller, ended);
     is_as_promised(&inner.controller);
-    match told {
+    match answered {
         Ok(ack) => {
             *late = ack.late;
             GOOD

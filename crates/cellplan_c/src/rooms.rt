@@ -2,12 +2,12 @@
 
 ghost use Rattle.std.specs.Prelude.{◌≡◌, ◌≢◌, ◌⊎◌, IfOk, IfErr, length};
 ghost use Rattle.command_answers.specs.Statuses.{status_of};
-ghost use Rattle.cellplan_c.specs.Told.{answer_of};
+ghost use Rattle.cellplan_c.specs.Numbers.{answer_of};
 ghost use Rattle.cellplan_c.specs.Calls.{IsPut};
 ghost use Rattle.cellplan_c.specs.Cells.{AreOrdersPut, IsKeptBehind};
 
+use crate::numbers::{Order, order_numbers};
 use crate::statuses::{GOOD, NO_ROOM, NONE};
-use crate::told::{Order, order_numbers};
 use cell_control::MoveOrder;
 use command_answers::{Answer, CommandFault};
 
@@ -38,11 +38,11 @@ pub fn put_text(text: &[u8], status: u32, room: &mut [u8], needed: &mut usize) -
 
 /// Writes the answer's text, if there is one and room for it. Returns the answer's status, or the fault's, or the
 /// status that there is no room.
-pub fn put_answer(told: Result<Answer, CommandFault>, room: &mut [u8], needed: &mut usize) -> u32
-    ensures fault { IfErr told (λ fault. (result ≡ status_of fault) × (needed.new ≡ 0) × (room.new ≡ room.old)) }
-    ensures put { IfOk told (λ answer. IsPut answer.text.items answer.status result room.old room.new needed.new) }
+pub fn put_answer(outcome: Result<Answer, CommandFault>, room: &mut [u8], needed: &mut usize) -> u32
+    ensures fault { IfErr outcome (λ fault. (result ≡ status_of fault) × (needed.new ≡ 0) × (room.new ≡ room.old)) }
+    ensures put { IfOk outcome (λ answer. IsPut answer.text.items answer.status result room.old room.new needed.new) }
 {
-    match told {
+    match outcome {
         Ok(answer) => put_text(&answer.text, u32::from(answer.status), room, needed),
         Err(fault) => {
             *needed = 0;

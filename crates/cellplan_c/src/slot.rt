@@ -45,7 +45,7 @@ impl Slot {
         }
     }
 
-    /// The box that lies there, which is taken out of the slot.
+    /// The box that lies there, which leaves the slot.
     pub fn into_raw_box(self, from: Global) -> RawBox<Inner, Global>
         requires { IsSome self.held }
         ensures { self.held ≡ Some result.value }

@@ -21,13 +21,13 @@ pub one_more : {W : Type 0} (gives : W → List ℕ → Result (List ℕ) Comman
     → (came loaded : Result Loaded CommandFault) (mid : W) → came ≡ loaded → LoadsOne gives text name path now came mid → (outcome : Result Cells CommandFault) (after : W)
     → GoesOn (λ l. AfterPlan cells (λ more. LoadsEach gives text name more (map string_bytes (drop (i + 1) paths))) (accepted_in l)) loaded mid outcome after
     → LoadsEach gives text name [] all start outcome after
-one_more gives text name cells paths i now all start carries item inside is path told came loaded mid same one outcome after on =
+one_more gives text name cells paths i now all start carries item inside is path same_path came loaded mid same one outcome after on =
     let left : drop i paths ≡ item ∷ drop (i + 1) paths = at_drop_more (λ x. x) paths i item inside ∙ ap (λ x. x ∷ drop (i + 1) paths) (sym is) in
     carries outcome after (subst (λ ps. LoadsEach gives text name cells (map string_bytes ps) now outcome after) (sym left)
-    (record { came = loaded; mid = mid; is = subst (λ p. LoadsOne gives text name p now loaded mid) told (subst (λ r. LoadsOne gives text name path now r mid) same one); goes_on = on }))
+    (record { came = loaded; mid = mid; is = subst (λ p. LoadsOne gives text name p now loaded mid) same_path (subst (λ r. LoadsOne gives text name path now r mid) same one); goes_on = on }))
 
 -- what follows a plan that was asked for whether it is accepted
-pub after_asked : {W : Type 0} (cells : List VerifiedPlan) (rest : List VerifiedPlan → W → Result Cells CommandFault → W → Type 0) (loaded : Loaded) (asked told : Result VerifiedPlan Loaded)
-    (mid : W) (outcome : Result Cells CommandFault) (after : W) → asked ≡ accepted_in loaded → asked ≡ told → AfterPlan cells rest told mid outcome after
+pub after_asked : {W : Type 0} (cells : List VerifiedPlan) (rest : List VerifiedPlan → W → Result Cells CommandFault → W → Type 0) (loaded : Loaded) (asked answered : Result VerifiedPlan Loaded)
+    (mid : W) (outcome : Result Cells CommandFault) (after : W) → asked ≡ accepted_in loaded → asked ≡ answered → AfterPlan cells rest answered mid outcome after
     → AfterPlan cells rest (accepted_in loaded) mid outcome after
-after_asked cells rest loaded asked told mid outcome after is same follows = subst (λ r. AfterPlan cells rest r mid outcome after) (sym same ∙ is) follows
+after_asked cells rest loaded asked answered mid outcome after is same follows = subst (λ r. AfterPlan cells rest r mid outcome after) (sym same ∙ is) follows

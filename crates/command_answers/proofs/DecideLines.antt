@@ -6,7 +6,7 @@ use Rattle.plan_decide.specs.declared.aim.Aim.{Aim}
 use Rattle.plan_decide.specs.declared.aim.Aim.TheVariants.{Promises, Least}
 use Rattle.plan_decide.specs.declared.aim.Objective.TheVariants.{Makespan, Leaving}
 use Rattle.plan_decide.specs.declared.decide_fault.DecideFault.{DecideFault}
-use Rattle.plan_decide.specs.declared.decide_fault.DecideFault.TheVariants.{JobOutOfRange, Log as LogFault, Past as EarlierMoment, MomentTooLarge, Memory as OutOfMemory}
+use Rattle.plan_decide.specs.declared.decide_fault.DecideFault.TheVariants.{JobOutOfRange, Run, Memory as OutOfMemory}
 use Rattle.plan_decide.specs.declared.decided.Decided.{Decided}
 use Rattle.plan_decide.specs.declared.decided.Decided.TheVariants.{Kept, Best, Never, Open}
 use Rattle.plan_decide.specs.declared.decided.Within.{Within}
@@ -67,9 +67,7 @@ is_answerable t Promises JobOutOfRange is = is tt
 is_answerable t (Least Makespan) JobOutOfRange is = is tt
 is_answerable t (Least (Leaving j)) JobOutOfRange is = tt
 is_answerable t aim OutOfMemory is = tt
-is_answerable t aim (LogFault fault) is = absurd is
-is_answerable t aim (EarlierMoment last) is = absurd is
-is_answerable t aim MomentTooLarge is = absurd is
+is_answerable t aim (Run fault) is = absurd is
 
 pub outside : (j n : ℕ) → (j < n → ⊥) → n ≤ j
 outside j n isnt = omega (arith, isnt)
@@ -83,6 +81,4 @@ undecided_is names t (Least (Leaving j)) JobOutOfRange (Ok answer) is text =
     inr (inr (inr (inr (record { job = j; aims = refl; outside = outside j (job_count t) is; line = text.0; refused = text.1 }))))
 undecided_is names t (Least (Leaving j)) JobOutOfRange (Err fault) is text = rw text tt
 undecided_is names t aim OutOfMemory outcome is text = rw text tt
-undecided_is names t aim (LogFault fault) outcome is text = absurd is
-undecided_is names t aim (EarlierMoment last) outcome is text = absurd is
-undecided_is names t aim MomentTooLarge outcome is text = absurd is
+undecided_is names t aim (Run fault) outcome is text = absurd is

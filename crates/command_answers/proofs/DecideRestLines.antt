@@ -1,23 +1,19 @@
 -- The answers of the command `decide` of the rest of a run.
-use Rattle.std.proofs.Common.{◌≡◌, ℕ, ◌<◌, ◌≤◌, List, Option, None, Some, Result, Ok, Err, inl, inr, sym, ap, arith, refl, subst}
+use Rattle.std.proofs.Common.{ℕ, ◌≤◌, List, Option, Result, Ok, Err, inl, inr, sym, refl, subst}
 use Rattle.std.specs.Prelude.{IfSome}
 use Rattle.shop_base.specs.declared.limits.TheConstants.{MAX_MOMENT}
 use Rattle.shop_base.specs.Plan.{PlannedShop}
-use Rattle.run_log.specs.declared.audit_fault.AuditFault.{AuditFault}
-use Rattle.run_log.specs.declared.audit_fault.AuditFault.TheVariants.{BadLine, NotExpected, Backwards, NotReady, Occupied, OutOfOrder, WrongPlace, NotClean, Memory as WantOfRoom}
-use Rattle.run_log.specs.Audits.{IsFirstBad, IsAuditFault}
-use Rattle.plan_improve.specs.Improved.{present_of}
 use Rattle.people_names.specs.NameBooks.{NameBook}
 use Rattle.plan_decide.specs.declared.aim.Aim.{Aim}
 use Rattle.plan_decide.specs.declared.aim.Aim.TheVariants.{Promises, Least}
 use Rattle.plan_decide.specs.declared.aim.Objective.TheVariants.{Makespan, Leaving}
 use Rattle.plan_decide.specs.declared.decide_fault.DecideFault.{DecideFault}
-use Rattle.plan_decide.specs.declared.decide_fault.DecideFault.TheVariants.{JobOutOfRange, Log as LogFault, Past as EarlierMoment, MomentTooLarge, Memory as OutOfMemory}
+use Rattle.plan_decide.specs.declared.decide_fault.DecideFault.TheVariants.{JobOutOfRange, Run, Memory as OutOfMemory}
 use Rattle.plan_decide.specs.declared.decided.Decided.{Decided}
 use Rattle.plan_decide.specs.declared.decided.Decided.TheVariants.{Kept, Best, Never, Open}
 use Rattle.plan_decide.specs.declared.decided.Within.{Within}
 use Rattle.plan_decide.specs.Cases.{Case, job_count}
-use Rattle.plan_decide.specs.Pasts.{whole_case, HoldsAfter, IsMomentFault, IsDecideRestFault}
+use Rattle.plan_decide.specs.Pasts.{whole_case, HoldsAfter, IsDecideRestFault}
 use Rattle.plan_decide.specs.Promises.{asked_for}
 use Rattle.plan_decide.specs.Excluding.{AreExclusions, NoneIsAlone}
 use Rattle.plan_decide.specs.Decisions.{IsBest, IsKept, OnBest, OnKept, OnNever, OnOpen}
@@ -25,11 +21,9 @@ use Rattle.command_answers.specs.declared.answer.Answer.{Answer}
 use Rattle.command_answers.specs.declared.command_fault.CommandFault.{CommandFault}
 use Rattle.command_answers.specs.declared.command_fault.CommandFault.TheVariants.{Instance, Plan, Names, Read, Write, InputTooLong, Log, LogInUse, Memory}
 use Rattle.command_answers.specs.Deciding.{IsAnswerable, IsDecidedAnswer, IsDecisionAnswer, IsUndecidedAnswer}
-use Rattle.command_answers.specs.DecidingRests.{IsRestDecisionAnswer}
-use Rattle.command_answers.specs.LogLines.{IsLogRefused}
-use Rattle.command_answers.specs.Rests.{IsPastLine}
+use Rattle.command_answers.specs.DecidingRests.{IsRestDecisionAnswer, IsRestDecisionText}
 use Rattle.command_answers.specs.Steps.{IsOrMemory}
-use Rattle.command_answers.proofs.LogAnswers.{refused_log}
+use Rattle.command_answers.proofs.RunFaults.{has_line, run_fault_is}
 use Rattle.command_answers.proofs.DecideLines.{decided_is, outside}
 
 module _ (names : NameBook) (at : Option ℕ) (lines : List (List ℕ)) (start : PlannedShop) (aim : Aim) where
@@ -48,47 +42,23 @@ module _ (names : NameBook) (at : Option ℕ) (lines : List (List ℕ)) (start :
 
   pub rest_decided_is : (decided : Decided PlannedShop) (outcome : Result Answer CommandFault)
       → OnKept (λ plan. HoldsAfter lines at start (λ t. IsKept t aim plan)) decided → OnBest (λ plan within. HoldsAfter lines at start (λ t. IsBest t aim plan within)) decided
-      → OnNever (λ told back. HoldsAfter lines at start (λ t. AreExclusions (asked_for t aim) told)) decided → OnOpen (λ back. HoldsAfter lines at start (λ t. NoneIsAlone (asked_for t aim))) decided
+      → OnNever (λ exclusions back. HoldsAfter lines at start (λ t. AreExclusions (asked_for t aim) exclusions)) decided → OnOpen (λ back. HoldsAfter lines at start (λ t. NoneIsAlone (asked_for t aim))) decided
       → IsDecidedAnswer names (λ plan. plan) decided outcome → IsRestDecisionAnswer names at lines start aim outcome
   rest_decided_is (Kept plan) outcome kept best never left text =
       held_is outcome (record { past = kept.past; is = kept.is; says = decided_is names _ aim (λ p. p) (Kept plan) outcome kept.says tt tt tt text })
   rest_decided_is (Best plan within) outcome kept best never left text =
       held_is outcome (record { past = best.past; is = best.is; says = decided_is names _ aim (λ p. p) (Best plan within) outcome tt best.says tt tt text })
-  rest_decided_is (Never told back) outcome kept best never left text =
-      held_is outcome (record { past = never.past; is = never.is; says = decided_is names _ aim (λ p. p) (Never told back) outcome tt tt never.says tt text })
+  rest_decided_is (Never exclusions back) outcome kept best never left text =
+      held_is outcome (record { past = never.past; is = never.is; says = decided_is names _ aim (λ p. p) (Never exclusions back) outcome tt tt never.says tt text })
   rest_decided_is (Open back) outcome kept best never left text =
       held_is outcome (record { past = left.past; is = left.is; says = decided_is names _ aim (λ p. p) (Open back) outcome tt tt tt left.says text })
-
--- a first bad line is a fault of the audit
-audit_of : (p : PlannedShop) (lines : List (List ℕ)) (fault : AuditFault) → IsFirstBad p lines fault → IsAuditFault p lines fault
-audit_of p lines WantOfRoom is = tt
-audit_of p lines (BadLine n) is = is
-audit_of p lines (NotExpected n) is = is
-audit_of p lines (Backwards n) is = is
-audit_of p lines (NotReady n) is = is
-audit_of p lines (Occupied n) is = is
-audit_of p lines (NotClean n) is = is
-audit_of p lines (OutOfOrder n) is = is
-audit_of p lines (WrongPlace n) is = is
-
--- a moment that is past is one that is given
-past_given : (at : Option ℕ) (last moment : ℕ) → IsMomentFault at last (EarlierMoment moment) → (present_of at last < last) × (moment ≡ last)
-past_given None last moment is = absurd is
-past_given (Some n) last moment is = is
-
--- a moment within the limit isn't too large
-never_large : (at : Option ℕ) (last : ℕ) → IfSome at (λ n. n ≤ MAX_MOMENT) → IsMomentFault at last MomentTooLarge → ⊥
-never_large None last early is = is
-never_large (Some n) last early is = omega (arith, is.1, early)
 
 -- why nothing is decided can be said
 pub rest_is_answerable : (at : Option ℕ) (lines : List (List ℕ)) (start : PlannedShop) (aim : Aim) (fault : DecideFault) → IfSome at (λ n. n ≤ MAX_MOMENT) → IsDecideRestFault lines at start aim fault → IsAnswerable aim fault
 rest_is_answerable at lines start Promises JobOutOfRange early is = is tt
 rest_is_answerable at lines start (Least Makespan) JobOutOfRange early is = is tt
 rest_is_answerable at lines start (Least (Leaving j)) JobOutOfRange early is = tt
-rest_is_answerable at lines start aim (LogFault fault) early is = tt
-rest_is_answerable at lines start aim (EarlierMoment last) early is = tt
-rest_is_answerable at lines start aim MomentTooLarge early is = never_large at is.1.0.last early is.1.2
+rest_is_answerable at lines start aim (Run fault) early is = has_line at lines start early fault is.1
 rest_is_answerable at lines start aim OutOfMemory early is = tt
 
 module _ (names : NameBook) (at : Option ℕ) (lines : List (List ℕ)) (start : PlannedShop) where
@@ -100,14 +70,11 @@ module _ (names : NameBook) (at : Option ℕ) (lines : List (List ℕ)) (start :
 
   pub rest_undecided_is : (aim : Aim) (fault : DecideFault) (outcome : Result Answer CommandFault) → IfSome at (λ n. n ≤ MAX_MOMENT) → IsDecideRestFault lines at start aim fault → IsUndecidedAnswer aim fault outcome
       → IsRestDecisionAnswer names at lines start aim outcome
-  rest_undecided_is Promises JobOutOfRange outcome early why told = absurd (why tt)
-  rest_undecided_is (Least Makespan) JobOutOfRange outcome early why told = absurd (why tt)
-  rest_undecided_is (Least (Leaving j)) JobOutOfRange outcome early why told =
-      line_is (Least (Leaving j)) _ outcome (λ answer line. inr (inl (record { job = j; aims = refl; outside = outside j (job_count (whole_case start)) why; line = line.0; refused = line.1 }))) told
-  rest_undecided_is aim (LogFault fault) outcome early why told =
-      line_is aim (IsLogRefused start lines) outcome (λ answer line. inr (inr (inl line))) (refused_log start lines (IsLogRefused start lines) (λ answer line. line) fault outcome (audit_of start lines fault why.1) told)
-  rest_undecided_is aim (EarlierMoment last) outcome early why told =
-      let before = past_given at why.1.0.last last why.1.2 in
-      line_is aim _ outcome (λ answer line. inr (inr (inr (record { cell = why.1.0; run = why.1.1; before = before.0; line = subst (λ n. IsPastLine n answer) before.1 line })))) told
-  rest_undecided_is aim MomentTooLarge outcome early why told = absurd (never_large at why.1.0.last early why.1.2)
-  rest_undecided_is aim OutOfMemory outcome early why told = subst (IsRestDecisionAnswer names at lines start aim) (sym told) tt
+  rest_undecided_is Promises JobOutOfRange outcome early why answered = absurd (why tt)
+  rest_undecided_is (Least Makespan) JobOutOfRange outcome early why answered = absurd (why tt)
+  rest_undecided_is (Least (Leaving j)) JobOutOfRange outcome early why answered =
+      line_is (Least (Leaving j)) _ outcome (λ answer line. inr (inl (record { job = j; aims = refl; outside = outside j (job_count (whole_case start)) why; line = line.0; refused = line.1 }))) answered
+  rest_undecided_is aim (Run fault) outcome early why answered =
+      line_is aim _ outcome (λ answer line. line)
+      (run_fault_is at lines start early (IsRestDecisionText names at lines start aim) fault outcome (λ answer line. inr (inr (inl line))) (λ answer line. inr (inr (inr line))) why.1 answered)
+  rest_undecided_is aim OutOfMemory outcome early why answered = subst (IsRestDecisionAnswer names at lines start aim) (sym answered) tt

@@ -10,9 +10,8 @@ use Rattle.std.specs.Prelude.{IfSome}
 use Rattle.alt_graph.specs.Evidence.{IsCycle}
 use Rattle.alt_graph.specs.Solved.{HasCycle}
 use Rattle.alt_graph.proofs.WholePlans.{cycle_has}
-use Rattle.run_log.specs.Audits.{ParseAsRun, IsFirstBad, IsAuditFault}
-use Rattle.run_log.specs.declared.audit_fault.AuditFault.{AuditFault}
-use Rattle.run_log.specs.declared.audit_fault.AuditFault.TheVariants.{BadLine, NotExpected, Backwards, NotReady, Occupied, NotClean, OutOfOrder, WrongPlace, Memory as LogMemory}
+use Rattle.run_log.specs.Audits.{ParseAsRun}
+use Rattle.run_log.specs.Present.{IsCellOf, present_of}
 use Rattle.plan_seek.specs.declared.search.TheConstants.{MAX_ROUNDS}
 use Rattle.plan_improve.specs.Settings.{rest_after}
 use Rattle.plan_improve.specs.Reordered.{IsReordered}
@@ -21,45 +20,26 @@ use Rattle.plan_verifier.specs.declared.verdict.Judged.TheVariants.{Accepted, Re
 use Rattle.plan_verifier.specs.declared.verdict.Why.TheVariants.{Cycle, Late}
 use Rattle.plan_verifier.specs.RestVerdicts.{IsAcceptableAhead, IsRestAccepted}
 use Rattle.plan_improve.specs.declared.improve_fault.ImproveFault.{ImproveFault}
-use Rattle.plan_improve.specs.declared.improve_fault.ImproveFault.TheVariants.{TooManyRounds, Log, Past, MomentTooLarge, Memory as OutOfMemory}
-use Rattle.plan_improve.specs.RestCosts.{IsCellOf}
-use Rattle.plan_improve.specs.Faults.{IsImproveRestFault, IsMomentFault}
-use Rattle.plan_improve.specs.Improved.{HasNoRestBegin, IsFound, IsNeverWorse, IsVerdictOn, present_of}
+use Rattle.plan_improve.specs.declared.improve_fault.ImproveFault.TheVariants.{TooManyRounds, Run, Memory as OutOfMemory}
+use Rattle.plan_improve.specs.Faults.{IsImproveRestFault}
+use Rattle.plan_improve.specs.Improved.{HasNoRestBegin, IsFound, IsNeverWorse, IsVerdictOn}
 use Rattle.command_answers.specs.declared.answer.Answer.{Answer}
 use Rattle.command_answers.specs.declared.command_fault.CommandFault.{CommandFault}
 use Rattle.command_answers.specs.declared.command_fault.CommandFault.TheVariants.{Instance, Plan, Names, Read, Write, InputTooLong, Log, LogInUse, Memory}
 use Rattle.command_answers.specs.Documents.{IsDocumentAnswer}
-use Rattle.command_answers.specs.LogLines.{IsLogRefused}
-use Rattle.command_answers.specs.Rests.{IsPastLine}
-use Rattle.command_answers.proofs.LogAnswers.{refused_log}
+use Rattle.command_answers.proofs.RunFaults.{has_line, run_fault_is}
 use Rattle.command_answers.specs.Steps.{IsOrMemory}
-use Rattle.command_answers.specs.ImprovingRests.{RestAsked, IsBestRest, IsRestStatus, IsRestAnswer, IsJudgedAnswer, IsUnfoundAnswer}
+use Rattle.command_answers.specs.ImprovingRests.{HasAnswer, RestAsked, IsBestRest, IsRestStatus, IsRestFound, IsRestAnswer, IsJudgedAnswer, IsUnfoundAnswer}
 
 -- the cell of lines that record a run
 cell_there : (lines : List (List ℕ)) (start : PlannedShop) → ParseAsRun start lines → (c : Cell) × IsCellOf lines start c
 cell_there lines start run = (ends_in start (events_of run.0), record { entries = run.0; parse = run.1; run = record { run = run.2; cell = refl } })
 
--- a first bad line is a fault of the audit
-audit_of : (p : PlannedShop) (lines : List (List ℕ)) (fault : AuditFault) → IsFirstBad p lines fault → IsAuditFault p lines fault
-audit_of p lines LogMemory is = tt
-audit_of p lines (BadLine n) is = is
-audit_of p lines (NotExpected n) is = is
-audit_of p lines (Backwards n) is = is
-audit_of p lines (NotReady n) is = is
-audit_of p lines (Occupied n) is = is
-audit_of p lines (NotClean n) is = is
-audit_of p lines (OutOfOrder n) is = is
-audit_of p lines (WrongPlace n) is = is
-
--- a moment that is past is one that is given
-past_given : (at : Option ℕ) (last moment : ℕ) → IsMomentFault at last (Past moment) → (present_of at last < last) × (moment ≡ last)
-past_given None last moment is = absurd is
-past_given (Some n) last moment is = is
-
--- a moment within the limit isn't too large
-never_large : (at : Option ℕ) (last : ℕ) → IfSome at (λ n. n ≤ MAX_MOMENT) → IsMomentFault at last MomentTooLarge → ⊥
-never_large None last early is = is
-never_large (Some n) last early is = omega (arith, is.1, early)
+-- there is an answer for why no plan is given
+pub unfound_answered : (at : Option ℕ) (rounds : ℕ) (lines : List (List ℕ)) (start : PlannedShop) (fault : ImproveFault) → IfSome at (λ n. n ≤ MAX_MOMENT) → IsImproveRestFault lines at rounds start fault → HasAnswer fault
+unfound_answered at rounds lines start TooManyRounds early why = tt
+unfound_answered at rounds lines start (Run fault) early why = has_line at lines start early fault why.1
+unfound_answered at rounds lines start OutOfMemory early why = tt
 
 module _ (made : RestAsked) (at : Option ℕ) (rounds : ℕ) (lines : List (List ℕ)) (start : PlannedShop) where
   -- the text of a plan whose rest was judged
@@ -146,17 +126,9 @@ module _ (made : RestAsked) (at : Option ℕ) (rounds : ℕ) (lines : List (List
   -- what is printed where no plan is given
   pub unfound_is : (fault : ImproveFault) (outcome : Result Answer CommandFault) → IfSome at (λ n. n ≤ MAX_MOMENT) → IsImproveRestFault lines at rounds start fault → IsUnfoundAnswer fault outcome
       → IsRestAnswer made at rounds lines start outcome
-  unfound_is TooManyRounds outcome early why told =
-      line_is _ outcome (λ answer line. inr (record { many_rounds = why; line = line.0; refused = line.1 })) told
-  unfound_is (Log fault) outcome early why told =
-      line_is (IsLogRefused start lines) outcome (λ answer line. inl (why.0, inr (inr (inl line)))) (refused_log start lines (IsLogRefused start lines) (λ answer line. line) fault outcome (audit_of start lines fault why.1) told)
-  unfound_is (Past last) outcome early why told =
-      let before = past_given at why.1.0.last last why.1.2 in
-      line_is _ outcome (λ answer line. inl (why.0, inr (inr (inr (record { cell = why.1.0; run = why.1.1; before = before.0; line = subst (λ n. IsPastLine n answer) before.1 line }))))) told
-  unfound_is MomentTooLarge outcome early why told = absurd (never_large at why.1.0.last early why.1.2)
-  unfound_is OutOfMemory outcome early why told = subst (IsRestAnswer made at rounds lines start) (sym told) tt
-
-  pub not_large : (fault : ImproveFault) → IfSome at (λ n. n ≤ MAX_MOMENT) → IsImproveRestFault lines at rounds start fault → fault ≡ MomentTooLarge → ⊥
-  not_large fault early why is =
-      let large : IsImproveRestFault lines at rounds start MomentTooLarge = subst (IsImproveRestFault lines at rounds start) is why in
-      never_large at large.1.0.last early large.1.2
+  unfound_is TooManyRounds outcome early why answered =
+      line_is _ outcome (λ answer line. inr (record { many_rounds = why; line = line.0; refused = line.1 })) answered
+  unfound_is (Run fault) outcome early why answered =
+      line_is (IsRestFound made at lines start) outcome (λ answer found. inl (why.0, found))
+      (run_fault_is at lines start early (IsRestFound made at lines start) fault outcome (λ answer line. inr (inr (inl line))) (λ answer line. inr (inr (inr line))) why.1 answered)
+  unfound_is OutOfMemory outcome early why answered = subst (IsRestAnswer made at rounds lines start) (sym answered) tt

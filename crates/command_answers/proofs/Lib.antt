@@ -5,6 +5,7 @@ pub mod ImproveLines
 pub mod LogAnswers
 pub mod RestAnswers
 pub mod RevisedAnswers
+pub mod RunFaults
 pub mod ImproveRestLines
 pub mod PictureAnswers
 pub mod CellPlans

@@ -16,12 +16,12 @@ module _ (p : PlannedShop) (lines : List (List ℕ)) (Is : Answer → Type 0) (a
   line_answered fault (Err wanting) first line = line
 
   pub refused_log : (fault : AuditFault) (outcome : Result Answer CommandFault) → IsAuditFault p lines fault → IsLogFaultAnswer fault outcome → IsOrMemory Is outcome
-  refused_log Memory outcome is told = rw told refl
-  refused_log (BadLine line) outcome is told = line_answered (BadLine line) outcome is told
-  refused_log (NotExpected line) outcome is told = line_answered (NotExpected line) outcome is told
-  refused_log (Backwards line) outcome is told = line_answered (Backwards line) outcome is told
-  refused_log (NotReady line) outcome is told = line_answered (NotReady line) outcome is told
-  refused_log (Occupied line) outcome is told = line_answered (Occupied line) outcome is told
-  refused_log (OutOfOrder line) outcome is told = line_answered (OutOfOrder line) outcome is told
-  refused_log (WrongPlace line) outcome is told = line_answered (WrongPlace line) outcome is told
-  refused_log (NotClean line) outcome is told = line_answered (NotClean line) outcome is told
+  refused_log Memory outcome is answered = rw answered refl
+  refused_log (BadLine line) outcome is answered = line_answered (BadLine line) outcome is answered
+  refused_log (NotExpected line) outcome is answered = line_answered (NotExpected line) outcome is answered
+  refused_log (Backwards line) outcome is answered = line_answered (Backwards line) outcome is answered
+  refused_log (NotReady line) outcome is answered = line_answered (NotReady line) outcome is answered
+  refused_log (Occupied line) outcome is answered = line_answered (Occupied line) outcome is answered
+  refused_log (OutOfOrder line) outcome is answered = line_answered (OutOfOrder line) outcome is answered
+  refused_log (WrongPlace line) outcome is answered = line_answered (WrongPlace line) outcome is answered
+  refused_log (NotClean line) outcome is answered = line_answered (NotClean line) outcome is answered

@@ -23,23 +23,23 @@ passed_memory P (Ok a) fault memory passed = absurd passed
 passed_memory P (Err answered) fault memory passed = passed ∙ memory
 
 -- an answer that passes on what a reader printed refuses by the fault that it had to print
-pub passed_instance : {A : Type 0} (answer : Result A CommandFault) (told fault : OrFault) → (told ≢ WantOfReader → told ≡ fault)
-    → IsErrAnd answer (λ passed. passed ≡ instance_command_fault told) → IsInstanceRefusal answer fault
-passed_instance (Ok a) told fault same passed = absurd passed
+pub passed_instance : {A : Type 0} (answer : Result A CommandFault) (reported fault : OrFault) → (reported ≢ WantOfReader → reported ≡ fault)
+    → IsErrAnd answer (λ passed. passed ≡ instance_command_fault reported) → IsInstanceRefusal answer fault
+passed_instance (Ok a) reported fault same passed = absurd passed
 passed_instance (Err answered) WantOfReader fault same passed = rw passed tt
-passed_instance (Err answered) told fault same passed = rw passed (same (λ memory. cc memory))
+passed_instance (Err answered) reported fault same passed = rw passed (same (λ memory. cc memory))
 
-pub passed_plan : {A : Type 0} (answer : Result A CommandFault) (told fault : PlanFault) → (told ≢ OutOfMemory → told ≡ fault)
-    → IsErrAnd answer (λ passed. passed ≡ plan_command_fault told) → IsPlanRefusal answer fault
-passed_plan (Ok a) told fault same passed = absurd passed
+pub passed_plan : {A : Type 0} (answer : Result A CommandFault) (reported fault : PlanFault) → (reported ≢ OutOfMemory → reported ≡ fault)
+    → IsErrAnd answer (λ passed. passed ≡ plan_command_fault reported) → IsPlanRefusal answer fault
+passed_plan (Ok a) reported fault same passed = absurd passed
 passed_plan (Err answered) OutOfMemory fault same passed = rw passed tt
-passed_plan (Err answered) told fault same passed = rw passed (same (λ memory. cc memory))
+passed_plan (Err answered) reported fault same passed = rw passed (same (λ memory. cc memory))
 
-pub passed_names : {A : Type 0} (answer : Result A CommandFault) (told fault : NamesFault) → (told ≢ WantOfNames → told ≡ fault)
-    → IsErrAnd answer (λ passed. passed ≡ names_command_fault told) → IsNamesRefusal answer fault
-passed_names (Ok a) told fault same passed = absurd passed
+pub passed_names : {A : Type 0} (answer : Result A CommandFault) (reported fault : NamesFault) → (reported ≢ WantOfNames → reported ≡ fault)
+    → IsErrAnd answer (λ passed. passed ≡ names_command_fault reported) → IsNamesRefusal answer fault
+passed_names (Ok a) reported fault same passed = absurd passed
 passed_names (Err answered) WantOfNames fault same passed = rw passed tt
-passed_names (Err answered) told fault same passed = rw passed (same (λ memory. cc memory))
+passed_names (Err answered) reported fault same passed = rw passed (same (λ memory. cc memory))
 
 -- what is said of a fault is said of an answer that passes it on
 pub at_fault : {A : Type 0} (P : Result A CommandFault → Type 0) (answer : Result A CommandFault) (fault : CommandFault) → IsErrAnd answer (λ passed. passed ≡ fault) → P (Err fault) → P answer

@@ -40,10 +40,10 @@ audit_drawn names p run sheet entries visits leavings lent late picture is same 
     same_picture names sheet (log_sheet p run) visits (drawn_visits p run.entries.items) late (late_leavings p (leavings_so_far (jobs p) run.entries.items)) picture is
     (are ∙ ap (drawn_visits p) same) (marks ∙ ap (late_leavings p) (lends ∙ left ∙ ap (leavings_so_far (jobs p)) same)) drawn
 
-module _ (names : NameBook) (p : PlannedShop) (c : Cell) (t : ℕ) (line : Option ℕ) (told : List DrawnVisit) where
+module _ (names : NameBook) (p : PlannedShop) (c : Cell) (t : ℕ) (line : Option ℕ) (visits : List DrawnVisit) where
   -- that of a run, by what is drawn of it
-  pub run_drawn : (q : PlannedShop) (run : DrawnRun) (sheet : Sheet) (lent : List (Option ℕ)) (late : List (Option LateLeaving)) (in_time : Bool) (picture : List ℕ) → q ≡ p → IsDrawnRun p c t told run
-      → sheet ≡ run_sheet q t line in_time run → lent ≡ run.leavings.items → late ≡ late_leavings q lent → IsPicture names sheet run.visits.items late picture → IsRunPicture names p c t line told in_time picture
+  pub run_drawn : (q : PlannedShop) (run : DrawnRun) (sheet : Sheet) (lent : List (Option ℕ)) (late : List (Option LateLeaving)) (in_time : Bool) (picture : List ℕ) → q ≡ p → IsDrawnRun p c t visits run
+      → sheet ≡ run_sheet q t line in_time run → lent ≡ run.leavings.items → late ≡ late_leavings q lent → IsPicture names sheet run.visits.items late picture → IsRunPicture names p c t line visits in_time picture
   run_drawn q run sheet lent late in_time picture plan is sheet_is lends marks drawn = record {
     run = run;
     is = is;
@@ -53,7 +53,7 @@ module _ (names : NameBook) (p : PlannedShop) (c : Cell) (t : ℕ) (line : Optio
   }
 
   -- the verdict is drawn
-  pub verdict_shown : {E : Type 0} (verdict : Judged) (came : Result Drawn E) → IsRestJudged p c t verdict → IfOk came (IsVerdictDrawn names p c t line told verdict) → IfOk came (IsRestDrawn names p c t line told)
+  pub verdict_shown : {E : Type 0} (verdict : Judged) (came : Result Drawn E) → IsRestJudged p c t verdict → IfOk came (IsVerdictDrawn names p c t line visits verdict) → IfOk came (IsRestDrawn names p c t line visits)
   verdict_shown verdict (Ok drawn) judged is = record { verdict = verdict; judged = judged; is = is }
   verdict_shown verdict (Err error) judged is = tt
 

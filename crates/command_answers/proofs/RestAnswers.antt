@@ -48,21 +48,21 @@ module _ {E : Type 0} (AnswersAt : PlannedShop → Cell → ℕ → Answer → T
   answer_rest = go answered
     where
       go : (r : Result Answer E) → c.last ≤ present_at at c → IfOk r (AnswersAt p c (present_at at c)) → IfOk r (IsCellAnswer AnswersAt at p c)
-      go (Ok answer) later told = inr (later, told)
-      go (Err error) later told = tt
+      go (Ok answer) later is = inr (later, is)
+      go (Err error) later is = tt
 
 -- what is printed of the cell at the end of the run that a log records
 pub of_run : (AnswersAt : PlannedShop → Cell → ℕ → Answer → Type 0) (at : Option ℕ) (p : PlannedShop) (log : List ℕ) (run : ParseAsRun p (ended_lines log)) (q : PlannedShop) (c : Cell) (answer : Answer)
     → q ≡ p → c ≡ ends_in p (events_of run.0) → IsCellAnswer AnswersAt at q c answer → IsLogAnswer AnswersAt at p log answer
-of_run AnswersAt at p log run q c answer plan cell told =
-    let at_end : IsCellAnswer AnswersAt at q (ends_in p (events_of run.0)) answer = subst (λ (d : Cell). IsCellAnswer AnswersAt at q d answer) cell told in
-    inl (record { run = run; told = subst (λ (x : PlannedShop). IsCellAnswer AnswersAt at x (ends_in p (events_of run.0)) answer) plan at_end })
+of_run AnswersAt at p log run q c answer plan cell answered =
+    let at_end : IsCellAnswer AnswersAt at q (ends_in p (events_of run.0)) answer = subst (λ (d : Cell). IsCellAnswer AnswersAt at q d answer) cell answered in
+    inl (record { run = run; answered = subst (λ (x : PlannedShop). IsCellAnswer AnswersAt at x (ends_in p (events_of run.0)) answer) plan at_end })
 
 -- so of an outcome
 pub outcome_of_run : (AnswersAt : PlannedShop → Cell → ℕ → Answer → Type 0) (at : Option ℕ) (p : PlannedShop) (log : List ℕ) (run : ParseAsRun p (ended_lines log)) (q : PlannedShop) (c : Cell) (outcome : Result Answer CommandFault)
     → q ≡ p → c ≡ ends_in p (events_of run.0) → IsOrMemory (IsCellAnswer AnswersAt at q c) outcome → IsOrMemory (IsLogAnswer AnswersAt at p log) outcome
-outcome_of_run AnswersAt at p log run q c (Ok answer) plan cell told = of_run AnswersAt at p log run q c answer plan cell told
-outcome_of_run AnswersAt at p log run q c (Err fault) plan cell told = told
+outcome_of_run AnswersAt at p log run q c (Ok answer) plan cell answered = of_run AnswersAt at p log run q c answer plan cell answered
+outcome_of_run AnswersAt at p log run q c (Err fault) plan cell answered = answered
 
 -- where no moves are given, and memory hasn't run out, the plan has a cycle
 pub no_moves : (p : PlannedShop) (c : Cell) (t : ℕ) (fault : RestFault) → IsNextMoment c t → IsRestFault p c t fault → moves_command_fault fault ≡ None → HasCycle p
@@ -89,15 +89,15 @@ low_cell AnswersAt low at p c answer (inr rest) = low p c _ answer rest.1
 
 low_log : (AnswersAt : PlannedShop → Cell → ℕ → Answer → Type 0) → ((q : PlannedShop) (d : Cell) (t : ℕ) (answer : Answer) → AnswersAt q d t answer → answer.status ≤ 1)
     → (at : Option ℕ) (p : PlannedShop) (log : List ℕ) (answer : Answer) → IsLogAnswer AnswersAt at p log answer → answer.status ≤ 1
-low_log AnswersAt low at p log answer (inl run) = low_cell AnswersAt low at p _ answer run.told
+low_log AnswersAt low at p log answer (inl run) = low_cell AnswersAt low at p _ answer run.answered
 low_log AnswersAt low at p log answer (inr refused) = (let one = refused.line.1 in omega (arith, one))
 
 -- the status of what is printed of the rest is 0 or 1
 pub low_rest : (names : NameBook) (wanted : PlanAnswer) (at : Option ℕ) (p : PlannedShop) (log : List ℕ) (answer : Answer) → IsRestLine names wanted at p log answer → answer.status ≤ 1
-low_rest names wanted = low_log (AnswersRest names wanted) (λ q d t answer told. low_verdict told.verdict answer.status told.status)
+low_rest names wanted = low_log (AnswersRest names wanted) (λ q d t answer answered. low_verdict answered.verdict answer.status answered.status)
 
 pub low_moves : (names : NameBook) (p : PlannedShop) (c : Cell) (t : ℕ) (answer : Answer) → IsMovesAnswer names p c t answer → answer.status ≤ 1
-low_moves names p c t answer told = low_verdict told.verdict answer.status told.status
+low_moves names p c t answer answered = low_verdict answered.verdict answer.status answered.status
 
 pub low_log_moves : (names : NameBook) (at : Option ℕ) (p : PlannedShop) (log : List ℕ) (answer : Answer) → AreMovesOfLog names at p log answer → answer.status ≤ 1
 low_log_moves names = low_log (IsMovesAnswer names) (low_moves names)

@@ -12,8 +12,8 @@ use Rattle.run_log.specs.Audits.{ParseAsRun}
 use Rattle.orlib_read.specs.declared.document.NotWritten.{NotWritten}
 use Rattle.orlib_read.specs.declared.document.NotWritten.TheVariants.{NotReadBack as NotRead, Memory as OutOfMemory}
 use Rattle.plan_revise.specs.declared.change.Change.{Change}
-use Rattle.plan_revise.specs.declared.change_fault.NotRevised.{NotRevised}
-use Rattle.plan_revise.specs.declared.change_fault.NotRevised.TheVariants.{Refused, Memory as NoMemory}
+use Rattle.plan_revise.specs.declared.change.NotRevised.{NotRevised}
+use Rattle.plan_revise.specs.declared.change.NotRevised.TheVariants.{Refused, Memory as NoMemory}
 use Rattle.plan_revise.specs.Revised.{IsReason}
 use Rattle.command_answers.specs.declared.answer.Answer.{Answer}
 use Rattle.command_answers.specs.declared.command_fault.CommandFault.{CommandFault}
@@ -27,28 +27,28 @@ use Rattle.command_answers.specs.Steps.{IsOrMemory}
 
 module _ (p : PlannedShop) (c : Cell) (t : ℕ) (changes : List Change) where
   -- its place is that of one of the changes
-  pub placed : (told : NotRevised) (why : Unrevised) → IsReason p c t changes told → why ≡ unrevised_of told → IsPlaced changes why
+  pub placed : (reason : NotRevised) (why : Unrevised) → IsReason p c t changes reason → why ≡ unrevised_of reason → IsPlaced changes why
   placed (Refused n fault) why is same = subst (IsPlaced changes) (sym same) (slice_get_within changes n is.first.change is.first.there)
   placed NoMemory why is same = subst (IsPlaced changes) (sym same) tt
 
   module _ (prints : Revised) (description : List ℕ) (values : List (List ℕ)) where
-    refused_at : (told : NotRevised) (outcome : Result Answer CommandFault) → IsReason p c t changes told → IsUnrevised changes values (unrevised_of told) outcome
+    refused_at : (reason : NotRevised) (outcome : Result Answer CommandFault) → IsReason p c t changes reason → IsUnrevised changes values (unrevised_of reason) outcome
         → IsOrMemory (IsChangeRefused prints description changes values p c t) outcome
     refused_at (Refused n fault) (Ok answer) is line = record { place = n; fault = fault; first = is; change = line.0; there = line.1; line = line.2.0; refused = line.2.1 }
     refused_at (Refused n fault) (Err wanting) is line = line.2
     refused_at NoMemory outcome is wanting = rw wanting refl
 
     -- what is answered where nothing is changed
-    pub refused_answered : (told : NotRevised) (why : Unrevised) (outcome : Result Answer CommandFault) → IsReason p c t changes told → why ≡ unrevised_of told → IsUnrevised changes values why outcome
+    pub refused_answered : (reason : NotRevised) (why : Unrevised) (outcome : Result Answer CommandFault) → IsReason p c t changes reason → why ≡ unrevised_of reason → IsUnrevised changes values why outcome
         → IsOrMemory (IsChangeRefused prints description changes values p c t) outcome
-    refused_answered told why outcome is same answered = refused_at told outcome is (subst (λ (x : Unrevised). IsUnrevised changes values x outcome) same answered)
+    refused_answered reason why outcome is same answered = refused_at reason outcome is (subst (λ (x : Unrevised). IsUnrevised changes values x outcome) same answered)
 
 -- what is answered of the cell at the end of the run that a log records
 pub of_run : (prints : Revised) (description : List ℕ) (at : Option ℕ) (changes : List Change) (values : List (List ℕ)) (p : PlannedShop) (log : List ℕ) (run : ParseAsRun p (ended_lines log))
     (q : PlannedShop) (c : Cell) (outcome : Result Answer CommandFault) → q ≡ p → c ≡ ends_in p (events_of run.0)
     → IsRevisedFrom prints description at changes values q c outcome → IsReviseAnswer prints description at changes values p log outcome
-of_run prints description at changes values p log run q c outcome plan cell told =
-    let at_end : IsRevisedFrom prints description at changes values q (ends_in p (events_of run.0)) outcome = subst (λ (d : Cell). IsRevisedFrom prints description at changes values q d outcome) cell told in
+of_run prints description at changes values p log run q c outcome plan cell answered =
+    let at_end : IsRevisedFrom prints description at changes values q (ends_in p (events_of run.0)) outcome = subst (λ (d : Cell). IsRevisedFrom prints description at changes values q d outcome) cell answered in
     inl (record { run = run; revised = subst (λ (x : PlannedShop). IsRevisedFrom prints description at changes values x (ends_in p (events_of run.0)) outcome) plan at_end })
 
 -- ---- the text of an instance
@@ -69,7 +69,7 @@ module _ (shop : JobShop) where
   undescribed description (Err LogInUse) unread is = is
 
   -- where none is written
-  pub unwritten : (told : NotWritten) (description : List ℕ) (fault : CommandFault) → fault ≡ unwritten_fault told → (told ≡ NotRead → IsUnread description shop × IsUnread [] shop)
+  pub unwritten : (reason : NotWritten) (description : List ℕ) (fault : CommandFault) → fault ≡ unwritten_fault reason → (reason ≡ NotRead → IsUnread description shop × IsUnread [] shop)
       → IsInstanceAnswer description shop (Err fault)
   unwritten OutOfMemory description fault same unread = rw same tt
   unwritten NotRead description fault same unread = (let both = unread refl in rw same (refl, both.0, both.1))

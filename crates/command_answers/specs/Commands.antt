@@ -45,7 +45,7 @@ use Rattle.command_answers.specs.declared.revises.Revised.{Revised}
 use Rattle.command_answers.specs.Revising.{IsReviseAnswer}
 
 -- the file of an instance, the instance's name where that is a collection, and the file of a plan for it
-pub record PairOfFiles : Type 0 where
+pub record InputPaths : Type 0 where
   pub path : List ℕ
   pub name : Option (List ℕ)
   pub plan : List ℕ
@@ -60,11 +60,11 @@ module _ {W : Type 0} (gives : W → List ℕ → Result (List ℕ) CommandFault
   ReadsPlan path = Then (Asks gives path) (λ text. Concludes (IsPlanRead text))
 
   -- both are read, the instance before the plan is asked for
-  abbrev pub ReadsBoth : PairOfFiles → W → Result PlannedShop CommandFault → W → Type 0
+  abbrev pub ReadsBoth : InputPaths → W → Result PlannedShop CommandFault → W → Type 0
   ReadsBoth pair = Then (ReadsInstance pair.path pair.name) (λ named. Then (ReadsPlan pair.plan) (λ plan. Concludes (λ read. read ≡ Ok (record { shop = named.shop; plan = plan }))))
 
   -- both are read, and then there is this step
-  abbrev pub WithBoth : {B : Type 0} → PairOfFiles → (PlannedShop → W → Result B CommandFault → W → Type 0) → W → Result B CommandFault → W → Type 0
+  abbrev pub WithBoth : {B : Type 0} → InputPaths → (PlannedShop → W → Result B CommandFault → W → Type 0) → W → Result B CommandFault → W → Type 0
   WithBoth pair = Then (ReadsBoth pair)
 
   -- `facts`: the file of the instance is asked for, and its facts are answered
@@ -72,15 +72,15 @@ module _ {W : Type 0} (gives : W → List ℕ → Result (List ℕ) CommandFault
   RunsFacts path name = Then (Asks gives path) (λ text. Concludes (AreFactsAnswered text name))
 
   -- `shape`: both are read, and whether the plan is well shaped is answered
-  abbrev pub RunsShape : PairOfFiles → W → Result Answer CommandFault → W → Type 0
+  abbrev pub RunsShape : InputPaths → W → Result Answer CommandFault → W → Type 0
   RunsShape pair = WithBoth pair (λ p. Concludes (IsOrMemory (IsShapeLine p)))
 
   -- `digest`: both are read, and the digits of a well-shaped plan and its shop are answered
-  abbrev pub RunsDigest : PairOfFiles → W → Result Answer CommandFault → W → Type 0
+  abbrev pub RunsDigest : InputPaths → W → Result Answer CommandFault → W → Type 0
   RunsDigest pair = WithBoth pair (λ p. Concludes (IsOrMemory (IsDigestAnswer p)))
 
   -- `check`: both are read, and the verdict is answered
-  abbrev pub RunsCheck : PairOfFiles → W → Result Answer CommandFault → W → Type 0
+  abbrev pub RunsCheck : InputPaths → W → Result Answer CommandFault → W → Type 0
   RunsCheck pair = WithBoth pair (λ p. Concludes (IsOrMemory (IsCheckLine p)))
 
   -- where a plan is well shaped there is this step; else its first fault is answered
@@ -101,15 +101,15 @@ module _ {W : Type 0} (gives : W → List ℕ → Result (List ℕ) CommandFault
   WithNamesAndLog names path p IsLine = Then (ReadsNames gives names p) (λ book. Then (Asks gives path) (λ log. Concludes (IsOrMemory (IsLine book log))))
 
   -- `explain`: both are read, then the names, and the verdict is explained
-  abbrev pub RunsExplain : PairOfFiles → Option (List ℕ) → Option ℕ → W → Result Answer CommandFault → W → Type 0
-  RunsExplain pair names told = WithBoth pair (λ p. IfShaped p (IfThere told p (WithNames names p (λ book. IsOrMemory (IsPlanExplained book told p)))))
+  abbrev pub RunsExplain : InputPaths → Option (List ℕ) → Option ℕ → W → Result Answer CommandFault → W → Type 0
+  RunsExplain pair names job = WithBoth pair (λ p. IfShaped p (IfThere job p (WithNames names p (λ book. IsOrMemory (IsPlanExplained book job p)))))
 
   -- `schedule`: both are read, then the names, and the plan's schedule is printed
-  abbrev pub RunsSchedule : PairOfFiles → Option (List ℕ) → W → Result Answer CommandFault → W → Type 0
+  abbrev pub RunsSchedule : InputPaths → Option (List ℕ) → W → Result Answer CommandFault → W → Type 0
   RunsSchedule pair names = WithBoth pair (λ p. IfShaped p (WithNames names p (λ book. IsOrMemory (IsPlanScheduled book p))))
 
   -- `schedule --moves`: both are read, then the names, and the moves of the plan are printed
-  abbrev pub RunsMoves : PairOfFiles → Option (List ℕ) → W → Result Answer CommandFault → W → Type 0
+  abbrev pub RunsMoves : InputPaths → Option (List ℕ) → W → Result Answer CommandFault → W → Type 0
   RunsMoves pair names = WithBoth pair (λ p. IfShaped p (WithNames names p (λ book. IsOrMemory (AreMovesOfPlan book p))))
 
   -- where the numbers of a plan are sound, whatever its orders, there is this step; else their first fault is answered
@@ -121,35 +121,35 @@ module _ {W : Type 0} (gives : W → List ℕ → Result (List ℕ) CommandFault
   WithSoundNames Comes names p = IfSound p (WithNames names (serially p) Comes)
 
   -- `bounds`: both are read, then the names, and what no plan can do with these numbers is printed
-  abbrev pub RunsBounds : PairOfFiles → Option (List ℕ) → W → Result Answer CommandFault → W → Type 0
+  abbrev pub RunsBounds : InputPaths → Option (List ℕ) → W → Result Answer CommandFault → W → Type 0
   RunsBounds pair names = WithBoth pair (λ p. WithSoundNames (λ book. IsOrMemory (AreBoundLines book (times_of p) p.plan.budget)) names p)
 
   -- `margin`: both are read, then the names, and how much longer everything may take is printed
-  abbrev pub RunsMargin : PairOfFiles → Option (List ℕ) → W → Result Answer CommandFault → W → Type 0
+  abbrev pub RunsMargin : InputPaths → Option (List ℕ) → W → Result Answer CommandFault → W → Type 0
   RunsMargin pair names = WithBoth pair (λ p. IfShaped p (WithNames names p (λ book. IsOrMemory (IsMarginAnswer book p))))
 
   -- both are read, and what is to be said of the plan is found
-  abbrev pub Loads : PairOfFiles → W → Result Loaded CommandFault → W → Type 0
+  abbrev pub Loads : InputPaths → W → Result Loaded CommandFault → W → Type 0
   Loads pair = WithBoth pair (λ p. Concludes (IsOrMemory (IsLoaded p)))
 
   -- both are read, and it is found whether the plan is well shaped
-  abbrev pub Shapes : PairOfFiles → W → Result (Result PlannedShop ShapeFault) CommandFault → W → Type 0
+  abbrev pub Shapes : InputPaths → W → Result (Result PlannedShop ShapeFault) CommandFault → W → Type 0
   Shapes pair = WithBoth pair (λ p. Concludes (IsOrMemory (IsShapedOrNot p)))
 
   -- `plan`: both are read, and the search for a plan with these numbers is answered
-  abbrev pub RunsPlan : (PlanTask → PlanSearch) → ℕ → PairOfFiles → W → Result Answer CommandFault → W → Type 0
+  abbrev pub RunsPlan : (PlanTask → PlanSearch) → ℕ → InputPaths → W → Result Answer CommandFault → W → Type 0
   RunsPlan search rounds pair = WithBoth pair (λ p. Concludes (IsSearchAnswer (search (task_in p)) rounds))
 
   -- the same with these proposers, by what each of them may propose
-  abbrev pub RunsPlanWith : {B : Type 0} → (B → JobShop → ℕ → Proposal → Type 0) → List B → ℕ → PairOfFiles → W → Result Answer CommandFault → W → Type 0
+  abbrev pub RunsPlanWith : {B : Type 0} → (B → JobShop → ℕ → Proposal → Type 0) → List B → ℕ → InputPaths → W → Result Answer CommandFault → W → Type 0
   RunsPlanWith may proposers = RunsPlan (search_by may proposers)
 
   -- `improve`: both are read, and what the search from this plan comes to is answered, or from the serial plan where it has no orders at all
-  abbrev pub RunsImprove : Asked → ℕ → PairOfFiles → W → Result Answer CommandFault → W → Type 0
+  abbrev pub RunsImprove : Asked → ℕ → InputPaths → W → Result Answer CommandFault → W → Type 0
   RunsImprove made rounds pair = WithBoth pair (λ p. Concludes (IsImproveAnswer made rounds (ordered p)))
 
   -- `decide`: both are read, then the names, and what is decided of the plan's budgets is answered
-  abbrev pub RunsDecide : Aim → PairOfFiles → Option (List ℕ) → W → Result Answer CommandFault → W → Type 0
+  abbrev pub RunsDecide : Aim → InputPaths → Option (List ℕ) → W → Result Answer CommandFault → W → Type 0
   RunsDecide aim pair names = WithBoth pair (λ p. WithSoundNames (λ book. IsDecisionAnswer book (whole_case p) aim) names p)
 
   -- the log of a well-shaped plan is asked for, and then this comes of it; any other plan is answered by its first fault
@@ -157,27 +157,27 @@ module _ {W : Type 0} (gives : W → List ℕ → Result (List ℕ) CommandFault
   WithLogOf Comes path p = IfShaped p (Then (Asks gives path) (λ log. Concludes (Comes p log)))
 
   -- `audit` and `gantt`: both are read, then the names, and then the log
-  abbrev pub RunsLog : LogAnswer → PairOfFiles → Option (List ℕ) → List ℕ → W → Result Answer CommandFault → W → Type 0
+  abbrev pub RunsLog : LogAnswer → InputPaths → Option (List ℕ) → List ℕ → W → Result Answer CommandFault → W → Type 0
   RunsLog wanted pair names log = WithBoth pair (λ p. IfShaped p (WithNamesAndLog names log p (λ book. IsLogLine book wanted p)))
 
   -- `check`, `explain` and `schedule` of the rest of a run: both are read, then the names, and then its log
-  abbrev pub RunsRest : PlanAnswer → Option ℕ → PairOfFiles → Option (List ℕ) → List ℕ → W → Result Answer CommandFault → W → Type 0
+  abbrev pub RunsRest : PlanAnswer → Option ℕ → InputPaths → Option (List ℕ) → List ℕ → W → Result Answer CommandFault → W → Type 0
   RunsRest wanted at pair names log =
       WithBoth pair (λ p. IfShaped p (IfThere (job_asked wanted) p (WithNamesAndLog names log p (λ book. IsRestLine book wanted at p))))
 
   -- what is answered of the plan, by names where it isn't its verdict alone
-  abbrev pub RunsOfPlan : PlanAnswer → PairOfFiles → Option (List ℕ) → W → Result Answer CommandFault → W → Type 0
+  abbrev pub RunsOfPlan : PlanAnswer → InputPaths → Option (List ℕ) → W → Result Answer CommandFault → W → Type 0
   RunsOfPlan Verdict pair names = RunsCheck pair
   RunsOfPlan (Reasons job) pair names = RunsExplain pair names job
   RunsOfPlan Moments pair names = RunsSchedule pair names
 
   -- what is answered of the plan, or of the rest of the run in a log, if there is one
-  abbrev pub RunsPlanAnswer : PlanAnswer → Option ℕ → PairOfFiles → Option (List ℕ) → Option (List ℕ) → W → Result Answer CommandFault → W → Type 0
+  abbrev pub RunsPlanAnswer : PlanAnswer → Option ℕ → InputPaths → Option (List ℕ) → Option (List ℕ) → W → Result Answer CommandFault → W → Type 0
   RunsPlanAnswer wanted at pair names None = RunsOfPlan wanted pair names
   RunsPlanAnswer wanted at pair names (Some log) = RunsRest wanted at pair names log
 
   -- `schedule --moves` of the rest of a run: both are read, then the names, and then its log
-  abbrev pub RunsRestMoves : Option ℕ → PairOfFiles → Option (List ℕ) → List ℕ → W → Result Answer CommandFault → W → Type 0
+  abbrev pub RunsRestMoves : Option ℕ → InputPaths → Option (List ℕ) → List ℕ → W → Result Answer CommandFault → W → Type 0
   RunsRestMoves at pair names log = WithBoth pair (λ p. IfShaped p (WithNamesAndLog names log p (λ book. AreMovesOfLog book at p)))
 
   -- `improve` of the rest of a run: both are read, then its log where the plan is well shaped, and what the search from this plan comes to is answered, or from the serial plan where it has no orders at all
@@ -190,14 +190,14 @@ module _ {W : Type 0} (gives : W → List ℕ → Result (List ℕ) CommandFault
       (IsWellShaped p × Then (ReadsNames gives names p) (λ book. Then (Asks gives path) (λ log. Concludes (IsRestDecisionAnswer book at (ended_lines log) p aim))) before outcome after)
       ⊎ Concludes (IsOrMemory (IsUnfitLine p)) before outcome after
 
-  abbrev pub RunsDecideRest : Aim → Option ℕ → PairOfFiles → Option (List ℕ) → List ℕ → W → Result Answer CommandFault → W → Type 0
+  abbrev pub RunsDecideRest : Aim → Option ℕ → InputPaths → Option (List ℕ) → List ℕ → W → Result Answer CommandFault → W → Type 0
   RunsDecideRest aim at pair names log = WithBoth pair (λ p. WithRestDecision aim at names log (ordered p))
 
-  abbrev pub RunsImproveRest : RestAsked → Option ℕ → ℕ → PairOfFiles → List ℕ → W → Result Answer CommandFault → W → Type 0
+  abbrev pub RunsImproveRest : RestAsked → Option ℕ → ℕ → InputPaths → List ℕ → W → Result Answer CommandFault → W → Type 0
   RunsImproveRest made at rounds pair log = WithBoth pair (λ p. WithRest made at rounds log (ordered p))
 
   -- `revise`: both are read, then the log where the plan is well shaped, and what the changes make of them is answered
-  abbrev pub RunsRevise : Revised → Option ℕ → List Change → List (List ℕ) → PairOfFiles → List ℕ → W → Result Answer CommandFault → W → Type 0
+  abbrev pub RunsRevise : Revised → Option ℕ → List Change → List (List ℕ) → InputPaths → List ℕ → W → Result Answer CommandFault → W → Type 0
   RunsRevise prints at changes values pair log =
       Then (ReadsInstance pair.path pair.name) (λ named. Then (ReadsPlan pair.plan)
       (λ plan. WithLogOf (λ p. IsReviseAnswer prints named.description.items at changes values p) log (record { shop = named.shop; plan = plan })))

@@ -9,7 +9,7 @@ use Rattle.plan_decide.specs.declared.aim.Aim.{Aim}
 use Rattle.plan_decide.specs.declared.aim.Aim.TheVariants.{Promises, Least}
 use Rattle.plan_decide.specs.declared.aim.Objective.TheVariants.{Makespan, Leaving}
 use Rattle.plan_decide.specs.declared.decide_fault.DecideFault.{DecideFault}
-use Rattle.plan_decide.specs.declared.decide_fault.DecideFault.TheVariants.{JobOutOfRange, Log, Past, MomentTooLarge, Memory as OutOfMemory}
+use Rattle.plan_decide.specs.declared.decide_fault.DecideFault.TheVariants.{JobOutOfRange, Run, Memory as OutOfMemory}
 use Rattle.plan_decide.specs.declared.decided.Decided.{Decided}
 use Rattle.plan_decide.specs.declared.decided.Decided.TheVariants.{Kept, Best, Never, Open}
 use Rattle.plan_decide.specs.declared.decided.Within.{Within}
@@ -24,8 +24,7 @@ use Rattle.command_answers.specs.declared.command_fault.CommandFault.TheVariants
 use Rattle.command_answers.specs.AskedJobs.{no_job_line}
 use Rattle.command_answers.specs.DecisionLines.{never_lines, within_line}
 use Rattle.command_answers.specs.Documents.{IsDocumentOf, IsDocumentAnswer, IsHeadedBy, IsHeadedAnswer}
-use Rattle.command_answers.specs.LogLines.{IsLogFaultAnswer, IsLogRefused}
-use Rattle.command_answers.specs.Rests.{IsPastLine}
+use Rattle.command_answers.specs.Rests.{HasLine, IsRunFaultAnswer}
 use Rattle.command_answers.specs.Steps.{IsOrMemory}
 
 -- the text of an accepted plan that keeps all budgets
@@ -106,8 +105,8 @@ AsksForJob (Least (Leaving j)) = Unit {0}
 -- that the job isn't of the shop is printed only of one that is asked for
 abbrev pub IsAnswerable : Aim → DecideFault → Type 0
 IsAnswerable aim JobOutOfRange = AsksForJob aim
-IsAnswerable aim MomentTooLarge = ⊥
-IsAnswerable aim fault = Unit {0}
+IsAnswerable aim (Run fault) = HasLine fault
+IsAnswerable aim OutOfMemory = Unit {0}
 
 -- `bad numbers JobOutOfRange job J`
 abbrev pub out_of_range_line : Aim → List ℕ
@@ -118,7 +117,5 @@ out_of_range_line (Least (Leaving j)) = no_job_line j
 -- what is answered where nothing is decided: the line of a job that isn't of the shop, of the log's first fault, or of a moment that is past; or that memory ran out
 abbrev pub IsUndecidedAnswer : Aim → DecideFault → Result Answer CommandFault → Type 0
 IsUndecidedAnswer aim JobOutOfRange outcome = IsOrMemory (IsLineRefused (out_of_range_line aim)) outcome
-IsUndecidedAnswer aim (Log fault) outcome = IsLogFaultAnswer fault outcome
-IsUndecidedAnswer aim (Past last) outcome = IsOrMemory (IsPastLine last) outcome
-IsUndecidedAnswer aim MomentTooLarge outcome = Unit {0}
+IsUndecidedAnswer aim (Run fault) outcome = IsRunFaultAnswer fault outcome
 IsUndecidedAnswer aim OutOfMemory outcome = outcome ≡ Err Memory

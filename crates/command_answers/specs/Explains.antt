@@ -12,15 +12,15 @@ use Rattle.command_answers.specs.Shapes.{IsNotShapedLine, IsRefusedLine}
 use Rattle.command_answers.specs.Checks.{IsJudged, verdict_status}
 
 -- the explanation of a verdict, with its status, and with the chain of the job that is printed, if there is one
-pub record IsVerdictExplained (names : NameBook) (told : Option ℕ) (verdict : Verdict) (answer : Answer) : Type 0 where
-  pub text : IsExplained names told verdict answer.text.items
+pub record IsVerdictExplained (names : NameBook) (job : Option ℕ) (verdict : Verdict) (answer : Answer) : Type 0 where
+  pub text : IsExplained names job verdict answer.text.items
   pub status : answer.status ≡ verdict_status verdict
 
 -- the explanation of the verdict on a plan
-pub record IsPlanExplained (names : NameBook) (told : Option ℕ) (p : PlannedShop) (answer : Answer) : Type 0 where
+pub record IsPlanExplained (names : NameBook) (job : Option ℕ) (p : PlannedShop) (answer : Answer) : Type 0 where
   pub verdict : Verdict
   pub judged : IsJudged p verdict
-  pub explained : IsVerdictExplained names told verdict answer
+  pub explained : IsVerdictExplained names job verdict answer
 
 -- why a plan is accepted or refused, without names: the line of the first fault of its shape, or the explanation of the verdict on it
 abbrev pub IsExplanation : PlannedShop → Answer → Type 0

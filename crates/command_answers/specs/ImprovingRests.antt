@@ -6,7 +6,7 @@ use Rattle.shop_base.specs.Cell.{Cell}
 use Rattle.shop_base.specs.Report.{IsNextMoment}
 use Rattle.alt_graph.specs.Evidence.{IsCycle}
 use Rattle.alt_graph.specs.Solved.{HasCycle}
-use Rattle.run_log.specs.Audits.{ParseAsRun}
+use Rattle.run_log.specs.{Audits.ParseAsRun, Present.IsCellOf, Present.present_of}
 use Rattle.plan_text.specs.declared.plan_fault.PlanFault.TheVariants.{NotReadBack}
 use Rattle.plan_text.specs.Lines.{plan_lines}
 use Rattle.plan_text.specs.Documents.{IsPlanText}
@@ -21,16 +21,15 @@ use Rattle.plan_verifier.specs.declared.verdict.Judged.TheVariants.{Accepted, Re
 use Rattle.plan_verifier.specs.declared.verdict.Why.TheVariants.{Cycle, Late}
 use Rattle.plan_verifier.specs.RestVerdicts.{IsAcceptableAhead}
 use Rattle.plan_improve.specs.declared.improve_fault.ImproveFault.{ImproveFault}
-use Rattle.plan_improve.specs.declared.improve_fault.ImproveFault.TheVariants.{TooManyRounds, Log, Past, MomentTooLarge, Memory as OutOfMemory}
-use Rattle.plan_improve.specs.RestCosts.{IsCellOf}
-use Rattle.plan_improve.specs.Improved.{HasNoRestBegin, IsFound, IsNeverWorse, present_of}
+use Rattle.plan_improve.specs.declared.improve_fault.ImproveFault.TheVariants.{TooManyRounds, Run, Memory as OutOfMemory}
+use Rattle.plan_improve.specs.Improved.{HasNoRestBegin, IsFound, IsNeverWorse}
 use Rattle.command_answers.specs.declared.answer.Answer.{Answer}
 use Rattle.command_answers.specs.declared.command_fault.CommandFault.{CommandFault}
 use Rattle.command_answers.specs.declared.command_fault.CommandFault.TheVariants.{Plan, Memory}
 use Rattle.command_answers.specs.Documents.{IsDocumentOf, IsDocumentAnswer}
 use Rattle.command_answers.specs.Improving.{IsTooManyLine}
-use Rattle.command_answers.specs.LogLines.{IsLogFaultAnswer, IsLogRefused}
-use Rattle.command_answers.specs.Rests.{IsPastLine}
+use Rattle.command_answers.specs.LogLines.{IsLogRefused}
+use Rattle.command_answers.specs.Rests.{IsPastLine, HasLine, IsRunFaultAnswer}
 use Rattle.command_answers.specs.Steps.{IsOrMemory}
 
 -- what plans a search makes of one, for the rest of the run that these lines record, from a present moment on
@@ -118,10 +117,13 @@ abbrev pub improve_command_fault : ImproveFault → Option CommandFault
 improve_command_fault OutOfMemory = Some Memory
 improve_command_fault fault = None
 
+-- there is an answer for the fault
+abbrev pub HasAnswer : ImproveFault → Type 0
+HasAnswer (Run fault) = HasLine fault
+HasAnswer fault = Unit {0}
+
 -- what is answered where no plan is given
 abbrev pub IsUnfoundAnswer : ImproveFault → Result Answer CommandFault → Type 0
 IsUnfoundAnswer TooManyRounds outcome = IsOrMemory (λ answer. (answer.text.items ≡ codes "too many rounds\n") × (answer.status ≡ 1)) outcome
-IsUnfoundAnswer (Log fault) outcome = IsLogFaultAnswer fault outcome
-IsUnfoundAnswer (Past last) outcome = IsOrMemory (IsPastLine last) outcome
-IsUnfoundAnswer MomentTooLarge outcome = Unit {0}
+IsUnfoundAnswer (Run fault) outcome = IsRunFaultAnswer fault outcome
 IsUnfoundAnswer OutOfMemory outcome = outcome ≡ Err Memory

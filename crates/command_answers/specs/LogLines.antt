@@ -41,7 +41,7 @@ IsRunAnswer names wanted p run answer = (answer.text.items ≡ run_text names wa
 pub record IsLogKept (names : NameBook) (wanted : LogAnswer) (p : PlannedShop) (log : List ℕ) (answer : Answer) : Type 0 where
   pub run : Audit
   pub is : IsAudit p (lines_of log) run
-  pub told : IsRunAnswer names wanted p run answer
+  pub answered : IsRunAnswer names wanted p run answer
 
 -- the line of a fault
 abbrev pub IsFaultLine : AuditFault → Answer → Type 0

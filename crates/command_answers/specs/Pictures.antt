@@ -33,7 +33,7 @@ use Rattle.command_answers.specs.Steps.{Concludes, IsOrMemory}
 use Rattle.command_answers.specs.Shapes.{IsNotShapedLine}
 use Rattle.command_answers.specs.LogLines.{IsLogRefused}
 use Rattle.command_answers.specs.Rests.{IsPastLine, present_at}
-use Rattle.command_answers.specs.Commands.{PairOfFiles, WithBoth, WithNames, WithNamesAndLog}
+use Rattle.command_answers.specs.Commands.{InputPaths, WithBoth, WithNames, WithNamesAndLog}
 
 -- nothing is drawn, but there is such a line
 abbrev pub IsLineAlone : (Answer → Type 0) → Drawn → Type 0
@@ -81,11 +81,11 @@ run_sheet p t line in_time run = record {
   present = line;
 }
 
-module _ (names : NameBook) (p : PlannedShop) (c : Cell) (t : ℕ) (line : Option ℕ) (told : List DrawnVisit) where
+module _ (names : NameBook) (p : PlannedShop) (c : Cell) (t : ℕ) (line : Option ℕ) (visits : List DrawnVisit) where
   -- the picture of the run that goes on from a cell c and the present moment t: the visits known so far and those ahead, and the jobs that leave or have left late marked
   pub record IsRunPicture (in_time : Bool) (picture : List ℕ) : Type 0 where
     pub run : DrawnRun
-    pub is : IsDrawnRun p c t told run
+    pub is : IsDrawnRun p c t visits run
     pub drawn : IsPicture names (run_sheet p t line in_time run) run.visits.items (late_leavings p run.leavings.items) picture
 
   -- what comes of a verdict: a picture with the verdict's status, but of a cycle the line of the verdict
@@ -135,13 +135,13 @@ IfDrawable p next before outcome after = (IsWellShaped p × next before outcome 
 
 module _ {W : Type 0} (gives : W → List ℕ → Result (List ℕ) CommandFault → W → Type 0) where
   -- `gantt --svg`: both are read, then the names, and then the log
-  abbrev pub DrawsLog : PairOfFiles → Option (List ℕ) → List ℕ → W → Result Drawn CommandFault → W → Type 0
+  abbrev pub DrawsLog : InputPaths → Option (List ℕ) → List ℕ → W → Result Drawn CommandFault → W → Type 0
   DrawsLog pair names log = WithBoth gives pair (λ p. IfDrawable p (WithNamesAndLog gives names log p (λ book. IsLogDrawn book p)))
 
   -- `schedule --svg`: both are read, then the names, and the plan's exact run is drawn
-  abbrev pub DrawsSchedule : PairOfFiles → Option (List ℕ) → W → Result Drawn CommandFault → W → Type 0
+  abbrev pub DrawsSchedule : InputPaths → Option (List ℕ) → W → Result Drawn CommandFault → W → Type 0
   DrawsSchedule pair names = WithBoth gives pair (λ p. IfDrawable p (WithNames gives names p (λ book. IsOrMemory (IsPlanDrawn book p))))
 
   -- `schedule --svg` of the rest of a run: both are read, then the names, and then its log
-  abbrev pub DrawsRest : Option ℕ → PairOfFiles → Option (List ℕ) → List ℕ → W → Result Drawn CommandFault → W → Type 0
+  abbrev pub DrawsRest : Option ℕ → InputPaths → Option (List ℕ) → List ℕ → W → Result Drawn CommandFault → W → Type 0
   DrawsRest at pair names log = WithBoth gives pair (λ p. IfDrawable p (WithNamesAndLog gives names log p (λ book. IsRestDrawing at book p)))

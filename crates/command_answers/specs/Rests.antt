@@ -1,11 +1,13 @@
 -- The answers of `check`, `explain` and `schedule` of the rest of a run.
-use Rattle.std.specs.Prelude.{◌≡◌, ℕ, ◌<◌, ◌≤◌, List, ◌++◌, ◌⊎◌, Option, None, codes, decimal, unwrap_or}
+use Rattle.std.specs.Prelude.{◌≡◌, ℕ, ◌<◌, ◌≤◌, List, ◌++◌, ◌⊎◌, Option, None, Result, codes, decimal, unwrap_or}
 use Rattle.shop_base.specs.Plan.{PlannedShop}
 use Rattle.shop_base.specs.Cell.{Cell}
 use Rattle.shop_base.specs.Run.{ends_in}
 use Rattle.text_lines.specs.Lines.{ended_lines}
 use Rattle.cell_tables.specs.Events.{events_of}
 use Rattle.run_log.specs.Audits.{ParseAsRun}
+use Rattle.run_log.specs.declared.present_run.RunFault.{RunFault}
+use Rattle.run_log.specs.declared.present_run.RunFault.TheVariants.{Log, Past, MomentTooLarge}
 use Rattle.plan_verifier.specs.declared.verdict.Judged.{Judged}
 use Rattle.plan_verifier.specs.declared.verdict.Judged.TheVariants.{Accepted, Refused}
 use Rattle.people_names.specs.NameBooks.{NameBook}
@@ -16,7 +18,9 @@ use Rattle.plan_schedule.specs.RestScheduled.{IsRestScheduled}
 use Rattle.command_answers.specs.declared.answer.Answer.{Answer}
 use Rattle.command_answers.specs.declared.rests.PlanAnswer.{PlanAnswer}
 use Rattle.command_answers.specs.declared.rests.PlanAnswer.TheVariants.{Verdict, Reasons, Moments}
-use Rattle.command_answers.specs.LogLines.{IsLogRefused}
+use Rattle.command_answers.specs.declared.command_fault.CommandFault.{CommandFault}
+use Rattle.command_answers.specs.LogLines.{IsLogFaultAnswer, IsLogRefused}
+use Rattle.command_answers.specs.Steps.{IsOrMemory}
 
 -- the status of a verdict on the rest
 abbrev pub rest_status : Judged → ℕ
@@ -26,13 +30,13 @@ rest_status (Refused why) = 1
 -- the job whose chain is asked for, if there is one
 abbrev pub job_asked : PlanAnswer → Option ℕ
 job_asked Verdict = None
-job_asked (Reasons told) = told
+job_asked (Reasons job) = job
 job_asked Moments = None
 
 -- the text of a verdict on the rest: its first line, its explanation or its schedule
 abbrev pub IsTextOf : NameBook → PlanAnswer → PlannedShop → Cell → ℕ → Judged → List ℕ → Type 0
 IsTextOf names Verdict p c t verdict text = IsRestFirstLine p c t verdict text
-IsTextOf names (Reasons told) p c t verdict text = IsRestExplained names told p c t verdict text
+IsTextOf names (Reasons job) p c t verdict text = IsRestExplained names job p c t verdict text
 IsTextOf names Moments p c t verdict text = IsRestScheduled names p c t verdict text
 
 -- what is printed of the rest from a cell c and a present moment t on: the text of the verdict on it, with its status
@@ -50,6 +54,17 @@ log_past_line last = codes "log past " ++ decimal last ++ codes "\n"
 abbrev pub IsPastLine : ℕ → Answer → Type 0
 IsPastLine last answer = (answer.text.items ≡ log_past_line last) × (answer.status ≡ 1)
 
+-- there is a line for the fault: the moment isn't past the latest
+abbrev pub HasLine : RunFault → Type 0
+HasLine MomentTooLarge = ⊥
+HasLine fault = Unit {0}
+
+-- what is answered where there is no run up to the present moment: the line of the log's first fault, or of a moment that is past
+abbrev pub IsRunFaultAnswer : RunFault → Result Answer CommandFault → Type 0
+IsRunFaultAnswer (Log fault) outcome = IsLogFaultAnswer fault outcome
+IsRunFaultAnswer (Past last) outcome = IsOrMemory (IsPastLine last) outcome
+IsRunFaultAnswer MomentTooLarge outcome = Unit {0}
+
 -- the present moment: the one that is given, or the last one of the run
 abbrev pub present_at : Option ℕ → Cell → ℕ
 present_at at c = unwrap_or at c.last
@@ -62,7 +77,7 @@ IsCellAnswer AnswersAt at p c answer =
 -- what is answered of a log whose whole lines record a run of the plan: that of the cell at its end
 pub record IsRestOfLog (AnswersAt : PlannedShop → Cell → ℕ → Answer → Type 0) (at : Option ℕ) (p : PlannedShop) (log : List ℕ) (answer : Answer) : Type 0 where
   pub run : ParseAsRun p (ended_lines log)
-  pub told : IsCellAnswer AnswersAt at p (ends_in p (events_of run.0)) answer
+  pub answered : IsCellAnswer AnswersAt at p (ends_in p (events_of run.0)) answer
 
 -- what is printed of a log: so, or the line of the first fault of its whole lines
 abbrev pub IsLogAnswer : (PlannedShop → Cell → ℕ → Answer → Type 0) → Option ℕ → PlannedShop → List ℕ → Answer → Type 0

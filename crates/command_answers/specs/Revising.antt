@@ -17,9 +17,9 @@ use Rattle.orlib_read.specs.declared.document.NotWritten.TheVariants.{NotReadBac
 use Rattle.plan_text.specs.declared.plan_fault.PlanFault.TheVariants.{NotReadBack}
 use Rattle.plan_revise.specs.declared.change.Change.{Change}
 use Rattle.plan_revise.specs.declared.change.Change.TheVariants.{Until, Add, Scrap, Down}
-use Rattle.plan_revise.specs.declared.change_fault.ChangeFault.{ChangeFault}
-use Rattle.plan_revise.specs.declared.change_fault.NotRevised.{NotRevised}
-use Rattle.plan_revise.specs.declared.change_fault.NotRevised.TheVariants.{Refused, Memory as NoMemory}
+use Rattle.plan_revise.specs.declared.change.ChangeFault.{ChangeFault}
+use Rattle.plan_revise.specs.declared.change.NotRevised.{NotRevised}
+use Rattle.plan_revise.specs.declared.change.NotRevised.TheVariants.{Refused, Memory as NoMemory}
 use Rattle.plan_revise.specs.Names.{fault_name}
 use Rattle.plan_revise.specs.Revised.{IsRevised, IsRefusedAt}
 use Rattle.command_answers.specs.declared.answer.Answer.{Answer}

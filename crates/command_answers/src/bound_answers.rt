@@ -6,12 +6,11 @@ ghost use Rattle.plan_bounds.specs.Bounds.{times_of};
 ghost use Rattle.command_answers.specs.Readings.{AreTextsAnswered};
 ghost use Rattle.command_answers.specs.BoundLines.{AreBounds, AreBoundLines, IsBoundsStatus};
 ghost use Rattle.command_answers.specs.Steps.{IsOrMemory};
-ghost use Rattle.command_answers.specs.Commands.{RunsBounds, WithSoundNames};
+ghost use Rattle.command_answers.specs.Commands.{RunsBounds, WithNames, WithSoundNames};
 
 use crate::answer::{Answer, Answered, GOOD, REFUSED};
-use crate::both::{Both, read_both, serially};
 use crate::bound_lines::{push_bound_lines, push_makespan_line};
-use crate::files::Files;
+use crate::inputs::{Files, ParsedInputs, read_inputs, serially};
 use crate::lines::bad_numbers_answer;
 use crate::naming::names_of;
 use crate::readings::{load_instance, load_plan};
@@ -29,7 +28,7 @@ pub fn bounds(alloc: Global, instance: &[u8], name: Option<&[u8]>, plan: &[u8]) 
 {
     let shop = load_instance(alloc, instance, name)?.shop;
     let plan = load_plan(alloc, plan)?;
-    both_bounded(alloc, Both { shop, plan })
+    both_bounded(alloc, ParsedInputs { shop, plan })
 }
 
 /// What no plan can do for the instance of a file with the releases and the cleaning times of the plan of another, with
@@ -37,7 +36,7 @@ pub fn bounds(alloc: Global, instance: &[u8], name: Option<&[u8]>, plan: &[u8]) 
 pub fn bounds_answer<T: Texts>(alloc: Global, texts: &mut T, files: &Files<'_>) -> Answered
     ensures { RunsBounds T.gives files.now.pair (option_copied files.now.names) texts.old result texts.new }
 {
-    let both = read_both(alloc, texts, &files.pair)?;
+    let both = read_inputs(alloc, texts, &files.pair)?;
     named_bounded(alloc, texts, both, files.names)
 }
 
@@ -45,7 +44,7 @@ pub fn bounds_answer<T: Texts>(alloc: Global, texts: &mut T, files: &Files<'_>) 
 fn named_bounded<T: Texts>(
     alloc: Global,
     texts: &mut T,
-    both: Both,
+    both: ParsedInputs,
     names: Option<&str>,
 ) -> Answered
     ensures { WithSoundNames T.gives (λ book. IsOrMemory (AreBoundLines book (times_of both) both.plan.budget))
@@ -53,19 +52,42 @@ fn named_bounded<T: Texts>(
 {
     match serially(alloc, both)?.shaped() {
         Ok(shaped) => {
-            let names = names_of(alloc, texts, names, &shaped)?;
-            Ok(shaped_bounded(alloc, &names, &shaped)?)
+            let answer = sound_bounded(alloc, texts, names, &shaped);
+            drop(shaped);
+            answer
         }
         Err(fault) => Ok(bad_numbers_answer(alloc, fault)?),
     }
 }
 
+/// The lines of the bounds, with the names and the clock of a file.
+fn sound_bounded<T: Texts>(
+    alloc: Global,
+    texts: &mut T,
+    names: Option<&str>,
+    shaped: &Shaped,
+) -> Answered
+    ensures { let p = shaped.now in WithNames T.gives (option_copied names.entry) p
+        (λ book. IsOrMemory (AreBoundLines book (times_of p) p.plan.budget)) texts.old result texts.new }
+{
+    let names = names_of(alloc, texts, names, shaped)?;
+    let answer = shaped_bounded(alloc, &names, shaped);
+    drop(names);
+    Ok(answer?)
+}
+
 /// The same without names.
-fn both_bounded(alloc: Global, both: Both) -> Answered
+fn both_bounded(alloc: Global, both: ParsedInputs) -> Answered
     ensures { IsOrMemory (AreBounds both) result }
 {
     match serially(alloc, both)?.shaped() {
-        Ok(shaped) => Ok(shaped_bounded(alloc, &Names::none(alloc), &shaped)?),
+        Ok(shaped) => {
+            let names = Names::none(alloc);
+            let answer = shaped_bounded(alloc, &names, &shaped);
+            drop(names);
+            drop(shaped);
+            Ok(answer?)
+        }
         Err(fault) => Ok(bad_numbers_answer(alloc, fault)?),
     }
 }

@@ -5,8 +5,8 @@ ghost use Rattle.std.specs.Option.{option_copied};
 ghost use Rattle.command_answers.specs.Cells.{IsCellLine, paths_of, LoadsOne, LoadsEach, LoadsCells};
 
 use crate::answer::{Answer, Outcome};
-use crate::both::Both;
 use crate::checks::loaded_answer;
+use crate::inputs::ParsedInputs;
 use crate::lines::push_fact;
 use crate::loading::{Loaded, judged};
 use crate::readings::{load_instance, plan};
@@ -53,7 +53,11 @@ fn load_each<T: Texts>(
         let loaded = load_one(alloc, texts, text, name, path.as_str())?;
         match loaded.accepted() {
             Ok(verified) => cells.push(verified).map_err(AllocError::from)?,
-            Err(other) => return cell_line(alloc, cells.len() as u64, &other),
+            Err(other) => {
+                let line = cell_line(alloc, cells.len() as u64, &other);
+                drop(other);
+                return line;
+            }
         }
     }
     Ok(Cells::Accepted(cells))
@@ -71,7 +75,7 @@ fn load_one<T: Texts>(
 {
     let shop = load_instance(alloc, text, name)?.shop;
     let plan = plan(alloc, texts, path)?;
-    judged(alloc, Both { shop, plan })
+    judged(alloc, ParsedInputs { shop, plan })
 }
 
 /// The line of the plan of this number, which isn't accepted: the number, a space, and the line of the plan alone.

@@ -7,7 +7,7 @@ ghost use Rattle.command_answers.specs.Checks.{IsCheckLine, IsLineOf, IsLineOfVe
 ghost use Rattle.command_answers.specs.Commands.{RunsCheck};
 
 use crate::answer::{Answer, Answered, GOOD, REFUSED};
-use crate::both::{Pair, read_both};
+use crate::inputs::{InputPaths, read_inputs};
 use crate::loading::{Loaded, judged, load};
 use crate::shapes::not_shaped_answer;
 use crate::texts::Texts;
@@ -22,16 +22,20 @@ pub fn check(alloc: Global, instance: &[u8], name: Option<&[u8]>, plan: &[u8]) -
     ensures { AreTextsAnswered instance.now (option_copied name.entry) plan.now IsCheckLine result }
 {
     let loaded = load(alloc, instance, name, plan)?;
-    Ok(loaded_answer(alloc, &loaded)?)
+    let answer = loaded_answer(alloc, &loaded);
+    drop(loaded);
+    Ok(answer?)
 }
 
 /// The verdict on the plan of a file for the instance of another.
-pub fn check_answer<T: Texts>(alloc: Global, texts: &mut T, pair: &Pair<'_>) -> Answered
+pub fn check_answer<T: Texts>(alloc: Global, texts: &mut T, pair: &InputPaths<'_>) -> Answered
     ensures { RunsCheck T.gives pair.now texts.old result texts.new }
 {
-    let both = read_both(alloc, texts, pair)?;
+    let both = read_inputs(alloc, texts, pair)?;
     let loaded = judged(alloc, both)?;
-    Ok(loaded_answer(alloc, &loaded)?)
+    let answer = loaded_answer(alloc, &loaded);
+    drop(loaded);
+    Ok(answer?)
 }
 
 /// The line of what is to be said of a plan.

@@ -12,14 +12,12 @@ ghost use Rattle.command_answers.specs.Commands.{RunsDecide, WithSoundNames};
 
 use crate::answer::{Answer, Answered, GOOD, REFUSED};
 use crate::asked_job::no_job_answer;
-use crate::both::{Both, read_both, serially};
 use crate::command_fault::Unanswered;
 use crate::decision_lines::{push_never_lines, push_within_line};
-use crate::files::Files;
+use crate::inputs::{Files, ParsedInputs, read_inputs, serially};
 use crate::lines::{bad_numbers_answer, document_answer, headed_answer, line_answer};
-use crate::logs::log_fault_answer;
 use crate::naming::names_of;
-use crate::rests::past_answer;
+use crate::rests::run_fault_answer;
 use crate::texts::Texts;
 use arc_choice::Choose;
 use people_names::Names;
@@ -44,7 +42,7 @@ pub fn decide_answer<T: Texts, C: Choose, W: Watch>(
 ) -> Answered
     ensures { RunsDecide T.gives aim files.now.pair (option_copied files.now.names) texts.old result texts.new }
 {
-    let both = read_both(alloc, texts, &files.pair)?;
+    let both = read_inputs(alloc, texts, &files.pair)?;
     both_decided(
         alloc,
         texts,
@@ -61,7 +59,7 @@ pub fn decide_answer<T: Texts, C: Choose, W: Watch>(
 fn both_decided<T: Texts, C: Choose, W: Watch>(
     alloc: Global,
     texts: &mut T,
-    both: Both,
+    both: ParsedInputs,
     names: Option<&str>,
     aim: Aim,
     choices: u64,
@@ -74,7 +72,9 @@ fn both_decided<T: Texts, C: Choose, W: Watch>(
     match serially(alloc, both)?.shaped() {
         Ok(shaped) => {
             let names = names_of(alloc, texts, names, &shaped)?;
-            shaped_decided(alloc, &names, shaped, aim, choices, chooser, watch)
+            let answer = shaped_decided(alloc, &names, shaped, aim, choices, chooser, watch);
+            drop(names);
+            answer
         }
         Err(fault) => Ok(bad_numbers_answer(alloc, fault)?),
     }
@@ -93,7 +93,11 @@ fn shaped_decided<C: Choose, W: Watch>(
     ensures { IsDecisionAnswer names.now (whole_case shaped) aim result }
 {
     match decide(alloc, shaped, aim, choices, chooser, watch) {
-        Ok(decided) => decided_answer(alloc, names, &decided),
+        Ok(decided) => {
+            let answer = decided_answer(alloc, names, &decided);
+            drop(decided);
+            answer
+        }
         Err(undecided) => undecided_answer(alloc, aim, undecided.fault),
     }
 }
@@ -146,15 +150,13 @@ pub(crate) fn undecided_answer(alloc: Global, aim: Aim, fault: DecideFault) -> A
 
 /// The line that says why nothing is decided.
 fn refused_answer(alloc: Global, aim: Aim, fault: DecideFault) -> Answered
-    requires told { IsAnswerable aim fault }
+    requires answerable { IsAnswerable aim fault }
     requires memory { decide_command_fault fault ≡ None }
     ensures { IsUndecidedAnswer aim fault result }
 {
     match fault {
         DecideFault::JobOutOfRange => Ok(out_of_range_answer(alloc, aim)?),
-        DecideFault::Log(fault) => log_fault_answer(alloc, fault),
-        DecideFault::Past { last } => Ok(past_answer(alloc, last)?),
-        DecideFault::MomentTooLarge => unreachable!(),
+        DecideFault::Run(fault) => run_fault_answer(alloc, fault),
         DecideFault::Memory => unreachable!(),
     }
 }

@@ -5,7 +5,7 @@ ghost use Rattle.command_answers.specs.Digests.{digest_line};
 ghost use Rattle.command_answers.specs.Commands.{RunsDigest};
 
 use crate::answer::{Answer, Answered, GOOD};
-use crate::both::{Pair, read_both};
+use crate::inputs::{InputPaths, read_inputs};
 use crate::lines::line_answer;
 use crate::shapes::not_shaped_answer;
 use crate::texts::Texts;
@@ -20,11 +20,15 @@ const ROOM: usize = 44;
 
 /// The digits by which a log knows the plan of a file and the shop of another. A plan that isn't well shaped has its
 /// first fault in their place.
-pub fn digest_answer<T: Texts>(alloc: Global, texts: &mut T, pair: &Pair<'_>) -> Answered
+pub fn digest_answer<T: Texts>(alloc: Global, texts: &mut T, pair: &InputPaths<'_>) -> Answered
     ensures { RunsDigest T.gives pair.now texts.old result texts.new }
 {
-    match read_both(alloc, texts, pair)?.shaped() {
-        Ok(shaped) => Ok(digits_answer(alloc, &shaped)?),
+    match read_inputs(alloc, texts, pair)?.shaped() {
+        Ok(shaped) => {
+            let answer = digits_answer(alloc, &shaped);
+            drop(shaped);
+            Ok(answer?)
+        }
         Err(fault) => Ok(not_shaped_answer(alloc, fault)?),
     }
 }

@@ -10,9 +10,8 @@ ghost use Rattle.command_answers.specs.Commands.{IfThere, RunsExplain, WithNames
 
 use crate::answer::{Answer, Answered};
 use crate::asked_job::{absent_job, no_job_answer};
-use crate::both::read_both;
 use crate::checks::status_of;
-use crate::files::Files;
+use crate::inputs::{Files, read_inputs};
 use crate::loading::{Loaded, load};
 use crate::naming::names_of;
 use crate::shapes::not_shaped_answer;
@@ -29,7 +28,9 @@ pub fn explain(alloc: Global, instance: &[u8], name: Option<&[u8]>, plan: &[u8])
     ensures { AreTextsAnswered instance.now (option_copied name.entry) plan.now IsExplanation result }
 {
     let loaded = load(alloc, instance, name, plan)?;
-    Ok(loaded_explained(alloc, &loaded)?)
+    let answer = loaded_explained(alloc, &loaded);
+    drop(loaded);
+    Ok(answer?)
 }
 
 /// Why the plan of a file is accepted or refused for the instance of another, with the names and the clock of a third,
@@ -42,7 +43,7 @@ pub fn explain_answer<T: Texts>(
 ) -> Answered
     ensures { RunsExplain T.gives files.now.pair (option_copied files.now.names) job texts.old result texts.new }
 {
-    match read_both(alloc, texts, &files.pair)?.shaped() {
+    match read_inputs(alloc, texts, &files.pair)?.shaped() {
         Ok(shaped) => shaped_explained(alloc, texts, shaped, files.names, job),
         Err(fault) => Ok(not_shaped_answer(alloc, fault)?),
     }
@@ -60,10 +61,13 @@ fn shaped_explained<T: Texts>(
         (λ book. IsOrMemory (IsPlanExplained book job shaped))) texts.old result texts.new }
 {
     if let Some(absent) = absent_job(&shaped, job) {
+        drop(shaped);
         return Ok(no_job_answer(alloc, absent)?);
     }
     let names = names_of(alloc, texts, names, &shaped)?;
-    Ok(plan_explained(alloc, &names, job, shaped)?)
+    let answer = plan_explained(alloc, &names, job, shaped);
+    drop(names);
+    Ok(answer?)
 }
 
 /// The explanation of the verdict on a plan.
@@ -80,8 +84,10 @@ fn plan_explained(
     let _shop = shaped.shop();
     match verify(alloc, shaped) {
         Ok(verdict) => {
-            let text = plan_explain::explain(alloc, names, job, &verdict)?;
+            let text = plan_explain::explain(alloc, names, job, &verdict);
             let status = status_of(&verdict);
+            drop(verdict);
+            let text = text?;
             Ok(Answer { text, status })
         }
         Err((error, _)) => Err(error),

@@ -9,7 +9,7 @@ ghost use Rattle.command_answers.specs.Improving.{RoundsOf, IsBestAnswer, IsImpr
 ghost use Rattle.command_answers.specs.Commands.{RunsImprove};
 
 use crate::answer::{Answered, GOOD, Outcome, REFUSED};
-use crate::both::{Both, Pair, read_both, serially};
+use crate::inputs::{InputPaths, ParsedInputs, read_inputs, serially};
 use crate::lines::document_answer;
 use crate::rest_improves::unfound_answer;
 use crate::shapes::not_shaped_answer;
@@ -20,12 +20,12 @@ use shop_base::Shaped;
 use std::alloc::Global;
 
 /// The text of the best plan that a search from the plan of a file meets, for the instance of another file: accepted,
-/// or with a job that is still late. A plan without any orders is taken with the serial ones. One that isn't well
+/// or with a job that is still late. A plan without any orders gets the serial ones. One that isn't well
 /// shaped is answered by its first fault. More than 1000 rounds are answered by `too many rounds`.
 pub fn improve_answer<T: Texts, W: Watch>(
     alloc: Global,
     texts: &mut T,
-    pair: &Pair<'_>,
+    pair: &InputPaths<'_>,
     improvers: &[Box<dyn Improver>],
     rounds: u32,
     watch: &mut W,
@@ -33,7 +33,7 @@ pub fn improve_answer<T: Texts, W: Watch>(
     ensures { RunsImprove T.gives (RoundsOf rounds (λ b. may b) improvers.now) rounds pair.now
         texts.old result texts.new }
 {
-    let both = read_both(alloc, texts, pair)?;
+    let both = read_inputs(alloc, texts, pair)?;
     let both = with_orders(alloc, both)?;
     better_answer(alloc, both, improvers, rounds, watch)
 }
@@ -41,7 +41,7 @@ pub fn improve_answer<T: Texts, W: Watch>(
 /// The answer of the search from a plan, if it is well shaped, else its first fault.
 fn better_answer<W: Watch>(
     alloc: Global,
-    both: Both,
+    both: ParsedInputs,
     improvers: &[Box<dyn Improver>],
     rounds: u32,
     watch: &mut W,
@@ -55,7 +55,7 @@ fn better_answer<W: Watch>(
 }
 
 /// The plan itself or, if it has no orders at all, the serial plan with its numbers.
-pub(crate) fn with_orders(alloc: Global, both: Both) -> Outcome<Both>
+pub(crate) fn with_orders(alloc: Global, both: ParsedInputs) -> Outcome<ParsedInputs>
     ensures { IsOrMemory (λ with. with ≡ ordered both) result }
 {
     let read = &both;
@@ -76,7 +76,11 @@ fn best_answer<W: Watch>(
     ensures { IsBestAnswer (RoundsOf rounds (λ b. may b) improvers.now) rounds start result }
 {
     match improve(alloc, start, improvers, rounds, watch) {
-        Ok(verdict) => verdict_answer(alloc, &verdict),
+        Ok(verdict) => {
+            let answer = verdict_answer(alloc, &verdict);
+            drop(verdict);
+            answer
+        }
         Err(refused) => unfound_answer(alloc, refused.fault),
     }
 }

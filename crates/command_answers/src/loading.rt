@@ -10,8 +10,8 @@ ghost use Rattle.command_answers.specs.Steps.{IsOrMemory};
 ghost use Rattle.command_answers.specs.Commands.{Loads};
 
 use crate::answer::Outcome;
-use crate::both::{Both, Pair, read_both};
 use crate::command_fault::CommandFault;
+use crate::inputs::{InputPaths, ParsedInputs, read_inputs};
 use crate::readings::{load_instance, load_plan};
 use crate::texts::Texts;
 use plan_verifier::{Verdict, Verified, verify};
@@ -46,7 +46,7 @@ pub fn load(alloc: Global, instance: &[u8], name: Option<&[u8]>, plan: &[u8]) ->
 {
     let shop = load_instance(alloc, instance, name)?.shop;
     let plan = load_plan(alloc, plan)?;
-    judged(alloc, Both { shop, plan })
+    judged(alloc, ParsedInputs { shop, plan })
 }
 
 /// The plan for an instance, both given as texts, if it is well shaped, else the first fault of its shape. Without a
@@ -61,7 +61,7 @@ pub fn load_shaped(
 {
     let named = load_instance(alloc, instance, name)?;
     let read = load_plan(alloc, plan)?;
-    let both = Both {
+    let both = ParsedInputs {
         shop: named.shop,
         plan: read,
     };
@@ -69,15 +69,15 @@ pub fn load_shaped(
 }
 
 /// The verdict on the plan of a file for the instance of another.
-pub fn load_files<T: Texts>(alloc: Global, texts: &mut T, pair: &Pair<'_>) -> Outcome<Loaded>
+pub fn load_files<T: Texts>(alloc: Global, texts: &mut T, pair: &InputPaths<'_>) -> Outcome<Loaded>
     ensures { Loads T.gives pair.now texts.old result texts.new }
 {
-    let both = read_both(alloc, texts, pair)?;
+    let both = read_inputs(alloc, texts, pair)?;
     judged(alloc, both)
 }
 
 /// The verdict on a plan for a shop.
-pub(crate) fn judged(alloc: Global, both: Both) -> Outcome<Loaded>
+pub(crate) fn judged(alloc: Global, both: ParsedInputs) -> Outcome<Loaded>
     ensures loaded { IsOrMemory (IsLoaded both) result }
     ensures not_shaped { ¬ (IsWellShaped both) → IsOk result }
 {

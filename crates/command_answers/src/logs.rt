@@ -4,12 +4,11 @@ ghost use Rattle.std.specs.Prelude.{◌≡◌, IfOk};
 ghost use Rattle.std.specs.Option.{option_copied};
 ghost use Rattle.command_answers.specs.LogLines.{IsRunAnswer, IsLogLine, IsLogFaultAnswer, kept_line, end_words};
 ghost use Rattle.command_answers.specs.Steps.{IsOrMemory};
-ghost use Rattle.command_answers.specs.Commands.{RunsLog};
+ghost use Rattle.command_answers.specs.Commands.{RunsLog, WithNamesAndLog};
 
 use crate::answer::{Answer, Answered, GOOD};
-use crate::both::read_both;
 use crate::command_fault::Unanswered;
-use crate::files::Files;
+use crate::inputs::{Files, read_inputs};
 use crate::lines::{log_refused, push_fact};
 use crate::naming::names_of;
 use crate::shapes::not_shaped_answer;
@@ -40,14 +39,34 @@ pub fn log_answer<T: Texts>(
 ) -> Answered
     ensures { RunsLog T.gives wanted files.now.pair (option_copied files.now.names) log.now texts.old result texts.new }
 {
-    match read_both(alloc, texts, &files.pair)?.shaped() {
+    match read_inputs(alloc, texts, &files.pair)?.shaped() {
         Ok(shaped) => {
-            let names = names_of(alloc, texts, files.names, &shaped)?;
-            let text = texts.text(alloc, log)?;
-            audited(alloc, &names, &shaped, &text, wanted)
+            let answer = shaped_log(alloc, texts, &shaped, files.names, log, wanted);
+            drop(shaped);
+            answer
         }
         Err(fault) => Ok(not_shaped_answer(alloc, fault)?),
     }
+}
+
+/// What is answered for the log of a file by a plan, with the names and the clock of another.
+fn shaped_log<T: Texts>(
+    alloc: Global,
+    texts: &mut T,
+    shaped: &Shaped,
+    names: Option<&str>,
+    log: &str,
+    wanted: LogAnswer,
+) -> Answered
+    ensures { let p = shaped.now in WithNamesAndLog T.gives (option_copied names.entry) log.now p
+        (λ book. IsLogLine book wanted p) texts.old result texts.new }
+{
+    let names = names_of(alloc, texts, names, shaped)?;
+    let text = texts.text(alloc, log)?;
+    let answer = audited(alloc, &names, shaped, &text, wanted);
+    drop(text);
+    drop(names);
+    answer
 }
 
 /// What is answered for a log that is audited against a plan.

@@ -6,9 +6,8 @@ ghost use Rattle.command_answers.specs.Margins.{IsMarginAnswer, IsMarginAnswerOf
 ghost use Rattle.command_answers.specs.Commands.{RunsMargin};
 
 use crate::answer::{Answer, Answered, GOOD};
-use crate::both::read_both;
 use crate::checks::verdict_answer;
-use crate::files::Files;
+use crate::inputs::{Files, read_inputs};
 use crate::naming::names_of;
 use crate::shapes::not_shaped_answer;
 use crate::texts::Texts;
@@ -23,10 +22,12 @@ use std::alloc::{AllocError, Global};
 pub fn margin_answer<T: Texts>(alloc: Global, texts: &mut T, files: &Files<'_>) -> Answered
     ensures { RunsMargin T.gives files.now.pair (option_copied files.now.names) texts.old result texts.new }
 {
-    match read_both(alloc, texts, &files.pair)?.shaped() {
+    match read_inputs(alloc, texts, &files.pair)?.shaped() {
         Ok(shaped) => {
             let names = names_of(alloc, texts, files.names, &shaped)?;
-            Ok(plan_margin(alloc, &names, shaped)?)
+            let answer = plan_margin(alloc, &names, shaped);
+            drop(names);
+            Ok(answer?)
         }
         Err(fault) => Ok(not_shaped_answer(alloc, fault)?),
     }
@@ -39,7 +40,11 @@ fn plan_margin(alloc: Global, names: &Names, shaped: Shaped) -> Result<Answer, A
     // Called for its clause alone: the plan is well shaped.
     let _shop = shaped.shop();
     match verify(alloc, shaped) {
-        Ok(verdict) => verdict_margin(alloc, names, &verdict),
+        Ok(verdict) => {
+            let answer = verdict_margin(alloc, names, &verdict);
+            drop(verdict);
+            answer
+        }
         Err((error, _)) => Err(error),
     }
 }

@@ -12,9 +12,8 @@ ghost use Rattle.command_answers.specs.Steps.{IsOrMemory};
 ghost use Rattle.command_answers.specs.Commands.{RunsMoves, RunsRestMoves};
 
 use crate::answer::{Answer, Answered, Outcome};
-use crate::both::read_both;
 use crate::command_fault::{CommandFault, Unanswered};
-use crate::files::{Ahead, Files};
+use crate::inputs::{Ahead, Files, read_inputs};
 use crate::logs::log_fault_answer;
 use crate::naming::names_of;
 use crate::rests::{past_answer, present_at, rest_status};
@@ -35,10 +34,12 @@ use std::alloc::Global;
 pub fn moves_answer<T: Texts>(alloc: Global, texts: &mut T, files: &Files<'_>) -> Answered
     ensures { RunsMoves T.gives files.now.pair (option_copied files.now.names) texts.old result texts.new }
 {
-    match read_both(alloc, texts, &files.pair)?.shaped() {
+    match read_inputs(alloc, texts, &files.pair)?.shaped() {
         Ok(shaped) => {
             let names = names_of(alloc, texts, files.names, &shaped)?;
-            plan_moves(alloc, &names, shaped)
+            let answer = plan_moves(alloc, &names, shaped);
+            drop(names);
+            answer
         }
         Err(fault) => Ok(not_shaped_answer(alloc, fault)?),
     }
@@ -50,11 +51,14 @@ pub fn rest_moves_answer<T: Texts>(alloc: Global, texts: &mut T, ahead: &Ahead<'
     ensures { RunsRestMoves T.gives ahead.now.at ahead.now.files.pair
         (option_copied ahead.now.files.names) ahead.now.log.now texts.old result texts.new }
 {
-    match read_both(alloc, texts, &ahead.files.pair)?.shaped() {
+    match read_inputs(alloc, texts, &ahead.files.pair)?.shaped() {
         Ok(shaped) => {
             let names = names_of(alloc, texts, ahead.files.names, &shaped)?;
             let text = texts.text(alloc, ahead.log)?;
-            log_moves(alloc, &names, shaped, &text, ahead.at)
+            let answer = log_moves(alloc, &names, shaped, &text, ahead.at);
+            drop(text);
+            drop(names);
+            answer
         }
         Err(fault) => Ok(not_shaped_answer(alloc, fault)?),
     }
@@ -97,6 +101,7 @@ fn moves_at(alloc: Global, names: &Names, cell: WorkCell<Shaped>, at: Option<Mom
     let last = cell.last();
     let present = present_at(at, last);
     if present < last {
+        drop(cell);
         return Ok(past_answer(alloc, last)?);
     }
     cell_moves(alloc, names, cell, present)
@@ -108,8 +113,10 @@ fn cell_moves(alloc: Global, names: &Names, cell: WorkCell<Shaped>, present: Mom
     ensures { IsOrMemory (IsMovesAnswer names.now cell.plan cell.cell present) result }
 {
     let verdict = verify_after(alloc, &cell, present)?;
-    let mut text = first_line_after(alloc, &cell, verdict.seen())?;
+    let line = first_line_after(alloc, &cell, verdict.seen());
     let status = rest_status(&verdict);
+    drop(verdict);
+    let mut text = line?;
     push_moves(alloc, &mut text, names, cell, present)?;
     Ok(Answer { text, status })
 }

@@ -10,17 +10,15 @@ ghost use Rattle.run_picture.specs.Late.{late_leavings};
 ghost use Rattle.run_picture.specs.PictureText.{IsPicture};
 ghost use Rattle.run_gantt.specs.DrawnVisits.{drawn_visits};
 ghost use Rattle.run_gantt.specs.LeavingsSoFar.{leavings_so_far};
-ghost use Rattle.plan_verifier.specs.RestVerdicts.{IsReasonAhead};
-ghost use Rattle.plan_verifier.specs.declared.verdict.Judged.TheVariants.{Refused};
 ghost use Rattle.plan_explain.specs.RestVerdicts.{IsRestJudged};
 ghost use Rattle.command_answers.specs.Steps.{IsOrMemory};
+ghost use Rattle.command_answers.specs.Commands.{WithNamesAndLog};
 ghost use Rattle.command_answers.specs.Pictures.{DrawsLog, DrawsRest, DrawsSchedule, IsCellDrawn, IsLogDrawn};
 ghost use Rattle.command_answers.specs.Pictures.{IsPlanDrawn, IsRestDrawing, IsRestDrawn, IsRunPicture, IsVerdictDrawn};
 ghost use Rattle.command_answers.specs.Pictures.{line_at, log_sheet, run_head, run_sheet};
 
 use crate::answer::{Answer, GOOD, Outcome, REFUSED};
-use crate::both::read_both;
-use crate::files::{Ahead, Files};
+use crate::inputs::{Ahead, Files, read_inputs};
 use crate::logs::log_fault_answer;
 use crate::naming::names_of;
 use crate::rest_improves::cycle_answer;
@@ -61,14 +59,32 @@ pub fn log_picture<T: Texts>(
 ) -> Outcome<Drawn>
     ensures { DrawsLog T.gives files.now.pair (option_copied files.now.names) log.now texts.old result texts.new }
 {
-    match read_both(alloc, texts, &files.pair)?.shaped() {
+    match read_inputs(alloc, texts, &files.pair)?.shaped() {
         Ok(shaped) => {
-            let names = names_of(alloc, texts, files.names, &shaped)?;
-            let text = texts.text(alloc, log)?;
-            log_drawn(alloc, names, &shaped, &text)
+            let drawn = shaped_log(alloc, texts, &shaped, files.names, log);
+            drop(shaped);
+            drawn
         }
         Err(fault) => Ok(Drawn::Line(not_shaped_answer(alloc, fault)?)),
     }
+}
+
+/// Draws the log of a file by a plan, with the names of another if there is one.
+fn shaped_log<T: Texts>(
+    alloc: Global,
+    texts: &mut T,
+    shaped: &Shaped,
+    names: Option<&str>,
+    log: &str,
+) -> Outcome<Drawn>
+    ensures { let p = shaped.now in WithNamesAndLog T.gives (option_copied names.entry) log.now p
+        (λ book. IsLogDrawn book p) texts.old result texts.new }
+{
+    let names = names_of(alloc, texts, names, shaped)?;
+    let text = texts.text(alloc, log)?;
+    let drawn = log_drawn(alloc, names, shaped, &text);
+    drop(text);
+    drawn
 }
 
 /// Draws a log that is audited against a plan.
@@ -120,7 +136,7 @@ fn log_sheet(shaped: &Shaped, run: &Audit) -> Sheet
 pub fn schedule_picture<T: Texts>(alloc: Global, texts: &mut T, files: &Files<'_>) -> Outcome<Drawn>
     ensures { DrawsSchedule T.gives files.now.pair (option_copied files.now.names) texts.old result texts.new }
 {
-    match read_both(alloc, texts, &files.pair)?.shaped() {
+    match read_inputs(alloc, texts, &files.pair)?.shaped() {
         Ok(shaped) => {
             let names = names_of(alloc, texts, files.names, &shaped)?;
             Ok(plan_drawn(alloc, names, shaped)?)
@@ -134,7 +150,16 @@ fn plan_drawn(alloc: Global, names: Names, shaped: Shaped) -> Result<Drawn, Allo
     ensures { IfOk result (IsPlanDrawn names shaped) }
 {
     match WorkCell::start(alloc, shaped) {
-        Ok(cell) => rest_drawn(alloc, names, &cell, 0, None, &[]),
+        Ok(cell) => rest_drawn(
+            alloc,
+            RestToDraw {
+                names,
+                cell: &cell,
+                present: 0,
+                line: None,
+                visits: &[],
+            },
+        ),
         Err((error, _)) => Err(error),
     }
 }
@@ -148,11 +173,13 @@ pub fn rest_picture<T: Texts>(alloc: Global, texts: &mut T, ahead: &Ahead<'_>) -
     ensures { DrawsRest T.gives ahead.now.at ahead.now.files.pair
         (option_copied ahead.now.files.names) ahead.now.log.now texts.old result texts.new }
 {
-    match read_both(alloc, texts, &ahead.files.pair)?.shaped() {
+    match read_inputs(alloc, texts, &ahead.files.pair)?.shaped() {
         Ok(shaped) => {
             let names = names_of(alloc, texts, ahead.files.names, &shaped)?;
             let text = texts.text(alloc, ahead.log)?;
-            rest_of_log(alloc, names, shaped, &text, ahead.at)
+            let drawn = rest_of_log(alloc, names, shaped, &text, ahead.at);
+            drop(text);
+            drawn
         }
         Err(fault) => Ok(Drawn::Line(not_shaped_answer(alloc, fault)?)),
     }
@@ -193,9 +220,18 @@ fn cell_drawn(
     if present < last {
         return Ok(Drawn::Line(past_answer(alloc, last)?));
     }
-    let told = run_gantt::drawn_visits(alloc, shaped, entries)?;
+    let visits = run_gantt::drawn_visits(alloc, shaped, entries)?;
     let line = line_at(at, entries, present);
-    rest_drawn(alloc, names, cell, present, line, &told)
+    rest_drawn(
+        alloc,
+        RestToDraw {
+            names,
+            cell,
+            present,
+            line,
+            visits: &visits,
+        },
+    )
 }
 
 /// The moment that has a line: the present one, unless no moment is given and the log records nothing.
@@ -208,86 +244,69 @@ fn line_at(at: Option<Moment>, entries: &[Entry], present: Moment) -> Option<Mom
     Some(present)
 }
 
-/// Draws the run that goes on from a cell and a present moment, of which these visits are known so far.
-fn rest_drawn(
-    alloc: Global,
+/// The rest of a run, as it is to be drawn: by these names, from a cell and a present moment on, with the moment that
+/// has a line, and the visits that are known so far.
+#[derive(Drop)]
+struct RestToDraw<'a> {
     names: Names,
-    cell: &WorkCell<Shaped>,
+    cell: &'a WorkCell<Shaped>,
     present: Moment,
     line: Option<Moment>,
-    told: &[DrawnVisit],
-) -> Result<Drawn, AllocError>
-    requires { IsNextMoment cell.now.cell present }
-    ensures { IfOk result (IsRestDrawn names cell.now.plan cell.now.cell present line told.now) }
+    visits: &'a [DrawnVisit],
+}
+
+/// Draws the rest by the verdict on it.
+fn rest_drawn(alloc: Global, rest: RestToDraw<'_>) -> Result<Drawn, AllocError>
+    requires { IsNextMoment rest.cell.now.cell rest.present }
+    ensures { let r = rest.entry in
+        IfOk result (IsRestDrawn r.names r.cell.now.plan r.cell.now.cell r.present r.line r.visits.now) }
 {
-    let verdict = verify_after(alloc, cell, present)?;
-    verdict_drawn(alloc, names, cell, present, line, told, &verdict)
+    let verdict = verify_after(alloc, rest.cell, rest.present)?;
+    verdict_drawn(alloc, rest, &verdict)
 }
 
 /// Draws what the verdict on the rest is about, with its status. Of a cycle there is its line.
-fn verdict_drawn(
-    alloc: Global,
-    names: Names,
-    cell: &WorkCell<Shaped>,
-    present: Moment,
-    line: Option<Moment>,
-    told: &[DrawnVisit],
-    verdict: &Judged,
-) -> Result<Drawn, AllocError>
-    requires present { IsNextMoment cell.now.cell present }
-    requires judged { IsRestJudged cell.now.plan cell.now.cell present verdict.now }
-    ensures { IfOk result (IsVerdictDrawn names cell.now.plan cell.now.cell present line told.now verdict.now) }
+fn verdict_drawn(alloc: Global, rest: RestToDraw<'_>, verdict: &Judged) -> Result<Drawn, AllocError>
+    requires present { IsNextMoment rest.cell.now.cell rest.present }
+    requires judged { IsRestJudged rest.cell.now.plan rest.cell.now.cell rest.present verdict.now }
+    ensures { let r = rest.entry in
+        IfOk result (IsVerdictDrawn r.names r.cell.now.plan r.cell.now.cell r.present r.line r.visits.now verdict.now) }
 {
     match verdict {
         Judged::Accepted(times) => {
-            let picture = run_picture(alloc, names, cell, present, line, told, times, true)?;
+            let picture = run_picture(alloc, rest, times, true)?;
             let status = GOOD;
             Ok(Drawn::Picture { picture, status })
         }
-        Judged::Refused(why) => refused_drawn(alloc, names, cell, present, line, told, why),
-    }
-}
-
-/// Draws a late run. Of a cycle there is its line.
-fn refused_drawn(
-    alloc: Global,
-    names: Names,
-    cell: &WorkCell<Shaped>,
-    present: Moment,
-    line: Option<Moment>,
-    told: &[DrawnVisit],
-    why: &Why,
-) -> Result<Drawn, AllocError>
-    requires present { IsNextMoment cell.now.cell present }
-    requires reason { IsReasonAhead cell.now.plan cell.now.cell present (Refused why.now) }
-    ensures { IfOk result (IsVerdictDrawn names cell.now.plan cell.now.cell present line told.now (Refused why.now)) }
-{
-    match why {
-        Why::Cycle(nodes) => Ok(Drawn::Line(cycle_answer(alloc, nodes)?)),
-        Why::Late { times, .. } => {
-            let picture = run_picture(alloc, names, cell, present, line, told, times, false)?;
+        Judged::Refused(Why::Late { times, .. }) => {
+            let picture = run_picture(alloc, rest, times, false)?;
             let status = REFUSED;
             Ok(Drawn::Picture { picture, status })
         }
+        Judged::Refused(Why::Cycle(nodes)) => Ok(Drawn::Line(cycle_answer(alloc, nodes)?)),
     }
 }
 
-/// The picture of the run that goes on from a cell and a present moment, by its earliest moments.
+/// The picture of the rest by its earliest moments.
 fn run_picture(
     alloc: Global,
-    names: Names,
-    cell: &WorkCell<Shaped>,
-    present: Moment,
-    line: Option<Moment>,
-    told: &[DrawnVisit],
+    rest: RestToDraw<'_>,
     times: &Times,
     in_time: bool,
 ) -> Result<Picture, AllocError>
-    requires present { IsNextMoment cell.now.cell present }
-    requires ordered { AreOrderedAhead cell.now.plan cell.now.cell present times.now }
-    ensures { IfOk result (IsRunPicture names cell.now.plan cell.now.cell present line told.now in_time) }
+    requires present { IsNextMoment rest.cell.now.cell rest.present }
+    requires ordered { AreOrderedAhead rest.cell.now.plan rest.cell.now.cell rest.present times.now }
+    ensures { let r = rest.entry in
+        IfOk result (IsRunPicture r.names r.cell.now.plan r.cell.now.cell r.present r.line r.visits.now in_time) }
 {
-    let run = drawn_run(alloc, cell, present, times, told)?;
+    let RestToDraw {
+        names,
+        cell,
+        present,
+        line,
+        visits,
+    } = rest;
+    let run = drawn_run(alloc, cell, present, times, visits)?;
     let shaped = cell.shaped();
     let late = late_leavings(alloc, shaped, &run.leavings)?;
     let sheet = run_sheet(shaped, present, line, in_time, &run);

@@ -6,7 +6,7 @@ ghost use Rattle.command_answers.specs.Commands.{RunsOfPlan};
 use crate::answer::Answered;
 use crate::checks::check_answer;
 use crate::explains::explain_answer;
-use crate::files::Files;
+use crate::inputs::Files;
 use crate::rests::PlanAnswer;
 use crate::schedules::schedule_answer;
 use crate::texts::Texts;

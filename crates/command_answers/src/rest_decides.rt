@@ -9,10 +9,9 @@ ghost use Rattle.command_answers.specs.DecidingRests.{IsRestDecisionAnswer, refu
 ghost use Rattle.command_answers.specs.Commands.{RunsDecideRest, WithRestDecision};
 
 use crate::answer::{Answer, Answered};
-use crate::both::{Both, read_both};
 use crate::decides::{decided_answer, undecided_answer};
-use crate::files::Ahead;
 use crate::improves::with_orders;
+use crate::inputs::{Ahead, ParsedInputs, read_inputs};
 use crate::lines::{bad_numbers_answer, fault_answer};
 use crate::naming::names_of;
 use crate::texts::Texts;
@@ -25,7 +24,7 @@ use std::alloc::{AllocError, Global};
 /// Whether any plan with the releases, budgets and cleaning times of the one in a file keeps all budgets of the jobs
 /// that aren't gone, for the rest of the run in the log of another file and the instance of a third, by complete
 /// searches of at most so many choices each. The orders of the given plan say only of what run that is a log; a plan
-/// without any orders is taken with the serial ones. What comes after the log's last line feed isn't looked at. Numbers
+/// without any orders gets the serial ones. What comes after the log's last line feed isn't looked at. Numbers
 /// that aren't sound are answered by `bad numbers`, orders that don't fit by `not shaped`, and a log or a moment as by
 /// `improve`.
 pub fn decide_rest_answer<T: Texts, C: Choose, W: Watch>(
@@ -41,7 +40,7 @@ pub fn decide_rest_answer<T: Texts, C: Choose, W: Watch>(
     ensures { RunsDecideRest T.gives aim ahead.now.at ahead.now.files.pair
         (option_copied ahead.now.files.names) ahead.now.log.now texts.old result texts.new }
 {
-    let both = read_both(alloc, texts, &ahead.files.pair)?;
+    let both = read_inputs(alloc, texts, &ahead.files.pair)?;
     let both = with_orders(alloc, both)?;
     both_rest_decided(alloc, texts, both, ahead, aim, choices, chooser, watch)
 }
@@ -50,7 +49,7 @@ pub fn decide_rest_answer<T: Texts, C: Choose, W: Watch>(
 fn both_rest_decided<T: Texts, C: Choose, W: Watch>(
     alloc: Global,
     texts: &mut T,
-    both: Both,
+    both: ParsedInputs,
     ahead: &Ahead<'_>,
     aim: Aim,
     choices: u64,
@@ -65,9 +64,12 @@ fn both_rest_decided<T: Texts, C: Choose, W: Watch>(
         Ok(shaped) => {
             let names = names_of(alloc, texts, ahead.files.names, &shaped)?;
             let text = texts.text(alloc, ahead.log)?;
-            rest_decided(
+            let answer = rest_decided(
                 alloc, &names, shaped, &text, ahead.at, aim, choices, chooser, watch,
-            )
+            );
+            drop(text);
+            drop(names);
+            answer
         }
         Err(fault) => Ok(unfit_answer(alloc, fault)?),
     }
@@ -89,7 +91,11 @@ fn rest_decided<C: Choose, W: Watch>(
     ensures { IsRestDecisionAnswer names.now at (ended_lines log.now) shaped aim result }
 {
     match decide_after(alloc, shaped, log, at, aim, choices, chooser, watch) {
-        Ok(decided) => decided_answer(alloc, names, &decided),
+        Ok(decided) => {
+            let answer = decided_answer(alloc, names, &decided);
+            drop(decided);
+            answer
+        }
         Err(undecided) => undecided_answer(alloc, aim, undecided.fault),
     }
 }

@@ -3,19 +3,16 @@
 ghost use Rattle.std.specs.Prelude.{◌≡◌, ◌≤◌, IfOk, IfSome, None};
 ghost use Rattle.shop_base.specs.declared.limits.TheConstants.{MAX_MOMENT};
 ghost use Rattle.text_lines.specs.Lines.{ended_lines};
-ghost use Rattle.plan_improve.specs.declared.improve_fault.ImproveFault.TheVariants.{MomentTooLarge};
 ghost use Rattle.command_answers.specs.ImprovingRests.{RestRoundsOf, IsRestAnswer, IsJudgedAnswer, IsUnfoundAnswer};
-ghost use Rattle.command_answers.specs.ImprovingRests.{IsCycleLine, improve_command_fault};
+ghost use Rattle.command_answers.specs.ImprovingRests.{HasAnswer, IsCycleLine, improve_command_fault};
 ghost use Rattle.command_answers.specs.Commands.{RunsImproveRest, WithRest};
 
 use crate::answer::{Answer, Answered, GOOD, REFUSED};
-use crate::both::{Both, read_both};
 use crate::command_fault::Unanswered;
-use crate::files::Ahead;
 use crate::improves::with_orders;
+use crate::inputs::{Ahead, ParsedInputs, read_inputs};
 use crate::lines::{document_answer, line_answer};
-use crate::logs::log_fault_answer;
-use crate::rests::past_answer;
+use crate::rests::run_fault_answer;
 use crate::shapes::not_shaped_answer;
 use crate::texts::Texts;
 use plan_explain::push_cycle_line;
@@ -25,8 +22,8 @@ use shop_base::{Moment, Node, Shaped};
 use std::alloc::{AllocError, Global};
 
 /// The text of the best plan that a search from the plan of a file meets for the rest of the run in the log of another,
-/// for the instance of a third: its rest accepted, or with a job that is still late. A plan without any orders is taken
-/// with the serial ones. What comes after the log's last line feed isn't looked at. A log that records no run of that
+/// for the instance of a third: its rest accepted, or with a job that is still late. A plan without any orders gets
+/// the serial ones. What comes after the log's last line feed isn't looked at. A log that records no run of that
 /// plan is answered by its first bad line, a present moment before the log's last one by `log past L`, and a plan with
 /// a cycle, if the log records an event, by the line of `check`.
 pub fn improve_rest_answer<T: Texts, W: Watch>(
@@ -41,7 +38,7 @@ pub fn improve_rest_answer<T: Texts, W: Watch>(
     ensures { RunsImproveRest T.gives (RestRoundsOf rounds (λ b. may b) improvers.now) ahead.now.at rounds
         ahead.now.files.pair ahead.now.log.now texts.old result texts.new }
 {
-    let both = read_both(alloc, texts, &ahead.files.pair)?;
+    let both = read_inputs(alloc, texts, &ahead.files.pair)?;
     let both = with_orders(alloc, both)?;
     better_rest_answer(alloc, texts, both, ahead, improvers, rounds, watch)
 }
@@ -50,7 +47,7 @@ pub fn improve_rest_answer<T: Texts, W: Watch>(
 fn better_rest_answer<T: Texts, W: Watch>(
     alloc: Global,
     texts: &mut T,
-    both: Both,
+    both: ParsedInputs,
     ahead: &Ahead<'_>,
     improvers: &[Box<dyn Improver>],
     rounds: u32,
@@ -84,7 +81,11 @@ fn found_answer<W: Watch>(
         (ended_lines log.now) start result }
 {
     match improve_after(alloc, start, log, at, improvers, rounds, watch) {
-        Ok(found) => judged_answer(alloc, &found),
+        Ok(found) => {
+            let answer = judged_answer(alloc, &found);
+            drop(found);
+            answer
+        }
         Err(refused) => unfound_answer(alloc, refused.fault),
     }
 }
@@ -111,7 +112,7 @@ pub(crate) fn cycle_answer(alloc: Global, nodes: &[Node]) -> Result<Answer, Allo
 
 /// What is answered if no plan is given, unless memory ran out.
 pub(crate) fn unfound_answer(alloc: Global, fault: ImproveFault) -> Answered
-    requires { fault ≡ MomentTooLarge → ⊥ }
+    requires { HasAnswer fault }
     ensures { IsUnfoundAnswer fault result }
 {
     match Unanswered::from(fault).0 {
@@ -122,15 +123,13 @@ pub(crate) fn unfound_answer(alloc: Global, fault: ImproveFault) -> Answered
 
 /// The line that says why no plan is given.
 fn refused_answer(alloc: Global, fault: ImproveFault) -> Answered
-    requires moment { fault ≡ MomentTooLarge → ⊥ }
+    requires moment { HasAnswer fault }
     requires memory { improve_command_fault fault ≡ None }
     ensures { IsUnfoundAnswer fault result }
 {
     match fault {
         ImproveFault::TooManyRounds => Ok(line_answer(alloc, b"too many rounds\n", REFUSED)?),
-        ImproveFault::Log(fault) => log_fault_answer(alloc, fault),
-        ImproveFault::Past { last } => Ok(past_answer(alloc, last)?),
-        ImproveFault::MomentTooLarge => unreachable!(),
+        ImproveFault::Run(fault) => run_fault_answer(alloc, fault),
         ImproveFault::Memory => unreachable!(),
     }
 }

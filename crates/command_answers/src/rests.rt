@@ -6,7 +6,7 @@ ghost use Rattle.shop_base.specs.Plan.{jobs};
 ghost use Rattle.shop_base.specs.declared.limits.TheConstants.{MAX_MOMENT};
 ghost use Rattle.shop_base.specs.Report.{IsNextMoment};
 ghost use Rattle.command_answers.specs.Rests.{IsRestLine, IsCellAnswer, IsPastLine, AnswersRest};
-ghost use Rattle.command_answers.specs.Rests.{IsTextOf, job_asked, rest_status};
+ghost use Rattle.command_answers.specs.Rests.{HasLine, IsRunFaultAnswer, IsTextOf, job_asked, rest_status};
 ghost use Rattle.command_answers.specs.Steps.{IsOrMemory};
 ghost use Rattle.command_answers.specs.Commands.{IfThere, RunsRest, WithNamesAndLog};
 ghost use Rattle.plan_explain.specs.RestVerdicts.{IsRestJudged};
@@ -14,8 +14,7 @@ ghost use Rattle.plan_verifier.specs.Seen.{lent};
 
 use crate::answer::{Answer, Answered, GOOD, REFUSED};
 use crate::asked_job::{absent_job, no_job_answer};
-use crate::both::read_both;
-use crate::files::Ahead;
+use crate::inputs::{Ahead, read_inputs};
 use crate::lines::push_fact;
 use crate::logs::log_fault_answer;
 use crate::naming::names_of;
@@ -26,7 +25,7 @@ use people_names::Names;
 use plan_explain::{explain_after, first_line_after};
 use plan_schedule::schedule_after;
 use plan_verifier::{Judged, Seen, verify_after};
-use run_log::run_of_log;
+use run_log::{RunFault, run_of_log};
 use shop_base::{JobNo, Moment, Planned, Shaped};
 use std::alloc::{AllocError, Global};
 
@@ -67,7 +66,7 @@ pub fn rest_answer<T: Texts>(
     ensures { RunsRest T.gives wanted ahead.now.at ahead.now.files.pair
         (option_copied ahead.now.files.names) ahead.now.log.now texts.old result texts.new }
 {
-    match read_both(alloc, texts, &ahead.files.pair)?.shaped() {
+    match read_inputs(alloc, texts, &ahead.files.pair)?.shaped() {
         Ok(shaped) => shaped_rest(alloc, texts, shaped, ahead, wanted),
         Err(fault) => Ok(not_shaped_answer(alloc, fault)?),
     }
@@ -86,11 +85,15 @@ fn shaped_rest<T: Texts>(
         ahead.now.log.now shaped (λ book. IsRestLine book wanted ahead.now.at shaped)) texts.old result texts.new }
 {
     if let Some(absent) = absent_job(&shaped, wanted.job_asked()) {
+        drop(shaped);
         return Ok(no_job_answer(alloc, absent)?);
     }
     let names = names_of(alloc, texts, ahead.files.names, &shaped)?;
     let text = texts.text(alloc, ahead.log)?;
-    answer_rest_of_log(alloc, &names, shaped, &text, ahead.at, wanted)
+    let answer = answer_rest_of_log(alloc, &names, shaped, &text, ahead.at, wanted);
+    drop(text);
+    drop(names);
+    answer
 }
 
 /// What is answered for the rest of the run in a log.
@@ -144,6 +147,18 @@ pub(crate) fn present_at(at: Option<Moment>, last: Moment) -> Moment
     }
 }
 
+/// The line that says why there is no run up to the present moment: of the log's first fault, or of a moment that is past.
+pub(crate) fn run_fault_answer(alloc: Global, fault: RunFault) -> Answered
+    requires { HasLine fault }
+    ensures { IsRunFaultAnswer fault result }
+{
+    match fault {
+        RunFault::Log(fault) => log_fault_answer(alloc, fault),
+        RunFault::Past { last } => Ok(past_answer(alloc, last)?),
+        RunFault::MomentTooLarge => unreachable!(),
+    }
+}
+
 /// The line of a present moment before the last one.
 pub fn past_answer(alloc: Global, last: Moment) -> Result<Answer, AllocError>
     ensures { IfOk result (IsPastLine last) }
@@ -167,8 +182,10 @@ pub fn answer_rest<P: Planned>(
     ensures { IfOk result (AnswersRest names.now wanted cell.now.plan cell.now.cell present) }
 {
     let verdict = verify_after(alloc, cell, present)?;
-    let text = verdict_text(alloc, names, cell, present, verdict.seen(), wanted)?;
+    let text = verdict_text(alloc, names, cell, present, verdict.seen(), wanted);
     let status = rest_status(&verdict);
+    drop(verdict);
+    let text = text?;
     Ok(Answer { text, status })
 }
 

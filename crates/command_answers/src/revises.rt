@@ -10,8 +10,8 @@ ghost use Rattle.command_answers.specs.Revising.{flag_of, is_printable, printabl
 ghost use Rattle.command_answers.specs.Steps.{IsOrMemory};
 
 use crate::answer::{Answer, Answered, GOOD, REFUSED};
-use crate::both::{Both, Pair};
 use crate::command_fault::{CommandFault, Unrevised};
+use crate::inputs::{InputPaths, ParsedInputs};
 use crate::lines::document_answer;
 use crate::logs::log_fault_answer;
 use crate::readings::{instance, plan};
@@ -53,7 +53,7 @@ pub struct Revision<'a> {
 pub fn revise_answer<T: Texts>(
     alloc: Global,
     texts: &mut T,
-    pair: &Pair<'_>,
+    pair: &InputPaths<'_>,
     log: &str,
     wanted: Revision<'_>,
 ) -> Answered
@@ -64,14 +64,21 @@ pub fn revise_answer<T: Texts>(
     let named = instance(alloc, texts, pair.instance, pair.name)?;
     let plan = plan(alloc, texts, pair.plan)?;
     let Named { description, shop } = named;
-    both_revised(alloc, texts, Both { shop, plan }, &description, log, wanted)
+    both_revised(
+        alloc,
+        texts,
+        ParsedInputs { shop, plan },
+        &description,
+        log,
+        wanted,
+    )
 }
 
 /// What is answered of a shop and a plan, if it is well shaped, else its first fault.
 fn both_revised<T: Texts>(
     alloc: Global,
     texts: &mut T,
-    both: Both,
+    both: ParsedInputs,
     description: &[u8],
     log: &str,
     wanted: Revision<'_>,

@@ -6,9 +6,8 @@ ghost use Rattle.command_answers.specs.Timetables.{IsPlanScheduled};
 ghost use Rattle.command_answers.specs.Commands.{RunsSchedule};
 
 use crate::answer::{Answer, Answered};
-use crate::both::read_both;
 use crate::checks::status_of;
-use crate::files::Files;
+use crate::inputs::{Files, read_inputs};
 use crate::naming::names_of;
 use crate::shapes::not_shaped_answer;
 use crate::texts::Texts;
@@ -22,10 +21,12 @@ use std::alloc::{AllocError, Global};
 pub fn schedule_answer<T: Texts>(alloc: Global, texts: &mut T, files: &Files<'_>) -> Answered
     ensures { RunsSchedule T.gives files.now.pair (option_copied files.now.names) texts.old result texts.new }
 {
-    match read_both(alloc, texts, &files.pair)?.shaped() {
+    match read_inputs(alloc, texts, &files.pair)?.shaped() {
         Ok(shaped) => {
             let names = names_of(alloc, texts, files.names, &shaped)?;
-            Ok(plan_scheduled(alloc, &names, shaped)?)
+            let answer = plan_scheduled(alloc, &names, shaped);
+            drop(names);
+            Ok(answer?)
         }
         Err(fault) => Ok(not_shaped_answer(alloc, fault)?),
     }
@@ -39,8 +40,10 @@ fn plan_scheduled(alloc: Global, names: &Names, shaped: Shaped) -> Result<Answer
     let _shop = shaped.shop();
     match verify(alloc, shaped) {
         Ok(verdict) => {
-            let text = plan_schedule::schedule(alloc, names, &verdict)?;
+            let text = plan_schedule::schedule(alloc, names, &verdict);
             let status = status_of(&verdict);
+            drop(verdict);
+            let text = text?;
             Ok(Answer { text, status })
         }
         Err((error, _)) => Err(error),

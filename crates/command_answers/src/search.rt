@@ -6,8 +6,8 @@ ghost use Rattle.command_answers.specs.Search.{IsSearchAnswer, IsNoPlanAnswer};
 ghost use Rattle.command_answers.specs.Commands.{RunsPlanWith};
 
 use crate::answer::{Answered, GOOD, REFUSED};
-use crate::both::{Both, Pair, read_both};
 use crate::command_fault::Unanswered;
+use crate::inputs::{InputPaths, ParsedInputs, read_inputs};
 use crate::lines::{bad_numbers_answer, document_answer, line_answer};
 use crate::texts::Texts;
 use plan_seek::{Proposer, SeekFault, seek};
@@ -20,26 +20,26 @@ use std::alloc::Global;
 pub fn plan_answer<T: Texts>(
     alloc: Global,
     texts: &mut T,
-    pair: &Pair<'_>,
+    pair: &InputPaths<'_>,
     proposers: &[Box<dyn Proposer>],
     rounds: u32,
 ) -> Answered
     ensures { RunsPlanWith T.gives (λ b. may b) proposers.now rounds pair.now texts.old result texts.new }
 {
-    let both = read_both(alloc, texts, pair)?;
+    let both = read_inputs(alloc, texts, pair)?;
     search_answer(alloc, both, proposers, rounds)
 }
 
 /// The answer of the search for a plan with the numbers of this one.
 fn search_answer(
     alloc: Global,
-    both: Both,
+    both: ParsedInputs,
     proposers: &[Box<dyn Proposer>],
     rounds: u32,
 ) -> Answered
     ensures { IsSearchAnswer (search_by (λ b. may b) proposers.now (task_in both)) rounds result }
 {
-    let Both { shop, plan } = both;
+    let ParsedInputs { shop, plan } = both;
     let (release, budget, clean) = (plan.release, plan.budget, plan.clean);
     match seek(alloc, shop, release, budget, clean, proposers, rounds) {
         Ok(verified) => document_answer(alloc, verified.shaped().plan(), GOOD),

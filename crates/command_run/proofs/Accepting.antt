@@ -18,7 +18,7 @@ memory_reported Is (Ok a) wanting = absurd wanting
 memory_reported Is (Err fault) wanting = wanting
 
 same_line : (loaded other : Loaded) (outcome : Result Answer CommandFault) → loaded ≡ other → IsLineAnswer other outcome → IsLineAnswer loaded outcome
-same_line loaded other outcome same told = subst (λ (l : Loaded). IsLineAnswer l outcome) (sym same) told
+same_line loaded other outcome same answered = subst (λ (l : Loaded). IsLineAnswer l outcome) (sym same) answered
 
 pub drives_accepted : (protocol : Protocol) (loaded : Loaded) (v : VerifiedPlan) (before after : Streams) (outcome : Result Answer CommandFault) → accepted_in loaded ≡ Ok v → DrivesCell protocol v before after outcome
     → Drives protocol (Ok loaded) before after outcome
@@ -28,6 +28,6 @@ drives_accepted protocol (Judged (Accepted w)) v before after outcome is cell = 
 
 pub drives_known : (protocol : Protocol) (loaded other : Loaded) (before after : Streams) (outcome : Result Answer CommandFault) → accepted_in loaded ≡ Err other → IsLineAnswer other outcome → after ≡ before
     → Drives protocol (Ok loaded) before after outcome
-drives_known protocol (NotShaped fault) other before after outcome is told same = (same_line (NotShaped fault) other outcome (cc is) told, same)
-drives_known protocol (Judged (Refused back why)) other before after outcome is told same = (same_line (Judged (Refused back why)) other outcome (cc is) told, same)
-drives_known protocol (Judged (Accepted w)) other before after outcome is told same = absurd (cc is)
+drives_known protocol (NotShaped fault) other before after outcome is answered same = (same_line (NotShaped fault) other outcome (cc is) answered, same)
+drives_known protocol (Judged (Refused back why)) other before after outcome is answered same = (same_line (Judged (Refused back why)) other outcome (cc is) answered, same)
+drives_known protocol (Judged (Accepted w)) other before after outcome is answered same = absurd (cc is)

@@ -95,32 +95,32 @@ pub record IsFailurePrinted (outcome : Result Answer CommandFault) (output : Out
   pub high : 2 ≤ status
   pub fault : CommandFault
   pub failed : IsFailureOf outcome output fault
-  pub told : IsLineOut fault before after status
+  pub printed : IsLineOut fault before after status
 
 abbrev EndsWell : Result Answer CommandFault → Output → Errors → Errors → ℕ → Type 0
 EndsWell outcome output before after status = IsFailurePrinted outcome output before after status ⊎ ((status ≤ 1) × (after ≡ before))
 
 pub fault_ends : (fault : CommandFault) (output : Output) (before after : Errors) (status : ℕ) → IsFaultPrinted fault before after status → IsFailurePrinted (Err fault) output before after status
-fault_ends fault output before after status (inl out) = record { high = at_least_two fault status out.own; fault = fault; failed = inl refl; told = out }
-fault_ends fault output before after status (inr (text, out)) = record { high = at_least_two Memory status out.own; fault = Memory; failed = inr (text, refl); told = out }
+fault_ends fault output before after status (inl out) = record { high = at_least_two fault status out.own; fault = fault; failed = inl refl; printed = out }
+fault_ends fault output before after status (inr (text, out)) = record { high = at_least_two Memory status out.own; fault = Memory; failed = inr (text, refl); printed = out }
 
 unprinted_ends : (answer : Answer) (fault : CommandFault) (output_before output_after : Output) (before after : Errors) (status : ℕ)
     → IsPrinted answer output_before output_after (Err fault) → IsFaultPrinted fault before after status → IsFailurePrinted (Ok answer) output_after before after status
 unprinted_ends answer fault output_before output_after before after status is (inl out) =
-    record { high = at_least_two fault status out.own; fault = fault; failed = (is.0, is.2); told = out }
+    record { high = at_least_two fault status out.own; fault = fault; failed = (is.0, is.2); printed = out }
 unprinted_ends answer fault output_before output_after before after status is (inr (text, out)) = absurd (subst IsOfText is.0 text)
 
 printed_ends : (answer : Answer) (printed : Result ℕ CommandFault) (output_before output_after : Output) (before after : Errors) (status : ℕ) → answer.status ≤ 1
     → IsPrinted answer output_before output_after printed → IsPrintedAfter printed before after status → EndsWell (Ok answer) output_after before after status
-printed_ends answer (Ok shown) output_before output_after before after status low is told =
-    inr (subst (λ n. n ≤ 1) (sym (told.1 ∙ is.0)) low, told.0)
-printed_ends answer (Err fault) output_before output_after before after status low is told =
-    inl (unprinted_ends answer fault output_before output_after before after status is told)
+printed_ends answer (Ok shown) output_before output_after before after status low is reported =
+    inr (subst (λ n. n ≤ 1) (sym (reported.1 ∙ is.0)) low, reported.0)
+printed_ends answer (Err fault) output_before output_after before after status low is reported =
+    inl (unprinted_ends answer fault output_before output_after before after status is reported)
 
 outcome_ends : (outcome : Result Answer CommandFault) (output_before output_after : Output) (before after : Errors) (status : ℕ) → IsLow outcome
     → Ends outcome output_before output_after before after status → EndsWell outcome output_after before after status
 outcome_ends (Ok answer) output_before output_after before after status low ends =
-    printed_ends answer ends.printed output_before output_after before after status low ends.is ends.told
+    printed_ends answer ends.printed output_before output_after before after status low ends.is ends.reported
 outcome_ends (Err fault) output_before output_after before after status low ends = inl (fault_ends fault output_after before after status ends.1)
 
 -- the same where a picture is asked for: what is answered in its place was printed
@@ -288,13 +288,13 @@ aside_shown true (Err fault) before after printed_before printed_after status sh
 
 printed_no_more : (answer : Answer) (printed : Result ℕ CommandFault) (before after : Output) (printed_before printed_after : Errors) (status : ℕ) → answer.status ≤ 1 → 2 ≤ status
     → IsPrinted answer before after printed → IsPrintedAfter printed printed_before printed_after status → IsUnanswered (Ok answer) before after
-printed_no_more answer (Ok shown) before after printed_before printed_after status low high is told = absurd (omega (arith, low, high, told.1, is.0))
-printed_no_more answer (Err fault) before after printed_before printed_after status low high is told = (is.2, is.1)
+printed_no_more answer (Ok shown) before after printed_before printed_after status low high is reported = absurd (omega (arith, low, high, reported.1, is.0))
+printed_no_more answer (Err fault) before after printed_before printed_after status low high is reported = (is.2, is.1)
 
 ended_no_more : (outcome : Result Answer CommandFault) (before after : Output) (printed_before printed_after : Errors) (status : ℕ) → IsLow outcome → 2 ≤ status
     → Ends outcome before after printed_before printed_after status → IsUnanswered outcome before after
 ended_no_more (Ok answer) before after printed_before printed_after status low high ends =
-    printed_no_more answer ends.printed before after printed_before printed_after status low high ends.is ends.told
+    printed_no_more answer ends.printed before after printed_before printed_after status low high ends.is ends.reported
 ended_no_more (Err fault) before after printed_before printed_after status low high ends = ends.0
 
 aside_no_more : (drawing : Bool) (outcome : Result Answer CommandFault) (before after : Output) (printed_before printed_after : Errors) (status : ℕ) → IsLow outcome → 2 ≤ status
@@ -335,7 +335,7 @@ module _ {W : Type 0} (gives : W → List ℕ → Result (List ℕ) CommandFault
   ends_printed : (outcome : Result Answer CommandFault) (mid : Streams) (own : ℕ) → IsOwnOr own status → Ran gives words before outcome mid after end
       → EndsWell outcome after.streams.output before.errors after.errors own → PrintsFaultsAlone gives words before status after end
   ends_printed outcome mid own rel ran (inl failure) =
-      inl (status_high own status rel failure.high, inr (record { outcome = outcome; mid = mid; ran = ran; fault = failure.fault; failed = failure.failed; own = own; told = failure.told; status_is = rel }))
+      inl (status_high own status rel failure.high, inr (record { outcome = outcome; mid = mid; ran = ran; fault = failure.fault; failed = failure.failed; own = own; printed = failure.printed; status_is = rel }))
   ends_printed outcome mid own rel ran (inr good) = inr (subst (λ (n : ℕ). n ≤ 1) (sym (low_own own status rel good.0)) good.0, inl good.1)
 
   -- of a command
@@ -343,7 +343,7 @@ module _ {W : Type 0} (gives : W → List ℕ → Result (List ℕ) CommandFault
       → RunsChosen gives (kept_log_in chosen) chosen before outcome mid after end
       → EndsWellBy (draws_in chosen) outcome after.streams.output before.errors after.errors own → PrintsFaultsAlone gives words before status after end
   command_printed chosen accepted is outcome mid own rel runs (inl well) = ends_printed outcome mid own rel (ran chosen accepted is outcome mid runs) well
-  command_printed chosen accepted is outcome mid own rel runs (inr (low, (answer, same, draws, told, answered))) =
+  command_printed chosen accepted is outcome mid own rel runs (inr (low, (answer, same, draws, printed, answered))) =
       let run : RunsChosen gives (kept_log_in chosen) chosen before (Ok answer) mid after end =
       subst (λ (o : Result Answer CommandFault). RunsChosen gives (kept_log_in chosen) chosen before o mid after end) same runs in
       let here : RanCommand gives words before (Ok answer) mid after end = record {
@@ -354,7 +354,7 @@ module _ {W : Type 0} (gives : W → List ℕ → Result (List ℕ) CommandFault
         driven = chosen_written gives chosen before after (Ok answer) mid end (kept_log_in chosen) refl run;
       } in
       let status_is = low_own own status rel low in
-      inr (subst (λ (n : ℕ). n ≤ 1) (sym status_is) low, inr (record { answer = answer; mid = mid; ran = here; draws = draws; told = told; own = status_is ∙ answered }))
+      inr (subst (λ (n : ℕ). n ≤ 1) (sym status_is) low, inr (record { answer = answer; mid = mid; ran = here; draws = draws; printed = printed; own = status_is ∙ answered }))
 
   pub follows_ends : (read : Result Chosen WordsFault) → AreWordsRead words read → Follows gives read before status after end → PrintsFaultsAlone gives words before status after end
   follows_ends (Ok chosen) are is =
@@ -364,7 +364,7 @@ module _ {W : Type 0} (gives : W → List ℕ → Result (List ℕ) CommandFault
       ends_printed (Ok is.help) before.streams status (inl refl) (chose_none (Usage true text) are.refused (Ok is.help) (is.help, refl, is.text_is.0))
       (outcome_ends (Ok is.help) before.streams.output after.streams.output before.errors after.errors status (omega (arith, is.text_is.1)) is.ends)
   follows_ends (Err (Usage false text)) are is =
-      inl (omega (arith, is.1), inl (record { fault = Usage false text; refused = are.refused; told = (is.1, is.0); same = is.3 }))
+      inl (omega (arith, is.1), inl (record { fault = Usage false text; refused = are.refused; printed = (is.1, is.0); same = is.3 }))
   follows_ends (Err NoWordsMemory) are is =
       ends_printed (Err Memory) before.streams status (inl refl) (chose_none NoWordsMemory are.refused (Err Memory) refl)
       (outcome_ends (Err Memory) before.streams.output after.streams.output before.errors after.errors status tt is.0)
@@ -395,7 +395,7 @@ module _ {W : Type 0} (gives : W → List ℕ → Result (List ℕ) CommandFault
         unanswered = ended_no_more (Ok is.help) before.streams.output after.streams.output before.errors after.errors status (omega (arith, is.text_is.1)) high is.ends;
       })
   follows_no_more (Err (Usage false text)) are high is =
-      inl (record { fault = Usage false text; refused = are.refused; told = (is.1, is.0); same = is.3 })
+      inl (record { fault = Usage false text; refused = are.refused; printed = (is.1, is.0); same = is.3 })
   follows_no_more (Err NoWordsMemory) are high is =
       inr (record {
         outcome = Err Memory;

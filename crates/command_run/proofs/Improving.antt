@@ -11,7 +11,7 @@ use Rattle.command_answers.specs.declared.command_fault.CommandFault.{CommandFau
 use Rattle.command_answers.specs.declared.command_fault.CommandFault.TheVariants.{Instance, Plan, Names, Read, Write, InputTooLong, Log, LogInUse, Memory}
 use Rattle.command_answers.specs.Improving.{IsBest, IsBestAnswer, IsImproveAnswer, ordered}
 use Rattle.command_answers.specs.Steps.{Concludes}
-use Rattle.command_answers.specs.Commands.{PairOfFiles, ReadsBoth, RunsImprove}
+use Rattle.command_answers.specs.Commands.{InputPaths, ReadsBoth, RunsImprove}
 use Rattle.command_run.specs.Improvers.{MayImprove, AsksOne}
 use Rattle.command_run.proofs.Planning.{then_more}
 
@@ -44,7 +44,7 @@ module _ (made more : Asked) (rounds : ℕ) (less : (p q : PlannedShop) → made
 
 -- what improvers do is done by ones that may answer more
 runs_more : {W : Type 0} (gives : W → List ℕ → Result (List ℕ) CommandFault → W → Type 0) (made more : Asked) → ((p q : PlannedShop) → made p q → more p q)
-    → (rounds : ℕ) (pair : PairOfFiles) (before : W) (outcome : Result Answer CommandFault) (after : W)
+    → (rounds : ℕ) (pair : InputPaths) (before : W) (outcome : Result Answer CommandFault) (after : W)
     → RunsImprove gives made rounds pair before outcome after → RunsImprove gives more rounds pair before outcome after
 runs_more gives made more less rounds pair before outcome after =
     then_more (ReadsBoth gives pair) (λ p. Concludes (IsImproveAnswer made rounds (ordered p))) (λ p. Concludes (IsImproveAnswer more rounds (ordered p))) before outcome after
@@ -64,20 +64,20 @@ module _ (s : Setting) {B : Type 0} (may : B → PlannedShop → Left → ℕ �
   round_all_more : (round : ℕ) (p q : PlannedShop) → AfterRound s may improvers round p q → AfterRound s MayImprove (tt ∷ []) round p q
   round_all_more round p q is = record { asked = is.asked; after = some_more round p is.asked q is.after; ends = subst (λ k. EndsAfter s k is.asked q) alone is.ends }
 
-  rounds_more : (p : PlannedShop) (n : ℕ) (told : List LogAnswer) (r : PlannedShop) → AfterRounds s may improvers p n told r → AfterRounds s MayImprove (tt ∷ []) p n told r
-  rounds_more p n told r no_round = no_round
-  rounds_more p n told r (round_more m before q z cost at_least run is bound unmet last) =
+  rounds_more : (p : PlannedShop) (n : ℕ) (reports : List LogAnswer) (r : PlannedShop) → AfterRounds s may improvers p n reports r → AfterRounds s MayImprove (tt ∷ []) p n reports r
+  rounds_more p n reports r no_round = no_round
+  rounds_more p n reports r (round_more m before q z cost at_least run is bound unmet last) =
       round_more m before q z cost at_least (rounds_more p m before q run) is bound unmet (round_all_more m q z last)
 
-  asked_more : (rounds : ℕ) (told : List LogAnswer) (p q : PlannedShop) → ReportedRounds s may improvers rounds told p q → ReportedRounds s MayImprove (tt ∷ []) rounds told p q
-  asked_more rounds told p q is = record { asked = is.asked; after = rounds_more p is.asked told q is.after; ends = is.ends }
+  asked_more : (rounds : ℕ) (reports : List LogAnswer) (p q : PlannedShop) → ReportedRounds s may improvers rounds reports p q → ReportedRounds s MayImprove (tt ∷ []) rounds reports p q
+  asked_more rounds reports p q is = record { asked = is.asked; after = rounds_more p is.asked reports q is.after; ends = is.ends }
 
   pub all_more : (rounds : ℕ) (p q : PlannedShop) → Rounds s may improvers rounds p q → Rounds s MayImprove (tt ∷ []) rounds p q
   all_more rounds p q found = (found.0, asked_more rounds found.0 p q found.1)
 
 -- a search by one improver
 pub improves : {W B : Type 0} (may : B → PlannedShop → Left → ℕ → Proposal → Type 0) (improvers : List B) → length improvers ≡ 1 → (gives : W → List ℕ → Result (List ℕ) CommandFault → W → Type 0)
-    (rounds : ℕ) (pair : PairOfFiles) (before : W) (outcome : Result Answer CommandFault) (after : W)
+    (rounds : ℕ) (pair : InputPaths) (before : W) (outcome : Result Answer CommandFault) (after : W)
     → RunsImprove gives (Rounds whole_plan may improvers rounds) rounds pair before outcome after
     → RunsImprove gives (AsksOne rounds) rounds pair before outcome after
 improves may improvers alone gives rounds pair before outcome after =

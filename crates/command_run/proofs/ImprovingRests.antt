@@ -12,7 +12,7 @@ use Rattle.command_answers.specs.Improving.{ordered}
 use Rattle.command_answers.specs.ImprovingRests.{RestAsked, RestRoundsOf, IsBestRest, IsRestAnswer}
 use Rattle.command_answers.specs.Steps.{Concludes}
 use Rattle.command_answers.specs.Texts.{Asks}
-use Rattle.command_answers.specs.Commands.{PairOfFiles, ReadsBoth, WithRest, RunsImproveRest}
+use Rattle.command_answers.specs.Commands.{InputPaths, ReadsBoth, WithRest, RunsImproveRest}
 use Rattle.command_run.specs.Improvers.{MayImprove, AsksOneForRest}
 use Rattle.command_run.proofs.Improving.{all_more}
 use Rattle.command_run.proofs.Planning.{then_more}
@@ -68,7 +68,7 @@ module _ (made more : RestAsked) (less : (lines : List (List ℕ)) (t : ℕ) (p 
         )
     with_more log p before outcome after (inr line) = inr line
 
-    runs_more : (pair : PairOfFiles) (log : List ℕ) (before : W) (outcome : Result Answer CommandFault) (after : W)
+    runs_more : (pair : InputPaths) (log : List ℕ) (before : W) (outcome : Result Answer CommandFault) (after : W)
         → RunsImproveRest gives made at rounds pair log before outcome after → RunsImproveRest gives more at rounds pair log before outcome after
     runs_more pair log before outcome after =
         then_more (ReadsBoth gives pair) (λ p. WithRest gives made at rounds log (ordered p)) (λ p. WithRest gives more at rounds log (ordered p)) before outcome after
@@ -76,7 +76,7 @@ module _ (made more : RestAsked) (less : (lines : List (List ℕ)) (t : ℕ) (p 
 
 -- a search by one improver
 pub improves_rest : {W B : Type 0} (gives : W → List ℕ → Result (List ℕ) CommandFault → W → Type 0) (may : B → PlannedShop → Left → ℕ → Proposal → Type 0) (improvers : List B) → length improvers ≡ 1
-    → (at : Option ℕ) (rounds : ℕ) (pair : PairOfFiles) (log : List ℕ) (before : W) (outcome : Result Answer CommandFault) (after : W)
+    → (at : Option ℕ) (rounds : ℕ) (pair : InputPaths) (log : List ℕ) (before : W) (outcome : Result Answer CommandFault) (after : W)
     → RunsImproveRest gives (RestRoundsOf rounds may improvers) at rounds pair log before outcome after → RunsImproveRest gives (AsksOneForRest rounds) at rounds pair log before outcome after
 improves_rest gives may improvers alone at rounds pair log before outcome after =
     runs_more (RestRoundsOf rounds may improvers) (AsksOneForRest rounds) (λ lines t. all_more (rest_after lines t) may improvers alone rounds) at rounds gives pair log before outcome after

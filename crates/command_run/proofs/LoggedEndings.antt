@@ -17,7 +17,7 @@ use Rattle.command_answers.specs.declared.answer.Answer.{Answer}
 use Rattle.command_answers.specs.declared.command_fault.CommandFault.{CommandFault}
 use Rattle.command_answers.specs.declared.loading.Loaded.TheVariants.{NotShaped, Judged}
 use Rattle.command_answers.specs.Checks.{IsLineOf}
-use Rattle.command_answers.specs.Commands.{PairOfFiles, Shapes}
+use Rattle.command_answers.specs.Commands.{InputPaths, Shapes}
 use Rattle.command_run.specs.Streams.{Streams, Output}
 use Rattle.command_run.specs.Drives.{end_of_drive}
 use Rattle.command_run.specs.Resumes.{end_of_rest}
@@ -80,7 +80,7 @@ module _ (folder folder_after : Folder) (path : List ℕ) (start : LogStart) (pr
 
 -- ---- what is written
 
-module _ {W : Type 0} (gives : W → List ℕ → Result (List ℕ) CommandFault → W → Type 0) (pair : PairOfFiles) (protocol : Protocol) (texts later : W) (before after : Streams)
+module _ {W : Type 0} (gives : W → List ℕ → Result (List ℕ) CommandFault → W → Type 0) (pair : InputPaths) (protocol : Protocol) (texts later : W) (before after : Streams)
     (outcome : Result Answer CommandFault) (end : Option LogEnd) where
   -- nothing, or what the cell answered
   abbrev Written : Type 0
@@ -142,7 +142,7 @@ gone_on_shown protocol t mid (Ok done) step parses run = run.shows.shown
 gone_on_shown protocol t mid (Err fault) step parses is =
     subst (λ (s : Streams). HoldsNothing s.output) (sym is.1) (plan_answer_shown protocol t step.before.output mid fault parses)
 
-pub logged_shown : {W : Type 0} (gives : W → List ℕ → Result (List ℕ) CommandFault → W → Type 0) (protocol : Protocol) (pair : PairOfFiles) (texts : W) (before after : Streams)
+pub logged_shown : {W : Type 0} (gives : W → List ℕ → Result (List ℕ) CommandFault → W → Type 0) (protocol : Protocol) (pair : InputPaths) (texts : W) (before after : Streams)
     (drove : DroveWithLog gives protocol pair texts before after) → before.output.pending ≡ [] → HoldsNothing after.output
 logged_shown gives protocol pair texts before after drove none = elim drove.is [
   | inl (v, same, run) ↦ run.shows.shown

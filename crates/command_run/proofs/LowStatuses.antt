@@ -70,7 +70,7 @@ use Rattle.command_answers.specs.Rests.{IsPastLine, IsRestLine, job_asked}
 use Rattle.command_answers.specs.declared.pictures.Drawn.{Drawn}
 use Rattle.command_answers.specs.declared.pictures.Drawn.TheVariants.{Picture, Line as LineDrawn}
 use Rattle.command_answers.specs.Pictures.{IsCellDrawn, IsLogDrawn, IsPlanDrawn, IsRestDrawing, IsRestDrawn, IsUnshapedDrawn, IsVerdictDrawn, IfDrawable, DrawsLog, DrawsRest, DrawsSchedule}
-use Rattle.command_answers.specs.Commands.{PairOfFiles, IfShaped, IfThere, WithBoth, WithLogOf, WithNames, WithNamesAndLog, WithRest, WithRestDecision, WithSoundNames}
+use Rattle.command_answers.specs.Commands.{InputPaths, IfShaped, IfThere, WithBoth, WithLogOf, WithNames, WithNamesAndLog, WithRest, WithRestDecision, WithSoundNames}
 use Rattle.command_answers.specs.Cells.{IsCellLine, AfterPlan, LoadsEach}
 use Rattle.command_answers.specs.Digests.{IsDigestAnswer}
 use Rattle.command_answers.specs.Margins.{IsMarginAnswer}
@@ -164,15 +164,15 @@ low_sought s rounds (Ok answer) is = low_search s rounds answer is
 low_sought s rounds (Err fault) is = tt
 
 low_log : (names : NameBook) (wanted : LogAnswer) (p : PlannedShop) (log : List ℕ) (answer : Answer) → IsLogLine names wanted p log answer → answer.status ≤ 1
-low_log names wanted p log answer (inl kept) = zero_low answer.status kept.told.1
+low_log names wanted p log answer (inl kept) = zero_low answer.status kept.answered.1
 low_log names wanted p log answer (inr refused) = one_low answer.status refused.line.1
 
 low_verdict : (verdict : Verdict) (status : ℕ) → status ≡ verdict_status verdict → status ≤ 1
 low_verdict (Accepted v) status is = zero_low status is
 low_verdict (Refused back why) status is = one_low status is
 
-low_explained : (names : NameBook) (told : Option ℕ) (p : PlannedShop) (answer : Answer) → IsPlanExplained names told p answer → answer.status ≤ 1
-low_explained names told p answer explained = low_verdict explained.verdict answer.status explained.explained.status
+low_explained : (names : NameBook) (job : Option ℕ) (p : PlannedShop) (answer : Answer) → IsPlanExplained names job p answer → answer.status ≤ 1
+low_explained names job p answer explained = low_verdict explained.verdict answer.status explained.explained.status
 
 low_scheduled : (names : NameBook) (p : PlannedShop) (answer : Answer) → IsPlanScheduled names p answer → answer.status ≤ 1
 low_scheduled names p answer scheduled = low_verdict scheduled.verdict answer.status scheduled.scheduled.status
@@ -242,9 +242,9 @@ low_printed InstanceText description q outcome is = low_instance description q.s
 low_revised : (prints : Revised) (description : List ℕ) (at : Option ℕ) (changes : List Change) (values : List (List ℕ)) (p : PlannedShop) (log : List ℕ) (outcome : Result Answer CommandFault)
     → IsReviseAnswer prints description at changes values p log outcome → IsLow outcome
 low_revised prints description at changes values p log outcome (inr refused) = low_or (IsLogRefused p (ended_lines log)) outcome (λ answer line. one_low answer.status line.line.1) refused
-low_revised prints description at changes values p log outcome (inl told) = go told.revised
+low_revised prints description at changes values p log outcome (inl kept) = go kept.revised
   where
-    go : IsRevisedFrom prints description at changes values p (ends_in p (events_of told.run.0)) outcome → IsLow outcome
+    go : IsRevisedFrom prints description at changes values p (ends_in p (events_of kept.run.0)) outcome → IsLow outcome
     go (inl (before, past)) = low_or _ outcome (λ answer line. one_low answer.status line.1) past
     go (inr (later, inl cycle)) = low_or _ outcome (λ answer line. one_low answer.status line.line.1) cycle
     go (inr (later, inr (none, inl text))) = low_printed prints description text.revised outcome text.printed
@@ -269,16 +269,16 @@ IsLowDrawn (Err fault) = Unit {0}
 low_drawn_failed : (fault : CommandFault) → IsLowDrawn (Err fault)
 low_drawn_failed fault = tt
 
-low_verdict_drawn : (names : NameBook) (p : PlannedShop) (c : Cell) (t : ℕ) (line : Option ℕ) (told : List DrawnVisit) (verdict : JudgedRest) (drawn : Drawn) → IsVerdictDrawn names p c t line told verdict drawn → IsLowDrawn (Ok drawn)
-low_verdict_drawn names p c t line told (InTime times) (Picture picture status) is = zero_low status is.1
-low_verdict_drawn names p c t line told (InTime times) (LineDrawn answer) none = absurd none
-low_verdict_drawn names p c t line told (NotInTime (Late job leaves chain times)) (Picture picture status) is = one_low status is.1
-low_verdict_drawn names p c t line told (NotInTime (Late job leaves chain times)) (LineDrawn answer) none = absurd none
-low_verdict_drawn names p c t line told (NotInTime (Cycle nodes)) (Picture picture status) none = absurd none
-low_verdict_drawn names p c t line told (NotInTime (Cycle nodes)) (LineDrawn answer) is = one_low answer.status is.1
+low_verdict_drawn : (names : NameBook) (p : PlannedShop) (c : Cell) (t : ℕ) (line : Option ℕ) (visits : List DrawnVisit) (verdict : JudgedRest) (drawn : Drawn) → IsVerdictDrawn names p c t line visits verdict drawn → IsLowDrawn (Ok drawn)
+low_verdict_drawn names p c t line visits (InTime times) (Picture picture status) is = zero_low status is.1
+low_verdict_drawn names p c t line visits (InTime times) (LineDrawn answer) none = absurd none
+low_verdict_drawn names p c t line visits (NotInTime (Late job leaves chain times)) (Picture picture status) is = one_low status is.1
+low_verdict_drawn names p c t line visits (NotInTime (Late job leaves chain times)) (LineDrawn answer) none = absurd none
+low_verdict_drawn names p c t line visits (NotInTime (Cycle nodes)) (Picture picture status) none = absurd none
+low_verdict_drawn names p c t line visits (NotInTime (Cycle nodes)) (LineDrawn answer) is = one_low answer.status is.1
 
-low_rest_drawn : (names : NameBook) (p : PlannedShop) (c : Cell) (t : ℕ) (line : Option ℕ) (told : List DrawnVisit) (drawn : Drawn) → IsRestDrawn names p c t line told drawn → IsLowDrawn (Ok drawn)
-low_rest_drawn names p c t line told drawn is = low_verdict_drawn names p c t line told is.verdict drawn is.is
+low_rest_drawn : (names : NameBook) (p : PlannedShop) (c : Cell) (t : ℕ) (line : Option ℕ) (visits : List DrawnVisit) (drawn : Drawn) → IsRestDrawn names p c t line visits drawn → IsLowDrawn (Ok drawn)
+low_rest_drawn names p c t line visits drawn is = low_verdict_drawn names p c t line visits is.verdict drawn is.is
 
 low_cell_drawn : (at : Option ℕ) (names : NameBook) (p : PlannedShop) (c : Cell) (entries : List Entry) (drawn : Drawn) → IsCellDrawn at names p c entries drawn → IsLowDrawn (Ok drawn)
 low_cell_drawn at names p c entries (LineDrawn answer) (inl past) = one_low answer.status past.1.1
@@ -403,7 +403,7 @@ low_drives_all protocol (Ok (AllAccepted cells)) before after outcome low is = l
 -- ---- the commands
 
 module _ {W : Type 0} (gives : W → List ℕ → Result (List ℕ) CommandFault → W → Type 0) where
-  low_both : (pair : PairOfFiles) (next : PlannedShop → W → Result Answer CommandFault → W → Type 0) (texts : W) (outcome : Result Answer CommandFault) (after : W)
+  low_both : (pair : InputPaths) (next : PlannedShop → W → Result Answer CommandFault → W → Type 0) (texts : W) (outcome : Result Answer CommandFault) (after : W)
       → ((p : PlannedShop) (mid : W) → next p mid outcome after → IsLow outcome) → WithBoth gives pair next texts outcome after → IsLow outcome
   low_both pair next texts outcome after each run = held IsLow _ next texts outcome after low_failed each run
 
@@ -411,20 +411,20 @@ module _ {W : Type 0} (gives : W → List ℕ → Result (List ℕ) CommandFault
       → (log : List ℕ) (p : PlannedShop) (mid : W) (outcome : Result Answer CommandFault) (after : W) → WithLogOf gives Comes log p mid outcome after → IsLow outcome
   low_with_log_of Comes each log p mid outcome after (inl (shaped, run)) =
       held IsLow _ (λ text. Concludes (Comes p text)) mid outcome after low_failed (λ text later on. each p text outcome on.0) run
-  low_with_log_of Comes each log p mid outcome after (inr told) = low_or (IsNotShapedLine p) outcome (low_not_shaped p) told.0
+  low_with_log_of Comes each log p mid outcome after (inr answered) = low_or (IsNotShapedLine p) outcome (low_not_shaped p) answered.0
 
   -- what comes of a plan that is well shaped
   low_if_shaped : (next : W → Result Answer CommandFault → W → Type 0) (p : PlannedShop) (mid : W) (outcome : Result Answer CommandFault) (after : W)
       → (next mid outcome after → IsLow outcome) → IfShaped gives p next mid outcome after → IsLow outcome
   low_if_shaped next p mid outcome after each (inl (shaped, run)) = each run
-  low_if_shaped next p mid outcome after each (inr told) = low_or (IsNotShapedLine p) outcome (low_not_shaped p) told.0
+  low_if_shaped next p mid outcome after each (inr answered) = low_or (IsNotShapedLine p) outcome (low_not_shaped p) answered.0
 
   -- and where the job that is asked for is one of its shop
-  low_if_there : (told : Option ℕ) (next : W → Result Answer CommandFault → W → Type 0) (p : PlannedShop) (mid : W) (outcome : Result Answer CommandFault) (after : W)
-      → (next mid outcome after → IsLow outcome) → IfThere gives told p next mid outcome after → IsLow outcome
+  low_if_there : (job : Option ℕ) (next : W → Result Answer CommandFault → W → Type 0) (p : PlannedShop) (mid : W) (outcome : Result Answer CommandFault) (after : W)
+      → (next mid outcome after → IsLow outcome) → IfThere gives job p next mid outcome after → IsLow outcome
   low_if_there None next p mid outcome after each run = each run
   low_if_there (Some j) next p mid outcome after each (inl (few, run)) = each run
-  low_if_there (Some j) next p mid outcome after each (inr (many, told)) = low_or (IsNoJobLine j) outcome (λ answer line. one_low answer.status line.1) told.0
+  low_if_there (Some j) next p mid outcome after each (inr (many, answered)) = low_or (IsNoJobLine j) outcome (λ answer line. one_low answer.status line.1) answered.0
 
   low_with_names : (Comes : NameBook → Result Answer CommandFault → Type 0) → ((book : NameBook) (outcome : Result Answer CommandFault) → Comes book outcome → IsLow outcome)
       → (names : Option (List ℕ)) (p : PlannedShop) (mid : W) (outcome : Result Answer CommandFault) (after : W) → WithNames gives names p Comes mid outcome after → IsLow outcome
@@ -439,23 +439,23 @@ module _ {W : Type 0} (gives : W → List ℕ → Result (List ℕ) CommandFault
 
   -- a line for a plan that is well shaped, with names
   low_named : (Is : NameBook → PlannedShop → Answer → Type 0) → ((book : NameBook) (p : PlannedShop) (answer : Answer) → Is book p answer → answer.status ≤ 1)
-      → (pair : PairOfFiles) (names : Option (List ℕ)) (texts : W) (outcome : Result Answer CommandFault) (after : W)
+      → (pair : InputPaths) (names : Option (List ℕ)) (texts : W) (outcome : Result Answer CommandFault) (after : W)
       → WithBoth gives pair (λ p. IfShaped gives p (WithNames gives names p (λ book. IsOrMemory (Is book p)))) texts outcome after → IsLow outcome
   low_named Is each pair names texts outcome after run =
       low_both pair (λ p. IfShaped gives p (WithNames gives names p (λ book. IsOrMemory (Is book p)))) texts outcome after
       (λ p mid on. low_if_shaped (WithNames gives names p (λ book. IsOrMemory (Is book p))) p mid outcome after
-      (low_with_names (λ book. IsOrMemory (Is book p)) (λ book told. low_or (Is book p) told (each book p)) names p mid outcome after) on) run
+      (low_with_names (λ book. IsOrMemory (Is book p)) (λ book answered. low_or (Is book p) answered (each book p)) names p mid outcome after) on) run
 
   -- and with a log
   low_named_and_logged : (Is : NameBook → PlannedShop → List ℕ → Answer → Type 0) → ((book : NameBook) (p : PlannedShop) (text : List ℕ) (answer : Answer) → Is book p text answer → answer.status ≤ 1)
-      → (pair : PairOfFiles) (names : Option (List ℕ)) (log : List ℕ) (texts : W) (outcome : Result Answer CommandFault) (after : W)
+      → (pair : InputPaths) (names : Option (List ℕ)) (log : List ℕ) (texts : W) (outcome : Result Answer CommandFault) (after : W)
       → WithBoth gives pair (λ p. IfShaped gives p (WithNamesAndLog gives names log p (λ book. Is book p))) texts outcome after → IsLow outcome
   low_named_and_logged Is each pair names log texts outcome after run =
       low_both pair (λ p. IfShaped gives p (WithNamesAndLog gives names log p (λ book. Is book p))) texts outcome after
       (λ p mid on. low_if_shaped (WithNamesAndLog gives names log p (λ book. Is book p)) p mid outcome after
       (low_names_and_log (λ book. Is book p) (λ book. each book p) names log p mid outcome after) on) run
 
-  low_answer_by : (wanted : PlanAnswer) (at : Option ℕ) (pair : PairOfFiles) (names log : Option (List ℕ)) (texts : W) (outcome : Result Answer CommandFault) (after : W)
+  low_answer_by : (wanted : PlanAnswer) (at : Option ℕ) (pair : InputPaths) (names log : Option (List ℕ)) (texts : W) (outcome : Result Answer CommandFault) (after : W)
       → RunsPlanAnswer gives wanted at pair names log texts outcome after → IsLow outcome
   low_answer_by wanted at pair names (Some log) texts outcome after run =
       low_both pair (λ p. IfShaped gives p (IfThere gives (job_asked wanted) p (WithNamesAndLog gives names log p (λ book. IsRestLine book wanted at p)))) texts outcome after
@@ -464,14 +464,14 @@ module _ {W : Type 0} (gives : W → List ℕ → Result (List ℕ) CommandFault
       (low_names_and_log (λ book. IsRestLine book wanted at p) (λ book. low_rest book wanted at p) names log p mid outcome after)) on) run
   low_answer_by OfVerdict at pair names None texts outcome after run =
       low_both pair (λ p. Concludes (IsOrMemory (IsCheckLine p))) texts outcome after (λ p mid on. low_or (IsCheckLine p) outcome (low_check p) on.0) run
-  low_answer_by (Reasons told) at pair names None texts outcome after run =
-      low_both pair (λ p. IfShaped gives p (IfThere gives told p (WithNames gives names p (λ book. IsOrMemory (IsPlanExplained book told p))))) texts outcome after
-      (λ p mid on. low_if_shaped (IfThere gives told p (WithNames gives names p (λ book. IsOrMemory (IsPlanExplained book told p)))) p mid outcome after
-      (low_if_there told (WithNames gives names p (λ book. IsOrMemory (IsPlanExplained book told p))) p mid outcome after
-      (low_with_names (λ book. IsOrMemory (IsPlanExplained book told p)) (λ book said. low_or (IsPlanExplained book told p) said (low_explained book told p)) names p mid outcome after)) on) run
+  low_answer_by (Reasons job) at pair names None texts outcome after run =
+      low_both pair (λ p. IfShaped gives p (IfThere gives job p (WithNames gives names p (λ book. IsOrMemory (IsPlanExplained book job p))))) texts outcome after
+      (λ p mid on. low_if_shaped (IfThere gives job p (WithNames gives names p (λ book. IsOrMemory (IsPlanExplained book job p)))) p mid outcome after
+      (low_if_there job (WithNames gives names p (λ book. IsOrMemory (IsPlanExplained book job p))) p mid outcome after
+      (low_with_names (λ book. IsOrMemory (IsPlanExplained book job p)) (λ book said. low_or (IsPlanExplained book job p) said (low_explained book job p)) names p mid outcome after)) on) run
   low_answer_by Moments at pair names None texts outcome after run = low_named IsPlanScheduled low_scheduled pair names texts outcome after run
 
-  low_moves_answered : (at : Option ℕ) (pair : PairOfFiles) (names log : Option (List ℕ)) (texts : W) (outcome : Result Answer CommandFault) (after : W) → AnswersMoves gives at pair names log texts outcome after → IsLow outcome
+  low_moves_answered : (at : Option ℕ) (pair : InputPaths) (names log : Option (List ℕ)) (texts : W) (outcome : Result Answer CommandFault) (after : W) → AnswersMoves gives at pair names log texts outcome after → IsLow outcome
   low_moves_answered at pair names None texts outcome after run = low_named AreMovesOfPlan (λ book p. low_moves book p (start p) 0) pair names texts outcome after run
   low_moves_answered at pair names (Some log) texts outcome after run =
       low_named_and_logged (λ book p. AreMovesOfLog book at p) (λ book p. low_log_moves book at p) pair names log texts outcome after run
@@ -479,7 +479,7 @@ module _ {W : Type 0} (gives : W → List ℕ → Result (List ℕ) CommandFault
   low_drawable : (next : W → Result Drawn CommandFault → W → Type 0) (p : PlannedShop) (mid : W) (drawn : Result Drawn CommandFault) (after : W)
       → (next mid drawn after → IsLowDrawn drawn) → IfDrawable p next mid drawn after → IsLowDrawn drawn
   low_drawable next p mid drawn after each (inl (shaped, run)) = each run
-  low_drawable next p mid drawn after each (inr told) = low_unshaped_drawn p drawn told.0
+  low_drawable next p mid drawn after each (inr answered) = low_unshaped_drawn p drawn answered.0
 
   low_named_log : (IsDrawing : NameBook → List ℕ → Drawn → Type 0) → ((book : NameBook) (text : List ℕ) (drawn : Result Drawn CommandFault) → IsOrMemory (IsDrawing book text) drawn → IsLowDrawn drawn)
       → (names : Option (List ℕ)) (log : List ℕ) (p : PlannedShop) (mid : W) (drawn : Result Drawn CommandFault) (after : W) → WithNamesAndLog gives names log p IsDrawing mid drawn after → IsLowDrawn drawn
@@ -487,49 +487,49 @@ module _ {W : Type 0} (gives : W → List ℕ → Result (List ℕ) CommandFault
       held IsLowDrawn _ (λ book. Then (Asks gives log) (λ text. Concludes (IsOrMemory (IsDrawing book text)))) mid drawn after low_drawn_failed
       (λ book later on. held IsLowDrawn _ (λ text. Concludes (IsOrMemory (IsDrawing book text))) later drawn after low_drawn_failed (λ text last said. each book text drawn said.0) on) run
 
-  low_schedule_picture : (pair : PairOfFiles) (names : Option (List ℕ)) (texts : W) (drawn : Result Drawn CommandFault) (after : W) → DrawsSchedule gives pair names texts drawn after → IsLowDrawn drawn
+  low_schedule_picture : (pair : InputPaths) (names : Option (List ℕ)) (texts : W) (drawn : Result Drawn CommandFault) (after : W) → DrawsSchedule gives pair names texts drawn after → IsLowDrawn drawn
   low_schedule_picture pair names texts drawn after came =
       held IsLowDrawn _ (λ p. IfDrawable p (WithNames gives names p (λ book. IsOrMemory (IsPlanDrawn book p)))) texts drawn after low_drawn_failed
       (λ p mid on. low_drawable (WithNames gives names p (λ book. IsOrMemory (IsPlanDrawn book p))) p mid drawn after
       (λ run. held IsLowDrawn _ (λ book. Concludes (IsOrMemory (IsPlanDrawn book p))) mid drawn after low_drawn_failed (λ book later said. low_plan_drawn book p drawn said.0) run) on) came
 
-  low_rest_picture : (at : Option ℕ) (pair : PairOfFiles) (names : Option (List ℕ)) (log : List ℕ) (texts : W) (drawn : Result Drawn CommandFault) (after : W) → DrawsRest gives at pair names log texts drawn after → IsLowDrawn drawn
+  low_rest_picture : (at : Option ℕ) (pair : InputPaths) (names : Option (List ℕ)) (log : List ℕ) (texts : W) (drawn : Result Drawn CommandFault) (after : W) → DrawsRest gives at pair names log texts drawn after → IsLowDrawn drawn
   low_rest_picture at pair names log texts drawn after came =
       held IsLowDrawn _ (λ p. IfDrawable p (WithNamesAndLog gives names log p (λ book. IsRestDrawing at book p))) texts drawn after low_drawn_failed
       (λ p mid on. low_drawable (WithNamesAndLog gives names log p (λ book. IsRestDrawing at book p)) p mid drawn after
       (low_named_log (λ book. IsRestDrawing at book p) (λ book. low_rest_drawing at book p) names log p mid drawn after) on) came
 
-  low_timetable_picture : (at : Option ℕ) (pair : PairOfFiles) (names log : Option (List ℕ)) (texts : W) (drawn : Result Drawn CommandFault) (after : W) → DrawsTimetable gives at pair names log texts drawn after → IsLowDrawn drawn
+  low_timetable_picture : (at : Option ℕ) (pair : InputPaths) (names log : Option (List ℕ)) (texts : W) (drawn : Result Drawn CommandFault) (after : W) → DrawsTimetable gives at pair names log texts drawn after → IsLowDrawn drawn
   low_timetable_picture at pair names None texts drawn after came = low_schedule_picture pair names texts drawn after came
   low_timetable_picture at pair names (Some log) texts drawn after came = low_rest_picture at pair names log texts drawn after came
 
-  low_log_picture : (pair : PairOfFiles) (names : Option (List ℕ)) (log : List ℕ) (texts : W) (drawn : Result Drawn CommandFault) (after : W) → DrawsLog gives pair names log texts drawn after → IsLowDrawn drawn
+  low_log_picture : (pair : InputPaths) (names : Option (List ℕ)) (log : List ℕ) (texts : W) (drawn : Result Drawn CommandFault) (after : W) → DrawsLog gives pair names log texts drawn after → IsLowDrawn drawn
   low_log_picture pair names log texts drawn after came =
       held IsLowDrawn _ (λ p. IfDrawable p (WithNamesAndLog gives names log p (λ book. IsLogDrawn book p))) texts drawn after low_drawn_failed
       (λ p mid on. low_drawable (WithNamesAndLog gives names log p (λ book. IsLogDrawn book p)) p mid drawn after
       (low_named_log (λ book. IsLogDrawn book p) (λ book. low_log_drawn book p) names log p mid drawn after) on) came
 
-  low_timetable : (form : Timetable) (at : Option ℕ) (pair : PairOfFiles) (names log : Option (List ℕ)) (texts : W) (before : Streams) (outcome : Result Answer CommandFault) (texts_after : W) (after : Streams)
+  low_timetable : (form : Timetable) (at : Option ℕ) (pair : InputPaths) (names log : Option (List ℕ)) (texts : W) (before : Streams) (outcome : Result Answer CommandFault) (texts_after : W) (after : Streams)
       → RunsTimetable gives form at pair names log texts before outcome texts_after after → IsLow outcome
   low_timetable ByMoments at pair names log texts before outcome texts_after after run = low_answer_by Moments at pair names log texts outcome texts_after run.0
   low_timetable ByMoves at pair names log texts before outcome texts_after after run = low_moves_answered at pair names log texts outcome texts_after run.0
   low_timetable AsPicture at pair names log texts before outcome texts_after after run =
       low_draws run.drawn before after outcome (low_timetable_picture at pair names log texts run.drawn texts_after run.came) run.draws
 
-  low_drawing : (svg : Bool) (pair : PairOfFiles) (names : Option (List ℕ)) (log : List ℕ) (texts : W) (before : Streams) (outcome : Result Answer CommandFault) (texts_after : W) (after : Streams)
+  low_drawing : (svg : Bool) (pair : InputPaths) (names : Option (List ℕ)) (log : List ℕ) (texts : W) (before : Streams) (outcome : Result Answer CommandFault) (texts_after : W) (after : Streams)
       → RunsDrawing gives svg pair names log texts before outcome texts_after after → IsLow outcome
   low_drawing false pair names log texts before outcome texts_after after run =
       low_named_and_logged (λ book. IsLogLine book Drawing) (λ book. low_log book Drawing) pair names log texts outcome texts_after run.0
   low_drawing true pair names log texts before outcome texts_after after run =
       low_draws run.drawn before after outcome (low_log_picture pair names log texts run.drawn texts_after run.came) run.draws
 
-  low_seeks : (rounds : ℕ) (pair : PairOfFiles) (texts : W) (outcome : Result Answer CommandFault) (after : W)
+  low_seeks : (rounds : ℕ) (pair : InputPaths) (texts : W) (outcome : Result Answer CommandFault) (after : W)
       → SeeksPlan gives rounds pair texts outcome after → IsLow outcome
   low_seeks rounds pair texts outcome after (inl run) =
       low_both pair (λ p. Concludes (IsSearchAnswer (search_by_two (task_in p)) rounds)) texts outcome after (λ p mid on. low_sought (search_by_two (task_in p)) rounds outcome on.0) run
   low_seeks rounds pair texts outcome after (inr wanting) = subst IsLow (sym wanting.0) tt
 
-  low_improves : (rounds : ℕ) (pair : PairOfFiles) (texts : W) (outcome : Result Answer CommandFault) (after : W)
+  low_improves : (rounds : ℕ) (pair : InputPaths) (texts : W) (outcome : Result Answer CommandFault) (after : W)
       → ImprovesPlan gives rounds pair texts outcome after → IsLow outcome
   low_improves rounds pair texts outcome after (inl run) =
       low_both pair (λ p. Concludes (IsImproveAnswer (AsksOne rounds) rounds (ordered p))) texts outcome after (λ p mid on. low_improved (AsksOne rounds) rounds (ordered p) outcome on.0) run
@@ -540,18 +540,18 @@ module _ {W : Type 0} (gives : W → List ℕ → Result (List ℕ) CommandFault
   low_with_rest at rounds =
       low_with_log_of (λ p text. IsRestAnswer (AsksOneForRest rounds) at rounds (ended_lines text) p) (λ p text. low_rest_answer (AsksOneForRest rounds) at rounds (ended_lines text) p)
 
-  low_rest_improves : (at : Option ℕ) (rounds : ℕ) (pair : PairOfFiles) (log : List ℕ) (texts : W) (outcome : Result Answer CommandFault) (after : W)
+  low_rest_improves : (at : Option ℕ) (rounds : ℕ) (pair : InputPaths) (log : List ℕ) (texts : W) (outcome : Result Answer CommandFault) (after : W)
       → ImprovesRest gives at rounds pair log texts outcome after → IsLow outcome
   low_rest_improves at rounds pair log texts outcome after (inl run) =
       low_both pair (λ p. WithRest gives (AsksOneForRest rounds) at rounds log (ordered p)) texts outcome after (λ p mid on. low_with_rest at rounds log (ordered p) mid outcome after on) run
   low_rest_improves at rounds pair log texts outcome after (inr wanting) = subst IsLow (sym wanting.0) tt
 
-  low_bettered : (at : Option ℕ) (rounds : ℕ) (pair : PairOfFiles) (log : Option (List ℕ)) (texts : W) (outcome : Result Answer CommandFault) (after : W)
+  low_bettered : (at : Option ℕ) (rounds : ℕ) (pair : InputPaths) (log : Option (List ℕ)) (texts : W) (outcome : Result Answer CommandFault) (after : W)
       → Improves gives at rounds pair log texts outcome after → IsLow outcome
   low_bettered at rounds pair None texts outcome after run = low_improves rounds pair texts outcome after run
   low_bettered at rounds pair (Some log) texts outcome after run = low_rest_improves at rounds pair log texts outcome after run
 
-  low_revises : (file : Bool) (at : Option ℕ) (asked : List AskedChange) (pair : PairOfFiles) (log : List ℕ) (texts : W) (outcome : Result Answer CommandFault) (after : W)
+  low_revises : (file : Bool) (at : Option ℕ) (asked : List AskedChange) (pair : InputPaths) (log : List ℕ) (texts : W) (outcome : Result Answer CommandFault) (after : W)
       → Revises gives file at asked pair log texts outcome after → IsLow outcome
   low_revises file at asked pair log texts outcome after (inl run) =
       held IsLow _ _ texts outcome after low_failed
@@ -564,7 +564,7 @@ module _ {W : Type 0} (gives : W → List ℕ → Result (List ℕ) CommandFault
   low_sound : (Comes : NameBook → Result Answer CommandFault → Type 0) (names : Option (List ℕ)) (p : PlannedShop) (mid : W) (outcome : Result Answer CommandFault) (after : W)
       → ((book : NameBook) → Comes book outcome → IsLow outcome) → WithSoundNames gives Comes names p mid outcome after → IsLow outcome
   low_sound Comes names p mid outcome after each (inl (sound, is)) = held IsLow _ (λ book. Concludes (Comes book)) mid outcome after low_failed (λ book later on. each book on.0) is
-  low_sound Comes names p mid outcome after each (inr told) = low_or (IsBadNumbersLine p) outcome (λ answer line. one_low answer.status line.line.refused) told.0
+  low_sound Comes names p mid outcome after each (inr answered) = low_or (IsBadNumbersLine p) outcome (λ answer line. one_low answer.status line.line.refused) answered.0
 
   low_with_decision : (aim : Aim) (at : Option ℕ) (names : Option (List ℕ)) (log : List ℕ) (p : PlannedShop) (mid : W) (outcome : Result Answer CommandFault) (after : W)
       → WithRestDecision gives aim at names log p mid outcome after → IsLow outcome
@@ -572,9 +572,9 @@ module _ {W : Type 0} (gives : W → List ℕ → Result (List ℕ) CommandFault
       held IsLow _ _ mid outcome after low_failed
       (λ book named on. held IsLow _ (λ text. Concludes (IsRestDecisionAnswer book at (ended_lines text) p aim)) named outcome after low_failed
       (λ text later goes. low_rest_decided book at (ended_lines text) p aim outcome goes.0) on) is
-  low_with_decision aim at names log p mid outcome after (inr told) = low_or (IsUnfitLine p) outcome (λ answer line. one_low answer.status line.line.refused) told.0
+  low_with_decision aim at names log p mid outcome after (inr answered) = low_or (IsUnfitLine p) outcome (λ answer line. one_low answer.status line.line.refused) answered.0
 
-  low_all_decided : (aim : Aim) (at : Option ℕ) (pair : PairOfFiles) (names log : Option (List ℕ)) (texts : W) (outcome : Result Answer CommandFault) (after : W)
+  low_all_decided : (aim : Aim) (at : Option ℕ) (pair : InputPaths) (names log : Option (List ℕ)) (texts : W) (outcome : Result Answer CommandFault) (after : W)
       → Decides gives aim at pair names log texts outcome after → IsLow outcome
   low_all_decided aim at pair names None texts outcome after run =
       low_both pair (λ p. WithSoundNames gives (λ book. IsDecisionAnswer book (whole_case p) aim) names p) texts outcome after

@@ -14,7 +14,7 @@ use Rattle.command_answers.specs.declared.command_fault.CommandFault.{CommandFau
 use Rattle.command_answers.specs.declared.command_fault.CommandFault.TheVariants.{Instance, Plan, Names, Read, Write, InputTooLong, Log, LogInUse, Memory}
 use Rattle.command_answers.specs.Search.{IsFound, IsSearchLine, IsSearchAnswer}
 use Rattle.command_answers.specs.Steps.{Then, GoesOn, Concludes}
-use Rattle.command_answers.specs.Commands.{PairOfFiles, ReadsBoth, RunsPlan}
+use Rattle.command_answers.specs.Commands.{InputPaths, ReadsBoth, RunsPlan}
 use Rattle.command_run.specs.Planners.{MayPlanAt, search_by_two}
 
 module _ (t : PlanTask) (proposers : ℕ) (may wide : Proposals) (within : (turn : Turn) (proposal : Proposal) → may turn proposal → wide turn proposal) (rounds : ℕ) where
@@ -80,7 +80,7 @@ search_with may proposers t = record { task = t; proposers = proposers; may = ma
 -- what planners do is done by ones that may propose more
 pub runs_more : {W : Type 0} (gives : W → List ℕ → Result (List ℕ) CommandFault → W → Type 0) (may wide : JobShop → Proposals)
     → ((shop : JobShop) (turn : Turn) (proposal : Proposal) → may shop turn proposal → wide shop turn proposal)
-    → (proposers rounds : ℕ) (pair : PairOfFiles) (before : W) (outcome : Result Answer CommandFault) (after : W)
+    → (proposers rounds : ℕ) (pair : InputPaths) (before : W) (outcome : Result Answer CommandFault) (after : W)
     → RunsPlan gives (search_with may proposers) rounds pair before outcome after → RunsPlan gives (search_with wide proposers) rounds pair before outcome after
 runs_more gives may wide within proposers rounds pair before outcome after =
     then_more (ReadsBoth gives pair) (λ p. Concludes (IsSearchAnswer (search_with may proposers (task_in p)) rounds)) (λ p. Concludes (IsSearchAnswer (search_with wide proposers (task_in p)) rounds)) before outcome after
@@ -107,7 +107,7 @@ AreTheTwo may other = ⊥
 
 -- a search by the two planners
 pub seeks : {W B : Type 0} (gives : W → List ℕ → Result (List ℕ) CommandFault → W → Type 0) (may : B → JobShop → ℕ → Proposal → Type 0) (planners : List B)
-    (rounds : ℕ) (pair : PairOfFiles) (before : W) (outcome : Result Answer CommandFault) (after : W)
+    (rounds : ℕ) (pair : InputPaths) (before : W) (outcome : Result Answer CommandFault) (after : W)
     → AreTheTwo may planners → RunsPlan gives (search_by may planners) rounds pair before outcome after
     → RunsPlan gives search_by_two rounds pair before outcome after
 seeks gives may [] rounds pair before outcome after are run = absurd are

@@ -22,10 +22,10 @@ refused_ends gives Memory (Ok answer) before status after comes ends same_texts 
 refused_ends gives Memory (Err f) before status after comes ends same_texts same_input same_logs =
     (subst (λ (f : CommandFault). Ends (Err f) before.streams.output after.streams.output before.errors after.errors status) comes ends, same_texts, same_input, (same_logs, refl))
 
-pub refused_words : {W : Type 0} (gives : W → List ℕ → Result (List ℕ) CommandFault → W → Type 0) (fault : WordsFault) (told : String Global)
-    (before : Devices W) (status : ℕ) (after : Devices W) → Comes fault (Wrong told) → WasPrinted (string_bytes told) before.errors after.errors → status ≡ 2
+pub refused_words : {W : Type 0} (gives : W → List ℕ → Result (List ℕ) CommandFault → W → Type 0) (fault : WordsFault) (message : String Global)
+    (before : Devices W) (status : ℕ) (after : Devices W) → Comes fault (Wrong message) → WasPrinted (string_bytes message) before.errors after.errors → status ≡ 2
     → after.texts ≡ before.texts → after.streams ≡ before.streams → after.folder ≡ before.folder → Follows gives (Err fault) before status after None
-refused_words gives (Usage true text) told before status after comes was two same_texts same_streams same_logs = absurd comes
-refused_words gives (Usage false text) told before status after comes was two same_texts same_streams same_logs =
+refused_words gives (Usage true text) message before status after comes was two same_texts same_streams same_logs = absurd comes
+refused_words gives (Usage false text) message before status after comes was two same_texts same_streams same_logs =
     (subst (λ (s : String Global). WasPrinted (string_bytes s) before.errors after.errors) comes was, two, same_texts, same_streams, (same_logs, refl))
-refused_words gives Memory told before status after comes was two same_texts same_streams same_logs = absurd comes
+refused_words gives Memory message before status after comes was two same_texts same_streams same_logs = absurd comes

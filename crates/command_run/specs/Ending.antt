@@ -47,7 +47,7 @@ IsTextLine other line = Unit {0}
 pub record IsLineOut (fault : CommandFault) (before after : Errors) (status : ℕ) : Type 0 where
   pub line : List ℕ
   pub is : IsErrorLine fault line
-  pub told : WasPrinted line before after
+  pub printed : WasPrinted line before after
   pub own : status ≡ status_of fault
 
 -- the fault was printed; or out of memory in its place, where its words take memory
@@ -68,7 +68,7 @@ IsPrintedAfter (Err fault) before after status = IsFaultPrinted fault before aft
 pub record IsAnswerEnd (answer : Answer) (before after : Output) (printed_before printed_after : Errors) (status : ℕ) : Type 0 where
   pub printed : Result ℕ CommandFault
   pub is : IsPrinted answer before after printed
-  pub told : IsPrintedAfter printed printed_before printed_after status
+  pub reported : IsPrintedAfter printed printed_before printed_after status
 
 -- an answer is printed on the standard output, a fault is printed on the standard error, and not the other way round
 abbrev pub Ends : Result Answer CommandFault → Output → Output → Errors → Errors → ℕ → Type 0

@@ -8,7 +8,7 @@ use Rattle.command_answers.specs.declared.answer.Answer.{Answer}
 use Rattle.command_answers.specs.declared.command_fault.CommandFault.{CommandFault}
 use Rattle.command_answers.specs.declared.command_fault.CommandFault.TheVariants.{Memory}
 use Rattle.command_answers.specs.ImprovingRests.{RestAsked}
-use Rattle.command_answers.specs.Commands.{PairOfFiles, RunsImprove, RunsImproveRest}
+use Rattle.command_answers.specs.Commands.{InputPaths, RunsImprove, RunsImproveRest}
 
 -- what the improver may answer: anything
 abbrev pub MayImprove : Unit {0} → PlannedShop → Left → ℕ → Proposal → Type 0
@@ -19,7 +19,7 @@ abbrev pub AsksOne : ℕ → Asked
 AsksOne rounds = Rounds whole_plan MayImprove (tt ∷ []) rounds
 
 -- a better plan is sought by the one improver, unless memory runs out before any file is asked for
-abbrev pub ImprovesPlan : {W : Type 0} → (W → List ℕ → Result (List ℕ) CommandFault → W → Type 0) → ℕ → PairOfFiles → W → Result Answer CommandFault → W → Type 0
+abbrev pub ImprovesPlan : {W : Type 0} → (W → List ℕ → Result (List ℕ) CommandFault → W → Type 0) → ℕ → InputPaths → W → Result Answer CommandFault → W → Type 0
 ImprovesPlan gives rounds pair before outcome after =
     RunsImprove gives (AsksOne rounds) rounds pair before outcome after ⊎ ((outcome ≡ Err Memory) × (after ≡ before))
 
@@ -28,11 +28,11 @@ abbrev pub AsksOneForRest : ℕ → RestAsked
 AsksOneForRest rounds lines t = Rounds (rest_after lines t) MayImprove (tt ∷ []) rounds
 
 -- a better plan for the rest of the run in a log is sought by the one improver, unless memory runs out before any file is asked for
-abbrev pub ImprovesRest : {W : Type 0} → (W → List ℕ → Result (List ℕ) CommandFault → W → Type 0) → Option ℕ → ℕ → PairOfFiles → List ℕ → W → Result Answer CommandFault → W → Type 0
+abbrev pub ImprovesRest : {W : Type 0} → (W → List ℕ → Result (List ℕ) CommandFault → W → Type 0) → Option ℕ → ℕ → InputPaths → List ℕ → W → Result Answer CommandFault → W → Type 0
 ImprovesRest gives at rounds pair log before outcome after =
     RunsImproveRest gives (AsksOneForRest rounds) at rounds pair log before outcome after ⊎ ((outcome ≡ Err Memory) × (after ≡ before))
 
 -- a better plan is sought or, where a log is given, one for the rest of its run
-abbrev pub Improves : {W : Type 0} → (W → List ℕ → Result (List ℕ) CommandFault → W → Type 0) → Option ℕ → ℕ → PairOfFiles → Option (List ℕ) → W → Result Answer CommandFault → W → Type 0
+abbrev pub Improves : {W : Type 0} → (W → List ℕ → Result (List ℕ) CommandFault → W → Type 0) → Option ℕ → ℕ → InputPaths → Option (List ℕ) → W → Result Answer CommandFault → W → Type 0
 Improves gives at rounds pair None = ImprovesPlan gives rounds pair
 Improves gives at rounds pair (Some log) = ImprovesRest gives at rounds pair log

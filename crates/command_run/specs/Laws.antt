@@ -53,7 +53,7 @@ use Rattle.command_answers.specs.Improving.{IsImproveAnswer, ordered}
 use Rattle.command_answers.specs.declared.rests.PlanAnswer.{PlanAnswer}
 use Rattle.command_answers.specs.Rests.{IsRestLine, job_asked}
 use Rattle.command_answers.specs.ImprovingRests.{IsRestAnswer}
-use Rattle.command_answers.specs.Commands.{PairOfFiles, RunsFacts, RunsShape, RunsDigest, RunsCheck, RunsExplain, RunsSchedule, RunsMoves, RunsRestMoves, RunsBounds, RunsMargin, RunsLog, RunsRest, Loads, Shapes}
+use Rattle.command_answers.specs.Commands.{InputPaths, RunsFacts, RunsShape, RunsDigest, RunsCheck, RunsExplain, RunsSchedule, RunsMoves, RunsRestMoves, RunsBounds, RunsMargin, RunsLog, RunsRest, Loads, Shapes}
 use Rattle.command_answers.specs.Pictures.{IsLogDrawn, IsAnyPlanDrawn, IsRestDrawing, DrawsLog, DrawsRest, DrawsSchedule}
 use Rattle.command_answers.specs.declared.loading.Loaded.TheVariants.{Judged}
 use Rattle.command_answers.specs.declared.cells.Cells.{Cells}
@@ -81,9 +81,9 @@ abbrev pub IsInstanceRefused : {A : Type 0} → List ℕ → OrFault → Result 
 IsInstanceRefused path fault outcome asked = (asked ≡ path ∷ []) × ((outcome ≡ Err (Instance fault)) ⊎ (outcome ≡ Err Memory))
 
 -- where the text of the instance is refused, its first fault is printed and no other file is asked for, when this runs
-abbrev pub ReadsInstanceFirst : ((List (List ℕ) → List ℕ → Result (List ℕ) CommandFault → List (List ℕ) → Type 0) → PairOfFiles
+abbrev pub ReadsInstanceFirst : ((List (List ℕ) → List ℕ → Result (List ℕ) CommandFault → List (List ℕ) → Type 0) → InputPaths
     → List (List ℕ) → Result Answer CommandFault → List (List ℕ) → Type 0) → Type 0
-ReadsInstanceFirst runs = (content : List ℕ → Result (List ℕ) CommandFault) (pair : PairOfFiles) (text : List ℕ) (fault : OrFault) (outcome : Result Answer CommandFault) (asked : List (List ℕ))
+ReadsInstanceFirst runs = (content : List ℕ → Result (List ℕ) CommandFault) (pair : InputPaths) (text : List ℕ) (fault : OrFault) (outcome : Result Answer CommandFault) (asked : List (List ℕ))
     → content pair.path ≡ Ok text → IsFirstInstanceFault text pair.name fault → runs (Shelf content) pair [] outcome asked → IsInstanceRefused pair.path fault outcome asked
 
 abbrev pub FactsReadsInstanceFirst : Type 0
@@ -99,7 +99,7 @@ abbrev pub CheckReadsInstanceFirst : Type 0
 CheckReadsInstanceFirst = ReadsInstanceFirst (λ gives pair. RunsCheck gives pair)
 
 abbrev pub ExplainReadsInstanceFirst : Type 0
-ExplainReadsInstanceFirst = (names : Option (List ℕ)) (told : Option ℕ) → ReadsInstanceFirst (λ gives pair. RunsExplain gives pair names told)
+ExplainReadsInstanceFirst = (names : Option (List ℕ)) (job : Option ℕ) → ReadsInstanceFirst (λ gives pair. RunsExplain gives pair names job)
 
 abbrev pub ScheduleReadsInstanceFirst : Type 0
 ScheduleReadsInstanceFirst = (names : Option (List ℕ)) → ReadsInstanceFirst (λ gives pair. RunsSchedule gives pair names)
@@ -125,9 +125,9 @@ abbrev pub RestMovesReadsInstanceFirst : Type 0
 RestMovesReadsInstanceFirst = (at : Option ℕ) (names : Option (List ℕ)) (log : List ℕ) → ReadsInstanceFirst (λ gives pair. RunsRestMoves gives at pair names log)
 
 -- so it is, unless memory runs out for planners or improvers before any file is asked for
-abbrev pub ReadsInstanceFirstOrNothing : ((List (List ℕ) → List ℕ → Result (List ℕ) CommandFault → List (List ℕ) → Type 0) → PairOfFiles
+abbrev pub ReadsInstanceFirstOrNothing : ((List (List ℕ) → List ℕ → Result (List ℕ) CommandFault → List (List ℕ) → Type 0) → InputPaths
     → List (List ℕ) → Result Answer CommandFault → List (List ℕ) → Type 0) → Type 0
-ReadsInstanceFirstOrNothing runs = (content : List ℕ → Result (List ℕ) CommandFault) (pair : PairOfFiles) (text : List ℕ) (fault : OrFault) (outcome : Result Answer CommandFault) (asked : List (List ℕ))
+ReadsInstanceFirstOrNothing runs = (content : List ℕ → Result (List ℕ) CommandFault) (pair : InputPaths) (text : List ℕ) (fault : OrFault) (outcome : Result Answer CommandFault) (asked : List (List ℕ))
     → content pair.path ≡ Ok text → IsFirstInstanceFault text pair.name fault → runs (Shelf content) pair [] outcome asked
     → IsInstanceRefused pair.path fault outcome asked ⊎ ((outcome ≡ Err Memory) × (asked ≡ []))
 
@@ -142,9 +142,9 @@ abbrev pub ImproveRestReadsInstanceFirst : Type 0
 ImproveRestReadsInstanceFirst = (at : Option ℕ) (rounds : ℕ) (log : List ℕ) → ReadsInstanceFirstOrNothing (λ gives pair. ImprovesRest gives at rounds pair log)
 
 -- so it is, with no byte read or written
-abbrev pub ReadsInstanceFirstAlone : ((List (List ℕ) → List ℕ → Result (List ℕ) CommandFault → List (List ℕ) → Type 0) → PairOfFiles
+abbrev pub ReadsInstanceFirstAlone : ((List (List ℕ) → List ℕ → Result (List ℕ) CommandFault → List (List ℕ) → Type 0) → InputPaths
     → List (List ℕ) → Streams → Result Answer CommandFault → List (List ℕ) → Streams → Type 0) → Type 0
-ReadsInstanceFirstAlone runs = (before after : Streams) (content : List ℕ → Result (List ℕ) CommandFault) (pair : PairOfFiles) (text : List ℕ) (fault : OrFault) (outcome : Result Answer CommandFault) (asked : List (List ℕ))
+ReadsInstanceFirstAlone runs = (before after : Streams) (content : List ℕ → Result (List ℕ) CommandFault) (pair : InputPaths) (text : List ℕ) (fault : OrFault) (outcome : Result Answer CommandFault) (asked : List (List ℕ))
     → content pair.path ≡ Ok text → IsFirstInstanceFault text pair.name fault → runs (Shelf content) pair [] before outcome asked after
     → IsInstanceRefused pair.path fault outcome asked × (after ≡ before)
 
@@ -171,7 +171,7 @@ HubReadsInstanceFirst = (protocol : Protocol) (plans : List (List ℕ)) → Read
 -- ---- what good files are answered by, where they don't change
 
 -- the files of a pair give this shop and this plan
-pub record ParseAsPlan (content : List ℕ → Result (List ℕ) CommandFault) (pair : PairOfFiles) (p : PlannedShop) : Type 0 where
+pub record ParseAsPlan (content : List ℕ → Result (List ℕ) CommandFault) (pair : InputPaths) (p : PlannedShop) : Type 0 where
   pub instance : List ℕ
   pub instance_is : content pair.path ≡ Ok instance
   pub plan : List ℕ
@@ -184,9 +184,9 @@ IsAnswered Is files (Ok answer) asked = Is answer × (asked ≡ files)
 IsAnswered Is files (Err fault) asked = fault ≡ Memory
 
 -- files that give a shop and a plan are answered by a line of this kind, when this runs
-abbrev pub AnswersPlan : ((List (List ℕ) → List ℕ → Result (List ℕ) CommandFault → List (List ℕ) → Type 0) → PairOfFiles
+abbrev pub AnswersPlan : ((List (List ℕ) → List ℕ → Result (List ℕ) CommandFault → List (List ℕ) → Type 0) → InputPaths
     → List (List ℕ) → Result Answer CommandFault → List (List ℕ) → Type 0) → (PlannedShop → Answer → Type 0) → Type 0
-AnswersPlan runs Is = (content : List ℕ → Result (List ℕ) CommandFault) (pair : PairOfFiles) (p : PlannedShop) (outcome : Result Answer CommandFault) (asked : List (List ℕ))
+AnswersPlan runs Is = (content : List ℕ → Result (List ℕ) CommandFault) (pair : InputPaths) (p : PlannedShop) (outcome : Result Answer CommandFault) (asked : List (List ℕ))
     → ParseAsPlan content pair p → runs (Shelf content) pair [] outcome asked → IsAnswered (Is p) (pair.path ∷ pair.plan ∷ []) outcome asked
 
 -- `facts`: the line of the facts of the shop that the file gives
@@ -221,19 +221,19 @@ MovesAnswerPlan = AnswersPlan (λ gives pair. RunsMoves gives pair None) (λ p a
 
 -- `audit` and `gantt`: where the plan is well shaped, what is answered of the log
 abbrev pub LogIsAnswered : Type 0
-LogIsAnswered = (wanted : LogAnswer) (content : List ℕ → Result (List ℕ) CommandFault) (pair : PairOfFiles) (log text : List ℕ) (p : PlannedShop) (outcome : Result Answer CommandFault) (asked : List (List ℕ))
+LogIsAnswered = (wanted : LogAnswer) (content : List ℕ → Result (List ℕ) CommandFault) (pair : InputPaths) (log text : List ℕ) (p : PlannedShop) (outcome : Result Answer CommandFault) (asked : List (List ℕ))
     → ParseAsPlan content pair p → content log ≡ Ok text → IsWellShaped p → RunsLog (Shelf content) wanted pair None log [] outcome asked
     → IsAnswered (IsLogLine no_names wanted p text) (pair.path ∷ pair.plan ∷ log ∷ []) outcome asked
 
 -- `check`, `explain` and `schedule` of the rest of a run: where the plan is well shaped, and no job asked for, what is answered of its log
 abbrev pub RestIsAnswered : Type 0
-RestIsAnswered = (wanted : PlanAnswer) (at : Option ℕ) (content : List ℕ → Result (List ℕ) CommandFault) (pair : PairOfFiles) (log text : List ℕ) (p : PlannedShop) (outcome : Result Answer CommandFault) (asked : List (List ℕ))
+RestIsAnswered = (wanted : PlanAnswer) (at : Option ℕ) (content : List ℕ → Result (List ℕ) CommandFault) (pair : InputPaths) (log text : List ℕ) (p : PlannedShop) (outcome : Result Answer CommandFault) (asked : List (List ℕ))
     → ParseAsPlan content pair p → content log ≡ Ok text → IsWellShaped p → job_asked wanted ≡ None → RunsRest (Shelf content) wanted at pair None log [] outcome asked
     → IsAnswered (IsRestLine no_names wanted at p text) (pair.path ∷ pair.plan ∷ log ∷ []) outcome asked
 
 -- `schedule --moves` of the rest of a run: where the plan is well shaped, the moves ahead by its log
 abbrev pub RestMovesAreAnswered : Type 0
-RestMovesAreAnswered = (at : Option ℕ) (content : List ℕ → Result (List ℕ) CommandFault) (pair : PairOfFiles) (log text : List ℕ) (p : PlannedShop) (outcome : Result Answer CommandFault) (asked : List (List ℕ))
+RestMovesAreAnswered = (at : Option ℕ) (content : List ℕ → Result (List ℕ) CommandFault) (pair : InputPaths) (log text : List ℕ) (p : PlannedShop) (outcome : Result Answer CommandFault) (asked : List (List ℕ))
     → ParseAsPlan content pair p → content log ≡ Ok text → IsWellShaped p → RunsRestMoves (Shelf content) at pair None log [] outcome asked
     → IsAnswered (AreMovesOfLog no_names at p text) (pair.path ∷ pair.plan ∷ log ∷ []) outcome asked
 
@@ -244,49 +244,49 @@ IsDrawn Is files before outcome asked after =
 
 -- `schedule --svg`: what comes of the plan is drawn
 abbrev pub ScheduleIsDrawn : Type 0
-ScheduleIsDrawn = (before after : Streams) (content : List ℕ → Result (List ℕ) CommandFault) (pair : PairOfFiles) (p : PlannedShop) (outcome : Result Answer CommandFault) (asked : List (List ℕ))
+ScheduleIsDrawn = (before after : Streams) (content : List ℕ → Result (List ℕ) CommandFault) (pair : InputPaths) (p : PlannedShop) (outcome : Result Answer CommandFault) (asked : List (List ℕ))
     → ParseAsPlan content pair p → RunsPicture (DrawsSchedule (Shelf content) pair None) [] before outcome asked after
     → IsDrawn (IsAnyPlanDrawn p) (pair.path ∷ pair.plan ∷ []) before outcome asked after
 
 -- `schedule --svg` of the rest of a run: where the plan is well shaped, what comes of the log is drawn
 abbrev pub RestIsDrawn : Type 0
-RestIsDrawn = (at : Option ℕ) (before after : Streams) (content : List ℕ → Result (List ℕ) CommandFault) (pair : PairOfFiles) (log text : List ℕ) (p : PlannedShop) (outcome : Result Answer CommandFault) (asked : List (List ℕ))
+RestIsDrawn = (at : Option ℕ) (before after : Streams) (content : List ℕ → Result (List ℕ) CommandFault) (pair : InputPaths) (log text : List ℕ) (p : PlannedShop) (outcome : Result Answer CommandFault) (asked : List (List ℕ))
     → ParseAsPlan content pair p → content log ≡ Ok text → IsWellShaped p → RunsPicture (DrawsRest (Shelf content) at pair None log) [] before outcome asked after
     → IsDrawn (IsRestDrawing at no_names p text) (pair.path ∷ pair.plan ∷ log ∷ []) before outcome asked after
 
 -- `gantt --svg`: where the plan is well shaped, what comes of the log is drawn
 abbrev pub LogIsDrawn : Type 0
-LogIsDrawn = (before after : Streams) (content : List ℕ → Result (List ℕ) CommandFault) (pair : PairOfFiles) (log text : List ℕ) (p : PlannedShop) (outcome : Result Answer CommandFault) (asked : List (List ℕ))
+LogIsDrawn = (before after : Streams) (content : List ℕ → Result (List ℕ) CommandFault) (pair : InputPaths) (log text : List ℕ) (p : PlannedShop) (outcome : Result Answer CommandFault) (asked : List (List ℕ))
     → ParseAsPlan content pair p → content log ≡ Ok text → IsWellShaped p → RunsPicture (DrawsLog (Shelf content) pair None log) [] before outcome asked after
     → IsDrawn (IsLogDrawn no_names p text) (pair.path ∷ pair.plan ∷ log ∷ []) before outcome asked after
 
 -- `plan`: what the search allows for the numbers of this plan, with exactly these files asked for, unless memory runs out before
 abbrev pub PlanAnswersPlan : Type 0
-PlanAnswersPlan = (rounds : ℕ) (content : List ℕ → Result (List ℕ) CommandFault) (pair : PairOfFiles) (p : PlannedShop) (outcome : Result Answer CommandFault) (asked : List (List ℕ))
+PlanAnswersPlan = (rounds : ℕ) (content : List ℕ → Result (List ℕ) CommandFault) (pair : InputPaths) (p : PlannedShop) (outcome : Result Answer CommandFault) (asked : List (List ℕ))
     → ParseAsPlan content pair p → SeeksPlan (Shelf content) rounds pair [] outcome asked
     → (IsSearchAnswer (search_by_two (task_in p)) rounds outcome × (asked ≡ pair.path ∷ pair.plan ∷ [])) ⊎ (outcome ≡ Err Memory)
 
 -- `improve`: what the search from this plan comes to, with exactly these files asked for, unless memory runs out before
 abbrev pub ImproveAnswersPlan : Type 0
-ImproveAnswersPlan = (rounds : ℕ) (content : List ℕ → Result (List ℕ) CommandFault) (pair : PairOfFiles) (p : PlannedShop) (outcome : Result Answer CommandFault) (asked : List (List ℕ))
+ImproveAnswersPlan = (rounds : ℕ) (content : List ℕ → Result (List ℕ) CommandFault) (pair : InputPaths) (p : PlannedShop) (outcome : Result Answer CommandFault) (asked : List (List ℕ))
     → ParseAsPlan content pair p → ImprovesPlan (Shelf content) rounds pair [] outcome asked
     → (IsImproveAnswer (AsksOne rounds) rounds (ordered p) outcome × (asked ≡ pair.path ∷ pair.plan ∷ [])) ⊎ (outcome ≡ Err Memory)
 
 -- `improve` of the rest of a run: where the plan is well shaped, what the search from it comes to for the rest of this log, with exactly these files asked for, unless memory runs out before
 abbrev pub ImproveAnswersRest : Type 0
-ImproveAnswersRest = (at : Option ℕ) (rounds : ℕ) (content : List ℕ → Result (List ℕ) CommandFault) (pair : PairOfFiles) (log text : List ℕ) (p : PlannedShop) (outcome : Result Answer CommandFault) (asked : List (List ℕ))
+ImproveAnswersRest = (at : Option ℕ) (rounds : ℕ) (content : List ℕ → Result (List ℕ) CommandFault) (pair : InputPaths) (log text : List ℕ) (p : PlannedShop) (outcome : Result Answer CommandFault) (asked : List (List ℕ))
     → ParseAsPlan content pair p → content log ≡ Ok text → IsWellShaped (ordered p) → ImprovesRest (Shelf content) at rounds pair log [] outcome asked
     → (IsRestAnswer (AsksOneForRest rounds) at rounds (ended_lines text) (ordered p) outcome × (asked ≡ pair.path ∷ pair.plan ∷ log ∷ [])) ⊎ (outcome ≡ Err Memory)
 
 -- `drive`: where the plan is accepted, its cell is driven, with exactly these files asked for, unless memory runs out before, with no byte read or written
 abbrev pub DriveDrivesPlan : Type 0
-DriveDrivesPlan = (protocol : Protocol) (before after : Streams) (content : List ℕ → Result (List ℕ) CommandFault) (pair : PairOfFiles) (p : PlannedShop) (outcome : Result Answer CommandFault) (asked : List (List ℕ))
+DriveDrivesPlan = (protocol : Protocol) (before after : Streams) (content : List ℕ → Result (List ℕ) CommandFault) (pair : InputPaths) (p : PlannedShop) (outcome : Result Answer CommandFault) (asked : List (List ℕ))
     → ParseAsPlan content pair p → IsWellShaped p → IsAcceptable p → RunsDrive (Shelf content) protocol pair [] before outcome asked after
     → ((asked ≡ pair.path ∷ pair.plan ∷ []) × ((v : VerifiedPlan) × (v.planned ≡ p) × DrivesCell protocol v before after outcome)) ⊎ ((outcome ≡ Err Memory) × (after ≡ before))
 
 -- `resume`: where the plan is well shaped, its log is asked for and recovered, and driven on if it can be, unless memory runs out before, with no byte read or written
 abbrev pub ResumeGoesOn : Type 0
-ResumeGoesOn = (protocol : Protocol) (at : Option ℕ) (before after : Streams) (content : List ℕ → Result (List ℕ) CommandFault) (pair : PairOfFiles) (log text : List ℕ) (p : PlannedShop) (outcome : Result Answer CommandFault) (asked : List (List ℕ))
+ResumeGoesOn = (protocol : Protocol) (at : Option ℕ) (before after : Streams) (content : List ℕ → Result (List ℕ) CommandFault) (pair : InputPaths) (log text : List ℕ) (p : PlannedShop) (outcome : Result Answer CommandFault) (asked : List (List ℕ))
     → ParseAsPlan content pair p → IsWellShaped p → content log ≡ Ok text → RunsResume (Shelf content) protocol at pair log [] before outcome asked after
     → ((asked ≡ pair.path ∷ pair.plan ∷ log ∷ []) × ResumesText protocol at p (Ok text) before after outcome) ⊎ ((outcome ≡ Err Memory) × (after ≡ before))
 
@@ -298,7 +298,7 @@ pub record ParsesAsPlanOf (content : List ℕ → Result (List ℕ) CommandFault
 
 -- and the plan is accepted
 pub record ParsesAsAcceptedPlan (content : List ℕ → Result (List ℕ) CommandFault) (instance : List ℕ) (name : Option (List ℕ)) (path : List ℕ) (p : PlannedShop) : Type 0 where
-  pub told : ParsesAsPlanOf content instance name path p
+  pub parses : ParsesAsPlanOf content instance name path p
   pub well_shaped : IsWellShaped p
   pub acceptable : IsAcceptable p
 
@@ -333,9 +333,9 @@ InputAnswersShop = (before after : Input) (text description : List ℕ) (shop : 
 -- ---- plans that aren't accepted, in files that don't change
 
 -- where the plan isn't accepted, it is answered by the line of `check`, with no further file asked for and no byte read or written, when this runs
-abbrev pub AnswersByCheck : ((List (List ℕ) → List ℕ → Result (List ℕ) CommandFault → List (List ℕ) → Type 0) → PairOfFiles
+abbrev pub AnswersByCheck : ((List (List ℕ) → List ℕ → Result (List ℕ) CommandFault → List (List ℕ) → Type 0) → InputPaths
     → List (List ℕ) → Streams → Result Answer CommandFault → List (List ℕ) → Streams → Type 0) → Type 0
-AnswersByCheck runs = (before after : Streams) (content : List ℕ → Result (List ℕ) CommandFault) (pair : PairOfFiles) (p : PlannedShop) (outcome : Result Answer CommandFault) (asked : List (List ℕ))
+AnswersByCheck runs = (before after : Streams) (content : List ℕ → Result (List ℕ) CommandFault) (pair : InputPaths) (p : PlannedShop) (outcome : Result Answer CommandFault) (asked : List (List ℕ))
     → ParseAsPlan content pair p → (IsWellShaped p → IsAcceptable p → ⊥) → runs (Shelf content) pair [] before outcome asked after
     → IsAnswered (IsCheckLine p) (pair.path ∷ pair.plan ∷ []) outcome asked × (after ≡ before)
 
@@ -344,19 +344,19 @@ DriveAnswersByCheck = (protocol : Protocol) → AnswersByCheck (λ gives pair. R
 
 -- a plan that isn't well shaped is answered so by `resume`
 abbrev pub ResumeAnswersUnshaped : Type 0
-ResumeAnswersUnshaped = (protocol : Protocol) (at : Option ℕ) (log : List ℕ) (before after : Streams) (content : List ℕ → Result (List ℕ) CommandFault) (pair : PairOfFiles) (p : PlannedShop) (outcome : Result Answer CommandFault) (asked : List (List ℕ))
+ResumeAnswersUnshaped = (protocol : Protocol) (at : Option ℕ) (log : List ℕ) (before after : Streams) (content : List ℕ → Result (List ℕ) CommandFault) (pair : InputPaths) (p : PlannedShop) (outcome : Result Answer CommandFault) (asked : List (List ℕ))
     → ParseAsPlan content pair p → (IsWellShaped p → ⊥) → RunsResume (Shelf content) protocol at pair log [] before outcome asked after
     → IsAnswered (IsCheckLine p) (pair.path ∷ pair.plan ∷ []) outcome asked × (after ≡ before)
 
 -- by it the run of these lines can't go on: the plan has a cycle; or they record no event, and it isn't accepted
 abbrev pub IsNoPlanFor : PlannedShop → List Entry → Type 0
-IsNoPlanFor p told = (HasNoCycle p → ⊥) ⊎ ((told ≡ []) × (IsAcceptable p → ⊥))
+IsNoPlanFor p recorded = (HasNoCycle p → ⊥) ⊎ ((recorded ≡ []) × (IsAcceptable p → ⊥))
 
 -- and such a plan is answered by the line of `check`, once its log has been asked for, where that records a run, with no byte read or written
 abbrev pub ResumeAnswersByCheck : Type 0
-ResumeAnswersByCheck = (protocol : Protocol) (at : Option ℕ) (before after : Streams) (content : List ℕ → Result (List ℕ) CommandFault) (pair : PairOfFiles) (log text : List ℕ) (p : PlannedShop) (told : List Entry) (outcome : Result Answer CommandFault) (asked : List (List ℕ))
-    → ParseAsPlan content pair p → IsWellShaped p → content log ≡ Ok text → LinesParse p (ended_lines text) told → IsRun p (events_of told) → (cell_after p told).last ≤ unwrap_or at (cell_after p told).last
-    → IsNoPlanFor p told → RunsResume (Shelf content) protocol at pair log [] before outcome asked after
+ResumeAnswersByCheck = (protocol : Protocol) (at : Option ℕ) (before after : Streams) (content : List ℕ → Result (List ℕ) CommandFault) (pair : InputPaths) (log text : List ℕ) (p : PlannedShop) (recorded : List Entry) (outcome : Result Answer CommandFault) (asked : List (List ℕ))
+    → ParseAsPlan content pair p → IsWellShaped p → content log ≡ Ok text → LinesParse p (ended_lines text) recorded → IsRun p (events_of recorded) → (cell_after p recorded).last ≤ unwrap_or at (cell_after p recorded).last
+    → IsNoPlanFor p recorded → RunsResume (Shelf content) protocol at pair log [] before outcome asked after
     → IsAnswered (IsCheckLine p) (pair.path ∷ pair.plan ∷ log ∷ []) outcome asked × (after ≡ before)
 
 -- the line of `check` for a plan, behind the plan's number
@@ -377,7 +377,7 @@ HubAnswersByCheck = (protocol : Protocol) (before after : Streams) (content : Li
 -- ---- that a driven cell writes the same
 
 -- the words ask for `drive` with these files, and for no log of its own
-pub record AskForDrive (words : List (List ℕ)) (pair : PairOfFiles) : Type 0 where
+pub record AskForDrive (words : List (List ℕ)) (pair : InputPaths) : Type 0 where
   pub accepted : reasons_in words ≡ []
   pub drive : word_found (found_in words) ≡ word_of Drive
   pub log : kept_in (rows_found (found_in words)) ≡ None
@@ -402,7 +402,7 @@ pub record RunsWell (content : List ℕ → Result (List ℕ) CommandFault) (wor
 
 -- `drive` with an accepted plan writes the same, and ends with the same status, whenever it is run on the same words, files and input, of no more bytes than the limit
 abbrev pub DriveWritesTheSame : Type 0
-DriveWritesTheSame = (content : List ℕ → Result (List ℕ) CommandFault) (words : List (List ℕ)) (pair : PairOfFiles) (p : PlannedShop) (input : List ℕ) (status other_status : ℕ) (written other : List ℕ)
+DriveWritesTheSame = (content : List ℕ → Result (List ℕ) CommandFault) (words : List (List ℕ)) (pair : InputPaths) (p : PlannedShop) (input : List ℕ) (status other_status : ℕ) (written other : List ℕ)
     → AskForDrive words pair → ParseAsPlan content pair p → IsWellShaped p → IsAcceptable p → length input ≤ MAX_INPUT
     → RunsWell content words input status written → RunsWell content words input other_status other → (other_status ≡ status) × (other ≡ written)
 
@@ -445,12 +445,12 @@ pub record ChoseNone (words : List (List ℕ)) (before : Streams) (outcome : Res
 pub record WereRefused {W : Type 0} (words : List (List ℕ)) (before : Devices W) (status : ℕ) (after : Devices W) : Type 0 where
   pub fault : WordsFault
   pub refused : NamesOneOf (reasons_in words) fault
-  pub told : IsUsagePrinted fault before.errors after.errors status
+  pub printed : IsUsagePrinted fault before.errors after.errors status
   pub same : after.streams ≡ before.streams
 
 module _ {W : Type 0} (gives : W → List ℕ → Result (List ℕ) CommandFault → W → Type 0) where
   -- the plan is accepted, and its cell was driven to this end or up to this fault
-  pub record DroveCell (protocol : Protocol) (pair : PairOfFiles) (texts : W) (before after : Streams) : Type 0 where
+  pub record DroveCell (protocol : Protocol) (pair : InputPaths) (texts : W) (before after : Streams) : Type 0 where
     pub cell : VerifiedPlan
     pub later : W
     pub loads : Loads gives pair texts (Ok (Judged (Accepted cell))) later
@@ -458,7 +458,7 @@ module _ {W : Type 0} (gives : W → List ℕ → Result (List ℕ) CommandFault
     pub is : IsDriveIn protocol cell before after end
 
   -- the plan is well shaped, and its cell was driven with a log: from its start, as it is accepted, or from where the log leads
-  pub record DroveWithLog (protocol : Protocol) (pair : PairOfFiles) (texts : W) (before after : Streams) : Type 0 where
+  pub record DroveWithLog (protocol : Protocol) (pair : InputPaths) (texts : W) (before after : Streams) : Type 0 where
     pub plan : PlannedShop
     pub later : W
     pub shapes : Shapes gives pair texts (Ok (Ok plan)) later
@@ -468,7 +468,7 @@ module _ {W : Type 0} (gives : W → List ℕ → Result (List ℕ) CommandFault
         ⊎ ((t : Recovered) × (plan_of t ≡ plan) × GoesOnWithLog protocol t (step_of before outcome after log))
 
   -- the plan is well shaped, its run was recovered from the log, and driven on by this protocol to this end or up to this fault
-  pub record DroveOn (protocol : Protocol) (at : Option ℕ) (pair : PairOfFiles) (log : List ℕ) (texts : W) (before after : Streams) : Type 0 where
+  pub record DroveOn (protocol : Protocol) (at : Option ℕ) (pair : InputPaths) (log : List ℕ) (texts : W) (before after : Streams) : Type 0 where
     pub plan : PlannedShop
     pub mid : W
     pub shapes : Shapes gives pair texts (Ok (Ok plan)) mid
@@ -528,7 +528,7 @@ module _ {W : Type 0} (gives : W → List ℕ → Result (List ℕ) CommandFault
     pub fault : CommandFault
     pub failed : IsFailureOf outcome after.streams.output fault
     pub own : ℕ
-    pub told : IsLineOut fault before.errors after.errors own
+    pub printed : IsLineOut fault before.errors after.errors own
     pub status_is : (status ≡ own) ⊎ ((own ≡ 5) × (status ≡ 6))
 
   -- a command that draws said on the standard error what is answered in place of a picture: nothing, where there is one
@@ -537,7 +537,7 @@ module _ {W : Type 0} (gives : W → List ℕ → Result (List ℕ) CommandFault
     pub mid : Streams
     pub ran : RanCommand words before (Ok answer) mid after log
     pub draws : draws_in ran.chosen ≡ true
-    pub told : WasPrinted answer.text.items before.errors after.errors
+    pub printed : WasPrinted answer.text.items before.errors after.errors
     pub own : status ≡ answer.status
 
   -- nothing was written but what driven cells answered, or a picture, and after it at most the first bytes of an answer whose write failed

@@ -42,7 +42,7 @@ use Rattle.command_answers.specs.declared.answer.Answer.{Answer}
 use Rattle.command_answers.specs.declared.command_fault.CommandFault.{CommandFault}
 use Rattle.command_answers.specs.declared.command_fault.CommandFault.TheVariants.{Read, Write, InputTooLong, Log, LogInUse, Memory}
 use Rattle.command_answers.specs.declared.loading.Loaded.TheVariants.{NotShaped, Judged}
-use Rattle.command_answers.specs.Commands.{PairOfFiles, Shapes}
+use Rattle.command_answers.specs.Commands.{InputPaths, Shapes}
 use Rattle.command_answers.specs.LogLines.{IsLogFaultAnswer}
 use Rattle.command_run.specs.Streams.{Streams, Output}
 use Rattle.command_run.specs.Drives.{IsEnded, IsLineAnswer, drive_command_fault, end_of_drive}
@@ -405,6 +405,6 @@ pub record IsHistoryOfPath (folder : Folder) (path : List ℕ) (p : PlannedShop)
   pub is : IsHistoryOf folder p protocol at (held logs path) printed known
 
 -- by each plan that the files give
-abbrev pub IsHistoryOfLog : {W : Type 0} → (W → List ℕ → Result (List ℕ) CommandFault → W → Type 0) → Folder → PairOfFiles → List ℕ → Protocol → Option ℕ
+abbrev pub IsHistoryOfLog : {W : Type 0} → (W → List ℕ → Result (List ℕ) CommandFault → W → Type 0) → Folder → InputPaths → List ℕ → Protocol → Option ℕ
     → W → Option (List ℕ) → List ℕ × List ℕ → Type 0
 IsHistoryOfLog {W} gives folder pair path protocol at texts printed known = (p : PlannedShop) (mid : W) → Shapes gives pair texts (Ok (Ok p)) mid → IsHistoryOfPath folder path p protocol at printed known

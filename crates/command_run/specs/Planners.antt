@@ -7,7 +7,7 @@ use Rattle.plan_seek.specs.Turns.{PlanSearch}
 use Rattle.command_answers.specs.declared.answer.Answer.{Answer}
 use Rattle.command_answers.specs.declared.command_fault.CommandFault.{CommandFault}
 use Rattle.command_answers.specs.declared.command_fault.CommandFault.TheVariants.{Memory}
-use Rattle.command_answers.specs.Commands.{PairOfFiles, RunsPlan}
+use Rattle.command_answers.specs.Commands.{InputPaths, RunsPlan}
 
 -- what the planner of a place may propose: the first one anything, and the second one the jobs in one row, shifted by the round
 abbrev pub MayPlanAt : ℕ → JobShop → ℕ → Proposal → Type 0
@@ -20,6 +20,6 @@ abbrev pub search_by_two : PlanTask → PlanSearch
 search_by_two t = record { task = t; proposers = 2; may = λ turn. MayPlanAt turn.proposer t.shop turn.round }
 
 -- a plan is sought by the two planners, unless memory runs out before any file is asked for
-abbrev pub SeeksPlan : {W : Type 0} → (W → List ℕ → Result (List ℕ) CommandFault → W → Type 0) → ℕ → PairOfFiles → W → Result Answer CommandFault → W → Type 0
+abbrev pub SeeksPlan : {W : Type 0} → (W → List ℕ → Result (List ℕ) CommandFault → W → Type 0) → ℕ → InputPaths → W → Result Answer CommandFault → W → Type 0
 SeeksPlan gives rounds pair before outcome after =
     RunsPlan gives search_by_two rounds pair before outcome after ⊎ ((outcome ≡ Err Memory) × (after ≡ before))

@@ -24,7 +24,7 @@ use Rattle.command_answers.specs.declared.command_fault.CommandFault.TheVariants
 use Rattle.command_answers.specs.declared.loading.Loaded.{Loaded}
 use Rattle.command_answers.specs.declared.logs.LogAnswer.TheVariants.{Numbers}
 use Rattle.command_answers.specs.declared.rests.PlanAnswer.TheVariants.{Verdict, Reasons}
-use Rattle.command_answers.specs.Commands.{PairOfFiles, RunsFacts, RunsShape, RunsDigest, RunsBounds, RunsMargin, RunsLog, Loads, Shapes}
+use Rattle.command_answers.specs.Commands.{InputPaths, RunsFacts, RunsShape, RunsDigest, RunsBounds, RunsMargin, RunsLog, Loads, Shapes}
 use Rattle.command_answers.specs.Cells.{LoadsCells}
 use Rattle.command_run.specs.Streams.{Streams, Devices}
 use Rattle.command_run.specs.Inputs.{RunsInput}
@@ -124,7 +124,7 @@ abbrev pub manner_in : Chosen → Protocol
 manner_in chosen = record { version_2 = is_second chosen.lines; max_gap = chosen.leap; from = unwrap_or chosen.at 0 }
 
 -- the files of the instance and of the first plan
-abbrev pub pair_in : Chosen → PairOfFiles
+abbrev pub pair_in : Chosen → InputPaths
 pair_in chosen = record { path = file_at chosen 0; name = name_in chosen; plan = file_at chosen 1 }
 
 -- where starting again is right: the output couldn't be written, another process has the log, or the input couldn't be read to its end
@@ -147,19 +147,19 @@ NoLog before after log = (after.folder ≡ before.folder) × (log ≡ None)
 
 module _ {W : Type 0} (gives : W → List ℕ → Result (List ℕ) CommandFault → W → Type 0) where
   -- the plan is loaded, and then the input is read
-  pub record RunsDrive (protocol : Protocol) (pair : PairOfFiles) (texts : W) (before : Streams) (outcome : Result Answer CommandFault) (texts_after : W) (after : Streams) : Type 0 where
+  pub record RunsDrive (protocol : Protocol) (pair : InputPaths) (texts : W) (before : Streams) (outcome : Result Answer CommandFault) (texts_after : W) (after : Streams) : Type 0 where
     pub loaded : Result Loaded CommandFault
     pub loads : Loads gives pair texts loaded texts_after
     pub drives : Drives protocol loaded before after outcome
 
   -- the plan is read, its log opened, and then the cell is driven with that
-  pub record RunsLoggedDrive (folder folder_after : Folder) (path : List ℕ) (start : LogStart) (protocol : Protocol) (at : Option ℕ) (pair : PairOfFiles) (texts : W) (step : Step) (texts_after : W) : Type 0 where
+  pub record RunsLoggedDrive (folder folder_after : Folder) (path : List ℕ) (start : LogStart) (protocol : Protocol) (at : Option ℕ) (pair : InputPaths) (texts : W) (step : Step) (texts_after : W) : Type 0 where
     pub shaped : Result (Result PlannedShop ShapeFault) CommandFault
     pub shapes : Shapes gives pair texts shaped texts_after
     pub drives : DrivesShaped folder folder_after path start protocol at shaped step
 
   -- the plan is read, then its run recovered at a moment, and then the input is read
-  pub record RunsResume (protocol : Protocol) (at : Option ℕ) (pair : PairOfFiles) (log : List ℕ) (texts : W) (before : Streams) (outcome : Result Answer CommandFault) (texts_after : W) (after : Streams) : Type 0 where
+  pub record RunsResume (protocol : Protocol) (at : Option ℕ) (pair : InputPaths) (log : List ℕ) (texts : W) (before : Streams) (outcome : Result Answer CommandFault) (texts_after : W) (after : Streams) : Type 0 where
     pub shaped : Result (Result PlannedShop ShapeFault) CommandFault
     pub texts_mid : W
     pub shapes : Shapes gives pair texts shaped texts_mid

@@ -17,5 +17,5 @@ IsOutcomeOf fault outcome = ⊥
 
 abbrev pub Comes : WordsFault → Unchosen → Type 0
 Comes fault (Ends outcome) = IsOutcomeOf fault outcome
-Comes (Usage false text) (Wrong told) = told ≡ text
-Comes fault (Wrong told) = ⊥
+Comes (Usage false text) (Wrong message) = message ≡ text
+Comes fault (Wrong message) = ⊥

@@ -22,8 +22,9 @@ use crate::resumes::resume_answer;
 use crate::revisions::revision_answer;
 use cell_drive::{BufferedSink, Protocol, Source};
 use command_answers::{
-    Ahead, Answered, Files, LogAnswer, Pair, PlanAnswer, Texts, answer_of_plan, bounds_answer,
-    digest_answer, facts_answer, log_answer, margin_answer, rest_answer, shape_answer,
+    Ahead, Answered, Files, InputPaths, LogAnswer, PlanAnswer, Texts, answer_of_plan,
+    bounds_answer, digest_answer, facts_answer, log_answer, margin_answer, rest_answer,
+    shape_answer,
 };
 use command_words::{Chosen, CommandName, Lines};
 use plan_decide::{Aim, Objective};
@@ -73,11 +74,11 @@ fn names(chosen: &Chosen) -> Option<&str>
 }
 
 /// The files of the instance and of the first plan.
-pub(crate) fn pair(chosen: &Chosen) -> Pair<'_>
+pub(crate) fn pair(chosen: &Chosen) -> InputPaths<'_>
     requires { 1 < length chosen.now.files.items }
     ensures { result ≡ pair_in chosen.now }
 {
-    Pair {
+    InputPaths {
         instance: file(chosen, 0),
         name: name(chosen),
         plan: file(chosen, 1),

@@ -7,7 +7,7 @@ ghost use Rattle.command_run.specs.Program.{RunsDrive};
 use crate::devices::Streams;
 use cell_drive::{BufferedSink, DriveEnd, DriveFault, Protocol, Source, drive_in};
 use command_answers::{
-    Answer, Answered, CommandFault, GOOD, Pair, REFUSED, Texts, load_files, loaded_answer,
+    Answer, Answered, CommandFault, GOOD, InputPaths, REFUSED, Texts, load_files, loaded_answer,
 };
 use std::alloc::Global;
 
@@ -32,7 +32,7 @@ impl From<DriveFault> for CommandFaultOf {
 pub(crate) fn drive_answer<T: Texts, R: Source, W: BufferedSink>(
     alloc: Global,
     texts: &mut T,
-    pair: &Pair<'_>,
+    pair: &InputPaths<'_>,
     protocol: Protocol,
     streams: &mut Streams<R, W>,
 ) -> Answered

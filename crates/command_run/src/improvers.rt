@@ -6,7 +6,7 @@ ghost use Rattle.command_run.specs.Improvers.{ImprovesPlan, ImprovesRest};
 
 use crate::devices::Screen;
 use crate::progress::Progress;
-use command_answers::{Ahead, Answered, Pair, Texts, improve_answer, improve_rest_answer};
+use command_answers::{Ahead, Answered, InputPaths, Texts, improve_answer, improve_rest_answer};
 use plan_improve::{AnnealingImprover, Improver};
 use std::alloc::{AllocError, Global};
 
@@ -14,7 +14,7 @@ use std::alloc::{AllocError, Global};
 pub(crate) fn better_answer<T: Texts, S: Screen>(
     alloc: Global,
     texts: &mut T,
-    pair: &Pair<'_>,
+    pair: &InputPaths<'_>,
     rounds: u32,
     seed: u32,
     screen: &mut S,

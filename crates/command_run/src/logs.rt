@@ -23,7 +23,7 @@ use cell_drive::{
     Begun, BufferedSink, DriveEnd, DriveFault, Protocol, RecoveredRun, Replayed, RestEnd, Source,
     replay_in,
 };
-use command_answers::{Answered, Pair, Texts};
+use command_answers::{Answered, InputPaths, Texts};
 use logged_drive::{LoggedEnd, RecoveredLog, drive_logged, go_on_logged};
 use run_journal::{InitialState, LogFile, Logs, WritingRoom};
 use std::alloc::Global;
@@ -223,7 +223,7 @@ fn drive_ready<R: Source, W: BufferedSink + Drop, D: LogFile + Drop, B: InitialS
 pub(crate) fn logged_answer<T: Texts, R: Source, W: BufferedSink + Drop, L: Logs, B: InitialState>(
     alloc: Global,
     texts: &mut T,
-    pair: &Pair<'_>,
+    pair: &InputPaths<'_>,
     asked: LogAsked<'_>,
     streams: Streams<R, W>,
     logs: &mut L,

@@ -2,7 +2,7 @@
 
 ghost use Rattle.command_run.specs.Planners.{SeeksPlan};
 
-use command_answers::{Answered, Pair, Texts, plan_answer};
+use command_answers::{Answered, InputPaths, Texts, plan_answer};
 use plan_seek::{GreedyProposer, Proposer, ShiftProposer};
 use std::alloc::{AllocError, Global};
 
@@ -10,7 +10,7 @@ use std::alloc::{AllocError, Global};
 pub(crate) fn seek_answer<T: Texts>(
     alloc: Global,
     texts: &mut T,
-    pair: &Pair<'_>,
+    pair: &InputPaths<'_>,
     rounds: u32,
 ) -> Answered
     ensures { SeeksPlan T.gives rounds pair.now texts.old result texts.new }

@@ -22,7 +22,7 @@ use crate::misfits::{misfit_answer, misfit_of};
 use crate::resumes::unrecovered_answer;
 use cell_drive::{Begun, Protocol, begin_in};
 use command_answers::{
-    Answered, CommandFault, Loaded, Pair, Texts, loaded_answer, log_fault_answer, shape_files,
+    Answered, CommandFault, InputPaths, Loaded, Texts, loaded_answer, log_fault_answer, shape_files,
 };
 use command_words::LogStart;
 use event_lines::RunDigits;
@@ -396,7 +396,7 @@ fn ready_shaped<L: Logs>(
 pub(crate) fn ready_run<T: Texts, L: Logs>(
     alloc: Global,
     texts: &mut T,
-    pair: &Pair<'_>,
+    pair: &InputPaths<'_>,
     asked: LogAsked<'_>,
     logs: &mut L,
 ) -> Readied<L::Log>

@@ -13,8 +13,8 @@ use cell_drive::{
     take_up,
 };
 use command_answers::{
-    Answered, CommandFault, Loaded, Pair, Texts, loaded_answer, log_fault_answer, past_answer,
-    shape_files,
+    Answered, CommandFault, InputPaths, Loaded, Texts, loaded_answer, log_fault_answer,
+    past_answer, shape_files,
 };
 use plan_verifier::Verdict;
 use shop_base::{Moment, Shaped};
@@ -26,7 +26,7 @@ use std::marker::Model;
 pub(crate) fn resume_answer<T: Texts, R: Source, W: BufferedSink>(
     alloc: Global,
     texts: &mut T,
-    pair: &Pair<'_>,
+    pair: &InputPaths<'_>,
     log: &str,
     at: Option<Moment>,
     protocol: Protocol,

@@ -5,7 +5,7 @@ ghost use Rattle.std.specs.String.{string_bytes};
 ghost use Rattle.shop_base.specs.declared.limits.TheConstants.{MAX_MOMENT};
 ghost use Rattle.command_run.specs.Revisions.{AreChangesOf, IsChangeOf, Revises, printed_for, values_asked};
 
-use command_answers::{Answered, Pair, Revised, Revision, Texts, revise_answer};
+use command_answers::{Answered, InputPaths, Revised, Revision, Texts, revise_answer};
 use command_words::{AskedChange, ChangeKind};
 use plan_revise::Change;
 use shop_base::Moment;
@@ -15,7 +15,7 @@ use std::alloc::{AllocError, Global};
 pub(crate) fn revision_answer<T: Texts>(
     alloc: Global,
     texts: &mut T,
-    pair: &Pair<'_>,
+    pair: &InputPaths<'_>,
     log: &str,
     at: Option<Moment>,
     asked: &[AskedChange],

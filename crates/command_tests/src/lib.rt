@@ -5,18 +5,4 @@
 #![tactic(auto)]
 
 #[cfg(test)]
-mod answers;
-#[cfg(test)]
-mod checks;
-#[cfg(test)]
-mod decisions;
-#[cfg(test)]
-mod shelf;
-#[cfg(test)]
-mod statuses;
-#[cfg(test)]
-mod texts;
-#[cfg(test)]
-mod verdicts;
-#[cfg(test)]
-mod wants;
+mod tests;

@@ -1,9 +1,10 @@
+pub mod Accepted
 pub mod Apart
 pub mod Asking
 pub mod Described
 pub mod Fits
+pub mod Forms
 pub mod Getters
 pub mod GivenNumbers
 pub mod Moments
 pub mod Reasons
-pub mod Taken

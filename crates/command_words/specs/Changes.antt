@@ -1,5 +1,5 @@
 -- The changes of a plan in mid-run that the words of a command line ask for.
-use Rattle.std.specs.Prelude.{◌≡◌, ℕ, ◌+◌, ◌++◌, ◌==◌, ◌&&◌, nat_eq, nat_lt, if◌then◌else◌, Bool, true, List, [], ◌∷◌, Option, Some, None, bytes_eq, codes, drop, length, option_and_then, slice_get}
+use Rattle.std.specs.Prelude.{ℕ, ◌+◌, ◌++◌, ◌==◌, ◌&&◌, nat_eq, nat_lt, if◌then◌else◌, Bool, true, List, [], ◌∷◌, Option, Some, None, bytes_eq, codes, drop, length, option_and_then, slice_get}
 use Rattle.std.specs.List.{after_first, before_first, list_all, starts_with}
 use Rattle.std.specs.Option.{option_map_or}
 use Rattle.std.specs.String.{string_bytes}
@@ -117,13 +117,13 @@ module _ (released promised : List ℕ) (rows : List Row) where
 abbrev pub changes_in : List Text → List Row → List (Text × ChangeKind)
 changes_in words rows = all_asked (owners_used (codes "release") (codes "--release") words rows) (owners_used (codes "budget") (codes "--budget") words rows) rows
 
--- ---- why they aren't taken
+-- ---- why they are refused
 
--- why these values aren't taken, or nothing
+-- why these values are refused, or nothing
 abbrev pub values_misfit : (Text → Bool) → List Text → Kinds
 values_misfit is_such values = if list_all is_such values then [] else ValueValidation ∷ []
 
--- why uses of an option that goes with added jobs aren't taken, or nothing: each stands behind an added job, and no two behind the same one
+-- why uses of an option that goes with added jobs are refused, or nothing: each stands behind an added job, and no two behind the same one
 abbrev pub places_misfit : List ℕ → Kinds
 places_misfit owners = if rises 0 owners then [] else ArgumentConflict ∷ []
 

@@ -1,13 +1,12 @@
 -- What the words of a command line ask for, by the matches that `clap` finds in them.
-use Rattle.std.specs.Prelude.{◌≡◌, ◌≢◌, ◌≤◌, ◌++◌, ◌&&◌, ◌==◌, ℕ, nat_le, nat_lt, if◌then◌else◌, Bool, true, false, List, [], ◌∷◌, Option, Some, None, IfSome, String, bytes_eq, length, map, option_map, unwrap_or, is_some, not, pos, codes}
-use Rattle.std.specs.List.{list_all}
+use Rattle.std.specs.Prelude.{◌≡◌, ◌≢◌, ◌≤◌, ◌++◌, ◌&&◌, ◌==◌, ℕ, if◌then◌else◌, Bool, true, false, List, [], ◌∷◌, Option, Some, None, IfSome, String, bytes_eq, length, map, option_map, is_some, not, pos, codes}
 use Rattle.std.specs.Option.{option_map_or}
 use Rattle.std.specs.String.{string_bytes}
 use Rattle.std.specs.declared.alloc.Global.{Global}
 use Rattle.std.specs.Str.Parse.{digits_value, without_leading_plus}
-use Rattle.text_lines.specs.Numbers.{is_digit, value_of}
+use Rattle.text_lines.specs.Numbers.{value_of}
 use Rattle.clap.specs.Kinds.{or_else}
-use Rattle.clap.specs.Words.{IsAmong, IsSignedIn, Kinds, Row, Text, all_of, fault_of, first_of, one_of, subcommand_of, without_minus}
+use Rattle.clap.specs.Words.{IsAmong, IsSignedIn, Kinds, Row, Text, fault_of, first_of, one_of, subcommand_of, without_minus}
 use Rattle.clap.specs.declared.error.kind.ErrorKind.{ErrorKind}
 use Rattle.clap.specs.declared.error.kind.ErrorKind.TheVariants.{ArgumentConflict, DisplayHelp, DisplayVersion, MissingRequiredArgument, OutOfMemory, ValueValidation}
 use Rattle.command_words.specs.Given.{is_moment, is_number, values_of}
@@ -215,13 +214,13 @@ first_given (Some text) other = Some text
 abbrev pub log_given : List Row → Option Text
 log_given rows = first_given (after_in rows) (first_given (first_of (codes "LOG") rows) (kept_in rows))
 
--- why a word isn't taken for the present moment, or nothing: there is no log, or it isn't a moment
+-- why a word isn't accepted as the present moment, or nothing: there is no log, or it isn't a moment
 abbrev pub misfit_of : Option Text → Option Text → Kinds
 misfit_of log None = []
 misfit_of None (Some word) = MissingRequiredArgument ∷ []
 misfit_of (Some log) (Some word) = if is_moment word then [] else ValueValidation ∷ []
 
--- why a word isn't taken for such a number, or nothing
+-- why a word isn't accepted as such a number, or nothing
 abbrev pub number_misfit : ℕ → ℕ → ℕ → Option Text → Kinds
 number_misfit digits least most None = []
 number_misfit digits least most (Some word) = if is_number digits least most word then [] else ValueValidation ∷ []
@@ -247,11 +246,11 @@ are_both option switch rows = has_both (first_of option rows) (is_set switch row
 abbrev pub are_both_set : Text → Text → List Row → Bool
 are_both_set one other rows = is_set one rows && is_set other rows
 
--- why its matches aren't taken: for this reason where that is so, else for these
+-- why its matches are refused: for this reason where that is so, else for these
 abbrev pub refused_if : Bool → ErrorKind → Kinds → Kinds
 refused_if is kind others = if is then kind ∷ [] else others
 
--- why its matches aren't taken for the moment
+-- why its matches are refused for the moment
 abbrev pub misfits_of : List Row → Kinds
 misfits_of rows = misfit_of (log_given rows) (first_of (codes "at") rows)
 
@@ -303,7 +302,7 @@ misfit_in words found = or_else (misfits_of (rows_found found))
     (or_else (moves_misfit (rows_found found))
     (or_else (start_misfit (rows_found found)) (revision_misfit words (rows_found found)))))))
 
--- why the words are refused, or nothing where they are taken: `clap`'s reasons, or else that what they ask for doesn't fit together
+-- why the words are refused, or nothing where they are accepted: `clap`'s reasons, or else that what they ask for doesn't fit together
 abbrev pub reasons_in : List Text → Kinds
 reasons_in words = or_else (parse_reasons_in words) (misfit_in words (found_in words))
 

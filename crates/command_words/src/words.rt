@@ -198,7 +198,7 @@ impl From<Refusal> for WordsFault {
 pub fn read_words(alloc: Global, words: &[&str]) -> Result<Chosen, WordsFault>
     ensures chosen { let given = map (λ word. word.now) words.now in IfOk result (IsChoiceOf given (found_in given)) }
     ensures within { IfOk result IsWithin }
-    ensures taken { IfOk result (λ _. reasons_in (map (λ word. word.now) words.now) ≡ []) }
+    ensures accepted { IfOk result (λ _. reasons_in (map (λ word. word.now) words.now) ≡ []) }
     ensures refused { IfErr result (NamesOneOf (reasons_in (map (λ word. word.now) words.now))) }
 {
     let program = command_line::whole(alloc)?;

@@ -1,12 +1,11 @@
 -- What keeps another plan after an event kept it before.
 use Rattle.std.proofs.Common.{◌≡◌, ℕ, ◌+◌, ◌<◌, ◌≤◌, inl, inr, List, [], ◌∷◌, ◌++◌, length, Bool, false, not, Option, None, Some, is_some, count_by, if◌then◌else◌, refl, sym, ap, ap₂, ◌∙◌, arith, append_assoc, append-nil, length-append}
 use Rattle.std.proofs.{Math.Path.fun_ext, lemmas.Bool.cases_eq}
-use Rattle.shop_base.specs.declared.job_state.JobState.{JobState}
+use Rattle.shop_base.specs.{declared.job_state.JobState.JobState, Report.after_report, Sound.IsSound}
 use Rattle.shop_base.specs.Plan.{PlannedShop, clean, order, Visits, IsWellShaped}
-use Rattle.shop_base.specs.{Cell.{Cell, made, ready, entries, cleaning, IsOn, IsFree}, Report.after_report}
-use Rattle.shop_base.specs.Move.{IsPrefix, CanMove, after_move}
+use Rattle.shop_base.specs.Cell.{Cell, made, ready, entries, cleaning, IsOn, IsFree}
+use Rattle.shop_base.specs.{Move.{IsPrefix, CanMove, after_move}, ReportsLeft.{is_on_after, is_off, departures}}
 use Rattle.shop_base.specs.Run.{Event, Reported, Moved, CanHappen, after, AreEvents, after_all}
-use Rattle.shop_base.specs.{ReportsLeft.{is_on_after, is_off, departures}, Sound.IsSound}
 use Rattle.shop_base.proofs.{Visits.{visits_once, visits_or_not, on_or_not}, Changes.{IsMoved, after_move-moved}}
 use Rattle.shop_base.proofs.Keeping.{IsLike, after_report-like, after_move-sound, after-sound, alone_on, target_free}
 use Rattle.shop_base.proofs.Departures.{departures_free, departures_on, elsewhere-off}

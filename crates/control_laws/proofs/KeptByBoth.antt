@@ -2,14 +2,13 @@
 use Rattle.std.proofs.Common.{◌≡◌, ◌≢◌, ℕ, ◌<◌, ◌≤◌, inl, inr, List, [], ◌∷◌, ◌++◌, get_or, Option, None, Some, is_some, count_by, if◌then◌else◌, le_refl, refl, sym, ap, ◌∙◌, subst, arith}
 use Rattle.std.proofs.{lemmas.Bool.{cases_eq, cases_lt}, lemmas.List.get_or-replicate}
 use Rattle.shop_base.specs.{declared.job_state.JobState.JobState, declared.move_order.MoveOrder.MoveOrder}
-use Rattle.shop_base.specs.{declared.move_order.Spot.TheVariants.{Out, At}, declared.report.Report.Report}
+use Rattle.shop_base.specs.{declared.move_order.Spot.TheVariants.{Out, At}, ReportsLeft.{departures, is_off}}
+use Rattle.shop_base.specs.{declared.report.Report.{Report, TheVariants.{Arrive, Finish, Clean}}, Sound.IsSound}
 use Rattle.shop_base.specs.Plan.{PlannedShop, jobs, machines, steps, machine_of, clean, order, Visits, IsWellShaped}
 use Rattle.shop_base.specs.Cell.{Cell, MachineState, absent, unused, start, made, ready, entries, cleaning, IsOn}
 use Rattle.shop_base.specs.Report.{CanReport, with_ready, with_clean, after_report}
 use Rattle.shop_base.specs.Move.{IsPrefix, CanMove, KeepsPlan, target, after_move}
 use Rattle.shop_base.specs.Run.{Event, Reported, Moved, CanHappen, after, AreEvents, after_all}
-use Rattle.shop_base.specs.{ReportsLeft.{departures, is_off}, Sound.IsSound}
-use Rattle.shop_base.specs.declared.report.Report.TheVariants.{Arrive, Finish, Clean}
 use Rattle.shop_base.proofs.Visits.{visits_job, visits_machine, visits_or_not, on_or_not}
 use Rattle.shop_base.proofs.InShop.{outside_in_shop, ready_in_shop, start_unused}
 use Rattle.shop_base.proofs.CellFacts.{target_visited, target_out, visits_target}

@@ -2,14 +2,13 @@
 use Rattle.std.proofs.Common.{◌≡◌, ℕ, zero, suc, ◌+◌, ◌<◌, ◌≤◌, inl, inr, List, [], ◌∷◌, ◌++◌, length, get_or, true, false, Option, None, Some, is_some, nat_lt, if◌then◌else◌, le_refl, refl, sym, ap, ◌∙◌, subst, arith, lt-ltb, le-ltb}
 use Rattle.std.proofs.{lemmas.Bool.{cases_eq, cases_lt}, lemmas.List.{get_or-replicate, length-replicate}}
 use Rattle.shop_base.specs.{declared.job_state.JobState.JobState, declared.move_order.MoveOrder.MoveOrder}
-use Rattle.shop_base.specs.{declared.move_order.Spot.Spot, declared.report.Report.Report}
+use Rattle.shop_base.specs.{declared.move_order.Spot.Spot, ReportsLeft.departures, Sound.IsSound}
+use Rattle.shop_base.specs.declared.report.Report.{Report, TheVariants.{Arrive, Finish, Clean}}
 use Rattle.shop_base.specs.Plan.{PlannedShop, jobs, machines, steps, machine_of, nominal, release, clean, order, Visits, IsWellShaped}
 use Rattle.shop_base.specs.Cell.{Cell, MachineState, absent, unused, start, job_in, made, ready, since, cleaning, IsOn}
 use Rattle.shop_base.specs.Report.{IsNextMoment, CanReport, with_ready, with_clean, after_report}
 use Rattle.shop_base.specs.Move.{IsPrefix, CanMove, KeepsPlan, CanEnter, spot_after, source, target, after_move, order_for}
 use Rattle.shop_base.specs.Run.{Event, Reported, Moved, CanHappen, after, AreEvents, after_all}
-use Rattle.shop_base.specs.{ReportsLeft.departures, Sound.IsSound}
-use Rattle.shop_base.specs.declared.report.Report.TheVariants.{Arrive, Finish, Clean}
 use Rattle.shop_base.proofs.Visits.{visits_job, visits_machine, on_or_not, visits_or_not, stop_at, stop_past, leaves_past, past_leaves}
 use Rattle.shop_base.proofs.InShop.{outside_in_shop, ready_in_shop, cleaned_in_shop, start_unused}
 use Rattle.shop_base.proofs.Changes.{IsMoved, IsReadied, IsTidied, after_move-moved, with_ready-readied, with_clean-tidied, moves_within}

@@ -1,13 +1,8 @@
 -- The law that a run which is handed over is one run, of the plan that took over.
 use Rattle.std.specs.Prelude.{◌≡◌, ℕ, List, ◌++◌}
-use Rattle.shop_base.specs.declared.report.Report.{Report}
-use Rattle.shop_base.specs.Plan.{PlannedShop, IsWellShaped}
-use Rattle.shop_base.specs.Run.{Event, IsRun, ends_in}
-use Rattle.shop_base.specs.Controlled.{moved}
-use Rattle.shop_base.specs.Ahead.{GoesOnTo}
-use Rattle.cell_control.specs.HandedOver.{IsHandedOver}
-use Rattle.cell_control.specs.Control.{Control}
-use Rattle.cell_control.specs.Promises.{AreCalled}
+use Rattle.shop_base.specs.{declared.report.Report.Report, Plan.PlannedShop, Plan.IsWellShaped, Controlled.moved}
+use Rattle.shop_base.specs.{Run.Event, Run.IsRun, Run.ends_in, Ahead.GoesOnTo}
+use Rattle.cell_control.specs.{HandedOver.IsHandedOver, Control.Control, Promises.AreCalled}
 
 -- these events were a run of plan q before, and with those after them they are one: the controlled run of these reports goes on from its end at moment t, and the controller is at the end of the whole
 pub record IsOneRun (q : PlannedShop) (before : List Event) (t : ℕ) (rs : List Report) (after : List Event) (end : Control) : Type 0 where

@@ -1,11 +1,8 @@
 -- The laws that a run which keeps another plan is one of that plan, and that a run of both plans keeps the other.
 use Rattle.std.specs.Prelude.{◌≡◌, ℕ, ◌<◌, List}
-use Rattle.shop_base.specs.Plan.{PlannedShop, machines, clean, IsWellShaped}
-use Rattle.shop_base.specs.Cell.{Cell}
-use Rattle.shop_base.specs.Run.{Event, IsRun, ends_in}
-use Rattle.shop_base.specs.ReportsLeft.{departures}
-use Rattle.cell_control.specs.Kept.{KeepsSoFar}
-use Rattle.cell_control.specs.Carried.{IsCarried}
+use Rattle.shop_base.specs.{Plan.PlannedShop, Plan.machines, Plan.clean, Plan.IsWellShaped, Cell.Cell}
+use Rattle.shop_base.specs.{Run.Event, Run.IsRun, Run.ends_in, ReportsLeft.departures}
+use Rattle.cell_control.specs.{Kept.KeepsSoFar, Carried.IsCarried}
 
 -- a run of plan p that keeps plan q, as its last cell shows, is a run of plan q, which ends with that cell as one of plan q
 abbrev pub AKeptRunIsOneOfTheOtherPlan : Type 0

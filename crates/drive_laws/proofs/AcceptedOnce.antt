@@ -1,29 +1,19 @@
 -- What was claimed to have ended, and accepted, isn't accepted again.
 use Rattle.std.proofs.Common.{◌≡◌, ◌⊎◌, ℕ, List, [], ◌∷◌, ◌++◌, Option, Some, refl, sym, ap, ◌∙◌, subst, inl, inr}
-use Rattle.shop_base.specs.Plan.{PlannedShop, IsWellShaped}
-use Rattle.shop_base.specs.Cell.{Cell, start}
-use Rattle.shop_base.specs.Report.{at, after_report}
-use Rattle.shop_base.specs.Run.{Reported, AreEvents, after_all, IsRun, ends_in}
-use Rattle.shop_base.specs.Controlled.{moved, step_orders}
-use Rattle.shop_base.specs.declared.report.Report.TheVariants.{Arrive, Finish, Clean}
+use Rattle.shop_base.specs.{declared.report.Report.TheVariants.{Arrive, Finish, Clean}, Cell.{Cell, start}}
+use Rattle.shop_base.specs.{Plan.{PlannedShop, IsWellShaped}, Report.{at, after_report}}
+use Rattle.shop_base.specs.{Run.{Reported, AreEvents, after_all, IsRun, ends_in}, Controlled.{moved, step_orders}}
 use Rattle.shop_base.proofs.ControlledRuns.{events_join, after_all_join, moves-events, after_all-moves}
-use Rattle.cell_tables.specs.declared.entry.Entry.{Entry}
-use Rattle.cell_tables.specs.Events.{events_of}
-use Rattle.cell_control.specs.OnceLaw.{NamedEnd, Arrived, Finished, Cleaned, ReportsEnd}
-use Rattle.cell_control.proofs.Once.{once}
+use Rattle.cell_tables.specs.{declared.entry.Entry.Entry, Events.events_of}
+use Rattle.cell_control.{specs.OnceLaw.{NamedEnd, Arrived, Finished, Cleaned, ReportsEnd}, proofs.Once.once}
 use Rattle.byte_streams.specs.Answering.{AnswerAll}
-use Rattle.event_lines.specs.declared.requests.Claim.{Claim}
-use Rattle.event_lines.specs.declared.requests.Claim.TheVariants.{Report, CleanAfter}
+use Rattle.event_lines.specs.{declared.requests.Claim.{Claim, TheVariants.{Report, CleanAfter}}, Requests.claimed}
 use Rattle.event_lines.specs.declared.requests.Request.TheVariants.{Claim as ClaimRequest}
-use Rattle.event_lines.specs.Requests.{claimed}
-use Rattle.cell_drive.specs.declared.protocol.Protocol.{Protocol}
-use Rattle.cell_drive.specs.Refusals.{CanClaim, IsAdmissible}
-use Rattle.cell_drive.specs.AnswerText.{DrivenCell, undriven}
+use Rattle.cell_drive.specs.{declared.protocol.Protocol.Protocol, Refusals.{CanClaim, IsAdmissible}}
+use Rattle.cell_drive.specs.{AnswerText.{DrivenCell, undriven}, ProtocolLaw.{named, NothingIsAcceptedTwice}}
 use Rattle.cell_drive.specs.ProtocolText.{ProtocolAnswers, IsClaimRefused, IsClaimAccepted, refusal_prefix}
-use Rattle.cell_drive.specs.ProtocolLaw.{named, NothingIsAcceptedTwice}
 use Rattle.cell_drive.proofs.OneText.{IsOnCourse, request_keeps, start_on_course, protocol_lines_keep}
-use Rattle.cell_drive.proofs.ReadBack.{AreParsed, all_parsed}
-use Rattle.cell_drive.proofs.Refusing.{can_report, refused_or_admissible}
+use Rattle.cell_drive.proofs.{ReadBack.{AreParsed, all_parsed}, Refusing.{can_report, refused_or_admissible}}
 use Rattle.cell_drive.proofs.ProtocolParses.{protocol_line_parses}
 
 -- a claim that is possible records what it names

@@ -1,41 +1,26 @@
 -- The events of a log that was recovered, as they were answered by a protocol.
 use Rattle.std.proofs.Common.{◌≡◌, ◌⊎◌, ℕ, ◌+◌, Bool, true, false, List, [], ◌∷◌, ◌++◌, Option, Some, map, length, take, drop, inl, inr, refl, sym, ap, ◌∙◌, subst, append_assoc, append-nil}
-use Rattle.std.specs.Prelude.{◌↔◌}
 use Rattle.std.proofs.lemmas.List.{append_cancel_left, take-append-drop}
-use Rattle.shop_base.specs.declared.move_order.MoveOrder.{MoveOrder}
-use Rattle.shop_base.specs.Plan.{PlannedShop}
-use Rattle.shop_base.specs.Cell.{Cell, start}
-use Rattle.shop_base.specs.declared.report.Report as reports
-use Rattle.shop_base.specs.Report.{at, CanReport, after_report}
-use Rattle.shop_base.specs.Punctual.{IsPunctual}
+use Rattle.std.specs.Prelude.{◌↔◌}
+use Rattle.shop_base.specs.{declared.move_order.MoveOrder.MoveOrder, Plan.PlannedShop, Cell.{Cell, start}}
+use Rattle.shop_base.specs.{Report.{at, CanReport, after_report}, Punctual.IsPunctual}
 use Rattle.shop_base.specs.Run.{Event, Moved, after, after_all}
 use Rattle.shop_base.specs.Controlled.{moved, IsStep, after_step, step_orders, Leads, done, accepted, refused}
-use Rattle.shop_base.proofs.ControlledRuns.{after_all-moves}
-use Rattle.shop_base.proofs.CellFacts.{after_report-last}
-use Rattle.cell_tables.specs.declared.entry.Entry.{Entry}
-use Rattle.cell_tables.specs.declared.entry.Entry.TheVariants.{Report as ReportEntry, Order as OrderEntry}
+use Rattle.shop_base.proofs.{ControlledRuns.after_all-moves, CellFacts.after_report-last}
+use Rattle.cell_tables.specs.declared.entry.Entry.{Entry, TheVariants.{Report as ReportEntry, Order as OrderEntry}}
 use Rattle.cell_tables.specs.Events.{event_of, events_of}
 use Rattle.byte_streams.specs.Answering.{AnswerAll}
-use Rattle.event_lines.specs.EventLines.{report_line, order_line, entry_lines, order_lines}
-use Rattle.event_lines.specs.declared.requests.Claim.{Claim}
-use Rattle.event_lines.specs.declared.requests.Claim.TheVariants.{Report, CleanAfter}
+use Rattle.event_lines.specs.{declared.requests.Claim.{Claim, TheVariants.{Report, CleanAfter}}, Requests.claimed}
 use Rattle.event_lines.specs.declared.requests.Request.TheVariants.{Claim as ClaimRequest}
-use Rattle.event_lines.specs.Requests.{claimed}
+use Rattle.event_lines.specs.EventLines.{report_line, order_line, entry_lines, order_lines}
 use Rattle.event_lines.proofs.Readings.{some_line}
-use Rattle.cell_drive.specs.declared.protocol.Protocol.{Protocol}
-use Rattle.cell_drive.specs.AnswerText.{DrivenCell}
-use Rattle.cell_drive.specs.CutLogs.{IsOwnRun, IsCutLogOf}
-use Rattle.cell_drive.specs.LateEvents.{AreLate}
-use Rattle.cell_drive.specs.OneRun.{cell_after}
-use Rattle.cell_drive.specs.Refusals.{IsAdmissible}
-use Rattle.cell_drive.specs.Resuming.{driven_so_far}
+use Rattle.cell_drive.specs.{declared.protocol.Protocol.Protocol, AnswerText.DrivenCell, CutLogs.{IsOwnRun, IsCutLogOf}}
+use Rattle.cell_drive.specs.{LateEvents.AreLate, OneRun.cell_after, Refusals.IsAdmissible, Resuming.driven_so_far}
 use Rattle.cell_drive.specs.Replay.{replay_line, replay_lines}
 use Rattle.cell_drive.specs.ProtocolText.{AsksFor, CellRequests, ProtocolAnswers, AreProtocolAnswers, printed_overdue, lateness_part, prints_end, end_part, acceptance_lines}
-use Rattle.cell_drive.proofs.CutRuns.{FirstStep, first_step}
-use Rattle.cell_drive.proofs.LineAnswers.{asked_line}
-use Rattle.cell_drive.proofs.Parts.{entries_moved}
-use Rattle.drive_laws.specs.AnswerLaw.{AreClaimLines}
-use Rattle.drive_laws.proofs.SettledCuts.{moves_last}
+use Rattle.cell_drive.proofs.{CutRuns.{FirstStep, first_step}, LineAnswers.asked_line, Parts.entries_moved}
+use Rattle.drive_laws.{specs.AnswerLaw.AreClaimLines, proofs.SettledCuts.moves_last}
+use Rattle.shop_base.specs.declared.report.Report as reports
 
 -- orders are never late
 abbrev on_time : List MoveOrder → List Bool

@@ -1,30 +1,17 @@
 -- An audit keeps what a driven cell wrote.
-use Rattle.std.proofs.Common.{◌≡◌, ℕ, List, ◌++◌, Option, Some, Bool, true, false, Result, Ok, Err, ◌↔◌, refl, sym, ap, ◌∙◌, arith, subst}
-use Rattle.std.specs.Prelude.{IsTrue, IfOk, IfErr, MatchResult}
-use Rattle.std.specs.Io.KnownBytes.{Appends}
-use Rattle.std.proofs.lemmas.Bool.{false≢true}
-use Rattle.std.proofs.lemmas.List.{append_cancel_left}
-use Rattle.shop_base.specs.Plan.{PlannedShop}
-use Rattle.shop_base.specs.Cell.{Cell}
-use Rattle.shop_base.specs.Run.{IsRun}
-use Rattle.shop_base.specs.Ends.{HasEnded, moves_in, reports_in}
+use Rattle.std.proofs.Common.{◌≡◌, ℕ, List, ◌++◌, Option, Some, Bool, true, false, Result, Ok, Err, ◌↔◌, refl, sym, ap}
+use Rattle.std.proofs.{Common.{◌∙◌, arith, subst}, lemmas.{Bool.false≢true, List.append_cancel_left}}
+use Rattle.std.specs.{Prelude.{IsTrue, IfOk, IfErr, MatchResult}, Io.KnownBytes.Appends}
+use Rattle.shop_base.specs.{Plan.PlannedShop, Cell.Cell, Run.IsRun, Ends.{HasEnded, moves_in, reports_in}}
 use Rattle.text_lines.specs.Lines.{lines_of}
-use Rattle.cell_tables.specs.declared.entry.Entry.{Entry}
-use Rattle.run_log.specs.declared.audit_result.Audit.{Audit}
-use Rattle.run_log.specs.declared.audit_fault.AuditFault.{AuditFault}
-use Rattle.run_log.specs.declared.audit_fault.AuditFault.TheVariants.{Memory}
-use Rattle.cell_tables.specs.Events.{events_of}
-use Rattle.run_log.specs.Log.{Noted}
-use Rattle.event_lines.specs.LogLines.{LinesParse}
-use Rattle.run_log.specs.Audits.{IsAudit, ParseAsRun}
-use Rattle.event_lines.proofs.Readings.{one_reading}
+use Rattle.cell_tables.specs.{declared.entry.Entry.Entry, Events.events_of}
+use Rattle.run_log.specs.declared.{audit_result.Audit.Audit, audit_fault.AuditFault.{AuditFault, TheVariants.Memory}}
+use Rattle.run_log.specs.{Log.Noted, Audits.{IsAudit, ParseAsRun}}
+use Rattle.event_lines.{specs.LogLines.LinesParse, proofs.Readings.one_reading}
 use Rattle.byte_streams.specs.Lent.{Streams}
-use Rattle.cell_drive.specs.OneRun.{cell_after, IsSoFar}
-use Rattle.cell_drive.specs.Session.{seen}
-use Rattle.cell_drive.specs.AuditLaw.{IsLogOf, IsFoundAgain}
+use Rattle.cell_drive.specs.{OneRun.{cell_after, IsSoFar}, Session.seen, AuditLaw.{IsLogOf, IsFoundAgain}}
 use Rattle.cell_drive.specs.ProtocolLaw.{AnAuditKeepsWhatWasDriven}
-use Rattle.cell_drive.proofs.Sessions.{driven_text}
-use Rattle.cell_drive.proofs.ProtocolParses.{an_answer_text_is_a_log}
+use Rattle.cell_drive.proofs.{Sessions.driven_text, ProtocolParses.an_answer_text_is_a_log}
 
 same_answer : {A : Type 0} (x y : Bool) → ((x ≡ true) ↔ A) → (IsTrue y ↔ A) → x ≡ y
 same_answer true true one other = refl

@@ -1,31 +1,20 @@
 -- In every run, each cleaning that goes on began by the last moment.
-use Rattle.std.proofs.Common.{◌≡◌, ℕ, ◌≤◌, List, [], ◌∷◌, Some, inl, inr, refl, sym, ap, ◌∙◌, arith}
-use Rattle.std.proofs.lemmas.Bool.{cases_lt}
-use Rattle.shop_base.specs.declared.report.Report.{Report}
-use Rattle.shop_base.specs.Plan.{PlannedShop, IsWellShaped, clean}
-use Rattle.shop_base.specs.Cell.{Cell, MachineState, cleaning, start}
-use Rattle.shop_base.specs.Activity.{Activity, Arrival, Operation, Cleaning}
-use Rattle.shop_base.specs.Report.{ended, at, CanReport, after_end, after_report}
-use Rattle.shop_base.specs.Move.{CanMove, after_move}
+use Rattle.std.proofs.{Common.{◌≡◌, ℕ, ◌≤◌, List, [], ◌∷◌, Some, inl, inr, sym, ap, ◌∙◌, arith}, lemmas.Bool.cases_lt}
+use Rattle.shop_base.specs.{declared.report.Report.Report, Sound.IsSound, Report.{CanReport, after_report}}
 use Rattle.shop_base.specs.Run.{Event, Reported, Moved, AreEvents, IsRun, after_all, ends_in}
-use Rattle.shop_base.specs.Sound.{IsSound}
-use Rattle.shop_base.proofs.Changes.{IsMoved, after_move-moved}
-use Rattle.shop_base.proofs.InShop.{start_unused}
-use Rattle.shop_base.proofs.Keeping.{start-sound, after_report-like, after_report-sound, after_move-sound}
+use Rattle.shop_base.specs.{Plan.{PlannedShop, IsWellShaped, clean}, Cell.{Cell, MachineState, cleaning, start}}
+use Rattle.shop_base.specs.Move.{CanMove, after_move}
+use Rattle.shop_base.proofs.{CellFacts.after_report-last, Changes.{IsMoved, after_move-moved}, InShop.start_unused}
 use Rattle.shop_base.proofs.Visits.{on_or_not}
+use Rattle.shop_base.proofs.Keeping.{start-sound, after_report-like, after_report-sound, after_move-sound}
 
 abbrev pub AreBegunByLast : Cell → Type 0
 AreBegunByLast c = (m s : ℕ) → cleaning c m ≡ Some s → s ≤ c.last
 
-ended_at : (c : Cell) (a : Activity) (t : ℕ) → (after_end c a t).last ≡ t
-ended_at c (Arrival j) t = refl
-ended_at c (Operation j m) t = refl
-ended_at c (Cleaning m) t = refl
-
 module _ (p : PlannedShop) (shaped : IsWellShaped p) where
   begun_reported : (c : Cell) (r : Report) → IsSound p c → CanReport p c r → AreBegunByLast c → AreBegunByLast (after_report c r)
   begun_reported c r sound can begun m s cleaned =
-      omega (arith, begun m s ((after_report-like p c r sound can).cleaned_before m s cleaned), can.moment.in_order, ended_at c (ended r) (at r))
+      omega (arith, begun m s ((after_report-like p c r sound can).cleaned_before m s cleaned), can.moment.in_order, after_report-last c r)
 
   begun_moved : (c : Cell) (j t : ℕ) → IsSound p c → CanMove p c j t → AreBegunByLast c → AreBegunByLast (after_move p c j t)
   begun_moved c j t sound can begun m s cleaned = elim (on_or_not p c j m) [

@@ -1,32 +1,19 @@
 -- A run that is recovered by its own plan goes on as one run.
-use Rattle.std.proofs.Common.{◌≡◌, ℕ, List, ◌++◌, map, length, None, refl, sym, ap, ap₂, ◌∙◌, subst, arith, append_assoc}
-use Rattle.shop_base.specs.declared.move_order.MoveOrder.{MoveOrder}
-use Rattle.shop_base.specs.declared.report.Report.{Report}
-use Rattle.shop_base.specs.Plan.{PlannedShop, IsWellShaped}
-use Rattle.shop_base.specs.Cell.{Cell, start}
-use Rattle.shop_base.specs.Run.{Event, after_all}
-use Rattle.shop_base.specs.Controlled.{after_moves, orders_for, moved, Leads}
-use Rattle.shop_base.specs.Ahead.{Settles, GoesOnTo, settled}
-use Rattle.shop_base.proofs.Keeping.{start-sound}
-use Rattle.shop_base.proofs.ControlledRuns.{start_at_rest, after_all_join, after_all-moves}
-use Rattle.cell_tables.specs.declared.entry.Entry.{Entry}
-use Rattle.cell_tables.specs.declared.entry.Entry.TheVariants.{Order as OrderEntry}
-use Rattle.cell_tables.specs.Events.{events_of}
+use Rattle.std.proofs.Common.{◌≡◌, List, ◌++◌, map, length, None, refl, sym, ap, ap₂, ◌∙◌, subst, arith, append_assoc}
+use Rattle.shop_base.specs.{declared.{move_order.MoveOrder.MoveOrder, report.Report.Report}, Cell.{Cell, start}}
+use Rattle.shop_base.specs.{Plan.{PlannedShop, IsWellShaped}, Run.{Event, after_all}, Ahead.{GoesOnTo, settled}}
+use Rattle.shop_base.specs.Controlled.{after_moves, moved, Leads}
+use Rattle.shop_base.proofs.ControlledRuns.{after_all_join, after_all-moves}
+use Rattle.cell_tables.specs.{declared.entry.Entry.{Entry, TheVariants.Order as OrderEntry}, Events.events_of}
 use Rattle.run_log.proofs.Audits.{events-join}
-use Rattle.event_lines.proofs.Readings.{one_reading}
-use Rattle.cell_drive.specs.AnswerText.{DrivenCell}
-use Rattle.cell_drive.specs.CutLogs.{reported}
-use Rattle.cell_drive.specs.OneRun.{cell_after, IsRunOf}
-use Rattle.cell_drive.specs.Recovered.{plan_of, replayed_events, replayed_cell, Recovered}
-use Rattle.cell_drive.specs.Resuming.{driven_so_far}
-use Rattle.cell_drive.proofs.CutLogs.{AreLed, leads_join, run_of_leads, protocol_answers_lead}
-use Rattle.cell_drive.proofs.CutRuns.{cut_of_run}
-use Rattle.cell_drive.proofs.OwnRuns.{own_run, run_of_own, due_events}
-use Rattle.cell_drive.proofs.Parts.{entries_moved}
+use Rattle.cell_drive.specs.{AnswerText.DrivenCell, OneRun.{cell_after, IsRunOf}, Resuming.driven_so_far}
+use Rattle.cell_drive.specs.Recovered.{plan_of, replayed_events, Recovered}
+use Rattle.cell_drive.proofs.{CutLogs.{AreLed, leads_join, run_of_leads, protocol_answers_lead}, CutRuns.cut_of_run}
+use Rattle.cell_drive.proofs.{OwnRuns.{own_run, run_of_own, due_events}, Parts.entries_moved}
 use Rattle.cell_drive.proofs.PromisesKept.{stays_as_promised}
 use Rattle.drive_laws.specs.OneRunLaw.{IsRecoveredByItsPlan, ItIsRecoveredAsOne, ItIsOneSoFar, ADrivenRunGoesOnAsOne, ItStaysAsPromised, TheFirstEventsHaveTheirOrders, WhatWasResumedHasItsOrders}
 use Rattle.drive_laws.proofs.Resumes.{recovered_to_rest, what_was_resumed_is_recovered}
-use Rattle.drive_laws.proofs.SettledCuts.{cut_settles, it_is_recovered_with_its_orders}
+use Rattle.drive_laws.proofs.SettledCuts.{settles_by_these, from_these, it_is_recovered_with_its_orders}
 
 -- events to which a controlled run leads on, behind its own
 run_behind : (p : PlannedShop) (entries more : List Entry) (reports : List Report) (end : Cell) → IsWellShaped p → IsRunOf p entries → Leads p (cell_after p entries) reports (events_of more) end → IsRunOf p (entries ++ more)
@@ -62,18 +49,10 @@ module _ (p : PlannedShop) (recovered : Recovered) (is : IsRecoveredByItsPlan p 
   abbrev replayed_end : Cell
   replayed_end = cell_after p is.recorded
 
-  -- it settles by these orders
-  settled_there : (js : List ℕ) → Settles p replayed_end replayed_end.last js → orders_for p replayed_end replayed_end.last js ≡ is.due
-  settled_there js settles =
-      let reports : List Report = reported (events_of whole) in
-      let leads : Leads p (start p) reports (events_of is.recorded ++ moved is.due) (cell_after p whole) =
-      subst (λ es. Leads p (start p) reports es (cell_after p whole)) (due_events is.recorded is.due) is.log.run in
-      cut_settles p shaped_there (length (events_of is.recorded)) (start p) (cell_after p whole) reports (events_of is.recorded) is.due js (omega arith) (start-sound p shaped_there) (start_at_rest p) leads replayed_end refl settles
-
   -- as one with what goes on from there
   gone_on : (reports : List Report) (events : List Event) (end : Cell) → GoesOnTo p replayed_end replayed_end.last reports events end → (later : List Entry) → events_of later ≡ events → IsRunOf p (is.recorded ++ later)
   gone_on _ _ _ (settled js reports events end settles leads) later same =
-      let orders = settled_there js settles in
+      let orders = settles_by_these p is.recorded is.due is.lines js shaped_there is.log settles in
       let there : cell_after p whole ≡ after_moves p replayed_end replayed_end.last js =
       ap (after_all p (start p)) (due_events is.recorded is.due) ∙ after_all_join p (start p) (events_of is.recorded) (moved is.due)
       ∙ ap (λ (os : List MoveOrder). after_all p replayed_end (moved os)) (sym orders) ∙ after_all-moves p replayed_end replayed_end.last js in
@@ -89,18 +68,13 @@ it_is_recovered_as_one p recovered is = subst (IsRunOf p) (sym (entries_there p 
 
 pub a_driven_run_goes_on_as_one : ADrivenRunGoesOnAsOne
 a_driven_run_goes_on_as_one p recovered end is on =
-    let from = is.up.recovered_from in
-    let began = recovered.control.began in
+    let from = from_these p is.lines is.recorded is.due recovered is.log is.up in
     let last : Cell = cell_after (plan_of recovered) end.log.entries in
-    let same : is.up.recorded ≡ is.recorded = one_reading p is.lines is.up.recorded is.recorded is.up.parses is.log.parses in
-    let recorded : replayed_events recovered ≡ is.recorded = from.replayed_is ∙ same in
-    let here : replayed_cell recovered ≡ cell_after p is.recorded = ap (λ (q : PlannedShop). cell_after q (replayed_events recovered)) from.planned ∙ ap (cell_after p) recorded in
-    let now : began ≡ (cell_after p is.recorded).last = from.began ∙ ap (λ (es : List Entry). (cell_after p es).last) same in
     let goes_on : GoesOnTo p (cell_after p is.recorded) (cell_after p is.recorded).last on.reports (events_of on.later) last =
-    subst (λ t. GoesOnTo p (cell_after p is.recorded) t on.reports (events_of on.later) last) now
-    (subst (λ (c : Cell). GoesOnTo p c began on.reports (events_of on.later) last) here
-    (subst (λ (q : PlannedShop). GoesOnTo q (replayed_cell recovered) began on.reports (events_of on.later) last) from.planned on.goes_on)) in
-    subst (IsRunOf p) (sym (on.whole ∙ ap (λ (es : List Entry). es ++ on.later) recorded)) (gone_on p recovered is on.reports (events_of on.later) last goes_on on.later refl)
+    subst (λ t. GoesOnTo p (cell_after p is.recorded) t on.reports (events_of on.later) last) from.began
+    (subst (λ (es : List Entry). GoesOnTo p (cell_after p es) recovered.control.began on.reports (events_of on.later) last) from.replayed_is
+    (subst (λ (q : PlannedShop). GoesOnTo q (cell_after q (replayed_events recovered)) recovered.control.began on.reports (events_of on.later) last) from.planned on.goes_on)) in
+    subst (IsRunOf p) (sym (on.whole ∙ ap (λ (es : List Entry). es ++ on.later) from.replayed_is)) (gone_on p recovered is on.reports (events_of on.later) last goes_on on.later refl)
 
 pub it_stays_as_promised : ItStaysAsPromised
 it_stays_as_promised v recovered end verified is on =

@@ -1,19 +1,14 @@
 -- Where nothing is found overdue, a report is punctual.
 use Rattle.std.proofs.Common.{◌≡◌, ◌⊎◌, ℕ, zero, suc, ◌+◌, ◌<◌, ◌≤◌, nat_lt, Bool, true, false, cond, Option, Some, None, refl, sym, ap, ◌∙◌, subst, add-one, arith, inl, inr}
 use Rattle.std.proofs.lemmas.Bool.{lt-ltb, ltb-false, cases_lt}
-use Rattle.shop_base.specs.Plan.{PlannedShop, jobs, machines, steps, release, nominal, clean, machine_of}
-use Rattle.shop_base.specs.Cell.{Cell, ready, since}
+use Rattle.shop_base.specs.{Plan.{PlannedShop, jobs, machines, steps, release, nominal, clean, machine_of}, Report.at}
+use Rattle.shop_base.specs.{Cell.{Cell, ready, since}, Sound.IsSound}
 use Rattle.shop_base.specs.Activity.{Activity, Arrival, Operation, Cleaning, GoesOn, IsAwaited, IsWorked, IsCleaned}
-use Rattle.shop_base.specs.Sound.{IsSound}
-use Rattle.shop_base.specs.Report.{at}
-use Rattle.shop_base.proofs.InShop.{outside_in_shop, cleaned_in_shop}
-use Rattle.shop_base.proofs.Visits.{visits_job}
-use Rattle.cell_tables.specs.declared.standing.Standing.{Standing}
-use Rattle.cell_tables.specs.declared.standing.Standing.TheVariants.{Awaited, Worked, Gone}
+use Rattle.shop_base.proofs.{InShop.{outside_in_shop, cleaned_in_shop}, Visits.visits_job}
+use Rattle.cell_tables.specs.declared.standing.Standing.{Standing, TheVariants.{Awaited, Worked, Gone}}
 use Rattle.cell_tables.specs.Standings.{job_standing, machine_standing, outside_standing, inside_standing, standing_after, cleaning_standing, is_overdue}
 use Rattle.event_lines.specs.declared.details.Overdue.{Overdue}
-use Rattle.cell_drive.specs.Refusals.{standing_of}
-use Rattle.cell_drive.specs.States.{one_more, with_one, with_those, with_jobs, own_first}
+use Rattle.cell_drive.specs.{Refusals.standing_of, States.{one_more, with_one, with_those, with_jobs, own_first}}
 use Rattle.cell_drive.specs.ProtocolLaw.{ALateReportFindsSomethingOverdue}
 
 module _ (t : ℕ) where

@@ -1,10 +1,9 @@
 -- Which jobs and machines have no line in a state.
-use Rattle.std.proofs.Common.{◌≡◌, ◌↔◌, ◌<◌, ℕ, zero, suc, Bool, true, false, nat_lt, cond, Option, None, Some, refl, arith}
-use Rattle.std.proofs.lemmas.Bool.{le-ltb, ltb-false}
-use Rattle.shop_base.specs.Plan.{PlannedShop, steps}
-use Rattle.shop_base.specs.Cell.{Cell, made, ready, since, cleaning}
-use Rattle.cell_tables.specs.Standings.{outside_standing, inside_standing, standing_after, cleaning_standing}
+use Rattle.std.proofs.Common.{◌≡◌, ◌↔◌, ◌<◌, ℕ, zero, suc, Bool, true, false, nat_lt, cond, Option, None, Some, refl}
+use Rattle.std.proofs.{Common.arith, lemmas.Bool.{le-ltb, ltb-false}}
+use Rattle.shop_base.specs.{Plan.{PlannedShop, steps}, Cell.{Cell, made, ready, since, cleaning}}
 use Rattle.cell_tables.specs.declared.standing.Standing.TheVariants.{Gone}
+use Rattle.cell_tables.specs.Standings.{outside_standing, inside_standing, standing_after, cleaning_standing}
 use Rattle.cell_drive.specs.States.{is_over}
 use Rattle.drive_laws.specs.StatesLaw.{OnlyGoneJobsAreLeftOut, OnlyCleanMachinesAreLeftOut}
 

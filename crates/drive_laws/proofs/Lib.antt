@@ -15,9 +15,6 @@ pub mod SentTruly
 pub mod OnlyAdds
 pub mod ResumedOnce
 pub mod LateWords
-pub mod PlainCells
-pub mod ProtocolAlone
-pub mod CellsVersions
 pub mod BegunByLast
 pub mod NoLeap
 pub mod ShortNumbers

@@ -1,21 +1,15 @@
 -- No punctual report leaps, where no time of the plan is longer than the longest that may pass.
 use Rattle.std.proofs.Common.{◌≡◌, ℕ, ◌+◌, ◌-◌, ◌≤◌, nat_lt, Bool, true, false, cond, Option, Some, le-ltb, ltb-true, refl, ap, ◌∙◌, arith}
-use Rattle.shop_base.specs.Plan.{PlannedShop}
-use Rattle.shop_base.specs.Cell.{Cell}
-use Rattle.shop_base.specs.Activity.{Activity, Arrival, Operation, Cleaning, GoesOn}
-use Rattle.shop_base.specs.Sound.{IsSound}
-use Rattle.shop_base.specs.Report.{ended, at}
-use Rattle.shop_base.proofs.InShop.{outside_in_shop, cleaned_in_shop}
-use Rattle.shop_base.proofs.Keeping.{run-sound}
-use Rattle.shop_base.proofs.Visits.{visits_job}
+use Rattle.shop_base.specs.{Plan.PlannedShop, Cell.Cell, Activity.{Activity, Arrival, Operation, Cleaning, GoesOn}}
+use Rattle.shop_base.specs.{Sound.IsSound, Report.{ended, at}}
+use Rattle.shop_base.proofs.{InShop.{outside_in_shop, cleaned_in_shop}, Keeping.run-sound, Visits.visits_job}
 use Rattle.cell_tables.specs.Events.{events_of}
 use Rattle.event_lines.specs.Requests.{claimed}
-use Rattle.cell_drive.specs.declared.protocol.Protocol.{Protocol}
-use Rattle.cell_drive.specs.Protocols.{leap_base, leaps, is_too_long}
+use Rattle.cell_drive.specs.{declared.protocol.Protocol.Protocol, Protocols.{leap_base, leaps, is_too_long}}
 use Rattle.cell_drive.specs.OneRun.{cell_after}
+use Rattle.cell_drive.proofs.Refusing.{can_report}
 use Rattle.drive_laws.specs.LeapLaw.{HasNoLongerTime, NoPunctualReportLeaps}
 use Rattle.drive_laws.proofs.BegunByLast.{AreBegunByLast, begun_in_run}
-use Rattle.cell_drive.proofs.Refusing.{can_report}
 
 -- whatever goes on is due so soon after the last moment
 due_soon : (p : PlannedShop) (c : Cell) (max_gap : ℕ) → IsSound p c → AreBegunByLast c → HasNoLongerTime p max_gap → (a : Activity) (due : ℕ) → GoesOn p c a due → due ≤ c.last + max_gap

@@ -1,20 +1,12 @@
 -- What a run that was recovered writes in version 2 of the lines only adds to what it writes in version 1.
 use Rattle.std.proofs.Common.{◌≡◌, ℕ, List, [], ◌∷◌, ◌++◌, Bool, true, false, cond, Option, None, length, take, drop, refl, sym, ap, ◌∙◌, subst, append_assoc, append-nil}
-use Rattle.shop_base.specs.declared.report.Report.{Report}
-use Rattle.shop_base.specs.Plan.{PlannedShop}
-use Rattle.shop_base.specs.Cell.{Cell, start}
-use Rattle.shop_base.specs.Run.{after}
-use Rattle.shop_base.specs.Report.{at}
-use Rattle.cell_tables.specs.declared.entry.Entry.{Entry}
-use Rattle.cell_tables.specs.declared.entry.Entry.TheVariants.{Report as ReportEntry, Order as OrderEntry}
+use Rattle.shop_base.specs.{declared.report.Report.Report, Plan.PlannedShop, Cell.{Cell, start}, Run.after, Report.at}
+use Rattle.cell_tables.specs.declared.entry.Entry.{Entry, TheVariants.{Report as ReportEntry, Order as OrderEntry}}
 use Rattle.cell_tables.specs.Events.{event_of}
-use Rattle.event_lines.specs.EventLines.{report_line, order_line, entry_lines}
+use Rattle.event_lines.specs.{declared.details.Overdue.Overdue, EventLines.{report_line, order_line, entry_lines}}
 use Rattle.event_lines.specs.AnswerLines.{late_line}
-use Rattle.event_lines.specs.declared.details.Overdue.{Overdue}
-use Rattle.cell_drive.specs.ProtocolText.{lateness_part, acceptance_lines, printed_overdue}
-use Rattle.cell_drive.specs.PlainLines.{plain_lines}
-use Rattle.cell_drive.specs.Replay.{replay_lines}
-use Rattle.cell_drive.specs.Resuming.{again_text, driven_so_far}
+use Rattle.cell_drive.specs.{ProtocolText.{lateness_part, acceptance_lines, printed_overdue}, PlainLines.plain_lines}
+use Rattle.cell_drive.specs.{Replay.replay_lines, Resuming.{again_text, driven_so_far}}
 use Rattle.cell_drive.proofs.ReplayLines.{plain_replay}
 use Rattle.drive_laws.specs.ResumedLaw.{ResumingOnlyAdds}
 use Rattle.drive_laws.specs.VersionsLaw.{IsPlainText, accepted, ordered, empty_line, in_version}

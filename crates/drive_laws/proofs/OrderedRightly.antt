@@ -1,28 +1,20 @@
 -- In a run whose reports say what has ended, each order is right.
 use Rattle.std.proofs.Common.{◌≡◌, ℕ, ◌-◌, ◌<◌, ◌≤◌, List, [], ◌∷◌, ◌++◌, length, true, false, ◌⊎◌, inl, inr, sym, ap, ◌∙◌, subst, arith}
 use Rattle.std.proofs.lemmas.Bool.{cases_eq, cases_Bool, false≢true}
-use Rattle.shop_base.specs.declared.job_state.JobState.{JobState}
-use Rattle.shop_base.specs.declared.move_order.MoveOrder.{MoveOrder}
-use Rattle.shop_base.specs.declared.move_order.Spot.TheVariants.{Out, At}
-use Rattle.shop_base.specs.declared.report.Report.{Report}
-use Rattle.shop_base.specs.Plan.{PlannedShop, job_at, clean, Visits, Stands, IsWellShaped}
-use Rattle.shop_base.specs.Cell.{Cell, made, ready, entries, start, IsOn}
-use Rattle.shop_base.specs.Activity.{Activity, Arrival, Operation, Cleaning, GoesOn}
-use Rattle.shop_base.specs.Report.{ended, at, CanReport, after_end, after_report}
 use Rattle.shop_base.specs.Move.{spot_after, source, CanObey, after_move}
-use Rattle.shop_base.specs.Run.{Event, Reported, Moved, CanHappen, AreEvents, after, after_all}
-use Rattle.shop_base.specs.Sound.{IsSound}
-use Rattle.shop_base.specs.AtMostOnceLaw.{HasLeft}
+use Rattle.shop_base.specs.Report.{ended, at, CanReport, after_end, after_report}
+use Rattle.shop_base.specs.declared.move_order.{Spot.TheVariants.{Out, At}, MoveOrder.MoveOrder}
+use Rattle.shop_base.specs.{Plan.{PlannedShop, job_at, clean, Visits, Stands, IsWellShaped}, Sound.IsSound}
+use Rattle.shop_base.specs.{Run.{Event, Reported, Moved, CanHappen, AreEvents, after, after_all}, AtMostOnceLaw.HasLeft}
+use Rattle.shop_base.specs.{declared.job_state.JobState.JobState, Cell.{Cell, made, ready, entries, start, IsOn}}
+use Rattle.shop_base.specs.{declared.report.Report.Report, Activity.{Activity, Arrival, Operation, Cleaning, GoesOn}}
 use Rattle.shop_base.proofs.Changes.{IsMoved, after_move-moved, with_ready-readied, with_clean-tidied, moves_within}
 use Rattle.shop_base.proofs.Keeping.{after_report-like, after-sound, after_all-sound, start-sound, target_free}
-use Rattle.shop_base.proofs.CellFacts.{source_on, source_outside, after_report-last}
-use Rattle.shop_base.proofs.ControlledRuns.{after_all_join, start_not_ready}
-use Rattle.shop_base.proofs.LowerBounds.{events_split}
-use Rattle.shop_base.proofs.InShop.{outside_in_shop}
+use Rattle.shop_base.proofs.{CellFacts.{source_on, source_outside, after_report-last}, LowerBounds.events_split}
+use Rattle.shop_base.proofs.{ControlledRuns.{after_all_join, start_not_ready}, InShop.outside_in_shop}
 use Rattle.shop_base.proofs.Visits.{visits_job, visits_once, visits-stands}
 use Rattle.cell_tables.specs.Readings.{IsCleanedAfter}
-use Rattle.cell_control.specs.OnceLaw.{NamedEnd, Arrived, Finished, Cleaned, ReportsEnd}
-use Rattle.cell_control.proofs.Seats.{on_source}
+use Rattle.cell_control.{specs.OnceLaw.{NamedEnd, Arrived, Finished, Cleaned, ReportsEnd}, proofs.Seats.on_source}
 use Rattle.run_log.proofs.PossibleEntries.{obeyed_target}
 use Rattle.drive_laws.specs.FloorLaw.{Floor, HasEndedBy, end_at, IsRight, IsTrueReport, AreTrue, NothingIsOrderedWrongly}
 

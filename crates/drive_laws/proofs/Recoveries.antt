@@ -1,27 +1,18 @@
 -- A log is recovered in one way, and one without events as at the start.
 use Rattle.std.proofs.Common.{◌≡◌, ℕ, ◌<◌, inl, inr, Bool, true, false, ◌↔◌, List, [], ◌∷◌, ◌++◌, map, Option, None, refl, sym, ap, ap₂, ◌∙◌, subst, arith}
-use Rattle.std.specs.Prelude.{unwrap_or}
 use Rattle.std.proofs.lemmas.Bool.{cases_lt}
-use Rattle.shop_base.specs.declared.move_order.MoveOrder.{MoveOrder}
-use Rattle.shop_base.specs.Plan.{PlannedShop, IsWellShaped}
-use Rattle.shop_base.specs.Cell.{Cell, start}
-use Rattle.shop_base.specs.Move.{after_move}
-use Rattle.shop_base.specs.Run.{after, IsAtRest}
-use Rattle.shop_base.specs.Controlled.{after_moves, orders_for, done}
-use Rattle.cell_tables.specs.declared.entry.Entry.{Entry}
-use Rattle.cell_tables.specs.declared.entry.Entry.TheVariants.{Report as ReportEntry, Order as OrderEntry}
+use Rattle.std.specs.Prelude.{unwrap_or}
+use Rattle.shop_base.specs.{declared.move_order.MoveOrder.MoveOrder, Plan.{PlannedShop, IsWellShaped}, Move.after_move}
+use Rattle.shop_base.specs.{Cell.{Cell, start}, Run.{after, IsAtRest}, Controlled.{after_moves, orders_for, done}}
+use Rattle.cell_tables.specs.declared.entry.Entry.{Entry, TheVariants.{Report as ReportEntry, Order as OrderEntry}}
 use Rattle.cell_tables.specs.Events.{event_of}
-use Rattle.event_lines.specs.LogLines.{LinesParse}
-use Rattle.event_lines.proofs.Readings.{one_reading}
-use Rattle.cell_control.specs.Settled.{SettlesInOrder, HasSettled}
-use Rattle.cell_drive.specs.AnswerText.{DrivenCell}
-use Rattle.cell_drive.specs.OneRun.{cell_after}
-use Rattle.cell_drive.specs.LateEvents.{IsLateEvent, AreLate}
-use Rattle.cell_drive.specs.Recovered.{Recovered, IsRecoveredFrom, IsRecovered, replayed_events}
-use Rattle.cell_drive.specs.Resuming.{IsResumedText, IsRunToRest}
+use Rattle.cell_control.specs.Settled.{SettlesInOrder}
+use Rattle.event_lines.{specs.LogLines.LinesParse, proofs.Readings.one_reading}
+use Rattle.cell_drive.specs.{AnswerText.DrivenCell, OneRun.cell_after, LateEvents.{IsLateEvent, AreLate}}
+use Rattle.cell_drive.specs.{Recovered.{Recovered, IsRecoveredFrom, IsRecovered}, Resuming.{IsResumedText, IsRunToRest}}
 use Rattle.drive_laws.specs.RecoveryLaw.{OneRecovery, OneTextFromALog, ALogWithoutEventsIsDriven}
 use Rattle.drive_laws.proofs.Resumes.{to_rest, one_resumed_text}
-use Rattle.drive_laws.proofs.SettledCuts.{it_is_recovered_with_its_orders}
+use Rattle.drive_laws.proofs.SettledCuts.{it_is_recovered_with_its_orders, settled_behind, late_behind, entries_behind, shaped_behind}
 
 -- ---- the jobs that move
 
@@ -65,25 +56,6 @@ module _ (p : PlannedShop) where
   same_late c (entry ∷ entries) (f ∷ one) [] are also = absurd also
   same_late c (entry ∷ entries) (f ∷ one) (g ∷ other) are also =
       ap₂ (λ (x : Bool) (xs : List Bool). x ∷ xs) (same_late_event c entry f g are.0 also.0) (same_late (after p c (event_of entry)) entries one other are.1 also.1)
-
-  module _ (recorded : List Entry) (at : Option ℕ) (recovered : Recovered) (from : IsRecoveredFrom p recorded at recovered) where
-    settled_behind : HasSettled p (unwrap_or at (cell_after p recorded).last) (cell_after p recorded) recovered.control.orders recovered.control.cell
-    settled_behind =
-        let control = recovered.control in
-        subst (λ t. HasSettled p t (cell_after p recorded) control.orders control.cell) from.began
-        (subst (λ (es : List Entry). HasSettled p control.began (cell_after p es) control.orders control.cell) from.replayed_is
-        (subst (λ (q : PlannedShop). HasSettled q control.began (cell_after q (replayed_events recovered)) control.orders control.cell) from.planned from.run.begun.settled))
-
-    late_behind : AreLate p (start p) recorded recovered.late
-    late_behind =
-        subst (λ (es : List Entry). AreLate p (start p) es recovered.late) from.replayed_is
-        (subst (λ (q : PlannedShop). AreLate q (start q) (replayed_events recovered) recovered.late) from.planned from.run.are_late)
-
-    entries_behind : recovered.log.entries ≡ recorded ++ map OrderEntry recovered.control.orders
-    entries_behind = from.run.due ∙ ap (λ (es : List Entry). es ++ map OrderEntry recovered.control.orders) from.replayed_is
-
-    shaped_behind : IsWellShaped p
-    shaped_behind = subst IsWellShaped from.planned from.run.kept.shaped
 
 pub one_recovery : OneRecovery
 one_recovery p lines at recovered other up also =

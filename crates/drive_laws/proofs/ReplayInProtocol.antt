@@ -1,37 +1,21 @@
 -- What is written again of a log is what was answered, in version 1 of the lines and by any protocol.
 use Rattle.std.proofs.Common.{◌≡◌, ◌==◌, ◌&&◌, ◌⊎◌, ℕ, ◌+◌, ◌-◌, Bool, true, false, List, [], ◌∷◌, ◌++◌, Option, length, take, drop, inl, inr, refl, sym, ap, ◌∙◌, subst, arith, append-nil}
 use Rattle.std.proofs.lemmas.Bool.{cases_Bool, eqb-true}
-use Rattle.shop_base.specs.declared.report.Report.{Report}
-use Rattle.shop_base.specs.Plan.{PlannedShop, jobs, machines, IsWellShaped}
-use Rattle.shop_base.specs.Shop.{operations_of}
-use Rattle.shop_base.specs.Cell.{Cell, start}
-use Rattle.shop_base.specs.Report.{at, CanReport, after_report}
-use Rattle.shop_base.specs.Run.{Event, AreEvents, after}
+use Rattle.shop_base.specs.{declared.report.Report.Report, Plan.{PlannedShop, jobs, machines, IsWellShaped}}
+use Rattle.shop_base.specs.{Shop.operations_of, Cell.{Cell, start}, Report.{at, CanReport, after_report}, Sound.IsSound}
+use Rattle.shop_base.specs.{Run.{Event, AreEvents, after}, Ends.{cleanings_of, sum_below}, ReportsLeft.reports_left}
 use Rattle.shop_base.specs.Controlled.{moved, IsStep, after_step, step_orders, Leads, done, accepted, refused}
-use Rattle.shop_base.specs.Ends.{cleanings_of, sum_below}
-use Rattle.shop_base.specs.ReportsLeft.{reports_left}
-use Rattle.shop_base.specs.Sound.{IsSound}
 use Rattle.shop_base.proofs.ControlledRuns.{events_join, moves-events, after_all-moves, after_step-sound}
-use Rattle.shop_base.proofs.Keeping.{start-sound}
-use Rattle.shop_base.proofs.ReportsLeft.{after_report-reports_left, start-reports_left}
-use Rattle.cell_tables.specs.declared.entry.Entry.{Entry}
-use Rattle.cell_tables.specs.declared.entry.Entry.TheVariants.{Report as ReportEntry, Order as OrderEntry}
+use Rattle.shop_base.proofs.{Keeping.start-sound, ReportsLeft.{after_report-reports_left, start-reports_left}}
+use Rattle.cell_tables.specs.declared.entry.Entry.{Entry, TheVariants.{Report as ReportEntry, Order as OrderEntry}}
 use Rattle.cell_tables.specs.Events.{event_of, events_of}
-use Rattle.event_lines.specs.EventLines.{entry_lines}
-use Rattle.event_lines.specs.declared.requests.Claim.TheVariants.{Report as ReportClaim}
-use Rattle.cell_drive.specs.declared.protocol.Protocol.{Protocol}
-use Rattle.cell_drive.specs.AnswerText.{undriven}
-use Rattle.cell_drive.specs.CutLogs.{IsOwnRun, reported}
-use Rattle.cell_drive.specs.Protocols.{plain_from}
-use Rattle.cell_drive.specs.OneRun.{cell_after}
-use Rattle.cell_drive.specs.Resuming.{driven_so_far}
-use Rattle.cell_drive.specs.Replay.{replay_lines}
-use Rattle.cell_drive.specs.ProtocolText.{AreProtocolAnswers, prints_end, end_part}
-use Rattle.cell_drive.specs.PlainLines.{plain_lines}
-use Rattle.drive_laws.specs.AnswerLaw.{AreReportLines, AreClaimLines, ReplayAsAnswered, ReplayInProtocol, end_behind_log}
-use Rattle.drive_laws.proofs.AnsweredAgain.{end_behind, answered_again}
+use Rattle.event_lines.specs.{declared.requests.Claim.TheVariants.Report as ReportClaim, EventLines.entry_lines}
+use Rattle.cell_drive.specs.{declared.protocol.Protocol.Protocol, AnswerText.undriven, CutLogs.{IsOwnRun, reported}}
+use Rattle.cell_drive.specs.{Protocols.plain_from, OneRun.cell_after, Resuming.driven_so_far, Replay.replay_lines}
+use Rattle.cell_drive.specs.{ProtocolText.{AreProtocolAnswers, prints_end, end_part}, PlainLines.plain_lines}
 use Rattle.cell_drive.proofs.ReplayLines.{plain_replay}
-use Rattle.drive_laws.proofs.Plainly.{plainly_as_ever}
+use Rattle.drive_laws.specs.AnswerLaw.{AreReportLines, AreClaimLines, ReplayAsAnswered, ReplayInProtocol, end_behind_log}
+use Rattle.drive_laws.proofs.{AnsweredAgain.{end_behind, answered_again}, Plainly.plainly_as_ever}
 
 -- ---- by any protocol
 

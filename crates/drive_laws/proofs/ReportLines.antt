@@ -1,40 +1,21 @@
 -- The reports of a run have lines in which they are sent.
-use Rattle.std.proofs.Common.{ℕ, ◌<◌, ◌≤◌, List, [], ◌∷◌, ◌++◌, Option, Some, refl, arith}
-use Rattle.shop_base.specs.declared.limits.TheConstants.{MAX_MOMENT}
-use Rattle.shop_base.specs.declared.report.Report.{Report}
-use Rattle.shop_base.specs.declared.report.Report.TheVariants.{Arrive, Finish, Clean}
-use Rattle.shop_base.specs.Plan.{PlannedShop, IsWellShaped, jobs, machines}
-use Rattle.shop_base.specs.Cell.{Cell, start}
-use Rattle.shop_base.specs.Run.{Reported, Moved, AreEvents, after}
-use Rattle.shop_base.specs.Sound.{IsSound}
+use Rattle.std.proofs.Common.{ℕ, List, [], ◌∷◌, ◌++◌, Option, Some, refl}
+use Rattle.shop_base.specs.{declared.report.Report.{Report, TheVariants.{Arrive, Finish, Clean}}, Cell.{Cell, start}}
+use Rattle.shop_base.specs.{Sound.IsSound, Plan.{PlannedShop, IsWellShaped}, Run.{Reported, Moved, AreEvents, after}}
 use Rattle.shop_base.proofs.Keeping.{start-sound, after_report-sound, after_move-sound}
-use Rattle.cell_tables.specs.declared.entry.Entry.{Entry}
-use Rattle.cell_tables.specs.declared.entry.Entry.TheVariants.{Report as ReportEntry, Order as OrderEntry}
+use Rattle.cell_tables.specs.declared.entry.Entry.{Entry, TheVariants.{Report as ReportEntry, Order as OrderEntry}}
 use Rattle.cell_tables.specs.Events.{events_of}
-use Rattle.event_lines.specs.Words.{Text, short, moment, words_before}
-use Rattle.event_lines.specs.EventLines.{end_name}
+use Rattle.event_lines.specs.{Words.{Text, words_before}, EventLines.end_name, LogLines.IsEntryOf, ReadBack.AreFitting}
 use Rattle.event_lines.specs.SentLines.{sent_numbers, sent_words, IsReportLine}
-use Rattle.event_lines.specs.LogLines.{IsEntryOf}
-use Rattle.event_lines.specs.ReadBack.{IsFitting, AreFitting}
-use Rattle.event_lines.proofs.WrittenWords.{read_back}
+use Rattle.event_lines.proofs.{Telling.{job_fits, machine_fits, moment_fits}, WrittenWords.read_back}
 use Rattle.cell_drive.proofs.ShopEntries.{report_of_shop}
-use Rattle.drive_laws.specs.AnswerLaw.{AreReportLines}
-use Rattle.drive_laws.specs.SameReportsLaw.{EachReportHasALine}
+use Rattle.drive_laws.specs.{AnswerLaw.AreReportLines, SameReportsLaw.EachReportHasALine}
 
 module _ (p : PlannedShop) (shaped : IsWellShaped p) where
-  job_fits : (j : ℕ) → j < jobs p → IsFitting (short j)
-  job_fits j inside = let few = shaped.shop.counts.few_jobs in (omega arith, omega (arith, inside, few), omega (arith, inside, few))
-
-  machine_fits : (m : ℕ) → m < machines p → IsFitting (short m)
-  machine_fits m inside = let few = shaped.shop.counts.few_machines in (omega arith, omega (arith, inside, few), omega (arith, inside, few))
-
-  moment_fits : (at : ℕ) → at ≤ MAX_MOMENT → IsFitting (moment at)
-  moment_fits at in_range = (omega arith, omega (arith, in_range), omega (arith, in_range))
-
   sent_fits : (report : Report) → IsEntryOf p (ReportEntry report) → AreFitting (sent_words report)
-  sent_fits (Arrive job at) of_shop = (refl, (job_fits job of_shop.0, (moment_fits at of_shop.1, tt)))
-  sent_fits (Finish job machine at) of_shop = (refl, (job_fits job of_shop.0.0, (machine_fits machine of_shop.0.1, (moment_fits at of_shop.1, tt))))
-  sent_fits (Clean machine at) of_shop = (refl, (machine_fits machine of_shop.0, (moment_fits at of_shop.1, tt)))
+  sent_fits (Arrive job at) of_shop = (refl, (job_fits p shaped job of_shop.0, (moment_fits p shaped at of_shop.1, tt)))
+  sent_fits (Finish job machine at) of_shop = (refl, (job_fits p shaped job of_shop.0.0, (machine_fits p shaped machine of_shop.0.1, (moment_fits p shaped at of_shop.1, tt))))
+  sent_fits (Clean machine at) of_shop = (refl, (machine_fits p shaped machine of_shop.0, (moment_fits p shaped at of_shop.1, tt)))
 
   sent_line : (report : Report) → IsEntryOf p (ReportEntry report) → IsReportLine (words_before (sent_words report) []) report
   sent_line report of_shop = read_back (Text (end_name report)) (sent_numbers report) (sent_fits report of_shop)

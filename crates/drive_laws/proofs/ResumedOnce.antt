@@ -1,21 +1,16 @@
 -- What was reported in a run isn't taken again, where the run goes on either.
 use Rattle.std.proofs.Common.{◌≡◌, List, ◌∷◌, ◌++◌, sym, ap, ◌∙◌, subst, append_assoc}
-use Rattle.shop_base.specs.Cell.{Cell, start}
-use Rattle.shop_base.specs.Run.{Event, Reported, after_all, IsRun}
+use Rattle.shop_base.specs.{Cell.{Cell, start}, Run.{Event, Reported, after_all, IsRun}}
 use Rattle.shop_base.proofs.ControlledRuns.{events_join, after_all_join}
-use Rattle.cell_tables.specs.declared.entry.Entry.TheVariants.{Report as ReportEntry}
-use Rattle.cell_tables.specs.Events.{events_of}
+use Rattle.cell_tables.specs.{declared.entry.Entry.TheVariants.Report as ReportEntry, Events.events_of}
 use Rattle.cell_control.proofs.Once.{once}
 use Rattle.run_log.proofs.Audits.{events-join}
 use Rattle.event_lines.specs.Requests.{claimed}
-use Rattle.cell_drive.specs.Refusals.{CanClaim}
-use Rattle.cell_drive.specs.OneRun.{cell_after}
-use Rattle.cell_drive.specs.Resuming.{driven_so_far}
+use Rattle.cell_drive.specs.{Refusals.CanClaim, OneRun.cell_after, Resuming.driven_so_far}
 use Rattle.cell_drive.specs.ProtocolLaw.{NothingOfARunIsClaimedAgain}
-use Rattle.drive_laws.specs.ResumedLaw.{NothingOfALogIsAcceptedAgain}
 use Rattle.cell_drive.proofs.Refusing.{can_report}
-use Rattle.drive_laws.proofs.Resumes.{rests_on_course}
-use Rattle.drive_laws.proofs.AcceptedOnce.{ends_named, answers_parsed}
+use Rattle.drive_laws.specs.ResumedLaw.{NothingOfALogIsAcceptedAgain}
+use Rattle.drive_laws.proofs.{Resumes.rests_on_course, AcceptedOnce.{ends_named, answers_parsed}}
 
 pub nothing_of_a_run_is_claimed_again : NothingOfARunIsClaimedAgain
 nothing_of_a_run_is_claimed_again p before after report again ended shaped run parses names can =

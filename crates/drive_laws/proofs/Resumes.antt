@@ -1,52 +1,33 @@
 -- What a run that was recovered goes on to write is a log.
 use Rattle.std.proofs.Common.{◌≡◌, ℕ, ◌≤◌, List, [], ◌∷◌, ◌++◌, take, drop, map, Option, Bool, length, length-take-le, None, ◌⊎◌, inl, inr, refl, sym, ap, ◌∙◌, subst, arith, append_assoc, append-nil}
-use Rattle.std.proofs.KnownBytes.{Appends-trans}
-use Rattle.std.proofs.lemmas.List.{take-append-drop}
-use Rattle.shop_base.specs.declared.move_order.MoveOrder.{MoveOrder}
-use Rattle.shop_base.specs.Plan.{PlannedShop, IsWellShaped}
-use Rattle.shop_base.specs.Cell.{Cell, start}
-use Rattle.shop_base.specs.Run.{Reported, Moved, AreEvents, after, after_all, IsRun, IsAtRest}
-use Rattle.shop_base.specs.Controlled.{Leads, after_moves, orders_for, moved}
-use Rattle.shop_base.specs.Ahead.{GoesOnTo, settled}
-use Rattle.shop_base.specs.Sound.{IsSound}
-use Rattle.shop_base.specs.Report.{at}
-use Rattle.shop_base.proofs.Cycles.{ranks_exclude_cycle}
+use Rattle.std.proofs.{KnownBytes.Appends-trans, lemmas.List.take-append-drop}
+use Rattle.shop_base.specs.{declared.move_order.MoveOrder.MoveOrder, Plan.{PlannedShop, IsWellShaped}, Sound.IsSound}
+use Rattle.shop_base.specs.{Cell.{Cell, start}, Run.{Reported, Moved, AreEvents, after, after_all, IsRun, IsAtRest}}
+use Rattle.shop_base.specs.{Controlled.{Leads, after_moves, orders_for, moved}, Ahead.{GoesOnTo, settled}, Report.at}
+use Rattle.shop_base.proofs.{Cycles.ranks_exclude_cycle, ControlledRuns.{events_join, after_all_join, start_at_rest}}
 use Rattle.shop_base.proofs.Keeping.{start-sound, run-sound, after_report-sound, after_move-sound}
-use Rattle.shop_base.proofs.ControlledRuns.{events_join, after_all_join, start_at_rest}
 use Rattle.text_lines.specs.Lines.{lines_of, ended_lines}
 use Rattle.alt_graph.specs.Times.{AreRanks, rank_of}
 use Rattle.plan_verifier.specs.Accepted.{IsAcceptable, VerifiedPlan}
-use Rattle.cell_tables.specs.declared.entry.Entry.{Entry}
-use Rattle.cell_tables.specs.declared.entry.Entry.TheVariants.{Report as ReportEntry, Order as OrderEntry}
+use Rattle.cell_tables.specs.declared.entry.Entry.{Entry, TheVariants.{Report as ReportEntry, Order as OrderEntry}}
 use Rattle.cell_tables.specs.Events.{events_of}
-use Rattle.event_lines.specs.EventLines.{entry_line, entry_lines}
-use Rattle.event_lines.specs.LogLines.{IsEntryOf, LinesParse}
+use Rattle.event_lines.specs.{EventLines.{entry_line, entry_lines}, LogLines.{IsEntryOf, LinesParse}}
 use Rattle.event_lines.specs.ReadBack.{ParsesFirst}
 use Rattle.event_lines.proofs.Telling.{parses_none, parses_both, parses_entry}
-use Rattle.run_log.specs.Log.{Noted}
-use Rattle.run_log.proofs.Audits.{events-join}
-use Rattle.byte_streams.specs.Lines.{input_lines}
-use Rattle.byte_streams.specs.Answering.{AnswerAll}
-use Rattle.cell_drive.specs.declared.protocol.Protocol.{Protocol}
-use Rattle.cell_drive.specs.declared.resume.RestEnd.{RestEnd}
-use Rattle.cell_drive.specs.AnswerText.{DrivenCell, undriven, CellCloses}
-use Rattle.cell_drive.specs.OneRun.{cell_after}
-use Rattle.cell_drive.specs.AuditLaw.{IsLogOf}
+use Rattle.run_log.{specs.Log.Noted, proofs.Audits.events-join}
+use Rattle.byte_streams.specs.{Lines.input_lines, Answering.AnswerAll}
+use Rattle.cell_drive.specs.{declared.{protocol.Protocol.Protocol, resume.RestEnd.RestEnd}, OneRun.cell_after}
+use Rattle.cell_drive.specs.{AnswerText.{DrivenCell, undriven, CellCloses}, AuditLaw.IsLogOf}
+use Rattle.cell_drive.specs.Recovered.{replayed_cell, Recovered, IsRecoverable, IsRecoveredRun, IsRecovered, plan_of, replayed_events}
 use Rattle.cell_drive.specs.ProtocolText.{AreProtocolAnswers, ProtocolAnswers, lateness_part, printed_overdue}
-use Rattle.cell_drive.specs.Session.{SessionState, IsRestEndOf, seen}
-use Rattle.cell_drive.specs.Recovered.{Recovered, IsRecoverable, IsRecoveredRun, IsRecovered, plan_of, replayed_events, replayed_cell}
-use Rattle.cell_drive.specs.Replay.{replay_line, replay_lines}
+use Rattle.cell_drive.specs.{Session.{SessionState, IsRestEndOf, seen}, Replay.{replay_line, replay_lines}}
 use Rattle.cell_drive.specs.Resuming.{again_text, again_of, driven_so_far, session_from, GoesOnFrom, IsRunToRest, AResumedTextIsALog, OneResumedText, WhatWasResumedIsSuchAText, AnAuditKeepsWhatWasResumed, WhatWasResumedGoesOn}
 use Rattle.cell_drive.specs.CutLaw.{IsRunPrefix, WhatWasDrivenIsRecovered, WhatWasDrivenHasItsOrders, WhatWasResumedIsRecovered, WhatWasResumedIsRecoverable}
-use Rattle.cell_drive.proofs.Parts.{events-orders}
-use Rattle.cell_drive.proofs.ShopEntries.{report_of_shop, order_of_shop}
-use Rattle.cell_drive.proofs.OneText.{IsOnCourse, one_closed, one_lines_text}
-use Rattle.cell_drive.proofs.ReadBack.{AreParsed}
-use Rattle.cell_drive.proofs.ProtocolParses.{lateness_parses}
+use Rattle.cell_drive.proofs.{Parts.events-orders, ShopEntries.{report_of_shop, order_of_shop}, ReadBack.AreParsed}
+use Rattle.cell_drive.proofs.{OneText.{IsOnCourse, one_closed, one_lines_text}, ProtocolParses.lateness_parses}
 use Rattle.cell_drive.proofs.CutLogs.{AreLed, a_cut_log_is_recovered, closing_part, cut_of_led, protocol_answers_lead}
 use Rattle.cell_drive.proofs.Sessions.{a_session_answers_so, seen_closes}
-use Rattle.drive_laws.proofs.AuditKeeps.{found_of}
-use Rattle.drive_laws.proofs.AcceptedOnce.{answers_parsed}
+use Rattle.drive_laws.proofs.{AuditKeeps.found_of, AcceptedOnce.answers_parsed}
 
 -- ---- the lines of a run
 

@@ -1,40 +1,22 @@
 -- The reports that are accepted by a protocol are answered as version 1 of the lines answers them.
 use Rattle.std.proofs.Common.{◌≡◌, ℕ, ◌+◌, List, [], ◌∷◌, ◌++◌, map, codes, Option, Some, None, refl, sym, ap, ap₂, ◌∙◌, subst, inl, inr, append_assoc, append-nil}
 use Rattle.std.proofs.lemmas.List.{append_cancel_left}
-use Rattle.shop_base.specs.declared.move_order.MoveOrder.{MoveOrder}
-use Rattle.shop_base.specs.Plan.{PlannedShop}
-use Rattle.shop_base.specs.Cell.{Cell, start}
+use Rattle.shop_base.specs.{declared.move_order.MoveOrder.MoveOrder, Plan.PlannedShop, Cell.{Cell, start}}
 use Rattle.shop_base.specs.Controlled.{step_orders}
-use Rattle.cell_tables.specs.declared.entry.Entry.{Entry}
-use Rattle.cell_tables.specs.declared.entry.Entry.TheVariants.{Order as OrderEntry}
 use Rattle.byte_streams.specs.Answering.{AnswerAll}
-use Rattle.event_lines.specs.AnswerLines.{refused_line}
-use Rattle.event_lines.specs.ReadBack.{IsSpaceless}
-use Rattle.event_lines.specs.StandingLines.{refused_detail_line}
+use Rattle.cell_tables.specs.declared.entry.Entry.{Entry, TheVariants.Order as OrderEntry}
+use Rattle.event_lines.specs.declared.{details.Detail.TheVariants.Nothing, requests.{Claim.Claim, Request.Request}}
+use Rattle.event_lines.specs.{declared.requests.Request.TheVariants.{Claim as ClaimRequest, Status}, Requests.claimed}
+use Rattle.event_lines.specs.{AnswerLines.refused_line, ReadBack.IsSpaceless, StandingLines.refused_detail_line}
 use Rattle.event_lines.specs.SentLines.{IsReportLine, cell_prefix}
-use Rattle.event_lines.specs.Requests.{claimed}
-use Rattle.event_lines.specs.declared.details.Detail.TheVariants.{Nothing}
-use Rattle.event_lines.specs.declared.requests.Claim.{Claim}
-use Rattle.event_lines.specs.declared.requests.Request.{Request}
-use Rattle.event_lines.specs.declared.requests.Request.TheVariants.{Claim as ClaimRequest, Status}
 use Rattle.event_lines.proofs.Readings.{some_line}
-use Rattle.cell_drive.specs.declared.protocol.Protocol.{Protocol}
-use Rattle.cell_drive.specs.declared.refusals.Refusal.{Refusal}
-use Rattle.cell_drive.specs.declared.refusals.Refusal.TheVariants.{Reason, Leap}
-use Rattle.cell_drive.specs.AnswerText.{DrivenCell, CellReports, CellAnswers}
-use Rattle.cell_drive.specs.LineAnswers.{accepted_lines}
-use Rattle.cell_drive.specs.Refusals.{refusal_word, refusal_detail}
+use Rattle.cell_drive.specs.{declared.protocol.Protocol.Protocol, LineAnswers.accepted_lines}
+use Rattle.cell_drive.specs.{AnswerText.{DrivenCell, CellReports, CellAnswers}, Refusals.{refusal_word, refusal_detail}}
 use Rattle.cell_drive.specs.ProtocolText.{IsClaimAccepted, RequestAnswer, ProtocolAnswers, printed_overdue, prints_end}
 use Rattle.cell_drive.specs.ProtocolCellsLaw.{SeesLines, none_left, asked, passed_over}
-use Rattle.cell_drive.proofs.LineAnswers.{asked_line}
-use Rattle.cell_drive.proofs.ReadBack.{name_spaceless}
-use Rattle.cell_drive.proofs.Replied.{no_prefix}
+use Rattle.cell_drive.proofs.{ProtocolParses.word_spaceless, LineAnswers.asked_line, Replied.no_prefix}
 use Rattle.drive_laws.specs.AnswerLaw.{AreReportLines}
 use Rattle.drive_laws.specs.SameReportsLaw.{KeepsReports, nothing_more, refused, state, accepted, TheSameReportsAreAnsweredSo, TheSameReportsOfACell}
-
-word_spaceless : (refusal : Refusal) → IsSpaceless (refusal_word refusal)
-word_spaceless (Reason reason) = name_spaceless reason
-word_spaceless Leap = refl
 
 -- the lines that are the reports among these events, behind some orders
 reports_behind : (orders : List MoveOrder) (later : List Entry) (reports : List (Option (List ℕ))) → AreReportLines reports (map OrderEntry orders ++ later) → AreReportLines reports later

@@ -1,32 +1,21 @@
 -- Lines that claim what has ended lead to reports that say it.
 use Rattle.std.proofs.Common.{◌≡◌, ℕ, ◌+◌, List, [], ◌∷◌, ◌++◌, Option, Some, None, inl, inr, refl, sym, ap, ◌∙◌, subst, append_assoc, append-nil}
-use Rattle.shop_base.specs.declared.move_order.MoveOrder.{MoveOrder}
-use Rattle.shop_base.specs.Plan.{PlannedShop, IsWellShaped}
-use Rattle.shop_base.specs.Cell.{Cell, start}
-use Rattle.shop_base.specs.Report.{at, after_report}
+use Rattle.shop_base.specs.{declared.move_order.MoveOrder.MoveOrder, Plan.{PlannedShop, IsWellShaped}}
+use Rattle.shop_base.specs.{Cell.{Cell, start}, Report.{at, after_report}, Controlled.{moved, step_orders}}
 use Rattle.shop_base.specs.Run.{Event, Reported, Moved, AreEvents, after, after_all}
-use Rattle.shop_base.specs.Controlled.{moved, step_orders}
 use Rattle.shop_base.proofs.ControlledRuns.{events_join, after_all_join, moves-events, after_all-moves}
-use Rattle.cell_tables.specs.declared.entry.Entry.{Entry}
-use Rattle.cell_tables.specs.Events.{events_of}
+use Rattle.cell_tables.specs.{declared.entry.Entry.Entry, Events.events_of}
 use Rattle.run_log.proofs.Audits.{events-join}
 use Rattle.byte_streams.specs.Answering.{AnswerAll}
-use Rattle.event_lines.specs.declared.requests.Claim.{Claim}
-use Rattle.event_lines.specs.declared.requests.Request.{Request}
+use Rattle.event_lines.specs.{declared.requests.{Claim.Claim, Request.Request}, Requests.claimed, SentLines.cell_prefix}
 use Rattle.event_lines.specs.declared.requests.Request.TheVariants.{Claim as ClaimRequest, Status}
-use Rattle.event_lines.specs.Requests.{claimed}
-use Rattle.event_lines.specs.SentLines.{cell_prefix}
-use Rattle.cell_drive.specs.declared.protocol.Protocol.{Protocol}
-use Rattle.cell_drive.specs.AnswerText.{DrivenCell, undriven}
-use Rattle.cell_drive.specs.OneRun.{cell_after}
-use Rattle.cell_drive.specs.Resuming.{driven_so_far}
+use Rattle.cell_drive.specs.{declared.protocol.Protocol.Protocol, AnswerText.{DrivenCell, undriven}, OneRun.cell_after}
+use Rattle.cell_drive.specs.{Resuming.driven_so_far, ProtocolCells.AsksCell}
 use Rattle.cell_drive.specs.ProtocolText.{AsksFor, RequestAnswer, ProtocolAnswers, IsClaimAccepted}
-use Rattle.cell_drive.specs.ProtocolCells.{AsksCell}
 use Rattle.cell_drive.specs.ProtocolCellsLaw.{SeesLines, none_left, asked, passed_over}
 use Rattle.cell_drive.proofs.Parts.{events-orders}
 use Rattle.drive_laws.specs.FloorLaw.{Floor, AreTrue, AreRight, IsTruthful, SayTruth, SaysTruth, ADrivenCellOrdersRightly, ARunThatGoesOnOrdersRightly, EachCellOrdersRightly}
-use Rattle.drive_laws.proofs.AcceptedOnce.{ends_named}
-use Rattle.drive_laws.proofs.OrderedRightly.{nothing_is_ordered_wrongly}
+use Rattle.drive_laws.proofs.{AcceptedOnce.ends_named, OrderedRightly.nothing_is_ordered_wrongly}
 
 module _ (floor : Floor) (p : PlannedShop) where
   -- events that lead from one cell to another, and whose reports say what has ended

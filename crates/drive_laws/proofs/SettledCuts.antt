@@ -1,32 +1,23 @@
 -- A controlled run that is cut, and then settles, has the orders that it had.
-use Rattle.std.proofs.Common.{◌≡◌, ℕ, zero, suc, ◌≤◌, List, [], ◌∷◌, ◌++◌, length, map, ◌⊎◌, inl, inr, refl, sym, ap, ◌∙◌, subst, arith, append-nil, length-append}
+use Rattle.std.proofs.Common.{Option, None, ◌≡◌, ℕ, zero, suc, ◌≤◌, List, [], ◌∷◌, ◌++◌, length, map, ◌⊎◌, inl, inr, refl, sym, ap, ◌∙◌, subst, arith, append-nil, length-append}
 use Rattle.std.proofs.lemmas.List.{append_cancel_left}
-use Rattle.shop_base.specs.declared.move_order.MoveOrder.{MoveOrder}
-use Rattle.shop_base.specs.declared.report.Report.{Report}
-use Rattle.shop_base.specs.Plan.{PlannedShop, IsWellShaped}
-use Rattle.shop_base.specs.Cell.{Cell, start}
-use Rattle.shop_base.specs.Report.{at, after_report}
-use Rattle.shop_base.specs.Move.{order_for, after_move}
-use Rattle.shop_base.specs.Run.{Event, Reported, Moved, after, after_all, IsAtRest, IsRun}
+use Rattle.std.specs.Prelude.{unwrap_or}
+use Rattle.shop_base.specs.{declared.{move_order.MoveOrder.MoveOrder, report.Report.Report}, Cell.{Cell, start}}
+use Rattle.shop_base.specs.{Plan.{PlannedShop, IsWellShaped}, Report.{at, after_report}, Move.{order_for, after_move}}
+use Rattle.shop_base.specs.{Run.{Event, Reported, Moved, after, after_all, IsAtRest, IsRun}, Ahead.Settles}
 use Rattle.shop_base.specs.Controlled.{AreMoves, after_moves, orders_for, moved, IsStep, after_step, step_orders, Leads}
-use Rattle.shop_base.specs.Ahead.{Settles}
 use Rattle.shop_base.specs.Sound.{IsSound}
-use Rattle.shop_base.proofs.CellFacts.{after_report-last}
-use Rattle.shop_base.proofs.Keeping.{start-sound}
-use Rattle.shop_base.proofs.ControlledRuns.{controlled_to_run, start_at_rest, after_step-sound, after_all_join, after_all-moves}
-use Rattle.shop_base.proofs.OneStep.{one_step}
+use Rattle.shop_base.proofs.{CellFacts.after_report-last, Keeping.start-sound, OneStep.one_step}
+use Rattle.shop_base.proofs.ControlledRuns.{after_all-moves, controlled_to_run, start_at_rest, after_step-sound, after_all_join}
 use Rattle.shop_base.proofs.Settling.{a_cut_step_settles-holds}
-use Rattle.cell_tables.specs.declared.entry.Entry.{Entry}
-use Rattle.cell_tables.specs.declared.entry.Entry.TheVariants.{Order as OrderEntry}
-use Rattle.cell_tables.specs.Events.{events_of}
+use Rattle.cell_tables.specs.{declared.entry.Entry.{Entry, TheVariants.Order as OrderEntry}, Events.events_of}
+use Rattle.cell_control.specs.Settled.{HasSettled}
 use Rattle.event_lines.proofs.Readings.{one_reading}
-use Rattle.cell_drive.specs.OneRun.{cell_after}
-use Rattle.cell_drive.specs.CutLogs.{reported, IsCutLog}
+use Rattle.cell_drive.specs.{LateEvents.AreLate, Recovered.{Recovered, IsRecoveredFrom, IsRecovered, replayed_events}}
+use Rattle.cell_drive.specs.{OneRun.cell_after, CutLogs.{reported, IsCutLog}}
 use Rattle.cell_drive.specs.CutLaw.{ItIsRecoverable, ItIsRecoveredWithItsOrders}
-use Rattle.cell_drive.specs.Recovered.{plan_of, replayed_events}
 use Rattle.cell_drive.proofs.Parts.{append_parts, moved_alone, moved_none, moved_no_report}
-use Rattle.cell_drive.proofs.OwnRuns.{due_events, front_events}
-use Rattle.cell_drive.proofs.CutRuns.{FirstStep, first_step, begins}
+use Rattle.cell_drive.proofs.{OwnRuns.{due_events, front_events}, CutRuns.{FirstStep, first_step, begins}}
 
 same_moves : (one other : List MoveOrder) → moved one ≡ moved other → one ≡ other
 same_moves [] [] same = refl
@@ -166,23 +157,42 @@ it_is_recoverable p lines recorded due shaped acceptable log = record {
   accepted = λ none. acceptable;
 }
 
-pub it_is_recovered_with_its_orders : ItIsRecoveredWithItsOrders
-it_is_recovered_with_its_orders p lines recorded due recovered shaped log up =
-    let from = up.recovered_from in
-    let same : up.recorded ≡ recorded = one_reading p lines up.recorded recorded up.parses log.parses in
-    let replayed_is : replayed_events recovered ≡ recorded = from.replayed_is ∙ same in
-    let control = recovered.control in
-    let here : cell_after (plan_of recovered) (replayed_events recovered) ≡ cell_after p recorded =
-    ap (λ (q : PlannedShop). cell_after q (replayed_events recovered)) from.planned ∙ ap (cell_after p) replayed_is in
-    let began : control.began ≡ (cell_after p recorded).last = from.began ∙ ap (λ (es : List Entry). (cell_after p es).last) same in
-    let settled = from.run.begun.settled in
-    let settles : Settles p (cell_after p recorded) (cell_after p recorded).last settled.movers =
-    subst (λ t. Settles p (cell_after p recorded) t settled.movers) began (subst (λ (c : Cell). Settles p c control.began settled.movers) here
-    (subst (λ (q : PlannedShop). Settles q (cell_after (plan_of recovered) (replayed_events recovered)) control.began settled.movers) from.planned settled.settles)) in
-    let orders : control.orders ≡ orders_for p (cell_after p recorded) (cell_after p recorded).last settled.movers =
-    settled.orders_are ∙ ap (λ (q : PlannedShop). orders_for q (cell_after (plan_of recovered) (replayed_events recovered)) control.began settled.movers) from.planned
-    ∙ ap (λ (c : Cell). orders_for p c control.began settled.movers) here ∙ ap (λ t. orders_for p (cell_after p recorded) t settled.movers) began in
+-- it settles by the orders that are due
+pub settles_by_these : (p : PlannedShop) (recorded : List Entry) (due : List MoveOrder) (lines : List (List ℕ)) (js : List ℕ) → IsWellShaped p → IsCutLog p lines recorded due
+    → Settles p (cell_after p recorded) (cell_after p recorded).last js → orders_for p (cell_after p recorded) (cell_after p recorded).last js ≡ due
+settles_by_these p recorded due lines js shaped log settles =
     let whole : List Entry = recorded ++ map OrderEntry due in
     let leads : Leads p (start p) (reported (events_of whole)) (events_of recorded ++ moved due) (cell_after p whole) =
     subst (λ es. Leads p (start p) (reported (events_of whole)) es (cell_after p whole)) (due_events recorded due) log.run in
-    (replayed_is, orders ∙ cut_settles p shaped (length (events_of recorded)) (start p) (cell_after p whole) (reported (events_of whole)) (events_of recorded) due settled.movers (omega arith) (start-sound p shaped) (start_at_rest p) leads (cell_after p recorded) refl settles)
+    cut_settles p shaped (length (events_of recorded)) (start p) (cell_after p whole) (reported (events_of whole)) (events_of recorded) due js (omega arith) (start-sound p shaped) (start_at_rest p) leads (cell_after p recorded) refl settles
+
+-- ---- what is known of a run that was recovered from these events
+
+module _ (p : PlannedShop) (recorded : List Entry) (at : Option ℕ) (recovered : Recovered) (from : IsRecoveredFrom p recorded at recovered) where
+  pub settled_behind : HasSettled p (unwrap_or at (cell_after p recorded).last) (cell_after p recorded) recovered.control.orders recovered.control.cell
+  settled_behind =
+      let control = recovered.control in
+      subst (λ t. HasSettled p t (cell_after p recorded) control.orders control.cell) from.began
+      (subst (λ (es : List Entry). HasSettled p control.began (cell_after p es) control.orders control.cell) from.replayed_is
+      (subst (λ (q : PlannedShop). HasSettled q control.began (cell_after q (replayed_events recovered)) control.orders control.cell) from.planned from.run.begun.settled))
+
+  pub late_behind : AreLate p (start p) recorded recovered.late
+  late_behind =
+      subst (λ (es : List Entry). AreLate p (start p) es recovered.late) from.replayed_is
+      (subst (λ (q : PlannedShop). AreLate q (start q) (replayed_events recovered) recovered.late) from.planned from.run.are_late)
+
+  pub entries_behind : recovered.log.entries ≡ recorded ++ map OrderEntry recovered.control.orders
+  entries_behind = from.run.due ∙ ap (λ (es : List Entry). es ++ map OrderEntry recovered.control.orders) from.replayed_is
+
+  pub shaped_behind : IsWellShaped p
+  shaped_behind = subst IsWellShaped from.planned from.run.kept.shaped
+
+-- they are the only ones that its log can record
+pub from_these : (p : PlannedShop) (lines : List (List ℕ)) (recorded : List Entry) (due : List MoveOrder) (recovered : Recovered) → IsCutLog p lines recorded due → IsRecovered p lines None recovered → IsRecoveredFrom p recorded None recovered
+from_these p lines recorded due recovered log up = subst (λ (es : List Entry). IsRecoveredFrom p es None recovered) (one_reading p lines up.recorded recorded up.parses log.parses) up.recovered_from
+
+pub it_is_recovered_with_its_orders : ItIsRecoveredWithItsOrders
+it_is_recovered_with_its_orders p lines recorded due recovered shaped log up =
+    let from = from_these p lines recorded due recovered log up in
+    let settled = settled_behind p recorded None recovered from in
+    (from.replayed_is, settled.orders_are ∙ settles_by_these p recorded due lines settled.movers shaped log settled.settles)

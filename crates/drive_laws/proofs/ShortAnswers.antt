@@ -1,35 +1,21 @@
 -- The answer to a report has at most 16,384 bytes.
-use Rattle.std.proofs.Common.{◌≡◌, ℕ, ◌+◌, ◌*◌, ◌<◌, ◌≤◌, Bool, true, false, cond, List, [], ◌∷◌, ◌++◌, codes, decimal, length, Option, None, Some, refl, ap, arith}
+use Rattle.std.proofs.Common.{◌≡◌, ℕ, ◌*◌, ◌<◌, ◌≤◌, Bool, true, false, cond, List, [], ◌∷◌, ◌++◌, codes, decimal}
+use Rattle.std.proofs.{Common.{length, Option, None, Some, refl, ap, arith}, lemmas.List.length-append}
 use Rattle.std.specs.List.{flat_map}
-use Rattle.std.proofs.lemmas.List.{length-append}
-use Rattle.shop_base.specs.declared.limits.TheConstants.{MAX_MOMENT}
-use Rattle.shop_base.specs.declared.move_order.MoveOrder.{MoveOrder}
-use Rattle.shop_base.specs.declared.move_order.Spot.{Spot}
-use Rattle.shop_base.specs.declared.move_order.Spot.TheVariants.{Out, At}
-use Rattle.shop_base.specs.declared.report.Report.{Report}
-use Rattle.shop_base.specs.declared.report.Report.TheVariants.{Arrive, Finish, Clean}
-use Rattle.shop_base.specs.Plan.{PlannedShop, IsWellShaped, jobs, machines}
-use Rattle.shop_base.specs.Cell.{Cell}
+use Rattle.shop_base.specs.declared.{limits.TheConstants.MAX_MOMENT, move_order.{MoveOrder.MoveOrder, Spot.Spot}}
+use Rattle.shop_base.specs.{declared.{move_order.Spot.TheVariants.{Out, At}, report.Report.Report}, Cell.Cell}
+use Rattle.shop_base.specs.{declared.report.Report.TheVariants.{Arrive, Finish, Clean}, Move.{after_move, order_for}}
+use Rattle.shop_base.specs.{Plan.{PlannedShop, IsWellShaped, jobs, machines}, Report.{at, after_report}, Sound.IsSound}
 use Rattle.shop_base.specs.Controlled.{AreMoves, orders_for, step_orders}
-use Rattle.shop_base.specs.Move.{after_move, order_for}
-use Rattle.shop_base.specs.Report.{at, after_report}
-use Rattle.shop_base.specs.Sound.{IsSound}
-use Rattle.shop_base.proofs.CellFacts.{ready_count-le}
-use Rattle.shop_base.proofs.Keeping.{after_move-sound, after_report-sound, run-sound}
+use Rattle.shop_base.proofs.{CellFacts.ready_count-le, Keeping.{after_move-sound, after_report-sound, run-sound}}
 use Rattle.shop_base.proofs.ReadyCount.{after_moves-ready_count}
-use Rattle.cell_tables.specs.Events.{events_of}
-use Rattle.cell_tables.specs.Moving.{IsSpotOf}
 use Rattle.cell_tables.specs.declared.entry.Entry.TheVariants.{Report as ReportEntry, Order as OrderEntry}
-use Rattle.event_lines.specs.Words.{written, line_of}
+use Rattle.cell_tables.specs.{Events.events_of, Moving.IsSpotOf}
+use Rattle.event_lines.specs.{declared.details.Overdue.Overdue, Words.{written, line_of}, LogLines.IsEntryOf}
 use Rattle.event_lines.specs.EventLines.{logged_words, order_line, order_words, report_line, spot_word}
-use Rattle.event_lines.specs.AnswerLines.{done_words, late_words}
-use Rattle.event_lines.specs.LogLines.{IsEntryOf}
-use Rattle.event_lines.specs.Requests.{claimed}
-use Rattle.event_lines.specs.declared.details.Overdue.{Overdue}
-use Rattle.cell_drive.specs.OneRun.{cell_after}
-use Rattle.cell_drive.specs.ProtocolText.{end_part, lateness_part, printed_overdue, prints_end}
-use Rattle.cell_drive.specs.Refusals.{standing_of}
-use Rattle.cell_drive.specs.States.{overdue_in}
+use Rattle.event_lines.specs.{AnswerLines.{done_words, late_words}, Requests.claimed}
+use Rattle.cell_drive.specs.{OneRun.cell_after, ProtocolText.{end_part, lateness_part, printed_overdue, prints_end}}
+use Rattle.cell_drive.specs.{Refusals.standing_of, States.overdue_in}
 use Rattle.cell_drive.proofs.ShopEntries.{order_of_shop, report_of_shop}
 use Rattle.drive_laws.proofs.ShortLines.{late_lines_are_short, moment_fits, short_fits, words_fit}
 use Rattle.drive_laws.proofs.ShortNumbers.{overdue_is_short}

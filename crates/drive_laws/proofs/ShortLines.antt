@@ -1,22 +1,16 @@
 -- A line of version 2 has at most 128 bytes.
-use Rattle.std.proofs.Common.{◌≡◌, ℕ, zero, suc, ◌+◌, ◌<◌, ◌≤◌, List, [], ◌∷◌, ◌++◌, codes, length, decimal, refl, arith}
-use Rattle.std.proofs.lemmas.List.{length-append}
-use Rattle.std.proofs.lemmas.Fmt.{length-decimal-le}
-use Rattle.shop_base.specs.declared.move_order.Spot.{Spot}
+use Rattle.std.proofs.Common.{Bool, true, false, nat_lt, ◌==◌, if◌then◌else◌, ◌^◌, ◌≡◌, ℕ, zero, suc, ◌+◌, ◌<◌, ◌≤◌, List, [], ◌∷◌, ◌++◌, codes, length, decimal, refl, arith}
+use Rattle.std.proofs.lemmas.{Bool.ltb-true, List.length-append, Fmt.length-decimal-le}
 use Rattle.shop_base.specs.declared.move_order.Spot.TheVariants.{Out, At}
 use Rattle.cell_tables.specs.declared.standing.Standing.{Standing}
-use Rattle.cell_tables.specs.declared.standing.Standing.TheVariants.{Awaited, Outside, Worked, Done, Gone, Cleaned, Clean}
-use Rattle.cell_control.specs.declared.report_fault.ReportFault.{ReportFault}
-use Rattle.cell_control.specs.declared.report_fault.ReportFault.TheVariants.{JobOutOfRange, MachineOutOfRange, MomentTooLarge, Backwards, NotExpected, WrongKind, WrongMachine}
-use Rattle.cell_control.specs.ReasonNames.{reason_name}
-use Rattle.event_lines.specs.declared.details.Detail.{Detail}
-use Rattle.event_lines.specs.declared.details.Detail.TheVariants.{Nothing, Last, Stands}
-use Rattle.event_lines.specs.Words.{Word, Text, moment, written, words_before, line_of}
-use Rattle.event_lines.specs.StandingLines.{job_words, machine_words, since_words, target_words, standing_words, detail_words, others_words, unfinished_standing_words, refused_detail_words, late_overdue_words}
-use Rattle.cell_drive.specs.declared.refusals.Refusal.{Refusal}
-use Rattle.cell_drive.specs.declared.refusals.Refusal.TheVariants.{Reason, Leap}
-use Rattle.cell_drive.specs.Refusals.{refusal_word}
-use Rattle.drive_laws.specs.ShortLinesLaw.{IsShort, IsMoment, IsShortSpot, IsShortStanding, IsShortDetail, StateLinesAreShort, RefusalsAreShort, LateLinesAreShort}
+use Rattle.cell_tables.specs.declared.standing.Standing.TheVariants.{Clean, Awaited, Outside, Worked, Done, Gone, Cleaned}
+use Rattle.cell_control.specs.{declared.report_fault.ReportFault.ReportFault, ReasonNames.reason_name}
+use Rattle.cell_control.specs.declared.report_fault.ReportFault.TheVariants.{WrongKind, WrongMachine, JobOutOfRange, MachineOutOfRange, MomentTooLarge, Backwards, NotExpected}
+use Rattle.event_lines.specs.declared.details.Detail.{Detail, TheVariants.{Nothing, Last, Stands}}
+use Rattle.event_lines.specs.Words.{Number, Word, Text, written, words_before, line_of}
+use Rattle.event_lines.specs.StandingLines.{standing_words, detail_words, others_words, unfinished_standing_words, refused_detail_words, late_overdue_words}
+use Rattle.cell_drive.specs.{declared.refusals.Refusal.{Refusal, TheVariants.{Reason, Leap}}, Refusals.refusal_word}
+use Rattle.drive_laws.specs.ShortLinesLaw.{IsShort, IsMoment, IsShortStanding, IsShortDetail, StateLinesAreShort, RefusalsAreShort, LateLinesAreShort}
 
 -- ---- words
 
@@ -43,63 +37,49 @@ short_fits n short = length-decimal-le 3 n (omega arith) (omega (arith, short)) 
 pub moment_fits : (t : ℕ) → IsMoment t → length (decimal t) ≤ 13
 moment_fits t is = length-decimal-le 13 t (omega arith) (omega (arith, is)) (omega (arith, is))
 
--- ---- a state
+-- ---- words whose numbers are short
 
-job_fits : (job : ℕ) (words : List Word) → IsShort job → size (job_words job words) ≤ 8 + size words
-job_fits job words short = let job_is : length (codes "job") ≡ 3 = refl in omega (arith, job_is, short_fits job short)
+-- a number has so many digits at most: a moment, or another
+abbrev digits : ℕ → ℕ
+digits most = if most == 13 then 13 else 3
 
-machine_fits : (machine : ℕ) (words : List Word) → IsShort machine → size (machine_words machine words) ≤ 12 + size words
-machine_fits machine words short = let machine_is : length (codes "machine") ≡ 7 = refl in omega (arith, machine_is, short_fits machine short)
+abbrev AreShort : List Word → Type 0
+AreShort [] = Unit {0}
+AreShort (Text text ∷ words) = AreShort words
+AreShort (Number most n ∷ words) = (n < 10 ^ digits most) × AreShort words
 
-since_fits : (since due : ℕ) → IsMoment since → IsMoment due → size (since_words since due) ≤ 38
-since_fits since due is also =
-    let since_is : length (codes "since") ≡ 5 = refl in
-    let due_is : length (codes "due") ≡ 3 = refl in
-    omega (arith, since_is, due_is, moment_fits since is, moment_fits due also)
+-- so words have so many bytes at most, with a space behind each
+abbrev most_of : List Word → ℕ
+most_of [] = 0
+most_of (Text text ∷ words) = length text + 1 + most_of words
+most_of (Number most n ∷ words) = digits most + 1 + most_of words
 
-target_fits : (to : Spot) → IsShortSpot to → size (target_words to) ≤ 16
-target_fits Out short =
-    let for_is : length (codes "for") ≡ 3 = refl in
-    let machine_is : length (codes "machine") ≡ 7 = refl in
-    let out_is : length (codes "out") ≡ 3 = refl in
-    omega (arith, for_is, machine_is, out_is)
-target_fits (At machine) short =
-    let for_is : length (codes "for") ≡ 3 = refl in
-    let machine_is : length (codes "machine") ≡ 7 = refl in
-    omega (arith, for_is, machine_is, short_fits machine short)
+digits_fit : (n : ℕ) (is_moment : Bool) → n < 10 ^ (if is_moment then 13 else 3) → length (decimal n) ≤ (if is_moment then 13 else 3)
+digits_fit n true below = moment_fits n below
+digits_fit n false below = short_fits n below
+
+fits : (words : List Word) → AreShort words → size words ≤ most_of words
+fits [] is = omega arith
+fits (Text text ∷ words) is = omega (arith, fits words is)
+fits (Number most n ∷ words) is = omega (arith, digits_fit n (most == 13) is.0, fits words is.1)
+
+fits_in : (words : List Word) (most : ℕ) → AreShort words → nat_lt (most_of words) (most + 1) ≡ true → size words ≤ most
+fits_in words most is below = omega (arith, fits words is, ltb-true (most_of words) (most + 1) below)
 
 standing_fits : (standing : Standing) → IsShortStanding standing → size (standing_words standing) ≤ 72
-standing_fits (Awaited job due) is =
-    let arrives_is : length (codes "arrives") ≡ 7 = refl in
-    omega (arith, job_fits job (Text (codes "arrives") ∷ moment due ∷ []) is.0, arrives_is, moment_fits due is.1)
-standing_fits (Outside job to) is =
-    let waits_is : length (codes "waits") ≡ 5 = refl in
-    let outside_is : length (codes "outside") ≡ 7 = refl in
-    omega (arith, job_fits job (Text (codes "waits") ∷ Text (codes "outside") ∷ target_words to) is.0, waits_is, outside_is, target_fits to is.1)
-standing_fits (Worked job machine since due) is =
-    let on_is : length (codes "on") ≡ 2 = refl in
-    omega (arith, job_fits job (Text (codes "on") ∷ machine_words machine (since_words since due)) is.0, on_is, machine_fits machine (since_words since due) is.1, since_fits since due is.2 is.3)
-standing_fits (Done job machine to) is =
-    let waits_is : length (codes "waits") ≡ 5 = refl in
-    let on_is : length (codes "on") ≡ 2 = refl in
-    omega (arith, job_fits job (Text (codes "waits") ∷ Text (codes "on") ∷ machine_words machine (target_words to)) is.0, waits_is, on_is, machine_fits machine (target_words to) is.1, target_fits to is.2)
-standing_fits (Gone job at) is =
-    let has_is : length (codes "has") ≡ 3 = refl in
-    let left_is : length (codes "left") ≡ 4 = refl in
-    let at_is : length (codes "at") ≡ 2 = refl in
-    omega (arith, job_fits job (Text (codes "has") ∷ Text (codes "left") ∷ Text (codes "at") ∷ moment at ∷ []) is.0, has_is, left_is, at_is, moment_fits at is.1)
-standing_fits (Cleaned machine job since due) is =
-    let cleaned_is : length (codes "cleaned") ≡ 7 = refl in
-    let after_is : length (codes "after") ≡ 5 = refl in
-    omega (arith, machine_fits machine (Text (codes "cleaned") ∷ Text (codes "after") ∷ job_words job (since_words since due)) is.0, cleaned_is, after_is, job_fits job (since_words since due) is.1, since_fits since due is.2 is.3)
-standing_fits (Clean machine) is =
-    let is_is : length (codes "is") ≡ 2 = refl in
-    let clean_is : length (codes "clean") ≡ 5 = refl in
-    omega (arith, machine_fits machine (Text (codes "is") ∷ Text (codes "clean") ∷ []) is, is_is, clean_is)
+standing_fits (Awaited job due) is = fits_in (standing_words (Awaited job due)) 72 (is.0, (is.1, tt)) refl
+standing_fits (Outside job Out) is = fits_in (standing_words (Outside job Out)) 72 (is.0, tt) refl
+standing_fits (Outside job (At to)) is = fits_in (standing_words (Outside job (At to))) 72 (is.0, (is.1, tt)) refl
+standing_fits (Worked job machine since due) is = fits_in (standing_words (Worked job machine since due)) 72 (is.0, (is.1, (is.2, (is.3, tt)))) refl
+standing_fits (Done job machine Out) is = fits_in (standing_words (Done job machine Out)) 72 (is.0, (is.1, tt)) refl
+standing_fits (Done job machine (At to)) is = fits_in (standing_words (Done job machine (At to))) 72 (is.0, (is.1, (is.2, tt))) refl
+standing_fits (Gone job at) is = fits_in (standing_words (Gone job at)) 72 (is.0, (is.1, tt)) refl
+standing_fits (Cleaned machine job since due) is = fits_in (standing_words (Cleaned machine job since due)) 72 (is.0, (is.1, (is.2, (is.3, tt)))) refl
+standing_fits (Clean machine) is = fits_in (standing_words (Clean machine)) 72 (is, tt) refl
 
 detail_fits : (detail : Detail) → IsShortDetail detail → size (detail_words detail) ≤ 72
 detail_fits Nothing is = omega arith
-detail_fits (Last at) is = let last_is : length (codes "last") ≡ 4 = refl in omega (arith, last_is, moment_fits at is)
+detail_fits (Last at) is = fits_in (detail_words (Last at)) 72 (is, tt) refl
 detail_fits (Stands standing) is = standing_fits standing is
 
 -- ---- lines
@@ -133,10 +113,7 @@ refusals_are_short prefix number refusal detail before below is =
 
 others_fit : (others : ℕ) → IsShort others → size (others_words others) ≤ 13
 others_fit zero is = omega arith
-others_fit (suc k) is =
-    let and_is : length (codes "and") ≡ 3 = refl in
-    let more_is : length (codes "more") ≡ 4 = refl in
-    omega (arith, and_is, more_is, short_fits (suc k) is)
+others_fit (suc k) is = fits_in (others_words (suc k)) 13 (is, tt) refl
 
 pub late_lines_are_short : LateLinesAreShort
 late_lines_are_short prefix at overdue before is first others =

@@ -1,74 +1,27 @@
 -- In every run the numbers that are printed of a cell are short.
 use Rattle.std.proofs.Common.{◌≡◌, ℕ, zero, suc, ◌+◌, ◌-◌, ◌<◌, ◌≤◌, nat_lt, length, Bool, true, false, cond, Option, Some, None, inl, inr, ltb-true, refl, sym, ap, subst, arith}
-use Rattle.std.proofs.lemmas.Bool.{cases_lt}
-use Rattle.std.proofs.lemmas.List.{length-append, length-map}
-use Rattle.shop_base.specs.declared.limits.TheConstants.{MAX_MOMENT}
+use Rattle.std.proofs.lemmas.{Bool.cases_lt, List.{length-append, length-map}}
+use Rattle.shop_base.specs.declared.{limits.TheConstants.MAX_MOMENT, report.Report.TheVariants.{Arrive, Finish, Clean}}
 use Rattle.shop_base.specs.Plan.{PlannedShop, IsWellShaped, jobs, machines, steps, machine_of, order, job_at}
-use Rattle.shop_base.specs.Cell.{Cell, made, ready, since, entries, cleaning}
-use Rattle.shop_base.specs.Move.{target}
-use Rattle.shop_base.specs.Sound.{IsSound}
+use Rattle.shop_base.specs.{Cell.{Cell, made, ready, since, entries, cleaning}, Move.target, Sound.IsSound}
 use Rattle.shop_base.specs.Report.{ended, at}
-use Rattle.shop_base.specs.declared.report.Report as reports
-use Rattle.shop_base.specs.declared.report.Report.TheVariants.{Arrive, Finish, Clean}
-use Rattle.shop_base.proofs.Keeping.{run-sound}
-use Rattle.shop_base.proofs.Visits.{stop_at, stop_past, visits_job}
-use Rattle.text_lines.specs.Lines.{lines_of}
-use Rattle.text_lines.proofs.NextLines.{lines_of-le}
+use Rattle.shop_base.proofs.{Keeping.run-sound, Visits.{stop_at, stop_past, visits_job}}
+use Rattle.text_lines.{specs.Lines.lines_of, proofs.NextLines.lines_of-le}
 use Rattle.byte_streams.specs.Lines.{within_limit}
-use Rattle.cell_tables.specs.declared.standing.Standing.{Standing}
-use Rattle.cell_tables.specs.declared.standing.Standing.TheVariants.{Gone}
-use Rattle.cell_tables.specs.Events.{events_of}
-use Rattle.cell_tables.specs.Standings.{outside_standing, inside_standing, standing_after, job_standing, cleaning_standing, machine_standing, is_overdue}
-use Rattle.cell_control.specs.Reports.{IsOfShop}
-use Rattle.cell_control.specs.declared.report_fault.ReportFault.{ReportFault}
-use Rattle.cell_control.specs.declared.report_fault.ReportFault.TheVariants.{JobOutOfRange, MachineOutOfRange, MomentTooLarge, Backwards, NotExpected, WrongKind, WrongMachine}
-use Rattle.event_lines.specs.declared.details.Detail.{Detail}
-use Rattle.event_lines.specs.declared.details.Detail.TheVariants.{Nothing}
-use Rattle.event_lines.specs.declared.details.Overdue.{Overdue}
-use Rattle.event_lines.specs.declared.requests.Claim.{Claim}
-use Rattle.event_lines.specs.declared.requests.Claim.TheVariants.{Report, CleanAfter}
-use Rattle.event_lines.specs.Requests.{claimed}
-use Rattle.cell_drive.specs.declared.protocol.Protocol.{Protocol}
-use Rattle.cell_drive.specs.declared.refusals.Refusal.{Refusal}
-use Rattle.cell_drive.specs.declared.refusals.Refusal.TheVariants.{Reason, Leap}
-use Rattle.cell_drive.specs.OneRun.{cell_after}
+use Rattle.cell_tables.specs.{declared.standing.Standing.TheVariants.Gone, Events.events_of}
+use Rattle.cell_tables.specs.Standings.{outside_standing, inside_standing, standing_after, job_standing, cleaning_standing, machine_standing}
+use Rattle.cell_control.specs.{declared.report_fault.ReportFault.ReportFault, Reports.IsOfShop}
+use Rattle.cell_control.specs.declared.report_fault.ReportFault.TheVariants.{WrongKind, WrongMachine, JobOutOfRange, MachineOutOfRange, MomentTooLarge, Backwards, NotExpected}
+use Rattle.event_lines.specs.declared.{details.Detail.{Detail, TheVariants.Nothing}, requests.Claim.Claim}
+use Rattle.event_lines.specs.{declared.requests.Claim.TheVariants.{Report, CleanAfter}, Requests.claimed}
+use Rattle.cell_drive.specs.{declared.{protocol.Protocol.Protocol, refusals.Refusal.Refusal}, OneRun.cell_after}
+use Rattle.cell_drive.specs.{declared.refusals.Refusal.TheVariants.{Reason, Leap}, States.overdue_in}
 use Rattle.cell_drive.specs.Refusals.{IsClaimReason, IsRefusal, standing_of, reason_detail, printed_detail}
-use Rattle.cell_drive.specs.States.{one_more, with_one, with_those, with_jobs, with_machines, own_first, overdue_in}
+use Rattle.cell_drive.proofs.Overdues.{AreFew, overdue_few}
+use Rattle.cell_drive.proofs.Refusing.{refused_of_shop, refused_reason, reported_of_shop}
 use Rattle.drive_laws.specs.ShortLinesLaw.{IsShort, IsMoment, IsShortSpot, IsShortStanding, IsShortDetail, StandingsAreShort, DetailsAreShort, OverdueIsShort, LineNumbersAreShort}
 use Rattle.drive_laws.proofs.BegunByLast.{AreBegunByLast, begun_in_run}
-use Rattle.cell_drive.proofs.Refusing.{refused_of_shop, refused_reason, reported_of_shop}
-
--- ---- what is overdue
-
--- nothing, or one with short numbers and fewer others than this
-abbrev IsShortFound : ℕ → Option Overdue → Type 0
-IsShortFound most None = Unit {0}
-IsShortFound most (Some overdue) = IsShortStanding overdue.first × (overdue.others < most)
-
-of_more : (few most : ℕ) (found : Option Overdue) → few ≤ most → IsShortFound few found → IsShortFound most found
-of_more few most None within is = tt
-of_more few most (Some overdue) within is = (is.0, omega (arith, within, is.1))
-
-one_short : (is : Bool) (most : ℕ) (found : Option Overdue) (standing : Standing) → IsShortStanding standing → IsShortFound most found → IsShortFound (most + 1) (cond is (one_more found standing) found)
-one_short true most None standing short before = (short, omega arith)
-one_short true most (Some overdue) standing short before = (before.0, omega (arith, before.1))
-one_short false most found standing short before = of_more most (most + 1) found (omega arith) before
-
-those_short : (at : ℕ) (standing : ℕ → Standing) (most : ℕ) (found : Option Overdue) (k n : ℕ) → ((i : ℕ) → i < k + n → IsShortStanding (standing i)) → IsShortFound most found
-    → IsShortFound (most + n) (with_those at standing found k n)
-those_short at standing most found k zero each before = of_more most (most + zero) found (omega arith) before
-those_short at standing most found k (suc n) each before =
-    of_more ((most + 1) + n) (most + suc n) (with_those at standing (with_one at found (standing k)) (suc k) n) (omega arith)
-    (those_short at standing (most + 1) (with_one at found (standing k)) (suc k) n (λ i below. each i (omega (arith, below)))
-    (one_short (is_overdue (standing k) at) most found (standing k) (each k (omega arith)) before))
-
-first_short : (is : Bool) (own first : Standing) → IsShortStanding own → IsShortStanding first → IsShortStanding (cond is own first)
-first_short true own first short other = short
-first_short false own first short other = other
-
-own_short : (at most : ℕ) (own : Standing) (found : Option Overdue) → IsShortStanding own → IsShortFound most found → IsShortFound most (own_first at own found)
-own_short at most own None short is = tt
-own_short at most own (Some overdue) short is = (first_short (is_overdue own at) own overdue.first short is.0, is.1)
+use Rattle.shop_base.specs.declared.report.Report as reports
 
 -- ---- a cell
 
@@ -134,15 +87,9 @@ module _ (p : PlannedShop) (c : Cell) (shaped : IsWellShaped p) (sound : IsSound
   own_standing_short (Finish job machine at) of = jobs_short job of
   own_standing_short (Clean machine at) of = machines_short machine of
 
-  overdue_short : (report : reports.Report) → IsOfShop p (ended report) → IsShortFound 1000 (overdue_in p c (standing_of p c report) (at report))
+  overdue_short : (report : reports.Report) → IsOfShop p (ended report) → AreFew (at report) IsShortStanding (jobs p + machines p) (overdue_in p c (standing_of p c report) (at report))
   overdue_short report of =
-      let moment = at report in
-      let counts = shaped.shop.counts in
-      let of_jobs : IsShortFound (0 + jobs p) (with_jobs p c moment) = those_short moment (job_standing p c) 0 None 0 (jobs p) (λ j below. jobs_short j (omega (arith, below))) tt in
-      let of_both : IsShortFound ((0 + jobs p) + machines p) (with_machines p c moment (with_jobs p c moment)) =
-      those_short moment (machine_standing p c) (0 + jobs p) (with_jobs p c moment) 0 (machines p) (λ m below. machines_short m (omega (arith, below))) of_jobs in
-      own_short moment 1000 (standing_of p c report) (with_machines p c moment (with_jobs p c moment)) (own_standing_short report of)
-      (of_more ((0 + jobs p) + machines p) 1000 (with_machines p c moment (with_jobs p c moment)) (omega (arith, counts.few_jobs, counts.few_machines)) of_both)
+      overdue_few (at report) IsShortStanding p c (standing_of p c report) (λ j below is. jobs_short j below) (λ m below is. machines_short m below) (λ is. own_standing_short report of)
 
   -- ---- a refusal
 
@@ -188,16 +135,14 @@ details_are_short p protocol es claim refusal shaped run from is =
     let begun = begun_in_run p shaped (events_of es) run in
     detail_short p c shaped sound begun protocol claim protocol.version_2 (printed_detail protocol p c (claimed claim) refusal) (refusal_short p c shaped sound begun protocol claim refusal from is)
 
-found_is : (found : Option Overdue) (overdue : Overdue) → found ≡ Some overdue → IsShortFound 1000 found → IsShortStanding overdue.first × IsShort overdue.others
-found_is found overdue same short = subst (IsShortFound 1000) same short
-
 pub overdue_is_short : OverdueIsShort
 overdue_is_short p es report overdue shaped run can same =
     let c = cell_after p es in
     let sound = run-sound p (events_of es) shaped run in
     let begun = begun_in_run p shaped (events_of es) run in
-    let found = found_is (overdue_in p c (standing_of p c report) (at report)) overdue same (overdue_short p c shaped sound begun report (reported_of_shop p c report shaped sound can)) in
-    (omega (arith, can.moment.in_range), found.0, found.1)
+    let few = overdue_short p c shaped sound begun report (reported_of_shop p c report shaped sound can) in
+    let found : AreFew (at report) IsShortStanding (jobs p + machines p) (Some overdue) = subst (AreFew (at report) IsShortStanding (jobs p + machines p)) same few in
+    (omega (arith, can.moment.in_range), found.1, omega (arith, found.2, shaped.shop.counts.few_jobs, shaped.shop.counts.few_machines))
 
 -- ---- an input
 

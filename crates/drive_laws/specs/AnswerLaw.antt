@@ -1,26 +1,14 @@
 -- The law that the events of a log of a controlled run are written once more as they were answered.
 use Rattle.std.specs.Prelude.{◌≡◌, ℕ, List, [], ◌∷◌, ◌++◌, Bool, Option, Some, length, take, drop}
-use Rattle.shop_base.specs.Plan.{PlannedShop, IsWellShaped}
-use Rattle.shop_base.specs.Cell.{Cell, start}
-use Rattle.shop_base.specs.Run.{after}
-use Rattle.cell_tables.specs.declared.entry.Entry.{Entry}
+use Rattle.shop_base.specs.{Plan.PlannedShop, Plan.IsWellShaped, Cell.Cell, Cell.start, Run.after}
+use Rattle.cell_tables.specs.{declared.entry.Entry.Entry, Events.event_of}
 use Rattle.cell_tables.specs.declared.entry.Entry.TheVariants.{Report as ReportEntry, Order as OrderEntry}
-use Rattle.cell_tables.specs.Events.{event_of}
-use Rattle.event_lines.specs.EventLines.{entry_lines}
-use Rattle.event_lines.specs.SentLines.{IsReportLine}
-use Rattle.event_lines.specs.declared.requests.Claim.{Claim}
-use Rattle.event_lines.specs.declared.requests.Request.TheVariants.{Claim as ClaimRequest}
-use Rattle.event_lines.specs.Requests.{claimed}
-use Rattle.cell_drive.specs.declared.protocol.Protocol.{Protocol}
-use Rattle.cell_drive.specs.AnswerText.{AreAnswersTo}
-use Rattle.cell_drive.specs.CutLogs.{IsCutLogOf}
-use Rattle.cell_drive.specs.LateEvents.{AreLate}
-use Rattle.cell_drive.specs.OneRun.{cell_after}
-use Rattle.cell_drive.specs.Refusals.{IsAdmissible}
-use Rattle.cell_drive.specs.Replay.{replay_lines}
+use Rattle.event_lines.specs.{declared.requests.Claim.Claim, EventLines.entry_lines, SentLines.IsReportLine}
+use Rattle.event_lines.specs.{declared.requests.Request.TheVariants.Claim as ClaimRequest, Requests.claimed}
+use Rattle.cell_drive.specs.{declared.protocol.Protocol.Protocol, AnswerText.AreAnswersTo, CutLogs.IsCutLogOf}
+use Rattle.cell_drive.specs.{LateEvents.AreLate, OneRun.cell_after, Refusals.IsAdmissible, Replay.replay_lines}
 use Rattle.cell_drive.specs.ProtocolText.{AsksFor, AreProtocolAnswers, prints_end, end_part}
-use Rattle.cell_drive.specs.PlainLines.{plain_lines}
-use Rattle.cell_drive.specs.Resuming.{driven_so_far}
+use Rattle.cell_drive.specs.{PlainLines.plain_lines, Resuming.driven_so_far}
 
 -- the lines of an input are the reports among these events, one after another, and nothing else
 abbrev pub AreReportLines : List (Option (List ℕ)) → List Entry → Type 0

@@ -1,11 +1,9 @@
 -- A cell among several that are driven, seen as by a controller alone.
 use Rattle.std.specs.Prelude.{◌≡◌, ◌↔◌, ℕ, List, [], ◌∷◌, Option, Some, slice_get}
-use Rattle.shop_base.specs.declared.report.Report.{Report}
-use Rattle.shop_base.specs.Run.{Event}
+use Rattle.shop_base.specs.{declared.report.Report.Report, Run.Event}
 use Rattle.shop_base.specs.Ends.{stated_number, reports_in, HasEnded}
 use Rattle.plan_verifier.specs.Accepted.{VerifiedPlan}
-use Rattle.cell_control.specs.Control.{Control, verified_in}
-use Rattle.cell_control.specs.Promises.{IsControllerAfter}
+use Rattle.cell_control.specs.{Control.Control, Control.verified_in, Promises.IsControllerAfter}
 use Rattle.event_lines.specs.SentLines.{IsCellReport}
 use Rattle.byte_streams.specs.Answering.{AnswerAll}
 use Rattle.cell_drive.specs.ManyCells.{PlannedCell, AreVerified, CellsAnswer, hub_start}

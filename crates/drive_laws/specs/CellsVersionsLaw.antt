@@ -1,21 +1,14 @@
 -- The law that version 2 of the lines only adds to what cells of a hub answer in version 1.
 use Rattle.std.specs.Prelude.{◌≡◌, ℕ, List, [], ◌∷◌, ◌++◌, Bool, true, false, Option, None, Some}
 use Rattle.shop_base.specs.declared.move_order.MoveOrder.{MoveOrder}
-use Rattle.shop_base.specs.declared.report.Report as reports
 use Rattle.byte_streams.specs.Answering.{AnswerAll}
-use Rattle.event_lines.specs.AnswerLines.{refused_line}
-use Rattle.event_lines.specs.StandingLines.{refused_detail_line}
-use Rattle.event_lines.specs.SentLines.{cell_prefix}
-use Rattle.event_lines.specs.Requests.{IsCellRequest}
-use Rattle.event_lines.specs.declared.details.Detail.{Detail}
-use Rattle.event_lines.specs.declared.details.Overdue.{Overdue}
-use Rattle.event_lines.specs.declared.requests.Claim.TheVariants.{Report}
-use Rattle.event_lines.specs.declared.requests.Request.{Request}
-use Rattle.event_lines.specs.declared.requests.Request.TheVariants.{Claim as ClaimRequest}
-use Rattle.cell_drive.specs.ManyCells.{PlannedCell}
-use Rattle.cell_drive.specs.ProtocolText.{acceptance_lines}
-use Rattle.cell_drive.specs.ProtocolCells.{ProtocolCellsAnswer}
+use Rattle.event_lines.specs.{declared.details.Detail.Detail, declared.details.Overdue.Overdue, SentLines.cell_prefix}
+use Rattle.event_lines.specs.{declared.requests.Claim.TheVariants.Report, declared.requests.Request.Request}
+use Rattle.event_lines.specs.{declared.requests.Request.TheVariants.Claim as ClaimRequest, AnswerLines.refused_line}
+use Rattle.event_lines.specs.{StandingLines.refused_detail_line, Requests.IsCellRequest}
+use Rattle.cell_drive.specs.{ManyCells.PlannedCell, ProtocolText.acceptance_lines, ProtocolCells.ProtocolCellsAnswer}
 use Rattle.drive_laws.specs.VersionsLaw.{in_version}
+use Rattle.shop_base.specs.declared.report.Report as reports
 
 -- the line asks of no cell what version 1 doesn't have: neither `status` nor `clean M J T`
 abbrev pub AsksInVersion1 : Option (List ℕ) → Type 0

@@ -1,29 +1,17 @@
 -- The law that a program which sends only what has ended on its floor never has a part ordered wrongly.
 use Rattle.std.specs.Prelude.{◌≡◌, ℕ, ◌<◌, ◌≤◌, List, [], ◌∷◌, ◌++◌, Option, Some}
-use Rattle.shop_base.specs.declared.move_order.Spot.{Spot}
 use Rattle.shop_base.specs.declared.move_order.Spot.TheVariants.{Out, At}
-use Rattle.shop_base.specs.declared.move_order.MoveOrder.{MoveOrder}
-use Rattle.shop_base.specs.declared.report.Report.{Report}
-use Rattle.shop_base.specs.Plan.{PlannedShop, clean, IsWellShaped}
-use Rattle.shop_base.specs.Cell.{Cell, start}
-use Rattle.shop_base.specs.Report.{at}
-use Rattle.shop_base.specs.Run.{Event, Reported, Moved, after, IsRun}
-use Rattle.shop_base.specs.AtMostOnceLaw.{HasLeft}
-use Rattle.cell_tables.specs.declared.entry.Entry.{Entry}
-use Rattle.cell_tables.specs.Events.{events_of}
+use Rattle.shop_base.specs.{Run.Event, Run.Reported, Run.Moved, Run.after, Run.IsRun, declared.move_order.Spot.Spot}
+use Rattle.shop_base.specs.{declared.move_order.MoveOrder.MoveOrder, Plan.PlannedShop, Plan.clean, Plan.IsWellShaped}
+use Rattle.shop_base.specs.{declared.report.Report.Report, AtMostOnceLaw.HasLeft, Cell.Cell, Cell.start, Report.at}
+use Rattle.cell_tables.specs.{declared.entry.Entry.Entry, Events.events_of}
 use Rattle.cell_control.specs.OnceLaw.{NamedEnd, Arrived, Finished, Cleaned, ReportsEnd}
 use Rattle.byte_streams.specs.Answering.{AnswerAll}
-use Rattle.event_lines.specs.declared.requests.Claim.{Claim}
-use Rattle.event_lines.specs.declared.requests.Request.{Request}
+use Rattle.event_lines.specs.{declared.requests.Claim.Claim, declared.requests.Request.Request, Requests.claimed}
 use Rattle.event_lines.specs.declared.requests.Request.TheVariants.{Claim as ClaimRequest}
-use Rattle.event_lines.specs.Requests.{claimed}
-use Rattle.cell_drive.specs.declared.protocol.Protocol.{Protocol}
-use Rattle.cell_drive.specs.AnswerText.{DrivenCell}
+use Rattle.cell_drive.specs.{declared.protocol.Protocol.Protocol, AnswerText.DrivenCell, ProtocolCells.AsksCell}
 use Rattle.cell_drive.specs.ProtocolText.{AsksFor, AreProtocolAnswers, ProtocolAnswers}
-use Rattle.cell_drive.specs.ProtocolCells.{AsksCell}
-use Rattle.cell_drive.specs.ProtocolCellsLaw.{SeesLines}
-use Rattle.cell_drive.specs.ProtocolLaw.{named}
-use Rattle.cell_drive.specs.Resuming.{driven_so_far}
+use Rattle.cell_drive.specs.{ProtocolCellsLaw.SeesLines, ProtocolLaw.named, Resuming.driven_so_far}
 
 -- what has ended so far on a floor, in one run: each arrival, each operation and each cleaning after a job, and at which moment
 abbrev pub Floor : Type 0

@@ -1,14 +1,10 @@
 -- The law that no punctual report leaps, where no time of the plan is longer than the longest that may pass.
 use Rattle.std.specs.Prelude.{◌≡◌, ℕ, ◌<◌, ◌≤◌, List, Some}
 use Rattle.shop_base.specs.Plan.{PlannedShop, IsWellShaped, jobs, machines, steps, release, nominal, clean}
-use Rattle.shop_base.specs.Run.{IsRun}
-use Rattle.shop_base.specs.Punctual.{IsPunctual}
-use Rattle.cell_tables.specs.declared.entry.Entry.{Entry}
-use Rattle.cell_tables.specs.Events.{events_of}
-use Rattle.event_lines.specs.declared.requests.Claim.{Claim}
-use Rattle.event_lines.specs.Requests.{claimed}
-use Rattle.cell_drive.specs.declared.protocol.Protocol.{Protocol}
-use Rattle.cell_drive.specs.OneRun.{cell_after}
+use Rattle.shop_base.specs.{Run.IsRun, Punctual.IsPunctual}
+use Rattle.cell_tables.specs.{declared.entry.Entry.Entry, Events.events_of}
+use Rattle.event_lines.specs.{declared.requests.Claim.Claim, Requests.claimed}
+use Rattle.cell_drive.specs.{declared.protocol.Protocol.Protocol, OneRun.cell_after}
 use Rattle.cell_drive.specs.Refusals.{CanClaim, IsAdmissible}
 
 -- no release, no nominal time and no cleaning time of the plan is longer than this

@@ -1,17 +1,12 @@
 -- The law that a run which is recovered by its own plan goes on as one run.
 use Rattle.std.specs.Prelude.{◌≡◌, ◌⊎◌, ℕ, List, [], ◌++◌, Option, None}
-use Rattle.shop_base.specs.declared.move_order.MoveOrder.{MoveOrder}
-use Rattle.shop_base.specs.Plan.{PlannedShop, IsWellShaped}
+use Rattle.shop_base.specs.{declared.move_order.MoveOrder.MoveOrder, Plan.PlannedShop, Plan.IsWellShaped}
 use Rattle.plan_verifier.specs.Accepted.{VerifiedPlan, IsVerified}
 use Rattle.cell_tables.specs.declared.entry.Entry.{Entry}
 use Rattle.byte_streams.specs.Answering.{AnswerAll}
-use Rattle.cell_drive.specs.declared.protocol.Protocol.{Protocol}
-use Rattle.cell_drive.specs.declared.resume.RestEnd.{RestEnd}
-use Rattle.cell_drive.specs.AnswerText.{DrivenCell, CellCloses}
-use Rattle.cell_drive.specs.OneRun.{IsRunOf, NeverWentWrong}
-use Rattle.cell_drive.specs.CutLogs.{IsCutLog}
-use Rattle.cell_drive.specs.CutLaw.{IsRunPrefix, IsCutFrom}
-use Rattle.cell_drive.specs.Recovered.{Recovered, IsRecovered}
+use Rattle.cell_drive.specs.{declared.protocol.Protocol.Protocol, declared.resume.RestEnd.RestEnd, CutLogs.IsCutLog}
+use Rattle.cell_drive.specs.{AnswerText.DrivenCell, AnswerText.CellCloses, OneRun.IsRunOf, OneRun.NeverWentWrong}
+use Rattle.cell_drive.specs.{CutLaw.IsRunPrefix, CutLaw.IsCutFrom, Recovered.Recovered, Recovered.IsRecovered}
 use Rattle.cell_drive.specs.Resuming.{again_text, driven_so_far, GoesOnFrom}
 use Rattle.cell_drive.specs.ProtocolText.{ProtocolAnswers}
 

@@ -2,11 +2,8 @@
 use Rattle.std.specs.Prelude.{◌≡◌, ℕ, List, [], ◌∷◌, Option, None}
 use Rattle.shop_base.specs.Plan.{PlannedShop}
 use Rattle.event_lines.specs.LogLines.{LinesParse}
-use Rattle.cell_drive.specs.declared.protocol.Protocol.{Protocol}
-use Rattle.cell_drive.specs.AnswerText.{DrivenCell}
-use Rattle.cell_drive.specs.ProtocolText.{IsProtocolText}
-use Rattle.cell_drive.specs.Recovered.{Recovered, IsRecovered, seen_in}
-use Rattle.cell_drive.specs.Resuming.{IsResumedText}
+use Rattle.cell_drive.specs.{declared.protocol.Protocol.Protocol, AnswerText.DrivenCell, ProtocolText.IsProtocolText}
+use Rattle.cell_drive.specs.{Recovered.Recovered, Recovered.IsRecovered, Recovered.seen_in, Resuming.IsResumedText}
 
 -- a log is recovered by a plan, at a moment, as one cell with one list of events, of which the same are recorded as late
 abbrev pub OneRecovery : Type 0

@@ -1,20 +1,14 @@
 -- The laws of runs that were recovered.
 use Rattle.std.specs.Prelude.{◌≡◌, ℕ, List, ◌∷◌, ◌++◌, Bool, true, false, Option, Some}
-use Rattle.shop_base.specs.declared.report.Report.{Report}
-use Rattle.shop_base.specs.Plan.{PlannedShop, IsWellShaped}
-use Rattle.cell_tables.specs.declared.entry.Entry.{Entry}
-use Rattle.cell_tables.specs.declared.entry.Entry.TheVariants.{Report as ReportEntry}
+use Rattle.shop_base.specs.{declared.report.Report.Report, Plan.PlannedShop, Plan.IsWellShaped}
+use Rattle.cell_tables.specs.{declared.entry.Entry.Entry, declared.entry.Entry.TheVariants.Report as ReportEntry}
 use Rattle.cell_control.specs.OnceLaw.{NamedEnd, ReportsEnd}
 use Rattle.byte_streams.specs.Answering.{AnswerAll}
 use Rattle.event_lines.specs.declared.requests.Claim.{Claim}
-use Rattle.cell_drive.specs.Refusals.{CanClaim}
-use Rattle.cell_drive.specs.AnswerText.{DrivenCell}
-use Rattle.cell_drive.specs.OneRun.{cell_after}
-use Rattle.cell_drive.specs.ProtocolText.{ProtocolAnswers}
-use Rattle.cell_drive.specs.ProtocolLaw.{named}
-use Rattle.drive_laws.specs.VersionsLaw.{AreOfVersion1, IsPlainText, in_version}
-use Rattle.cell_drive.specs.declared.protocol.Protocol.{Protocol}
+use Rattle.cell_drive.specs.{declared.protocol.Protocol.Protocol, Refusals.CanClaim, AnswerText.DrivenCell}
+use Rattle.cell_drive.specs.{OneRun.cell_after, ProtocolText.ProtocolAnswers, ProtocolLaw.named}
 use Rattle.cell_drive.specs.Resuming.{again_text, driven_so_far, IsRunToRest}
+use Rattle.drive_laws.specs.VersionsLaw.{AreOfVersion1, IsPlainText, in_version}
 
 -- so it is while lines are answered behind a run to rest in which it was reported
 abbrev pub NothingOfALogIsAcceptedAgain : Type 0

@@ -1,23 +1,14 @@
 -- The law that the reports which are accepted by a protocol are answered as version 1 of the lines answers them.
 use Rattle.std.specs.Prelude.{◌≡◌, ℕ, List, [], ◌++◌, Bool, Option}
-use Rattle.shop_base.specs.declared.move_order.MoveOrder.{MoveOrder}
-use Rattle.shop_base.specs.declared.report.Report.{Report}
-use Rattle.shop_base.specs.Plan.{PlannedShop, IsWellShaped}
-use Rattle.shop_base.specs.Cell.{Cell, start}
-use Rattle.shop_base.specs.Run.{IsRun}
-use Rattle.cell_tables.specs.declared.entry.Entry.{Entry}
-use Rattle.cell_tables.specs.Events.{events_of}
+use Rattle.shop_base.specs.{declared.move_order.MoveOrder.MoveOrder, declared.report.Report.Report, Run.IsRun}
+use Rattle.shop_base.specs.{Plan.PlannedShop, Plan.IsWellShaped, Cell.Cell, Cell.start}
+use Rattle.cell_tables.specs.{declared.entry.Entry.Entry, Events.events_of}
 use Rattle.byte_streams.specs.Answering.{AnswerAll}
-use Rattle.event_lines.specs.ReadBack.{IsSpaceless}
+use Rattle.event_lines.specs.{declared.details.Detail.Detail, declared.details.Overdue.Overdue, ReadBack.IsSpaceless}
 use Rattle.event_lines.specs.StandingLines.{refused_detail_line}
-use Rattle.event_lines.specs.declared.details.Detail.{Detail}
-use Rattle.event_lines.specs.declared.details.Overdue.{Overdue}
-use Rattle.cell_drive.specs.declared.protocol.Protocol.{Protocol}
+use Rattle.cell_drive.specs.{declared.protocol.Protocol.Protocol, LineAnswers.accepted_lines, States.state_text}
 use Rattle.cell_drive.specs.AnswerText.{DrivenCell, CellAnswers, AreAnswersTo}
-use Rattle.cell_drive.specs.LineAnswers.{accepted_lines}
-use Rattle.cell_drive.specs.States.{state_text}
-use Rattle.cell_drive.specs.ProtocolText.{ProtocolAnswers, acceptance_lines}
-use Rattle.cell_drive.specs.ProtocolCellsLaw.{SeesLines}
+use Rattle.cell_drive.specs.{ProtocolText.ProtocolAnswers, ProtocolText.acceptance_lines, ProtocolCellsLaw.SeesLines}
 use Rattle.drive_laws.specs.AnswerLaw.{AreReportLines}
 
 -- a text of answers, and the same without refusals and states, without what stands behind the moment of a late report, and without an end that is printed at once

@@ -1,31 +1,20 @@
 -- The law that a line of version 2 has at most 128 bytes.
 use Rattle.std.specs.Prelude.{◌≡◌, ℕ, ◌<◌, ◌≤◌, List, [], ◌++◌, length, Some}
-use Rattle.shop_base.specs.declared.limits.TheConstants.{MAX_MOMENT}
-use Rattle.shop_base.specs.declared.report.Report.{Report}
+use Rattle.shop_base.specs.{declared.limits.TheConstants.MAX_MOMENT, declared.report.Report.Report, Cell.Cell}
+use Rattle.shop_base.specs.{declared.move_order.Spot.Spot, Report.at, Report.CanReport, Run.IsRun}
+use Rattle.shop_base.specs.declared.move_order.Spot.TheVariants.{Out, At}
 use Rattle.shop_base.specs.Plan.{PlannedShop, IsWellShaped, jobs, machines}
-use Rattle.shop_base.specs.Cell.{Cell}
-use Rattle.shop_base.specs.Report.{at, CanReport}
-use Rattle.shop_base.specs.Run.{IsRun}
 use Rattle.text_lines.specs.declared.limits.TheConstants.{MAX_INPUT}
 use Rattle.byte_streams.specs.Lines.{input_lines}
-use Rattle.cell_tables.specs.declared.entry.Entry.{Entry}
-use Rattle.cell_tables.specs.Events.{events_of}
-use Rattle.cell_tables.specs.Standings.{job_standing, machine_standing}
-use Rattle.event_lines.specs.declared.requests.Claim.{Claim}
-use Rattle.event_lines.specs.Requests.{claimed}
-use Rattle.cell_drive.specs.declared.protocol.Protocol.{Protocol}
-use Rattle.cell_drive.specs.OneRun.{cell_after}
-use Rattle.cell_drive.specs.ProtocolText.{IsClaimAccepted}
-use Rattle.cell_drive.specs.States.{overdue_in}
-use Rattle.shop_base.specs.declared.move_order.Spot.{Spot}
-use Rattle.shop_base.specs.declared.move_order.Spot.TheVariants.{Out, At}
-use Rattle.cell_tables.specs.declared.standing.Standing.{Standing}
+use Rattle.cell_tables.specs.{declared.entry.Entry.Entry, declared.standing.Standing.Standing, Events.events_of}
 use Rattle.cell_tables.specs.declared.standing.Standing.TheVariants.{Awaited, Outside, Worked, Done, Gone, Cleaned, Clean}
-use Rattle.event_lines.specs.declared.details.Detail.{Detail}
+use Rattle.cell_tables.specs.Standings.{job_standing, machine_standing}
+use Rattle.event_lines.specs.{declared.requests.Claim.Claim, declared.details.Detail.Detail, Requests.claimed}
 use Rattle.event_lines.specs.declared.details.Detail.TheVariants.{Nothing, Last, Stands}
 use Rattle.event_lines.specs.declared.details.Overdue.{Overdue}
 use Rattle.event_lines.specs.StandingLines.{unfinished_standing_line, refused_detail_line, late_overdue_line}
-use Rattle.cell_drive.specs.declared.refusals.Refusal.{Refusal}
+use Rattle.cell_drive.specs.{declared.protocol.Protocol.Protocol, declared.refusals.Refusal.Refusal, OneRun.cell_after}
+use Rattle.cell_drive.specs.{ProtocolText.IsClaimAccepted, States.overdue_in}
 use Rattle.cell_drive.specs.Refusals.{IsRefusal, refusal_detail, refusal_word, standing_of}
 
 -- the number of a job or of a machine has at most three digits

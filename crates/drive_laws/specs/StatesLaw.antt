@@ -1,7 +1,6 @@
 -- The law that a state has a line of each job that isn't gone and of each machine that is being cleaned, and no other.
 use Rattle.std.specs.Prelude.{◌≡◌, ◌↔◌, ℕ, None, true}
-use Rattle.shop_base.specs.Plan.{PlannedShop}
-use Rattle.shop_base.specs.Cell.{Cell, cleaning, IsGone}
+use Rattle.shop_base.specs.{Plan.PlannedShop, Cell.Cell, Cell.cleaning, Cell.IsGone}
 use Rattle.cell_tables.specs.Standings.{job_standing, machine_standing}
 use Rattle.cell_drive.specs.States.{is_over}
 

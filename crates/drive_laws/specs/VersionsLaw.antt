@@ -1,21 +1,14 @@
 -- The law that version 2 of the lines only adds to the answers of version 1.
 use Rattle.std.specs.Prelude.{◌≡◌, ℕ, List, [], ◌∷◌, ◌++◌, Bool, true, false, Option, None, Some}
-use Rattle.shop_base.specs.declared.move_order.MoveOrder.{MoveOrder}
-use Rattle.shop_base.specs.Plan.{PlannedShop}
-use Rattle.shop_base.specs.declared.report.Report as reports
+use Rattle.shop_base.specs.{declared.move_order.MoveOrder.MoveOrder, Plan.PlannedShop}
 use Rattle.byte_streams.specs.Answering.{AnswerAll}
-use Rattle.event_lines.specs.EventLines.{order_line}
-use Rattle.event_lines.specs.AnswerLines.{refused_line}
-use Rattle.event_lines.specs.StandingLines.{refused_detail_line}
-use Rattle.event_lines.specs.declared.details.Detail.{Detail}
-use Rattle.event_lines.specs.declared.details.Overdue.{Overdue}
-use Rattle.event_lines.specs.declared.requests.Claim.TheVariants.{Report}
-use Rattle.event_lines.specs.declared.requests.Request.{Request}
-use Rattle.event_lines.specs.declared.requests.Request.TheVariants.{Claim as ClaimRequest}
-use Rattle.event_lines.specs.Requests.{IsRequestLine}
-use Rattle.cell_drive.specs.declared.protocol.Protocol.{Protocol}
-use Rattle.cell_drive.specs.AnswerText.{DrivenCell}
+use Rattle.event_lines.specs.{declared.details.Detail.Detail, declared.details.Overdue.Overdue, EventLines.order_line}
+use Rattle.event_lines.specs.{declared.requests.Claim.TheVariants.Report, declared.requests.Request.Request}
+use Rattle.event_lines.specs.{declared.requests.Request.TheVariants.Claim as ClaimRequest, AnswerLines.refused_line}
+use Rattle.event_lines.specs.{StandingLines.refused_detail_line, Requests.IsRequestLine}
+use Rattle.cell_drive.specs.{declared.protocol.Protocol.Protocol, AnswerText.DrivenCell}
 use Rattle.cell_drive.specs.ProtocolText.{ProtocolAnswers, acceptance_lines}
+use Rattle.shop_base.specs.declared.report.Report as reports
 
 -- the line asks for nothing that version 1 doesn't have: neither `status` nor `clean M J T`
 abbrev pub IsOfVersion1 : Option (List ℕ) → Type 0

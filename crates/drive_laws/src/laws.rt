@@ -3,36 +3,32 @@
 
 // Nothing is done here: a function's contract is the law, so a check of this crate proves it.
 
-ghost use Rattle.cell_drive.specs.AuditLaw.{AnAnswerTextIsALog};
+ghost use Rattle.cell_drive.specs.{AuditLaw.AnAnswerTextIsALog, ProtocolCellsLaw.PlainlyAsEverForCells};
 ghost use Rattle.cell_drive.specs.CutLaw.{ACutLogIsRecovered, WhatWasDrivenIsRecovered, WhatWasResumedIsRecovered};
 ghost use Rattle.cell_drive.specs.CutLaw.{WhatWasResumedIsRecoverable, ACutLogHasItsOrders, WhatWasDrivenHasItsOrders};
 ghost use Rattle.cell_drive.specs.CutLaw.{ItIsRecoverable, ItIsRecoveredWithItsOrders};
 ghost use Rattle.cell_drive.specs.Resuming.{AResumedTextIsALog, AnAuditKeepsWhatWasResumed, OneResumedText};
 ghost use Rattle.cell_drive.specs.Resuming.{WhatWasResumedIsSuchAText, WhatWasResumedGoesOn};
-ghost use Rattle.cell_drive.specs.ProtocolCellsLaw.{OneCellsText, OneCellsTextForLines};
-ghost use Rattle.cell_drive.specs.ProtocolCellsLaw.{EachProtocolCellIsAlone, PlainlyAsEverForCells};
+ghost use Rattle.cell_drive.specs.ProtocolCellsLaw.{OneCellsText, OneCellsTextForLines, EachProtocolCellIsAlone};
 ghost use Rattle.cell_drive.specs.ProtocolLaw.{OneAnswerText, OneTextForLines, ASessionAnswersSo};
+ghost use Rattle.cell_drive.specs.ProtocolLaw.{ALateReportFindsSomethingOverdue};
 ghost use Rattle.cell_drive.specs.ProtocolLaw.{AnAuditKeepsWhatWasDriven, PlainlyAsEver, PlainReplay};
 ghost use Rattle.cell_drive.specs.ProtocolLaw.{NothingIsAcceptedTwice, NothingOfARunIsClaimedAgain};
-ghost use Rattle.cell_drive.specs.ProtocolLaw.{ALateReportFindsSomethingOverdue};
 ghost use Rattle.drive_laws.specs.AnswerLaw.{ReplayAsAnswered, ReplayInProtocol};
-ghost use Rattle.drive_laws.specs.OneRunLaw.{ItIsRecoveredAsOne, ItIsOneSoFar};
-ghost use Rattle.drive_laws.specs.OneRunLaw.{ADrivenRunGoesOnAsOne, ItStaysAsPromised};
-ghost use Rattle.drive_laws.specs.OneRunLaw.{TheFirstEventsHaveTheirOrders, WhatWasResumedHasItsOrders};
-ghost use Rattle.drive_laws.specs.CellsAlone.{EachCellIsAsAlone};
-ghost use Rattle.drive_laws.specs.CellsVersionsLaw.{Version2OnlyAddsForCells};
+ghost use Rattle.drive_laws.specs.OneRunLaw.{ItIsRecoveredAsOne, ItIsOneSoFar, ADrivenRunGoesOnAsOne};
+ghost use Rattle.drive_laws.specs.OneRunLaw.{ItStaysAsPromised, TheFirstEventsHaveTheirOrders};
+ghost use Rattle.drive_laws.specs.{OneRunLaw.WhatWasResumedHasItsOrders, CellsAlone.EachCellIsAsAlone};
+ghost use Rattle.drive_laws.specs.{CellsVersionsLaw.Version2OnlyAddsForCells, LeapLaw.NoPunctualReportLeaps};
 ghost use Rattle.drive_laws.specs.FloorLaw.{NothingIsOrderedWrongly, ADrivenCellOrdersRightly};
 ghost use Rattle.drive_laws.specs.FloorLaw.{ARunThatGoesOnOrdersRightly, EachCellOrdersRightly};
-ghost use Rattle.drive_laws.specs.LeapLaw.{NoPunctualReportLeaps};
 ghost use Rattle.drive_laws.specs.ResumedLaw.{NothingOfALogIsAcceptedAgain, ResumingOnlyAdds};
-ghost use Rattle.drive_laws.specs.SameReportsLaw.{TheSameReportsAreAnsweredSo};
-ghost use Rattle.drive_laws.specs.SameReportsLaw.{TheSameReportsOfACell, EachReportHasALine};
+ghost use Rattle.drive_laws.specs.SameReportsLaw.{TheSameReportsAreAnsweredSo, TheSameReportsOfACell};
+ghost use Rattle.drive_laws.specs.{SameReportsLaw.EachReportHasALine, VersionsLaw.Version2OnlyAdds};
 ghost use Rattle.drive_laws.specs.ShortLinesLaw.{StateLinesAreShort, RefusalsAreShort, LateLinesAreShort};
 ghost use Rattle.drive_laws.specs.ShortLinesLaw.{StandingsAreShort, DetailsAreShort, OverdueIsShort};
 ghost use Rattle.drive_laws.specs.ShortLinesLaw.{LineNumbersAreShort, AnswersAreShort};
 ghost use Rattle.drive_laws.specs.StatesLaw.{OnlyGoneJobsAreLeftOut, OnlyCleanMachinesAreLeftOut};
 ghost use Rattle.drive_laws.specs.RecoveryLaw.{OneRecovery, OneTextFromALog, ALogWithoutEventsIsDriven};
-ghost use Rattle.drive_laws.specs.VersionsLaw.{Version2OnlyAdds};
 
 pub use byte_streams::laws::the_limits_of_an_input_in_numbers;
 
@@ -79,6 +75,7 @@ pub fn an_audit_keeps_what_was_driven()
 /// So it is with what a cell has written by any protocol, from the start of its run or from where that was recovered;
 /// and what was recovered can be recovered again by the same plan, wherever the line of its first event is out, or the
 /// plan is an accepted one.
+#[tactic(auto, using(crate::proofs::LawProofs::of_a_cut_log_is_recovered))]
 pub fn a_cut_log_is_recovered()
     ensures log { ACutLogIsRecovered }
     ensures driven { WhatWasDrivenIsRecovered }
@@ -148,6 +145,7 @@ pub fn what_was_resumed_goes_on()
 /// its own budgets, as if the run had never been cut. Cut what is written after any number of bytes, and it has the
 /// orders that are due again, as the log had. So have any lines that record the first events of the run, as those of a
 /// log file do.
+#[tactic(auto, using(crate::proofs::LawProofs::of_a_driven_run_goes_on_as_one))]
 pub fn a_driven_run_goes_on_as_one()
     ensures run { ADrivenRunGoesOnAsOne }
     ensures promised { ItStaysAsPromised }
@@ -160,7 +158,7 @@ pub fn a_driven_run_goes_on_as_one()
 /// Let cells by accepted plans answer any lines by a protocol. Each of them answers what the lines ask of it as it
 /// would alone, whatever they ask of the others: these events are the controlled run of some reports, through which all
 /// stays as the plan promises, and which has ended exactly where as many reports were accepted as the stated number.
-#[tactic(auto, using(crate::proofs::ProtocolAlone::protocol_alone))]
+#[tactic(auto, using(crate::proofs::CellsAlone::protocol_alone))]
 pub fn each_protocol_cell_is_alone()
     ensures { EachProtocolCellIsAlone }
 {}
@@ -182,6 +180,7 @@ pub fn plainly_as_ever()
 /// reports that were accepted leads to the same cell, with the same events. It is what was answered to the lines,
 /// without refusals and states, what stands after a late report's moment, and the `done` that comes at once. Each of
 /// several cells has the same events, too.
+#[tactic(auto, using(crate::proofs::LawProofs::of_version_2_only_adds))]
 pub fn version_2_only_adds()
     ensures answered { Version2OnlyAdds }
     ensures resumed { ResumingOnlyAdds }
@@ -194,6 +193,7 @@ pub fn version_2_only_adds()
 /// However often the lines of an arrival, of a finish or of a cleaning after a job are sent to a driven cell, and with
 /// whatever moments, it takes one of them at most. Once there is such a report in a run, it takes none: so in the run
 /// of each cell of a hub, and in one that was recovered from a log.
+#[tactic(auto, using(crate::proofs::LawProofs::of_nothing_is_accepted_twice))]
 pub fn nothing_is_accepted_twice()
     ensures driven { NothingIsAcceptedTwice }
     ensures run { NothingOfARunIsClaimedAgain }

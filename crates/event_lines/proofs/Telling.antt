@@ -50,7 +50,7 @@ passed (Gone job at) = refl
 passed (Cleaned machine job since due) = refl
 passed (CleanMachine machine) = refl
 
-detail_spaceless : (detail : Detail) → AreSpaceless (detail_words detail)
+pub detail_spaceless : (detail : Detail) → AreSpaceless (detail_words detail)
 detail_spaceless Nothing = tt
 detail_spaceless (Last at) = (refl, (decimal_spaceless at, tt))
 detail_spaceless (Stands standing) = standing_spaceless standing
@@ -70,7 +70,7 @@ module _ (p : PlannedShop) where
   pub parses_both : (first second : List ℕ) (own more : List Entry) → ParsesFirst p first own → ParsesFirst p second more → ParsesFirst p (first ++ second) (own ++ more)
   parses_both first second own more one other rest later tells =
       subst (λ (text : List ℕ). LinesParse p (lines_of text) ((own ++ more) ++ later)) (sym (append_assoc first second rest))
-      (subst (λ (told : List Entry). LinesParse p (lines_of (first ++ (second ++ rest))) told) (sym (append_assoc own more later))
+      (subst (λ (entries : List Entry). LinesParse p (lines_of (first ++ (second ++ rest))) entries) (sym (append_assoc own more later))
       (one (second ++ rest) (more ++ later) (other rest later tells)))
 
   parses_line : (words : List Word) (own : List Entry) → AreSpaceless words → LineParses p (words_before words []) own → ParsesFirst p (line_of words) own
@@ -94,13 +94,13 @@ module _ (p : PlannedShop) where
   -- ---- the words of an entry of the shop
 
   module _ (shaped : IsWellShaped p) where
-    job_fits : (j : ℕ) → j < jobs p → IsFitting (short j)
+    pub job_fits : (j : ℕ) → j < jobs p → IsFitting (short j)
     job_fits j inside = let few = shaped.shop.counts.few_jobs in (omega arith, omega (arith, inside, few), omega (arith, inside, few))
 
-    machine_fits : (m : ℕ) → m < machines p → IsFitting (short m)
+    pub machine_fits : (m : ℕ) → m < machines p → IsFitting (short m)
     machine_fits m inside = let few = shaped.shop.counts.few_machines in (omega arith, omega (arith, inside, few), omega (arith, inside, few))
 
-    moment_fits : (at : ℕ) → at ≤ MAX_MOMENT → IsFitting (moment at)
+    pub moment_fits : (at : ℕ) → at ≤ MAX_MOMENT → IsFitting (moment at)
     moment_fits at in_range = (omega arith, omega (arith, in_range), omega (arith, in_range))
 
     spot_fits : (spot : Spot) → IsSpotOf p spot → IsFitting (spot_word spot)

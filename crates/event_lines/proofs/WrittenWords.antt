@@ -39,17 +39,17 @@ all_spaceless (word ∷ words) fit = (spaceless word fit.0, all_spaceless words 
 
 -- ---- bytes that aren't in a line
 
-absent_from_word : (byte : ℕ) (word : List ℕ) → byte ≤ 32 → IsSpaceless word → HasNone byte word
+pub absent_from_word : (byte : ℕ) (word : List ℕ) → byte ≤ 32 → IsSpaceless word → HasNone byte word
 absent_from_word byte [] low is_word = tt
 absent_from_word byte (b ∷ word) low is_word =
     let parts = and_parts (nat_lt 32 b) (list_all (λ c. nat_lt 32 c) word) is_word in
     (ne_eqb b byte (λ same. omega (arith, same, low, ltb-true 32 b parts.0)), absent_from_word byte word low parts.1)
 
-absent_from_both : (byte : ℕ) (front back : List ℕ) → HasNone byte front → HasNone byte back → HasNone byte (front ++ back)
+pub absent_from_both : (byte : ℕ) (front back : List ℕ) → HasNone byte front → HasNone byte back → HasNone byte (front ++ back)
 absent_from_both byte [] back first second = second
 absent_from_both byte (b ∷ front) back first second = (first.0, absent_from_both byte front back first.1 second)
 
-absent_from_words : (byte : ℕ) (words : List Word) → byte < 32 → AreSpaceless words → HasNone byte (words_before words [])
+pub absent_from_words : (byte : ℕ) (words : List Word) → byte < 32 → AreSpaceless words → HasNone byte (words_before words [])
 absent_from_words byte [] low are = tt
 absent_from_words byte (word ∷ []) low are = absent_from_both byte (written word) [] (absent_from_word byte (written word) (omega (arith, low)) are.0) tt
 absent_from_words byte (word ∷ next ∷ words) low are =

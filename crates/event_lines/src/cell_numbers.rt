@@ -1,6 +1,6 @@
 //! The number of a cell before a line, if there are several cells.
 
-ghost use Rattle.std.specs.Prelude.{◌≡◌, MatchOption};
+ghost use Rattle.std.specs.Prelude.{◌≡◌, ◌≤◌, length, MatchOption};
 ghost use Rattle.event_lines.specs.SentLines.{IsCellReport, IsNoCellReport, cell_prefix};
 
 use crate::line_text::LineText;
@@ -10,7 +10,8 @@ use shop_base::Report;
 
 /// What comes before a line of an answer: the cell's number and a space.
 pub fn cell_prefix(cell: u64) -> LineText
-    ensures { result ≡ cell_prefix cell }
+    ensures prefix { result ≡ cell_prefix cell }
+    ensures length { length result ≤ 21 }
 {
     let mut prefix = LineText::empty();
     prefix.put_text(b" ");

@@ -4,9 +4,8 @@ ghost use Rattle.std.specs.Prelude.{◌≡◌, ◌+◌, ◌≤◌, [], ◌∷◌
 ghost use Rattle.shop_base.specs.Report.{at};
 ghost use Rattle.text_lines.specs.Searches.{SomeIfAny};
 ghost use Rattle.event_lines.specs.Words.{moment, words_before, IsReadAs};
-ghost use Rattle.event_lines.specs.EventLines.{end_words, logged_words, report_line};
+ghost use Rattle.event_lines.specs.EventLines.{end_words, logged_words};
 
-use crate::line_text::LineText;
 use crate::words::{number_first, short_last};
 use shop_base::{JobNo, MachineNo, Moment, Report};
 use text_lines::after_prefix;
@@ -64,15 +63,6 @@ pub(crate) fn put_report_words<const ROOM: usize>(
         Report::Finish { job, machine, at } => put_finish(line, job, machine, at),
         Report::Clean { machine, at } => put_ended(line, b" clean ", machine, at),
     }
-}
-
-/// Writes the line of an accepted report.
-#[inline(always)]
-pub fn put_report(line: &mut LineText, report: Report)
-    requires { line.old ≡ 10 ∷ [] }
-    ensures { line.new ≡ report_line report }
-{
-    put_report_words(line, report);
 }
 
 /// What has ended at this moment, by these words.

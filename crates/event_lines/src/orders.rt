@@ -3,10 +3,9 @@
 ghost use Rattle.std.specs.Prelude.{◌≡◌, ◌+◌, ◌≤◌, [], ◌∷◌, ◌++◌, length};
 ghost use Rattle.text_lines.specs.Searches.{SomeIfAny, SomePairIfAny};
 ghost use Rattle.event_lines.specs.Words.{written, words_before, IsReadAs};
-ghost use Rattle.event_lines.specs.EventLines.{spot_word, move_words, order_words, order_line};
+ghost use Rattle.event_lines.specs.EventLines.{spot_word, move_words, order_words};
 ghost use Rattle.event_lines.specs.FirstWords.{TakesFirst, IsOnly};
 
-use crate::line_text::LineText;
 use crate::words::{number_first, short_last};
 use shop_base::{JobNo, MachineNo, MoveOrder, Spot};
 use text_lines::after_prefix;
@@ -42,15 +41,6 @@ pub(crate) fn put_order_words<const ROOM: usize>(
     line.put_text(b" ");
     line.put_number(order.at);
     line.put_text(b"order ");
-}
-
-/// Writes the line of a move order.
-#[inline(always)]
-pub fn put_order(line: &mut LineText, order: MoveOrder)
-    requires { line.old ≡ 10 ∷ [] }
-    ensures { line.new ≡ order_line order }
-{
-    put_order_words(line, order);
 }
 
 /// The spot that the word before the first space is, and the words after it.

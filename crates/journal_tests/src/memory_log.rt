@@ -96,9 +96,9 @@ impl MemoryLog {
         self.calls
     }
 
-    /// Answers this fault.
-    fn told<T: Drop>(&mut self, fault: FileFault) -> Result<T, FileFault>
-        ensures told { result ≡ Err fault }
+    /// Notes this fault and answers it.
+    fn fails<T: Drop>(&mut self, fault: FileFault) -> Result<T, FileFault>
+        ensures answered { result ≡ Err fault }
         ensures seen { self.new.seen ≡ self.old.seen }
         ensures most { self.new.most ≡ self.old.most }
         ensures least { self.new.least ≡ self.old.least }
@@ -109,17 +109,15 @@ impl MemoryLog {
         self.fault = Some(fault);
         Err(fault)
     }
+}
 
-    /// Counts a call, and answers whether it doesn't fail.
-    fn passes(&mut self) -> bool
-        ensures { self.new ≡ self.old }
-    {
-        if self.calls == 0 {
-            return false;
-        }
-        self.calls -= 1;
-        true
+/// Counts a call of which so many don't fail any more, and answers whether it doesn't.
+pub(crate) fn passes(calls: &mut usize) -> bool {
+    if *calls == 0 {
+        return false;
     }
+    *calls -= 1;
+    true
 }
 
 impl LogFile for MemoryLog {
@@ -135,31 +133,31 @@ impl LogFile for MemoryLog {
     ghost written = { λ m. m.written };
 
     fn read(&mut self, alloc: Global, most: usize) -> Result<Vec<u8>, FileFault> {
-        if !self.passes() {
-            return self.told(FileFault::Read);
+        if !passes(&mut self.calls) {
+            return self.fails(FileFault::Read);
         }
         if self.len > most {
-            return self.told(FileFault::TooLong);
+            return self.fails(FileFault::TooLong);
         }
         match self.most[..self.len].to_vec(alloc) {
             Ok(bytes) => Ok(bytes),
-            Err(_) => self.told(FileFault::Memory),
+            Err(_) => self.fails(FileFault::Memory),
         }
     }
 
     fn append(&mut self, bytes: &[u8]) -> Result<(), FileFault> {
-        let passes = self.passes();
-        let most = if passes { bytes.len() } else { self.torn };
+        let works = passes(&mut self.calls);
+        let most = if works { bytes.len() } else { self.torn };
         let count = bytes.len().min(most);
         self.written = true;
         self.most.truncate(self.len);
         self.least = self.len;
         self.synced = false;
         if self.most.extend_from_slice(&bytes[..count]).is_err() {
-            return self.told(FileFault::Log);
+            return self.fails(FileFault::Log);
         }
         self.len = self.most.len();
-        if passes {
+        if works {
             return Ok(());
         }
         self.fault = Some(FileFault::Log);
@@ -167,21 +165,21 @@ impl LogFile for MemoryLog {
     }
 
     fn cut(&mut self, len: usize) -> Result<(), FileFault> {
-        let passes = self.passes();
+        let works = passes(&mut self.calls);
         self.written = true;
         self.most.truncate(self.len);
         self.least = len;
         self.synced = false;
-        if !passes {
-            return self.told(FileFault::Log);
+        if !works {
+            return self.fails(FileFault::Log);
         }
         self.len = len;
         Ok(())
     }
 
     fn sync(&mut self) -> Result<(), FileFault> {
-        if !self.passes() {
-            return self.told(FileFault::Log);
+        if !passes(&mut self.calls) {
+            return self.fails(FileFault::Log);
         }
         self.most.truncate(self.len);
         self.least = self.len;

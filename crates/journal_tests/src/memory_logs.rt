@@ -1,6 +1,6 @@
 ghost use Rattle.std.specs.Prelude.{◌≡◌, option_map, bytes_eq};
 
-use crate::memory_log::MemoryLog;
+use crate::memory_log::{MemoryLog, passes};
 use run_journal::{FileFault, Logs};
 use std::alloc::Global;
 use std::marker::Model;
@@ -63,17 +63,6 @@ impl MemoryLogs {
     pub fn has_log(&self) -> (bool, bool) {
         (self.bytes.is_some(), self.named)
     }
-
-    /// Counts a call, and answers whether it doesn't fail.
-    fn passes(&mut self) -> bool
-        ensures { self.new ≡ self.old }
-    {
-        if self.calls == 0 {
-            return false;
-        }
-        self.calls -= 1;
-        true
-    }
 }
 
 impl Logs for MemoryLogs {
@@ -84,7 +73,7 @@ impl Logs for MemoryLogs {
     ghost folder = { folder_of };
 
     fn open(&mut self, path: &str) -> Result<Option<MemoryLog>, FileFault> {
-        if !self.passes() {
+        if !passes(&mut self.calls) {
             self.fault = Some(FileFault::Log);
             return Err(FileFault::Log);
         }
@@ -107,7 +96,10 @@ impl Logs for MemoryLogs {
     }
 
     fn make(&mut self, path: &str) -> Result<MemoryLog, FileFault> {
-        if !self.passes() || self.bytes.is_some() || !are_same(&self.path, path.as_bytes()) {
+        if !passes(&mut self.calls)
+            || self.bytes.is_some()
+            || !are_same(&self.path, path.as_bytes())
+        {
             self.fault = Some(FileFault::Log);
             return Err(FileFault::Log);
         }
@@ -118,7 +110,10 @@ impl Logs for MemoryLogs {
     }
 
     fn sync_name(&mut self, path: &str) -> Result<(), FileFault> {
-        if !self.passes() || self.bytes.is_none() || !are_same(&self.path, path.as_bytes()) {
+        if !passes(&mut self.calls)
+            || self.bytes.is_none()
+            || !are_same(&self.path, path.as_bytes())
+        {
             self.fault = Some(FileFault::Log);
             return Err(FileFault::Log);
         }

@@ -1,44 +1,27 @@
 -- What a crash leaves of a log is recovered.
 use Rattle.std.proofs.Common.{◌≡◌, ℕ, List, [], ◌∷◌, ◌++◌, length, map, drop, Option, refl, sym, ap, ◌∙◌, subst, arith, append_assoc, append-nil, take-append-drop}
 use Rattle.std.proofs.lemmas.List.{append_cancel_left}
-use Rattle.shop_base.specs.declared.move_order.MoveOrder.{MoveOrder}
-use Rattle.shop_base.specs.Plan.{PlannedShop, IsWellShaped}
-use Rattle.shop_base.specs.Cell.{start}
-use Rattle.shop_base.specs.Run.{IsRun, IsAtRest}
-use Rattle.shop_base.specs.Sound.{IsSound}
-use Rattle.shop_base.proofs.Cycles.{ranks_exclude_cycle}
-use Rattle.shop_base.proofs.Keeping.{run-sound}
-use Rattle.shop_base.proofs.ControlledRuns.{events_join}
-use Rattle.text_lines.specs.Lines.{lines_of, ended_lines}
-use Rattle.text_lines.proofs.EndedLines.{ended-more}
+use Rattle.shop_base.specs.{declared.move_order.MoveOrder.MoveOrder, Plan.{PlannedShop, IsWellShaped}, Cell.start}
+use Rattle.shop_base.specs.{Run.{IsRun, IsAtRest}, Sound.IsSound}
+use Rattle.shop_base.proofs.{Cycles.ranks_exclude_cycle, Keeping.run-sound, ControlledRuns.events_join}
+use Rattle.text_lines.{specs.Lines.{lines_of, ended_lines}, proofs.EndedLines.ended-more}
 use Rattle.plan_verifier.specs.Accepted.{HasNoCycle, IsAcceptable}
-use Rattle.cell_tables.specs.declared.entry.Entry.{Entry}
-use Rattle.cell_tables.specs.declared.entry.Entry.TheVariants.{Order as OrderEntry}
-use Rattle.cell_tables.specs.Events.{events_of}
+use Rattle.cell_tables.specs.{declared.entry.Entry.{Entry, TheVariants.Order as OrderEntry}, Events.events_of}
 use Rattle.run_log.proofs.Audits.{events-join}
-use Rattle.event_lines.specs.EventLines.{entry_line, entry_lines, order_lines}
-use Rattle.event_lines.specs.LogLines.{LinesParse}
+use Rattle.event_lines.specs.{EventLines.{entry_line, entry_lines, order_lines}, LogLines.LinesParse}
 use Rattle.event_lines.specs.ReadBack.{ParsesFirst}
-use Rattle.event_lines.proofs.Readings.{parse-parts}
-use Rattle.event_lines.proofs.Telling.{parses_both}
-use Rattle.cell_drive.specs.declared.protocol.Protocol.{Protocol}
-use Rattle.cell_drive.specs.AnswerText.{DrivenCell, undriven}
-use Rattle.cell_drive.specs.ProtocolText.{ProtocolAnswers}
+use Rattle.event_lines.proofs.{Readings.parse-parts, Telling.parses_both}
+use Rattle.cell_drive.specs.{declared.protocol.Protocol.Protocol, AnswerText.{DrivenCell, undriven}}
+use Rattle.cell_drive.specs.{ProtocolText.ProtocolAnswers, Resuming.{due_text, driven_so_far}}
 use Rattle.cell_drive.specs.Recovered.{Recovered, IsRecoveredRun, IsRecovered, plan_of, replayed_events, replayed_cell}
-use Rattle.cell_drive.specs.Resuming.{due_text, driven_so_far}
-use Rattle.cell_drive.proofs.CutLogs.{closing_part}
-use Rattle.cell_drive.proofs.OneText.{IsOnCourse, start_on_course, protocol_lines_keep}
-use Rattle.cell_drive.proofs.OwnRuns.{front_events}
-use Rattle.cell_drive.proofs.ReadBack.{AreParsed, all_parsed, parses_moves}
+use Rattle.cell_drive.proofs.{CutLogs.closing_part, OneText.{IsOnCourse, start_on_course, protocol_lines_keep}}
+use Rattle.cell_drive.proofs.{OwnRuns.front_events, ReadBack.{AreParsed, all_parsed, parses_moves}}
 use Rattle.cell_drive.proofs.ProtocolParses.{protocol_line_parses}
-use Rattle.run_journal.specs.LogFiles.{IsLeft}
-use Rattle.run_journal.specs.WholeLines.{whole_lines}
-use Rattle.run_journal.specs.LoggedLines.{logged}
+use Rattle.run_journal.specs.{LogFiles.IsLeft, WholeLines.whole_lines, LoggedLines.logged}
 use Rattle.run_journal.proofs.Formed.{IsFormed, formed-both, formed-line, left_torn}
-use Rattle.run_journal.proofs.LeftEvents.{left_log, ended_whole}
+use Rattle.run_journal.proofs.{LeftEvents.left_log, ByLines.ended_whole}
 use Rattle.logged_drive.specs.CrashLaw.{IsRecoveredAgain, AreAnswered, IsGiven, ADrivenRunIsRecovered, IsRecoveredOnceMore, ARecoveredRunIsRecovered}
-use Rattle.logged_drive.proofs.FormedAnswers.{all_formed, formed_moves, last_formed}
-use Rattle.logged_drive.proofs.FormedStates.{protocol_formed}
+use Rattle.logged_drive.proofs.{FormedAnswers.{all_formed, formed_moves, last_formed}, FormedStates.protocol_formed}
 
 none_in_front : (front back : List Entry) → front ++ back ≡ [] → front ≡ []
 none_in_front [] back none = refl

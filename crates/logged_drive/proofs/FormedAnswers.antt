@@ -1,31 +1,20 @@
 -- What a driven cell answers, as a log gets it.
 use Rattle.std.proofs.Common.{◌≡◌, ℕ, ◌+◌, ◌<◌, ◌≤◌, List, [], ◌∷◌, Option, ◌⊎◌, inl, inr, refl, sym, subst, arith}
-use Rattle.shop_base.specs.declared.limits.TheConstants.{MAX_MOMENT}
-use Rattle.shop_base.specs.declared.move_order.Spot.{Spot}
-use Rattle.shop_base.specs.declared.move_order.Spot.TheVariants.{Out, At}
-use Rattle.shop_base.specs.declared.report.Report.{Report}
-use Rattle.shop_base.specs.Plan.{PlannedShop, IsWellShaped, jobs, machines}
-use Rattle.shop_base.specs.Cell.{Cell}
-use Rattle.shop_base.specs.Report.{at, after_report}
-use Rattle.shop_base.specs.Move.{order_for, after_move}
-use Rattle.shop_base.specs.Controlled.{AreMoves, IsStep, orders_for, step_orders}
-use Rattle.shop_base.specs.Sound.{IsSound}
-use Rattle.shop_base.specs.declared.report.Report.TheVariants.{Arrive, Finish, Clean}
+use Rattle.shop_base.specs.declared.{limits.TheConstants.MAX_MOMENT, move_order.Spot.{Spot, TheVariants.{Out, At}}}
+use Rattle.shop_base.specs.{declared.report.Report.{Report, TheVariants.{Arrive, Finish, Clean}}, Cell.Cell}
+use Rattle.shop_base.specs.{Plan.{PlannedShop, IsWellShaped, jobs, machines}, Report.{at, after_report}, Sound.IsSound}
+use Rattle.shop_base.specs.{Move.{order_for, after_move}, Controlled.{AreMoves, IsStep, orders_for, step_orders}}
 use Rattle.shop_base.proofs.Keeping.{after_report-sound, after_move-sound}
+use Rattle.cell_tables.specs.declared.entry.Entry.{Entry, TheVariants.{Report as ReportEntry, Order as OrderEntry}}
 use Rattle.cell_tables.specs.Moving.{IsSpotOf}
-use Rattle.cell_tables.specs.declared.entry.Entry.{Entry}
-use Rattle.cell_tables.specs.declared.entry.Entry.TheVariants.{Report as ReportEntry, Order as OrderEntry}
 use Rattle.byte_streams.specs.Answering.{AnswerAll}
-use Rattle.event_lines.specs.Words.{short, moment}
+use Rattle.event_lines.specs.{Words.{short, moment}, AnswerLines.late_words, LogLines.IsEntryOf}
 use Rattle.event_lines.specs.EventLines.{spot_word, logged_words, entry_words, report_line, order_line, order_lines}
-use Rattle.event_lines.specs.AnswerLines.{late_words}
-use Rattle.event_lines.specs.LogLines.{IsEntryOf}
 use Rattle.run_journal.specs.TornEnds.{IsNarrow, AreNarrow}
-use Rattle.cell_drive.specs.AnswerText.{DrivenCell, CellCloses}
-use Rattle.cell_drive.proofs.OneText.{IsOnCourse}
-use Rattle.cell_drive.proofs.ShopEntries.{report_of_shop, order_of_shop}
 use Rattle.run_journal.proofs.Formed.{IsFormed, formed-none, formed-both}
 use Rattle.run_journal.proofs.FormedLines.{formed-entry, formed-done, formed-unfinished}
+use Rattle.cell_drive.specs.AnswerText.{DrivenCell, CellCloses}
+use Rattle.cell_drive.proofs.{OneText.IsOnCourse, ShopEntries.{report_of_shop, order_of_shop}}
 
 pub moment_fits : (at : ℕ) → at ≤ MAX_MOMENT → IsNarrow (moment at)
 moment_fits at in_range = ((omega arith, omega (arith, in_range), omega (arith, in_range)), inl refl)

@@ -1,6 +1,5 @@
 -- What a crash leaves of a log that is driven is of the plan that it names.
-use Rattle.run_journal.specs.Laws.{ACrashKeepsThePlan}
-use Rattle.run_journal.proofs.NamedLogs.{named_last, named_whole}
+use Rattle.run_journal.{specs.Laws.ACrashKeepsThePlan, proofs.NamedLogs.{named_last, named_whole}}
 use Rattle.logged_drive.specs.CrashLaw.{ADrivenLogIsOfItsPlan, ARecoveredLogIsOfItsPlan}
 use Rattle.logged_drive.proofs.Crashes.{driven_run, recovered_again_run}
 

@@ -1,20 +1,13 @@
 -- What a run with a log comes to.
-use Rattle.std.proofs.Common.{◌≡◌, ℕ, List, [], ◌++◌, Option, Some, IfSome, Bool, true, false, Result, Ok, Err, IfOk, inl, inr, refl, ap, ◌∙◌, subst}
-use Rattle.std.specs.Io.KnownBytes.{append_known}
-use Rattle.plan_verifier.specs.Accepted.{VerifiedPlan}
-use Rattle.byte_streams.specs.declared.drive_fault.DriveFault.{DriveFault}
-use Rattle.byte_streams.specs.declared.drive_fault.DriveFault.TheVariants.{Memory, Write}
+use Rattle.std.proofs.Common.{◌≡◌, ℕ, List, [], ◌++◌, Option, Some, IfSome, Bool, true, false, Result, Ok, Err, IfOk, inl, inr, ap, ◌∙◌, subst}
+use Rattle.std.specs.{Prelude.OnOk, Io.KnownBytes.append_known}
+use Rattle.byte_streams.specs.declared.drive_fault.DriveFault.{DriveFault, TheVariants.{Memory, Write}}
 use Rattle.byte_streams.specs.Lent.{Input, Output, Streams}
-use Rattle.cell_drive.specs.declared.protocol.Protocol.{Protocol}
-use Rattle.cell_drive.specs.declared.begin.DriveEnd.{DriveEnd}
-use Rattle.cell_drive.specs.declared.resume.RestEnd.{RestEnd}
-use Rattle.cell_drive.specs.Recovered.{Recovered}
-use Rattle.cell_drive.specs.InProtocol.{IsDriveIn, IsGoneOnIn}
-use Rattle.run_journal.specs.LogFiles.{IsDurable}
-use Rattle.run_journal.specs.WholeLines.{whole_lines}
-use Rattle.run_journal.specs.LoggedLines.{logged}
-use Rattle.run_journal.specs.Logged.{Held, AreInitial, StayInStep}
-use Rattle.run_journal.specs.Laws.{ACrashKeepsWhatWasShown}
+use Rattle.plan_verifier.specs.Accepted.{VerifiedPlan}
+use Rattle.cell_drive.specs.declared.{protocol.Protocol.Protocol, begin.DriveEnd.DriveEnd, resume.RestEnd.RestEnd}
+use Rattle.cell_drive.specs.{Recovered.Recovered, InProtocol.{IsDriveIn, IsGoneOnIn}}
+use Rattle.run_journal.specs.{LogFiles.IsDurable, WholeLines.whole_lines, LoggedLines.logged}
+use Rattle.run_journal.specs.{Logged.{Held, AreInitial, StayInStep}, Laws.ACrashKeepsWhatWasShown}
 use Rattle.run_journal.proofs.Fronts.{if_some-at, if_some-both, if_some-map}
 use Rattle.logged_drive.specs.LoggedRuns.{IsAllInLog, KeepsShown, RunsLogged, nothing_held, output_held}
 
@@ -42,26 +35,21 @@ all_in_log before seen crash_states held printed is unfailed durable steps = if_
 pub at_start : (before : Option (List ℕ × List ℕ)) (seen printed same : Option (List ℕ)) → same ≡ printed → AreInitial before seen printed → IfSome before (λ known. same ≡ Some known.1)
 at_start before seen printed same is are = if_some-map before (λ b both. is ∙ both.1) are
 
--- ---- a run that went to the end of its input
-
-pub ended : (protocol : Protocol) (v : VerifiedPlan) (before after : Streams) (end : DriveEnd) → IsDriveIn protocol v before after (Ok end) → after.output.failed ≡ before.output.failed
-ended protocol v before after end drove = drove.streamed.comes_to.write_unfailed
+-- ---- a run from the start
 
 -- what follows of its end, follows where it has one
-pub at_end : {X E : Type 0} {P : Type 0} (r : Result X E) → ((x : X) → r ≡ Ok x → P) → IfOk r (λ _. P)
-at_end (Ok x) f = f x refl
-at_end (Err e) f = tt
+pub at_end : {X E : Type 0} {P Q : Type 0} (r : Result X E) → (P → Q) → OnOk r P → IfOk r (λ _. Q)
+at_end (Ok x) f holds = f holds
+at_end (Err e) f holds = tt
 
 -- neither a read nor a write has failed at its end
-pub unfailed_at_end : (protocol : Protocol) (v : VerifiedPlan) (before after : Streams) (outcome : Result DriveEnd DriveFault) (end : DriveEnd) → outcome ≡ Ok end → IsDriveIn protocol v before after outcome
-    → after.output.failed ≡ before.output.failed
-unfailed_at_end protocol v before after outcome end is drove = ended protocol v before after end (subst (λ (r : Result DriveEnd DriveFault). IsDriveIn protocol v before after r) is drove)
+pub unfailed : (protocol : Protocol) (v : VerifiedPlan) (before after : Streams) (outcome : Result DriveEnd DriveFault) → IsDriveIn protocol v before after outcome → OnOk outcome (after.output.failed ≡ before.output.failed)
+unfailed protocol v before after (Ok end) drove = drove.streamed.comes_to.write_unfailed
+unfailed protocol v before after (Err fault) drove = tt
 
 -- a write failed, where that is its fault
 pub write_failed : (protocol : Protocol) (v : VerifiedPlan) (before after : Streams) (outcome : Result DriveEnd DriveFault) → outcome ≡ Err Write → IsDriveIn protocol v before after outcome → after.output.failed ≡ true
-write_failed protocol v before after outcome is drove =
-    let failed : IsDriveIn protocol v before after (Err Write) = subst (λ (r : Result DriveEnd DriveFault). IsDriveIn protocol v before after r) is drove in
-    failed.streamed.comes_to.0
+write_failed protocol v before after outcome is drove = (let failed : IsDriveIn protocol v before after (Err Write) = subst (IsDriveIn protocol v before after) is drove in failed.streamed.comes_to.0)
 
 -- ---- a writer that begins
 
@@ -82,30 +70,23 @@ module _ {T : Type 0} (drives : Streams → Streams → Result T DriveFault → 
 
 -- ---- a run that goes on
 
-on-unfailed : (protocol : Protocol) (recovered : Recovered) (before after : Streams) (end : RestEnd) → IsGoneOnIn protocol recovered before after (Ok end) → after.output.failed ≡ before.output.failed
-on-unfailed protocol recovered before after end (inl cut) = (let bad : Ok end ≡ Err Write = cut.0 in absurd (cc bad))
-on-unfailed protocol recovered before after end (inr on) = on.streamed.comes_to.write_unfailed ∙ on.unfailed
+module _ (protocol : Protocol) (recovered : Recovered) (before after : Streams) where
+  pub unfailed_behind : (outcome : Result RestEnd DriveFault) → IsGoneOnIn protocol recovered before after outcome → OnOk outcome (after.output.failed ≡ before.output.failed)
+  unfailed_behind (Ok end) (inl cut) = (let bad : Ok end ≡ Err Write = cut.0 in absurd (cc bad))
+  unfailed_behind (Ok end) (inr on) = on.streamed.comes_to.write_unfailed ∙ on.unfailed
+  unfailed_behind (Err fault) went = tt
 
-on-write_failed : (protocol : Protocol) (recovered : Recovered) (before after : Streams) → IsGoneOnIn protocol recovered before after (Err Write) → after.output.failed ≡ true
-on-write_failed protocol recovered before after (inl cut) = cut.1
-on-write_failed protocol recovered before after (inr on) = on.streamed.comes_to.0
+  at_write : IsGoneOnIn protocol recovered before after (Err Write) → after.output.failed ≡ true
+  at_write (inl cut) = cut.1
+  at_write (inr on) = on.streamed.comes_to.0
 
-on-memory : (protocol : Protocol) (recovered : Recovered) (before after : Streams) → IsGoneOnIn protocol recovered before after (Err Memory) → ⊥
-on-memory protocol recovered before after (inl cut) = (let bad : Err Memory ≡ Err Write = cut.0 in cc bad)
-on-memory protocol recovered before after (inr on) = on.streamed.comes_to
+  pub write_failed_behind : (outcome : Result RestEnd DriveFault) → outcome ≡ Err Write → IsGoneOnIn protocol recovered before after outcome → after.output.failed ≡ true
+  write_failed_behind outcome is went = at_write (subst (IsGoneOnIn protocol recovered before after) is went)
 
-module _ (protocol : Protocol) (recovered : Recovered) (before after : Streams) (outcome : Result RestEnd DriveFault) where
-  went : (same : Result RestEnd DriveFault) → outcome ≡ same → IsGoneOnIn protocol recovered before after outcome → IsGoneOnIn protocol recovered before after same
-  went same is on = subst (λ (r : Result RestEnd DriveFault). IsGoneOnIn protocol recovered before after r) is on
-
-  -- no write has failed at its end
-  pub unfailed_behind : (end : RestEnd) → outcome ≡ Ok end → IsGoneOnIn protocol recovered before after outcome → after.output.failed ≡ before.output.failed
-  unfailed_behind end is on = on-unfailed protocol recovered before after end (went (Ok end) is on)
-
-  -- one has, where that is its fault
-  pub write_failed_behind : outcome ≡ Err Write → IsGoneOnIn protocol recovered before after outcome → after.output.failed ≡ true
-  write_failed_behind is on = on-write_failed protocol recovered before after (went (Err Write) is on)
+  at_memory : IsGoneOnIn protocol recovered before after (Err Memory) → ⊥
+  at_memory (inl cut) = (let bad : Err Memory ≡ Err Write = cut.0 in cc bad)
+  at_memory (inr on) = on.streamed.comes_to
 
   -- memory doesn't run out in it
-  pub no_memory_behind : outcome ≡ Err Memory → IsGoneOnIn protocol recovered before after outcome → ⊥
-  no_memory_behind is on = on-memory protocol recovered before after (went (Err Memory) is on)
+  pub no_memory_behind : (outcome : Result RestEnd DriveFault) → outcome ≡ Err Memory → IsGoneOnIn protocol recovered before after outcome → ⊥
+  no_memory_behind outcome is went = at_memory (subst (IsGoneOnIn protocol recovered before after) is went)

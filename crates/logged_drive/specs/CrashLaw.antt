@@ -5,19 +5,13 @@ use Rattle.text_lines.specs.Lines.{ended_lines, lines_of}
 use Rattle.plan_verifier.specs.Accepted.{IsAcceptable}
 use Rattle.cell_tables.specs.declared.entry.Entry.{Entry}
 use Rattle.byte_streams.specs.Answering.{AnswerAll}
-use Rattle.event_lines.specs.LogLines.{LinesParse}
-use Rattle.event_lines.specs.RunDigits.{AreDigits}
-use Rattle.event_lines.specs.declared.run_digits.RunDigits.{RunDigits}
-use Rattle.cell_drive.specs.declared.protocol.Protocol.{Protocol}
+use Rattle.event_lines.specs.{declared.run_digits.RunDigits.RunDigits, LogLines.LinesParse, RunDigits.AreDigits}
+use Rattle.cell_drive.specs.{declared.protocol.Protocol.Protocol, ProtocolText.ProtocolAnswers}
 use Rattle.cell_drive.specs.AnswerText.{DrivenCell, undriven, CellCloses}
-use Rattle.cell_drive.specs.ProtocolText.{ProtocolAnswers}
 use Rattle.cell_drive.specs.Recovered.{Recovered, replayed_events, IsRecovered, IsRecoverable}
 use Rattle.cell_drive.specs.Resuming.{due_text, driven_so_far}
-use Rattle.run_journal.specs.LogFiles.{IsLeft}
-use Rattle.run_journal.specs.LogRuns.{IsNamedFor, NameLast}
-use Rattle.run_journal.specs.WholeLines.{torn_end, whole_lines}
-use Rattle.run_journal.specs.LoggedLines.{logged}
-use Rattle.run_journal.specs.TornEnds.{is_torn}
+use Rattle.run_journal.specs.{LogFiles.IsLeft, LogRuns.IsNamedFor, LogRuns.NameLast, LoggedLines.logged}
+use Rattle.run_journal.specs.{WholeLines.torn_end, WholeLines.whole_lines, TornEnds.is_torn}
 
 -- what was left can be recovered by the plan: behind the events that the log recorded before, it records the first of those that came, with all that were shown, and its end can be what a crash left of a line
 pub record IsRecoveredAgain (p : PlannedShop) (recorded came : List Entry) (shown left : List ℕ) : Type 0 where

@@ -1,11 +1,8 @@
 -- A run whose events are in a log before they are shown.
 use Rattle.std.specs.Prelude.{◌≡◌, ℕ, List, [], ◌++◌, Option, Some, Bool, false, Result}
 use Rattle.std.specs.Io.KnownBytes.{append_known}
-use Rattle.byte_streams.specs.declared.drive_fault.DriveFault.{DriveFault}
-use Rattle.byte_streams.specs.Lent.{Input, Output, Streams}
-use Rattle.run_journal.specs.WholeLines.{whole_lines}
-use Rattle.run_journal.specs.LoggedLines.{logged}
-use Rattle.run_journal.specs.Laws.{AreLinesOf}
+use Rattle.byte_streams.specs.{declared.drive_fault.DriveFault.DriveFault, Lent.Input, Lent.Output, Lent.Streams}
+use Rattle.run_journal.specs.{WholeLines.whole_lines, LoggedLines.logged, Laws.AreLinesOf}
 use Rattle.run_journal.specs.Logged.{Held, HoldsNothing, StayInStep}
 
 -- a writer that keeps a log, as a run sees it: it has taken what the output has taken, and what it gathers

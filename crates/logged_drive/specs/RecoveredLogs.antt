@@ -1,18 +1,14 @@
 -- A run that is recovered from its log file.
 use Rattle.std.specs.Prelude.{◌≡◌, ℕ, List, length, Bool, true, false, Option, None, Some}
-use Rattle.shop_base.specs.Plan.{PlannedShop}
-use Rattle.shop_base.specs.Run.{IsRun}
+use Rattle.shop_base.specs.{Plan.PlannedShop, Run.IsRun}
 use Rattle.text_lines.specs.Lines.{ended_lines, lines_of}
-use Rattle.cell_tables.specs.declared.entry.Entry.{Entry}
-use Rattle.cell_tables.specs.Events.{events_of}
+use Rattle.cell_tables.specs.{declared.entry.Entry.Entry, Events.events_of}
 use Rattle.event_lines.specs.LogLines.{LinesParse}
 use Rattle.cell_drive.specs.declared.resume_fault.ResumeFault.{ResumeFault}
 use Rattle.cell_drive.specs.declared.resume_fault.ResumeFault.TheVariants.{Log, Past, Refused, Memory}
 use Rattle.cell_drive.specs.ResumeFaults.{IsResumeFault, IsOnlyLogFault}
-use Rattle.run_journal.specs.declared.file_fault.FileFault.{FileFault}
-use Rattle.run_journal.specs.declared.file_fault.FileFault.TheVariants.{Log as LogFault}
-use Rattle.run_journal.specs.WholeLines.{torn_end, whole_lines}
-use Rattle.run_journal.specs.TornEnds.{is_torn}
+use Rattle.run_journal.specs.{declared.file_fault.FileFault.FileFault, WholeLines.torn_end, WholeLines.whole_lines}
+use Rattle.run_journal.specs.{declared.file_fault.FileFault.TheVariants.Log as LogFault, TornEnds.is_torn}
 use Rattle.logged_drive.specs.declared.recovered_log.RecoverFault.{RecoverFault}
 use Rattle.logged_drive.specs.declared.recovered_log.RecoverFault.TheVariants.{Resume, NoTornEnd, File}
 

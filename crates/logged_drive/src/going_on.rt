@@ -4,11 +4,8 @@ ghost use Rattle.std.specs.Prelude.{◌≡◌, ◌≢◌, ℕ, [], Option, None,
 ghost use Rattle.shop_base.specs.Plan.{PlannedShop};
 ghost use Rattle.text_lines.specs.Lines.{ended_lines};
 ghost use Rattle.byte_streams.specs.Lent.{input_of, output_of};
-ghost use Rattle.cell_drive.specs.Recovered.{IsRecovered, replayed_events};
-ghost use Rattle.cell_drive.specs.InProtocol.{IsGoneOnIn};
-ghost use Rattle.run_journal.specs.LogFiles.{IsDurable};
-ghost use Rattle.run_journal.specs.WholeLines.{whole_lines};
-ghost use Rattle.run_journal.specs.Logged.{AreInitial, fault_if};
+ghost use Rattle.cell_drive.specs.{Recovered.IsRecovered, Recovered.replayed_events, InProtocol.IsGoneOnIn};
+ghost use Rattle.run_journal.specs.{LogFiles.IsDurable, WholeLines.whole_lines, Logged.AreInitial, Logged.fault_if};
 ghost use Rattle.logged_drive.specs.CrashLaw.{IsRecoveredAfter};
 ghost use Rattle.logged_drive.specs.LoggedRuns.{IsAllInLog, KeepsShown, RunsLogged};
 

@@ -2,12 +2,11 @@
 
 ghost use Rattle.std.specs.Prelude.{◌≡◌, ◌≢◌, [], None, Some, true, false, Err, IfOk, IfSome};
 ghost use Rattle.text_lines.specs.Lines.{ended_lines};
+ghost use Rattle.plan_verifier.specs.Accepted.{IsVerified};
 ghost use Rattle.byte_streams.specs.Lent.{input_of, output_of};
 ghost use Rattle.event_lines.specs.LogLines.{LinesParse};
 ghost use Rattle.cell_drive.specs.InProtocol.{IsDriveIn};
-ghost use Rattle.run_journal.specs.LogFiles.{IsDurable};
-ghost use Rattle.run_journal.specs.WholeLines.{whole_lines};
-ghost use Rattle.run_journal.specs.Logged.{AreInitial, fault_if};
+ghost use Rattle.run_journal.specs.{LogFiles.IsDurable, WholeLines.whole_lines, Logged.AreInitial, Logged.fault_if};
 ghost use Rattle.logged_drive.specs.CrashLaw.{IsRecoveredAfter};
 ghost use Rattle.logged_drive.specs.LoggedRuns.{IsAllInLog, KeepsShown, RunsLogged};
 
@@ -27,6 +26,13 @@ pub struct LoggedEnd<T: Drop, W: Drop, D: Drop> {
     pub log: D,
     /// The output.
     pub output: W,
+}
+
+/// Says that the plan of a cell that is to be driven is an accepted one.
+fn is_of_accepted_plan(begun: &Begun)
+    ensures { IsVerified begun.now.verified }
+{
+    let _verified = begun.verified();
 }
 
 /// Drives the cell of an accepted plan, as [`drive_begun`] does, with a log that is on the disk. What a log gets of the
@@ -73,7 +79,7 @@ pub fn drive_logged<R: Source, W: BufferedSink + Drop, D: LogFile + Drop, B: Ini
 {
     // Called for their clauses alone.
     a_crash_keeps_what_was_shown();
-    let _plan = begun.verified().shaped();
+    is_of_accepted_plan(&begun);
     let mut writer = Logged::new(room, log, output, before);
     let end = drive_begun(begun, reader, &mut writer);
     let log_failed = writer.has_log_failed();

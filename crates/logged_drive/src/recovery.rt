@@ -5,12 +5,10 @@ ghost use Rattle.shop_base.specs.declared.limits.TheConstants.{MAX_MOMENT};
 ghost use Rattle.text_lines.specs.Lines.{ended_lines, lines_of};
 ghost use Rattle.cell_drive.specs.Recovered.{IsRecoverable, IsRecovered};
 ghost use Rattle.event_lines.specs.RunDigits.{AreDigits};
-ghost use Rattle.run_journal.specs.LogFiles.{HasFailed, IsDurable};
-ghost use Rattle.run_journal.specs.LogRuns.{IsNamedFor, IsNamedOrNot};
-ghost use Rattle.run_journal.specs.TornEnds.{is_torn};
-ghost use Rattle.run_journal.specs.WholeLines.{torn_end, whole_lines};
-ghost use Rattle.logged_drive.specs.RecoveredLogs.{IsOfDevice, IsOfText, IsOnlyRecoverFault};
-ghost use Rattle.logged_drive.specs.RecoveredLogs.{IsRecoverFault, file_fault};
+ghost use Rattle.run_journal.specs.{LogFiles.HasFailed, LogFiles.IsDurable, LogRuns.IsNamedFor, LogRuns.IsNamedOrNot};
+ghost use Rattle.run_journal.specs.{TornEnds.is_torn, WholeLines.torn_end, WholeLines.whole_lines};
+ghost use Rattle.logged_drive.specs.RecoveredLogs.{IsOfDevice, IsOfText, IsOnlyRecoverFault, IsRecoverFault};
+ghost use Rattle.logged_drive.specs.RecoveredLogs.{file_fault, want_of_memory};
 
 use crate::recovered_log::{RecoverFault, RecoveredLog};
 use cell_drive::{RecoveredRun, ResumeFault, take_up};
@@ -51,6 +49,7 @@ fn recover_text(
             if torn {
                 Ok(recovered)
             } else {
+                drop(recovered);
                 Err(no_torn_end(text))
             }
         }
@@ -67,34 +66,21 @@ fn recover_text(
             if torn {
                 Err(RecoverFault::Resume(ResumeFault::Refused(back, why)))
             } else {
+                drop(back);
+                drop(why);
                 Err(no_torn_end(text))
             }
         }
     }
 }
 
-/// Recovers the run that the whole lines record, with all the memory that it goes on with.
-fn recover_ready(
-    alloc: Global,
-    shaped: Shaped,
-    text: &LogText,
-    at: Option<Moment>,
-) -> Result<RecoveredLog, RecoverFault>
-    requires { IfSome at (λ present. present ≤ MAX_MOMENT) }
-    ensures recovered { IfOk result
-        (λ ready. IsRecovered shaped (ended_lines (whole_lines text.now)) at ready.recovered) }
-    ensures torn { OnOk result (is_torn (torn_end text.now) ≡ true) }
-    ensures fault { IfErr result (IsRecoverFault shaped text.now at) }
-    ensures only_fault { IfErr result (IsOnlyRecoverFault shaped (ended_lines (whole_lines text.now))) }
-    ensures of_text { IfErr result IsOfText }
-    ensures only { IsRecoverable shaped (ended_lines (whole_lines text.now)) at → is_torn (torn_end text.now) ≡ true
-        → IfErr result IsOfDevice }
+/// What was recovered, with the room of the writer that goes on with its log.
+fn with_room<T: Drop>(alloc: Global, recovered: T) -> Result<(T, WritingRoom), RecoverFault>
+    ensures recovered { IfOk result (λ both. both.0 ≡ recovered) }
+    ensures memory { IfErr result (λ fault. fault ≡ want_of_memory) }
 {
-    let recovered = recover_text(alloc, shaped, text, at)?;
-    match WritingRoom::new(alloc) {
-        Ok(room) => Ok(RecoveredLog { recovered, room }),
-        Err(error) => Err(RecoverFault::from(error)),
-    }
+    let room = WritingRoom::new(alloc)?;
+    Ok((recovered, room))
 }
 
 /// Cuts off the torn end of a log that was read, and puts the line of the plan behind its whole lines, unless it is
@@ -104,10 +90,10 @@ fn cut_and_name<D: LogFile>(
     text: &LogText,
     digits: &RunDigits,
 ) -> Result<(), FileFault>
+    requires digits { AreDigits digits.now }
+    requires read { IfSome (D.seen log.old) (λ file. text.now ≡ file) }
     requires durable { IsDurable (D.seen log.old) (D.crash_states log.old) }
     requires unfailed { D.fault log.old ≡ None }
-    requires read { IfSome (D.seen log.old) (λ file. text.now ≡ file) }
-    requires digits { AreDigits digits.now }
     ensures named { OnOk result (IfSome (D.seen log.old)
         (λ file. (base : List ℕ) × IsNamedFor digits.now (whole_lines file) base × (D.seen log.new ≡ Some base))) }
     ensures durable { OnOk result (IsDurable (D.seen log.new) (D.crash_states log.new)) }
@@ -159,9 +145,14 @@ pub fn recover_log<D: LogFile>(
     ensures torn_again { IfSome (D.seen log.old) (λ file. is_torn (torn_end file) ≡ true → (left : List ℕ)
         → D.crash_states log.new left → is_torn (torn_end left) ≡ true) }
 {
-    let ready = recover_ready(alloc, shaped, text, at)?;
+    let recovered = recover_text(alloc, shaped, text, at)?;
+    let (recovered, room) = with_room(alloc, recovered)?;
     match cut_and_name(log, text, digits) {
-        Ok(()) => Ok(ready),
-        Err(fault) => Err(RecoverFault::File(fault)),
+        Ok(()) => Ok(RecoveredLog { recovered, room }),
+        Err(fault) => {
+            drop(recovered);
+            drop(room);
+            Err(RecoverFault::File(fault))
+        }
     }
 }

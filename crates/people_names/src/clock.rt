@@ -5,7 +5,7 @@ ghost use Rattle.people_names.specs.Clocks.{is_digit_pair, pair_at, is_pair_belo
 ghost use Rattle.people_names.specs.Clocks.{is_minute_text, is_second_text, minutes_at, clock_of};
 
 /// What the clock says at moment 0, and how long a moment is.
-#[derive(Clone, Copy, Debug, PartialEq, Eq)]
+#[derive(Clone, Copy, Debug)]
 pub enum Clock {
     /// A moment is a minute: so many minutes past midnight.
     Minutes(u32),

@@ -1,19 +1,16 @@
 //! The keys of a text of names.
 
-ghost use Rattle.std.specs.Prelude.{◌≡◌, not, option_map, string_bytes, Some};
+ghost use Rattle.std.specs.Prelude.{◌≡◌, not, string_bytes, Some};
 ghost use Rattle.std.specs.BTreeMap.{keys};
 ghost use Rattle.std.specs.List.{find};
 ghost use Rattle.std.specs.Option.{option_copied};
-ghost use Rattle.toml.specs.Data.{get_member};
-ghost use Rattle.toml.specs.View.{view, table_view};
-ghost use Rattle.people_names.specs.Keys.{is_known_key, name_of};
-ghost use Rattle.people_names.specs.Answers.{Passes};
-ghost use Rattle.people_names.specs.Faults.{key_faults};
+ghost use Rattle.toml.specs.View.{table_view};
+ghost use Rattle.people_names.specs.{Keys.is_known_key, Keys.name_of, Answers.Passes, Faults.key_faults};
 
 use crate::names_fault::{KeyText, NamesFault};
 use std::alloc::Global;
 use std::fmt;
-use toml::{Table, Value};
+use toml::Table;
 
 /// The key of a text of names that holds what the clock says at moment 0.
 pub(crate) const BEGIN: &str = "begin";
@@ -45,13 +42,6 @@ impl fmt::Display for NamesKey {
     fn fmt<W: fmt::Write>(&self, f: &mut fmt::Formatter<W>) -> fmt::Result {
         f.write_str(self.name())
     }
-}
-
-/// The value of a key, if the table has one.
-pub(crate) fn value_of<'a>(table: &'a Table, key: &str) -> Option<&'a Value>
-    ensures { option_map (λ v. view v.now) result ≡ get_member key.now (table_view table.now) }
-{
-    table.get(key)
 }
 
 fn is_known(key: &str) -> bool

@@ -2,10 +2,8 @@
 
 ghost use Rattle.std.specs.Prelude.{◌≡◌, ◌≤◌, ◌++◌, ℕ, List, [], ◌∷◌, length, map, string_bytes, IfOk, OnOk, Some};
 ghost use Rattle.toml.specs.View.{view, items_view};
-ghost use Rattle.people_names.specs.Answers.{Passes};
-ghost use Rattle.people_names.specs.Faults.{name_faults, each_faults, list_faults};
-ghost use Rattle.people_names.specs.Lists.{AreShort, HasSeen};
-ghost use Rattle.people_names.specs.declared.names.TheConstants.{LONGEST_NAME};
+ghost use Rattle.people_names.specs.{Answers.Passes, Faults.name_faults, Faults.each_faults, Faults.list_faults};
+ghost use Rattle.people_names.specs.{Lists.AreShort, Lists.HasSeen, declared.names.TheConstants.LONGEST_NAME};
 ghost use Rattle.people_names.specs.Reading.{text_in, texts_in, names_at};
 
 use crate::keys::NamesKey;

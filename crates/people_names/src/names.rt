@@ -1,8 +1,7 @@
 ghost use Rattle.std.specs.Prelude.{◌≡◌, ◌+◌, ◌<◌, ◌≤◌, ◌++◌, map, length, slice_get};
 ghost use Rattle.std.specs.Prelude.{option_map, string_bytes, true, None};
 ghost use Rattle.std.specs.List.{All};
-ghost use Rattle.people_names.specs.NameBooks.{no_names};
-ghost use Rattle.people_names.specs.Lists.{AreShort};
+ghost use Rattle.people_names.specs.{NameBooks.no_names, Lists.AreShort};
 ghost use Rattle.people_names.specs.Words.{word_of, job_word, machine_word, two_digits, hour_and_minute};
 ghost use Rattle.people_names.specs.Words.{day_words, minute_words, second_words, moment_by, moment_word};
 ghost use Rattle.people_names.specs.Words.{is_budget_printed, is_deadline_printed};

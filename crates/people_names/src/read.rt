@@ -1,23 +1,30 @@
 //! The reader of names.
 
-ghost use Rattle.std.specs.Prelude.{◌≡◌, ◌≢◌, ◌≤◌, nat_le, map, string_bytes, length, IfOk, IfErr, None, Some};
-ghost use Rattle.toml.specs.View.{table_view};
-ghost use Rattle.people_names.specs.declared.names_fault.NamesFault.{NamesFault};
-ghost use Rattle.people_names.specs.Keys.{value_at, begin_in};
-ghost use Rattle.people_names.specs.NameBooks.{NameBook};
-ghost use Rattle.people_names.specs.Lists.{AreShort};
+ghost use Rattle.std.specs.Prelude.{◌≡◌, ◌≢◌, ◌≤◌, ◌++◌, nat_le, map, option_map};
+ghost use Rattle.std.specs.Prelude.{string_bytes, length, IfOk, IfErr, None, Some};
+ghost use Rattle.toml.specs.{Data.get_member, View.view, View.table_view};
+ghost use Rattle.people_names.specs.{declared.names_fault.NamesFault.NamesFault, Keys.value_at, Keys.begin_in};
+ghost use Rattle.people_names.specs.declared.keys.NamesKey.{NamesKey};
+ghost use Rattle.people_names.specs.{NameBooks.NameBook, Lists.AreShort};
 ghost use Rattle.people_names.specs.Documents.{IsDocument, IsNoDocument, IsNamesText, IsFirstNamesFault};
 ghost use Rattle.people_names.specs.Answers.{IsRead, IsRefused, Passes, PassesExactly};
 ghost use Rattle.people_names.specs.Reading.{names_at, clock_in, names_in};
 ghost use Rattle.people_names.specs.Faults.{list_faults, clock_faults, unless, value_faults, faults_of};
 
 use crate::clock::{Clock, clock_of};
-use crate::keys::{BEGIN, NamesKey, check_known, value_of};
+use crate::keys::{BEGIN, NamesKey, check_known};
 use crate::lists::names_of;
 use crate::names::{Names, names_for_people};
 use crate::names_fault::NamesFault;
 use std::alloc::Global;
-use toml::Table;
+use toml::{Table, Value};
+
+/// The value of a key, if the table has one.
+fn value_of<'a>(table: &'a Table, key: &str) -> Option<&'a Value>
+    ensures { option_map (λ v. view v.now) result ≡ get_member key.now (table_view table.now) }
+{
+    table.get(key)
+}
 
 /// The names of a key, where the table has it.
 fn names_at(alloc: Global, table: &Table, key: NamesKey) -> Result<Vec<String>, NamesFault>
@@ -59,6 +66,25 @@ fn check_count(key: NamesKey, names: &[String], most: usize) -> Result<(), Names
     Ok(())
 }
 
+/// The clock, unless there are more names than there may be.
+fn check_rest(
+    table: &Table,
+    of_jobs: &[String],
+    of_machines: &[String],
+    jobs: usize,
+    machines: usize,
+) -> Result<Option<Clock>, NamesFault>
+    ensures faults { PassesExactly (clock_faults (begin_in (table_view table.now))
+        ++ (unless (nat_le (length of_jobs.now) jobs) (NamesFault.TooManyNames NamesKey.Jobs)
+        ++ unless (nat_le (length of_machines.now) machines) (NamesFault.TooManyNames NamesKey.Machines))) result }
+    ensures value { IfOk result (λ clock. clock ≡ clock_in (begin_in (table_view table.now))) }
+{
+    let clock = clock_in(table)?;
+    check_count(NamesKey::Jobs, of_jobs, jobs)?;
+    check_count(NamesKey::Machines, of_machines, machines)?;
+    Ok(clock)
+}
+
 /// The names and the clock of a table whose keys are known.
 fn values_of(
     alloc: Global,
@@ -71,10 +97,10 @@ fn values_of(
 {
     let of_jobs = names_at(alloc, table, NamesKey::Jobs)?;
     let of_machines = names_at(alloc, table, NamesKey::Machines)?;
-    let clock = clock_in(table)?;
-    check_count(NamesKey::Jobs, &of_jobs, jobs)?;
-    check_count(NamesKey::Machines, &of_machines, machines)?;
-    Ok(names_for_people(of_jobs, of_machines, clock))
+    match check_rest(table, &of_jobs, &of_machines, jobs, machines) {
+        Ok(clock) => Ok(names_for_people(of_jobs, of_machines, clock)),
+        Err(fault) => Err(fault),
+    }
 }
 
 /// The names and the clock of a table.

@@ -9,9 +9,28 @@ use crate::moves::Moves;
 use crate::net::Net;
 use crate::net_of_plan::{net_of, orders_of};
 use crate::passing::Pass;
-use crate::rest::Rest;
-use shop_base::{JobNo, Shaped};
+use shop_base::{JobNo, Moment, Shaped};
 use std::alloc::{AllocError, Global};
+
+/// What a run has left of a plan: how each job goes on, and which machines are being cleaned. It is the same whatever
+/// the orders of the entries ahead are.
+#[derive(Drop)]
+pub struct Rest {
+    /// How each job goes on.
+    pub jobs: Vec<JobRest>,
+    /// Since when each machine is being cleaned, if it is.
+    pub cleanings: Vec<Option<Moment>>,
+}
+
+/// How a job goes on.
+#[derive(Clone, Copy)]
+pub struct JobRest {
+    /// How many moves it has made: one for each step that it has entered, and one more once it has left.
+    pub made: u32,
+    /// The moment before which it doesn't make its next one, in time units from moment 0; of a job that has left, that
+    /// at which it did.
+    pub bound: Moment,
+}
 
 /// The order of each machine in the best plan that an annealing from this one meets; `None` if this one is the best. In
 /// a neighbour of a plan two jobs that meet on a critical path have changed places, and one of the two has moved on

@@ -13,9 +13,7 @@ mod net;
 mod net_of_plan;
 mod passing;
 mod price;
-mod rest;
 mod timing;
 mod turning;
 
-pub use annealed::annealed_orders;
-pub use rest::{JobRest, Rest};
+pub use annealed::{JobRest, Rest, annealed_orders};

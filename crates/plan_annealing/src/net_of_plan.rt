@@ -2,8 +2,8 @@
 
 ghost use Rattle.std.specs.Prelude.{◌≡◌, length, IfOk};
 
+use crate::annealed::{JobRest, Rest};
 use crate::net::{NONE, Net, Span, Spot, count, link, spot_at};
-use crate::rest::{JobRest, Rest};
 use shop_base::limits::MAX_MOMENT;
 use shop_base::{JobNo, MachineNo, Moment, Plan, Shaped, Step};
 use std::alloc::{AllocError, Global};

@@ -25,7 +25,7 @@ use Rattle.plan_bounds.proofs.Bounded.{no_plan_is_sooner-holds}
 use Rattle.plan_limits.specs.Stages.{GoesOnFrom, stage_of}
 use Rattle.plan_verifier.proofs.Rests.{next_path}
 use Rattle.plan_seek.specs.Tasks.{with_order}
-use Rattle.plan_improve.specs.RestCosts.{IsCellOf}
+use Rattle.run_log.specs.Present.{IsCellOf}
 use Rattle.plan_improve.specs.Reordered.{IsReordered}
 use Rattle.plan_improve.proofs.OneCell.{one_cell}
 use Rattle.plan_decide.specs.declared.aim.Objective.{Objective}

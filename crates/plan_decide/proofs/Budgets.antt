@@ -23,7 +23,7 @@ use Rattle.run_log.specs.Audits.{ParseAsRun}
 use Rattle.alt_graph.specs.Solved.{HasCycle}
 use Rattle.plan_verifier.specs.Accepted.{HasNoCycle, IsGreatest, IsMakespan}
 use Rattle.plan_verifier.specs.Rest.{IsGreatestAhead}
-use Rattle.plan_improve.specs.RestCosts.{IsCellOf}
+use Rattle.run_log.specs.Present.{IsCellOf}
 use Rattle.plan_decide.specs.declared.aim.Objective.{Objective}
 use Rattle.plan_decide.specs.declared.aim.Objective.TheVariants.{Makespan, Leaving}
 use Rattle.plan_decide.specs.Cases.{Past, nothing, run_to, KeepsPast, IsOutWithin, IsGood, HasValue, IsAccepted, IsMakespanAhead, IsLeavingAhead}

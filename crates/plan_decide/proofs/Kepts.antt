@@ -30,9 +30,7 @@ use Rattle.plan_limits.specs.declared.asking.Answer.TheVariants.{Never, Orders, 
 use Rattle.plan_limits.specs.Stages.{stage_of}
 use Rattle.plan_limits.specs.Limits.{NoPlanKeepsFrom}
 use Rattle.plan_limits.specs.Answered.{OnNever}
-use Rattle.plan_improve.specs.RestCosts.{IsCellOf}
-use Rattle.plan_improve.specs.RestKeeping.{IsPresent}
-use Rattle.plan_improve.specs.Improved.{present_of}
+use Rattle.run_log.specs.Present.{IsCellOf, IsRunAt, present_of}
 use Rattle.plan_improve.proofs.OneCell.{parses_run}
 use Rattle.plan_decide.specs.declared.aim.Objective.{Objective}
 use Rattle.plan_decide.specs.declared.aim.Objective.TheVariants.{Makespan, Leaving}
@@ -132,14 +130,15 @@ no_entries : (entries : List Entry) → length entries ≡ 0 → entries ≡ []
 no_entries entries none = nil_from_length entries none
 
 pub past_set : (happened : Happened) (log : List ℕ) (at : Option ℕ) (p : PlannedShop) (c : Cell) (entries : List Entry) (present events : ℕ) → IsPastBy log present events happened
-    → LinesParse p (ended_lines log) entries → IsReplayed p c entries → events ≡ length entries → IsPresent at c.last present → HasLed happened p c × IsPastOf (ended_lines log) at p (past_in happened c)
-past_set Nothing log at p c entries present events (none, zero) parse run count is =
+    → IsRunAt (ended_lines log) at p c entries present → events ≡ length entries → HasLed happened p c × IsPastOf (ended_lines log) at p (past_in happened c)
+past_set Nothing log at p c entries present events (none, zero) run count =
     let empty : entries ≡ [] = no_entries entries (sym count ∙ none) in
-    let begins : c ≡ start p = run.cell ∙ ap (λ (es : List Entry). ends_in p (events_of es)) empty in
+    let begins : c ≡ start p = run.replayed.cell ∙ ap (λ (es : List Entry). ends_in p (events_of es)) empty in
     let last : c.last ≡ 0 = ap (λ (x : Cell). x.last) begins in
-    (begins, unbegun (subst (LinesParse p (ended_lines log)) empty parse) (ap (present_of at) (sym last) ∙ sym is.0 ∙ zero))
-past_set (Run text moment) log at p c entries present events (same, is_present) parse run count is =
-    let here : IsCellOf (ended_lines log) p c = record { entries = entries; parse = parse; run = run } in
+    (begins, unbegun (subst (LinesParse p (ended_lines log)) empty run.parses) (ap (present_of at) (sym last) ∙ sym run.present_is.0 ∙ zero))
+past_set (Run text moment) log at p c entries present events (same, is_present) run count =
+    let is = run.present_is in
+    let here : IsCellOf (ended_lines log) p c = record { entries = entries; parse = run.parses; run = run.replayed } in
     let next : IsNextMoment c present = record { in_order = is.1; in_range = is.2 } in (
       (subst (λ (l : List ℕ). IsCellOf (ended_lines l) p c) (sym same) here, subst (IsNextMoment c) (sym is_present) next),
       subst (λ (l : List ℕ). IsPastOf (ended_lines log) at p (run_to (ended_lines l) c moment)) (sym same)

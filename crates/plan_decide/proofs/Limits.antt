@@ -13,7 +13,7 @@ use Rattle.plan_limits.specs.Limits.{limit_of, NoPlanKeepsFrom}
 use Rattle.plan_limits.specs.Answered.{OnNever}
 use Rattle.plan_limits.proofs.Acceptance.{the_start_is_every_plan-holds}
 use Rattle.plan_seek.specs.Tasks.{with_order}
-use Rattle.plan_improve.specs.RestCosts.{IsCellOf}
+use Rattle.run_log.specs.Present.{IsCellOf}
 use Rattle.plan_decide.specs.declared.aim.Objective.{Objective}
 use Rattle.plan_decide.specs.declared.aim.Objective.TheVariants.{Makespan, Leaving}
 use Rattle.plan_decide.specs.declared.asked.Asked.{Asked}

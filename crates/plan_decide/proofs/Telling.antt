@@ -11,7 +11,7 @@ use Rattle.plan_decide.specs.Cases.{Case, job_count, budget_in}
 use Rattle.plan_decide.specs.Promises.{IsPromised}
 use Rattle.plan_decide.specs.Excluding.{AreExcluded, IsNeverInTime, IsInDoubt, IsExclusion, ComesBefore, AreExclusions, NoneIsAlone}
 use Rattle.plan_decide.specs.Asking.{IsImpossible}
-use Rattle.plan_decide.specs.Told.{AreOrderedExclusions, AreExclusionsBefore, AreAllAlone, AddsExclusions}
+use Rattle.plan_decide.specs.Listed.{AreOrderedExclusions, AreExclusionsBefore, AreAllAlone, AddsExclusions}
 use Rattle.plan_decide.proofs.Limits.{both_excluded}
 use Rattle.plan_decide.proofs.Bounded.{IsRooted, bound_le}
 use Rattle.plan_decide.proofs.Pushing.{pairs_push}

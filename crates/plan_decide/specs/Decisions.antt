@@ -7,7 +7,7 @@ use Rattle.plan_decide.specs.declared.aim.Aim.TheVariants.{Promises, Least}
 use Rattle.plan_decide.specs.declared.aim.Objective.{Objective}
 use Rattle.plan_decide.specs.declared.aim.Objective.TheVariants.{Makespan, Leaving}
 use Rattle.plan_decide.specs.declared.decide_fault.DecideFault.{DecideFault}
-use Rattle.plan_decide.specs.declared.decide_fault.DecideFault.TheVariants.{JobOutOfRange, Log, Past as EarlierMoment, MomentTooLarge, Memory}
+use Rattle.plan_decide.specs.declared.decide_fault.DecideFault.TheVariants.{JobOutOfRange, Run, Memory}
 use Rattle.plan_decide.specs.declared.decided.Decided.{Decided}
 use Rattle.plan_decide.specs.declared.decided.Decided.TheVariants.{Kept, Best, Never, Open}
 use Rattle.plan_decide.specs.declared.decided.Within.{Within}
@@ -73,6 +73,4 @@ pub record IsBest (t : Case) (aim : Aim) (p : PlannedShop) (within : Within) : T
 abbrev pub IsDecideFault : Case → Aim → DecideFault → Type 0
 IsDecideFault t aim JobOutOfRange = IsInRange t aim → ⊥
 IsDecideFault t aim Memory = IsInRange t aim
-IsDecideFault t aim (Log fault) = ⊥
-IsDecideFault t aim (EarlierMoment last) = ⊥
-IsDecideFault t aim MomentTooLarge = ⊥
+IsDecideFault t aim (Run fault) = ⊥

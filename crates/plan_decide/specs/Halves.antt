@@ -1,5 +1,6 @@
 -- What is known of an objective while what lies between a bound and a plan is halved.
-use Rattle.std.specs.Prelude.{◌≡◌, ℕ, ◌+◌, ◌<◌, ◌≤◌, false}
+use Rattle.std.specs.Prelude.{◌≡◌, ℕ, ◌+◌, ◌-◌, ◌<◌, ◌≤◌, List, false}
+use Rattle.shop_base.specs.Plan.{PlannedShop}
 use Rattle.shop_base.specs.declared.limits.TheConstants.{MAX_MOMENT}
 use Rattle.plan_decide.specs.declared.aim.Objective.{Objective}
 use Rattle.plan_decide.specs.declared.aim.Objective.TheVariants.{Makespan, Leaving}
@@ -8,7 +9,7 @@ use Rattle.plan_decide.specs.declared.halving.Best.{Best}
 use Rattle.plan_decide.specs.declared.halving.Halfway.{Halfway}
 use Rattle.plan_decide.specs.declared.halving.Looked.{Looked}
 use Rattle.plan_decide.specs.declared.halving.Looked.TheVariants.{Better, Never, Open}
-use Rattle.plan_decide.specs.Cases.{Case, HasValue, job_count, budget_in}
+use Rattle.plan_decide.specs.Cases.{Case, HasValue, job_count, budget_in, with_budget}
 use Rattle.plan_decide.specs.Objectives.{IsLeast}
 use Rattle.plan_decide.specs.declared.kept.Kept.{Kept}
 use Rattle.plan_decide.specs.Settings.{plan_of, FitsPast}
@@ -18,6 +19,13 @@ use Rattle.plan_decide.specs.Decisions.{IsAcceptedWith, given_with}
 abbrev pub IsFree : Case → Objective → Type 0
 IsFree t Makespan = Unit {0}
 IsFree t (Leaving j) = (j < job_count t) × (budget_in t j ≡ MAX_MOMENT)
+
+-- an accepted plan with these orders and no promise to the job has it leave so
+pub record IsLeavingBy (t : Case) (job : ℕ) (orders : List (List ℕ)) (value : ℕ) : Type 0 where
+  pub plan : PlannedShop
+  pub accepted : IsAcceptedWith (with_budget t job MAX_MOMENT) plan
+  pub order : plan.plan.order ≡ orders
+  pub leaves : HasValue t.past (Leaving job) plan value
 
 module _ (t : Case) (objective : Objective) where
   -- an accepted plan with its value
@@ -46,3 +54,8 @@ module _ (t : Case) (objective : Objective) where
     pub least : IsLeast t objective found.1.at_least
     pub apart : found.1.at_least ≤ found.1.at_most
     pub exact : found.1.ended_open ≡ false → found.1.at_least ≡ found.1.at_most
+
+-- once this came of looking for a plan with a value of at most the limit, less is left
+abbrev pub IsNarrowed : Halfway → ℕ → Looked → Halfway → Type 0
+IsNarrowed halfway limit looked next = (t : Case) (objective : Objective) → IsHalfway t objective halfway → IsLooked t objective limit halfway.best.value looked
+    → IsHalfway t objective next × (next.best.value - next.low < halfway.best.value - halfway.low)

@@ -9,7 +9,7 @@ pub mod Laws
 -- Of proofs and private contracts alone.
 pub mod Settings
 pub mod Asking
-pub mod Told
+pub mod Listed
 pub mod LeftOut
 pub mod Halves
 pub mod Found

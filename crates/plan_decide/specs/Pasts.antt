@@ -1,19 +1,14 @@
 -- What a log records of what has happened, and why nothing is decided.
-use Rattle.std.specs.Prelude.{◌≡◌, ℕ, ◌<◌, ◌≤◌, List, [], Option, Some}
-use Rattle.shop_base.specs.declared.limits.TheConstants.{MAX_MOMENT}
+use Rattle.std.specs.Prelude.{◌≡◌, ℕ, List, [], Option}
 use Rattle.shop_base.specs.Plan.{PlannedShop}
 use Rattle.shop_base.specs.Cell.{Cell}
 use Rattle.shop_base.specs.Report.{IsNextMoment}
 use Rattle.event_lines.specs.LogLines.{LinesParse}
-use Rattle.run_log.specs.declared.audit_fault.AuditFault.{AuditFault}
-use Rattle.run_log.specs.declared.audit_fault.AuditFault.TheVariants.{Memory as OutOfMemory}
-use Rattle.run_log.specs.Audits.{IsFirstBad}
+use Rattle.run_log.specs.Present.{IsCellOf, present_of, IsRunFault}
 use Rattle.plan_seek.specs.Tasks.{task_in}
-use Rattle.plan_improve.specs.RestCosts.{IsCellOf}
-use Rattle.plan_improve.specs.Improved.{present_of}
 use Rattle.plan_decide.specs.declared.aim.Aim.{Aim}
 use Rattle.plan_decide.specs.declared.decide_fault.DecideFault.{DecideFault}
-use Rattle.plan_decide.specs.declared.decide_fault.DecideFault.TheVariants.{JobOutOfRange, Log, Past as EarlierMoment, MomentTooLarge, Memory}
+use Rattle.plan_decide.specs.declared.decide_fault.DecideFault.TheVariants.{JobOutOfRange, Run, Memory}
 use Rattle.plan_decide.specs.Cases.{Past, nothing, run_to, Case}
 use Rattle.plan_decide.specs.Promises.{IsInRange}
 
@@ -36,26 +31,9 @@ pub record HoldsAfter (lines : List (List ℕ)) (at : Option ℕ) (p : PlannedSh
   pub is : IsPastOf lines at p past
   pub says : holds (case_of p past)
 
--- the fault that one of a log is
-abbrev pub log_fault : AuditFault → DecideFault
-log_fault OutOfMemory = Memory
-log_fault fault = Log fault
-
--- why the moment that is given can't be the present one after the last
-abbrev pub IsMomentFault : Option ℕ → ℕ → DecideFault → Type 0
-IsMomentFault (Some at) last (EarlierMoment moment) = (at < last) × (moment ≡ last)
-IsMomentFault (Some at) last MomentTooLarge = (last ≤ at) × (MAX_MOMENT < at)
-IsMomentFault at last fault = ⊥
-
--- the same from the cell of the lines
-abbrev pub IsMomentFaultOf : List (List ℕ) → Option ℕ → PlannedShop → DecideFault → Type 0
-IsMomentFaultOf lines at p fault = (c : Cell) × IsCellOf lines p c × IsMomentFault at c.last fault
-
--- why no rest is asked about: the first bad line of the log, or else the moment, or out of memory
+-- why no rest is asked about: there is no run up to the present moment, or out of memory
 abbrev pub IsBeginFault : List (List ℕ) → Option ℕ → PlannedShop → DecideFault → Type 0
-IsBeginFault lines at p (Log fault) = IsFirstBad p lines fault
-IsBeginFault lines at p (EarlierMoment last) = IsMomentFaultOf lines at p (EarlierMoment last)
-IsBeginFault lines at p MomentTooLarge = IsMomentFaultOf lines at p MomentTooLarge
+IsBeginFault lines at p (Run fault) = IsRunFault lines at p fault
 IsBeginFault lines at p Memory = Unit {0}
 IsBeginFault lines at p JobOutOfRange = ⊥
 

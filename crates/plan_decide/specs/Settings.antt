@@ -11,7 +11,7 @@ use Rattle.plan_verifier.specs.Held.{later_than}
 use Rattle.alt_graph.specs.Times.{NodeTimes}
 use Rattle.plan_verifier.specs.Rest.{AreOrderedAhead}
 use Rattle.plan_verifier.specs.RestVerdicts.{IsAcceptableAhead}
-use Rattle.plan_improve.specs.RestCosts.{IsCellOf}
+use Rattle.run_log.specs.Present.{IsCellOf}
 use Rattle.plan_decide.specs.declared.aim.Aim.{Aim}
 use Rattle.plan_decide.specs.declared.aim.Aim.TheVariants.{Promises, Least}
 use Rattle.plan_decide.specs.declared.aim.Objective.TheVariants.{Makespan, Leaving}

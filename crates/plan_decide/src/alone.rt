@@ -5,7 +5,7 @@ ghost use Rattle.shop_base.specs.Plan.{jobs};
 ghost use Rattle.plan_decide.specs.Cases.{job_count};
 ghost use Rattle.plan_decide.specs.Settings.{IsSet, case_in};
 ghost use Rattle.plan_decide.specs.Excluding.{IsNeverInTime, IsInDoubt};
-ghost use Rattle.plan_decide.specs.Told.{AreAllAlone};
+ghost use Rattle.plan_decide.specs.Listed.{AreAllAlone};
 
 use crate::asked::promise_to;
 use crate::decided::Excluded;

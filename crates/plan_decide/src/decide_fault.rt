@@ -1,7 +1,7 @@
 //! Why nothing is decided.
 
-use run_log::AuditFault;
-use shop_base::{Moment, Shaped};
+use run_log::RunFault;
+use shop_base::Shaped;
 use std::alloc::AllocError;
 use thiserror::Error;
 
@@ -11,18 +11,19 @@ pub enum DecideFault {
     /// The job whose leaving is asked for isn't of the shop.
     #[error("JobOutOfRange")]
     JobOutOfRange,
-    /// The log's whole lines record no run of the plan: the first fault of the first bad one.
-    #[error("Log {0}")]
-    Log(AuditFault),
-    /// The present moment is before the last one of the log.
-    #[error("Past {last}")]
-    Past { last: Moment },
-    /// The present moment is past the latest.
-    #[error("MomentTooLarge")]
-    MomentTooLarge,
+    /// There is no run up to the present moment.
+    #[error("{0}")]
+    Run(RunFault),
     /// Out of memory, here or in the chooser.
     #[error("Memory")]
     Memory,
+}
+
+/// The plan that came in, given back as it was, with the reason why nothing is decided.
+#[derive(Drop)]
+pub struct Undecided {
+    pub fault: DecideFault,
+    pub shaped: Shaped,
 }
 
 impl From<AllocError> for DecideFault {
@@ -34,25 +35,4 @@ impl From<AllocError> for DecideFault {
     fn from(_error: AllocError) -> DecideFault {
         DecideFault::Memory
     }
-}
-
-impl From<AuditFault> for DecideFault {
-    ghost use Rattle.std.specs.Prelude.{◌≡◌};
-    ghost use Rattle.plan_decide.specs.Pasts.{log_fault};
-
-    ghost from_gives = { λ audit fault. fault ≡ log_fault audit };
-
-    fn from(audit: AuditFault) -> DecideFault {
-        match audit {
-            AuditFault::Memory => DecideFault::Memory,
-            _ => DecideFault::Log(audit),
-        }
-    }
-}
-
-/// The plan that came in, given back as it was, with the reason why nothing is decided.
-#[derive(Drop)]
-pub struct Undecided {
-    pub fault: DecideFault,
-    pub shaped: Shaped,
 }

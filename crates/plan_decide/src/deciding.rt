@@ -6,7 +6,7 @@ ghost use Rattle.text_lines.specs.Lines.{ended_lines};
 ghost use Rattle.plan_decide.specs.declared.aim.Aim.{Aim};
 ghost use Rattle.plan_decide.specs.declared.aim.Aim.TheVariants.{Promises, Least};
 ghost use Rattle.plan_decide.specs.Cases.{Case};
-ghost use Rattle.plan_decide.specs.Pasts.{whole_case, HoldsAfter, IsBeginFault, IsDecideRestFault};
+ghost use Rattle.plan_decide.specs.Pasts.{whole_case, HoldsAfter, IsDecideRestFault};
 ghost use Rattle.plan_decide.specs.Promises.{asked_for, IsInRange};
 ghost use Rattle.plan_decide.specs.Excluding.{AreExclusions, NoneIsAlone};
 ghost use Rattle.plan_decide.specs.Decisions.{OnKept, OnBest, OnNever, OnOpen, IsKept, IsBest, IsDecideFault};
@@ -67,12 +67,6 @@ pub fn decide<C: Choose, W: Watch>(
     ensures refused { IfErr result (λ undecided. IsDecideFault (whole_case shaped) aim undecided.fault) }
     ensures handed_back { IfErr result (λ undecided. undecided.shaped ≡ shaped) }
 {
-    if !is_in_range(&shaped, aim) {
-        return Err(Undecided {
-            fault: DecideFault::JobOutOfRange,
-            shaped,
-        });
-    }
     let found = find_whole(
         alloc,
         &shaped,
@@ -81,10 +75,7 @@ pub fn decide<C: Choose, W: Watch>(
     );
     match found {
         Ok(found) => Ok(whole_back(found, shaped)),
-        Err(error) => Err(Undecided {
-            fault: DecideFault::from(error),
-            shaped,
-        }),
+        Err(fault) => Err(Undecided { fault, shaped }),
     }
 }
 
@@ -117,12 +108,6 @@ pub fn decide_after<C: Choose, W: Watch>(
         IsDecideRestFault (ended_lines log.now) at shaped aim undecided.fault) }
     ensures handed_back { IfErr result (λ undecided. undecided.shaped ≡ shaped) }
 {
-    if !is_in_range(&shaped, aim) {
-        return Err(Undecided {
-            fault: DecideFault::JobOutOfRange,
-            shaped,
-        });
-    }
     let found = find_after(
         alloc,
         &shaped,
@@ -143,14 +128,18 @@ fn find_whole<C: Choose, W: Watch>(
     shaped: &Shaped,
     aim: Aim,
     asker: &mut Asker<'_, C, W>,
-) -> Result<Found, AllocError>
-    requires { IsInRange (whole_case shaped.now) aim }
-    ensures { IfOk result (IsFound (asked_for (whole_case shaped.now) aim) aim) }
+) -> Result<Found, DecideFault>
+    ensures in_range { OnOk result (IsInRange (whole_case shaped.now) aim) }
+    ensures found { IfOk result (IsFound (asked_for (whole_case shaped.now) aim) aim) }
+    ensures refused { IfErr result (IsDecideFault (whole_case shaped.now) aim) }
 {
+    if !is_in_range(shaped, aim) {
+        return Err(DecideFault::JobOutOfRange);
+    }
     // Called for its clause alone: the plan is well shaped.
     let _shop = shaped.shop();
     let setting = whole(alloc, shaped, aim)?;
-    find(alloc, &setting, aim, asker)
+    Ok(find(alloc, &setting, aim, asker)?)
 }
 
 /// What is found of plans for the rest of the run in a log.
@@ -162,11 +151,14 @@ fn find_after<C: Choose, W: Watch>(
     aim: Aim,
     asker: &mut Asker<'_, C, W>,
 ) -> Result<Found, DecideFault>
-    requires { IsInRange (whole_case shaped.now) aim }
+    ensures in_range { OnOk result (IsInRange (whole_case shaped.now) aim) }
     ensures found { IfOk result (λ found.
         HoldsAfter (ended_lines log.now) at shaped.now (λ t. IsFound (asked_for t aim) aim found)) }
-    ensures refused { IfErr result (IsBeginFault (ended_lines log.now) at shaped.now) }
+    ensures refused { IfErr result (IsDecideRestFault (ended_lines log.now) at shaped.now aim) }
 {
+    if !is_in_range(shaped, aim) {
+        return Err(DecideFault::JobOutOfRange);
+    }
     // Called for its clause alone: the plan is well shaped.
     let _shop = shaped.shop();
     let setting = after_log(alloc, shaped, log, at, aim)?;

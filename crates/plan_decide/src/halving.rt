@@ -1,11 +1,11 @@
 //! The least value of an objective, by halving what lies between a bound and a plan.
 
-ghost use Rattle.std.specs.Prelude.{◌≡◌, ◌-◌, ◌<◌, IfOk, IfSome};
-ghost use Rattle.shop_base.specs.Plan.{jobs};
+ghost use Rattle.std.specs.Prelude.{◌≡◌, ◌-◌, ◌<◌, ◌≤◌, IfOk, IfSome};
+ghost use Rattle.shop_base.specs.{Plan.jobs, Vectors.lists_of};
 ghost use Rattle.plan_decide.specs.declared.aim.Objective.TheVariants.{Makespan, Leaving};
 ghost use Rattle.plan_decide.specs.Objectives.{IsLeast};
 ghost use Rattle.plan_decide.specs.Settings.{IsSet, case_in};
-ghost use Rattle.plan_decide.specs.Halves.{IsFree, IsFoundWith, IsLooked, IsHalfway, IsHalved};
+ghost use Rattle.plan_decide.specs.Halves.{IsFree, IsFoundWith, IsLeavingBy, IsLooked, IsHalfway, IsNarrowed, IsHalved};
 
 use crate::aim::Objective;
 use crate::asked::Asked;
@@ -110,17 +110,33 @@ fn plan_at(
     job: JobNo,
     order: Vec<Vec<JobNo>>,
 ) -> Result<Option<Best>, AllocError>
-    requires set { IsSet setting.now }
     requires job { job < jobs setting.now.cell.plan }
+    requires set { IsSet setting.now }
     ensures { IfOk result (λ found. IfSome found (IsFoundWith (case_in setting.now) (Leaving job))) }
 {
-    let same = copy_orders(alloc, &order)?;
-    let Some(loose) = accepted_at(alloc, setting, job, MAX_MOMENT, same)? else {
+    let Some(value) = leaving_by(alloc, setting, job, &order)? else {
         return Ok(None);
     };
-    let value = leaving_in(setting, &loose, job);
     match accepted_at(alloc, setting, job, value, order)? {
         Some(plan) => Ok(Some(Best { plan, value })),
+        None => Ok(None),
+    }
+}
+
+/// The job's leaving by these orders, if the plan with them and no promise to the job is accepted.
+fn leaving_by(
+    alloc: Global,
+    setting: &Setting<'_>,
+    job: JobNo,
+    order: &[Vec<JobNo>],
+) -> Result<Option<Moment>, AllocError>
+    requires job { job < jobs setting.now.cell.plan }
+    requires set { IsSet setting.now }
+    ensures { IfOk result (λ found. IfSome found (IsLeavingBy (case_in setting.now) job (lists_of order.now))) }
+{
+    let same = copy_orders(alloc, order)?;
+    match accepted_at(alloc, setting, job, MAX_MOMENT, same)? {
+        Some(loose) => Ok(Some(leaving_in(setting, &loose, job))),
         None => Ok(None),
     }
 }
@@ -223,17 +239,27 @@ fn halve_once<C: Choose, W: Watch>(
     ensures less { IfOk result (λ next. next.best.value - next.low < halfway.best.value - halfway.low) }
 {
     let limit = halfway.low + (halfway.best.value - halfway.low) / 2;
-    match look(alloc, setting, asker, objective, limit, halfway.best.value)? {
-        Looked::Better(best) => Ok(Halfway { best, ..halfway }),
-        Looked::Never => Ok(Halfway {
+    let looked = look(alloc, setting, asker, objective, limit, halfway.best.value)?;
+    Ok(narrowed(halfway, limit, looked))
+}
+
+/// What is known once a plan with a value of at most the limit was looked for.
+fn narrowed(halfway: Halfway, limit: Moment, looked: Looked) -> Halfway
+    requires low { halfway.low ≤ limit }
+    requires limit { limit < halfway.best.value }
+    ensures { IsNarrowed halfway limit looked result }
+{
+    match looked {
+        Looked::Better(best) => Halfway { best, ..halfway },
+        Looked::Never => Halfway {
             at_least: limit + 1,
             low: limit + 1,
             ..halfway
-        }),
-        Looked::Open => Ok(Halfway {
+        },
+        Looked::Open => Halfway {
             low: limit + 1,
             ended_open: true,
             ..halfway
-        }),
+        },
     }
 }

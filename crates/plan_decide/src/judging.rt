@@ -1,15 +1,11 @@
 //! Orders that are put to the test.
 
 ghost use Rattle.std.specs.Prelude.{◌≡◌, ◌<◌, IfOk, IfSome};
-ghost use Rattle.shop_base.specs.Plan.{jobs};
-ghost use Rattle.shop_base.specs.Vectors.{lists_of};
-ghost use Rattle.plan_verifier.specs.Rest.{AreOrderedAhead};
-ghost use Rattle.plan_verifier.specs.RestVerdicts.{IsAcceptableAhead};
+ghost use Rattle.shop_base.specs.{Plan.jobs, Vectors.lists_of, Report.IsNextMoment};
+ghost use Rattle.plan_verifier.specs.{Rest.AreOrderedAhead, RestVerdicts.IsAcceptableAhead};
 ghost use Rattle.text_lines.specs.Lines.{ended_lines};
 ghost use Rattle.plan_bounds.specs.Bounds.{times_of};
-ghost use Rattle.shop_base.specs.Report.{IsNextMoment};
-ghost use Rattle.plan_decide.specs.Cases.{nothing, with_budgets, with_budget};
-ghost use Rattle.plan_decide.specs.Decisions.{IsAcceptedWith};
+ghost use Rattle.plan_decide.specs.{Cases.nothing, Cases.with_budgets, Cases.with_budget, Decisions.IsAcceptedWith};
 ghost use Rattle.plan_decide.specs.Settings.{IsSet, case_in, plan_of, FitsPast, IsKeptAs};
 ghost use Rattle.plan_decide.specs.Settings.{IsKeptAfter, IsTimely, AreTimesAfter};
 

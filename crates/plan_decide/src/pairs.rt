@@ -5,7 +5,7 @@ ghost use Rattle.shop_base.specs.Plan.{jobs};
 ghost use Rattle.plan_decide.specs.declared.decided.Excluded.TheVariants.{Pair};
 ghost use Rattle.plan_decide.specs.Excluding.{IsInDoubt};
 ghost use Rattle.plan_decide.specs.Settings.{IsSet, case_in};
-ghost use Rattle.plan_decide.specs.Told.{AreOrderedExclusions, AreExclusionsBefore, AddsExclusions};
+ghost use Rattle.plan_decide.specs.Listed.{AreOrderedExclusions, AreExclusionsBefore, AddsExclusions};
 
 use crate::alone::is_in_doubt;
 use crate::asked::Asked;

@@ -1,11 +1,8 @@
 //! Whether all promises can be kept, and where they can't, which exclude each other.
 
 ghost use Rattle.std.specs.Prelude.{IfOk};
-ghost use Rattle.plan_decide.specs.Asking.{NoPlanKeeps};
-ghost use Rattle.plan_decide.specs.Settings.{IsSet, case_in};
-ghost use Rattle.plan_decide.specs.Excluding.{AreExclusions, NoneIsAlone};
-ghost use Rattle.plan_decide.specs.LeftOut.{ArePromised};
-ghost use Rattle.plan_decide.specs.Told.{IsReply};
+ghost use Rattle.plan_decide.specs.{Asking.NoPlanKeeps, Settings.IsSet, Settings.case_in, LeftOut.ArePromised};
+ghost use Rattle.plan_decide.specs.{Excluding.AreExclusions, Excluding.NoneIsAlone, Listed.IsReply};
 
 use crate::alone::all_alone;
 use crate::asked::{Asked, limits_for};

@@ -1,15 +1,11 @@
 //! What is asked about: whole plans with given numbers, or those that go on with a run.
 
 ghost use Rattle.std.specs.Prelude.{◌≡◌, ◌*◌, ◌^◌, ◌<◌, ◌≤◌, drop, slice_set, IfOk, IfErr};
-ghost use Rattle.shop_base.specs.declared.limits.TheConstants.{MAX_MOMENT};
-ghost use Rattle.shop_base.specs.Plan.{jobs, route};
-ghost use Rattle.shop_base.specs.Cell.{made};
+ghost use Rattle.shop_base.specs.{declared.limits.TheConstants.MAX_MOMENT, Plan.jobs, Plan.route, Cell.made};
 ghost use Rattle.shop_base.specs.Work.{route_work};
 ghost use Rattle.text_lines.specs.Lines.{ended_lines};
-ghost use Rattle.plan_improve.specs.RestKeeping.{IsPresent};
 ghost use Rattle.plan_decide.specs.Cases.{is_waiting, times_in, budget_in, bound_in};
-ghost use Rattle.plan_decide.specs.Promises.{asked_for};
-ghost use Rattle.plan_decide.specs.Pasts.{HoldsAfter, IsBeginFault, IsMomentFault, whole_case};
+ghost use Rattle.plan_decide.specs.{Promises.asked_for, Pasts.HoldsAfter, Pasts.IsBeginFault, Pasts.whole_case};
 ghost use Rattle.plan_decide.specs.Settings.{IsSet, IsPastBy, case_in, free_in, bound_ahead};
 
 use crate::aim::{Aim, Objective};
@@ -18,7 +14,7 @@ use crate::decide_fault::DecideFault;
 use cell_tables::WorkCell;
 use plan_bounds::job_bound;
 use plan_verifier::later;
-use run_log::run_of_log;
+use run_log::run_at;
 use shop_base::limits::MAX_MOMENT;
 use shop_base::{JobNo, Moment, Shaped, Step};
 use std::alloc::{AllocError, Global};
@@ -73,10 +69,10 @@ pub(crate) fn after_log<'a>(
         HoldsAfter (ended_lines log.now) at shaped.now (λ t. case_in setting ≡ asked_for t aim)) }
     ensures refused { IfErr result (IsBeginFault (ended_lines log.now) at shaped.now) }
 {
-    let run = run_of_log(alloc, shaped, log)?;
-    // Called for its clause alone: the last moment is within the limit.
-    let _plan = run.cell.shaped();
-    let present = present_moment(at, run.cell.last())?;
+    let (run, present) = match run_at(alloc, shaped, log, at)? {
+        Ok(found) => found,
+        Err(fault) => return Err(DecideFault::Run(fault)),
+    };
     let past = past_by(log, present, run.entries.as_slice().len());
     Ok(Setting {
         cell: run.cell,
@@ -96,24 +92,6 @@ fn past_by(log: &[u8], present: Moment, events: usize) -> Past<'_>
         return Past::Run { log, present };
     }
     Past::Nothing
-}
-
-/// The moment that is given, if it can be the present one after the last, or else the last one.
-fn present_moment(at: Option<Moment>, last: Moment) -> Result<Moment, DecideFault>
-    requires { last ≤ MAX_MOMENT }
-    ensures present { IfOk result (IsPresent at last) }
-    ensures refused { IfErr result (IsMomentFault at last) }
-{
-    let Some(at) = at else {
-        return Ok(last);
-    };
-    if at < last {
-        return Err(DecideFault::Past { last });
-    }
-    if at > MAX_MOMENT {
-        return Err(DecideFault::MomentTooLarge);
-    }
-    Ok(at)
 }
 
 /// The job whose own promise isn't asked for, if there is one.

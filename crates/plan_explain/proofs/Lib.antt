@@ -1,5 +1,5 @@
 pub mod ArcFacts
-pub mod Told
+pub mod Printed
 pub mod Moments
 pub mod Texts
 pub mod LineLaws

@@ -57,14 +57,14 @@ module _ (p : PlannedShop) (c : Cell) (t : ℕ) where
   held_path _ _ _ m (cleaned x from d v is stands) some = let same : d ≡ m = cc in subst (λ (n : ℕ). PathAhead p c t (v ∷ []) v n) same (held (Cleaning x) d v (from, is) stands)
 
   pub bound_path : (v : Node) (b : NodeBound) → IsSound p c → IsNode p v → IsHoldBound p c t v b → PathAhead p c t (v ∷ []) v b.moment
-  bound_path v b sound is told = subst (λ (n : ℕ). PathAhead p c t (v ∷ []) v n) (sym told.moment) (elim (later_is t told.due) [
+  bound_path v b sound is bound = subst (λ (n : ℕ). PathAhead p c t (v ∷ []) v n) (sym bound.moment) (elim (later_is t bound.due) [
     | inl same ↦ subst (λ (n : ℕ). PathAhead p c t (v ∷ []) v n) (sym same) (now v is ahead)
-    | inr (m, some, same) ↦ subst (λ (n : ℕ). PathAhead p c t (v ∷ []) v n) (sym same) (held_path b.holds told.due v m told.holds some)
+    | inr (m, some, same) ↦ subst (λ (n : ℕ). PathAhead p c t (v ∷ []) v n) (sym same) (held_path b.holds bound.due v m bound.holds some)
   ])
     where
       ahead : IsAhead c v
       ahead = elim (cases_lt v.place (made c v.job)) [
-        | inl passed ↦ absurd (free_passed p c t v sound passed (hold_up p c b.holds told.due v told.holds))
+        | inl passed ↦ absurd (free_passed p c t v sound passed (hold_up p c b.holds bound.due v bound.holds))
         | inr here ↦ here
       ]
 

@@ -1,5 +1,5 @@
 -- The rest of a run that hasn't begun is printed as the whole plan, and the plan as that.
-use Rattle.std.proofs.Common.{◌≡◌, ℕ, zero, suc, ◌<◌, ◌≤◌, List, [], ◌∷◌, ◌++◌, Option, None, Some, IfSome, if◌then◌else◌, inl, inr, arith, refl, sym, ap, subst, ◌∙◌}
+use Rattle.std.proofs.Common.{◌≡◌, ℕ, ◌<◌, List, [], ◌∷◌, ◌++◌, Option, None, Some, IfSome, if◌then◌else◌, inl, inr, arith, refl, sym, ap, subst, ◌∙◌}
 use Rattle.std.proofs.{lemmas.Bool.le-ltb, Math.Nat.zero-max}
 use Rattle.shop_base.specs.{declared.node.Node.Node, Plan.{PlannedShop, jobs, steps, budget, release, IsWellShaped}, Cell.start}
 use Rattle.shop_base.specs.{Graph.{leaving, Path}, Ahead.{PathAhead, next_node}}
@@ -60,8 +60,8 @@ module _ (names : NameBook) (p : PlannedShop) (shaped : IsWellShaped p) where
       moment = sym (zero-max (release p u.job));
       overdue = sym (ap (λ yes. if yes then Some (release p u.job) else None) (le-ltb (release p u.job) 0 (omega arith)));
     };
-    first = λ other told. (let (begins, within, holds, due) = held_first p shaped other.holds told.due u told.holds in
-        inr (sym (told.moment ∙ ap (later_than 0) due ∙ zero-max (release p u.job)), omega arith));
+    first = λ other bound. (let (begins, within, holds, due) = held_first p shaped other.holds bound.due u bound.holds in
+        inr (sym (bound.moment ∙ ap (later_than 0) due ∙ zero-max (release p u.job)), omega arith));
   }
 
   chain_back : (nodes : List Node) → BeginFirst p nodes → AreRestChainLines names p (start p) 0 nodes (chain_lines names p nodes)
@@ -120,18 +120,18 @@ module _ (names : NameBook) (p : PlannedShop) (shaped : IsWellShaped p) where
 
   one_to : (j : ℕ) → j < jobs p → AreOneChain (IsChainTo p (start p) 0 j) (IsChainOf p j)
   one_to j inside = record {
-    to = λ leaves nodes lines are told is. elim is [
+    to = λ leaves nodes lines are printed is. elim is [
       | inl (gone, none) ↦ absurd (nobody_gone p j inside gone)
-      | inr (still, path) ↦ chain_begins nodes (leaving p j) (leaves j) lines path told (are j inside)
+      | inr (still, path) ↦ chain_begins nodes (leaving p j) (leaves j) lines path printed (are j inside)
     ];
     back = λ leaves nodes are path. (inr (nobody_gone p j inside, (case p shaped).path nodes (leaving p j) (leaves j) path), begin_path nodes (leaving p j) (leaves j) path);
   }
 
   last_one : AreOneChain (IsChainToLastAhead p (start p) 0) (IsChainToLast p)
   last_one = record {
-    to = λ leaves nodes lines are told is. elim is [
+    to = λ leaves nodes lines are printed is. elim is [
       | inl (gone, none) ↦ absurd (nobody_gone p 0 shaped.shop.counts.some_job (gone 0 shaped.shop.counts.some_job))
-      | inr (j, last, path) ↦ (j, last_whole leaves are j last, chain_begins nodes (leaving p j) (leaves j) lines path told (are j last.job))
+      | inr (j, last, path) ↦ (j, last_whole leaves are j last, chain_begins nodes (leaving p j) (leaves j) lines path printed (are j last.job))
     ];
     back = λ leaves nodes are (j, last, path). (
       inr (j, last_back leaves are j last, (case p shaped).path nodes (leaving p j) (leaves j) path),
@@ -140,7 +140,7 @@ module _ (names : NameBook) (p : PlannedShop) (shaped : IsWellShaped p) where
   }
 
   given_one : (chain : List Node) → BeginHeldUp p (start p) chain → AreOneChain (λ leaves nodes. nodes ≡ chain) (λ leaves nodes. nodes ≡ chain)
-  given_one chain begins = record { to = λ leaves nodes lines are told is. is; back = λ leaves nodes are is. (is, subst (BeginFirst p) (sym is) (begin_held chain begins)) }
+  given_one chain begins = record { to = λ leaves nodes lines are printed is. is; back = λ leaves nodes are is. (is, subst (BeginFirst p) (sym is) (begin_held chain begins)) }
 
   chosen_one : (asked : Option ℕ) → IfSome asked (λ j. j < jobs p) → (Ahead Whole : (ℕ → ℕ) → List Node → Type 0) → AreOneChain Ahead Whole
       → AreOneChain (IsChosen (IsChainTo p (start p) 0) asked Ahead) (IsChosen (IsChainOf p) asked Whole)

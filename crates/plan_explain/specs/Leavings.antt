@@ -1,5 +1,5 @@
 -- The lines of the jobs of a plan without a cycle, and which of them leaves last.
-use Rattle.std.specs.Prelude.{ℕ, ◌-◌, ◌<◌, nat_lt, if◌then◌else◌, List, [], ◌∷◌, ◌++◌, codes, decimal}
+use Rattle.std.specs.Prelude.{ℕ, ◌-◌, ◌<◌, nat_lt, if◌then◌else◌, List, [], ◌∷◌, codes, decimal}
 use Rattle.shop_base.specs.{declared.node.Node.Node, Plan.PlannedShop, Plan.jobs, Plan.budget, Graph.leaving, Graph.Path}
 use Rattle.people_names.specs.{NameBooks.NameBook, Words.job_word, Words.moment_word, Words.is_budget_printed}
 use Rattle.plan_verifier.specs.Accepted.{IsMakespan}

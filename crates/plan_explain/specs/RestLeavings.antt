@@ -1,5 +1,5 @@
 -- The lines of the jobs in the rest of a run.
-use Rattle.std.specs.Prelude.{ℕ, nat_lt, if◌then◌else◌, List, [], ◌∷◌, ◌++◌, codes}
+use Rattle.std.specs.Prelude.{ℕ, nat_lt, if◌then◌else◌, List, [], ◌∷◌, codes}
 use Rattle.shop_base.specs.{Plan.PlannedShop, Plan.jobs, Plan.steps, Plan.budget, Cell.Cell, Cell.made}
 use Rattle.people_names.specs.{NameBooks.NameBook, Words.job_word, Words.moment_word}
 use Rattle.plan_explain.specs.{Arcs.before, Parts.texts_below, Leavings.budget_words, Leavings.leaving_line}

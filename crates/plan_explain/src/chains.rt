@@ -1,18 +1,19 @@
 //! The lines of a chain.
 
-ghost use Rattle.std.specs.Prelude.{◌≡◌, ◌+◌, ◌^◌, ◌<◌, ◌≤◌, ◌∷◌, ◌++◌, length, OnOk};
-ghost use Rattle.shop_base.specs.declared.limits.TheConstants.{MAX_MOMENT};
+ghost use Rattle.std.specs.Prelude.{◌≡◌, ◌+◌, ◌^◌, ◌<◌, ◌≤◌, [], ◌∷◌, ◌++◌, length, codes, decimal, OnOk};
+ghost use Rattle.shop_base.specs.{declared.limits.TheConstants.MAX_MOMENT, NodeText.node_text};
 ghost use Rattle.plan_explain.specs.{Added.Adds, Arcs.before};
-ghost use Rattle.plan_explain.specs.Chains.{AreAlong, length_from, reached_line, reached_lines};
-ghost use Rattle.plan_explain.specs.Holds.{bound_line, overdue_words, hold_words};
+ghost use Rattle.plan_explain.specs.{Chains.AreAlong, Chains.length_from, Chains.reached_lines};
+ghost use Rattle.plan_explain.specs.{Holds.overdue_words, Holds.hold_words};
 ghost use Rattle.plan_explain.specs.RestChains.{IsRestChain, IsChainOrNone, AreRestChainLines};
 ghost use Rattle.people_names.specs.declared.names.TheConstants.{LONGEST_MOMENT};
+ghost use Rattle.people_names.specs.Words.{machine_word, moment_word};
 
-use crate::arcs::{ArcKind, arc_kind};
+use crate::arcs::arc_kind;
 use crate::words::{Line, push_line, put_arc, put_job, put_node};
 use cell_tables::WorkCell;
 use people_names::Names;
-use plan_verifier::{Hold, NodeBound, bound_after};
+use plan_verifier::{Hold, bound_after};
 use shop_base::{JobNo, MachineNo, Moment, Node, Planned, Shaped};
 use std::alloc::AllocError;
 
@@ -53,27 +54,11 @@ fn push_from<P: Planned>(
     let Some(bound) = bound_after(cell, present, first) else {
         unreachable!()
     };
-    push_bound_line(text, names, first, bound)?;
-    push_reached_lines(text, names, shaped, bound.moment, first, rest)
-}
-
-/// Adds `T B WORDS`, of a node with this bound.
-fn push_bound_line(
-    text: &mut Vec<u8>,
-    names: &Names,
-    node: Node,
-    bound: NodeBound,
-) -> Result<(), AllocError>
-    ensures { OnOk result (text.new.items ≡ text.old.items ++ bound_line names.now node bound) }
-{
     let mut line = Line::ended();
     put_overdue(&mut line, names, bound.overdue);
     put_hold(&mut line, names, bound.holds);
-    line.put_text(b" ");
-    put_node(&mut line, node);
-    line.put_text(b" ");
-    names.put_moment(&mut line, bound.moment);
-    push_line(text, &line)
+    push_node_at(text, names, &mut line, first, bound.moment)?;
+    push_reached_lines(text, names, shaped, bound.moment, first, rest)
 }
 
 /// Writes since when that is overdue, if it is.
@@ -98,11 +83,11 @@ fn put_hold(line: &mut Line, names: &Names, holds: Hold)
     ensures length { length line.new ≤ 157 + length line.old }
 {
     match holds {
+        Hold::Arrived { job } => put_job(line, names, job, b" has arrived"),
         Hold::Awaited { job } => {
             names.put_job(line, job);
             line.put_text(b"release of job ");
         }
-        Hold::Arrived { job } => put_job(line, names, job, b" has arrived"),
         Hold::Done { job, machine } => {
             names.put_machine(line, machine);
             put_job(line, names, job, b" done on machine ");
@@ -112,48 +97,41 @@ fn put_hold(line: &mut Line, names: &Names, holds: Hold)
             machine,
             since,
             nominal,
-        } => put_operation(line, names, job, machine, since, nominal),
+        } => {
+            put_since(line, names, machine, b" since ", since, nominal);
+            put_job(line, names, job, b" on machine ");
+        }
         Hold::Cleaned {
             machine,
             since,
             clean,
-        } => put_cleaning(line, names, machine, since, clean),
+        } => {
+            put_since(line, names, machine, b" cleaned since ", since, clean);
+            line.put_text(b"machine ");
+        }
     }
 }
 
-/// Writes `job J on machine M since S for P`.
-fn put_operation(
+/// Writes `M since S for P`, with these words in place of ` since `.
+fn put_since(
     line: &mut Line,
     names: &Names,
-    job: JobNo,
     machine: MachineNo,
+    words: &[u8],
     since: Moment,
-    nominal: Moment,
+    time: Moment,
 )
-    requires { length line.old ≤ 45 }
-    ensures written { line.new ≡ before (hold_words names.now (Hold.Worked job machine since nominal)) line.old }
-    ensures length { length line.new ≤ 157 + length line.old }
+    requires old { length line.old ≤ 45 }
+    requires words { length words.now ≤ 15 }
+    ensures written { line.new ≡ before (machine_word names.now machine ∷ words.now
+        ∷ moment_word names.now since ∷ codes " for " ∷ decimal time ∷ []) line.old }
+    ensures length { length line.new ≤ 94 + length words.now + length line.old }
 {
-    line.put_number(nominal);
+    line.put_number(time);
     line.put_text(b" for ");
     names.put_moment(line, since);
-    line.put_text(b" since ");
+    line.put_text(words);
     names.put_machine(line, machine);
-    put_job(line, names, job, b" on machine ");
-}
-
-/// Writes `machine M cleaned since S for C`.
-fn put_cleaning(line: &mut Line, names: &Names, machine: MachineNo, since: Moment, clean: Moment)
-    requires { length line.old ≤ 45 }
-    ensures written { line.new ≡ before (hold_words names.now (Hold.Cleaned machine since clean)) line.old }
-    ensures length { length line.new ≤ 157 + length line.old }
-{
-    line.put_number(clean);
-    line.put_text(b" for ");
-    names.put_moment(line, since);
-    line.put_text(b" cleaned since ");
-    names.put_machine(line, machine);
-    line.put_text(b"machine ");
 }
 
 /// Adds the lines of the nodes along a path, after one that is reached at a moment: for each the moment at which it is
@@ -175,27 +153,29 @@ fn push_reached_lines(
     for node in along {
         let arc = arc_kind(shaped, last, *node);
         at += arc.time();
-        push_reached_line(text, names, at, *node, arc)?;
+        let mut line = Line::ended();
+        put_arc(&mut line, names, arc);
+        push_node_at(text, names, &mut line, *node, at)?;
         last = *node;
     }
     Ok(())
 }
 
-/// Adds `T B WORDS`.
-fn push_reached_line(
+/// Adds the node, the moment and what the line has; fails only when out of memory.
+fn push_node_at(
     text: &mut Vec<u8>,
     names: &Names,
-    at: Moment,
+    line: &mut Line,
     node: Node,
-    arc: ArcKind,
+    moment: Moment,
 ) -> Result<(), AllocError>
-    ensures { OnOk result (text.new.items ≡ text.old.items ++ reached_line names.now at node arc) }
+    requires { length line.old ≤ 204 }
+    ensures { OnOk result (text.new.items ≡ text.old.items
+        ++ before (moment_word names.now moment ∷ codes " " ∷ node_text node ∷ codes " " ∷ []) line.old) }
 {
-    let mut line = Line::ended();
-    put_arc(&mut line, names, arc);
     line.put_text(b" ");
-    put_node(&mut line, node);
+    put_node(line, node);
     line.put_text(b" ");
-    names.put_moment(&mut line, at);
-    push_line(text, &line)
+    names.put_moment(line, moment);
+    push_line(text, line)
 }

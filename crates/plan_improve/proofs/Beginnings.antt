@@ -1,6 +1,7 @@
 -- From where the rest of a run is looked at, and what is left of it.
 use Rattle.std.proofs.Common.{◌≡◌, ℕ, ◌≤◌, ◌↔◌, nat_lt, lt-ltb, arith, false, Option, Result, Ok, Err, IfErr, OnOk, List, [], ◌∷◌, length, refl, sym, subst, ◌+◌, ◌++◌, map, ap, ◌∙◌}
 use Rattle.std.proofs.lemmas.List.FromFn.{map-range_with_len_more}
+use Rattle.run_log.specs.Present.{IsRunAt}
 use Rattle.plan_improve.specs.{declared.begun.Begun.Begun, Faults.IsImproveRestFault, declared.not_improved.NotImproved.NotImproved}
 use Rattle.plan_improve.specs.declared.improve_fault.ImproveFault.TheVariants.{Memory as OutOfMemory}
 use Rattle.plan_seek.specs.declared.search.TheConstants.{MAX_ROUNDS}
@@ -26,12 +27,12 @@ few_rounds (Ok found) rounds few = few
 few_rounds (Err e) rounds few = tt
 
 -- the run of a log, as it is recovered
-pub begun_is : (lines : List (List ℕ)) (p q r : PlannedShop) (c : Cell) (entries : List Entry) (begun : Begun) → q ≡ p → r ≡ p → LinesParse p lines entries → IsReplayed p c entries
-    → cell_of q begun.tables ≡ c → AreSound q begun.tables → IsNextMoment c begun.present → IsRestOf r c begun.present begun.rest → ((begun.has_event ≡ false) ↔ LinesParse p lines []) → IsBegun lines p begun
-begun_is lines p q r c entries begun same also parse run cell sound next rest event = record {
+pub begun_is : (lines : List (List ℕ)) (at : Option ℕ) (p q r : PlannedShop) (c : Cell) (entries : List Entry) (begun : Begun) → q ≡ p → r ≡ p → IsRunAt lines at p c entries begun.present
+    → cell_of q begun.tables ≡ c → AreSound q begun.tables → IsRestOf r c begun.present begun.rest → ((begun.has_event ≡ false) ↔ LinesParse p lines []) → IsBegun lines p begun
+begun_is lines at p q r c entries begun same also run cell sound rest event = record {
   sound = subst (λ (x : PlannedShop). AreSound x begun.tables) same sound;
-  cell = record { entries = entries; parse = parse; run = subst (λ (x : Cell). IsReplayed p x entries) (sym here) run };
-  next = subst (λ (x : Cell). IsNextMoment x begun.present) (sym here) next;
+  cell = record { entries = entries; parse = run.parses; run = subst (λ (x : Cell). IsReplayed p x entries) (sym here) run.replayed };
+  next = subst (λ (x : Cell). IsNextMoment x begun.present) (sym here) (record { in_order = run.present_is.1; in_range = run.present_is.2 });
   rest = subst (λ (x : Cell). IsRestOf p x begun.present begun.rest) (sym here) (subst (λ (x : PlannedShop). IsRestOf x c begun.present begun.rest) also rest);
   event = event;
 }

@@ -16,7 +16,7 @@ pub use Rattle.cell_tables.specs.{Events.events_of, PlannedCell.PlannedCell}
 pub use Rattle.cell_tables.specs.{Tables.{AreSound, cell_of, entered_at, no_row, state_of, states_from}, declared.entry.Entry.Entry}
 pub use Rattle.event_lines.proofs.Readings.{one_reading}
 pub use Rattle.event_lines.specs.LogLines.{IsEntryOf, LineParses, LinesParse}
-pub use Rattle.plan_annealing.specs.declared.rest.Rest.{Rest}
+pub use Rattle.plan_annealing.specs.declared.annealed.Rest.{Rest}
 pub use Rattle.plan_seek.specs.Orders.{Proposal, serial_order}
 pub use Rattle.plan_verifier.proofs.{Acceptable.{acyclic, leaving_node}, Answers.{ok_both, ok_each}}
 pub use Rattle.plan_verifier.proofs.GoingOn.{leaving_ahead, leavings_ahead}
@@ -24,13 +24,13 @@ pub use Rattle.plan_verifier.proofs.Reasons.{evident, greatest_once, judged_same
 pub use Rattle.plan_verifier.specs.{Accepted.{IsAcceptable, IsMakespan}, Leavings.{AreLeavingsAhead, IsLastLeaving, leaves_in}}
 pub use Rattle.plan_verifier.specs.{Rest.{AreOrderedAhead, IsGreatestAhead}, RestVerdicts.{IsAcceptableAhead, IsRestAccepted}, Seen.judged}
 pub use Rattle.plan_verifier.specs.Verdicts.{SaysAccepted}
-pub use Rattle.run_log.specs.Audits.{IsReplayed, ParseAsRun}
+pub use Rattle.run_log.specs.{Audits.{IsReplayed, ParseAsRun}, Present.{IsCellOf, present_of}}
 pub use Rattle.text_lines.specs.Lines.{ended_lines}
 pub use Rattle.plan_improve.specs.{AtBound.{IsBound, Meets}, Costs.{IsAtMost, IsCost, IsLateness, IsLess}}
-pub use Rattle.plan_improve.specs.Improved.{HasNoBegin, HasNoRestBegin, IsBegin, IsFound, IsNeverWorse, IsVerdictOn, present_of}
+pub use Rattle.plan_improve.specs.Improved.{HasNoBegin, HasNoRestBegin, IsBegin, IsFound, IsNeverWorse, IsVerdictOn}
 pub use Rattle.plan_improve.specs.Keeping.{Begin, Comes, IsComeTo, IsFixed, IsLast, IsNext, IsNextOf, IsReached, IsSearched, Stands, bound_in, present_in, rest_in, setting_of}
 pub use Rattle.plan_improve.specs.Laws.{ALogIsKeptByTheEntries, ASecondSearchIsNoWorse, AcceptedPlansStayAccepted, AcceptedRestsStayAccepted, BeginsWithEntries, EachOrderHasOneCell, NoWorseIsPassedOn, NobodyBettersIt, TheRestOfTheStartCostsThePlan, TheirMakespansNeverGrow}
-pub use Rattle.plan_improve.specs.{Reordered.{IsReordered, reordered}, RestCosts.{IsCellOf, IsCostFrom, IsRestCost, late_by}}
+pub use Rattle.plan_improve.specs.{Reordered.{IsReordered, reordered}, RestCosts.{IsCostFrom, IsRestCost, late_by}}
 pub use Rattle.plan_improve.specs.{RestKeeping.{IsBegun, IsImproved, LeaveSoon, the_last_leaving}, RestOf.{IsRestOf, job_rest}}
 pub use Rattle.plan_improve.specs.Runs.{AfterRound, AfterRounds, AfterSome, Asked, Becomes, EndsAfter, ReportedRounds, Watched, better, no_answer, no_better, no_round, nobody, one_more, round_more}
 pub use Rattle.plan_improve.specs.Settings.{IsAtBound, IsBetter, IsBoundThere, IsNoWorse, IsRestThere, Setting, rest_after, whole_plan}

@@ -1,5 +1,5 @@
 -- Where a search for a better plan begins, and what it gives.
-use Rattle.std.specs.Prelude.{◌≡◌, ◌↔◌, ℕ, ◌⊎◌, List, [], Option, None, Some}
+use Rattle.std.specs.Prelude.{◌≡◌, ◌↔◌, ℕ, ◌⊎◌, List, []}
 use Rattle.shop_base.specs.{Plan.PlannedShop, Cell.Cell}
 use Rattle.plan_verifier.specs.declared.verdict.Judged.{Judged}
 use Rattle.plan_verifier.specs.RestVerdicts.{IsAcceptedAhead, IsReasonAhead, IsAcceptableAhead, IsRestAccepted}
@@ -30,11 +30,6 @@ module _ (s : Setting) where
 -- the same for the rest of the run that these lines record: they record an event
 abbrev pub HasNoRestBegin : List (List ℕ) → PlannedShop → Type 0
 HasNoRestBegin lines start = HasCycle start × (LinesParse start lines [] → ⊥)
-
--- the present moment: the one that is given, else the last one
-abbrev pub present_of : Option ℕ → ℕ → ℕ
-present_of None last = last
-present_of (Some at) last = at
 
 -- what is said of the rest from a cell and the present moment t on
 pub record IsVerdictOn (p : PlannedShop) (c : Cell) (t : ℕ) (verdict : Judged) : Type 0 where

@@ -4,7 +4,7 @@ use Rattle.shop_base.specs.{declared.limits.TheConstants.MAX_MOMENT, Plan.Planne
 use Rattle.shop_base.specs.{Move.IsPrefix, Run.Event, Run.IsRun, Run.ends_in, Vectors.lists_of}
 use Rattle.text_lines.specs.Lines.{ended_lines}
 use Rattle.cell_tables.specs.PlannedCell.{PlannedCell}
-use Rattle.plan_annealing.specs.declared.rest.Rest.{Rest}
+use Rattle.plan_annealing.specs.declared.annealed.Rest.{Rest}
 use Rattle.plan_seek.specs.Orders.{Proposal}
 use Rattle.plan_improve.specs.{declared.cost.Cost.Cost, declared.best.Best.Best, declared.beginning.First.First}
 use Rattle.plan_improve.specs.declared.beginning.First.TheVariants.{Begins, Stays as StaysFirst}

@@ -1,9 +1,9 @@
 -- The laws of better plans: what is no worse stays accepted, a second search gives nothing worse than the first, nobody betters a plan that meets its bound, and a log has one cell.
 use Rattle.std.specs.Prelude.{◌≡◌, ◌↔◌, ℕ, ◌≤◌, List}
 use Rattle.shop_base.specs.{Plan.PlannedShop, Plan.order, Plan.IsWellShaped, Cell.Cell, Cell.entries, Cell.start, Move.IsPrefix}
-use Rattle.run_log.specs.Audits.{ParseAsRun}
+use Rattle.run_log.specs.{Audits.ParseAsRun, Present.IsCellOf}
 use Rattle.plan_verifier.specs.{Accepted.HasNoCycle, Accepted.IsAcceptable, Accepted.IsMakespan, RestVerdicts.IsAcceptableAhead}
-use Rattle.plan_improve.specs.{declared.cost.Cost.Cost, Costs.IsCost, RestCosts.IsCellOf, RestCosts.IsCostFrom}
+use Rattle.plan_improve.specs.{declared.cost.Cost.Cost, Costs.IsCost, RestCosts.IsCostFrom}
 use Rattle.plan_improve.specs.Settings.{whole_plan, rest_after, IsBetter, IsNoWorse, IsAtBound}
 use Rattle.plan_improve.specs.{Reordered.IsReordered, Improved.IsNeverWorse}
 

@@ -2,17 +2,9 @@
 use Rattle.std.specs.Prelude.{◌≡◌, ℕ, ◌-◌, nat_lt, if◌then◌else◌, List}
 use Rattle.shop_base.specs.{Plan.PlannedShop, Plan.jobs, Plan.steps, Plan.budget, Cell.Cell, Cell.made, Ends.sum_below}
 use Rattle.alt_graph.specs.Solved.{HasCycle}
-use Rattle.cell_tables.specs.declared.entry.Entry.{Entry}
-use Rattle.event_lines.specs.LogLines.{LinesParse}
-use Rattle.run_log.specs.Audits.{IsReplayed}
+use Rattle.run_log.specs.Present.{IsCellOf}
 use Rattle.plan_verifier.specs.Leavings.{AreLeavingsAhead, IsLastLeaving}
 use Rattle.plan_improve.specs.declared.cost.Cost.{Cost}
-
--- the lines record a run of the plan, and this is the cell at its end
-pub record IsCellOf (lines : List (List ℕ)) (p : PlannedShop) (c : Cell) : Type 0 where
-  pub entries : List Entry
-  pub parse : LinesParse p lines entries
-  pub run : IsReplayed p c entries
 
 -- what job j leaves past its budget, nothing where it is gone
 abbrev pub late_by : PlannedShop → Cell → (ℕ → ℕ) → ℕ → ℕ

@@ -1,15 +1,12 @@
 -- The rest of a run, while a plan is improved for it.
-use Rattle.std.specs.Prelude.{◌≡◌, ℕ, ◌<◌, ◌≤◌, ◌↔◌, List, [], Option, false}
-use Rattle.shop_base.specs.{declared.limits.TheConstants.MAX_MOMENT, Plan.PlannedShop, Plan.jobs, Cell.Cell, Cell.IsGone}
+use Rattle.std.specs.Prelude.{◌≡◌, ℕ, ◌<◌, ◌≤◌, ◌↔◌, List, [], false}
+use Rattle.shop_base.specs.{Plan.PlannedShop, Plan.jobs, Cell.Cell, Cell.IsGone}
 use Rattle.shop_base.specs.Report.{IsNextMoment}
 use Rattle.cell_tables.specs.Tables.{cell_of, AreSound}
 use Rattle.event_lines.specs.LogLines.{LinesParse}
-use Rattle.plan_improve.specs.{declared.improved.Improved.Improved, RestCosts.IsCellOf, declared.begun.Begun.Begun, RestOf.IsRestOf}
-use Rattle.plan_improve.specs.{Settings.rest_after, Runs.Asked, Improved.IsVerdictOn, Improved.present_of, Keeping.Comes}
-
--- this is the present moment after the last one
-abbrev pub IsPresent : Option ℕ → ℕ → ℕ → Type 0
-IsPresent at last n = (n ≡ present_of at last) × (last ≤ n) × (n ≤ MAX_MOMENT)
+use Rattle.run_log.specs.Present.{IsCellOf}
+use Rattle.plan_improve.specs.{declared.improved.Improved.Improved, declared.begun.Begun.Begun, RestOf.IsRestOf}
+use Rattle.plan_improve.specs.{Settings.rest_after, Runs.Asked, Improved.IsVerdictOn, Keeping.Comes}
 
 -- no job that isn't gone leaves later than this: a bound of a node, and a nominal time for each node of the largest shop
 abbrev pub the_last_leaving : ℕ

@@ -2,7 +2,7 @@
 use Rattle.std.specs.{Prelude.◌≡◌, Prelude.ℕ, Prelude.nat_lt, Prelude.if◌then◌else◌, Prelude.map, List.range_with_len}
 use Rattle.shop_base.specs.Plan.{PlannedShop, jobs, machines, steps}
 use Rattle.shop_base.specs.{Cell.Cell, Cell.job_in, Cell.made, Cell.since, Cell.cleaning, Movers.due_of_job}
-use Rattle.plan_annealing.specs.{declared.rest.JobRest.JobRest, declared.rest.Rest.Rest}
+use Rattle.plan_annealing.specs.{declared.annealed.JobRest.JobRest, declared.annealed.Rest.Rest}
 use Rattle.plan_verifier.specs.Held.{later_than}
 
 module _ (p : PlannedShop) (c : Cell) (t : ℕ) where

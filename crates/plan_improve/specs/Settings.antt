@@ -2,9 +2,10 @@
 use Rattle.std.specs.Prelude.{◌≡◌, ℕ, List, [], Option, None, Some}
 use Rattle.shop_base.specs.{Plan.PlannedShop, Plan.IsWellShaped, Cell.Cell, Cell.start}
 use Rattle.event_lines.specs.LogLines.{LinesParse}
-use Rattle.plan_annealing.specs.declared.rest.Rest.{Rest}
+use Rattle.plan_annealing.specs.declared.annealed.Rest.{Rest}
 use Rattle.plan_improve.specs.{declared.cost.Cost.Cost, Costs.IsCost, Costs.IsLess, Costs.IsAtMost, AtBound.IsBound, AtBound.Meets}
-use Rattle.plan_improve.specs.{RestCosts.IsCellOf, RestCosts.IsRestCost, RestOf.IsRestOf}
+use Rattle.run_log.specs.Present.{IsCellOf}
+use Rattle.plan_improve.specs.{RestCosts.IsRestCost, RestOf.IsRestOf}
 
 -- what a run has left of a plan, as an improver gets it; nothing where no run has begun
 abbrev pub Left : Type 0

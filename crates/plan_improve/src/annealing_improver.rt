@@ -1,7 +1,8 @@
 use crate::improver::Improver;
 use plan_annealing::{Rest, annealed_orders};
-use shop_base::{JobNo, Shaped};
-use std::alloc::{AllocError, Global};
+use plan_seek::Proposed;
+use shop_base::Shaped;
+use std::alloc::Global;
 
 /// A local search from the best plan so far, in which only entries that are ahead are exchanged: simulated annealing
 /// over the orders of the machines, as plan_annealing does it. Another seed searches elsewhere, and the same one does
@@ -21,13 +22,7 @@ impl AnnealingImprover {
 impl Improver for AnnealingImprover {
     ghost may = { λ improver shaped rest round answer. Unit {0} };
 
-    fn improve(
-        &self,
-        alloc: Global,
-        shaped: &Shaped,
-        rest: Option<&Rest>,
-        round: u32,
-    ) -> Result<Option<Vec<Vec<JobNo>>>, AllocError> {
+    fn improve(&self, alloc: Global, shaped: &Shaped, rest: Option<&Rest>, round: u32) -> Proposed {
         annealed_orders(alloc, shaped, rest, self.seed, round)
     }
 }

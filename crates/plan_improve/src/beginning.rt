@@ -37,28 +37,30 @@ pub(crate) fn first_plan(
 {
     match fixed.cost(alloc, &start) {
         Ok(Some(cost)) => Ok(First::Begins(Best { cell: start, cost })),
-        Ok(None) => first_serially(alloc, start, fixed, has_event),
+        Ok(None) => {
+            if has_event {
+                Ok(First::Stays(start))
+            } else {
+                first_serially(alloc, start, fixed)
+            }
+        }
         Err(error) => Err((error, plan_of(start))),
     }
 }
 
-/// The serial plan, if nothing has happened yet.
+/// The serial plan, where nothing has happened yet.
 fn first_serially(
     alloc: Global,
     start: WorkCell<Shaped>,
     fixed: &Fixed<'_>,
-    has_event: bool,
 ) -> Result<First, (AllocError, Shaped)>
     requires early { IsEarly fixed.now }
     requires stands { Stands (setting_of fixed.now) start }
     requires cycle { HasCycle start.plan }
-    requires event { (has_event ≡ false) ↔ (setting_of fixed.now).fresh start.plan }
+    requires fresh { (setting_of fixed.now).fresh start.plan }
     ensures first { IfOk result (IsFirst (setting_of fixed.now) start.plan) }
     ensures handed_back { IfErr result (λ refused. IsReordered start.plan refused.1) }
 {
-    if has_event {
-        return Ok(First::Stays(start));
-    }
     match serial_orders(alloc, start.shaped().shop()) {
         Ok(order) => {
             let serial = reorder_by(start, order);

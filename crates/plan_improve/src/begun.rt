@@ -1,18 +1,16 @@
 //! From where the rest of a run is looked at.
 
-ghost use Rattle.std.specs.Prelude.{◌≡◌, ◌≤◌, IfOk, IfErr};
-ghost use Rattle.shop_base.specs.declared.limits.TheConstants.{MAX_MOMENT};
+ghost use Rattle.std.specs.Prelude.{◌≡◌, IfOk, IfErr};
 ghost use Rattle.text_lines.specs.Lines.{ended_lines};
 ghost use Rattle.cell_tables.specs.Tables.{cell_of};
-ghost use Rattle.plan_improve.specs.{Improved.present_of, Faults.IsMomentFault, Faults.IsBeginFault};
-ghost use Rattle.plan_improve.specs.RestKeeping.{IsPresent, IsBegun};
+ghost use Rattle.run_log.specs.Present.{present_of};
+ghost use Rattle.plan_improve.specs.{Faults.IsBeginFault, RestKeeping.IsBegun};
 
 use crate::improve_fault::ImproveFault;
 use crate::rest_of_cell::rest_of;
 use cell_tables::Tables;
 use plan_annealing::Rest;
-use run_log::run_of_log;
-use shop_base::limits::MAX_MOMENT;
+use run_log::run_at;
 use shop_base::{Moment, Shaped};
 use std::alloc::Global;
 
@@ -38,10 +36,10 @@ pub(crate) fn begun_at(
     ensures present { IfOk result (λ begun. begun.present ≡ present_of at (cell_of start.now begun.tables).last) }
     ensures refused { IfErr result (IsBeginFault (ended_lines log.now) at start.now) }
 {
-    let run = run_of_log(alloc, start, log)?;
-    // Called for its clause alone: the last moment is within the limit.
-    let _plan = run.cell.shaped();
-    let present = present_moment(at, run.cell.last())?;
+    let (run, present) = match run_at(alloc, start, log, at)? {
+        Ok(found) => found,
+        Err(fault) => return Err(ImproveFault::Run(fault)),
+    };
     let rest = rest_of(alloc, &run.cell, present)?;
     let has_event = run.entries.as_slice().len() > 0;
     let (_, tables) = run.cell.into_parts();
@@ -51,22 +49,4 @@ pub(crate) fn begun_at(
         has_event,
         tables,
     })
-}
-
-/// The moment that is given, if it can be the present one after the last, or else the last one.
-fn present_moment(at: Option<Moment>, last: Moment) -> Result<Moment, ImproveFault>
-    requires { last ≤ MAX_MOMENT }
-    ensures present { IfOk result (IsPresent at last) }
-    ensures refused { IfErr result (IsMomentFault at last) }
-{
-    let Some(at) = at else {
-        return Ok(last);
-    };
-    if at < last {
-        return Err(ImproveFault::Past { last });
-    }
-    if at > MAX_MOMENT {
-        return Err(ImproveFault::MomentTooLarge);
-    }
-    Ok(at)
 }

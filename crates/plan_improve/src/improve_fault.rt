@@ -1,5 +1,7 @@
-use run_log::AuditFault;
-use shop_base::Moment;
+ghost use Rattle.std.specs.Prelude.{◌≡◌};
+ghost use Rattle.plan_improve.specs.declared.improve_fault.ImproveFault.TheVariants.{Memory};
+
+use run_log::RunFault;
 use std::alloc::AllocError;
 use thiserror::Error;
 
@@ -9,41 +11,18 @@ pub enum ImproveFault {
     /// There are more than `MAX_ROUNDS` rounds.
     #[error("TooManyRounds")]
     TooManyRounds,
-    /// The log's whole lines record no run of the plan: the first fault of the first bad one.
-    #[error("Log {0}")]
-    Log(AuditFault),
-    /// The present moment is before the last one of the log.
-    #[error("Past {last}")]
-    Past { last: Moment },
-    /// The present moment is past the latest.
-    #[error("MomentTooLarge")]
-    MomentTooLarge,
     /// Out of memory, here or in an improver. The best plan so far is lost.
     #[error("Memory")]
     Memory,
+    /// There is no run up to the present moment.
+    #[error("{0}")]
+    Run(RunFault),
 }
 
 impl From<AllocError> for ImproveFault {
-    ghost use Rattle.std.specs.Prelude.{◌≡◌};
-    ghost use Rattle.plan_improve.specs.declared.improve_fault.ImproveFault.TheVariants.{Memory};
-
     ghost from_gives = { λ _ fault. fault ≡ Memory };
 
     fn from(_error: AllocError) -> ImproveFault {
         ImproveFault::Memory
-    }
-}
-
-impl From<AuditFault> for ImproveFault {
-    ghost use Rattle.std.specs.Prelude.{◌≡◌};
-    ghost use Rattle.plan_improve.specs.Faults.{log_fault};
-
-    ghost from_gives = { λ audit fault. fault ≡ log_fault audit };
-
-    fn from(audit: AuditFault) -> ImproveFault {
-        match audit {
-            AuditFault::Memory => ImproveFault::Memory,
-            _ => ImproveFault::Log(audit),
-        }
     }
 }

@@ -1,11 +1,12 @@
 ghost use Rattle.std.specs.Prelude.{ℕ, Option, IfOk, option_copied};
 ghost use Rattle.shop_base.specs.Plan.{PlannedShop};
-ghost use Rattle.plan_annealing.specs.declared.rest.Rest.{Rest};
+ghost use Rattle.plan_annealing.specs.declared.annealed.Rest.{Rest};
 ghost use Rattle.plan_seek.specs.Orders.{Proposal, proposal_of};
 
 use plan_annealing::Rest;
-use shop_base::{JobNo, Shaped};
-use std::alloc::{AllocError, Global};
+use plan_seek::Proposed;
+use shop_base::Shaped;
+use std::alloc::Global;
 
 /// An improver of plans that needn't be trusted: each answer is judged.
 pub trait Improver: Drop {
@@ -16,13 +17,7 @@ pub trait Improver: Drop {
     /// is given too; `None` where no run has begun. Rounds are numbered from 0, so that an improver that is asked again
     /// can look elsewhere. Nothing is required of an answer: orders that don't fit the shop, don't begin with the
     /// entries so far, make a cycle or are no better are passed over.
-    fn improve(
-        &self,
-        alloc: Global,
-        shaped: &Shaped,
-        rest: Option<&Rest>,
-        round: u32,
-    ) -> Result<Option<Vec<Vec<JobNo>>>, AllocError>
+    fn improve(&self, alloc: Global, shaped: &Shaped, rest: Option<&Rest>, round: u32) -> Proposed
         ensures allowed { IfOk result (λ answer.
             may self.now shaped.now (option_copied rest.entry) round (proposal_of answer)) };
 }

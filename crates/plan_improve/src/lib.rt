@@ -33,7 +33,7 @@ pub use improver::Improver;
 pub use improving::improve;
 pub use not_improved::NotImproved;
 pub use plan_annealing::{JobRest, Rest};
-pub use plan_seek::MAX_ROUNDS;
+pub use plan_seek::{MAX_ROUNDS, Proposed};
 pub use reordering::{Replaced, copy_orders, put_back, replace};
 pub use rest_improving::improve_after;
 pub use watch::Watch;

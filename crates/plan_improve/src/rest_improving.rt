@@ -3,13 +3,13 @@
 ghost use Rattle.std.specs.Prelude.{◌≡◌, ◌≤◌, ◌⊎◌, OnOk, IfOk, IfErr};
 ghost use Rattle.shop_base.specs.{Cell.Cell, Report.IsNextMoment};
 ghost use Rattle.text_lines.specs.Lines.{ended_lines};
-ghost use Rattle.run_log.specs.Audits.{ParseAsRun};
+ghost use Rattle.run_log.specs.{Audits.ParseAsRun, Present.IsCellOf, Present.present_of};
 ghost use Rattle.alt_graph.specs.Solved.{HasCycle};
 ghost use Rattle.plan_verifier.specs.RestVerdicts.{IsAcceptableAhead, IsRestAccepted};
 ghost use Rattle.plan_improve.specs.{declared.improve_fault.ImproveFault.TheVariants.Memory, Reordered.IsReordered};
-ghost use Rattle.plan_improve.specs.{Settings.rest_after, Faults.IsImproveRestFault, RestCosts.IsCellOf};
+ghost use Rattle.plan_improve.specs.{Settings.rest_after, Faults.IsImproveRestFault};
 ghost use Rattle.plan_improve.specs.Runs.{ReportedRounds, Rounds, Watched};
-ghost use Rattle.plan_improve.specs.Improved.{HasNoRestBegin, IsNeverWorse, IsFound, IsVerdictOn, present_of};
+ghost use Rattle.plan_improve.specs.Improved.{HasNoRestBegin, IsNeverWorse, IsFound, IsVerdictOn};
 ghost use Rattle.plan_improve.specs.RestKeeping.{IsBegun, IsImproved};
 
 use crate::begun::{Begun, begun_at};

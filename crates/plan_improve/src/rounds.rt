@@ -13,7 +13,8 @@ use crate::judging::judge_orders;
 use crate::recasting::plan_of;
 use crate::watch::Watch;
 use plan_annealing::Rest;
-use shop_base::{JobNo, Moment, Shaped};
+use plan_seek::Proposed;
+use shop_base::{Moment, Shaped};
 use std::alloc::{AllocError, Global};
 
 /// Asks in each round from 0 on, until the best plan meets its bound, and calls the watch before each.
@@ -115,7 +116,7 @@ fn ask(
     shaped: &Shaped,
     rest: Option<&Rest>,
     round: u32,
-) -> Result<Option<Vec<Vec<JobNo>>>, AllocError>
+) -> Proposed
     ensures { IfOk result (λ answer.
         may improver.now shaped.now (option_copied rest.entry) round (proposal_of answer)) }
 {

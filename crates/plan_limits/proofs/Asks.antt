@@ -4,8 +4,8 @@ use Rattle.shop_base.specs.declared.node.Node.{Node}
 use Rattle.shop_base.specs.Plan.{PlannedShop, IsWellShaped}
 use Rattle.shop_base.specs.Cell.{Cell}
 use Rattle.arc_choice.specs.declared.question.Question.{Question}
-use Rattle.arc_choice.specs.declared.outcome.Outcome.{Outcome}
-use Rattle.arc_choice.specs.declared.outcome.Outcome.TheVariants.{Never, Chosen, Open}
+use Rattle.arc_choice.specs.declared.exploring.Outcome.{Outcome}
+use Rattle.arc_choice.specs.declared.exploring.Outcome.TheVariants.{Never, Chosen, Open}
 use Rattle.arc_choice.specs.Choices.{IsArc, IsSound, IsImpossible, arc_at, pair_at}
 use Rattle.arc_choice.specs.Outcomes.{OnNever}
 use Rattle.plan_bounds.specs.Bounds.{times_of}

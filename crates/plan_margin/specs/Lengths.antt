@@ -3,6 +3,8 @@ use Rattle.std.specs.Prelude.{◌≡◌, ℕ, ◌+◌, ◌*◌, ◌<◌, ◌≤�
 use Rattle.shop_base.specs.declared.node.Node.{Node}
 use Rattle.shop_base.specs.Plan.{PlannedShop, jobs, release, budget}
 use Rattle.shop_base.specs.Graph.{Arc, IsNode, node, leaving}
+use Rattle.alt_graph.specs.LatestRows.{HasRows, moment_in}
+use Rattle.plan_margin.specs.declared.margin.TheConstants.{MAX_MARGIN}
 use Rattle.plan_margin.specs.Longer.{longer, LongerPath}
 use Rattle.plan_margin.specs.Order.{IsAt}
 
@@ -23,6 +25,13 @@ AreLengths p s kept = (v : Node) → IsNode p v → IsLength p s kept (Arc p) v 
 -- no length of a node from which an arc leads to v is greater than any can be
 abbrev pub AreShort : PlannedShop → (Node → ℕ) → Node → Type 0
 AreShort p kept v = (u : Node) (d : ℕ) → Arc p u v d → kept u ≤ MAX_LENGTH
+
+-- node v is next: of the nodes from which arcs lead to it the lengths are known
+pub record IsNext (p : PlannedShop) (firsts lengths : List ℕ) (s : ℕ) (v : Node) : Type 0 where
+  pub node : IsNode p v
+  pub rows : HasRows p firsts lengths
+  pub most : s ≤ MAX_MARGIN
+  pub short : AreShort p (moment_in firsts lengths) v
 
 -- so are the lengths of the nodes at the first n places, and none is greater than its place allows
 pub record AreLengthsBelow (p : PlannedShop) (s : ℕ) (kept : Node → ℕ) (nodes : List (Option Node)) (n : ℕ) : Type 0 where

@@ -1,10 +1,10 @@
 //! The greatest lengths of paths, in thousandths, where everything takes longer.
 
 ghost use Rattle.std.specs.Prelude.{◌≡◌, ◌+◌, ◌≤◌, MatchOption};
-ghost use Rattle.shop_base.specs.{declared.node.Node.Node, Graph.Arc, Graph.IsNode};
+ghost use Rattle.shop_base.specs.{declared.node.Node.Node, Graph.Arc};
 ghost use Rattle.alt_graph.specs.{LatestRows.HasRows, LatestRows.moment_in, Sources.IsJobArc};
 ghost use Rattle.plan_margin.specs.{declared.margin.TheConstants.MAX_MARGIN, Longer.longer};
-ghost use Rattle.plan_margin.specs.Lengths.{AreLengths, AreReached, IsLength, AreShort};
+ghost use Rattle.plan_margin.specs.Lengths.{AreLengths, AreReached, IsLength, IsNext};
 ghost use Rattle.plan_margin.specs.{Lengths.AreAllWithin, Lengths.IsFirstOver, Lengths.MAX_LENGTH, Order.IsInOrder};
 
 use alt_graph::{ArcIn, Graph, job_source};
@@ -35,10 +35,7 @@ pub(crate) fn fill_lengths(
 
 /// The greatest length of a path to the node, by those of the nodes from which arcs lead to it.
 fn length_to(graph: &Graph<'_>, lengths: &[Moment], node: Node, thousandths: u32) -> Moment
-    requires node { IsNode graph.now.plan node }
-    requires rows { HasRows graph.now.plan graph.now.firsts lengths.now }
-    requires most { thousandths ≤ MAX_MARGIN }
-    requires short { AreShort graph.now.plan (moment_in graph.now.firsts lengths.now) node }
+    requires { IsNext graph.now.plan graph.now.firsts lengths.now thousandths node }
     ensures { let p = graph.now.plan in
         IsLength p thousandths (moment_in graph.now.firsts lengths.now) (Arc p) node result }
 {
@@ -51,10 +48,7 @@ fn length_to(graph: &Graph<'_>, lengths: &[Moment], node: Node, thousandths: u32
 
 /// The same over the place before it in its job; at a job's first place its release.
 fn length_in_job(graph: &Graph<'_>, lengths: &[Moment], node: Node, thousandths: u32) -> Moment
-    requires node { IsNode graph.now.plan node }
-    requires rows { HasRows graph.now.plan graph.now.firsts lengths.now }
-    requires most { thousandths ≤ MAX_MARGIN }
-    requires short { AreShort graph.now.plan (moment_in graph.now.firsts lengths.now) node }
+    requires { IsNext graph.now.plan graph.now.firsts lengths.now thousandths node }
     ensures { let p = graph.now.plan in
         IsLength p thousandths (moment_in graph.now.firsts lengths.now) (IsJobArc p) node result }
 {

@@ -22,7 +22,7 @@ pub fn the_greatest_margin_in_numbers()
 {}
 
 /// How much longer everything may take.
-#[derive(Clone, Copy, Debug, PartialEq, Eq, Drop)]
+#[derive(Clone, Copy, Debug, Drop)]
 pub struct Margin {
     /// By how many thousandths, at most [`MAX_MARGIN`].
     pub thousandths: u32,
@@ -43,12 +43,23 @@ pub fn find_margin(alloc: Global, verified: &Verified) -> Result<Margin, AllocEr
     let graph = Graph::new(alloc, shaped)?;
     let nodes = in_order(alloc, verified, graph.node_count())?;
     let mut lengths = vec![in alloc; 0; nodes.len()]?;
-    match late_with(&graph, &nodes, &mut lengths, MAX_MARGIN) {
-        Some(job) => Ok(halved(&graph, &nodes, &mut lengths, job)),
-        None => Ok(Margin {
+    Ok(greatest(&graph, &nodes, &mut lengths))
+}
+
+/// The margin. The lengths are written anew.
+fn greatest(graph: &Graph<'_>, nodes: &[Option<Node>], lengths: &mut [Moment]) -> Margin
+    requires order { IsInOrder graph.now.plan nodes.now }
+    requires rows { HasRows graph.now.plan graph.now.firsts lengths.old }
+    requires kept { HasLongerSchedule graph.now.plan 0 }
+    ensures margin { IsMargin graph.now.plan result }
+    ensures kept { HasLongerSchedule graph.now.plan result.thousandths }
+{
+    match late_with(graph, nodes, lengths, MAX_MARGIN) {
+        Some(job) => halved(graph, nodes, lengths, job),
+        None => Margin {
             thousandths: MAX_MARGIN,
             then: None,
-        }),
+        },
     }
 }
 

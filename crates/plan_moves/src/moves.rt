@@ -27,13 +27,31 @@ pub fn moves_from(
 {
     match RestController::<TourneyDues>::begin(alloc, cell, present) {
         Ok(mut controller) => {
-            let mut moves = Vec::new(alloc);
-            moves.extend_from_slice(controller.orders())?;
-            run_on(&mut controller, present, &mut moves)?;
-            Ok(moves)
+            let moves = all_moves(alloc, &mut controller, present);
+            drop(controller);
+            Ok(moves?)
         }
-        Err((fault, _cell)) => Err(fault),
+        Err((fault, cell)) => {
+            drop(cell);
+            Err(fault)
+        }
     }
+}
+
+/// The moves that have been ordered, and those of the reports that come, until nothing comes.
+fn all_moves<D: Dues>(
+    alloc: Global,
+    controller: &mut RestController<D>,
+    present: Moment,
+) -> Result<Vec<MoveOrder>, AllocError>
+    requires { IsOnTime controller.old.planned present controller.old.cell }
+    ensures over { OnOk result (IsOver controller.old.planned present controller.new.cell) }
+    ensures runs { IfOk result (λ moves. RunsOn controller.old.planned present controller.old.cell controller.old.orders
+        controller.new.cell moves.items) }
+{
+    let mut moves = Vec::from_slice(alloc, controller.orders())?;
+    run_on(controller, present, &mut moves)?;
+    Ok(moves)
 }
 
 /// Reports what comes next until nothing does, and adds the moves that are ordered.

@@ -15,11 +15,11 @@ use Rattle.shop_base.specs.Cell.{Cell, job_in, made, ready, IsOn}
 use Rattle.shop_base.proofs.Visits.{visits_job, visits-stands}
 use Rattle.shop_base.proofs.Keeping.{alone_on}
 use Rattle.plan_revise.specs.declared.change.Change.{Change}
-use Rattle.plan_revise.specs.declared.change_fault.ChangeFault.{ChangeFault}
-use Rattle.plan_revise.specs.declared.change_fault.NotRevised.{NotRevised}
-use Rattle.plan_revise.specs.declared.change_fault.NotRevised.TheVariants.{Refused, Memory as NoMemory}
-use Rattle.plan_revise.specs.declared.change_fault.Refusal.{Refusal}
-use Rattle.plan_revise.specs.declared.change_fault.Refusal.TheVariants.{Fault, Memory}
+use Rattle.plan_revise.specs.declared.change.ChangeFault.{ChangeFault}
+use Rattle.plan_revise.specs.declared.change.NotRevised.{NotRevised}
+use Rattle.plan_revise.specs.declared.change.NotRevised.TheVariants.{Refused, Memory as NoMemory}
+use Rattle.plan_revise.specs.declared.change.Refusal.{Refusal}
+use Rattle.plan_revise.specs.declared.change.Refusal.TheVariants.{Fault, Memory}
 use Rattle.plan_revise.specs.Orders.{changed_at, removed, put_last}
 use Rattle.plan_revise.specs.Promises.{no_promise}
 use Rattle.plan_revise.specs.Ended.{ended}

@@ -4,13 +4,13 @@ use Rattle.shop_base.specs.declared.limits.TheConstants.{MAX_JOBS, MAX_RELEASE, 
 use Rattle.shop_base.specs.declared.shop.Step.{Step}
 use Rattle.shop_base.specs.Shop.{IsRoute}
 use Rattle.shop_base.specs.Plan.{PlannedShop, jobs, Visits}
-use Rattle.plan_revise.specs.declared.change_fault.ChangeFault.{ChangeFault}
-use Rattle.plan_revise.specs.declared.change_fault.ChangeFault.TheVariants.{TooManyMachines}
-use Rattle.plan_revise.specs.declared.change_fault.Refusal.{Refusal}
-use Rattle.plan_revise.specs.declared.change_fault.Refusal.TheVariants.{Fault, Memory}
+use Rattle.plan_revise.specs.declared.change.ChangeFault.{ChangeFault}
+use Rattle.plan_revise.specs.declared.change.ChangeFault.TheVariants.{TooManyMachines}
+use Rattle.plan_revise.specs.declared.change.Refusal.{Refusal}
+use Rattle.plan_revise.specs.declared.change.Refusal.TheVariants.{Fault, Memory}
 use Rattle.plan_revise.specs.declared.change.Change.{Change}
-use Rattle.plan_revise.specs.declared.change_fault.NotRevised.{NotRevised}
-use Rattle.plan_revise.specs.declared.change_fault.NotRevised.TheVariants.{Refused, Memory as NoMemory}
+use Rattle.plan_revise.specs.declared.change.NotRevised.{NotRevised}
+use Rattle.plan_revise.specs.declared.change.NotRevised.TheVariants.{Refused, Memory as NoMemory}
 use Rattle.plan_revise.specs.Revised.{IsFirstRefused}
 use Rattle.plan_revise.specs.Settings.{Setting, moves_made, IsAtWork}
 use Rattle.plan_revise.specs.Aside.{HasRoom}

@@ -1,7 +1,7 @@
 -- The names of faults.
 use Rattle.std.specs.Prelude.{ℕ, List, codes}
-use Rattle.plan_revise.specs.declared.change_fault.ChangeFault.{ChangeFault}
-use Rattle.plan_revise.specs.declared.change_fault.ChangeFault.TheVariants.{MachineOutOfRange, Idle, TooSoon, NominalTooLarge, OddWords, BadNumber, TooManyJobs, EmptyRoute, MachineTwice, ReleaseTooLarge, BudgetTooLarge, JobOutOfRange, JobGone, TooManyMachines}
+use Rattle.plan_revise.specs.declared.change.ChangeFault.{ChangeFault}
+use Rattle.plan_revise.specs.declared.change.ChangeFault.TheVariants.{MachineOutOfRange, Idle, TooSoon, NominalTooLarge, OddWords, BadNumber, TooManyJobs, EmptyRoute, MachineTwice, ReleaseTooLarge, BudgetTooLarge, JobOutOfRange, JobGone, TooManyMachines}
 
 -- the name of a fault
 abbrev pub fault_name : ChangeFault → List ℕ

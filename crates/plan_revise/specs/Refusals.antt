@@ -10,8 +10,8 @@ use Rattle.orlib_read.specs.Kinds.{first_line, IsJobLine}
 use Rattle.orlib_read.specs.Faults.{IsOddLine, IsWordLine}
 use Rattle.plan_revise.specs.declared.change.Change.{Change}
 use Rattle.plan_revise.specs.declared.change.Change.TheVariants.{Until, Add, Scrap, Down}
-use Rattle.plan_revise.specs.declared.change_fault.ChangeFault.{ChangeFault}
-use Rattle.plan_revise.specs.declared.change_fault.ChangeFault.TheVariants.{MachineOutOfRange, Idle, TooSoon, NominalTooLarge, OddWords, BadNumber, TooManyJobs, ReleaseTooLarge, BudgetTooLarge, JobOutOfRange, JobGone, TooManyMachines}
+use Rattle.plan_revise.specs.declared.change.ChangeFault.{ChangeFault}
+use Rattle.plan_revise.specs.declared.change.ChangeFault.TheVariants.{MachineOutOfRange, Idle, TooSoon, NominalTooLarge, OddWords, BadNumber, TooManyJobs, ReleaseTooLarge, BudgetTooLarge, JobOutOfRange, JobGone, TooManyMachines}
 use Rattle.plan_revise.specs.Promises.{no_promise}
 use Rattle.plan_revise.specs.Settings.{Setting, moves_made, HasLeft, IsAtWork}
 use Rattle.plan_revise.specs.Aside.{HasRoom}

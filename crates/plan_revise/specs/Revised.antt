@@ -3,9 +3,9 @@ use Rattle.std.specs.Prelude.{◌≡◌, ℕ, List, [], ◌∷◌, take, slice_g
 use Rattle.shop_base.specs.Plan.{PlannedShop}
 use Rattle.shop_base.specs.Cell.{Cell}
 use Rattle.plan_revise.specs.declared.change.Change.{Change}
-use Rattle.plan_revise.specs.declared.change_fault.ChangeFault.{ChangeFault}
-use Rattle.plan_revise.specs.declared.change_fault.NotRevised.{NotRevised}
-use Rattle.plan_revise.specs.declared.change_fault.NotRevised.TheVariants.{Refused, Memory}
+use Rattle.plan_revise.specs.declared.change.ChangeFault.{ChangeFault}
+use Rattle.plan_revise.specs.declared.change.NotRevised.{NotRevised}
+use Rattle.plan_revise.specs.declared.change.NotRevised.TheVariants.{Refused, Memory}
 use Rattle.plan_revise.specs.Settings.{Setting, setting}
 use Rattle.plan_revise.specs.Aside.{IsPlant}
 use Rattle.plan_revise.specs.Changes.{Becomes}

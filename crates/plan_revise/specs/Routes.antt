@@ -4,8 +4,8 @@ use Rattle.shop_base.specs.declared.limits.TheConstants.{MAX_NOMINAL}
 use Rattle.shop_base.specs.declared.shop.Step.{Step}
 use Rattle.shop_base.specs.Shop.{IsFirstVisit, step_at}
 use Rattle.shop_base.specs.ShopFault.{AreSoundSteps, IsLaterVisit}
-use Rattle.plan_revise.specs.declared.change_fault.ChangeFault.{ChangeFault}
-use Rattle.plan_revise.specs.declared.change_fault.ChangeFault.TheVariants.{MachineOutOfRange, MachineTwice, NominalTooLarge, EmptyRoute}
+use Rattle.plan_revise.specs.declared.change.ChangeFault.{ChangeFault}
+use Rattle.plan_revise.specs.declared.change.ChangeFault.TheVariants.{MachineOutOfRange, MachineTwice, NominalTooLarge, EmptyRoute}
 
 -- this is wrong with step k of a route over so many machines: its machine isn't one of them, or is on the route before, or its nominal time is over the limit
 abbrev pub IsStepFault : ℕ → List Step → ℕ → ChangeFault → Type 0

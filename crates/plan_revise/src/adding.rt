@@ -1,17 +1,13 @@
 //! One more job.
 
 ghost use Rattle.std.specs.Prelude.{◌≡◌, ℕ, ◌<◌, OnOk, IfErr, IfOk, length};
-ghost use Rattle.shop_base.specs.declared.limits.TheConstants.{MAX_JOBS};
-ghost use Rattle.shop_base.specs.Shop.{step_at};
-ghost use Rattle.shop_base.specs.Plan.{jobs, machines};
+ghost use Rattle.shop_base.specs.{declared.limits.TheConstants.MAX_JOBS, Shop.step_at, Plan.jobs, Plan.machines};
 ghost use Rattle.orlib_read.specs.Kinds.{first_line, IsJobLine};
-ghost use Rattle.plan_revise.specs.Placed.{added};
-ghost use Rattle.plan_revise.specs.Changes.{IsAdded, given_or};
+ghost use Rattle.plan_revise.specs.{Placed.added, Changes.IsAdded, Changes.given_or};
 ghost use Rattle.plan_revise.specs.Refusals.{IsAddFault, IsStepsFault, IsLineFault};
-ghost use Rattle.plan_revise.specs.Fits.{IsFit, IsRevision};
-ghost use Rattle.plan_revise.specs.Answers.{UnlessMemory, AreFitFor};
+ghost use Rattle.plan_revise.specs.{Fits.IsFit, Fits.IsRevision, Answers.UnlessMemory, Answers.AreFitFor};
 
-use crate::change_fault::{ChangeFault, Refusal};
+use crate::change::{ChangeFault, Made, Refusal};
 use crate::checking::check_route;
 use crate::draft::Draft;
 use crate::ending::NO_PROMISE;
@@ -30,7 +26,7 @@ impl Draft {
         words: &[u8],
         release: Option<Moment>,
         budget: Option<Moment>,
-    ) -> Result<(), Refusal>
+    ) -> Made
         requires { IsRevision run.now self.old }
         ensures added { OnOk result (IsAdded run.now self.old words.now release budget self.new) }
         ensures refused { IfErr result (UnlessMemory (IsAddFault run.now self.old words.now release budget)) }

@@ -2,8 +2,7 @@
 
 ghost use Rattle.std.specs.Prelude.{◌≡◌, ℕ, ◌+◌, ◌<◌, ◌↔◌, IsTrue, length};
 ghost use Rattle.shop_base.specs.Plan.{machines, nominal, steps, order, job_at, jobs, IsWellShaped};
-ghost use Rattle.plan_revise.specs.Promises.{HasNoPromise};
-ghost use Rattle.plan_revise.specs.Aside.{IsAside, IsPlant, IsAsideJob};
+ghost use Rattle.plan_revise.specs.{Promises.HasNoPromise, Aside.IsAside, Aside.IsPlant, Aside.IsAsideJob};
 
 use crate::ending::NO_PROMISE;
 use shop_base::{JobNo, MachineNo, Shaped};

@@ -3,11 +3,9 @@
 ghost use Rattle.std.specs.Prelude.{◌≡◌, OnOk, IfErr};
 ghost use Rattle.plan_revise.specs.Changes.{Becomes, IsProlonged, IsScrapped, IsWithout};
 ghost use Rattle.plan_revise.specs.Refusals.{IsRefused, IsUntilFault, IsScrapFault, IsDownFault};
-ghost use Rattle.plan_revise.specs.Fits.{IsRevision};
-ghost use Rattle.plan_revise.specs.Answers.{UnlessMemory};
+ghost use Rattle.plan_revise.specs.{Fits.IsRevision, Answers.UnlessMemory};
 
-use crate::change::Change;
-use crate::change_fault::{ChangeFault, Refusal};
+use crate::change::{Change, ChangeFault, Made, Refusal};
 use crate::draft::Draft;
 use crate::run_so_far::RunSoFar;
 use shop_base::limits::MAX_NOMINAL;
@@ -21,7 +19,7 @@ impl Draft {
         alloc: Global,
         run: &RunSoFar<P>,
         change: Change,
-    ) -> Result<(), Refusal>
+    ) -> Made
         requires { IsRevision run.now self.old }
         ensures made { OnOk result (Becomes run.now self.old change.entry self.new) }
         ensures refused { IfErr result (UnlessMemory (IsRefused run.now self.old change.entry)) }
@@ -39,12 +37,7 @@ impl Draft {
     }
 
     /// Lets the operation that goes on on the machine last until a moment.
-    fn prolong<P: Planned>(
-        &mut self,
-        run: &RunSoFar<P>,
-        machine: MachineNo,
-        to: Moment,
-    ) -> Result<(), Refusal>
+    fn prolong<P: Planned>(&mut self, run: &RunSoFar<P>, machine: MachineNo, to: Moment) -> Made
         requires { IsRevision run.now self.old }
         ensures made { OnOk result (IsProlonged run.now self.old machine to self.new) }
         ensures refused { IfErr result (UnlessMemory (IsUntilFault run.now self.old machine to)) }
@@ -67,12 +60,7 @@ impl Draft {
     }
 
     /// Stops the job where it is.
-    fn scrap<P: Planned>(
-        &mut self,
-        alloc: Global,
-        run: &RunSoFar<P>,
-        job: JobNo,
-    ) -> Result<(), Refusal>
+    fn scrap<P: Planned>(&mut self, alloc: Global, run: &RunSoFar<P>, job: JobNo) -> Made
         requires { IsRevision run.now self.old }
         ensures made { OnOk result (IsScrapped run.now self.old job self.new) }
         ensures refused { IfErr result (UnlessMemory (IsScrapFault run.now self.old job)) }
@@ -93,7 +81,7 @@ impl Draft {
         alloc: Global,
         run: &RunSoFar<P>,
         machine: MachineNo,
-    ) -> Result<(), Refusal>
+    ) -> Made
         requires { IsRevision run.now self.old }
         ensures made { OnOk result (IsWithout run.now self.old machine self.new) }
         ensures refused { IfErr result (UnlessMemory (IsDownFault run.now self.old machine)) }

@@ -5,7 +5,7 @@ ghost use Rattle.shop_base.specs.Shop.{IsRoute, IsSoundStep, step_at};
 ghost use Rattle.shop_base.specs.ShopFault.{AreSoundSteps, IsLaterVisit};
 ghost use Rattle.plan_revise.specs.Routes.{IsRouteFault, IsStepFault};
 
-use crate::change_fault::ChangeFault;
+use crate::change::ChangeFault;
 use shop_base::Step;
 use shop_base::limits::MAX_NOMINAL;
 

@@ -1,8 +1,7 @@
 //! A shop and its plan that are being changed.
 
 ghost use Rattle.std.specs.Prelude.{◌≡◌, IfOk};
-ghost use Rattle.shop_base.specs.Plan.{IsWellShaped};
-ghost use Rattle.shop_base.specs.Vectors.{lists_of, list_of};
+ghost use Rattle.shop_base.specs.{Plan.IsWellShaped, Vectors.lists_of, Vectors.list_of};
 
 use shop_base::{JobNo, Moment, Plan, Shaped, Shop, Step, shape};
 use std::alloc::{AllocError, Global};
@@ -37,18 +36,13 @@ impl Draft {
         ensures { IfOk result (λ draft. draft ≡ shaped.now) }
     {
         let plan = shaped.plan();
-        let routes = copy_routes(alloc, shaped)?;
-        let release = copy_moments(alloc, plan.release.as_slice())?;
-        let budget = copy_moments(alloc, plan.budget.as_slice())?;
-        let order = copy_orders(alloc, shaped)?;
-        let clean = copy_cleanings(alloc, &plan.clean)?;
         Ok(Draft {
             machines: shaped.machine_count(),
-            routes,
-            release,
-            budget,
-            order,
-            clean,
+            routes: copy_routes(alloc, shaped)?,
+            release: plan.release.as_slice().to_vec(alloc)?,
+            budget: plan.budget.as_slice().to_vec(alloc)?,
+            order: copy_orders(alloc, shaped)?,
+            clean: copy_cleanings(alloc, plan)?,
         })
     }
 
@@ -57,21 +51,13 @@ impl Draft {
         requires { IsWellShaped self }
         ensures { result ≡ self }
     {
-        let Draft {
-            machines,
-            routes,
-            release,
-            budget,
-            order,
-            clean,
-        } = self;
         let plan = Plan {
-            release,
-            budget,
-            order,
-            clean,
+            release: self.release,
+            budget: self.budget,
+            order: self.order,
+            clean: self.clean,
         };
-        match Shop::new(machines, routes) {
+        match Shop::new(self.machines, self.routes) {
             Ok(shop) => shaped_of(shop, plan),
             Err(_) => unreachable!(),
         }
@@ -94,15 +80,9 @@ fn copy_routes(alloc: Global, shaped: &Shaped) -> Result<Vec<Vec<Step>>, AllocEr
 {
     let mut routes = Vec::new(alloc);
     for job in 0..shaped.job_count() {
-        routes.push(copy_route(alloc, shaped.route_of(job))?)?;
+        routes.push(shaped.route_of(job).to_vec(alloc)?)?;
     }
     Ok(routes)
-}
-
-fn copy_route(alloc: Global, route: &[Step]) -> Result<Vec<Step>, AllocError>
-    ensures { IfOk result (λ copy. copy.items ≡ route.now) }
-{
-    route.to_vec(alloc)
 }
 
 fn copy_orders(alloc: Global, shaped: &Shaped) -> Result<Vec<Vec<JobNo>>, AllocError>
@@ -110,31 +90,16 @@ fn copy_orders(alloc: Global, shaped: &Shaped) -> Result<Vec<Vec<JobNo>>, AllocE
 {
     let mut orders = Vec::new(alloc);
     for machine in 0..shaped.machine_count() {
-        orders.push(copy_order(alloc, shaped.order_of(machine))?)?;
+        orders.push(shaped.order_of(machine).to_vec(alloc)?)?;
     }
     Ok(orders)
 }
 
-fn copy_order(alloc: Global, order: &[JobNo]) -> Result<Vec<JobNo>, AllocError>
-    ensures { IfOk result (λ copy. copy.items ≡ order.now) }
+fn copy_cleanings(alloc: Global, plan: &Plan) -> Result<Option<Vec<Moment>>, AllocError>
+    ensures { IfOk result (λ copy. list_of copy ≡ plan.now.clean) }
 {
-    order.to_vec(alloc)
-}
-
-fn copy_moments(alloc: Global, moments: &[Moment]) -> Result<Vec<Moment>, AllocError>
-    ensures { IfOk result (λ copy. copy.items ≡ moments.now) }
-{
-    moments.to_vec(alloc)
-}
-
-fn copy_cleanings(
-    alloc: Global,
-    clean: &Option<Vec<Moment>>,
-) -> Result<Option<Vec<Moment>>, AllocError>
-    ensures { IfOk result (λ copy. list_of copy ≡ list_of clean.now) }
-{
-    match clean {
-        Some(times) => Ok(Some(copy_moments(alloc, times.as_slice())?)),
+    match &plan.clean {
+        Some(times) => Ok(Some(times.as_slice().to_vec(alloc)?)),
         None => Ok(None),
     }
 }

@@ -1,14 +1,10 @@
 //! The parts of a change: a job that ends behind a step, that is placed, or that lasts; one job or machine more.
 
 ghost use Rattle.std.specs.Prelude.{◌≡◌, ℕ, ◌<◌, ◌≤◌, OnOk, length, drop};
-ghost use Rattle.shop_base.specs.declared.limits.TheConstants.{MAX_MACHINES};
-ghost use Rattle.shop_base.specs.Shop.{step_at};
+ghost use Rattle.shop_base.specs.{declared.limits.TheConstants.MAX_MACHINES, Shop.step_at};
 ghost use Rattle.shop_base.specs.Plan.{jobs, machines, steps, HasCounts};
-ghost use Rattle.plan_revise.specs.Promises.{no_promise};
-ghost use Rattle.plan_revise.specs.Ended.{ended};
-ghost use Rattle.plan_revise.specs.Placed.{placed, with_job, with_machine};
-ghost use Rattle.plan_revise.specs.Changes.{lasting};
-ghost use Rattle.plan_revise.specs.Fits.{IsFit};
+ghost use Rattle.plan_revise.specs.{Promises.no_promise, Ended.ended};
+ghost use Rattle.plan_revise.specs.{Placed.placed, Placed.with_job, Placed.with_machine, Changes.lasting, Fits.IsFit};
 
 use crate::draft::Draft;
 use crate::orders::{put_last, take_out};

@@ -7,7 +7,6 @@
 mod adding;
 mod aside;
 mod change;
-mod change_fault;
 mod changing;
 mod checking;
 mod draft;
@@ -18,6 +17,5 @@ mod revising;
 mod run_so_far;
 mod stopping;
 
-pub use change::Change;
-pub use change_fault::{ChangeFault, NotRevised};
+pub use change::{Change, ChangeFault, NotRevised};
 pub use revising::revise;

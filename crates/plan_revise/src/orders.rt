@@ -1,8 +1,7 @@
 //! Orders that a job is taken out of, or put last in.
 
 ghost use Rattle.std.specs.Prelude.{◌≡◌, ℕ, ◌<◌, OnOk, length};
-ghost use Rattle.shop_base.specs.Shop.{step_at};
-ghost use Rattle.shop_base.specs.Vectors.{lists_of};
+ghost use Rattle.shop_base.specs.{Shop.step_at, Vectors.lists_of};
 ghost use Rattle.plan_revise.specs.Orders.{without, removed, put_last};
 
 use shop_base::{JobNo, Step};

@@ -1,12 +1,10 @@
 //! Changes one after another.
 
 ghost use Rattle.std.specs.Prelude.{◌≡◌, ◌<◌, ◌≤◌, IfOk, OnOk, IfErr, length, slice_get, Some};
-ghost use Rattle.plan_revise.specs.Revised.{AreMade, IsRevised, IsReason};
-ghost use Rattle.plan_revise.specs.Fits.{IsRevision};
+ghost use Rattle.plan_revise.specs.{Revised.AreMade, Revised.IsRevised, Revised.IsReason, Fits.IsRevision};
 ghost use Rattle.plan_revise.specs.Answers.{refused_at, ParsesFirst};
 
-use crate::change::Change;
-use crate::change_fault::{NotRevised, Refusal};
+use crate::change::{Change, NotRevised, Refusal};
 use crate::draft::Draft;
 use crate::run_so_far::RunSoFar;
 use cell_tables::WorkCell;

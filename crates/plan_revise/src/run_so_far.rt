@@ -1,11 +1,9 @@
 //! What changes are judged by.
 
 ghost use Rattle.std.specs.Prelude.{◌≡◌, ◌<◌, ◌≤◌, IfSome};
-ghost use Rattle.shop_base.specs.declared.limits.TheConstants.{MAX_MACHINES};
-ghost use Rattle.shop_base.specs.Plan.{jobs, machines};
+ghost use Rattle.shop_base.specs.{declared.limits.TheConstants.MAX_MACHINES, Plan.jobs, Plan.machines};
 ghost use Rattle.shop_base.specs.Cell.{made, since};
-ghost use Rattle.plan_revise.specs.Settings.{setting, moves_made};
-ghost use Rattle.plan_revise.specs.Answers.{IsWorker};
+ghost use Rattle.plan_revise.specs.{Settings.setting, Settings.moves_made, Answers.IsWorker};
 
 use crate::aside::plant_machines;
 use cell_tables::WorkCell;

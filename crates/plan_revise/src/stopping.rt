@@ -3,14 +3,12 @@
 ghost use Rattle.std.specs.Prelude.{◌≡◌, ℕ, ◌+◌, ◌<◌, ◌≤◌, min, OnOk, IfErr, IfSome, length, position, ◌==◌};
 ghost use Rattle.shop_base.specs.declared.limits.TheConstants.{MAX_MACHINES};
 ghost use Rattle.shop_base.specs.Plan.{jobs, machines, steps, route, Visits};
-ghost use Rattle.plan_revise.specs.Settings.{moves_made};
-ghost use Rattle.plan_revise.specs.Aside.{HasRoom, with_aside, put_aside};
+ghost use Rattle.plan_revise.specs.{Settings.moves_made, Aside.HasRoom, Aside.with_aside, Aside.put_aside};
 ghost use Rattle.plan_revise.specs.Stopped.{place_on, stopped, stopped_at, without_machine};
-ghost use Rattle.plan_revise.specs.Refusals.{IsDownFault};
-ghost use Rattle.plan_revise.specs.Fits.{IsRevision};
+ghost use Rattle.plan_revise.specs.{Refusals.IsDownFault, Fits.IsRevision};
 ghost use Rattle.plan_revise.specs.Answers.{IsNoRoom, IsNoRoomFor, UnlessMemory};
 
-use crate::change_fault::{ChangeFault, Refusal};
+use crate::change::{ChangeFault, Made, Refusal};
 use crate::draft::Draft;
 use crate::ending::NO_PROMISE;
 use crate::run_so_far::RunSoFar;
@@ -25,7 +23,7 @@ impl Draft {
         alloc: Global,
         run: &RunSoFar<P>,
         machine: MachineNo,
-    ) -> Result<(), Refusal>
+    ) -> Made
         requires revision { IsRevision run.now self.old }
         requires plant { machine < run.now.plant }
         ensures done { OnOk result (self.new ≡ without_machine run.now self.old machine (jobs self.old)) }
@@ -48,7 +46,7 @@ impl Draft {
         run: &RunSoFar<P>,
         job: JobNo,
         machine: MachineNo,
-    ) -> Result<(), Refusal>
+    ) -> Made
         requires revision { IsRevision run.now self.old }
         requires job { job < jobs self.old }
         ensures done { OnOk result
@@ -74,7 +72,7 @@ impl Draft {
         run: &RunSoFar<P>,
         job: JobNo,
         count: usize,
-    ) -> Result<(), Refusal>
+    ) -> Made
         requires revision { IsRevision run.now self.old }
         requires job { job < jobs self.old }
         requires within { count ≤ steps self.old job }

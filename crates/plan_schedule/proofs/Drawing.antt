@@ -1,7 +1,7 @@
 -- The visits of a run, one after another.
-use Rattle.std.proofs.Common.{◌≡◌, ℕ, zero, suc, subst, ◌+◌, ◌-◌, ◌<◌, ◌≤◌, List, [], ◌∷◌, ◌++◌, length, map, drop, drop-cons, get_or, Option, None, Some, refl, sym, ap, ◌∙◌, append-nil, append_assoc, add-one, arith}
+use Rattle.std.proofs.Common.{◌≡◌, ℕ, zero, suc, subst, inl, inr, ◌+◌, ◌-◌, ◌<◌, ◌≤◌, List, [], ◌∷◌, ◌++◌, length, map, drop, drop-cons, get_or, Option, None, Some, refl, sym, ap, ◌∙◌, append-nil, append_assoc, add-one, arith}
 use Rattle.std.proofs.{lemmas.List.{map-id, flat_map_more, get_or_past}, lemmas.List.FromFn.map-range_with_len_more}
-use Rattle.std.proofs.{lemmas.Bool.{eq-eqb, ne_eqb, le-leb, lt-leb}, Math.ListN.drop_of_length-le}
+use Rattle.std.proofs.{lemmas.Bool.{cases_lt, eq-eqb, ne_eqb, le-leb, lt-leb}, Math.ListN.drop_of_length-le}
 use Rattle.std.specs.{Prelude.flat_map, List.range_with_len}
 use Rattle.shop_base.specs.{declared.node.Node.Node, Plan.{PlannedShop, jobs, machines, steps, machine_of, clean}}
 use Rattle.shop_base.specs.{Cell.{Cell, MachineState, absent, unused, made, start}, declared.job_state.JobState.JobState, Sound.IsSound}
@@ -15,6 +15,13 @@ use Rattle.plan_schedule.specs.DrawnVisits.{known_cleaning, cleaned_behind, draw
 range-more : (n : ℕ) → range_with_len 0 (n + 1) ≡ range_with_len 0 n ++ n ∷ []
 range-more n =
     sym (map-id (range_with_len 0 (n + 1))) ∙ map-range_with_len_more (λ x. x) 0 n n (omega arith) ∙ ap (λ (l : List ℕ). l ++ n ∷ []) (map-id (range_with_len 0 n))
+
+-- how many places were looked at from one on, up to an end that may be before it
+pub count_ahead : (m k n : ℕ) → m ≤ k → n ≤ k → (m ≤ n → k ≤ n) → (n < m → k ≤ m) → k - m ≡ n - m
+count_ahead m k n from past within gone = elim (cases_lt n m) [
+  | inl before ↦ (let none = gone before in omega (arith, from, none, before))
+  | inr behind ↦ (let all = within behind in omega (arith, past, all))
+]
 
 module _ (p : PlannedShop) (at : Node → ℕ) where
   -- one more visit of a job, from a place of its route on
@@ -58,12 +65,6 @@ module _ (p : PlannedShop) (c : Cell) (at : Node → ℕ) where
       ∙ ap (λ (l : List DrawnVisit). l ++ job_ahead p c at j) so_far
       ∙ flat_map_more (job_ahead p c at) start (range_with_len 0 j) j
       ∙ ap (λ (l : List ℕ). start ++ flat_map (job_ahead p c at) l) (sym (range-more j))
-
-  -- no visit is ahead of a job that is gone
-  pub none_ahead : (visits : List DrawnVisit) (j n : ℕ) → n ≡ made c j → steps p j < n → visits ≡ visits ++ job_ahead p c at j
-  none_ahead visits j n is gone =
-      let none : steps p j - made c j ≡ 0 = omega (arith, is, gone) in
-      sym (append-nil visits) ∙ ap (λ (k : ℕ). visits ++ job_visits p at j (made c j) k) (sym none)
 
 -- one more of the visits that are known
 pub one_more_drawn : (of : DrawnVisit → DrawnVisit) (start now new drawn : List DrawnVisit) (i : ℕ) (d : DrawnVisit) → i < length drawn → now ++ map of (drop i drawn) ≡ start ++ map of drawn

@@ -1,5 +1,5 @@
 -- Which lines a schedule has, by the moment of each node in the exact run, and its deadline where there is one.
-use Rattle.std.specs.Prelude.{◌≡◌, ℕ, false, ◌+◌, ◌<◌, List, [], codes, Option, None, Some, MatchOption}
+use Rattle.std.specs.Prelude.{◌≡◌, ℕ, false, ◌+◌, ◌<◌, List, codes, Option, None, Some, MatchOption}
 use Rattle.shop_base.specs.declared.node.Node.{Node}
 use Rattle.shop_base.specs.{Plan.PlannedShop, Plan.jobs, Plan.steps, Plan.machine_of, Plan.nominal, Plan.release, Plan.clean, Graph.node}
 use Rattle.people_names.specs.NameBooks.{NameBook}

@@ -3,9 +3,9 @@
 
 // Nothing is done here: a function's contract is the law, so a check of this crate proves it.
 
+ghost use Rattle.plan_schedule.specs.ScheduleLaw.{ScheduleIsTheExactRun, SomeRunIsExact};
 ghost use Rattle.plan_schedule.specs.StartSchedule.{TheRestOfTheStartIsScheduledAsThePlan};
 ghost use Rattle.plan_schedule.specs.DrawnVisits.{TheRunOfTheStartIsDrawnAsThePlan};
-ghost use Rattle.plan_schedule.specs.ScheduleLaw.{ScheduleIsTheExactRun, SomeRunIsExact};
 
 /// Let the ranks rise along every arc, and let lines give the greatest length of a path to each node as its moment.
 /// Then in a controlled run whose reports are exact each event comes at just the moment that they give. A job arrives

@@ -1,11 +1,11 @@
 //! The visits of a run, as a picture draws them: those known so far with their ends, and those ahead.
 
-ghost use Rattle.std.specs.Prelude.{◌≡◌, ◌+◌, ◌-◌, ◌<◌, ◌≤◌, ◌++◌, map, IfOk, IfSome, OnOk, unwrap_or};
+ghost use Rattle.std.specs.Prelude.{◌≡◌, ◌+◌, ◌<◌, ◌≤◌, ◌++◌, map, IfOk, IfSome, OnOk, unwrap_or};
 ghost use Rattle.shop_base.specs.{Report.IsNextMoment, Plan.jobs, Plan.steps, Cell.made};
 ghost use Rattle.alt_graph.specs.Times.{earliest_of, AreRanks};
 ghost use Rattle.plan_verifier.specs.Rest.{AreOrderedAhead};
 ghost use Rattle.plan_schedule.specs.Calendars.{at_of};
-ghost use Rattle.plan_schedule.specs.DrawnVisits.{known_cleaning, drawn_visit, job_visits, place_inside, cleaning_end};
+ghost use Rattle.plan_schedule.specs.DrawnVisits.{known_cleaning, drawn_visit, place_inside, cleaning_end};
 ghost use Rattle.plan_schedule.specs.DrawnVisits.{ended_cleaning, left_visit, going_visit, staying_visit, ended_visit};
 ghost use Rattle.plan_schedule.specs.DrawnVisits.{job_ahead, visits_ahead, leavings_by, IsDrawnRun};
 
@@ -206,7 +206,7 @@ fn push_ahead<P: Planned>(
     Ok(())
 }
 
-/// Adds the visits of a job that are ahead.
+/// Adds the visits of a job that are ahead: none if it is gone.
 fn push_job<P: Planned>(
     visits: &mut Vec<DrawnVisit>,
     calendar: &Calendar<'_, P>,
@@ -217,27 +217,7 @@ fn push_job<P: Planned>(
         OnOk result (visits.new.items ≡ visits.old.items ++ job_ahead k.plan k.cell (at_of k) job) }
 {
     let made = calendar.state(job).made;
-    if calendar.steps(job) < made {
-        return Ok(());
-    }
-    push_visits(visits, calendar, job, made)
-}
-
-/// Adds the visits of a job from a place of its route on.
-fn push_visits<P: Planned>(
-    visits: &mut Vec<DrawnVisit>,
-    calendar: &Calendar<'_, P>,
-    job: JobNo,
-    first: u32,
-) -> Result<(), AllocError>
-    requires job { job < jobs calendar.now.plan }
-    requires first { first ≤ steps calendar.now.plan job }
-    requires ahead { made calendar.now.cell job ≤ first }
-    ensures { let k = calendar.now in
-        OnOk result
-        (visits.new.items ≡ visits.old.items ++ job_visits k.plan (at_of k) job first (steps k.plan job - first)) }
-{
-    for place in first..calendar.steps(job) {
+    for place in made..calendar.steps(job) {
         visits.push(drawn_visit(calendar, job, place))?;
     }
     Ok(())

@@ -3,9 +3,7 @@
 ghost use Rattle.std.specs.Prelude.{◌≡◌, Some};
 ghost use Rattle.shop_base.specs.Vectors.{lists_of};
 ghost use Rattle.plan_verifier.specs.Accepted.{IsAcceptable};
-ghost use Rattle.plan_seek.specs.Tasks.{task_in};
-ghost use Rattle.plan_seek.specs.Turns.{IsInVain};
-ghost use Rattle.plan_seek.specs.Outcomes.{IsOutcome};
+ghost use Rattle.plan_seek.specs.{Tasks.task_in, Turns.IsInVain, Outcomes.IsOutcome};
 
 use crate::task::Task;
 use plan_verifier::{Verdict, Verified, verify};

@@ -1,4 +1,4 @@
-use crate::proposer::Proposer;
+use crate::proposer::{Proposed, Proposer};
 use crate::safe_sequence::{Transfer, place_in, safe_sequence};
 use crate::simulated_cell::SimulatedCell;
 use shop_base::{JobNo, Moment, Shop};
@@ -28,12 +28,7 @@ impl GreedyProposer {
 impl Proposer for GreedyProposer {
     ghost may = { λ proposer shop round proposal. Unit {0} };
 
-    fn propose(
-        &self,
-        alloc: Global,
-        shop: &Shop,
-        round: u32,
-    ) -> Result<Option<Vec<Vec<JobNo>>>, AllocError> {
+    fn propose(&self, alloc: Global, shop: &Shop, round: u32) -> Proposed {
         simulate(alloc, shop, round)
     }
 }
@@ -52,7 +47,7 @@ struct Simulation {
 }
 
 /// The orders in which the jobs enter the machines in the simulated cell.
-fn simulate(alloc: Global, shop: &Shop, round: u32) -> Result<Option<Vec<Vec<JobNo>>>, AllocError> {
+fn simulate(alloc: Global, shop: &Shop, round: u32) -> Proposed {
     let mut simulation = Simulation::start(alloc, shop)?;
     for _ in 0..MAX_CHOICES {
         if simulation.cell.is_done() {

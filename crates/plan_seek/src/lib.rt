@@ -11,13 +11,12 @@ mod safe_sequence;
 mod search;
 mod seek_fault;
 mod serial;
-mod shift;
 mod simulated_cell;
 mod task;
 
 pub use greedy::GreedyProposer;
-pub use proposer::Proposer;
+pub use orders::ShiftProposer;
+pub use proposer::{Proposed, Proposer};
 pub use search::{MAX_ROUNDS, seek, the_most_rounds_in_numbers};
 pub use seek_fault::{NotFound, SeekFault};
 pub use serial::serial_orders;
-pub use shift::ShiftProposer;

@@ -1,13 +1,34 @@
-//! Orders in which all machines take their jobs in one row.
+//! Orders in which all machines take their jobs in one row, and the planner that proposes such ones.
 
-ghost use Rattle.std.specs.Prelude.{◌≡◌, ◌-◌, ◌<◌, ◌≤◌, ◌++◌, length, IfOk, OnOk};
+ghost use Rattle.std.specs.Prelude.{◌≡◌, ◌-◌, ◌<◌, ◌≤◌, ◌++◌, length, IfOk, OnOk, Some};
 ghost use Rattle.std.specs.List.{range_with_len};
-ghost use Rattle.shop_base.specs.Shop.{route_at};
-ghost use Rattle.shop_base.specs.Vectors.{lists_of};
-ghost use Rattle.plan_seek.specs.Orders.{orders_along, jobs_from, visitors, is_on_route};
+ghost use Rattle.shop_base.specs.{Shop.route_at, Vectors.lists_of};
+ghost use Rattle.plan_seek.specs.Orders.{orders_along, shifted_order, jobs_from, visitors, is_on_route};
 
+use crate::proposer::{Proposed, Proposer};
 use shop_base::{JobNo, MachineNo, Shop, Step};
 use std::alloc::{AllocError, Global};
+
+/// A planner that gives all machines their jobs in the same order: ascending, in round `r` from job `r` on, with job 0
+/// after the last. It proposes exactly these lists.
+#[derive(Clone, Copy, Debug, Default)]
+pub struct ShiftProposer;
+
+impl ShiftProposer {
+    /// The planner, which keeps nothing between its rounds.
+    pub fn new() -> ShiftProposer {
+        ShiftProposer
+    }
+}
+
+impl Proposer for ShiftProposer {
+    ghost may = { λ proposer shop round proposal. proposal ≡ Some (shifted_order shop round) };
+
+    fn propose(&self, alloc: Global, shop: &Shop, round: u32) -> Proposed {
+        let orders = orders_from(alloc, shop, round % shop.jobs())?;
+        Ok(Some(orders))
+    }
+}
 
 /// An order for each machine: its jobs from `first` on, ascending, and then those from job 0 on.
 pub(crate) fn orders_from(

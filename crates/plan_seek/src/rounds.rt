@@ -1,15 +1,14 @@
 //! The proposers asked in turn, round by round.
 
 ghost use Rattle.std.specs.Prelude.{IfOk};
-ghost use Rattle.plan_seek.specs.Orders.{proposal_of};
-ghost use Rattle.plan_seek.specs.Turns.{search_by};
+ghost use Rattle.plan_seek.specs.{Orders.proposal_of, Turns.search_by};
 ghost use Rattle.plan_seek.specs.Outcomes.{IsTurnOutcome, IsRoundOutcome, IsRoundsOutcome};
 
 use crate::attempt::{Attempt, try_orders};
-use crate::proposer::Proposer;
+use crate::proposer::{Proposed, Proposer};
 use crate::task::Task;
-use shop_base::{JobNo, Shop};
-use std::alloc::{AllocError, Global};
+use shop_base::Shop;
+use std::alloc::Global;
 
 /// Asks in each round from 0 on, and gives the first plan that is accepted.
 pub(crate) fn try_rounds(
@@ -56,12 +55,7 @@ fn try_proposer(alloc: Global, task: Task, proposer: &Box<dyn Proposer>, round: 
 }
 
 /// Asks one proposer.
-fn ask(
-    alloc: Global,
-    proposer: &Box<dyn Proposer>,
-    shop: &Shop,
-    round: u32,
-) -> Result<Option<Vec<Vec<JobNo>>>, AllocError>
+fn ask(alloc: Global, proposer: &Box<dyn Proposer>, shop: &Shop, round: u32) -> Proposed
     ensures { IfOk result (λ proposal. may proposer.now shop.now round (proposal_of proposal)) }
 {
     proposer.propose(alloc, shop, round)

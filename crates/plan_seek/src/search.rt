@@ -2,8 +2,7 @@
 
 ghost use Rattle.std.specs.Prelude.{◌≡◌, ◌≤◌, IfOk, IfErr, OnOk};
 ghost use Rattle.plan_seek.specs.Tasks.{task_of, task_given_back, with_order, IsAccepted};
-ghost use Rattle.plan_seek.specs.Turns.{search_by};
-ghost use Rattle.plan_seek.specs.Search.{IsSoughtPlan, IsSearchRefused, IsBegun};
+ghost use Rattle.plan_seek.specs.{Turns.search_by, Search.IsSoughtPlan, Search.IsSearchRefused, Search.IsBegun};
 
 use crate::attempt::Attempt;
 use crate::proposer::Proposer;

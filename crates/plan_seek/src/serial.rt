@@ -1,11 +1,8 @@
 //! The serial plan, which comes last: it has no cycle, so it is accepted unless it is late.
 
 ghost use Rattle.std.specs.Prelude.{◌≡◌, IfOk};
-ghost use Rattle.shop_base.specs.Vectors.{lists_of};
-ghost use Rattle.shop_base.specs.Plan.{IsWellShaped};
-ghost use Rattle.plan_seek.specs.Orders.{serial_order};
-ghost use Rattle.plan_seek.specs.Tasks.{PlanTask, serial_plan};
-ghost use Rattle.plan_seek.specs.Search.{AreSoundNumbers};
+ghost use Rattle.shop_base.specs.{Vectors.lists_of, Plan.IsWellShaped};
+ghost use Rattle.plan_seek.specs.{Orders.serial_order, Tasks.PlanTask, Tasks.serial_plan, Search.AreSoundNumbers};
 ghost use Rattle.plan_seek.specs.Outcomes.{IsSerialOutcome};
 
 use crate::orders::orders_from;

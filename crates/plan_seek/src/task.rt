@@ -3,8 +3,7 @@
 ghost use Rattle.std.specs.Prelude.{◌≡◌, OnOk, IfErr};
 ghost use Rattle.shop_base.specs.Vectors.{lists_of};
 ghost use Rattle.plan_seek.specs.Tasks.{with_order, task_given_back, serial_plan};
-ghost use Rattle.shop_base.specs.Plan.{HasCounts, IsWellShaped};
-ghost use Rattle.shop_base.specs.ShapeFault.{IsFirstShapeFault};
+ghost use Rattle.shop_base.specs.{Plan.HasCounts, Plan.IsWellShaped, ShapeFault.IsFirstShapeFault};
 
 use crate::seek_fault::{NotFound, SeekFault};
 use shop_base::{JobNo, Moment, Plan, ShapeFault, Shaped, Shop, check_limits};
@@ -32,38 +31,24 @@ impl Task {
     pub fn with_order(self, order: Vec<Vec<JobNo>>) -> (Shop, Plan)
         ensures { record { shop = result.0; plan = result.1 } ≡ with_order self (lists_of order.items) }
     {
-        let Task {
-            shop,
-            release,
-            budget,
-            clean,
-        } = self;
-        (
-            shop,
-            Plan {
-                release,
-                budget,
-                order,
-                clean,
-            },
-        )
+        let plan = Plan {
+            release: self.release,
+            budget: self.budget,
+            order,
+            clean: self.clean,
+        };
+        (self.shop, plan)
     }
 
     /// The task that a plan for the shop was to do. The plan's orders are dropped.
     pub fn of(shop: Shop, plan: Plan) -> Task
         ensures { record { shop = shop; plan = plan } ≡ with_order result plan.order }
     {
-        let Plan {
-            release,
-            budget,
-            order: _,
-            clean,
-        } = plan;
         Task {
             shop,
-            release,
-            budget,
-            clean,
+            release: plan.release,
+            budget: plan.budget,
+            clean: plan.clean,
         }
     }
 
@@ -80,18 +65,12 @@ impl Task {
         ensures reason { result.fault ≡ fault }
         ensures given_back { task_given_back result ≡ self }
     {
-        let Task {
-            shop,
-            release,
-            budget,
-            clean,
-        } = self;
         NotFound {
             fault,
-            shop,
-            release,
-            budget,
-            clean,
+            shop: self.shop,
+            release: self.release,
+            budget: self.budget,
+            clean: self.clean,
         }
     }
 }

@@ -4,26 +4,4 @@
 #![tactic(auto)]
 
 #[cfg(test)]
-mod better_plans;
-#[cfg(test)]
-mod by_budget;
-#[cfg(test)]
-mod descending;
-#[cfg(test)]
-mod evidence;
-#[cfg(test)]
-mod instance_texts;
-#[cfg(test)]
-mod plan_texts;
-#[cfg(test)]
-mod plans;
-#[cfg(test)]
-mod schedules;
-#[cfg(test)]
-mod scripted;
-#[cfg(test)]
-mod searches;
-#[cfg(test)]
-mod shapes;
-#[cfg(test)]
-mod solutions;
+mod tests;

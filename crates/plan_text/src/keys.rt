@@ -4,10 +4,8 @@ ghost use Rattle.std.specs.Prelude.{◌≡◌, IfOk, Some, option_map, string_by
 ghost use Rattle.std.specs.List.{list_all};
 ghost use Rattle.std.specs.Str.{bytes_eq};
 ghost use Rattle.std.specs.BTreeMap.{keys};
-ghost use Rattle.toml.specs.Data.{get_member};
-ghost use Rattle.toml.specs.View.{view, table_view};
-ghost use Rattle.plan_text.specs.Keys.{name_of, value_at, version_in};
-ghost use Rattle.plan_text.specs.Answers.{PassesExactly};
+ghost use Rattle.toml.specs.{Data.get_member, View.view, View.table_view};
+ghost use Rattle.plan_text.specs.{Keys.name_of, Keys.value_at, Keys.version_in, Answers.PassesExactly};
 ghost use Rattle.plan_text.specs.Listing.{version_faults, has_cleaning, is_common_key, is_known_key, key_faults};
 ghost use Rattle.plan_text.specs.Listing.{missing_faults, missing_keys};
 

@@ -1,11 +1,9 @@
 //! The reader of plan texts.
 
 ghost use Rattle.std.specs.Prelude.{◌≡◌, ◌≢◌, IfOk, IfErr, None, Some};
-ghost use Rattle.shop_base.specs.Vectors.{lists_of, list_of};
-ghost use Rattle.shop_base.specs.Plan.{ShopPlan};
+ghost use Rattle.shop_base.specs.{Vectors.lists_of, Vectors.list_of, Plan.ShopPlan};
 ghost use Rattle.toml.specs.View.{table_view};
-ghost use Rattle.plan_text.specs.declared.plan_fault.PlanFault.{PlanFault};
-ghost use Rattle.plan_text.specs.Keys.{value_at};
+ghost use Rattle.plan_text.specs.{declared.plan_fault.PlanFault.PlanFault, Keys.value_at};
 ghost use Rattle.plan_text.specs.Documents.{IsDocument, IsNoDocument, IsPlanText, IsFirstPlanFault};
 ghost use Rattle.plan_text.specs.Answers.{IsRead, IsRefused, Passes};
 ghost use Rattle.plan_text.specs.Reading.{numbers_in, rows_in, list_at, clean_in, plan_with, plan_in};

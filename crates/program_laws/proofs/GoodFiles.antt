@@ -49,7 +49,7 @@ use Rattle.command_answers.specs.Improving.{IsImproveAnswer, ordered}
 use Rattle.command_answers.specs.ImprovingRests.{IsRestAnswer}
 use Rattle.command_answers.specs.declared.rests.PlanAnswer.{PlanAnswer}
 use Rattle.command_answers.specs.Rests.{IsRestLine, job_asked}
-use Rattle.command_answers.specs.Commands.{PairOfFiles, IfShaped, IfThere, RunsRest, ReadsPlan, ReadsBoth, WithBoth, WithNames, WithNamesAndLog, WithRest, WithSoundNames, RunsBounds, RunsFacts}
+use Rattle.command_answers.specs.Commands.{InputPaths, IfShaped, IfThere, RunsRest, ReadsPlan, ReadsBoth, WithBoth, WithNames, WithNamesAndLog, WithRest, WithSoundNames, RunsBounds, RunsFacts}
 use Rattle.command_answers.specs.Pictures.{IsLogDrawn, IsAnyPlanDrawn, IsPlanDrawn, IsRestDrawing, IsUnshapedDrawn, IfDrawable, DrawsLog, DrawsRest, DrawsSchedule}
 use Rattle.command_answers.specs.BoundLines.{AreBoundLines, AreBounds}
 use Rattle.command_answers.specs.Serial.{serially}
@@ -98,7 +98,7 @@ module _ (content : List ℕ → Result (List ℕ) CommandFault) where
       let read = asked_and_read (λ t. AreFactsAnswered t name) path text is [] run.came run.mid outcome asked run.is run.goes_on in
       facts_answered path text description name shop outcome asked parses read.0 read.1
 
-module _ (content : List ℕ → Result (List ℕ) CommandFault) (pair : PairOfFiles) (p : PlannedShop) (good : ParseAsPlan content pair p) where
+module _ (content : List ℕ → Result (List ℕ) CommandFault) (pair : InputPaths) (p : PlannedShop) (good : ParseAsPlan content pair p) where
   -- the plan's text gives its plan
   plan_came : (shop : JobShop) (came : Result ShopPlan CommandFault) (mid : List (List ℕ)) (read : Result PlannedShop CommandFault) (asked : List (List ℕ)) → shop ≡ p.shop → IsPlanRead good.plan came
       → mid ≡ pair.path ∷ pair.plan ∷ [] → GoesOn (λ plan. Concludes (λ r. r ≡ Ok (record { shop = shop; plan = plan }))) came mid read asked → IsAnswered (λ q. q ≡ p) (pair.path ∷ pair.plan ∷ []) read asked
@@ -137,7 +137,7 @@ module _ (content : List ℕ → Result (List ℕ) CommandFault) (pair : PairOfF
 
   parsed_answered : {A : Type 0} (Is : A → Type 0) (outcome : Result A CommandFault) (asked : List (List ℕ)) → Concludes (IsOrMemory Is) (pair.path ∷ pair.plan ∷ []) outcome asked ⊎ (outcome ≡ Err Memory)
       → IsAnswered Is (pair.path ∷ pair.plan ∷ []) outcome asked
-  parsed_answered Is outcome asked (inl told) = answered Is _ outcome asked told.0 told.1
+  parsed_answered Is outcome asked (inl concluded) = answered Is _ outcome asked concluded.0 concluded.1
   parsed_answered Is outcome asked (inr none) = wanting Is _ outcome asked none
 
   pub good_plan : {A : Type 0} (Is : PlannedShop → A → Type 0) (outcome : Result A CommandFault) (asked : List (List ℕ)) → WithBoth (Shelf content) pair (λ q. Concludes (IsOrMemory (Is q))) [] outcome asked
@@ -148,10 +148,10 @@ module _ (content : List ℕ → Result (List ℕ) CommandFault) (pair : PairOfF
   unnamed_bounds : (outcome : Result Answer CommandFault) (before asked : List (List ℕ)) → WithSoundNames (Shelf content) (λ book. IsOrMemory (AreBoundLines book (times_of p) p.plan.budget)) None p before outcome asked
       → Concludes (IsOrMemory (AreBounds p)) before outcome asked
   unnamed_bounds (Ok answer) before asked (inl (sound, run)) =
-      let told = unnamed (λ book. Concludes (IsOrMemory (AreBoundLines book (times_of p) p.plan.budget))) before asked (Ok answer) (Shelf content) (serially p) run in (inl (sound, told.0), told.1)
+      let concluded = unnamed (λ book. Concludes (IsOrMemory (AreBoundLines book (times_of p) p.plan.budget))) before asked (Ok answer) (Shelf content) (serially p) run in (inl (sound, concluded.0), concluded.1)
   unnamed_bounds (Err fault) before asked (inl (sound, run)) = unnamed (λ book. Concludes (IsOrMemory (AreBoundLines book (times_of p) p.plan.budget))) before asked (Err fault) (Shelf content) (serially p) run
-  unnamed_bounds (Ok answer) before asked (inr told) = (inr told.0, told.1)
-  unnamed_bounds (Err fault) before asked (inr told) = told
+  unnamed_bounds (Ok answer) before asked (inr concluded) = (inr concluded.0, concluded.1)
+  unnamed_bounds (Err fault) before asked (inr concluded) = concluded
 
   bounds_answered : (outcome : Result Answer CommandFault) (asked : List (List ℕ)) → WithSoundNames (Shelf content) (λ book. IsOrMemory (AreBoundLines book (times_of p) p.plan.budget)) None p (pair.path ∷ pair.plan ∷ []) outcome asked ⊎ (outcome ≡ Err Memory)
       → IsAnswered (AreBounds p) (pair.path ∷ pair.plan ∷ []) outcome asked
@@ -170,10 +170,10 @@ module _ (content : List ℕ → Result (List ℕ) CommandFault) (pair : PairOfF
   named_answered : (Is : NameBook → PlannedShop → Answer → Type 0) (outcome : Result Answer CommandFault) (before asked : List (List ℕ))
       → IfShaped (Shelf content) p (WithNames (Shelf content) None p (λ book. IsOrMemory (Is book p))) before outcome asked
       → Concludes (IsOrMemory (λ answer. IsNotShapedLine p answer ⊎ Is no_names p answer)) before outcome asked
-  named_answered Is (Ok answer) before asked (inl (shaped, run)) = let told = unnamed (λ book. Concludes (IsOrMemory (Is book p))) before asked (Ok answer) (Shelf content) p run in (inr told.0, told.1)
+  named_answered Is (Ok answer) before asked (inl (shaped, run)) = let concluded = unnamed (λ book. Concludes (IsOrMemory (Is book p))) before asked (Ok answer) (Shelf content) p run in (inr concluded.0, concluded.1)
   named_answered Is (Err fault) before asked (inl (shaped, run)) = unnamed (λ book. Concludes (IsOrMemory (Is book p))) before asked (Err fault) (Shelf content) p run
-  named_answered Is (Ok answer) before asked (inr told) = (inl told.0, told.1)
-  named_answered Is (Err fault) before asked (inr told) = told
+  named_answered Is (Ok answer) before asked (inr concluded) = (inl concluded.0, concluded.1)
+  named_answered Is (Err fault) before asked (inr concluded) = concluded
 
   named_came : (Is : NameBook → PlannedShop → Answer → Type 0) (outcome : Result Answer CommandFault) (asked : List (List ℕ))
       → IfShaped (Shelf content) p (WithNames (Shelf content) None p (λ book. IsOrMemory (Is book p))) (pair.path ∷ pair.plan ∷ []) outcome asked ⊎ (outcome ≡ Err Memory)
@@ -193,7 +193,7 @@ module _ (content : List ℕ → Result (List ℕ) CommandFault) (pair : PairOfF
       let later = unnamed (λ book. Then (Asks (Shelf content) log) (λ t. Concludes (IsOrMemory (IsLine book p t)))) (pair.path ∷ pair.plan ∷ []) asked outcome (Shelf content) p run in
       let read = asked_and_read content (λ t. IsOrMemory (IsLine no_names p t)) log text is (pair.path ∷ pair.plan ∷ []) later.came later.mid outcome asked later.is later.goes_on in
       answered _ _ outcome asked read.0 read.1
-  named_log_came IsLine log text outcome asked is shaped (inl (inr told)) = wanting _ _ outcome asked (shaped_after_all p outcome shaped told.0)
+  named_log_came IsLine log text outcome asked is shaped (inl (inr unshaped)) = wanting _ _ outcome asked (shaped_after_all p outcome shaped unshaped.0)
   named_log_came IsLine log text outcome asked is shaped (inr none) = wanting _ _ outcome asked none
 
   pub good_named_log : (IsLine : NameBook → PlannedShop → List ℕ → Answer → Type 0) (log text : List ℕ) (outcome : Result Answer CommandFault) (asked : List (List ℕ)) → content log ≡ Ok text → IsWellShaped p
@@ -203,8 +203,8 @@ module _ (content : List ℕ → Result (List ℕ) CommandFault) (pair : PairOfF
       named_log_came IsLine log text outcome asked is shaped (with_both (λ q. IfShaped (Shelf content) q (WithNamesAndLog (Shelf content) None log q (λ book. IsLine book q))) outcome asked run)
 
   -- of the rest of a run, with no job asked for
-  rest_came : (wanted : PlanAnswer) (at : Option ℕ) (told : Option ℕ) (log text : List ℕ) (outcome : Result Answer CommandFault) (asked : List (List ℕ)) → content log ≡ Ok text → IsWellShaped p → told ≡ None
-      → WithBoth (Shelf content) pair (λ q. IfShaped (Shelf content) q (IfThere (Shelf content) told q (WithNamesAndLog (Shelf content) None log q (λ book. IsRestLine book wanted at q)))) [] outcome asked
+  rest_came : (wanted : PlanAnswer) (at : Option ℕ) (job : Option ℕ) (log text : List ℕ) (outcome : Result Answer CommandFault) (asked : List (List ℕ)) → content log ≡ Ok text → IsWellShaped p → job ≡ None
+      → WithBoth (Shelf content) pair (λ q. IfShaped (Shelf content) q (IfThere (Shelf content) job q (WithNamesAndLog (Shelf content) None log q (λ book. IsRestLine book wanted at q)))) [] outcome asked
       → IsAnswered (IsRestLine no_names wanted at p text) (pair.path ∷ pair.plan ∷ log ∷ []) outcome asked
   rest_came wanted at None log text outcome asked is shaped none run = good_named_log (λ book. IsRestLine book wanted at) log text outcome asked is shaped run
   rest_came wanted at (Some j) log text outcome asked is shaped none run = absurd (cc none)
@@ -215,10 +215,10 @@ module _ (content : List ℕ → Result (List ℕ) CommandFault) (pair : PairOfF
 
   any_drawn : (drawn : Result Drawn CommandFault) (before asked : List (List ℕ)) → IfDrawable p (WithNames (Shelf content) None p (λ book. IsOrMemory (IsPlanDrawn book p))) before drawn asked
       → Concludes (IsOrMemory (IsAnyPlanDrawn p)) before drawn asked
-  any_drawn (Ok drawn) before asked (inl (shaped, run)) = let told = unnamed (λ book. Concludes (IsOrMemory (IsPlanDrawn book p))) before asked (Ok drawn) (Shelf content) p run in (inl told.0, told.1)
+  any_drawn (Ok drawn) before asked (inl (shaped, run)) = let concluded = unnamed (λ book. Concludes (IsOrMemory (IsPlanDrawn book p))) before asked (Ok drawn) (Shelf content) p run in (inl concluded.0, concluded.1)
   any_drawn (Err fault) before asked (inl (shaped, run)) = unnamed (λ book. Concludes (IsOrMemory (IsPlanDrawn book p))) before asked (Err fault) (Shelf content) p run
-  any_drawn (Ok drawn) before asked (inr told) = (inr told.0, told.1)
-  any_drawn (Err fault) before asked (inr told) = told
+  any_drawn (Ok drawn) before asked (inr concluded) = (inr concluded.0, concluded.1)
+  any_drawn (Err fault) before asked (inr concluded) = concluded
 
   plan_came_drawn : (drawn : Result Drawn CommandFault) (asked : List (List ℕ))
       → IfDrawable p (WithNames (Shelf content) None p (λ book. IsOrMemory (IsPlanDrawn book p))) (pair.path ∷ pair.plan ∷ []) drawn asked ⊎ (drawn ≡ Err Memory)
@@ -243,7 +243,7 @@ module _ (content : List ℕ → Result (List ℕ) CommandFault) (pair : PairOfF
       let later = unnamed (λ book. Then (Asks (Shelf content) log) (λ t. Concludes (IsOrMemory (IsDrawing book p t)))) (pair.path ∷ pair.plan ∷ []) asked drawn (Shelf content) p run in
       let read = asked_and_read content (λ t. IsOrMemory (IsDrawing no_names p t)) log text is (pair.path ∷ pair.plan ∷ []) later.came later.mid drawn asked later.is later.goes_on in
       answered _ _ drawn asked read.0 read.1
-  drawn_log_came IsDrawing log text drawn asked is shaped (inl (inr told)) = wanting _ _ drawn asked (drawn_after_all drawn shaped told.0)
+  drawn_log_came IsDrawing log text drawn asked is shaped (inl (inr unshaped)) = wanting _ _ drawn asked (drawn_after_all drawn shaped unshaped.0)
   drawn_log_came IsDrawing log text drawn asked is shaped (inr none) = wanting _ _ drawn asked none
 
   pub good_rest_picture : (at : Option ℕ) (before after : Streams) (log text : List ℕ) (outcome : Result Answer CommandFault) (asked : List (List ℕ)) → content log ≡ Ok text → IsWellShaped p
@@ -272,7 +272,7 @@ module _ (content : List ℕ → Result (List ℕ) CommandFault) (pair : PairOfF
       → (IsRestAnswer (AsksOneForRest rounds) at rounds (ended_lines text) (ordered p) outcome × (asked ≡ pair.path ∷ pair.plan ∷ log ∷ [])) ⊎ (outcome ≡ Err Memory)
   improvement_came at rounds log text outcome asked is shaped (inl (inl (also, run))) =
       inl (asked_and_read content (λ t. IsRestAnswer (AsksOneForRest rounds) at rounds (ended_lines t) (ordered p)) log text is (pair.path ∷ pair.plan ∷ []) run.came run.mid outcome asked run.is run.goes_on)
-  improvement_came at rounds log text outcome asked is shaped (inl (inr told)) = inr (shaped_after_all (ordered p) outcome shaped told.0)
+  improvement_came at rounds log text outcome asked is shaped (inl (inr unshaped)) = inr (shaped_after_all (ordered p) outcome shaped unshaped.0)
   improvement_came at rounds log text outcome asked is shaped (inr none) = inr none
 
   pub good_rest_improvement : (at : Option ℕ) (rounds : ℕ) (log text : List ℕ) (outcome : Result Answer CommandFault) (asked : List (List ℕ)) → content log ≡ Ok text → IsWellShaped (ordered p)
@@ -328,8 +328,8 @@ module _ (content : List ℕ → Result (List ℕ) CommandFault) (pair : PairOfF
   -- the line of such a plan is that of `check`
   line_answered : (loaded : Loaded) (outcome : Result Answer CommandFault) (asked : List (List ℕ)) → IsLoaded p loaded → asked ≡ pair.path ∷ pair.plan ∷ [] → IsLineAnswer loaded outcome
       → IsAnswered (IsCheckLine p) (pair.path ∷ pair.plan ∷ []) outcome asked
-  line_answered loaded (Ok answer) asked is files told = (line_of_loaded p loaded answer is told, files)
-  line_answered loaded (Err fault) asked is files told = told
+  line_answered loaded (Ok answer) asked is files line = (line_of_loaded p loaded answer is line, files)
+  line_answered loaded (Err fault) asked is files line = line
 
   drives_no_cell : (protocol : Protocol) (loaded : Result Loaded CommandFault) (asked : List (List ℕ)) (before after : Streams) (outcome : Result Answer CommandFault) → (IsWellShaped p → IsAcceptable p → ⊥)
       → IsAnswered (IsLoaded p) (pair.path ∷ pair.plan ∷ []) loaded asked → Drives protocol loaded before after outcome → IsAnswered (IsCheckLine p) (pair.path ∷ pair.plan ∷ []) outcome asked × (after ≡ before)
@@ -356,30 +356,30 @@ module _ (content : List ℕ → Result (List ℕ) CommandFault) (pair : PairOfF
       resumes_unshaped protocol at log run.shaped run.texts_mid asked before after outcome never (good_plan IsShapedOrNot run.shaped run.texts_mid run.shapes) run.resumes
 
   -- a plan by which the run of a log can't go on
-  module _ (protocol : Protocol) (at : Option ℕ) (text : List ℕ) (told : List Entry) (well : IsWellShaped p) (parses : LinesParse p (ended_lines text) told) (run : IsRun p (events_of told))
-      (not_past : (cell_after p told).last ≤ unwrap_or at (cell_after p told).last) (no_plan : IsNoPlanFor p told) where
+  module _ (protocol : Protocol) (at : Option ℕ) (text : List ℕ) (recorded : List Entry) (well : IsWellShaped p) (parses : LinesParse p (ended_lines text) recorded) (run : IsRun p (events_of recorded))
+      (not_past : (cell_after p recorded).last ≤ unwrap_or at (cell_after p recorded).last) (no_plan : IsNoPlanFor p recorded) where
     not_recovered : (t : Recovered) → IsRecovered p (ended_lines text) at t → ⊥
     not_recovered t up = go no_plan
       where
-        same : up.recorded ≡ told
-        same = one_reading p (ended_lines text) up.recorded told up.parses parses
+        same : up.recorded ≡ recorded
+        same = one_reading p (ended_lines text) up.recorded recorded up.parses parses
 
         acyclic : HasNoCycle p
         acyclic nodes cycle =
             ranks_exclude_cycle p (rank_of t.control.times) nodes (subst (λ (q : PlannedShop). AreRanks q t.control.times) up.recovered_from.planned up.recovered_from.run.kept.control.ranks).rise cycle
 
-        go : IsNoPlanFor p told → ⊥
+        go : IsNoPlanFor p recorded → ⊥
         go (inl cyclic) = cyclic acyclic
         go (inr (none, never)) = never (up.recovered_from.accepted (same ∙ none))
 
     unrecovered_answered : (fault : ResumeFault) (files asked : List (List ℕ)) (outcome : Result Answer CommandFault) → asked ≡ files → IsResumeFault p (ended_lines text) at fault → IsUnrecoveredAnswer fault outcome
         → IsAnswered (IsCheckLine p) files outcome asked
     unrecovered_answered OutOfMemory files asked outcome same is answered_so = wanting (IsCheckLine p) files outcome asked answered_so
-    unrecovered_answered (Log fault) files asked outcome same is answered_so = absurd (first_bad-no_run p (ended_lines text) fault is (told, parses, run))
+    unrecovered_answered (Log fault) files asked outcome same is answered_so = absurd (first_bad-no_run p (ended_lines text) fault is (recorded, parses, run))
     unrecovered_answered (Past last) files asked outcome same (others, also, events, is_past) answered_so =
-        let one : others ≡ told = one_reading p (ended_lines text) others told also parses in
-        let here : last ≡ (cell_after p told).last = is_past.0 ∙ ap (λ (es : List Entry). (cell_after p es).last) one in
-        let past_there : unwrap_or at (cell_after p told).last < (cell_after p told).last = subst (λ n. unwrap_or at n < n) here is_past.1 in
+        let one : others ≡ recorded = one_reading p (ended_lines text) others recorded also parses in
+        let here : last ≡ (cell_after p recorded).last = is_past.0 ∙ ap (λ (es : List Entry). (cell_after p es).last) one in
+        let past_there : unwrap_or at (cell_after p recorded).last < (cell_after p recorded).last = subst (λ n. unwrap_or at n < n) here is_past.1 in
         absurd (omega (arith, past_there, not_past))
     unrecovered_answered (RefusedRun back why) files asked outcome same (others, also, events, is_refused) answered_so =
         answered_line outcome answered_so

@@ -96,7 +96,7 @@ module _ (content : List ℕ → Result (List ℕ) CommandFault) (instance : Lis
   each_come [] (p ∷ plans) good cells here loaded asked loads = absurd good
   each_come (path ∷ paths) [] good cells here loaded asked loads = absurd good
   each_come (path ∷ paths) (p ∷ plans) good cells here loaded asked loads =
-      let one = one_came path p good.0.told loads.is.came here loads.is.mid loads.came loads.mid loads.is.is.0 loads.is.is.1 loads.is.goes_on in
+      let one = one_came path p good.0.parses loads.is.came here loads.is.mid loads.came loads.mid loads.is.is.0 loads.is.is.1 loads.is.goes_on in
       others_come path p good.0 paths plans cells here loads.mid (λ more now those files each. each_come paths plans good.1 more now those files each) loads.came loaded asked one loads.goes_on
 
   cells_come : (path : List ℕ) (files : List (List ℕ)) (plans : List PlannedShop) → content path ≡ Ok instance → ParseAsAcceptedPlans content instance name files plans → (came : Result (List ℕ) CommandFault)
@@ -127,13 +127,13 @@ line_answered protocol number p files (Ok (AllAccepted cells)) before after outc
 
 cell_answered : (number : ℕ) (p : PlannedShop) (files : List (List ℕ)) (l : Loaded) (loaded : Result Cells CommandFault) (asked : List (List ℕ)) → IsLoaded p l → IsCellLine number l loaded → asked ≡ files
     → IsAnswered (IsCellsLine number p) files loaded asked
-cell_answered number p files l (Ok (Line answer)) asked is told same =
-    (record { line = told.0; is = line_of_loaded p l told.0 is told.1; text = told.2; status = told.3 }, same)
-cell_answered number p files l (Ok (AllAccepted all)) asked is told same = absurd told
-cell_answered number p files l (Err fault) asked is told same = told
+cell_answered number p files l (Ok (Line answer)) asked is answered same =
+    (record { line = answered.0; is = line_of_loaded p l answered.0 is answered.1; text = answered.2; status = answered.3 }, same)
+cell_answered number p files l (Ok (AllAccepted all)) asked is answered same = absurd answered
+cell_answered number p files l (Err fault) asked is answered same = answered
 
 module _ (content : List ℕ → Result (List ℕ) CommandFault) (instance : List ℕ) (name : Option (List ℕ)) (file : List ℕ) (p : PlannedShop) (others : List (List ℕ))
-    (told : ParsesAsPlanOf content instance name file p) (never : IsWellShaped p → IsAcceptable p → ⊥) where
+    (parses : ParsesAsPlanOf content instance name file p) (never : IsWellShaped p → IsAcceptable p → ⊥) where
   -- the plan that isn't accepted ends it
   ends_there : (cells : List VerifiedPlan) (rest : List VerifiedPlan → List (List ℕ) → Result Cells CommandFault → List (List ℕ) → Type 0) (one : Result Loaded CommandFault) (mid files : List (List ℕ))
       (loaded : Result Cells CommandFault) (asked : List (List ℕ)) → IsAnswered (IsLoaded p) files one mid → GoesOn (λ l. AfterPlan cells rest (accepted_in l)) one mid loaded asked
@@ -165,13 +165,13 @@ module _ (content : List ℕ → Result (List ℕ) CommandFault) (instance : Lis
       (asked : List (List ℕ)) → LoadsEach (Shelf content) instance name cells (paths ++ file ∷ others) here loaded asked
       → IsAnswered (IsCellsLine (length cells + length paths) p) (here ++ (paths ++ file ∷ [])) loaded asked
   line_comes [] [] good cells here loaded asked loads =
-      let one = one_came content instance name file p told loads.is.came here loads.is.mid loads.came loads.mid loads.is.is.0 loads.is.is.1 loads.is.goes_on in
+      let one = one_came content instance name file p parses loads.is.came here loads.is.mid loads.came loads.mid loads.is.is.0 loads.is.is.1 loads.is.goes_on in
       let number : length cells ≡ length cells + 0 = omega arith in
       subst (λ (n : ℕ). IsAnswered (IsCellsLine n p) (here ++ file ∷ []) loaded asked) number (ends_there cells (λ more. LoadsEach (Shelf content) instance name more others) loads.came loads.mid (here ++ file ∷ []) loaded asked one loads.goes_on)
   line_comes [] (q ∷ plans) good cells here loaded asked loads = absurd good
   line_comes (path ∷ paths) [] good cells here loaded asked loads = absurd good
   line_comes (path ∷ paths) (q ∷ plans) good cells here loaded asked loads =
-      let one = one_came content instance name path q good.0.told loads.is.came here loads.is.mid loads.came loads.mid loads.is.is.0 loads.is.is.1 loads.is.goes_on in
+      let one = one_came content instance name path q good.0.parses loads.is.came here loads.is.mid loads.came loads.mid loads.is.is.0 loads.is.is.1 loads.is.goes_on in
       passes path q good.0 paths cells here loads.mid (λ more now those files each. line_comes paths plans good.1 more now those files each) loads.came loaded asked one loads.goes_on
 
   line_of_cells : (path : List ℕ) (files : List (List ℕ)) (plans : List PlannedShop) → content path ≡ Ok instance → ParseAsAcceptedPlans content instance name files plans → (came : Result (List ℕ) CommandFault)

@@ -16,7 +16,7 @@ use Rattle.run_journal.specs.WholeLines.{whole_lines}
 use Rattle.command_words.specs.Choice.{IsChoiceOf, found_in, rows_found, kept_in}
 use Rattle.command_words.specs.declared.words.Chosen.{Chosen}
 use Rattle.command_answers.specs.declared.command_fault.CommandFault.{CommandFault}
-use Rattle.command_answers.specs.Commands.{PairOfFiles, Shapes}
+use Rattle.command_answers.specs.Commands.{InputPaths, Shapes}
 use Rattle.command_answers.specs.Shapes.{IsShapedOrNot}
 use Rattle.command_run.specs.Logs.{IsHistoryOf, IsHistoryOfOld, digits_in}
 use Rattle.command_run.specs.Program.{keeps_log, kept_log_in, log_kept_by, manner_in, pair_in}
@@ -35,9 +35,9 @@ kept_some false log path is = absurd (cc is)
 pub asked_path : (words : List (List ℕ)) (chosen : Chosen) (path : List ℕ) → IsChoiceOf words (found_in words) chosen → kept_log_in chosen ≡ Some path → kept_in (rows_found (found_in words)) ≡ Some path
 asked_path words chosen path choice kept = sym choice.log ∙ kept_some (keeps_log chosen.name) (option_map string_bytes chosen.log) path kept
 
-asked_pair : (words : List (List ℕ)) (pair : PairOfFiles) (log : List ℕ) (chosen : Chosen) → AskForLog words pair log → IsChoiceOf words (found_in words) chosen → pair_in chosen ≡ pair
+asked_pair : (words : List (List ℕ)) (pair : InputPaths) (log : List ℕ) (chosen : Chosen) → AskForLog words pair log → IsChoiceOf words (found_in words) chosen → pair_in chosen ≡ pair
 asked_pair words pair log chosen ask is =
-    let of : List ℕ → Option (List ℕ) → List ℕ → PairOfFiles = λ a b c. record { path = a; name = b; plan = c } in
+    let of : List ℕ → Option (List ℕ) → List ℕ → InputPaths = λ a b c. record { path = a; name = b; plan = c } in
     let files : List (List ℕ) = map string_bytes chosen.files.items in
     ap (λ a. of a (option_map string_bytes chosen.instance) (get_or files 1 [])) (ap (λ (fs : List (List ℕ)). get_or fs 0 []) is.files ∙ sym ask.path)
     ∙ ap (λ b. of pair.path b (get_or files 1 [])) (is.instance ∙ sym ask.name) ∙ ap (λ c. of pair.path pair.name c) (ap (λ (fs : List (List ℕ)). get_or fs 1 []) is.files ∙ sym ask.plan)
@@ -76,7 +76,7 @@ old_log_has_history content words pair log byte bytes named p recovered before l
     let known : List ℕ × List ℕ = (named, start ++ replay_text protocol recovered) in
     let here : path ≡ log = (let both : Some path ≡ Some log = sym (asked_path words chosen path choice kept) ∙ ask.kept in cc both) in
     let shapes_pair : Shapes (Shelf content) pair [] (Ok (Ok q)) mid =
-    subst (λ (r : PairOfFiles). Shapes (Shelf content) r [] (Ok (Ok q)) mid) (asked_pair words pair log chosen ask choice)
+    subst (λ (r : InputPaths). Shapes (Shelf content) r [] (Ok (Ok q)) mid) (asked_pair words pair log chosen ask choice)
     (subst (λ (asked : List (List ℕ)). Shapes (Shelf content) (pair_in chosen) asked (Ok (Ok q)) mid) unasked shapes) in
     let same : q ≡ p = (good_plan content pair p tell IsShapedOrNot (Ok (Ok q)) mid shapes_pair).0.0 in
     let old : IsHistoryOfOld p protocol at base before.streams.output.written known = record {

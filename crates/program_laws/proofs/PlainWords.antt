@@ -15,7 +15,7 @@ use Rattle.command_answers.specs.Instances.{IsFirstInstanceFault, IsInstanceRefu
 use Rattle.command_answers.specs.Steps.{GoesOn, Concludes}
 use Rattle.command_answers.specs.Texts.{Asks}
 use Rattle.command_answers.specs.Readings.{IsInstanceRead, AreFactsAnswered}
-use Rattle.command_answers.specs.Commands.{PairOfFiles, ReadsInstance, ReadsBoth, WithBoth, RunsFacts}
+use Rattle.command_answers.specs.Commands.{InputPaths, ReadsInstance, ReadsBoth, WithBoth, RunsFacts}
 use Rattle.command_answers.specs.Cells.{LoadsEach}
 use Rattle.command_run.specs.Streams.{Streams}
 use Rattle.command_run.specs.Drives.{Drives}
@@ -33,8 +33,8 @@ IsRefusalOf fault outcome = (outcome ≡ Err (Instance fault)) ⊎ (outcome ≡ 
 
 recovered_by : {A : Type 0} (fault : OrFault) (outcome : Result A CommandFault) → IsInstanceRefusal outcome fault → IsRefusalOf fault outcome
 recovered_by fault (Ok a) refusal = absurd refusal
-recovered_by fault (Err (Instance told)) refusal = inl (ap (λ f. Err (Instance f)) refusal)
-recovered_by fault (Err (Plan told)) refusal = absurd refusal
+recovered_by fault (Err (Instance other)) refusal = inl (ap (λ f. Err (Instance f)) refusal)
+recovered_by fault (Err (Plan other)) refusal = absurd refusal
 recovered_by fault (Err (Names names)) refusal = absurd refusal
 recovered_by fault (Err Read) refusal = absurd refusal
 recovered_by fault (Err Write) refusal = absurd refusal
@@ -46,40 +46,40 @@ recovered_by fault (Err Memory) refusal = inr refl
 -- such a fault ends the steps
 stopped : {W A B : Type 0} (fault : OrFault) (came : Result A CommandFault) (next : A → W → Result B CommandFault → W → Type 0) (mid after : W) (outcome : Result B CommandFault)
     → IsRefusalOf fault came → GoesOn next came mid outcome after → (after ≡ mid) × IsRefusalOf fault outcome
-stopped fault (Ok a) next mid after outcome (inl told) on = absurd (cc told)
-stopped fault (Ok a) next mid after outcome (inr told) on = absurd (cc told)
-stopped fault (Err f) next mid after outcome (inl told) on = (on.1, inl ((let one : f ≡ (Instance fault) = cc told in on.0 ∙ ap (λ x. Err x) one)))
-stopped fault (Err f) next mid after outcome (inr told) on = (on.1, inr ((let one : f ≡ Memory = cc told in on.0 ∙ ap (λ x. Err x) one)))
+stopped fault (Ok a) next mid after outcome (inl came) on = absurd (cc came)
+stopped fault (Ok a) next mid after outcome (inr came) on = absurd (cc came)
+stopped fault (Err f) next mid after outcome (inl came) on = (on.1, inl ((let one : f ≡ (Instance fault) = cc came in on.0 ∙ ap (λ x. Err x) one)))
+stopped fault (Err f) next mid after outcome (inr came) on = (on.1, inr ((let one : f ≡ Memory = cc came in on.0 ∙ ap (λ x. Err x) one)))
 
 drives_stopped : (protocol : Protocol) (fault : OrFault) (loaded : Result Loaded CommandFault) (before after : Streams) (outcome : Result Answer CommandFault)
     → IsRefusalOf fault loaded → Drives protocol loaded before after outcome → IsRefusalOf fault outcome × (after ≡ before)
-drives_stopped protocol fault (Ok loaded) before after outcome (inl told) is = absurd (cc told)
-drives_stopped protocol fault (Ok loaded) before after outcome (inr told) is = absurd (cc told)
-drives_stopped protocol fault (Err f) before after outcome (inl told) is = (inl ((let one : f ≡ (Instance fault) = cc told in is.0 ∙ ap (λ x. Err x) one)), is.1)
-drives_stopped protocol fault (Err f) before after outcome (inr told) is = (inr ((let one : f ≡ Memory = cc told in is.0 ∙ ap (λ x. Err x) one)), is.1)
+drives_stopped protocol fault (Ok loaded) before after outcome (inl came) is = absurd (cc came)
+drives_stopped protocol fault (Ok loaded) before after outcome (inr came) is = absurd (cc came)
+drives_stopped protocol fault (Err f) before after outcome (inl came) is = (inl ((let one : f ≡ (Instance fault) = cc came in is.0 ∙ ap (λ x. Err x) one)), is.1)
+drives_stopped protocol fault (Err f) before after outcome (inr came) is = (inr ((let one : f ≡ Memory = cc came in is.0 ∙ ap (λ x. Err x) one)), is.1)
 
 draws_stopped : (fault : OrFault) (drawn : Result Drawn CommandFault) (before after : Streams) (outcome : Result Answer CommandFault)
     → IsRefusalOf fault drawn → Draws drawn before after outcome → IsRefusalOf fault outcome × (after ≡ before)
-draws_stopped fault (Ok drawn) before after outcome (inl told) is = absurd (cc told)
-draws_stopped fault (Ok drawn) before after outcome (inr told) is = absurd (cc told)
-draws_stopped fault (Err f) before after outcome (inl told) is = (inl ((let one : f ≡ (Instance fault) = cc told in is.0 ∙ ap (λ x. Err x) one)), is.1)
-draws_stopped fault (Err f) before after outcome (inr told) is = (inr ((let one : f ≡ Memory = cc told in is.0 ∙ ap (λ x. Err x) one)), is.1)
+draws_stopped fault (Ok drawn) before after outcome (inl came) is = absurd (cc came)
+draws_stopped fault (Ok drawn) before after outcome (inr came) is = absurd (cc came)
+draws_stopped fault (Err f) before after outcome (inl came) is = (inl ((let one : f ≡ (Instance fault) = cc came in is.0 ∙ ap (λ x. Err x) one)), is.1)
+draws_stopped fault (Err f) before after outcome (inr came) is = (inr ((let one : f ≡ Memory = cc came in is.0 ∙ ap (λ x. Err x) one)), is.1)
 
 resumes_stopped : {W : Type 0} (gives : W → List ℕ → Result (List ℕ) CommandFault → W → Type 0) (protocol : Protocol) (at : Option ℕ) (log : List ℕ) (fault : OrFault) (loaded : Result (Result PlannedShop ShapeFault) CommandFault) (mid last : W) (before after : Streams) (outcome : Result Answer CommandFault)
     → IsRefusalOf fault loaded → Resumes gives protocol at log loaded mid before outcome last after → IsRefusalOf fault outcome × (after ≡ before) × (last ≡ mid)
-resumes_stopped gives protocol at log fault (Ok loaded) mid last before after outcome (inl told) is = absurd (cc told)
-resumes_stopped gives protocol at log fault (Ok loaded) mid last before after outcome (inr told) is = absurd (cc told)
-resumes_stopped gives protocol at log fault (Err f) mid last before after outcome (inl told) is =
-    (inl ((let one : f ≡ (Instance fault) = cc told in is.0 ∙ ap (λ x. Err x) one)), is.1, is.2)
-resumes_stopped gives protocol at log fault (Err f) mid last before after outcome (inr told) is =
-    (inr ((let one : f ≡ Memory = cc told in is.0 ∙ ap (λ x. Err x) one)), is.1, is.2)
+resumes_stopped gives protocol at log fault (Ok loaded) mid last before after outcome (inl came) is = absurd (cc came)
+resumes_stopped gives protocol at log fault (Ok loaded) mid last before after outcome (inr came) is = absurd (cc came)
+resumes_stopped gives protocol at log fault (Err f) mid last before after outcome (inl came) is =
+    (inl ((let one : f ≡ (Instance fault) = cc came in is.0 ∙ ap (λ x. Err x) one)), is.1, is.2)
+resumes_stopped gives protocol at log fault (Err f) mid last before after outcome (inr came) is =
+    (inr ((let one : f ≡ Memory = cc came in is.0 ∙ ap (λ x. Err x) one)), is.1, is.2)
 
 hub_stopped : (protocol : Protocol) (fault : OrFault) (loaded : Result Cells CommandFault) (before after : Streams) (outcome : Result Answer CommandFault)
     → IsRefusalOf fault loaded → DrivesAll protocol loaded before after outcome → IsRefusalOf fault outcome × (after ≡ before)
-hub_stopped protocol fault (Ok loaded) before after outcome (inl told) is = absurd (cc told)
-hub_stopped protocol fault (Ok loaded) before after outcome (inr told) is = absurd (cc told)
-hub_stopped protocol fault (Err f) before after outcome (inl told) is = (inl ((let one : f ≡ (Instance fault) = cc told in is.0 ∙ ap (λ x. Err x) one)), is.1)
-hub_stopped protocol fault (Err f) before after outcome (inr told) is = (inr ((let one : f ≡ Memory = cc told in is.0 ∙ ap (λ x. Err x) one)), is.1)
+hub_stopped protocol fault (Ok loaded) before after outcome (inl came) is = absurd (cc came)
+hub_stopped protocol fault (Ok loaded) before after outcome (inr came) is = absurd (cc came)
+hub_stopped protocol fault (Err f) before after outcome (inl came) is = (inl ((let one : f ≡ (Instance fault) = cc came in is.0 ∙ ap (λ x. Err x) one)), is.1)
+hub_stopped protocol fault (Err f) before after outcome (inr came) is = (inr ((let one : f ≡ Memory = cc came in is.0 ∙ ap (λ x. Err x) one)), is.1)
 
 module _ (content : List ℕ → Result (List ℕ) CommandFault) (path text : List ℕ) (name : Option (List ℕ)) (fault : OrFault)
     (is : content path ≡ Ok text) (first : IsFirstInstanceFault text name fault) where
@@ -126,7 +126,7 @@ module _ (content : List ℕ → Result (List ℕ) CommandFault) (path text : Li
       let end = hub_stopped protocol fault run.loaded before after outcome loaded.1 run.drives in
       ((loaded.0, end.0), end.1)
 
-module _ (content : List ℕ → Result (List ℕ) CommandFault) (pair : PairOfFiles) (text : List ℕ) (fault : OrFault)
+module _ (content : List ℕ → Result (List ℕ) CommandFault) (pair : InputPaths) (text : List ℕ) (fault : OrFault)
     (is : content pair.path ≡ Ok text) (first : IsFirstInstanceFault text pair.name fault) where
   pub instance_first_of : {A : Type 0} (next : PlannedShop → List (List ℕ) → Result A CommandFault → List (List ℕ) → Type 0) (outcome : Result A CommandFault) (asked : List (List ℕ))
       → WithBoth (Shelf content) pair next [] outcome asked → IsInstanceRefused pair.path fault outcome asked

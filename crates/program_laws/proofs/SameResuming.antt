@@ -34,7 +34,7 @@ use Rattle.command_words.specs.declared.words.WordsFault.TheVariants.{Usage, Mem
 use Rattle.command_words.specs.Choice.{word_of, IsChoiceOf, NamesOneOf, found_in, rows_found, lines_in, leap_in}
 use Rattle.command_answers.specs.declared.answer.Answer.{Answer}
 use Rattle.command_answers.specs.declared.command_fault.CommandFault.{CommandFault}
-use Rattle.command_answers.specs.Commands.{PairOfFiles}
+use Rattle.command_answers.specs.Commands.{InputPaths}
 use Rattle.command_run.specs.Streams.{Streams, Output}
 use Rattle.command_run.specs.Drives.{IsEndAnswer, status_at}
 use Rattle.command_run.specs.Resumes.{IsRecovery, IsUnrecoveredAnswer, ResumesRecovered, end_of_rest}
@@ -72,14 +72,14 @@ is_resume Digest word = (let differ : 100 ≡ 114 = ap first word in absurd (ome
 is_resume Audit word = (let differ : 97 ≡ 114 = ap first word in absurd (omega (arith, differ)))
 is_resume Gantt word = (let differ : 103 ≡ 114 = ap first word in absurd (omega (arith, differ)))
 
-asked_pair : (words : List (List ℕ)) (pair : PairOfFiles) (log : List ℕ) (chosen : Chosen) → AskForResume words pair log → IsChoiceOf words (found_in words) chosen → pair_in chosen ≡ pair
+asked_pair : (words : List (List ℕ)) (pair : InputPaths) (log : List ℕ) (chosen : Chosen) → AskForResume words pair log → IsChoiceOf words (found_in words) chosen → pair_in chosen ≡ pair
 asked_pair words pair log chosen ask is =
-    let of : List ℕ → Option (List ℕ) → List ℕ → PairOfFiles = λ a b c. record { path = a; name = b; plan = c } in
+    let of : List ℕ → Option (List ℕ) → List ℕ → InputPaths = λ a b c. record { path = a; name = b; plan = c } in
     let files : List (List ℕ) = map string_bytes chosen.files.items in
     ap (λ a. of a (option_map string_bytes chosen.instance) (get_or files 1 [])) (ap (λ (fs : List (List ℕ)). get_or fs 0 []) is.files ∙ sym ask.path)
     ∙ ap (λ b. of pair.path b (get_or files 1 [])) (is.instance ∙ sym ask.name) ∙ ap (λ c. of pair.path pair.name c) (ap (λ (fs : List (List ℕ)). get_or fs 1 []) is.files ∙ sym ask.plan)
 
-asked_log : (words : List (List ℕ)) (pair : PairOfFiles) (log : List ℕ) (chosen : Chosen) → AskForResume words pair log → IsChoiceOf words (found_in words) chosen → file_at chosen 2 ≡ log
+asked_log : (words : List (List ℕ)) (pair : InputPaths) (log : List ℕ) (chosen : Chosen) → AskForResume words pair log → IsChoiceOf words (found_in words) chosen → file_at chosen 2 ≡ log
 asked_log words pair log chosen ask is = ap (λ (fs : List (List ℕ)). get_or fs 2 []) is.files ∙ sym ask.log_is
 
 -- ---- what a good run wrote
@@ -171,7 +171,7 @@ module _ (content : List ℕ → Result (List ℕ) CommandFault) (words : List (
     log_resumed protocol at text can (Err fault) is on =
         absurd (not_wanting (subst (λ (f : ResumeFault). IsUnrecoveredAnswer f outcome) (is.can can) on.0))
 
-  follows_resumed : (pair : PairOfFiles) (log text : List ℕ) (read : Result Chosen WordsFault) → AskForResume words pair log → ParseAsPlan content pair p → IsWellShaped p → content log ≡ Ok text
+  follows_resumed : (pair : InputPaths) (log text : List ℕ) (read : Result Chosen WordsFault) → AskForResume words pair log → ParseAsPlan content pair p → IsWellShaped p → content log ≡ Ok text
       → IsRecoverable p (ended_lines text) (moment_given words) → AreWordsRead words read → Follows (Shelf content) read well.before status well.after well.log
       → Resumed p (manner_of words) (ended_lines text) (moment_given words) input status written
   follows_resumed pair log text (Ok chosen) ask good shaped came can are follows =
@@ -183,7 +183,7 @@ module _ (content : List ℕ → Result (List ℕ) CommandFault) (words : List (
       subst (λ n. RunsCommand (Shelf content) n chosen well.before.texts well.before.streams follows.outcome well.after.texts follows.mid) name unlogged in
       let resume : RunsResume (Shelf content) (manner_of words) (moment_given words) pair log [] well.before.streams follows.outcome well.after.texts follows.mid =
       subst (λ (l : List ℕ). RunsResume (Shelf content) (manner_of words) (moment_given words) pair l [] well.before.streams follows.outcome well.after.texts follows.mid) (asked_log words pair log chosen ask are.chosen)
-      (subst (λ (q : PairOfFiles). RunsResume (Shelf content) (manner_of words) (moment_given words) q (file_at chosen 2) [] well.before.streams follows.outcome well.after.texts follows.mid) (asked_pair words pair log chosen ask are.chosen)
+      (subst (λ (q : InputPaths). RunsResume (Shelf content) (manner_of words) (moment_given words) q (file_at chosen 2) [] well.before.streams follows.outcome well.after.texts follows.mid) (asked_pair words pair log chosen ask are.chosen)
       (subst (λ (a : Option ℕ). RunsResume (Shelf content) (manner_of words) a (pair_in chosen) (file_at chosen 2) [] well.before.streams follows.outcome well.after.texts follows.mid) are.chosen.at
       (subst (λ (m : Protocol). RunsResume (Shelf content) m chosen.at (pair_in chosen) (file_at chosen 2) [] well.before.streams follows.outcome well.after.texts follows.mid) (same_manner words chosen are.chosen)
       (subst (λ (asked : List (List ℕ)). RunsResume (Shelf content) (manner_in chosen) chosen.at (pair_in chosen) (file_at chosen 2) asked well.before.streams follows.outcome well.after.texts follows.mid) well.unasked runs)))) in
@@ -195,7 +195,7 @@ module _ (content : List ℕ → Result (List ℕ) CommandFault) (words : List (
         | inr none ↦ absurd (not_wanting follows.mid follows.outcome follows.input ends none.0)
       ]
   follows_resumed pair log text (Err (Usage help message)) ask good shaped came can are follows =
-      absurd (let told = subst (λ kinds. NamesOneOf kinds (Usage help message)) ask.accepted are.refused in told.1)
+      absurd (let named = subst (λ kinds. NamesOneOf kinds (Usage help message)) ask.accepted are.refused in named.1)
   follows_resumed pair log text (Err NoWordsMemory) ask good shaped came can are follows = absurd (well.no_want (memory_status well.before.errors well.after.errors status follows.0.1))
 
 -- ---- two runs

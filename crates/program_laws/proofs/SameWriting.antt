@@ -34,7 +34,7 @@ use Rattle.command_words.specs.Choice.{word_of, IsChoiceOf, NamesOneOf, found_in
 use Rattle.command_answers.specs.declared.answer.Answer.{Answer}
 use Rattle.command_answers.specs.declared.command_fault.CommandFault.{CommandFault}
 use Rattle.command_answers.specs.declared.command_fault.CommandFault.TheVariants.{Write, Memory}
-use Rattle.command_answers.specs.Commands.{PairOfFiles}
+use Rattle.command_answers.specs.Commands.{InputPaths}
 use Rattle.command_run.specs.Streams.{Streams, Output, Errors}
 use Rattle.command_run.specs.Drives.{IsEnded, IsEndAnswer, IsDriveIn, DrivesCell, status_at, end_of_drive}
 use Rattle.command_run.specs.Ending.{IsFaultPrinted, IsPrinted, IsPrintedAfter, Ends, EndsBy}
@@ -78,12 +78,12 @@ is_drive Digest word = (let differ : 105 ≡ 114 = ap second word in absurd (ome
 is_drive Audit word = (let differ : 97 ≡ 100 = ap first word in absurd (omega (arith, differ)))
 is_drive Gantt word = (let differ : 103 ≡ 100 = ap first word in absurd (omega (arith, differ)))
 
-same_pair : (words : List (List ℕ)) (pair : PairOfFiles) (chosen : Chosen) → AskForDrive words pair → IsChoiceOf words (found_in words) chosen → pair_in chosen ≡ pair
+same_pair : (words : List (List ℕ)) (pair : InputPaths) (chosen : Chosen) → AskForDrive words pair → IsChoiceOf words (found_in words) chosen → pair_in chosen ≡ pair
 same_pair words pair chosen ask is =
     let path : get_or (map string_bytes chosen.files.items) 0 [] ≡ pair.path = ap (λ (fs : List (List ℕ)). get_or fs 0 []) is.files ∙ sym ask.path in
     let plan : get_or (map string_bytes chosen.files.items) 1 [] ≡ pair.plan = ap (λ (fs : List (List ℕ)). get_or fs 1 []) is.files ∙ sym ask.plan in
     let name : option_map string_bytes chosen.instance ≡ pair.name = is.instance ∙ sym ask.name in
-    let of : List ℕ → Option (List ℕ) → List ℕ → PairOfFiles = λ a b c. record { path = a; name = b; plan = c } in
+    let of : List ℕ → Option (List ℕ) → List ℕ → InputPaths = λ a b c. record { path = a; name = b; plan = c } in
     ap (λ a. of a (option_map string_bytes chosen.instance) (get_or (map string_bytes chosen.files.items) 1 [])) path
     ∙ ap (λ b. of pair.path b (get_or (map string_bytes chosen.files.items) 1 [])) name ∙ ap (λ c. of pair.path pair.name c) plan
 
@@ -98,7 +98,7 @@ none_kept : (keeps : Bool) (log : Option (List ℕ)) → log ≡ None → log_ke
 none_kept true log none = none
 none_kept false log none = refl
 
-no_log : (words : List (List ℕ)) (pair : PairOfFiles) (chosen : Chosen) → AskForDrive words pair → IsChoiceOf words (found_in words) chosen → kept_log_in chosen ≡ None
+no_log : (words : List (List ℕ)) (pair : InputPaths) (chosen : Chosen) → AskForDrive words pair → IsChoiceOf words (found_in words) chosen → kept_log_in chosen ≡ None
 no_log words pair chosen ask is = none_kept (keeps_log chosen.name) (option_map string_bytes chosen.log) (is.log ∙ ask.log)
 
 -- ---- the bytes
@@ -144,13 +144,13 @@ write_ends outcome before after printed_before printed_after status is ends =
 
 printed_as : (answer : Answer) (printed : Result ℕ CommandFault) (before after : Output) (printed_before printed_after : Errors) (status : ℕ) → after.failed ≡ false → IsPrinted answer before after printed
     → IsPrintedAfter printed printed_before printed_after status → (status ≡ answer.status) × Appends before.written after.written answer.text.items
-printed_as answer (Ok shown) before after printed_before printed_after status unfailed is told = (told.1 ∙ is.0, is.1)
-printed_as answer (Err fault) before after printed_before printed_after status unfailed is told = absurd (let failed : true ≡ false = sym is.2 ∙ unfailed in cc failed)
+printed_as answer (Ok shown) before after printed_before printed_after status unfailed is reported = (reported.1 ∙ is.0, is.1)
+printed_as answer (Err fault) before after printed_before printed_after status unfailed is reported = absurd (let failed : true ≡ false = sym is.2 ∙ unfailed in cc failed)
 
 pub ended_as : (done : Bool) (outcome : Result Answer CommandFault) (before after : Output) (printed_before printed_after : Errors) (status : ℕ) → after.failed ≡ false → IsEnded done outcome
     → Ends outcome before after printed_before printed_after status → (status ≡ status_at done) × ((more : List ℕ) × (more ≡ []) × Appends before.written after.written more)
 ended_as done (Ok answer) before after printed_before printed_after status unfailed is ends =
-    let printed = printed_as answer ends.printed before after printed_before printed_after status unfailed ends.is ends.told in
+    let printed = printed_as answer ends.printed before after printed_before printed_after status unfailed ends.is ends.reported in
     (printed.0 ∙ is.1, (answer.text.items, is.0, printed.1))
 ended_as done (Err fault) before after printed_before printed_after status unfailed is ends = absurd is
 
@@ -220,7 +220,7 @@ module _ (content : List ℕ → Result (List ℕ) CommandFault) (words : List (
   cell_wrote protocol mid outcome (inr none) same_input ends =
       absurd (well.no_want (memory_ends outcome mid.output well.after.streams.output well.before.errors well.after.errors status none ends))
 
-  pub follows_wrote : (pair : PairOfFiles) (read : Result Chosen WordsFault) → AskForDrive words pair → ParseAsPlan content pair p → IsWellShaped p → IsAcceptable p → AreWordsRead words read
+  pub follows_wrote : (pair : InputPaths) (read : Result Chosen WordsFault) → AskForDrive words pair → ParseAsPlan content pair p → IsWellShaped p → IsAcceptable p → AreWordsRead words read
       → Follows (Shelf content) read well.before status well.after well.log → Wrote p (manner_of words) input status written
   follows_wrote pair (Ok chosen) ask good shaped acceptable are follows =
       let name = is_drive chosen.name (are.chosen.name ∙ ask.drive) in
@@ -230,14 +230,14 @@ module _ (content : List ℕ → Result (List ℕ) CommandFault) (words : List (
       let runs : RunsDrive (Shelf content) (manner_in chosen) (pair_in chosen) well.before.texts well.before.streams follows.outcome well.after.texts follows.mid =
       subst (λ n. RunsCommand (Shelf content) n chosen well.before.texts well.before.streams follows.outcome well.after.texts follows.mid) name unlogged in
       let drive : RunsDrive (Shelf content) protocol pair [] well.before.streams follows.outcome well.after.texts follows.mid =
-      subst (λ (q : PairOfFiles). RunsDrive (Shelf content) protocol q [] well.before.streams follows.outcome well.after.texts follows.mid) (same_pair words pair chosen ask are.chosen)
+      subst (λ (q : InputPaths). RunsDrive (Shelf content) protocol q [] well.before.streams follows.outcome well.after.texts follows.mid) (same_pair words pair chosen ask are.chosen)
       (subst (λ (m : Protocol). RunsDrive (Shelf content) m (pair_in chosen) [] well.before.streams follows.outcome well.after.texts follows.mid) (same_manner words chosen are.chosen)
       (subst (λ (asked : List (List ℕ)). RunsDrive (Shelf content) (manner_in chosen) (pair_in chosen) asked well.before.streams follows.outcome well.after.texts follows.mid) well.unasked runs)) in
       cell_wrote protocol follows.mid follows.outcome (driven_or_not (good_drive content pair p good protocol well.before.streams follows.mid follows.outcome well.after.texts shaped acceptable drive)) follows.input
       (subst (λ (n : CommandName). EndsBy (draws n chosen.svg) follows.outcome follows.mid.output well.after.streams.output well.before.errors well.after.errors status) name
       (own_ends chosen follows.outcome _ _ _ _ follows.own status well.log (no_log words pair chosen ask are.chosen) follows.status_is follows.ends))
   follows_wrote pair (Err (Usage help text)) ask good shaped acceptable are follows =
-      absurd (let told = subst (λ kinds. NamesOneOf kinds (Usage help text)) ask.accepted are.refused in told.1)
+      absurd (let named = subst (λ kinds. NamesOneOf kinds (Usage help text)) ask.accepted are.refused in named.1)
   follows_wrote pair (Err NoWordsMemory) ask good shaped acceptable are follows = absurd (well.no_want (memory_status well.before.errors well.after.errors status follows.0.1))
 
 -- ---- two runs
@@ -262,7 +262,7 @@ wrote_the_same p protocol input status other_status written other shaped one two
     let done : two.done ≡ one.done = same_done p one.state two.state one.done two.done one.last two.last one.left two.left one.so_far two.so_far same.1 in
     (two.own ∙ ap status_at done ∙ sym one.own, same.0)
 
-pub drive_writes_the_same : (content : List ℕ → Result (List ℕ) CommandFault) (words : List (List ℕ)) (pair : PairOfFiles) (p : PlannedShop) (input : List ℕ) (status other_status : ℕ) (written other : List ℕ)
+pub drive_writes_the_same : (content : List ℕ → Result (List ℕ) CommandFault) (words : List (List ℕ)) (pair : InputPaths) (p : PlannedShop) (input : List ℕ) (status other_status : ℕ) (written other : List ℕ)
     → AskForDrive words pair → ParseAsPlan content pair p → IsWellShaped p → IsAcceptable p → length input ≤ MAX_INPUT
     → RunsWell content words input status written → RunsWell content words input other_status other → (other_status ≡ status) × (other ≡ written)
 drive_writes_the_same content words pair p input status other_status written other ask good shaped acceptable few one two =

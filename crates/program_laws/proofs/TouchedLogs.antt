@@ -50,9 +50,9 @@ HasMemory (Err LogInUse) = Unit {0}
 HasMemory (Err Memory) = ⊥
 
 parsed_first : (fault : CommandFault) (before after : Errors) → HasMemory (Err fault) → IsFaultPrinted fault before after 4 → ⊥
-parsed_first (Instance fault) before after has told = has
-parsed_first (Plan fault) before after has told = has
-parsed_first (Names fault) before after has told = has
+parsed_first (Instance fault) before after has printed = has
+parsed_first (Plan fault) before after has printed = has
+parsed_first (Names fault) before after has printed = has
 parsed_first Read before after has (inl out) = omega (arith, out.own)
 parsed_first Read before after has (inr out) = out.0
 parsed_first Write before after has (inl out) = omega (arith, out.own)
@@ -63,16 +63,16 @@ parsed_first Log before after has (inl out) = omega (arith, out.own)
 parsed_first Log before after has (inr out) = out.0
 parsed_first LogInUse before after has (inl out) = omega (arith, out.own)
 parsed_first LogInUse before after has (inr out) = out.0
-parsed_first Memory before after has told = has
+parsed_first Memory before after has printed = has
 
 printed_four : (answer : Answer) (printed : Result ℕ CommandFault) (before after : Output) (printed_before printed_after : Errors) → answer.status ≤ 1 → IsPrinted answer before after printed
     → IsPrintedAfter printed printed_before printed_after 4 → ⊥
-printed_four answer (Ok status) before after printed_before printed_after low is told = omega (arith, low, is.0, told.1)
-printed_four answer (Err fault) before after printed_before printed_after low is told =
-    parsed_first Write printed_before printed_after tt (subst (λ (f : CommandFault). IsFaultPrinted f printed_before printed_after 4) is.0 told)
+printed_four answer (Ok status) before after printed_before printed_after low is reported = omega (arith, low, is.0, reported.1)
+printed_four answer (Err fault) before after printed_before printed_after low is reported =
+    parsed_first Write printed_before printed_after tt (subst (λ (f : CommandFault). IsFaultPrinted f printed_before printed_after 4) is.0 reported)
 
 ends_four : (outcome : Result Answer CommandFault) (before after : Output) (printed_before printed_after : Errors) → HasMemory outcome → Ends outcome before after printed_before printed_after 4 → ⊥
-ends_four (Ok answer) before after printed_before printed_after low ends = printed_four answer ends.printed before after printed_before printed_after low ends.is ends.told
+ends_four (Ok answer) before after printed_before printed_after low ends = printed_four answer ends.printed before after printed_before printed_after low ends.is ends.reported
 ends_four (Err fault) before after printed_before printed_after has ends = parsed_first fault printed_before printed_after has ends.1
 
 own_four : (own status : ℕ) → IsOwnOr own status → status ≡ 4 → own ≡ 4
@@ -183,8 +183,8 @@ module _ (folder after : Folder) (path : List ℕ) (protocol : Protocol) (at : O
 
 module _ (folder after : Folder) (path : List ℕ) (start : LogStart) (protocol : Protocol) (at : Option ℕ) where
   opened_has : (p : PlannedShop) (opened : Result (Option (List ℕ)) FileFault) (step : Step) → DrivesOpened folder after path start protocol at p opened step → IsChanged step.log → HasMemory step.outcome
-  opened_has p (Err fault) step (told, same, inl none) = never_changed step.log None step.outcome none.2 (λ bad. bad)
-  opened_has p (Err fault) step (told, same, inr unread) = never_changed step.log (Some (Unread fault)) step.outcome unread.2 (λ bad. bad)
+  opened_has p (Err fault) step (answered, same, inl none) = never_changed step.log None step.outcome none.2 (λ bad. bad)
+  opened_has p (Err fault) step (answered, same, inr unread) = never_changed step.log (Some (Unread fault)) step.outcome unread.2 (λ bad. bad)
   opened_has p (Ok there) step is = as_has (handed_if (is_some there) folder) after path protocol at is.misfit p there step is.drives
 
   logged_has : (shaped : Result (Result PlannedShop ShapeFault) CommandFault) (step : Step) → DrivesShaped folder after path start protocol at shaped step → IsChanged step.log → HasMemory step.outcome
@@ -201,11 +201,11 @@ no_log_changed {W} gives words before after end written runs untouched = follows
     by_log chosen None outcome mid keeps ran own four ends = absurd (cc ran.1.1)
     by_log chosen (Some path) outcome mid keeps ran own four ends =
         let drives : chosen.name ≡ Drive = keeper chosen.name (option_map string_bytes chosen.log) path keeps in
-        let told : Ends outcome mid.output after.streams.output before.errors after.errors own =
+        let drive_ends : Ends outcome mid.output after.streams.output before.errors after.errors own =
         subst (λ (name : CommandName). EndsBy (draws name chosen.svg) outcome mid.output after.streams.output before.errors after.errors own) drives ends in
         unchanged end written untouched (λ changed.
         ends_four outcome mid.output after.streams.output before.errors after.errors (logged_has before.folder after.folder path chosen.start _ chosen.at ran.shaped _ ran.drives changed)
-        (subst (λ (n : ℕ). Ends outcome mid.output after.streams.output before.errors after.errors n) four told))
+        (subst (λ (n : ℕ). Ends outcome mid.output after.streams.output before.errors after.errors n) four drive_ends))
 
     follows : (read : Result Chosen WordsFault) → Follows gives read before 4 after (Some end) → written ≡ false
     follows (Ok chosen) is = by_log chosen (kept_log_in chosen) is.outcome is.mid refl is.runs is.own (own_four is.own 4 (own_or _ _ _ _ _ is.status_is) refl) is.ends

@@ -12,7 +12,7 @@ use Rattle.run_journal.specs.WholeLines.{whole_lines}
 use Rattle.command_words.specs.declared.words.Chosen.{Chosen}
 use Rattle.command_words.specs.Choice.{IsChoiceOf, rows_found, files_in, instance_in, kept_in, lines_in, leap_in, found_in}
 use Rattle.command_answers.specs.declared.command_fault.CommandFault.{CommandFault}
-use Rattle.command_answers.specs.Commands.{PairOfFiles, Shapes}
+use Rattle.command_answers.specs.Commands.{InputPaths, Shapes}
 use Rattle.command_run.specs.Streams.{Devices}
 use Rattle.cell_drive.specs.Replay.{replay_text}
 use Rattle.command_run.specs.Logs.{digits_in}
@@ -28,14 +28,14 @@ manner_of words = record { version_2 = is_second (lines_in (rows_found (found_in
 abbrev pub AreDigitsOfPlan : {W : Type 0} → (W → List ℕ → Result (List ℕ) CommandFault → W → Type 0) → List (List ℕ) → W → RunDigits → Type 0
 AreDigitsOfPlan {W} gives words texts digits = (chosen : Chosen) (p : PlannedShop) (mid : W) → IsChoiceOf words (found_in words) chosen → Shapes gives (pair_in chosen) texts (Ok (Ok p)) mid → digits_in p ≡ digits
 
--- of a log that isn't there, or has no bytes, it is known that it has the line of the plan, and of the output what it has taken
+-- of a log that isn't there, or has no bytes, it is known that it has the line of the plan, and of the output what was written on it
 abbrev pub NewLogHasHistory : {W : Type 0} → (W → List ℕ → Result (List ℕ) CommandFault → W → Type 0) → Type 0
 NewLogHasHistory {W} gives = (words : List (List ℕ)) (before : Devices W) (logs : List NamedLog) (start : List ℕ) (digits : RunDigits) → before.folder.logs ≡ Some logs → before.streams.output.written ≡ Some start
     → ((path : List ℕ) → kept_in (rows_found (found_in words)) ≡ Some path → IfSome (held logs path) (λ bytes. bytes ≡ [])) → AreDigitsOfPlan gives words before.texts digits
     → IsHistoryOfWords gives words before (plan_line digits, start)
 
 -- the words ask for these files, and for this log of its own
-pub record AskForLog (words : List (List ℕ)) (pair : PairOfFiles) (log : List ℕ) : Type 0 where
+pub record AskForLog (words : List (List ℕ)) (pair : InputPaths) (log : List ℕ) : Type 0 where
   pub kept : kept_in (rows_found (found_in words)) ≡ Some log
   pub path : pair.path ≡ get_or (files_in (rows_found (found_in words))) 0 []
   pub name : pair.name ≡ instance_in (rows_found (found_in words))
@@ -43,7 +43,7 @@ pub record AskForLog (words : List (List ℕ)) (pair : PairOfFiles) (log : List 
 
 -- of a log with bytes, from which the run is recovered by the plan that the files give, its whole lines are known, with the line of the plan behind them unless it is their last one; and behind what the output has written the events that are replayed
 abbrev pub OldLogHasHistory : Type 0
-OldLogHasHistory = (content : List ℕ → Result (List ℕ) CommandFault) (words : List (List ℕ)) (pair : PairOfFiles) (log : List ℕ) (byte : ℕ) (bytes base : List ℕ) (p : PlannedShop) (recovered : Recovered)
+OldLogHasHistory = (content : List ℕ → Result (List ℕ) CommandFault) (words : List (List ℕ)) (pair : InputPaths) (log : List ℕ) (byte : ℕ) (bytes base : List ℕ) (p : PlannedShop) (recovered : Recovered)
     (before : Devices (List (List ℕ))) (logs : List NamedLog) (start : List ℕ)
     → AskForLog words pair log → ParseAsPlan content pair p → before.texts ≡ [] → before.folder.logs ≡ Some logs → before.streams.output.written ≡ Some start → held logs log ≡ Some (byte ∷ bytes)
     → IsRecovered p (ended_lines (whole_lines (byte ∷ bytes))) (moment_given words) recovered → IsNamedFor (digits_in p) (whole_lines (byte ∷ bytes)) base

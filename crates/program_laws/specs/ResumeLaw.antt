@@ -9,11 +9,11 @@ use Rattle.cell_drive.specs.Recovered.{IsRecoverable}
 use Rattle.command_words.specs.declared.words.CommandName.TheVariants.{Resume}
 use Rattle.command_words.specs.Choice.{word_of, word_found, rows_found, files_in, instance_in, at_in, lines_in, leap_in, reasons_in, found_in}
 use Rattle.command_answers.specs.declared.command_fault.CommandFault.{CommandFault}
-use Rattle.command_answers.specs.Commands.{PairOfFiles}
+use Rattle.command_answers.specs.Commands.{InputPaths}
 use Rattle.command_run.specs.Laws.{ParseAsPlan, AskForDrive, RunsWell}
 
 -- the words ask for `resume` with these files and this log
-pub record AskForResume (words : List (List ℕ)) (pair : PairOfFiles) (log : List ℕ) : Type 0 where
+pub record AskForResume (words : List (List ℕ)) (pair : InputPaths) (log : List ℕ) : Type 0 where
   pub accepted : reasons_in words ≡ []
   pub resume : word_found (found_in words) ≡ word_of Resume
   pub path : pair.path ≡ get_or (files_in (rows_found (found_in words))) 0 []
@@ -27,7 +27,7 @@ moment_given words = at_in (rows_found (found_in words))
 
 -- `resume` of a log that can be recovered writes the same, and ends with the same status, whenever it is run on the same words, files and input, of no more bytes than the limit
 abbrev pub ResumeWritesTheSame : Type 0
-ResumeWritesTheSame = (content : List ℕ → Result (List ℕ) CommandFault) (words : List (List ℕ)) (pair : PairOfFiles) (log text : List ℕ) (p : PlannedShop) (input : List ℕ) (status other_status : ℕ) (written other : List ℕ)
+ResumeWritesTheSame = (content : List ℕ → Result (List ℕ) CommandFault) (words : List (List ℕ)) (pair : InputPaths) (log text : List ℕ) (p : PlannedShop) (input : List ℕ) (status other_status : ℕ) (written other : List ℕ)
     → AskForResume words pair log → ParseAsPlan content pair p → IsWellShaped p → content log ≡ Ok text → IsRecoverable p (ended_lines text) (moment_given words) → length input ≤ MAX_INPUT
     → RunsWell content words input status written → RunsWell content words input other_status other → (other_status ≡ status) × (other ≡ written)
 
@@ -40,7 +40,7 @@ pub record AskForOneManner (words others : List (List ℕ)) : Type 0 where
 
 -- behind a log without events, by an accepted plan, `resume` writes the mark and what `drive` writes, and ends with the same status
 abbrev pub ResumeWritesAsDrive : Type 0
-ResumeWritesAsDrive = (content : List ℕ → Result (List ℕ) CommandFault) (words others : List (List ℕ)) (pair : PairOfFiles) (log text : List ℕ) (p : PlannedShop) (input : List ℕ) (status other_status : ℕ) (written other : List ℕ)
+ResumeWritesAsDrive = (content : List ℕ → Result (List ℕ) CommandFault) (words others : List (List ℕ)) (pair : InputPaths) (log text : List ℕ) (p : PlannedShop) (input : List ℕ) (status other_status : ℕ) (written other : List ℕ)
     → AskForResume words pair log → AskForDrive others pair → AskForOneManner words others
     → ParseAsPlan content pair p → IsWellShaped p → IsAcceptable p → content log ≡ Ok text → LinesParse p (ended_lines text) [] → length input ≤ MAX_INPUT
     → RunsWell content words input status written → RunsWell content others input other_status other → (status ≡ other_status) × (written ≡ 10 ∷ other)

@@ -131,7 +131,7 @@ pub fn faults_are_printed<T: Texts>()
     ensures { FaultsArePrinted T.gives }
 {}
 
-/// At the end of a run nothing that the output has taken is held back, unless a write of it has failed.
+/// At the end of a run nothing that was written on the output is held back, unless a write of it has failed.
 pub fn nothing_is_held_back<T: Texts>()
     ensures { NothingIsHeldBack T.gives }
 {}

@@ -3,8 +3,4 @@
 #![tactic(auto)]
 
 #[cfg(test)]
-mod better_rests;
-#[cfg(test)]
-mod driven_on;
-#[cfg(test)]
-mod rests;
+mod tests;

@@ -3,8 +3,7 @@
 ghost use Rattle.std.specs.Prelude.{◌≡◌, ◌≢◌, ℕ, ◌<◌, ◌≤◌, if◌then◌else◌, slice_index_or, None, Some};
 ghost use Rattle.run_gantt.specs.declared.bar.TheConstants.{MAX_COLUMNS, MAX_SCALE};
 ghost use Rattle.std.specs.Option.{option_or};
-ghost use Rattle.run_gantt.specs.GanttText.{is_before, digit_of, sign_of};
-ghost use Rattle.run_gantt.specs.Pushing.{SignsToo};
+ghost use Rattle.run_gantt.specs.{GanttText.is_before, GanttText.digit_of, GanttText.sign_of, Pushing.SignsToo};
 
 use crate::visits::Visit;
 use shop_base::Moment;

@@ -13,10 +13,7 @@ pub(crate) fn no_moments(alloc: Global, size: u32) -> Result<Vec<Option<Moment>>
     ensures { (moment_in : ℕ → Entry → Option ℕ)
         → IfOk result (λ moments. AreFirstMoments moment_in size moments.items []) }
 {
-    let mut moments = Vec::with_capacity(alloc, size as usize)?;
-    for _i in 0..size {
-        moments.push(None)?;
-    }
+    let moments = vec![in alloc; None; size as usize]?;
     Ok(moments)
 }
 

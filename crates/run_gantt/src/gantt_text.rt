@@ -6,8 +6,7 @@ ghost use Rattle.shop_base.specs.Plan.{machines};
 ghost use Rattle.run_gantt.specs.Visits.{first_of, last_of, entry_moment};
 ghost use Rattle.run_gantt.specs.GanttText.{gantt_text, scale_for, columns_for, row_lines, visit_word};
 ghost use Rattle.run_gantt.specs.GanttText.{moment_or_unknown, sign_of, column_sign};
-ghost use Rattle.people_names.specs.NameBooks.{no_names};
-ghost use Rattle.people_names.specs.Words.{job_word, machine_word, moment_word};
+ghost use Rattle.people_names.specs.{NameBooks.no_names, Words.job_word, Words.machine_word, Words.moment_word};
 ghost use Rattle.run_gantt.specs.Pushing.{IsPushed, all_lines, visits_to, SignsToo};
 ghost use Rattle.run_gantt.specs.declared.bar.TheConstants.{MAX_COLUMNS, MAX_SCALE};
 

@@ -3,13 +3,11 @@
 #![tactic(auto)]
 
 mod bar;
+mod drawn_log;
 mod first_moments;
 mod gantt_text;
-mod job_leavings;
-mod picture_visits;
 mod visit_ends;
 mod visits;
 
+pub use drawn_log::{drawn_visits, leavings_so_far};
 pub use gantt_text::{gantt, gantt_for, the_columns_in_numbers};
-pub use job_leavings::leavings_so_far;
-pub use picture_visits::drawn_visits;

@@ -2,9 +2,7 @@
 
 ghost use Rattle.std.specs.Prelude.{◌≡◌, ◌<◌, [], ◌∷◌, length, slice_set, slice_index_or, IfOk, OnOk};
 ghost use Rattle.shop_base.specs.Plan.{machines};
-ghost use Rattle.run_gantt.specs.Visits.{machine_visits};
-ghost use Rattle.run_gantt.specs.VisitEnds.{AreVisitEnds};
-ghost use Rattle.run_gantt.specs.LinkedVisits.{AreVisitsBefore};
+ghost use Rattle.run_gantt.specs.{Visits.machine_visits, VisitEnds.AreVisitEnds, LinkedVisits.AreVisitsBefore};
 
 use crate::visit_ends::{VisitEnd, no_visit_ends, note_visit_end, visit_end_at};
 use cell_tables::Entry;

@@ -1,17 +1,12 @@
 -- An answer is gathered whole.
-use Rattle.std.proofs.Common.{◌≡◌, ℕ, ◌+◌, ◌≤◌, nat_lt, nat_le, ◌&&◌, if◌then◌else◌, Bool, true, false, List, [], ◌∷◌, ◌++◌, length, take, refl, sym, ap, ◌∙◌, arith, inl, inr, append_assoc, append-nil, length-append}
-use Rattle.std.proofs.lemmas.Bool.{and_right, cases_Bool, le-ltb, leb-false, ltb-false}
-use Rattle.std.proofs.lemmas.List.{take_all}
-use Rattle.run_journal.specs.declared.logged.TheConstants.{FULL, MAX_PENDING}
-use Rattle.run_journal.specs.Logged.{Held}
+use Rattle.std.proofs.{Math.Seq.take-length, lemmas.Bool.{and_right, cases_Bool, le-ltb, leb-false, ltb-false}}
+use Rattle.std.proofs.Common.{◌≡◌, ℕ, ◌+◌, ◌≤◌, nat_lt, nat_le, ◌&&◌, if◌then◌else◌, Bool, true, false, List, [], ◌∷◌, ◌++◌, length, refl, sym, ap, ◌∙◌, arith, inl, inr, append_assoc, append-nil, length-append}
+use Rattle.run_journal.specs.{declared.logged.TheConstants.{FULL, MAX_PENDING}, Logged.Held}
 use Rattle.run_journal.specs.Buffering.{AnAnswerIsBufferedWhole, AreBuffered, BeginNone, begins_answer, is_flushed_first, joined}
 
 -- where both fit
 fits : (buffered : ℕ) (bytes : List ℕ) → buffered + length bytes ≤ MAX_PENDING → is_flushed_first buffered bytes ≡ nat_le FULL buffered && begins_answer bytes
 fits buffered bytes within = ap (λ (b : Bool). if b then nat_lt 0 buffered else nat_le FULL buffered && begins_answer bytes) (le-ltb MAX_PENDING (buffered + length bytes) within)
-
-all_written : (bytes : List ℕ) → take (length bytes) bytes ≡ bytes
-all_written bytes = take_all (length bytes) bytes (omega arith)
 
 later : (before after : Held) (texts : List (List ℕ)) → BeginNone texts → length before.pending + length (joined texts) ≤ MAX_PENDING → AreBuffered before texts after
     → (after.written ≡ before.written) × (after.pending ≡ before.pending ++ joined texts)
@@ -21,17 +16,17 @@ later before after (bytes ∷ texts) none within (mid, is, more) =
     let not_first : is_flushed_first (length before.pending) bytes ≡ false =
     fits (length before.pending) bytes (omega (arith, within, whole)) ∙ and_right (nat_le FULL (length before.pending)) (begins_answer bytes) none.0 in
     let both = is.held not_first in
-    let now : mid.pending ≡ before.pending ++ bytes = both.1 ∙ ap (λ (l : List ℕ). before.pending ++ l) (all_written bytes) in
+    let now : mid.pending ≡ before.pending ++ bytes = both.1 ∙ ap (λ (l : List ℕ). before.pending ++ l) (take-length bytes) in
     let rest = later mid after texts none.1 (omega (arith, within, whole, ap length now, length-append before.pending bytes)) more in
     (rest.0 ∙ both.0, rest.1 ∙ ap (λ (l : List ℕ). l ++ joined texts) now ∙ append_assoc before.pending bytes (joined texts))
 
 pub buffered_whole : AnAnswerIsBufferedWhole
 buffered_whole before begun after line texts begins none few is are = elim (cases_Bool (is_flushed_first (length before.pending) line)) [
   | inl first ↦
-      let now : begun.pending ≡ line = is.anew first ∙ all_written line in
+      let now : begun.pending ≡ line = is.anew first ∙ take-length line in
       let rest = later begun after texts none (omega (arith, few, ap length now)) are in ([], now, rest.0, rest.1)
   | inr held ↦
-      let now : begun.pending ≡ before.pending ++ line = (is.held held).1 ∙ ap (λ (l : List ℕ). before.pending ++ l) (all_written line) in
+      let now : begun.pending ≡ before.pending ++ line = (is.held held).1 ∙ ap (λ (l : List ℕ). before.pending ++ l) (take-length line) in
       let rest = later begun after texts none (room now held) are in (before.pending, now, rest.0, rest.1)
 ]
   where

@@ -1,8 +1,7 @@
 -- What a crash leaves, seen from other bytes.
 use Rattle.std.proofs.Common.{◌≡◌, ℕ, ◌≤◌, List, ◌++◌, length, take, Option, None, Some, IfSome, Result, Ok, Err, OnOk, OnErr, Bool, true, [], inl, inr, refl, sym, subst, ap, ◌∙◌, arith, append-nil}
 use Rattle.std.proofs.lemmas.List.{take_at}
-use Rattle.run_journal.specs.LogFiles.{zeros, Leaves}
-use Rattle.run_journal.specs.Logged.{HoldsNothing}
+use Rattle.run_journal.specs.{LogFiles.{zeros, Leaves}, Logged.HoldsNothing}
 
 -- a crash that leaves just a file leaves the front of more
 pub durable_leaves : (crash_states : List ℕ → Type 0) (file more : List ℕ) → ((left : List ℕ) → crash_states left → left ≡ file) → Leaves crash_states (length file) (file ++ more)

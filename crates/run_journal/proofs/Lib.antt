@@ -1,6 +1,7 @@
 mod Starts
 mod Selected
 mod Whole
+pub mod ByLines
 pub mod Fronts
 mod Steps
 mod CrashLines

@@ -1,11 +1,9 @@
 -- What lines record of a run, line by line.
-use Rattle.std.proofs.Common.{◌≡◌, ◌⊎◌, ℕ, List, [], ◌∷◌, ◌++◌, codes, Option, None, Some, MatchOption, inl, inr, refl, sym, ap, ◌∙◌}
-use Rattle.std.proofs.lemmas.List.{append_cancel_left}
-use Rattle.event_lines.specs.RunDigits.{IsPlanLine}
+use Rattle.std.proofs.Common.{◌≡◌, ◌⊎◌, ℕ, List, [], ◌∷◌, ◌++◌, codes, Option, None, Some, MatchOption, inl, inr, refl}
+use Rattle.std.proofs.{Common.{sym, ap, ◌∙◌}, lemmas.List.append_cancel_left}
+use Rattle.event_lines.specs.{declared.run_digits.RunDigits.RunDigits, RunDigits.IsPlanLine}
 use Rattle.event_lines.proofs.PlanLines.{plan_part, shop_part}
-use Rattle.event_lines.specs.declared.run_digits.RunDigits.{RunDigits}
-use Rattle.run_journal.specs.declared.log_run.LogRun.{LogRun}
-use Rattle.run_journal.specs.declared.log_run.LogRun.TheVariants.{Unbegun, Unnamed, Named}
+use Rattle.run_journal.specs.declared.log_run.LogRun.{LogRun, TheVariants.{Unbegun, Unnamed, Named}}
 use Rattle.run_journal.specs.LogRuns.{HasBegun, IsRunOf, NameLast, NameNone}
 
 -- the last line of a plan among lines has these digits; or there is none, and this was the last one before them

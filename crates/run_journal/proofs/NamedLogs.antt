@@ -1,30 +1,20 @@
 -- A log to which the line of a plan is added.
+use Rattle.std.proofs.lemmas.Bool.{and_parts, and_from, and_left, or_from, cases_lt, lt-leb, lt-ltb}
+use Rattle.std.proofs.{Math.Seq.{drop-append_seam, take-append-add}, lemmas.List.{take-append-le, take_all}}
 use Rattle.std.proofs.Common.{◌≡◌, ◌⊎◌, ℕ, ◌+◌, ◌-◌, nat_lt, Bool, true, false, List, [], ◌∷◌, ◌++◌, length, take, drop, codes, Option, None, Some, IfSome, inl, inr, refl, sym, ap, ◌∙◌, subst, arith, append_assoc, append-nil, length-append}
 use Rattle.std.specs.List.{list_all}
-use Rattle.std.proofs.lemmas.Bool.{and_from, and_left, or_from, cases_lt, lt-leb, lt-ltb, ne_eqb}
-use Rattle.std.proofs.lemmas.List.{take-append-le, take_all}
-use Rattle.std.proofs.Math.Seq.{take-append-add}
 use Rattle.shop_base.specs.Plan.{PlannedShop}
-use Rattle.text_lines.specs.Cuts.{HasNone}
-use Rattle.text_lines.specs.Lines.{lines_of, ended_lines}
-use Rattle.text_lines.proofs.EndedLines.{ended-part}
+use Rattle.text_lines.{specs.{Cuts.HasNone, Lines.{lines_of, ended_lines}}, proofs.EndedLines.ended-part}
 use Rattle.cell_tables.specs.declared.entry.Entry.{Entry}
-use Rattle.event_lines.specs.LogLines.{LinesParse}
-use Rattle.event_lines.specs.ReadBack.{IsSpaceless}
+use Rattle.event_lines.specs.{declared.run_digits.RunDigits.RunDigits, LogLines.LinesParse, ReadBack.IsSpaceless}
 use Rattle.event_lines.specs.Words.{Word, Text, words_before, line_of}
-use Rattle.event_lines.proofs.WrittenWords.{AreSpaceless, before-append, line_first}
 use Rattle.event_lines.specs.RunDigits.{AreDigits, is_small_hex, plan_words, plan_line}
-use Rattle.event_lines.specs.declared.run_digits.RunDigits.{RunDigits}
-use Rattle.run_journal.specs.Folders.{Folder, NamedLog, with_log, with_made}
-use Rattle.run_journal.specs.LogFiles.{zeros, IsLeft}
-use Rattle.run_journal.specs.LogRuns.{IsNamedFor, IsNamedOrNot, NameLast}
-use Rattle.run_journal.specs.WholeLines.{whole_lines, torn_end}
-use Rattle.run_journal.specs.TornEnds.{is_torn}
+use Rattle.event_lines.proofs.WrittenWords.{absent_from_words, AreSpaceless, before-append, line_first}
+use Rattle.run_journal.specs.{Folders.{Folder, NamedLog, with_log, with_made}, WholeLines.{whole_lines, torn_end}}
+use Rattle.run_journal.specs.{LogRuns.{IsNamedFor, IsNamedOrNot, NameLast}, LogFiles.{zeros, IsLeft}, TornEnds.is_torn}
 use Rattle.run_journal.proofs.Whole.{cut_keeps, take_whole, whole-behind, whole-push_feed, whole-zeros}
-use Rattle.run_journal.proofs.TornEnds.{both, plan_begins}
-use Rattle.run_journal.proofs.LeftEvents.{ended-base, ended_is, parse-both}
-use Rattle.run_journal.proofs.PlansKept.{lines_both}
-use Rattle.run_journal.proofs.Formed.{none_written, none_whole, no_feed_both, torn_lines, torn-behind, drop-front}
+use Rattle.run_journal.proofs.{LeftEvents.parse-both, Formed.{none_written, torn_lines, torn-behind}}
+use Rattle.run_journal.proofs.{TornEnds.plan_begins, ByLines.{lines_both, ended_both, none_whole}}
 
 -- whole lines are whole
 pub whole_again : (text : List ℕ) → whole_lines (whole_lines text) ≡ whole_lines text
@@ -32,23 +22,35 @@ whole_again text = ap whole_lines (sym (take_whole text)) ∙ cut_keeps text (le
 
 -- and have no end that is torn
 pub no_end : (file : List ℕ) → whole_lines file ≡ file → torn_end file ≡ []
-no_end file whole = ap (λ (l : List ℕ). drop (length l) file) whole ∙ ap (λ (l : List ℕ). drop (length file) l) (sym (append-nil file)) ∙ drop-front file []
+no_end file whole = ap (λ (l : List ℕ). drop (length l) file) whole ∙ ap (λ (l : List ℕ). drop (length file) l) (sym (append-nil file)) ∙ drop-append_seam file []
 
 -- ---- the line of a plan
 
-hex_no_feed : (digits : List ℕ) → list_all is_small_hex digits ≡ true → HasNone 10 digits
-hex_no_feed [] all = tt
-hex_no_feed (d ∷ digits) all =
-    let (first, others) = both (is_small_hex d) (list_all is_small_hex digits) all in
-    (ne_eqb d 10 (λ same. (let no : false ≡ true = ap is_small_hex (sym same) ∙ first in absurd (cc no))), hex_no_feed digits others)
+hex_spaced : (b : ℕ) → is_small_hex b ≡ true → nat_lt 32 b ≡ true
+hex_spaced b is = elim (cases_lt 32 b) [
+  | inl above ↦ lt-ltb 32 b above
+  | inr within ↦
+      let no : is_small_hex b ≡ false = or_from _ _ (and_left _ _ (lt-leb 48 b (omega (arith, within)))) (and_left _ _ (lt-leb 97 b (omega (arith, within)))) in
+      absurd (cc (sym no ∙ is))
+]
+
+hex_spaceless : (digits : List ℕ) → list_all is_small_hex digits ≡ true → IsSpaceless digits
+hex_spaceless [] all = refl
+hex_spaceless (d ∷ digits) all =
+    let (first, others) = and_parts (is_small_hex d) (list_all is_small_hex digits) all in
+    and_from (nat_lt 32 d) (list_all (λ b. nat_lt 32 b) digits) (hex_spaced d first) (hex_spaceless digits others)
+
+abbrev listed : RunDigits → List Word
+listed digits = Text (codes "unfinished") ∷ Text (codes "plan") ∷ Text digits.plan ∷ Text (codes "shop") ∷ Text digits.shop ∷ []
+
+listed_spaceless : (digits : RunDigits) → AreDigits digits → AreSpaceless (listed digits)
+listed_spaceless digits are = (refl, (refl, (hex_spaceless digits.plan are.0.1, (refl, (hex_spaceless digits.shop are.1.1, tt)))))
+
+listed_are : (digits : RunDigits) → plan_words digits ≡ words_before (listed digits) []
+listed_are digits = ap (λ (l : List ℕ). codes "unfinished plan " ++ (digits.plan ++ (codes " shop " ++ l))) (sym (append-nil digits.shop))
 
 pub plan_no_feed : (digits : RunDigits) → AreDigits digits → HasNone 10 (plan_words digits)
-plan_no_feed digits are =
-    let shop = hex_no_feed digits.shop are.1.1 in
-    no_feed_both (codes "unfinished ") (codes "plan " ++ (digits.plan ++ (codes " shop " ++ digits.shop))) (refl, (refl, (refl, (refl, (refl, (refl, (refl, (refl, (refl, (refl, (refl, tt)))))))))))
-    (no_feed_both (codes "plan ") (digits.plan ++ (codes " shop " ++ digits.shop)) (refl, (refl, (refl, (refl, (refl, tt)))))
-    (no_feed_both digits.plan (codes " shop " ++ digits.shop) (hex_no_feed digits.plan are.0.1)
-    (no_feed_both (codes " shop ") digits.shop (refl, (refl, (refl, (refl, (refl, (refl, tt)))))) shop)))
+plan_no_feed digits are = subst (HasNone 10) (sym (listed_are digits)) (absent_from_words 10 (listed digits) (omega arith) (listed_spaceless digits are))
 
 pub whole_plan : (digits : RunDigits) → whole_lines (plan_line digits) ≡ plan_line digits
 whole_plan digits = whole-push_feed (plan_words digits)
@@ -102,29 +104,6 @@ named_whole digits lines base whole (inr is) = ap whole_lines is.1 ∙ whole-beh
 
 -- ---- what the line of a plan records
 
-hex_spaced : (b : ℕ) → is_small_hex b ≡ true → nat_lt 32 b ≡ true
-hex_spaced b is = elim (cases_lt 32 b) [
-  | inl above ↦ lt-ltb 32 b above
-  | inr within ↦
-      let no : is_small_hex b ≡ false = or_from _ _ (and_left _ _ (lt-leb 48 b (omega (arith, within)))) (and_left _ _ (lt-leb 97 b (omega (arith, within)))) in
-      absurd (cc (sym no ∙ is))
-]
-
-hex_spaceless : (digits : List ℕ) → list_all is_small_hex digits ≡ true → IsSpaceless digits
-hex_spaceless [] all = refl
-hex_spaceless (d ∷ digits) all =
-    let (first, others) = both (is_small_hex d) (list_all is_small_hex digits) all in
-    and_from (nat_lt 32 d) (list_all (λ b. nat_lt 32 b) digits) (hex_spaced d first) (hex_spaceless digits others)
-
-abbrev listed : RunDigits → List Word
-listed digits = Text (codes "unfinished") ∷ Text (codes "plan") ∷ Text digits.plan ∷ Text (codes "shop") ∷ Text digits.shop ∷ []
-
-listed_spaceless : (digits : RunDigits) → AreDigits digits → AreSpaceless (listed digits)
-listed_spaceless digits are = (refl, (refl, (hex_spaceless digits.plan are.0.1, (refl, (hex_spaceless digits.shop are.1.1, tt)))))
-
-listed_are : (digits : RunDigits) → plan_words digits ≡ words_before (listed digits) []
-listed_are digits = ap (λ (l : List ℕ). codes "unfinished plan " ++ (digits.plan ++ (codes " shop " ++ l))) (sym (append-nil digits.shop))
-
 plan_lines : (digits : RunDigits) → AreDigits digits → lines_of (plan_line digits) ≡ plan_words digits ∷ []
 plan_lines digits are =
     let written : plan_line digits ≡ line_of (listed digits) ++ [] = ap (λ (l : List ℕ). l ++ 10 ∷ []) (listed_are digits) ∙ sym (before-append (listed digits) [] (10 ∷ [])) ∙ sym (append-nil (line_of (listed digits))) in
@@ -141,7 +120,7 @@ pub named_parses : (p : PlannedShop) (digits : RunDigits) (lines base : List ℕ
     → LinesParse p (ended_lines base) recorded
 named_parses p digits lines base recorded are whole (inl is) parses = subst (λ (l : List ℕ). LinesParse p (ended_lines l) recorded) (sym is.1) parses
 named_parses p digits lines base recorded are whole (inr is) parses =
-    let ended : ended_lines base ≡ ended_lines lines ++ ended_lines (plan_line digits) = ap ended_lines is.1 ∙ ended_is [] (lines ++ plan_line digits) tt ∙ ended-base lines (plan_line digits) whole in
+    let ended : ended_lines base ≡ ended_lines lines ++ ended_lines (plan_line digits) = ap ended_lines is.1 ∙ ended_both lines (plan_line digits) whole in
     subst (λ (ls : List (List ℕ)). LinesParse p ls recorded) (sym ended)
     (subst (λ (es : List Entry). LinesParse p (ended_lines lines ++ ended_lines (plan_line digits)) es) (append-nil recorded) (parse-both p (ended_lines lines) (ended_lines (plan_line digits)) recorded [] parses (plan_parses p digits are)))
 

@@ -1,8 +1,7 @@
 -- What a log gets of a text, taken byte by byte.
 use Rattle.std.proofs.Common.{◌≡◌, ◌≢◌, ℕ, ◌≤◌, ◌<◌, ◌==◌, true, false, List, [], ◌∷◌, ◌++◌, length, take, inl, inr, refl, sym, ap, ◌∙◌, subst, arith, append_assoc, append-nil, length-append}
+use Rattle.std.proofs.lemmas.{Bool.{cases_Bool, ne_eqb}, List.{length-take, take-append-le, take_all}}
 use Rattle.std.specs.List.{onto_first, flat_map}
-use Rattle.std.proofs.lemmas.Bool.{cases_Bool, ne_eqb}
-use Rattle.std.proofs.lemmas.List.{length-take, take-append-le, take_all}
 use Rattle.run_journal.specs.LoggedLines.{is_logged, logged_line, fed_lines, logged}
 use Rattle.run_journal.specs.Selecting.{added, Gets, IsFront, line_after, line_behind, more, open_line, undecided}
 use Rattle.run_journal.proofs.Starts.{logged-stays, logged-decided}

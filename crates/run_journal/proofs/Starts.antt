@@ -1,8 +1,7 @@
 -- What a line begins with, once more of it has come.
-use Rattle.std.proofs.Common.{◌≡◌, ℕ, ◌≤◌, Bool, true, false, ◌&&◌, ◌||◌, nat_eq, List, [], ◌∷◌, ◌++◌, length, take, codes, refl, ap, ◌∙◌, arith}
-use Rattle.std.specs.List.{starts_with}
-use Rattle.std.specs.Cmp.Lexicographic.{pointwise}
-use Rattle.std.proofs.lemmas.List.{take-append-le, length-take}
+use Rattle.std.proofs.Common.{◌≡◌, ℕ, ◌≤◌, Bool, true, false, ◌&&◌, ◌||◌, nat_eq, List, [], ◌∷◌, ◌++◌, length, take}
+use Rattle.std.proofs.{Common.{codes, refl, ap, ◌∙◌, arith}, lemmas.List.{take-append-le, length-take}}
+use Rattle.std.specs.{List.starts_with, Cmp.Lexicographic.pointwise}
 use Rattle.run_journal.specs.LoggedLines.{is_logged}
 
 same_start : (line more word : List ℕ) → length word ≤ length line → starts_with nat_eq (line ++ more) word ≡ starts_with nat_eq line word

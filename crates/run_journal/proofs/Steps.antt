@@ -1,14 +1,10 @@
 -- What becomes of a log and an output that bytes are given to.
 use Rattle.std.proofs.Common.{◌≡◌, ℕ, ◌+◌, ◌≤◌, List, [], ◌++◌, length, take, drop, Option, None, Some, IfSome, Err, Bool, true, false, refl, sym, ap, ◌∙◌, subst, arith, append_assoc, append-nil, length-append, take-append-drop}
-use Rattle.std.specs.Io.KnownBytes.{Appends}
 use Rattle.std.proofs.lemmas.List.{take_all}
-use Rattle.run_journal.specs.declared.logged.TheConstants.{MAX_PENDING}
-use Rattle.run_journal.specs.declared.selection.TheConstants.{DECIDING}
-use Rattle.run_journal.specs.LogFiles.{Leaves, IsDurable}
-use Rattle.run_journal.specs.LoggedLines.{logged}
-use Rattle.run_journal.specs.Selecting.{Gets, IsFront, added, open_line}
-use Rattle.run_journal.specs.declared.logged.Unflushed.{Unflushed}
-use Rattle.run_journal.specs.declared.logged.Unflushed.TheVariants.{Log, Output}
+use Rattle.std.specs.Io.KnownBytes.{Appends}
+use Rattle.run_journal.specs.declared.{logged.TheConstants.MAX_PENDING, selection.TheConstants.DECIDING}
+use Rattle.run_journal.specs.{declared.logged.Unflushed.{Unflushed, TheVariants.{Log, Output}}, LoggedLines.logged}
+use Rattle.run_journal.specs.{LogFiles.{Leaves, IsDurable}, Selecting.{Gets, IsFront, added, open_line}}
 use Rattle.run_journal.specs.Logged.{AreInitial, IsSoFar, IsSound, OnKept, OnLogFault}
 use Rattle.run_journal.proofs.Fronts.{durable_leaves, fewer_left, if_some-at, if_some-map}
 use Rattle.run_journal.proofs.Selected.{line_after-append, logged-front, logged-more}

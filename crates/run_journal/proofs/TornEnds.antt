@@ -1,31 +1,22 @@
 -- What is left of a line that wasn't whole on the disk.
+use Rattle.std.proofs.lemmas.Bool.{and_parts, cases_Bool, ne_eqb, lt-ltb, or_left, or_right, eqb-true, eqb-false}
 use Rattle.std.proofs.Common.{◌≡◌, ◌≢◌, ℕ, zero, suc, ◌+◌, ◌-◌, ◌^◌, ◌<◌, ◌≤◌, nat_lt, ◌==◌, ◌&&◌, ◌||◌, if◌then◌else◌, Bool, true, false, List, [], ◌∷◌, ◌++◌, length, take, drop, get_or, codes, decimal, inl, inr, refl, sym, ap, ◌∙◌, subst, arith, append_assoc, append-nil, length-append, take-append-drop}
+use Rattle.std.proofs.lemmas.{Fmt.{decimal_nonempty, length-decimal-le}, List.{take-append-le, take_more}}
 use Rattle.std.specs.List.{list_all}
-use Rattle.std.proofs.lemmas.Bool.{cases_Bool, ne_eqb, lt-ltb}
-use Rattle.std.proofs.lemmas.Fmt.{decimal_nonempty, length-decimal-le}
-use Rattle.std.proofs.lemmas.List.{take-append-le, take_more}
-use Rattle.shop_base.specs.declared.move_order.Spot.{Spot}
-use Rattle.shop_base.specs.declared.move_order.Spot.TheVariants.{Out, At}
-use Rattle.shop_base.specs.declared.report.Report.{Report}
+use Rattle.shop_base.specs.declared.{move_order.Spot.{Spot, TheVariants.{Out, At}}, report.Report.Report}
 use Rattle.shop_base.specs.declared.report.Report.TheVariants.{Arrive, Finish, Clean}
-use Rattle.text_lines.specs.Numbers.{is_digit}
-use Rattle.text_lines.proofs.WrittenNumbers.{decimal_digits}
-use Rattle.cell_tables.specs.declared.entry.Entry.{Entry}
-use Rattle.cell_tables.specs.declared.entry.Entry.TheVariants.{Report as ReportEntry, Order as OrderEntry}
-use Rattle.event_lines.specs.Words.{Word, Number, short, moment, written, words_before, line_of}
-use Rattle.event_lines.specs.EventLines.{spot_word, logged_words, order_words, entry_words}
-use Rattle.cell_tables.specs.declared.standing.Standing.{Standing}
-use Rattle.cell_tables.specs.declared.standing.Standing.TheVariants.{Awaited, Outside, Worked, Done, Gone, Cleaned, Clean as CleanMachine}
-use Rattle.cell_tables.specs.Standings.{is_overdue}
-use Rattle.event_lines.specs.declared.details.Overdue.{Overdue}
-use Rattle.event_lines.specs.AnswerLines.{late_words}
-use Rattle.event_lines.specs.RunDigits.{AreDigits, is_small_hex, plan_words}
-use Rattle.event_lines.specs.declared.run_digits.RunDigits.{RunDigits}
-use Rattle.event_lines.specs.StandingLines.{others_words, late_overdue_words}
+use Rattle.text_lines.{specs.Numbers.is_digit, proofs.WrittenNumbers.decimal_digits}
+use Rattle.cell_tables.specs.declared.entry.Entry.{Entry, TheVariants.{Report as ReportEntry, Order as OrderEntry}}
+use Rattle.cell_tables.specs.{declared.standing.Standing.Standing, Standings.is_overdue}
+use Rattle.cell_tables.specs.declared.standing.Standing.TheVariants.{Clean as CleanMachine, Awaited, Outside, Worked, Done, Gone, Cleaned}
+use Rattle.event_lines.specs.declared.{run_digits.RunDigits.RunDigits, details.Overdue.Overdue}
+use Rattle.event_lines.specs.Words.{Word, Number, short, moment, written, words_before, line_of, Text}
+use Rattle.event_lines.specs.{EventLines.{spot_word, logged_words, order_words, entry_words}, AnswerLines.late_words}
+use Rattle.event_lines.specs.{StandingLines.late_overdue_words, RunDigits.{AreDigits, is_small_hex, plan_words}}
 use Rattle.event_lines.proofs.WrittenWords.{before-append}
-use Rattle.run_journal.specs.LogFiles.{zeros}
+use Rattle.run_journal.specs.{declared.torn_end.TheConstants.MOMENT_DIGITS, LogFiles.zeros}
+use Rattle.run_journal.specs.TornEnds.{begins_late, begins_plan, without_zeros, begins_line, is_torn, digits_of, stands_for, goes_on, IsNarrow, AreNarrow, begins_report, begins_order, UnwrittenLinesAreTorn}
 use Rattle.run_journal.proofs.Starts.{any-kept}
-use Rattle.run_journal.specs.TornEnds.{digits_of, stands_for, goes_on, IsNarrow, AreNarrow, begins_report, begins_order, begins_late, begins_plan, without_zeros, begins_line, is_torn, UnwrittenLinesAreTorn}
 
 -- ---- the first bytes of bytes
 
@@ -52,12 +43,9 @@ one_zero : (xs : List ℕ) → without_zeros (xs ++ 0 ∷ []) ≡ without_zeros 
 one_zero [] = refl
 one_zero (x ∷ xs) = ap (λ (l : List ℕ). if x == 0 && length l == 0 then [] else x ∷ l) (one_zero xs)
 
-pushed-some : (xs : List ℕ) (b : ℕ) → (length (xs ++ b ∷ []) == 0) ≡ false
-pushed-some xs b = ne_eqb (length (xs ++ b ∷ [])) 0 (λ is. omega (arith, is, length-append xs (b ∷ [])))
-
 no_zero : (xs : List ℕ) (b : ℕ) → (b == 0) ≡ false → without_zeros (xs ++ b ∷ []) ≡ xs ++ b ∷ []
 no_zero [] b other = rw other refl
-no_zero (x ∷ xs) b other = ap (λ (l : List ℕ). if x == 0 && length l == 0 then [] else x ∷ l) (no_zero xs b other) ∙ some_kept x (xs ++ b ∷ []) (pushed-some xs b)
+no_zero (x ∷ xs) b other = ap (λ (l : List ℕ). if x == 0 && length l == 0 then [] else x ∷ l) (no_zero xs b other) ∙ some_kept x (xs ++ b ∷ []) (ne_eqb (length (xs ++ b ∷ [])) 0 (λ is. omega (arith, is, length-append xs (b ∷ []))))
 
 pub unzeroed-take_zero : (xs : List ℕ) (n : ℕ) → n < length xs → get_or xs n 0 ≡ 0 → without_zeros (take n xs) ≡ without_zeros (take (n + 1) xs)
 unzeroed-take_zero xs n within is = sym (ap without_zeros (take_more xs n 0 within ∙ ap (λ (b : ℕ). take n xs ++ b ∷ []) is) ∙ one_zero (take n xs))
@@ -86,11 +74,33 @@ shorter more (c ∷ form) (byte ∷ front) rest is = elim (cases_Bool (nat_lt 0 
       ])
 ]
 
--- ---- a number
+-- ---- the form of a line
 
-pub both : (a b : Bool) → a && b ≡ true → (a ≡ true) × (b ≡ true)
-both true b is = (refl, is)
-both false b is = absurd (cc is)
+-- what stands for a word in a form
+abbrev mark : Word → List ℕ
+mark (Text text) = text
+mark (Number most n) = (if most == MOMENT_DIGITS then 35 else 37) ∷ []
+
+-- the form of words, before a form
+abbrev form_of : List Word → List ℕ → List ℕ
+form_of [] form = form
+form_of (word ∷ []) form = mark word ++ form
+form_of (word ∷ next ∷ words) form = mark word ++ 32 ∷ form_of (next ∷ words) form
+
+-- in a form it stands for itself
+abbrev is_literal : ℕ → Bool
+is_literal c = stands_for c c && digits_of c == 0
+
+abbrev is_literal_word : Word → Bool
+is_literal_word (Text text) = list_all is_literal text
+is_literal_word (Number most n) = true
+
+literal_on : (text form rest : List ℕ) → list_all is_literal text ≡ true → goes_on 0 form rest ≡ true → goes_on 0 (text ++ form) (text ++ rest) ≡ true
+literal_on [] form rest all is = is
+literal_on (c ∷ text) form rest all is =
+    let (first, others) = and_parts (is_literal c) (list_all is_literal text) all in
+    let (stands, none) = and_parts (stands_for c c) (digits_of c == 0) first in
+    rw stands (subst (λ (n : ℕ). goes_on (n - 1) (text ++ form) (text ++ rest) ≡ true) (sym (eqb-true (digits_of c) 0 none)) (literal_on text form rest others is))
 
 some_more : (more : ℕ) → nat_lt 0 (suc more) ≡ true
 some_more more = lt-ltb 0 (suc more) (omega arith)
@@ -102,158 +112,71 @@ digits_on : (digits : List ℕ) (more : ℕ) (form rest : List ℕ) → list_all
 digits_on [] more form rest all few is = is more
 digits_on (d ∷ digits) zero form rest all few is = absurd (omega (arith, few))
 digits_on (d ∷ digits) (suc more) [] rest all few is =
-    let (first, others) = both (is_digit d) (list_all is_digit digits) all in
+    let (first, others) = and_parts (is_digit d) (list_all is_digit digits) all in
     rw (some_more more) (rw first (subst (λ (k : ℕ). goes_on k [] (digits ++ rest) ≡ true) (one_less more) (digits_on digits more [] rest others (omega (arith, few)) is)))
 digits_on (d ∷ digits) (suc more) (c ∷ form) rest all few is =
-    let (first, others) = both (is_digit d) (list_all is_digit digits) all in
+    let (first, others) = and_parts (is_digit d) (list_all is_digit digits) all in
     rw (some_more more) (rw first (subst (λ (k : ℕ). goes_on k (c ∷ form) (digits ++ rest) ≡ true) (one_less more) (digits_on digits more (c ∷ form) rest others (omega (arith, few)) is)))
 
--- the digits of a number where the form has one, of which there may be so many
+-- the digits of a moment, and of another number
 moment_digits : (digits form rest : List ℕ) → list_all is_digit digits ≡ true → 0 < length digits → length digits ≤ 13 → ((k : ℕ) → goes_on k form rest ≡ true) → goes_on 0 (35 ∷ form) (digits ++ rest) ≡ true
 moment_digits [] form rest all some few is = absurd (omega (arith, some))
-moment_digits (d ∷ digits) form rest all some few is = let (first, others) = both (is_digit d) (list_all is_digit digits) all in rw first (digits_on digits 12 form rest others (omega (arith, few)) is)
+moment_digits (d ∷ digits) form rest all some few is = let (first, others) = and_parts (is_digit d) (list_all is_digit digits) all in rw first (digits_on digits 12 form rest others (omega (arith, few)) is)
 
 other_digits : (digits form rest : List ℕ) → list_all is_digit digits ≡ true → 0 < length digits → length digits ≤ 3 → ((k : ℕ) → goes_on k form rest ≡ true) → goes_on 0 (37 ∷ form) (digits ++ rest) ≡ true
 other_digits [] form rest all some few is = absurd (omega (arith, some))
-other_digits (d ∷ digits) form rest all some few is = let (first, others) = both (is_digit d) (list_all is_digit digits) all in rw first (digits_on digits 2 form rest others (omega (arith, few)) is)
+other_digits (d ∷ digits) form rest all some few is = let (first, others) = and_parts (is_digit d) (list_all is_digit digits) all in rw first (digits_on digits 2 form rest others (omega (arith, few)) is)
 
-moment_on : (n : ℕ) (form rest : List ℕ) → IsNarrow (moment n) → ((k : ℕ) → goes_on k form rest ≡ true) → goes_on 0 (35 ∷ form) (decimal n ++ rest) ≡ true
-moment_on n form rest fits is = moment_digits (decimal n) form rest (decimal_digits n) (decimal_nonempty n fits.0.2) (length-decimal-le 13 n (omega arith) fits.0.1 fits.0.2) is
-
-other_on : (most n : ℕ) (form rest : List ℕ) → (most ≡ 13 → ⊥) → IsNarrow (Number most n) → ((k : ℕ) → goes_on k form rest ≡ true) → goes_on 0 (37 ∷ form) (decimal n ++ rest) ≡ true
-other_on most n form rest other fits is = other_digits (decimal n) form rest (decimal_digits n) (decimal_nonempty n fits.0.2) (length-decimal-le 3 n (omega arith) few fits.0.2) is
-  where
-    few : n < 10 ^ 3
-    few = elim fits.1 [
-      | inl same ↦ absurd (other same)
-      | inr below ↦ below
-    ]
-
-short_on : (n : ℕ) (form rest : List ℕ) → IsNarrow (short n) → ((k : ℕ) → goes_on k form rest ≡ true) → goes_on 0 (37 ∷ form) (decimal n ++ rest) ≡ true
-short_on n form rest fits is = other_on 9 n form rest (λ same. omega (arith, same)) fits is
+word_on : (word : Word) (form rest : List ℕ) → IsNarrow word → is_literal_word word ≡ true → ((k : ℕ) → goes_on k form rest ≡ true) → goes_on 0 (mark word ++ form) (written word ++ rest) ≡ true
+word_on (Text text) form rest fits literal is = literal_on text form rest literal (is 0)
+word_on (Number most n) form rest fits literal is = elim (cases_Bool (most == MOMENT_DIGITS)) [
+  | inl moment ↦
+      let below : n < 10 ^ 13 = subst (λ (k : ℕ). n < 10 ^ k) (eqb-true most 13 moment) fits.0.1 in
+      rw moment (moment_digits (decimal n) form rest (decimal_digits n) (decimal_nonempty n fits.0.2) (length-decimal-le 13 n (omega arith) below fits.0.2) is)
+  | inr other ↦
+      let below : n < 10 ^ 3 = elim fits.1 [ inl same ↦ absurd (eqb-false most 13 other same) | inr few ↦ few ] in
+      rw other (other_digits (decimal n) form rest (decimal_digits n) (decimal_nonempty n fits.0.2) (length-decimal-le 3 n (omega arith) below fits.0.2) is)
+]
 
 -- a space ends it
 spaced : (form rest : List ℕ) → goes_on 0 form rest ≡ true → (k : ℕ) → goes_on k (32 ∷ form) (32 ∷ rest) ≡ true
 spaced form rest is zero = is
 spaced form rest is (suc k) = rw (some_more k) is
 
-ended : (k : ℕ) → goes_on k [] [] ≡ true
-ended k = refl
+-- words begin a line of their form, whatever more the form has
+words_on : (words : List Word) (form : List ℕ) → AreNarrow words → list_all is_literal_word words ≡ true → goes_on 0 (form_of words form) (words_before words []) ≡ true
+words_on [] form fits literal = refl
+words_on (word ∷ []) form fits literal = word_on word form [] fits.0 (and_parts (is_literal_word word) true literal).0 (λ k. refl)
+words_on (word ∷ next ∷ words) form fits literal =
+    let (first, others) = and_parts (is_literal_word word) (list_all is_literal_word (next ∷ words)) literal in
+    word_on word (32 ∷ form_of (next ∷ words) form) (32 ∷ words_before (next ∷ words) []) fits.0 first (spaced (form_of (next ∷ words) form) (words_before (next ∷ words) []) (words_on (next ∷ words) form fits.1 others))
 
 -- ---- the lines that a log gets
 
-or-left : (a b : Bool) → a ≡ true → a || b ≡ true
-or-left a b is = ap (λ x. x || b) is
-
-or-right : (a b : Bool) → b ≡ true → a || b ≡ true
-or-right true b is = refl
-or-right false b is = is
-
 begun_report : (report : Report) → AreNarrow (logged_words report) → begins_report (words_before (logged_words report) []) ≡ true
-begun_report (Arrive job at) (_, (t, (_, (j, _)))) = or-left _ _ (or-left _ _ (
-    moment_on at (codes " arrive %") (32 ∷ (codes "arrive" ++ 32 ∷ (decimal job ++ []))) t (spaced (codes "arrive %") (codes "arrive" ++ 32 ∷ (decimal job ++ []))
-    (short_on job [] [] j ended))
-    ))
-begun_report (Finish job machine at) (_, (t, (_, (j, (m, _))))) = or-left _ _ (or-right _ _ (
-    moment_on at (codes " finish % %") (32 ∷ (codes "finish" ++ 32 ∷ (decimal job ++ 32 ∷ (decimal machine ++ [])))) t (spaced (codes "finish % %") (codes "finish" ++ 32 ∷ (decimal job ++ 32 ∷ (decimal machine ++ [])))
-    (short_on job (codes " %") (32 ∷ (decimal machine ++ [])) j (spaced (codes "%") (decimal machine ++ [])
-    (short_on machine [] [] m ended))))
-    ))
-begun_report (Clean machine at) (_, (t, (_, (m, _)))) = or-right _ _ (
-    moment_on at (codes " clean %") (32 ∷ (codes "clean" ++ 32 ∷ (decimal machine ++ []))) t (spaced (codes "clean %") (codes "clean" ++ 32 ∷ (decimal machine ++ []))
-    (short_on machine [] [] m ended))
-    )
+begun_report (Arrive job at) fits = or_left _ _ (or_left _ _ (words_on (logged_words (Arrive job at)) [] fits refl))
+begun_report (Finish job machine at) fits = or_left _ _ (or_right _ _ (words_on (logged_words (Finish job machine at)) [] fits refl))
+begun_report (Clean machine at) fits = or_right _ _ (words_on (logged_words (Clean machine at)) [] fits refl)
 
-begun_order : (at job : ℕ) (source target : Spot) → IsNarrow (moment at) → IsNarrow (short job) → IsNarrow (spot_word source) → IsNarrow (spot_word target)
-    → begins_order (codes "order" ++ 32 ∷ (decimal at ++ 32 ∷ (decimal job ++ 32 ∷ (written (spot_word source) ++ 32 ∷ (written (spot_word target) ++ []))))) ≡ true
-begun_order at job (At m) (At n) t j s d = or-left _ _ (or-left _ _ (or-left _ _ (
-    moment_on at (codes " % % %") (32 ∷ (decimal job ++ 32 ∷ (decimal m ++ 32 ∷ (decimal n ++ [])))) t (spaced (codes "% % %") (decimal job ++ 32 ∷ (decimal m ++ 32 ∷ (decimal n ++ [])))
-    (short_on job (codes " % %") (32 ∷ (decimal m ++ 32 ∷ (decimal n ++ []))) j (spaced (codes "% %") (decimal m ++ 32 ∷ (decimal n ++ []))
-    (short_on m (codes " %") (32 ∷ (decimal n ++ [])) s (spaced (codes "%") (decimal n ++ [])
-    (short_on n [] [] d ended))))))
-    )))
-begun_order at job (At m) Out t j s d = or-left _ _ (or-left _ _ (or-right _ _ (
-    moment_on at (codes " % % out") (32 ∷ (decimal job ++ 32 ∷ (decimal m ++ 32 ∷ (codes "out" ++ [])))) t (spaced (codes "% % out") (decimal job ++ 32 ∷ (decimal m ++ 32 ∷ (codes "out" ++ [])))
-    (short_on job (codes " % out") (32 ∷ (decimal m ++ 32 ∷ (codes "out" ++ []))) j (spaced (codes "% out") (decimal m ++ 32 ∷ (codes "out" ++ []))
-    (short_on m (codes " out") (32 ∷ (codes "out" ++ [])) s (spaced (codes "out") (codes "out" ++ []) refl)))))
-    )))
-begun_order at job Out (At n) t j s d = or-left _ _ (or-right _ _ (
-    moment_on at (codes " % out %") (32 ∷ (decimal job ++ 32 ∷ (codes "out" ++ 32 ∷ (decimal n ++ [])))) t (spaced (codes "% out %") (decimal job ++ 32 ∷ (codes "out" ++ 32 ∷ (decimal n ++ [])))
-    (short_on job (codes " out %") (32 ∷ (codes "out" ++ 32 ∷ (decimal n ++ []))) j (spaced (codes "out %") (codes "out" ++ 32 ∷ (decimal n ++ []))
-    (short_on n [] [] d ended))))
-    ))
-begun_order at job Out Out t j s d = or-right _ _ (
-    moment_on at (codes " % out out") (32 ∷ (decimal job ++ 32 ∷ (codes "out" ++ 32 ∷ (codes "out" ++ [])))) t (spaced (codes "% out out") (decimal job ++ 32 ∷ (codes "out" ++ 32 ∷ (codes "out" ++ [])))
-    (short_on job (codes " out out") (32 ∷ (codes "out" ++ 32 ∷ (codes "out" ++ []))) j (spaced (codes "out out") (codes "out" ++ 32 ∷ (codes "out" ++ [])) refl)))
-    )
+abbrev ordered : ℕ → ℕ → Spot → Spot → List Word
+ordered at job source target = Text (codes "order") ∷ moment at ∷ short job ∷ spot_word source ∷ spot_word target ∷ []
 
-begun_late : (at : ℕ) → IsNarrow (moment at) → begins_late (words_before (late_words at) []) ≡ true
-begun_late at fits = or-left _ _ (or-left _ _ (moment_on at (codes " job % arrives # and % more") [] fits (λ k. refl)))
+begun_order : (at job : ℕ) (source target : Spot) → AreNarrow (ordered at job source target) → begins_order (words_before (ordered at job source target) []) ≡ true
+begun_order at job (At m) (At n) fits = or_left _ _ (or_left _ _ (or_left _ _ (words_on (ordered at job (At m) (At n)) [] fits refl)))
+begun_order at job (At m) Out fits = or_left _ _ (or_left _ _ (or_right _ _ (words_on (ordered at job (At m) Out) [] fits refl)))
+begun_order at job Out (At n) fits = or_left _ _ (or_right _ _ (words_on (ordered at job Out (At n)) [] fits refl))
+begun_order at job Out Out fits = or_right _ _ (words_on (ordered at job Out Out) [] fits refl)
 
--- behind the words of what is overdue, others may be written
-abbrev others_text : ℕ → List ℕ
-others_text zero = []
-others_text (suc k) = 32 ∷ (codes "and" ++ 32 ∷ (decimal (suc k) ++ 32 ∷ (codes "more" ++ [])))
+abbrev overdue_then : ℕ → Standing → ℕ → List Word
+overdue_then at first others = late_overdue_words at (record { first = first; others = others })
 
-others_on : (others : ℕ) → AreNarrow (others_words others) → (k : ℕ) → goes_on k (codes " and % more") (others_text others) ≡ true
-others_on zero fits k = refl
-others_on (suc n) fits k = spaced (codes "and % more") (codes "and" ++ 32 ∷ (decimal (suc n) ++ 32 ∷ (codes "more" ++ [])))
-    (other_on 10 (suc n) (codes " more") (32 ∷ (codes "more" ++ [])) (λ same. omega (arith, same)) fits.1.0 (spaced (codes "more") (codes "more" ++ []) refl)) k
-
-awaited_text : (at job due others : ℕ) → words_before (late_overdue_words at (record { first = Awaited job due; others = others })) []
-    ≡ codes "late" ++ 32 ∷ (decimal at ++ 32 ∷ (codes "job" ++ 32 ∷ (decimal job ++ 32 ∷ (codes "arrives" ++ 32 ∷ (decimal due ++ others_text others)))))
-awaited_text at job due zero = refl
-awaited_text at job due (suc k) = refl
-
-worked_text : (at job machine from due others : ℕ) → words_before (late_overdue_words at (record { first = Worked job machine from due; others = others })) []
-    ≡ codes "late" ++ 32 ∷ (decimal at ++ 32 ∷ (codes "job" ++ 32 ∷ (decimal job ++ 32 ∷ (codes "on" ++ 32 ∷ (codes "machine" ++ 32 ∷ (decimal machine
-    ++ 32 ∷ (codes "since" ++ 32 ∷ (decimal from ++ 32 ∷ (codes "due" ++ 32 ∷ (decimal due ++ others_text others))))))))))
-worked_text at job machine from due zero = refl
-worked_text at job machine from due (suc k) = refl
-
-cleaned_text : (at machine job from due others : ℕ) → words_before (late_overdue_words at (record { first = Cleaned machine job from due; others = others })) []
-    ≡ codes "late" ++ 32 ∷ (decimal at ++ 32 ∷ (codes "machine" ++ 32 ∷ (decimal machine ++ 32 ∷ (codes "cleaned" ++ 32 ∷ (codes "after" ++ 32 ∷ (codes "job" ++ 32 ∷ (decimal job
-    ++ 32 ∷ (codes "since" ++ 32 ∷ (decimal from ++ 32 ∷ (codes "due" ++ 32 ∷ (decimal due ++ others_text others)))))))))))
-cleaned_text at machine job from due zero = refl
-cleaned_text at machine job from due (suc k) = refl
-
-begun_overdue : (at : ℕ) (first : Standing) (others : ℕ) → is_overdue first at ≡ true → AreNarrow (late_overdue_words at (record { first = first; others = others }))
-    → begins_late (words_before (late_overdue_words at (record { first = first; others = others })) []) ≡ true
-begun_overdue at (Awaited job due) others is (_, (t, (_, (j, (_, (d, more)))))) =
-    let end = others_text others in
-    let behind_job = codes "arrives" ++ 32 ∷ (decimal due ++ end) in
-    let behind_at = codes "job" ++ 32 ∷ (decimal job ++ 32 ∷ behind_job) in
-    ap begins_late (awaited_text at job due others) ∙ or-left _ _ (or-left _ _ (
-    moment_on at (codes " job % arrives # and % more") (32 ∷ behind_at) t (spaced (codes "job % arrives # and % more") behind_at
-    (short_on job (codes " arrives # and % more") (32 ∷ behind_job) j (spaced (codes "arrives # and % more") behind_job
-    (moment_on due (codes " and % more") end d (others_on others more)))))
-    ))
-begun_overdue at (Worked job machine from due) others is (_, (t, (_, (j, (_, (_, (m, (_, (s, (_, (d, more))))))))))) =
-    let end = others_text others in
-    let behind_from = codes "due" ++ 32 ∷ (decimal due ++ end) in
-    let behind_machine = codes "since" ++ 32 ∷ (decimal from ++ 32 ∷ behind_from) in
-    let behind_job = codes "on" ++ 32 ∷ (codes "machine" ++ 32 ∷ (decimal machine ++ 32 ∷ behind_machine)) in
-    let behind_at = codes "job" ++ 32 ∷ (decimal job ++ 32 ∷ behind_job) in
-    ap begins_late (worked_text at job machine from due others) ∙ or-left _ _ (or-right _ _ (
-    moment_on at (codes " job % on machine % since # due # and % more") (32 ∷ behind_at) t (spaced (codes "job % on machine % since # due # and % more") behind_at
-    (short_on job (codes " on machine % since # due # and % more") (32 ∷ behind_job) j (spaced (codes "on machine % since # due # and % more") behind_job
-    (short_on machine (codes " since # due # and % more") (32 ∷ behind_machine) m (spaced (codes "since # due # and % more") behind_machine
-    (moment_on from (codes " due # and % more") (32 ∷ behind_from) s (spaced (codes "due # and % more") behind_from
-    (moment_on due (codes " and % more") end d (others_on others more)))))))))
-    ))
-begun_overdue at (Cleaned machine job from due) others is (_, (t, (_, (m, (_, (_, (_, (j, (_, (s, (_, (d, more)))))))))))) =
-    let end = others_text others in
-    let behind_from = codes "due" ++ 32 ∷ (decimal due ++ end) in
-    let behind_job = codes "since" ++ 32 ∷ (decimal from ++ 32 ∷ behind_from) in
-    let behind_machine = codes "cleaned" ++ 32 ∷ (codes "after" ++ 32 ∷ (codes "job" ++ 32 ∷ (decimal job ++ 32 ∷ behind_job))) in
-    let behind_at = codes "machine" ++ 32 ∷ (decimal machine ++ 32 ∷ behind_machine) in
-    ap begins_late (cleaned_text at machine job from due others) ∙ or-right _ _ (
-    moment_on at (codes " machine % cleaned after job % since # due # and % more") (32 ∷ behind_at) t (spaced (codes "machine % cleaned after job % since # due # and % more") behind_at
-    (short_on machine (codes " cleaned after job % since # due # and % more") (32 ∷ behind_machine) m (spaced (codes "cleaned after job % since # due # and % more") behind_machine
-    (short_on job (codes " since # due # and % more") (32 ∷ behind_job) j (spaced (codes "since # due # and % more") behind_job
-    (moment_on from (codes " due # and % more") (32 ∷ behind_from) s (spaced (codes "due # and % more") behind_from
-    (moment_on due (codes " and % more") end d (others_on others more)))))))))
-    )
+begun_overdue : (at : ℕ) (first : Standing) (others : ℕ) → is_overdue first at ≡ true → AreNarrow (overdue_then at first others) → begins_late (words_before (overdue_then at first others) []) ≡ true
+begun_overdue at (Awaited job due) zero is fits = or_left _ _ (or_left _ _ (words_on (overdue_then at (Awaited job due) 0) (codes " and % more") fits refl))
+begun_overdue at (Awaited job due) (suc k) is fits = or_left _ _ (or_left _ _ (words_on (overdue_then at (Awaited job due) (suc k)) [] fits refl))
+begun_overdue at (Worked job machine from due) zero is fits = or_left _ _ (or_right _ _ (words_on (overdue_then at (Worked job machine from due) 0) (codes " and % more") fits refl))
+begun_overdue at (Worked job machine from due) (suc k) is fits = or_left _ _ (or_right _ _ (words_on (overdue_then at (Worked job machine from due) (suc k)) [] fits refl))
+begun_overdue at (Cleaned machine job from due) zero is fits = or_right _ _ (words_on (overdue_then at (Cleaned machine job from due) 0) (codes " and % more") fits refl)
+begun_overdue at (Cleaned machine job from due) (suc k) is fits = or_right _ _ (words_on (overdue_then at (Cleaned machine job from due) (suc k)) [] fits refl)
 begun_overdue at (Outside job to) others is fits = absurd (cc is)
 begun_overdue at (Done job machine to) others is fits = absurd (cc is)
 begun_overdue at (Gone job from) others is fits = absurd (cc is)
@@ -295,13 +218,13 @@ left_of words count unwritten is within =
     ap (λ l. is_torn (take count l ++ zeros unwritten)) line ∙ left_line (words_before words []) count unwritten is (omega (arith, within, ap length line))
 
 any_report : (bytes : List ℕ) → begins_report bytes ≡ true → begins_line bytes ≡ true
-any_report bytes is = or-left _ (begins_plan bytes) (or-left (begins_report bytes || begins_order bytes) (begins_late bytes) (or-left (begins_report bytes) (begins_order bytes) is))
+any_report bytes is = or_left _ (begins_plan bytes) (or_left (begins_report bytes || begins_order bytes) (begins_late bytes) (or_left (begins_report bytes) (begins_order bytes) is))
 
 any_order : (bytes : List ℕ) → begins_order bytes ≡ true → begins_line bytes ≡ true
-any_order bytes is = or-left _ (begins_plan bytes) (or-left (begins_report bytes || begins_order bytes) (begins_late bytes) (or-right (begins_report bytes) (begins_order bytes) is))
+any_order bytes is = or_left _ (begins_plan bytes) (or_left (begins_report bytes || begins_order bytes) (begins_late bytes) (or_right (begins_report bytes) (begins_order bytes) is))
 
 any_late : (bytes : List ℕ) → begins_late bytes ≡ true → begins_line bytes ≡ true
-any_late bytes is = or-left _ (begins_plan bytes) (or-right (begins_report bytes || begins_order bytes) (begins_late bytes) is)
+any_late bytes is = or_left _ (begins_plan bytes) (or_right (begins_report bytes || begins_order bytes) (begins_late bytes) is)
 
 -- ---- the line of a plan
 
@@ -314,20 +237,20 @@ hexes_on : (n : ℕ) (form digits rest : List ℕ) → length digits ≡ n → l
 hexes_on zero form [] rest are all = refl
 hexes_on zero form (d ∷ digits) rest are all = absurd (omega (arith, are))
 hexes_on (suc n) form [] rest are all = absurd (omega (arith, are))
-hexes_on (suc n) form (d ∷ digits) rest are all = let (first, others) = both (is_small_hex d) (list_all is_small_hex digits) all in rw first (hexes_on n form digits rest (omega (arith, are)) others)
+hexes_on (suc n) form (d ∷ digits) rest are all = let (first, others) = and_parts (is_small_hex d) (list_all is_small_hex digits) all in rw first (hexes_on n form digits rest (omega (arith, are)) others)
 
 pub plan_begins : (digits : RunDigits) → AreDigits digits → begins_line (plan_words digits) ≡ true
-plan_begins digits are = or-right (begins_report (plan_words digits) || begins_order (plan_words digits) || begins_late (plan_words digits)) (begins_plan (plan_words digits)) (
+plan_begins digits are = or_right (begins_report (plan_words digits) || begins_order (plan_words digits) || begins_late (plan_words digits)) (begins_plan (plan_words digits)) (
     hexes_on 16 (codes " shop @@@@@@@@@@@@@@@@") digits.plan (codes " shop " ++ digits.shop) are.0.0 are.0.1
     ∙ ap (λ l. goes_on 0 (hexes 16) l) (sym (append-nil digits.shop)) ∙ hexes_on 16 [] digits.shop [] are.1.0 are.1.1
     )
 
 pub event_begins : (entry : Entry) → AreNarrow (entry_words entry) → begins_line (words_before (entry_words entry) []) ≡ true
 event_begins (ReportEntry report) fits = any_report (words_before (logged_words report) []) (begun_report report fits)
-event_begins (OrderEntry o) fits = any_order (words_before (order_words o) []) (begun_order o.at o.job o.source o.target fits.1.0 fits.1.1.0 fits.1.1.1.0 fits.1.1.1.1.0)
+event_begins (OrderEntry o) fits = any_order (words_before (order_words o) []) (begun_order o.at o.job o.source o.target fits)
 
 pub late_begins : (at : ℕ) → AreNarrow (late_words at) → begins_line (words_before (late_words at) []) ≡ true
-late_begins at fits = any_late (words_before (late_words at) []) (begun_late at fits.1.0)
+late_begins at fits = any_late (words_before (late_words at) []) (or_left _ _ (or_left _ _ (words_on (late_words at) (codes " job % arrives # and % more") fits refl)))
 
 pub late_overdue_begins : (at : ℕ) (overdue : Overdue) → is_overdue overdue.first at ≡ true → AreNarrow (late_overdue_words at overdue) → begins_line (words_before (late_overdue_words at overdue) []) ≡ true
 late_overdue_begins at overdue is fits = any_late (words_before (late_overdue_words at overdue) []) (begun_overdue at overdue.first overdue.others is fits)

@@ -1,10 +1,7 @@
 -- The whole lines of texts that are cut, or put together.
+use Rattle.std.proofs.lemmas.{List.{nil_from_length, take_more}, Bool.{eqb-true, Decides.nat_tests}}
 use Rattle.std.proofs.Common.{◌≡◌, ◌≢◌, ℕ, zero, suc, ◌+◌, ◌≤◌, ◌<◌, Bool, true, false, List, [], ◌∷◌, ◌++◌, length, take, get_or, Option, None, Some, IfSome, take-append-drop, append-nil, if◌then◌else◌, ◌==◌, refl, sym, ap, ◌∙◌, arith}
-use Rattle.std.proofs.lemmas.List.{take_more}
-use Rattle.std.proofs.lemmas.Bool.{eqb-true}
-use Rattle.std.proofs.lemmas.Bool.Decides.{nat_tests}
-use Rattle.run_journal.specs.LogFiles.{zeros, IsLeft}
-use Rattle.run_journal.specs.WholeLines.{before_any, whole_lines, torn_end}
+use Rattle.run_journal.specs.{LogFiles.{zeros, IsLeft}, WholeLines.{before_any, whole_lines, torn_end}}
 
 -- one byte more at the front, where this says whether it is a line feed
 abbrev step : Bool → ℕ → List ℕ → List ℕ
@@ -38,15 +35,11 @@ step-length true x w m le = omega (arith, le)
 step-length false x [] m le = omega arith
 step-length false x (y ∷ w) m le = omega (arith, le)
 
-no_length : (xs : List ℕ) → length xs ≤ 0 → [] ≡ xs
-no_length [] le = refl
-no_length (x ∷ xs) le = absurd (omega (arith, le))
-
 -- a cut behind the whole lines keeps them
 pub cut_keeps : (file : List ℕ) (m : ℕ) → length (whole_lines file) ≤ m → whole_lines (take m file) ≡ whole_lines file
 cut_keeps [] zero le = refl
 cut_keeps [] (suc m) le = refl
-cut_keeps (x ∷ xs) zero le = no_length (whole_lines (x ∷ xs)) le
+cut_keeps (x ∷ xs) zero le = sym (nil_from_length (whole_lines (x ∷ xs)) (omega (arith, le)))
 cut_keeps (x ∷ xs) (suc m) le = ap (λ w. step (x == 10) x w) (cut_keeps xs m (step-length (x == 10) x (whole_lines xs) m le))
 
 step-front : (feed : Bool) (x : ℕ) (w r : List ℕ) → (more : List ℕ) × (step feed x (w ++ r) ≡ step feed x w ++ more)
@@ -119,5 +112,5 @@ untorn file none =
 pub uncut : (seen : Option (List ℕ)) (text end : List ℕ) → end ≡ torn_end text → (length end == 0) ≡ true → IfSome seen (λ file. text ≡ file) → IfSome seen (λ file. seen ≡ Some (whole_lines file))
 uncut None text end is none same = tt
 uncut (Some file) text end is none same =
-    let no_end : [] ≡ end = no_length end (omega (arith, eqb-true (length end) 0 none)) in
+    let no_end : [] ≡ end = sym (nil_from_length end (eqb-true (length end) 0 none)) in
     ap Some (sym (untorn file (ap torn_end (sym same) ∙ sym is ∙ sym no_end)))

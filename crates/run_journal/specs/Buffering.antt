@@ -1,8 +1,7 @@
 -- How an output with a log gathers the answers to reports: each whole, before any byte of it is shown.
 use Rattle.std.specs.Prelude.{◌≡◌, ℕ, ◌+◌, ◌≤◌, nat_lt, nat_le, nat_eq, ◌&&◌, if◌then◌else◌, Bool, true, false, List, [], ◌∷◌, ◌++◌, length, take, codes}
 use Rattle.std.specs.List.{starts_with}
-use Rattle.run_journal.specs.declared.logged.TheConstants.{FULL, MAX_PENDING}
-use Rattle.run_journal.specs.Logged.{Held}
+use Rattle.run_journal.specs.{declared.logged.TheConstants.FULL, declared.logged.TheConstants.MAX_PENDING, Logged.Held}
 
 -- bytes that begin the answer to a report
 abbrev pub begins_answer : List ℕ → Bool

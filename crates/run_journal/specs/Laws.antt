@@ -2,10 +2,7 @@
 use Rattle.std.specs.Prelude.{◌≡◌, ℕ, List, ◌++◌, length}
 use Rattle.text_lines.specs.Lines.{lines_of}
 use Rattle.event_lines.specs.declared.run_digits.RunDigits.{RunDigits}
-use Rattle.run_journal.specs.LogFiles.{IsLeft}
-use Rattle.run_journal.specs.LogRuns.{NameLast}
-use Rattle.run_journal.specs.WholeLines.{whole_lines}
-use Rattle.run_journal.specs.LoggedLines.{logged}
+use Rattle.run_journal.specs.{LogFiles.IsLeft, LogRuns.NameLast, WholeLines.whole_lines, LoggedLines.logged}
 
 -- these are whole lines of what a log gets of a text, from its first one on, and among them are all that it gets of what was shown
 pub record AreLinesOf (text shown lines : List ℕ) : Type 0 where

@@ -4,9 +4,7 @@ use Rattle.shop_base.specs.Plan.{PlannedShop}
 use Rattle.text_lines.specs.Lines.{ended_lines}
 use Rattle.cell_tables.specs.declared.entry.Entry.{Entry}
 use Rattle.event_lines.specs.LogLines.{LinesParse}
-use Rattle.run_journal.specs.LogFiles.{IsLeft}
-use Rattle.run_journal.specs.WholeLines.{whole_lines}
-use Rattle.run_journal.specs.LoggedLines.{logged}
+use Rattle.run_journal.specs.{LogFiles.IsLeft, WholeLines.whole_lines, LoggedLines.logged}
 
 -- the ended lines of what was left record the events that were recorded before, and behind them the first of those that came, with all that were shown
 pub record HasShownEvents (p : PlannedShop) (recorded came : List Entry) (shown left : List ℕ) : Type 0 where

@@ -1,14 +1,10 @@
 -- A log and an output that bytes go to, the log first.
 use Rattle.std.specs.Prelude.{◌≡◌, ◌⊎◌, ℕ, ◌+◌, ◌≤◌, List, [], ◌++◌, length, drop, Option, None, Some, Bool, true, false, IfSome, Result, Ok, Err}
-use Rattle.run_journal.specs.declared.file_fault.FileFault.{FileFault}
-use Rattle.run_journal.specs.declared.file_fault.FileFault.TheVariants.{Log as LogFault}
-use Rattle.run_journal.specs.declared.logged.TheConstants.{MAX_PENDING}
-use Rattle.run_journal.specs.declared.logged.Unflushed.{Unflushed}
+use Rattle.run_journal.specs.{declared.file_fault.FileFault.FileFault, declared.logged.TheConstants.MAX_PENDING}
+use Rattle.run_journal.specs.{declared.file_fault.FileFault.TheVariants.Log as LogFault, LoggedLines.logged}
+use Rattle.run_journal.specs.{declared.logged.Unflushed.Unflushed, declared.selection.TheConstants.DECIDING}
 use Rattle.run_journal.specs.declared.logged.Unflushed.TheVariants.{Log, Output}
-use Rattle.run_journal.specs.declared.selection.TheConstants.{DECIDING}
-use Rattle.run_journal.specs.LogFiles.{Leaves, IsDurable}
-use Rattle.run_journal.specs.LoggedLines.{logged}
-use Rattle.run_journal.specs.Selecting.{IsFront, open_line}
+use Rattle.run_journal.specs.{LogFiles.Leaves, LogFiles.IsDurable, Selecting.IsFront, Selecting.open_line}
 
 -- what the output has taken, where that is known, what has come since and isn't out, whether a call has failed, and whether the log has
 pub record Held : Type 0 where

@@ -1,9 +1,7 @@
 -- What a log is that was opened or made, where it couldn't be had.
 use Rattle.std.specs.Prelude.{◌≡◌, ◌⊎◌, ℕ, List, [], Bool, false, Option, None, Some, option_map, IfSome}
-use Rattle.event_lines.specs.RunDigits.{plan_line}
-use Rattle.event_lines.specs.declared.run_digits.RunDigits.{RunDigits}
-use Rattle.run_journal.specs.declared.file_fault.FileFault.{FileFault}
-use Rattle.run_journal.specs.declared.file_fault.FileFault.TheVariants.{Log}
+use Rattle.event_lines.specs.{declared.run_digits.RunDigits.RunDigits, RunDigits.plan_line}
+use Rattle.run_journal.specs.{declared.file_fault.FileFault.FileFault, declared.file_fault.FileFault.TheVariants.Log}
 use Rattle.run_journal.specs.LogFiles.{Leaves, IsDurable, IsReadFault, HasFailed}
 use Rattle.run_journal.specs.Folders.{Folder, held, with_fault, with_made, with_name, IsOpenFault, IsDiskFault}
 

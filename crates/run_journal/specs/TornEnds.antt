@@ -1,16 +1,12 @@
 -- What a crash can leave behind the whole lines of a log.
 use Rattle.std.specs.Prelude.{◌≡◌, ◌⊎◌, ℕ, ◌-◌, ◌^◌, ◌<◌, nat_lt, ◌==◌, ◌&&◌, ◌||◌, if◌then◌else◌, Bool, true, false, List, [], ◌∷◌, ◌++◌, length, take, codes}
 use Rattle.text_lines.specs.Numbers.{is_digit}
-use Rattle.cell_tables.specs.declared.entry.Entry.{Entry}
-use Rattle.event_lines.specs.EventLines.{entry_words, entry_line}
-use Rattle.cell_tables.specs.Standings.{is_overdue}
-use Rattle.event_lines.specs.declared.details.Overdue.{Overdue}
-use Rattle.event_lines.specs.AnswerLines.{late_words, late_line}
+use Rattle.cell_tables.specs.{declared.entry.Entry.Entry, Standings.is_overdue}
+use Rattle.event_lines.specs.{declared.details.Overdue.Overdue, declared.run_digits.RunDigits.RunDigits}
+use Rattle.event_lines.specs.{EventLines.entry_words, EventLines.entry_line, Words.Word, Words.Text, Words.Number}
+use Rattle.event_lines.specs.{AnswerLines.late_words, AnswerLines.late_line, ReadBack.IsFitting}
 use Rattle.event_lines.specs.StandingLines.{late_overdue_words, late_overdue_line}
 use Rattle.event_lines.specs.RunDigits.{AreDigits, is_small_hex, plan_line}
-use Rattle.event_lines.specs.declared.run_digits.RunDigits.{RunDigits}
-use Rattle.event_lines.specs.Words.{Word, Text, Number}
-use Rattle.event_lines.specs.ReadBack.{IsFitting}
 use Rattle.run_journal.specs.declared.torn_end.TheConstants.{MOMENT_DIGITS, OTHER_DIGITS}
 use Rattle.run_journal.specs.LogFiles.{zeros}
 

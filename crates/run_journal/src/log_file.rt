@@ -1,5 +1,4 @@
-ghost use Rattle.std.specs.Prelude.{◌≡◌, ℕ, ◌≤◌, ◌<◌, ◌++◌, List, length, take, Option, None, Some};
-ghost use Rattle.std.specs.Prelude.{Bool, true, false, IfOk, IfErr, IfSome, OnOk};
+ghost use Rattle.std.specs.Prelude.{◌≡◌, ℕ, ◌≤◌, ◌<◌, ◌++◌, List, length, take, Option, None, Some, Bool, true, false, IfOk, IfErr, IfSome, OnOk};
 ghost use Rattle.run_journal.specs.declared.file_fault.FileFault.{FileFault};
 ghost use Rattle.run_journal.specs.LogFiles.{Leaves, IsDurable, LeavesNoMore, IsReadFault, HasFailed};
 

@@ -1,7 +1,6 @@
 //! An output whose events a log gets, on the disk, before they are shown.
 
-ghost use Rattle.std.specs.Prelude.{◌≡◌, ◌+◌, ◌<◌, ◌≤◌, ◌++◌, [], length, take, None, Some, Err, true};
-ghost use Rattle.std.specs.Prelude.{false, IfOk, IfErr, IfSome, OnErr, OnOk};
+ghost use Rattle.std.specs.Prelude.{◌≡◌, ◌+◌, ◌<◌, ◌≤◌, ◌++◌, [], length, take, None, Some, Err, true, false, IfOk, IfErr, IfSome, OnErr, OnOk};
 ghost use Rattle.std.specs.Io.KnownBytes.{Appends, Keeps, WriteAppends, append_known};
 ghost use Rattle.run_journal.specs.declared.file_fault.FileFault.{FileFault};
 ghost use Rattle.run_journal.specs.LogFiles.{HasFailed, IsDurable, Leaves};

@@ -1,7 +1,5 @@
-ghost use Rattle.std.specs.Prelude.{◌≡◌, ◌⊎◌, [], None, Some, is_some, option_map, true};
-ghost use Rattle.std.specs.Prelude.{false, IfOk, IfErr, IfSome, OnOk};
-ghost use Rattle.run_journal.specs.Folders.{Folder, handed, handed_if, held, is_named, IsDiskFault};
-ghost use Rattle.run_journal.specs.Folders.{IsOpenFault, with_fault, with_made, with_name};
+ghost use Rattle.std.specs.Prelude.{◌≡◌, ◌⊎◌, [], None, Some, is_some, option_map, true, false, IfOk, IfErr, IfSome, OnOk};
+ghost use Rattle.run_journal.specs.Folders.{Folder, handed, handed_if, held, is_named, IsDiskFault, IsOpenFault, with_fault, with_made, with_name};
 ghost use Rattle.run_journal.specs.LogFiles.{IsDurable};
 
 use crate::file_fault::FileFault;

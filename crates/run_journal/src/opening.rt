@@ -1,16 +1,12 @@
 //! The opening of a log that a crash may have left.
 
-ghost use Rattle.std.specs.Prelude.{◌≡◌, ◌<◌, ◌≤◌, ◌↔◌, [], ◌∷◌, List, ℕ, length, take, None, Some, option_map};
-ghost use Rattle.std.specs.Prelude.{is_some, true, false, IfErr, IfOk, IfSome, IsTrue, MatchOption, OnOk};
-ghost use Rattle.text_lines.specs.declared.limits.TheConstants.{MAX_INPUT};
-ghost use Rattle.text_lines.specs.Lines.{lines_of};
+ghost use Rattle.std.specs.Prelude.{◌≡◌, ◌<◌, ◌≤◌, ◌↔◌, [], ◌∷◌, List, ℕ, length, take, None, Some, option_map, is_some, true, false, IfErr, IfOk, IfSome, IsTrue, MatchOption, OnOk};
+ghost use Rattle.text_lines.specs.{declared.limits.TheConstants.MAX_INPUT, Lines.lines_of};
 ghost use Rattle.event_lines.specs.RunDigits.{AreDigits, plan_line};
-ghost use Rattle.run_journal.specs.LogFiles.{HasFailed, IsDurable, LeavesNoMore};
+ghost use Rattle.run_journal.specs.{LogFiles.HasFailed, LogFiles.IsDurable, LogFiles.LeavesNoMore, TornEnds.is_torn};
 ghost use Rattle.run_journal.specs.LogRuns.{IsNamedFor, IsNamedOrNot, IsRunOf};
 ghost use Rattle.run_journal.specs.Openings.{IsFound, IsOfLog, IsUnmade, IsUnnamed};
-ghost use Rattle.run_journal.specs.Folders.{Folder, handed, handed_if, held, is_named, IsOpenFault};
-ghost use Rattle.run_journal.specs.Folders.{with_fault, with_log, with_name};
-ghost use Rattle.run_journal.specs.TornEnds.{is_torn};
+ghost use Rattle.run_journal.specs.Folders.{Folder, handed, handed_if, held, is_named, IsOpenFault, with_fault, with_log, with_name};
 ghost use Rattle.run_journal.specs.WholeLines.{whole_lines, torn_end};
 
 use crate::file_fault::FileFault;

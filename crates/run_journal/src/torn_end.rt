@@ -1,8 +1,7 @@
 //! What a crash can leave after the whole lines of a log: the beginning of a line that the log gets, and zeros.
 
 ghost use Rattle.std.specs.Prelude.{◌≡◌, ◌≤◌, length, take};
-ghost use Rattle.run_journal.specs.TornEnds.{digits_of, stands_for, stands_for_one, begins, begins_report};
-ghost use Rattle.run_journal.specs.TornEnds.{begins_order, begins_late, begins_plan, without_zeros, is_torn};
+ghost use Rattle.run_journal.specs.TornEnds.{digits_of, stands_for, stands_for_one, begins, begins_report, begins_order, begins_late, begins_plan, without_zeros, is_torn};
 
 /// Whether a crash can have left these bytes after the whole lines: the beginning of some line of a report, of an
 /// order, of a late report or of a plan, or nothing, and then zeros, or none.

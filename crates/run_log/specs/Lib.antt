@@ -2,5 +2,6 @@
 pub mod Log
 pub mod Audits
 pub mod AuditNames
+pub mod Present
 -- Of proofs and private contracts alone.
 pub mod Auditing

@@ -1,13 +1,9 @@
 //! Whether an entry can be the next event of a run, and the cell after it.
 
 ghost use Rattle.std.specs.Prelude.{◌≡◌, ◌<◌, ◌≤◌, ◌↔◌, IsTrue, IfErr, OnOk};
-ghost use Rattle.shop_base.specs.Plan.{jobs, steps};
-ghost use Rattle.shop_base.specs.Cell.{made};
-ghost use Rattle.shop_base.specs.Activity.{Arrival, Operation};
+ghost use Rattle.shop_base.specs.{Plan.jobs, Plan.steps, Cell.made, Activity.Arrival, Activity.Operation, Report.ended};
 ghost use Rattle.shop_base.specs.Run.{CanHappen, after};
-ghost use Rattle.shop_base.specs.Report.{ended};
-ghost use Rattle.cell_tables.specs.Moving.{IsSpotOf};
-ghost use Rattle.cell_tables.specs.Events.{event_of};
+ghost use Rattle.cell_tables.specs.{Moving.IsSpotOf, Events.event_of};
 ghost use Rattle.event_lines.specs.LogLines.{AreEndsOf, IsEntryOf};
 ghost use Rattle.run_log.specs.Audits.{IsGoingOn, IsOpen, IsItsWay, IsFaultOf, IsTargetFault, IsWayFault, fault_line};
 
@@ -161,8 +157,8 @@ fn check_target<P: Planned>(
     Ok(())
 }
 
-/// Makes the entry happen.
-pub(crate) fn follow_entry<P: Planned>(cell: &mut WorkCell<P>, entry: Entry)
+/// Makes the entry happen, which can.
+pub fn follow_entry<P: Planned>(cell: &mut WorkCell<P>, entry: Entry)
     requires { CanHappen cell.old.plan cell.old.cell (event_of entry) }
     ensures { cell.new ≡ record cell.old { cell = after cell.old.plan cell.old.cell (event_of entry) } }
 {

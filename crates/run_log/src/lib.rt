@@ -9,6 +9,7 @@ mod ended;
 mod entry_check;
 mod log_text;
 mod logged_run;
+mod present_run;
 mod run_log;
 
 pub use audit_fault::AuditFault;
@@ -16,6 +17,8 @@ pub use audit_result::Audit;
 pub use auditing::audit;
 pub use byte_streams::{IntoSink, Sink, WriteFault, put_all};
 pub use cell_tables::Entry;
+pub use entry_check::follow_entry;
 pub use log_text::write_lines;
 pub use logged_run::{LoggedRun, run_if_replayed, run_of_log};
+pub use present_run::{RunFault, run_at};
 pub use run_log::{LogFault, RunLog};

@@ -61,11 +61,31 @@ pub fn run_if_replayed<P: Planned>(
         (λ found. IfSome found (λ run. IsReplayed (P.planned basis) run.cell.cell run.entries.items)) }
     ensures none { IfOk result (λ found. IfNone found (ParseAsRun (P.planned basis) (ended_lines text.now) → ⊥)) }
 {
+    match run_or_fault(alloc, basis, text)? {
+        Ok(run) => Ok(Some(run)),
+        Err(_) => Ok(None),
+    }
+}
+
+/// The same, or the first fault of the lines; fails only when out of memory.
+pub(crate) fn run_or_fault<P: Planned>(
+    alloc: Global,
+    basis: P,
+    text: &[u8],
+) -> Result<Result<LoggedRun<P>, AuditFault>, AllocError>
+    ensures basis { IfOk result (λ found. IfOk found (λ run. run.cell.basis ≡ basis)) }
+    ensures plan { IfOk result (λ found. IfOk found (λ run. run.cell.plan ≡ P.planned basis)) }
+    ensures parses { IfOk result (λ found. IfOk found (λ run.
+        LinesParse (P.planned basis) (ended_lines text.now) run.entries.items)) }
+    ensures replayed { IfOk result
+        (λ found. IfOk found (λ run. IsReplayed (P.planned basis) run.cell.cell run.entries.items)) }
+    ensures fault { IfOk result (λ found. IfErr found (IsFirstBad (P.planned basis) (ended_lines text.now))) }
+{
     let room = most_entries(basis.shaped());
     let mut run = LoggedRun::with_room(alloc, basis, room)?;
     match run.take_lines(ended_part(text)) {
-        Ok(()) => Ok(Some(run)),
-        Err(_) => Ok(None),
+        Ok(()) => Ok(Ok(run)),
+        Err(fault) => Ok(Err(fault)),
     }
 }
 

@@ -31,7 +31,7 @@ pub(crate) fn x_at(last: Moment, moment: Moment) -> u64
 }
 
 /// The moments that the axis names, ascending: a first one, and others at equal steps from it.
-#[derive(Debug, Drop)]
+#[derive(Drop)]
 pub(crate) struct Ticks {
     first: Moment,
     step: Moment,

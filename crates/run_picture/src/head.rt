@@ -1,7 +1,7 @@
 use shop_base::Moment;
 
 /// What stands above the rows.
-#[derive(Clone, Copy, Debug, PartialEq, Eq)]
+#[derive(Clone, Copy)]
 pub enum Head {
     /// Of a plan that is accepted, or of such a rest of a run: the latest leaving.
     Accepted {
@@ -23,7 +23,7 @@ pub enum Head {
 }
 
 /// What a picture is of, besides its visits.
-#[derive(Clone, Copy, Debug, PartialEq, Eq)]
+#[derive(Clone, Copy)]
 pub struct Sheet {
     /// The number of machines. Each has a row.
     pub machines: u32,

@@ -4,12 +4,12 @@ ghost use Rattle.std.specs.Prelude.{◌≡◌, ◌<◌, IfOk, slice_index_or, No
 ghost use Rattle.shop_base.specs.Plan.{jobs};
 ghost use Rattle.run_picture.specs.Late.{late_leavings, late_leaving, last_machine, lateness, lateness_of, latest};
 
-use crate::last_moments::moment_or_none;
+use crate::visit::moment_or_none;
 use shop_base::{JobNo, MachineNo, Moment, Shaped};
 use std::alloc::{AllocError, Global};
 
 /// A leaving of a job past its budget: the machine that it leaves, and when.
-#[derive(Clone, Copy, Debug, PartialEq, Eq)]
+#[derive(Clone, Copy, Debug)]
 pub struct LateLeaving {
     /// The last machine of the job's route.
     pub machine: MachineNo,

@@ -9,14 +9,12 @@ mod drawn_box;
 mod frame;
 mod frame_text;
 mod head;
-mod last_moments;
 mod late_leaving;
 mod picture;
 mod visit;
 mod words;
 
 pub use head::{Head, Sheet};
-pub use last_moments::last_moment;
 pub use late_leaving::{LateLeaving, late_leavings, lateness, latest};
 pub use picture::Picture;
-pub use visit::{Cleaned, DrawnVisit};
+pub use visit::{Cleaned, DrawnVisit, last_moment};

@@ -1,9 +1,7 @@
 //! A whole picture.
 
 ghost use Rattle.std.specs.Prelude.{◌≡◌, ◌≤◌, flat_map, OnOk};
-ghost use Rattle.run_picture.specs.Late.{is_late};
-ghost use Rattle.run_picture.specs.BoxText.{box_text};
-ghost use Rattle.run_picture.specs.Boxes.{if_any};
+ghost use Rattle.run_picture.specs.{Late.is_late, BoxText.box_text, Boxes.if_any};
 ghost use Rattle.run_picture.specs.PictureText.{frame_text, axis_text, rows_text, visit_text, visits_text};
 ghost use Rattle.run_picture.specs.PictureText.{marks_text, present_text, picture_text, IsPicture};
 ghost use Rattle.byte_streams.specs.Lent.{WroteTo};

@@ -55,6 +55,7 @@ impl<const ROOM: usize> LineText<ROOM> {
     }
 
     /// Writes the number, in decimal, before what there is.
+    #[inline(always)]
     pub fn put_number(&mut self, number: u64)
         requires { 20 + length self.old ≤ ROOM }
         ensures written { self.new ≡ decimal number ++ self.old }
@@ -64,6 +65,7 @@ impl<const ROOM: usize> LineText<ROOM> {
     }
 
     /// Writes the number, in decimal, before what there is.
+    #[inline(always)]
     pub fn put_short_number(&mut self, number: u32)
         requires { 10 + length self.old ≤ ROOM }
         ensures written { self.new ≡ decimal number ++ self.old }

@@ -1,6 +1,6 @@
 -- Steps through words and values from the front.
-use Rattle.std.proofs.Common.{◌≡◌, ◌∙◌, ◌++◌, ◌+◌, ◌<◌, ◌≤◌, ◌&&◌, ℕ, Bool, true, false, List, [], ◌∷◌, Option, Some, None, ap, sym, refl, length, map, drop, get_or, add-one}
-use Rattle.std.specs.Prelude.{MatchOption, bytes_eq, codes, is_some, option_and_then, unwrap_or}
+use Rattle.std.proofs.Common.{◌≡◌, ◌∙◌, ◌+◌, ◌<◌, ◌≤◌, ◌&&◌, ℕ, Bool, true, false, List, [], ◌∷◌, Option, Some, None, ap, sym, refl, length, map, drop, get_or, add-one}
+use Rattle.std.specs.Prelude.{MatchOption, is_some, option_and_then, unwrap_or}
 use Rattle.std.specs.Option.{option_map, option_map_or}
 use Rattle.std.specs.List.{list_all}
 use Rattle.std.specs.Borrow.{Bor}
@@ -9,7 +9,7 @@ use Rattle.std.proofs.lemmas.Bool.{cond-true, cond-false}
 use Rattle.std.proofs.lemmas.List.{drop_all}
 use Rattle.std.proofs.lemmas.Option.{slice_get-map, slice_get_past, slice_get-get_or}
 use Rattle.text_lines.specs.Numbers.{value_of}
-use Rattle.clap.specs.Words.{Kinds, Row, Text, all_of, matched_of, raw_values, rows_of}
+use Rattle.clap.specs.Words.{Row, Text, all_of, matched_of, raw_values, rows_of}
 use Rattle.clap.specs.declared.error.kind.ErrorKind.TheVariants.{ArgumentConflict, ValueValidation}
 use Rattle.clap.specs.declared.parser.matches.Found.{Found}
 use Rattle.clap.proofs.WalkLemmas.{raw_values-rows}
@@ -49,7 +49,7 @@ module _ (is_such : Text → Bool) (vals : List (Bor Text)) (values : List Text)
 -- ---- the moment that is the value at a place
 
 -- what is read of a word is the moment that it is
-replayed_is : (word : Text) (told : Option ℕ) → MatchOption told (is_moment word ≡ false) (λ n. (is_moment word ≡ true) × (n ≡ value_of word) × (n ≤ latest_moment)) → told ≡ moment_read word
+replayed_is : (word : Text) (moment : Option ℕ) → MatchOption moment (is_moment word ≡ false) (λ n. (is_moment word ≡ true) × (n ≡ value_of word) × (n ≤ latest_moment)) → moment ≡ moment_read word
 replayed_is word None isnt = sym (cond-false (is_moment word) (Some (value_of word)) None isnt)
 replayed_is word (Some n) is = ap (λ k. Some k) is.1 ∙ sym (cond-true (is_moment word) (Some (value_of word)) None is.0)
 
@@ -59,18 +59,18 @@ module _ (vals : List (Bor Text)) (values : List Text) (place : ℕ) (same : tex
       sym (ap (λ (o : Option Text). option_and_then moment_read o) (slice_get-map (λ (v : Bor Text). v.now) vals place ∙ ap (option_map (λ (v : Bor Text). v.now)) (slice_get_past vals place outside)))
       ∙ ap (λ (vs : List Text). moment_at vs place) same
 
-  pub at_value : (d : Bor Text) (told : Option ℕ) → place < length vals
-      → MatchOption told (is_moment (get_or vals place d).now ≡ false) (λ n. (is_moment (get_or vals place d).now ≡ true) × (n ≡ value_of (get_or vals place d).now) × (n ≤ latest_moment))
-      → told ≡ moment_at values place
-  at_value d told inside is =
-      replayed_is (get_or vals place d).now told is
+  pub at_value : (d : Bor Text) (moment : Option ℕ) → place < length vals
+      → MatchOption moment (is_moment (get_or vals place d).now ≡ false) (λ n. (is_moment (get_or vals place d).now ≡ true) × (n ≡ value_of (get_or vals place d).now) × (n ≤ latest_moment))
+      → moment ≡ moment_at values place
+  at_value d moment inside is =
+      replayed_is (get_or vals place d).now moment is
       ∙ sym (ap (λ (o : Option Text). option_and_then moment_read o) (slice_get-map (λ (v : Bor Text). v.now) vals place ∙ ap (option_map (λ (v : Bor Text). v.now)) (slice_get-get_or vals place d inside)))
       ∙ ap (λ (vs : List Text). moment_at vs place) same
 
 -- a word of which none is read
-pub not_all_read : (vals : List (Bor Text)) (values : List Text) (i : ℕ) (d : Bor Text) (told : Option ℕ) → texts vals ≡ values → list_all is_moment (texts vals) ≡ list_all is_moment (texts (drop i vals)) → i < length vals
-    → MatchOption told (is_moment (get_or vals i d).now ≡ false) (λ n. (is_moment (get_or vals i d).now ≡ true) × (n ≡ value_of (get_or vals i d).now) × (n ≤ latest_moment))
-    → is_some told ≡ false → list_all is_moment values ≡ false
+pub not_all_read : (vals : List (Bor Text)) (values : List Text) (i : ℕ) (d : Bor Text) (moment : Option ℕ) → texts vals ≡ values → list_all is_moment (texts vals) ≡ list_all is_moment (texts (drop i vals)) → i < length vals
+    → MatchOption moment (is_moment (get_or vals i d).now ≡ false) (λ n. (is_moment (get_or vals i d).now ≡ true) × (n ≡ value_of (get_or vals i d).now) × (n ≤ latest_moment))
+    → is_some moment ≡ false → list_all is_moment values ≡ false
 not_all_read vals values i d None same so_far inside isnt none = not_all is_moment vals values i same so_far d inside isnt
 not_all_read vals values i d (Some n) same so_far inside is none = absurd (cc)
 

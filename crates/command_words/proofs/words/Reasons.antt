@@ -1,5 +1,5 @@
 -- Which reasons a fault names.
-use Rattle.std.proofs.Common.{◌≡◌, ◌∙◌, [], ◌∷◌, List, Option, Some, None, option_map, Result, Ok, Err, IfOk, IfErr, IsErrAnd, ap, subst, sym, refl, inl}
+use Rattle.std.proofs.Common.{◌≡◌, ◌∙◌, [], ◌∷◌, List, Some, None, option_map, Result, Ok, Err, IfOk, IfErr, IsErrAnd, ap, subst, sym, refl, inl}
 use Rattle.clap.specs.Words.{IsAmong, Kinds, Row, Text}
 use Rattle.clap.specs.Kinds.{or_else}
 use Rattle.clap.specs.declared.error.kind.ErrorKind.{ErrorKind}
@@ -17,11 +17,11 @@ names_reason kind same fault e is = subst (λ k. NamesReason k fault) e (tells k
 
 -- it names the only one
 pub names_only : (kind : ErrorKind) (kinds : Kinds) (fault : WordsFault) → kinds ≡ kind ∷ [] → NamesReason kind fault → NamesOneOf kinds fault
-names_only kind kinds fault only is = subst (λ (ks : Kinds). NamesOneOf ks fault) (sym only) (told fault is)
+names_only kind kinds fault only is = subst (λ (ks : Kinds). NamesOneOf ks fault) (sym only) (named fault is)
   where
-    told : (f : WordsFault) → NamesReason kind f → NamesOneOf (kind ∷ []) f
-    told Memory is = tt
-    told (Usage help text) is = (kind, inl refl, is.1)
+    named : (f : WordsFault) → NamesReason kind f → NamesOneOf (kind ∷ []) f
+    named Memory is = tt
+    named (Usage help text) is = (kind, inl refl, is.1)
 
 -- ---- some reasons, or else others
 
@@ -49,7 +49,7 @@ names_later first next fault none is = subst (λ (ks : Kinds). NamesOneOf (or_el
 -- the fault is passed on
 pub passed_on : {A : Type 0} (kinds : Kinds) (read : Result A WordsFault) (fault : WordsFault) → IsErrAnd read (λ passed. passed ≡ fault) → NamesOneOf kinds fault → IfErr read (NamesOneOf kinds)
 passed_on kinds (Ok chosen) fault passed is = tt
-passed_on kinds (Err told) fault passed is = subst (λ (f : WordsFault). NamesOneOf kinds f) (sym passed) is
+passed_on kinds (Err reason) fault passed is = subst (λ (f : WordsFault). NamesOneOf kinds f) (sym passed) is
 
 -- the matches of a command that was found
 pub rows_same : (found : Found) (rows : List Row) → Some rows ≡ option_map (λ (p : Text × List Row). p.1) found → rows_found found ≡ rows

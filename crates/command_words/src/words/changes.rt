@@ -44,7 +44,7 @@ pub enum ChangeKind {
         /// Its budget, if one is given.
         budget: Option<u64>,
     },
-    /// A job is taken out of the line, or out of the plan.
+    /// A job is removed from the line, or from the plan.
     Scrap {
         /// The job.
         job: u32,
@@ -64,6 +64,14 @@ enum ChangeForm {
     Scrap,
     Down,
 }
+
+/// All of them, in that order.
+const FORMS: &[ChangeForm] = &[
+    ChangeForm::Until,
+    ChangeForm::Add,
+    ChangeForm::Scrap,
+    ChangeForm::Down,
+];
 
 /// The changes that the words ask for, in the order in which they are made. The numbers of an added job belong to the
 /// `--add` before them, and each stands once for it.
@@ -97,38 +105,10 @@ fn asked(
     ensures refused { IfErr result (NamesOneOf (forms_misfit (rows_of (found_of matches.now)))) }
 {
     let mut changes = Vec::new(alloc);
-    add_changes(
-        alloc,
-        &mut changes,
-        matches,
-        released,
-        promised,
-        ChangeForm::Until,
-    )?;
-    add_changes(
-        alloc,
-        &mut changes,
-        matches,
-        released,
-        promised,
-        ChangeForm::Add,
-    )?;
-    add_changes(
-        alloc,
-        &mut changes,
-        matches,
-        released,
-        promised,
-        ChangeForm::Scrap,
-    )?;
-    add_changes(
-        alloc,
-        &mut changes,
-        matches,
-        released,
-        promised,
-        ChangeForm::Down,
-    )?;
+    let forms = FORMS;
+    for form in forms {
+        add_changes(alloc, &mut changes, matches, released, promised, *form)?;
+    }
     Ok(changes)
 }
 

@@ -1,12 +1,9 @@
 use Rattle.std.proofs.Common.{◌≡◌, arith, vec_len, sym, subst}
-use Rattle.byte_streams.specs.Lent.{Streams, streams_of}
-use Rattle.byte_streams.specs.Answering.{AnswerAll}
-use Rattle.byte_streams.specs.Lines.{input_lines}
+use Rattle.byte_streams.specs.{Lent.{Streams, streams_of}, Answering.AnswerAll, Lines.input_lines}
 use Rattle.cell_control.specs.Control.{verified_in}
 use Rattle.cell_drive.specs.declared.begin.DriveEnd.{DriveEnd}
 use Rattle.cell_drive.specs.Session.{SessionState, SessionAnswer, SessionCloses, session_start}
-use Rattle.cell_drive.proofs.Sessions.{end_of}
-use Rattle.cell_drive.proofs.StreamedFrom.{streamed_to_end, streamed_to_fault}
+use Rattle.cell_drive.proofs.{Sessions.end_of, StreamedFrom.{streamed_to_end, streamed_to_fault}}
 use Rattle.cell_drive.proofs.begin.drive_begun.Goals as goal
 
 pub returns-in-Ok-clause-driven : goal.returns-in-Ok-clause-driven
@@ -27,8 +24,8 @@ returns-in-Ok-clause-driven g c =
       came_to = end_of v s.protocol end lines text c.end.result c.end.ensures.kept all c.end.ensures.log c.end.ensures.plan c.end.ensures.verified c.end.ensures.done c.end.ensures.last c.end.ensures.left;
     })
 
-pub returns-in-Err-clause-driven : goal.returns-in-Err-clause-driven
-returns-in-Err-clause-driven g c =
+pub returns-clause-driven : goal.returns-clause-driven
+returns-clause-driven g c =
     let size : vec_len c.begun.inside.room ≡ 65536 = c.begun.invariant.1 in
     let s : SessionState = c.begun.inside.session in
     rw (sym c.begun.view_is) (record {

@@ -1,7 +1,6 @@
 use Rattle.std.proofs.Common.{refl}
 use Rattle.cell_drive.specs.Numbers.{planned_cell, planned_cells}
-use Rattle.cell_drive.proofs.Closing.{next_done, one_more_done}
-use Rattle.cell_drive.proofs.Hubs.{one_there}
+use Rattle.cell_drive.proofs.{Closing.{next_done, one_more_done}, Hubs.one_there}
 use Rattle.cell_drive.proofs.hub.all_done.Goals as goal
 
 pub returns-then-not-is_done : goal.returns-then-not-is_done

@@ -1,8 +1,7 @@
 use Rattle.std.proofs.Common.{◌∙◌, ◌++◌, ◌∷◌, [], List, ap, sym, subst}
 use Rattle.cell_control.specs.Control.{Control}
 use Rattle.cell_drive.specs.Numbers.{AreInRun, planned_cells}
-use Rattle.cell_drive.proofs.Hubs.{one_more_begun}
-use Rattle.cell_drive.proofs.ManyCells.{one_more_verified, start_in_run}
+use Rattle.cell_drive.proofs.{Hubs.one_more_begun, ManyCells.{one_more_verified, start_in_run}}
 use Rattle.cell_drive.proofs.hub.begin.Goals as goal
 
 pub loop-verified-preserved : goal.loop-verified-preserved

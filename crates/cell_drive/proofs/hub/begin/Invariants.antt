@@ -1,6 +1,5 @@
 use Rattle.std.proofs.Common.{◌≡◌}
-use Rattle.cell_drive.specs.ManyCells.{AreVerified, hub_start}
-use Rattle.cell_drive.specs.Numbers.{planned_cells}
+use Rattle.cell_drive.specs.{ManyCells.{AreVerified, hub_start}, Numbers.planned_cells}
 use Rattle.cell_drive.proofs.hub.begin.Given as goal
 
 abbrev pub invariant-loop-verified : goal.invariant-loop-verified

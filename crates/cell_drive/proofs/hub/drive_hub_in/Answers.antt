@@ -1,12 +1,8 @@
-use Rattle.std.proofs.Common.{◌≡◌, List, Err, arith, vec_len, ap, ◌∙◌}
-use Rattle.std.proofs.lemmas.Result.{err_from_is_err_and}
+use Rattle.std.proofs.{Common.{◌≡◌, List, Err, arith, vec_len, ap, ◌∙◌}, lemmas.Result.err_from_is_err_and}
 use Rattle.byte_streams.specs.Lent.{streams_of}
-use Rattle.cell_drive.specs.declared.hub.HubEnd.{HubEnd}
-use Rattle.cell_drive.specs.ManyCells.{PlannedCell}
-use Rattle.cell_drive.specs.Numbers.{planned_cells}
+use Rattle.cell_drive.specs.{declared.hub.HubEnd.HubEnd, ManyCells.PlannedCell, Numbers.planned_cells}
 use Rattle.cell_drive.specs.ProtocolCells.{HubAnswer, HubCloses, hub_of, hub_of_plans}
-use Rattle.cell_drive.proofs.OneText.{undriven_hub}
-use Rattle.cell_drive.proofs.StreamedFrom.{streamed_to_fault}
+use Rattle.cell_drive.proofs.{OneText.undriven_hub, StreamedFrom.streamed_to_fault}
 use Rattle.cell_drive.proofs.hub.drive_hub_in.Goals as goal
 
 pub returns-clause-driven : goal.returns-clause-driven

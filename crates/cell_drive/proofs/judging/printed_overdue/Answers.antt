@@ -1,8 +1,6 @@
 use Rattle.shop_base.specs.Report.{at}
-use Rattle.cell_drive.specs.Refusals.{standing_of}
-use Rattle.cell_drive.specs.States.{overdue_in}
-use Rattle.cell_drive.proofs.OnTime.{nothing_overdue, none_printed}
-use Rattle.cell_drive.proofs.Refusing.{reported_of_shop}
+use Rattle.cell_drive.specs.{Refusals.standing_of, States.overdue_in}
+use Rattle.cell_drive.proofs.{OnTime.{nothing_overdue, none_printed}, Refusing.reported_of_shop}
 use Rattle.cell_drive.proofs.judging.printed_overdue.Goals as goal
 
 pub standing_of-requires : goal.standing_of-requires

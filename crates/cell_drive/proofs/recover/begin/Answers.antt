@@ -1,7 +1,5 @@
 use Rattle.std.proofs.Common.{◌≡◌, ap, sym, subst, ◌∙◌}
-use Rattle.shop_base.specs.Cell.{Cell}
-use Rattle.shop_base.specs.Plan.{PlannedShop}
-use Rattle.shop_base.specs.Report.{IsNextMoment}
+use Rattle.shop_base.specs.{Cell.Cell, Plan.PlannedShop, Report.IsNextMoment}
 use Rattle.cell_tables.specs.PlannedCell.{PlannedCell}
 use Rattle.cell_control.specs.Begun.{IsRestFault}
 use Rattle.cell_drive.specs.ResumeFaults.{IsRefusal}

@@ -3,8 +3,7 @@ use Rattle.std.specs.Prelude.{IfErr}
 use Rattle.shop_base.specs.Plan.{PlannedShop}
 use Rattle.text_lines.specs.Lines.{ended_lines}
 use Rattle.cell_drive.specs.ResumeFaults.{IsOnlyLogFault, IsRunFault}
-use Rattle.cell_drive.proofs.OneFault.{only_log_fault}
-use Rattle.cell_drive.proofs.Recovering.{only_want_of}
+use Rattle.cell_drive.proofs.{OneFault.only_log_fault, Recovering.only_want_of}
 use Rattle.cell_drive.proofs.recover.take_up.Goals as goal
 
 pub returns-in-Ok-clause-only : goal.returns-in-Ok-clause-only

@@ -1,8 +1,7 @@
 use Rattle.std.proofs.Common.{◌++◌, List, map, take, length, ap, subst, ◌∙◌, arith}
 use Rattle.std.specs.Prelude.{OnOk}
 use Rattle.shop_base.specs.declared.move_order.MoveOrder.{MoveOrder}
-use Rattle.cell_tables.specs.declared.entry.Entry.{Entry}
-use Rattle.cell_tables.specs.declared.entry.Entry.TheVariants.{Order as OrderEntry}
+use Rattle.cell_tables.specs.{declared.entry.Entry.Entry, declared.entry.Entry.TheVariants.Order as OrderEntry}
 use Rattle.run_log.specs.Log.{Notes}
 use Rattle.cell_drive.proofs.Recovering.{done_unless, room_for_due, recovered_run, replayed_first}
 use Rattle.cell_drive.proofs.recover.with_due.Goals as goal

@@ -1,14 +1,13 @@
-use Rattle.std.proofs.Common.{◌≡◌, ap, ◌∙◌, arith}
-use Rattle.std.proofs.lemmas.Result.{err_from_is_err_and}
+use Rattle.std.proofs.{Common.{◌≡◌, ap, ◌∙◌, arith}, lemmas.Result.err_from_is_err_and}
 use Rattle.byte_streams.proofs.Written.{AllBut-more, AllBut-all, TookPart-rest}
-use Rattle.cell_drive.proofs.ReplayLines.{more_events, more_replayed, next_event, next_replayed, no_more_replayed}
+use Rattle.cell_drive.proofs.{FollowedEvents.{more_events, next_event}, ReplayLines.{more_replayed, next_replayed, no_more_replayed}}
 use Rattle.cell_drive.proofs.replay.put_replay_events.Goals as goal
 
 pub put_replay-requires : goal.put_replay-requires
 put_replay-requires g c = (next_event _ _ c.args.entries.now c.loop-place.place _ (omega (arith, c.loop-place-test.true)) c.loop-place.invariant.run).0
 
-pub follow-requires : goal.follow-requires
-follow-requires g c = (next_event _ _ c.args.entries.now c.loop-place.place _ (omega (arith, c.loop-place-test.true)) c.loop-place.invariant.run).0
+pub follow_entry-requires : goal.follow_entry-requires
+follow_entry-requires g c = (next_event _ _ c.args.entries.now c.loop-place.place _ (omega (arith, c.loop-place-test.true)) c.loop-place.invariant.run).0
 
 pub returns-in_err-put_replay-clause-wrote : goal.returns-in_err-put_replay-clause-wrote
 returns-in_err-put_replay-clause-wrote g c =
@@ -25,13 +24,13 @@ returns-in_err-put_replay-clause-wrote g c =
 pub loop-place-preserved : goal.loop-place-preserved
 loop-place-preserved g c =
     let v = c.loop-place.cell in
-    let new = c.follow.new.cell in
+    let new = c.follow_entry.new.cell in
     let i = c.loop-place.place in
-    let plan_is : new.plan ≡ v.plan = ap (λ x. x.plan) c.follow.ensures in
+    let plan_is : new.plan ≡ v.plan = ap (λ x. x.plan) c.follow_entry.ensures in
     record {
       so_far = AllBut-more _ _ _ _ _ _ _ c.loop-place.invariant.so_far c.in_ok-put_replay.ensures.wrote
-          (more_replayed v.plan new.plan c.args.protocol v.cell new.cell c.args.entries.now c.args.late.now i _ _ (omega (arith, c.loop-place-test.true)) c.requires.same plan_is (ap (λ x. x.cell) c.follow.ensures));
-      run = more_events v.plan new.plan v.cell new.cell c.args.entries.now i _ (omega (arith, c.loop-place-test.true)) plan_is (ap (λ x. x.cell) c.follow.ensures) c.loop-place.invariant.run;
+          (more_replayed v.plan new.plan c.args.protocol v.cell new.cell c.args.entries.now c.args.late.now i _ _ (omega (arith, c.loop-place-test.true)) c.requires.same plan_is (ap (λ x. x.cell) c.follow_entry.ensures));
+      run = more_events v.plan new.plan v.cell new.cell c.args.entries.now i _ (omega (arith, c.loop-place-test.true)) plan_is (ap (λ x. x.cell) c.follow_entry.ensures) c.loop-place.invariant.run;
       unfailed = c.in_ok-put_replay.ensures.unfailed ∙ c.loop-place.invariant.unfailed;
     }
 

@@ -1,8 +1,6 @@
-use Rattle.std.proofs.Common.{◌++◌, subst, sym}
-use Rattle.std.proofs.lemmas.Result.{err_from_is_err_and}
+use Rattle.std.proofs.{Common.{◌++◌, subst, sym}, lemmas.Result.err_from_is_err_and}
 use Rattle.byte_streams.specs.Lent.{WroteTo}
-use Rattle.cell_drive.proofs.CellTexts.{wrote_next, took_first}
-use Rattle.cell_drive.proofs.LineAnswers.{no_bytes}
+use Rattle.cell_drive.proofs.{CellTexts.{wrote_next, took_first}, LineAnswers.no_bytes}
 use Rattle.cell_drive.proofs.replies.put_behind.Goals as goal
 
 pub returns-then-is_empty-clause-wrote : goal.returns-then-is_empty-clause-wrote

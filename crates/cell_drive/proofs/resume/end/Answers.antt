@@ -5,4 +5,4 @@ use Rattle.cell_drive.proofs.resume.end.Goals as goal
 pub returns : goal.returns
 returns c =
     let s = c.session.inside in
-    rw (sym c.session.view_is) (rest_end_of s.protocol s.controller s.log c.session.invariant _ refl c.is_done.ensures c.now.ensures c.reports_left.ensures.kept)
+    rw (sym c.session.view_is) (rest_end_of s.protocol s.controller s.log c.session.invariant _ refl c.is_done-done.ensures c.now-last.ensures c.reports_left-left.ensures.kept)

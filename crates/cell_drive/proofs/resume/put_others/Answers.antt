@@ -1,10 +1,9 @@
 use Rattle.std.proofs.Common.{◌≡◌, ℕ, ◌-◌, List, [], ◌∷◌, length, take, drop, sym, ap, ◌∙◌, subst, length-drop}
 use Rattle.std.proofs.Math.Seq.{take-length}
-use Rattle.std.proofs.lemmas.Result.{err_from_is_err_and}
 use Rattle.cell_tables.specs.declared.entry.Entry.{Entry}
 use Rattle.event_lines.specs.EventLines.{entry_lines}
 use Rattle.byte_streams.specs.Lent.{WroteTo}
-use Rattle.cell_drive.proofs.CellTexts.{wrote_next, took_first}
+use Rattle.cell_drive.proofs.CellTexts.{broke_first, wrote_next}
 use Rattle.cell_drive.proofs.resume.put_others.Goals as goal
 
 rest_whole : {A : Type 0} (n : ℕ) (xs : List A) → take (length xs - n) (drop n xs) ≡ drop n xs
@@ -12,8 +11,7 @@ rest_whole n xs = ap (λ m. take m (drop n xs)) (sym (length-drop n xs)) ∙ tak
 
 pub returns-in_err-put_all-clause-wrote : goal.returns-in_err-put_all-clause-wrote
 returns-in_err-put_all-clause-wrote g c =
-    let p = err_from_is_err_and c.from_residual.result c.from_residual.ensures.1 in
-    rw p.1 (c.in_err-put_all.ensures.wrote.0, took_first _ _ (10 ∷ []) _ c.in_err-put_all.ensures.wrote.1)
+    broke_first _ _ _ _ _ (10 ∷ []) _ c.from_residual.ensures.1 c.in_err-put_all.ensures.wrote
 
 pub returns-clause-wrote : goal.returns-clause-wrote
 returns-clause-wrote g c =

@@ -1,13 +1,8 @@
 use Rattle.std.proofs.Common.{◌≡◌, ℕ, Bool, List, length, take, sym, ap, ◌∙◌, subst, arith}
 use Rattle.byte_streams.specs.Lent.{WroteTo}
-use Rattle.shop_base.specs.Plan.{PlannedShop}
-use Rattle.shop_base.specs.Cell.{Cell, start}
-use Rattle.shop_base.specs.Run.{AreEvents}
-use Rattle.cell_tables.specs.declared.entry.Entry.{Entry}
-use Rattle.cell_tables.specs.Events.{events_of}
-use Rattle.cell_tables.specs.Tables.{cell_of}
-use Rattle.cell_drive.specs.Replay.{replay_text}
-use Rattle.cell_drive.specs.Recovered.{Recovered, plan_of, replayed_events, recovered_by}
+use Rattle.shop_base.specs.{Plan.PlannedShop, Cell.{Cell, start}, Run.AreEvents}
+use Rattle.cell_tables.specs.{declared.entry.Entry.Entry, Events.events_of, Tables.cell_of}
+use Rattle.cell_drive.specs.{Replay.replay_text, Recovered.{Recovered, plan_of, replayed_events, recovered_by}}
 use Rattle.cell_drive.specs.PlainLines.{plain_lines}
 use Rattle.cell_drive.proofs.ReplayLines.{first_run, plain_replay}
 use Rattle.cell_drive.proofs.resume.put_replay_in.Goals as goal

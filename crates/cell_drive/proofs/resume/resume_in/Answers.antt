@@ -1,10 +1,7 @@
 use Rattle.std.proofs.Common.{◌≡◌, refl, subst}
 use Rattle.byte_streams.specs.declared.drive_fault.DriveFault.TheVariants.{Memory}
 use Rattle.byte_streams.specs.Lent.{output_of, streams_of, sink_state}
-use Rattle.cell_drive.specs.InProtocol.{IsGoneOnIn}
-use Rattle.cell_drive.specs.Recovered.{Recovered}
-use Rattle.cell_drive.specs.Resuming.{due_text}
-use Rattle.cell_drive.specs.Replay.{replay_text}
+use Rattle.cell_drive.specs.{InProtocol.IsGoneOnIn, Recovered.Recovered, Resuming.due_text, Replay.replay_text}
 use Rattle.cell_drive.proofs.GoneOn.{gone_on_behind, never_memory, never_replayed, not_replayed}
 use Rattle.cell_drive.proofs.resume.resume_in.Goals as goal
 

@@ -3,8 +3,7 @@ use Rattle.std.proofs.lemmas.Result.{err_from_is_err_and}
 use Rattle.byte_streams.specs.Sinks.{AllBut}
 use Rattle.byte_streams.proofs.Written.{AllBut-none, AllBut-more, AllBut-all, TookPart-rest}
 use Rattle.cell_tables.specs.declared.standing.Standing.{Standing}
-use Rattle.cell_drive.specs.States.{standing_part, texts_from}
-use Rattle.cell_drive.specs.StateRows.{row, row_count, rows_text}
+use Rattle.cell_drive.specs.{States.{standing_part, texts_from}, StateRows.{row, row_count, rows_text}}
 use Rattle.cell_drive.proofs.StateTexts.{all_texts, next_text, no_more_texts}
 use Rattle.cell_drive.proofs.states.put_rows.Goals as goal
 

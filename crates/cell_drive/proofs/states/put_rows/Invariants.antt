@@ -1,7 +1,6 @@
 use Rattle.std.proofs.Common.{◌≡◌, ◌-◌}
 use Rattle.byte_streams.specs.Sinks.{AllBut}
-use Rattle.cell_drive.specs.States.{standing_part, texts_from}
-use Rattle.cell_drive.specs.StateRows.{row, row_count, rows_text}
+use Rattle.cell_drive.specs.{States.{standing_part, texts_from}, StateRows.{row, row_count, rows_text}}
 use Rattle.cell_drive.proofs.states.put_rows.Given as goal
 
 abbrev pub invariant-loop-number : goal.invariant-loop-number

@@ -1,6 +1,5 @@
-use Rattle.std.proofs.Common.{◌++◌, ap₂, subst, List, ℕ}
+use Rattle.std.proofs.{Common.{◌++◌, ap₂, subst, List, ℕ}, lemmas.Result.err_from_is_err_and}
 use Rattle.std.specs.Io.KnownBytes.{Appends}
-use Rattle.std.proofs.lemmas.Result.{err_from_is_err_and}
 use Rattle.byte_streams.specs.Sinks.{TookPart}
 use Rattle.cell_drive.specs.States.{jobs_text, machines_text}
 use Rattle.cell_drive.proofs.CellTexts.{wrote_next, took_first}

@@ -1,7 +1,6 @@
 use Rattle.std.proofs.Common.{◌+◌, ◌-◌, ◌∙◌, Option, sym, ap, arith}
 use Rattle.event_lines.specs.declared.details.Overdue.{Overdue}
-use Rattle.cell_drive.specs.States.{count_of, with_one, with_those}
-use Rattle.cell_drive.specs.StateRows.{row, row_count}
+use Rattle.cell_drive.specs.{States.{count_of, with_one, with_those}, StateRows.{row, row_count}}
 use Rattle.cell_drive.proofs.StateTexts.{all_found, next_found, no_more_found, one_counted}
 use Rattle.cell_drive.proofs.states.with_rows.Goals as goal
 

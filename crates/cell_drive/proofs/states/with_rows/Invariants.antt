@@ -1,6 +1,5 @@
 use Rattle.std.proofs.Common.{◌≡◌, ◌≤◌, ◌+◌, ◌-◌}
-use Rattle.cell_drive.specs.States.{count_of, with_those}
-use Rattle.cell_drive.specs.StateRows.{row, row_count, with_rows}
+use Rattle.cell_drive.specs.{States.{count_of, with_those}, StateRows.{row, row_count, with_rows}}
 use Rattle.cell_drive.proofs.states.with_rows.Given as goal
 
 abbrev pub invariant-loop-number : goal.invariant-loop-number

@@ -1,6 +1,5 @@
 use Rattle.std.proofs.Common.{◌≡◌, ◌+◌, ◌*◌, ◌≤◌, length, drop}
-use Rattle.cell_drive.specs.declared.v1_replay.TheConstants.{EVENT_ROOM, LINES_ROOM}
-use Rattle.cell_drive.specs.PlainLines.{plain_lines}
+use Rattle.cell_drive.specs.{declared.v1_replay.TheConstants.{EVENT_ROOM, LINES_ROOM}, PlainLines.plain_lines}
 use Rattle.cell_drive.proofs.v1_replay.put_few.Given as goal
 
 abbrev pub invariant-places : goal.invariant-places

@@ -1,6 +1,5 @@
 use Rattle.std.proofs.Common.{◌-◌, ◌++◌, Bool, List, length, take, drop, ap, ◌∙◌, arith, length-drop}
-use Rattle.std.proofs.lemmas.List.{take_rest}
-use Rattle.std.proofs.lemmas.Result.{err_from_is_err_and}
+use Rattle.std.proofs.{lemmas.List.take_rest, lemmas.Result.err_from_is_err_and}
 use Rattle.byte_streams.proofs.Written.{AllBut-more, TookPart-rest}
 use Rattle.cell_tables.specs.declared.entry.Entry.{Entry}
 use Rattle.cell_drive.specs.PlainLines.{plain_lines}

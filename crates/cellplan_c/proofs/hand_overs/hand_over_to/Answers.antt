@@ -7,7 +7,7 @@ pub returns-in-Ok-clause-handed_over : goal.returns-in-Ok-clause-handed_over
 returns-in-Ok-clause-handed_over c =
     let are = named_so c.args.instance.now _ c.args.plan.now c.args.at _ _ c.name_in.ensures c.in-Ok.ensures in
     let judged = c.hand_over_plan.ensures in
-    plan_handed_over _ _ _ _ c.in-Ok.told c.hand_over_plan.result _ _ c.if-at-gt-MAX_MOMENT.false are judged.status judged.taken judged.statuses.0 judged.statuses.2
+    plan_handed_over _ _ _ _ c.in-Ok.loaded c.hand_over_plan.result _ _ c.if-at-gt-MAX_MOMENT.false are judged.status judged.handed_over judged.statuses.0 judged.statuses.2
 
 pub returns-in-Err-clause-handed_over : goal.returns-in-Err-clause-handed_over
 returns-in-Err-clause-handed_over c =

@@ -3,4 +3,4 @@ use Rattle.cellplan_c.proofs.Reading.{tells}
 use Rattle.cellplan_c.proofs.readers.cellplan_cell_is_done.Goals as goal
 
 pub returns : goal.returns
-returns c = tells _ _ _ _ _ _ c.in-Some.ensures.taken c.put.ensures _ refl (rw c.deref.ensures at c.is_done.ensures)
+returns c = tells _ _ _ _ _ _ c.in-Some.ensures.lent c.put.ensures _ refl (rw c.deref.ensures at c.is_done.ensures)

@@ -1,6 +1,6 @@
 use Rattle.std.proofs.Common.{◌≡◌, ◌≢◌, None, Some, refl, sym, ap, ◌∙◌, arith}
 use Rattle.std.specs.Prelude.{is_some}
-use Rattle.cellplan_c.specs.Told.{report_by}
+use Rattle.cellplan_c.specs.Numbers.{report_by}
 use Rattle.cellplan_c.proofs.Found.{of_three, of_none, unless_good}
 use Rattle.cellplan_c.proofs.reports.cellplan_cell_report.Goals as goal
 use Rattle.cellplan_c.proofs.reports.cellplan_cell_report.Goals.{then-status-eq-GOOD, else-status-eq-GOOD}
@@ -27,13 +27,13 @@ returns-in_default c =
 
 pub returns-in_default-take : goal.returns-in_default-take
 returns-in_default-take c =
-    let told : report_by c.args.kind c.args.job c.args.machine c.args.at ≡ Some c.in-Some.ended = sym c.in-Some.ensures in
-    let none = c.in_default-take.ensures.taken in
+    let report : report_by c.args.kind c.args.job c.args.machine c.args.at ≡ Some c.in-Some.ended = sym c.in-Some.ensures in
+    let none = c.in_default-take.ensures.lent in
     let emptied = c.in_default-take.ensures.emptied in
     record {
       full = rw none (λ some. absurd (cc some));
-      no_kind = (λ other. absurd (cc (other, told)), λ nine. absurd (omega (arith, nine)));
-      no_cell = rw told (λ _. refl, λ eight. none);
+      no_kind = (λ other. absurd (cc (other, report)), λ nine. absurd (omega (arith, nine)));
+      no_cell = rw report (λ _. refl, λ eight. none);
       reported = rw none tt;
       unchanged = λ _. emptied ∙ sym none;
       never_wrong = λ _. rw emptied tt;
@@ -47,21 +47,21 @@ returns-in_default-take c =
 
 pub returns : goal.returns
 returns c =
-    let held : c.args.cell.now.slot.held ≡ Some c.deref_mut.result.now = rw c.deref_mut.ensures.value c.in-Some-take.ensures.taken in
+    let held : c.args.cell.now.slot.held ≡ Some c.deref_mut.result.now = rw c.deref_mut.ensures.value c.in-Some-take.ensures.lent in
     let after = c.put.ensures in
-    let told : report_by c.args.kind c.args.job c.args.machine c.args.at ≡ Some c.in-Some.ended = sym c.in-Some.ensures in
-    let taken = c.report_to-status.ensures in
+    let report : report_by c.args.kind c.args.job c.args.machine c.args.at ≡ Some c.in-Some.ended = sym c.in-Some.ensures in
+    let answered = c.report_to-status.ensures in
     record {
       full = λ some. ap is_some after;
-      no_kind = (λ other. absurd (cc (other, told)), λ nine. absurd (omega (arith, nine, taken.numbers (λ good. omega (arith, nine, good)))));
-      no_cell = rw told (λ other. absurd (cc (other, held)), λ eight. absurd (omega (arith, eight, taken.numbers (λ good. omega (arith, eight, good)))));
-      reported = of_three _ _ _ _ _ _ _ held after told taken.reported;
-      unchanged = λ bad. after ∙ ap Some (taken.unchanged bad) ∙ sym held;
-      never_wrong = λ kind. rw after taken.never_wrong;
-      not_late = taken.not_late;
-      no_detail = λ small. taken.no_detail (elim c.if-status-eq-GOOD.branch [
+      no_kind = (λ other. absurd (cc (other, report)), λ nine. absurd (omega (arith, nine, answered.numbers (λ good. omega (arith, nine, good)))));
+      no_cell = rw report (λ other. absurd (cc (other, held)), λ eight. absurd (omega (arith, eight, answered.numbers (λ good. omega (arith, eight, good)))));
+      reported = of_three _ _ _ _ _ _ _ held after report answered.reported;
+      unchanged = λ bad. after ∙ ap Some (answered.unchanged bad) ∙ sym held;
+      never_wrong = λ kind. rw after answered.never_wrong;
+      not_late = answered.not_late;
+      no_detail = λ small. answered.no_detail (elim c.if-status-eq-GOOD.branch [
         | then-status-eq-GOOD w ↦ w.if-status-eq-GOOD.true
-        | else-status-eq-GOOD w ↦ absurd (omega (arith, small, taken.numbers w.if-status-eq-GOOD.false))
+        | else-status-eq-GOOD w ↦ absurd (omega (arith, small, answered.numbers w.if-status-eq-GOOD.false))
       ]);
       no_orders = elim c.if-status-eq-GOOD.branch [
         | then-status-eq-GOOD w ↦ λ bad. absurd (bad w.if-status-eq-GOOD.true)

@@ -4,13 +4,13 @@ use Rattle.cellplan_c.proofs.reports.report_to.Goals as goal
 
 pub returns-in-Ok : goal.returns-in-Ok
 returns-in-Ok c =
-    let taken = c.in-Ok.ensures in
+    let accepted = c.in-Ok.ensures in
     record {
       reported = record {
-        possible = (λ good. taken.possible.0 refl, λ can. refl);
-        answered = λ good. taken.answered;
+        possible = (λ good. accepted.possible.0 refl, λ can. refl);
+        answered = λ good. accepted.answered;
         reason = λ bad. absurd (bad refl);
-        called = taken.called;
+        called = accepted.called;
         never_refused = goes_anyway c.args.inner.now.controller c.args.ended _ refl;
       };
       unchanged = λ bad. absurd (bad refl);
@@ -22,6 +22,6 @@ returns-in-Ok c =
 
 pub returns-in-Err-clause-reported : goal.returns-in-Err-clause-reported
 returns-in-Err-clause-reported c =
-    let told = c.in-Err.ensures in
-    refused_answer c.args.inner.now.controller c.args.ended c.in-Err.fault _ _ _ _ _ (λ ok. absurd (cc ok)) told.possible told.first_reason told.only_reason told.called told.never_refused
+    let refused = c.in-Err.ensures in
+    refused_answer c.args.inner.now.controller c.args.ended c.in-Err.fault _ _ _ _ _ (λ ok. absurd (cc ok)) refused.possible refused.first_reason refused.only_reason refused.called refused.never_refused
     c.fault_number.ensures c.fault_detail.ensures

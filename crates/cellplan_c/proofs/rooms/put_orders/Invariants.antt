@@ -1,5 +1,5 @@
 use Rattle.std.proofs.Common.{◌≡◌, ℕ, ◌+◌, ◌<◌, ◌≤◌, length, slice_get, option_map}
-use Rattle.cellplan_c.specs.Told.{order_numbers}
+use Rattle.cellplan_c.specs.Numbers.{order_numbers}
 use Rattle.cellplan_c.proofs.rooms.put_orders.Given as goal
 
 abbrev pub invariant-loop-place : goal.invariant-loop-place

@@ -20,10 +20,10 @@ returns-in_err-map_err-in-Ok g c = let p = err_from_is_err_and c.from_residual-i
 
 pub returns-in-Err : goal.returns-in-Err
 returns-in-Err g c = one_more g.T.Texts.gives c.args.text.now (option_copied c.args.name) c.loop-path.cells.items c.args.plans.now c.loop-path.path-index c.loop-path.texts (map string_bytes c.args.plans.now) c.args.texts.now c.loop-path.invariant c.path-item.result c.loop-path-test.true c.path-item.is c.as_str.result.now c.as_str.ensures.value c.load_one.result
-    (Ok c.in_ok-loaded.loaded) c.load_one.new.texts c.in_ok-loaded.was c.load_one.ensures c.cell_line.result c.load_one.new.texts
+    (Ok c.in_ok-loaded.loaded) c.load_one.new.texts c.in_ok-loaded.was c.load_one.ensures c.cell_line-line.result c.load_one.new.texts
     (after_asked c.loop-path.cells.items (λ more. LoadsEach g.T.Texts.gives c.args.text.now (option_copied c.args.name) more (map string_bytes (drop (c.loop-path.path-index + 1) c.args.plans.now)))
-    c.in_ok-loaded.loaded c.accepted.result (Err c.in-Err.other) c.load_one.new.texts c.cell_line.result c.load_one.new.texts c.accepted.ensures c.in-Err.is
-    (let line : IsCellLine (length c.loop-path.cells.items) c.in-Err.other c.cell_line.result = search rules in (line, refl)))
+    c.in_ok-loaded.loaded c.accepted.result (Err c.in-Err.other) c.load_one.new.texts c.cell_line-line.result c.load_one.new.texts c.accepted.ensures c.in-Err.is
+    (let line : IsCellLine (length c.loop-path.cells.items) c.in-Err.other c.cell_line-line.result = search rules in (line, refl)))
 
 pub loop-path-preserved : goal.loop-path-preserved
 loop-path-preserved g c = λ outcome after rest. one_more g.T.Texts.gives c.args.text.now (option_copied c.args.name) c.loop-path.cells.items c.args.plans.now c.loop-path.path-index c.loop-path.texts (map string_bytes c.args.plans.now) c.args.texts.now c.loop-path.invariant c.path-item.result c.loop-path-test.true c.path-item.is c.as_str.result.now c.as_str.ensures.value c.load_one.result

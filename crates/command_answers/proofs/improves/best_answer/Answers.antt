@@ -1,11 +1,11 @@
 use Rattle.plan_improve.specs.Settings.{whole_plan}
 use Rattle.plan_improve.specs.Runs.{Rounds}
-use Rattle.command_answers.proofs.ImproveLines.{best_answer_is, no_best_is}
+use Rattle.command_answers.proofs.ImproveLines.{best_answer_is, no_best_answered, no_best_is}
 use Rattle.command_answers.proofs.improves.best_answer.Goals as goal
 
 pub returns-in-Ok : goal.returns-in-Ok
 returns-in-Ok g c =
-    best_answer_is (Rounds whole_plan (λ b. (goal.Improver-dyn g (b.vtable, b.value)).may b.value) c.args.improvers.now c.args.rounds) c.args.rounds c.args.start c.in-Ok.verdict c.verdict_answer.result
+    best_answer_is (Rounds whole_plan (λ b. (goal.Improver-dyn g (b.vtable, b.value)).may b.value) c.args.improvers.now c.args.rounds) c.args.rounds c.args.start c.in-Ok.verdict c.verdict_answer-answer.result
     (record {
       same = c.in-Ok.ensures.same;
       acyclic = c.in-Ok.ensures.acyclic;
@@ -13,7 +13,7 @@ returns-in-Ok g c =
       found = c.in-Ok.ensures.found;
       stays_accepted = λ accepted. c.in-Ok.ensures.exact.0 (c.in-Ok.ensures.stays_accepted accepted);
     })
-    c.in-Ok.ensures.few_rounds c.in-Ok.ensures.exact c.verdict_answer.ensures
+    c.in-Ok.ensures.few_rounds c.in-Ok.ensures.exact c.verdict_answer-answer.ensures
 
 pub returns-in-Err : goal.returns-in-Err
 returns-in-Err g c =
@@ -21,4 +21,4 @@ returns-in-Err g c =
     c.in-Err.ensures.refused c.unfound_answer.ensures
 
 pub unfound_answer-requires : goal.unfound_answer-requires
-unfound_answer-requires g c = λ large. rw large at c.in-Err.ensures.refused
+unfound_answer-requires g c = no_best_answered c.args.rounds c.in-Err.refused.fault c.in-Err.ensures.refused

@@ -8,7 +8,7 @@ use Rattle.command_answers.proofs.Passing.{at_fault, refused_instance, refused_p
 use Rattle.command_answers.proofs.loading.load_shaped.Goals as goal
 
 -- what is shaped is the plan, or its first fault
-shaped_or_not : (p : PlannedShop) (told : Result PlannedShop ShapeFault) → IfOk told (λ shaped. (shaped ≡ p) × IsWellShaped p) → IfErr told (IsFirstShapeFault p) → IsShapedOrNot p told
+shaped_or_not : (p : PlannedShop) (outcome : Result PlannedShop ShapeFault) → IfOk outcome (λ shaped. (shaped ≡ p) × IsWellShaped p) → IfErr outcome (IsFirstShapeFault p) → IsShapedOrNot p outcome
 shaped_or_not p (Ok shaped) same first = same
 shaped_or_not p (Err fault) same first = first
 

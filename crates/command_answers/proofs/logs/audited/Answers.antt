@@ -5,7 +5,7 @@ use Rattle.command_answers.proofs.LogAnswers.{refused_log}
 use Rattle.command_answers.proofs.logs.audited.Goals as goal
 
 pub returns-in_ok-answer_run-in-Ok : goal.returns-in_ok-answer_run-in-Ok
-returns-in_ok-answer_run-in-Ok c = inl (record { run = c.in-Ok.found; is = c.in-Ok.ensures.kept; told = c.in_ok-answer_run-in-Ok.ensures })
+returns-in_ok-answer_run-in-Ok c = inl (record { run = c.in-Ok.found; is = c.in-Ok.ensures.kept; answered = c.in_ok-answer_run-in-Ok.ensures })
 
 pub returns-in-Err : goal.returns-in-Err
 returns-in-Err c =

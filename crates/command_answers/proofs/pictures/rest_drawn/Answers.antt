@@ -6,5 +6,5 @@ verdict_drawn-requires-clause-judged c = record { accepted = c.in_ok-verdict.ens
 
 pub returns : goal.returns
 returns c =
-    verdict_shown c.args.names c.args.cell.now.plan c.args.cell.now.cell c.args.present c.args.line c.args.told.now c.in_ok-verdict.verdict c.verdict_drawn.result
+    verdict_shown c.args.rest.names c.args.rest.cell.now.plan c.args.rest.cell.now.cell c.args.rest.present c.args.rest.line c.args.rest.visits.now c.in_ok-verdict.verdict c.verdict_drawn.result
     (record { accepted = c.in_ok-verdict.ensures.accepted; refused = c.in_ok-verdict.ensures.refused }) c.verdict_drawn.ensures

@@ -12,7 +12,7 @@ returns-in_ok-text-in-Ok g c = inl (
       came = Ok c.in_ok-text-in-Ok.text.items;
       mid = c.text.new.self;
       is = c.in_ok-text-in-Ok.ensures.asked;
-      goes_on = (rw (← c.in-Ok.ensures.shaped.0) (rw (← c.deref.ensures.value) c.rest_decided.ensures), refl);
+      goes_on = (rw (← c.in-Ok.ensures.shaped.0) (rw (← c.deref.ensures.value) c.rest_decided-answer.ensures), refl);
     };
   },
 )

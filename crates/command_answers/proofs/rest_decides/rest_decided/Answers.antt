@@ -4,8 +4,8 @@ use Rattle.command_answers.proofs.rest_decides.rest_decided.Goals as goal
 
 pub returns-in-Ok : goal.returns-in-Ok
 returns-in-Ok g c =
-    rest_decided_is c.args.names.now c.args.at (ended_lines c.args.log.now) c.args.shaped c.args.aim c.in-Ok.decided c.decided_answer.result
-    c.in-Ok.ensures.kept c.in-Ok.ensures.best c.in-Ok.ensures.never c.in-Ok.ensures.open c.decided_answer.ensures
+    rest_decided_is c.args.names.now c.args.at (ended_lines c.args.log.now) c.args.shaped c.args.aim c.in-Ok.decided c.decided_answer-answer.result
+    c.in-Ok.ensures.kept c.in-Ok.ensures.best c.in-Ok.ensures.never c.in-Ok.ensures.open c.decided_answer-answer.ensures
 
 pub undecided_answer-requires : goal.undecided_answer-requires
 undecided_answer-requires g c = rest_is_answerable c.args.at (ended_lines c.args.log.now) c.args.shaped c.args.aim c.in-Err.undecided.fault c.requires c.in-Err.ensures.refused

@@ -1,7 +1,7 @@
 use Rattle.command_answers.proofs.rests.answer_rest.Goals as goal
 
-pub verdict_text-requires-clause-judged : goal.verdict_text-requires-clause-judged
-verdict_text-requires-clause-judged g c = rw c.seen.ensures (record { accepted = c.in_ok-verdict.ensures.accepted; refused = c.in_ok-verdict.ensures.refused })
+pub verdict_text-text-requires-clause-judged : goal.verdict_text-text-requires-clause-judged
+verdict_text-text-requires-clause-judged g c = rw c.seen.ensures (record { accepted = c.in_ok-verdict.ensures.accepted; refused = c.in_ok-verdict.ensures.refused })
 
 pub returns : goal.returns
 returns g c = record {

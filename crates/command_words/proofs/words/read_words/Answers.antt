@@ -1,32 +1,32 @@
 use Rattle.std.proofs.Common.{IfOk, ap, map, subst, sym}
 use Rattle.command_words.specs.Choice.{Found, IsChoiceOf, IsFit, misfit_in}
 use Rattle.command_words.proofs.words.Reasons.{no_reasons, names_first, names_next}
-use Rattle.command_words.proofs.words.Taken.{met, taken, accepted_fits, told}
+use Rattle.command_words.proofs.words.Accepted.{met, parse_accepts, accepted_fits, parse_refuses}
 use Rattle.command_words.proofs.words.read_words.Goals as goal
 
 pub chosen_by-requires : goal.chosen_by-requires
 chosen_by-requires c =
     let is = c.in_ok-program.ensures.app in
     let words = map (λ word. word.now) c.args.words.now in
-    subst IsFit (sym (met _ words _ _ is c.in-Ok.ensures.matches)) (accepted_fits words (taken _ words is c.in-Ok.ensures.kinds))
+    subst IsFit (sym (met _ words _ _ is c.in-Ok.ensures.matches)) (accepted_fits words (parse_accepts _ words is c.in-Ok.ensures.kinds))
 
 pub returns-in-Ok-clause-chosen : goal.returns-in-Ok-clause-chosen
 returns-in-Ok-clause-chosen c =
     let words = map (λ word. word.now) c.args.words.now in
     subst (λ (f : Found). IfOk c.chosen_by.result (IsChoiceOf words f)) (met _ words _ _ c.in_ok-program.ensures.app c.in-Ok.ensures.matches) c.chosen_by.ensures.holds
 
-pub returns-in-Ok-clause-taken : goal.returns-in-Ok-clause-taken
-returns-in-Ok-clause-taken c =
+pub returns-in-Ok-clause-accepted : goal.returns-in-Ok-clause-accepted
+returns-in-Ok-clause-accepted c =
     let is = c.in_ok-program.ensures.app in
     let words = map (λ word. word.now) c.args.words.now in
-    no_reasons _ _ _ c.chosen_by.result (taken _ words is c.in-Ok.ensures.kinds) (ap (misfit_in words) (met _ words _ _ is c.in-Ok.ensures.matches)) c.chosen_by.ensures.fits
+    no_reasons _ _ _ c.chosen_by.result (parse_accepts _ words is c.in-Ok.ensures.kinds) (ap (misfit_in words) (met _ words _ _ is c.in-Ok.ensures.matches)) c.chosen_by.ensures.fits
 
 pub returns-in-Ok-clause-refused : goal.returns-in-Ok-clause-refused
 returns-in-Ok-clause-refused c =
     let is = c.in_ok-program.ensures.app in
     let words = map (λ word. word.now) c.args.words.now in
-    names_next _ _ _ c.chosen_by.result (taken _ words is c.in-Ok.ensures.kinds) (ap (misfit_in words) (met _ words _ _ is c.in-Ok.ensures.matches)) c.chosen_by.ensures.refused
+    names_next _ _ _ c.chosen_by.result (parse_accepts _ words is c.in-Ok.ensures.kinds) (ap (misfit_in words) (met _ words _ _ is c.in-Ok.ensures.matches)) c.chosen_by.ensures.refused
 
 pub returns-in-Err-clause-refused : goal.returns-in-Err-clause-refused
 returns-in-Err-clause-refused c =
-    names_first _ _ c.fault_of.result (told _ (map (λ word. word.now) c.args.words.now) c.in-Err.error c.fault_of.result c.in_ok-program.ensures.app c.in-Err.ensures.kinds c.fault_of.ensures)
+    names_first _ _ c.fault_of.result (parse_refuses _ (map (λ word. word.now) c.args.words.now) c.in-Err.error c.fault_of.result c.in_ok-program.ensures.app c.in-Err.ensures.kinds c.fault_of.ensures)

@@ -1,7 +1,6 @@
-use Rattle.std.proofs.Common.{◌≡◌, ◌<◌, refl, sym, ◌∙◌, subst, arith}
-use Rattle.std.proofs.lemmas.List.{ext_get_or}
-use Rattle.shop_base.specs.Plan.{PlannedShop, jobs, machines}
-use Rattle.shop_base.specs.{Cell.{Cell, MachineState, absent, unused, start, machine_in}, Run.ends_in, Ahead.GoesOnTo}
+use Rattle.std.proofs.{Common.{◌≡◌, ◌<◌, refl, sym, ◌∙◌, subst, arith}, lemmas.List.ext_get_or}
+use Rattle.shop_base.specs.{Plan.{PlannedShop, jobs, machines}, Run.ends_in, Ahead.GoesOnTo}
+use Rattle.shop_base.specs.Cell.{Cell, MachineState, absent, unused, start, machine_in}
 use Rattle.shop_base.proofs.{Keeping.run-sound, ControlledRuns.{events_join, after_all_join}, GoingOn.goes_on_to_run}
 use Rattle.cell_control.specs.Carried.{IsCarried}
 use Rattle.control_laws.proofs.KeptRuns.{a_kept_run_is_one_of_the_other_plan}

@@ -7,14 +7,5 @@ returns-clause-run c = one.a_driven_run_goes_on_as_one
 pub returns-clause-promised : goal.returns-clause-promised
 returns-clause-promised c = one.it_stays_as_promised
 
-pub returns-clause-recovered : goal.returns-clause-recovered
-returns-clause-recovered c = one.it_is_recovered_as_one
-
-pub returns-clause-so_far : goal.returns-clause-so_far
-returns-clause-so_far c = one.it_is_one_so_far
-
 pub returns-clause-resumed : goal.returns-clause-resumed
 returns-clause-resumed c = one.what_was_resumed_has_its_orders
-
-pub returns-clause-first : goal.returns-clause-first
-returns-clause-first c = one.the_first_events_have_their_orders

@@ -1,5 +1,5 @@
-use Rattle.drive_laws.proofs.AuditKeeps.{an_audit_keeps_what_was_driven}
+use Rattle.drive_laws.proofs.AuditKeeps as law
 use Rattle.drive_laws.proofs.laws.an_audit_keeps_what_was_driven.Goals as goal
 
 pub returns : goal.returns
-returns c = an_audit_keeps_what_was_driven
+returns c = law.an_audit_keeps_what_was_driven

@@ -2,7 +2,7 @@ use Rattle.std.proofs.Common.{sym, ap, ◌∙◌}
 use Rattle.cell_drive.specs.InProtocol.{IsGoneOnIn}
 use Rattle.run_journal.specs.Logged.{fault_if}
 use Rattle.logged_drive.proofs.LoggedSteps.{all_in_log, at_end, at_start, began, keeps_shown, no_memory_behind, rewritten, unfailed_behind, write_failed_behind}
-use Rattle.logged_drive.proofs.GivenOn.{recovered_once_more}
+use Rattle.logged_drive.proofs.Given.{recovered_once_more}
 use Rattle.logged_drive.proofs.going_on.go_on_logged.Goals as goal
 
 pub returns-clause-went_on : goal.returns-clause-went_on
@@ -31,14 +31,14 @@ returns-clause-recoverable g c =
     let goes_on = IsGoneOnIn c.args.protocol c.args.run in
     let new = c.new-writer.ensures in
     let parts = c.into_parts-log.ensures in
-    recovered_once_more c.args.protocol c.args.run g.B.InitialState.before _ _ c.go_on_in-end.new.writer _ _ _ _ _ parts.written (at_start g.B.InitialState.before _ _ _ new.written c.requires.before) c.requires.whole
+    recovered_once_more c.args.protocol c.args.run g.B.InitialState.before _ _ c.go_on_in-end.new.writer _ _ _ _ _ parts.written c.requires.whole (at_start g.B.InitialState.before _ _ _ new.written c.requires.before)
     (began goes_on _ c.new-writer.result _ _ new.pending new.unfailed.0 c.go_on_in-end.ensures) parts.in_step
 
 pub returns-clause-in_log : goal.returns-clause-in_log
-returns-clause-in_log g c = at_end c.go_on_in-end.result (λ end is.
+returns-clause-in_log g c = at_end c.go_on_in-end.result (λ same.
     let parts = c.into_parts-log.ensures in
-    let unfailed = unfailed_behind _ _ _ _ _ end is c.go_on_in-end.ensures ∙ c.new-writer.ensures.unfailed.0 in
-    all_in_log g.B.InitialState.before _ _ c.go_on_in-end.new.writer _ parts.written unfailed (parts.durable unfailed) parts.in_step)
+    let unfailed = same ∙ c.new-writer.ensures.unfailed.0 in
+    all_in_log g.B.InitialState.before _ _ c.go_on_in-end.new.writer _ parts.written unfailed (parts.durable unfailed) parts.in_step) (unfailed_behind _ _ _ _ _ c.go_on_in-end.ensures)
 
 pub returns-clause-log_fault : goal.returns-clause-log_fault
 returns-clause-log_fault g c = c.into_parts-log.ensures.log_fault ∙ sym (ap fault_if c.has_log_failed-log_failed.ensures)

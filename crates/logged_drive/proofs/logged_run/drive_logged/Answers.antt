@@ -1,8 +1,9 @@
 use Rattle.std.proofs.Common.{sym, ap, ◌∙◌}
 use Rattle.cell_drive.specs.InProtocol.{IsDriveIn}
 use Rattle.run_journal.specs.Logged.{fault_if}
-use Rattle.logged_drive.proofs.LoggedSteps.{all_in_log, at_end, at_start, began, keeps_shown, rewritten, unfailed_at_end, write_failed}
-use Rattle.logged_drive.proofs.Safe.{recovered_after}
+use Rattle.logged_drive.proofs.LoggedSteps.{all_in_log, at_end, at_start, began, keeps_shown, rewritten, write_failed}
+use Rattle.logged_drive.proofs.Given.{recovered_after}
+use Rattle.logged_drive.proofs.LoggedSteps as law
 use Rattle.logged_drive.proofs.logged_run.drive_logged.Goals as goal
 
 pub returns-clause-drove : goal.returns-clause-drove
@@ -31,14 +32,14 @@ returns-clause-recoverable g c =
     let drives = IsDriveIn c.args.begun.protocol c.args.begun.verified in
     let new = c.new-writer.ensures in
     let parts = c.into_parts-log.ensures in
-    recovered_after c.args.begun.protocol c.args.begun.verified c.verified.ensures.verified g.B.InitialState.before _ _ c.drive_begun-end.new.writer _ _ _ _ _ parts.written c.requires.whole
+    recovered_after c.args.begun.protocol c.args.begun.verified c.is_of_accepted_plan.ensures g.B.InitialState.before _ _ c.drive_begun-end.new.writer _ _ _ _ _ parts.written c.requires.whole
     (at_start g.B.InitialState.before _ _ _ new.written c.requires.before) (began drives _ c.new-writer.result _ _ new.pending new.unfailed.0 c.drive_begun-end.ensures.driven) parts.in_step
 
 pub returns-clause-in_log : goal.returns-clause-in_log
-returns-clause-in_log g c = at_end c.drive_begun-end.result (λ end is.
+returns-clause-in_log g c = at_end c.drive_begun-end.result (λ same.
     let parts = c.into_parts-log.ensures in
-    let unfailed = unfailed_at_end _ _ _ _ _ end is c.drive_begun-end.ensures.driven ∙ c.new-writer.ensures.unfailed.0 in
-    all_in_log g.B.InitialState.before _ _ c.drive_begun-end.new.writer _ parts.written unfailed (parts.durable unfailed) parts.in_step)
+    let unfailed = same ∙ c.new-writer.ensures.unfailed.0 in
+    all_in_log g.B.InitialState.before _ _ c.drive_begun-end.new.writer _ parts.written unfailed (parts.durable unfailed) parts.in_step) (law.unfailed _ _ _ _ _ c.drive_begun-end.ensures.driven)
 
 pub returns-clause-log_fault : goal.returns-clause-log_fault
 returns-clause-log_fault g c = c.into_parts-log.ensures.log_fault ∙ sym (ap fault_if c.has_log_failed-log_failed.ensures)

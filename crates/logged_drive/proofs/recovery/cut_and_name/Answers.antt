@@ -1,7 +1,5 @@
 use Rattle.std.proofs.Common.{◌≡◌, ℕ, List, Some, true, inl}
-use Rattle.run_journal.specs.LogRuns.{IsNamedFor, IsNamedOrNot}
-use Rattle.run_journal.specs.TornEnds.{is_torn}
-use Rattle.run_journal.specs.WholeLines.{whole_lines, torn_end}
+use Rattle.run_journal.specs.{LogRuns.{IsNamedFor, IsNamedOrNot}, TornEnds.is_torn, WholeLines.{whole_lines, torn_end}}
 use Rattle.run_journal.proofs.Fronts.{if_some-map, on_ok-map}
 use Rattle.logged_drive.proofs.Takings.{of_lines}
 use Rattle.logged_drive.proofs.recovery.cut_and_name.Goals as goal

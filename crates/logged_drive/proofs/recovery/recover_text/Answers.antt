@@ -1,7 +1,6 @@
 use Rattle.std.proofs.Common.{subst}
 use Rattle.text_lines.specs.Lines.{ended_lines}
-use Rattle.cell_drive.specs.declared.resume_fault.ResumeFault.{ResumeFault}
-use Rattle.cell_drive.specs.ResumeFaults.{IsOnlyLogFault}
+use Rattle.cell_drive.specs.{declared.resume_fault.ResumeFault.ResumeFault, ResumeFaults.IsOnlyLogFault}
 use Rattle.logged_drive.proofs.recovery.recover_text.Goals as goal
 
 pub returns-in-Err-Log-clause-only_fault : goal.returns-in-Err-Log-clause-only_fault

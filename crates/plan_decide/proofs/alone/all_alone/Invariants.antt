@@ -1,5 +1,5 @@
 use Rattle.plan_decide.specs.Settings.{case_in}
-use Rattle.plan_decide.specs.Told.{AreAllAlone}
+use Rattle.plan_decide.specs.Listed.{AreAllAlone}
 use Rattle.plan_decide.proofs.alone.all_alone.Given as goal
 
 -- of the jobs before this one all are listed

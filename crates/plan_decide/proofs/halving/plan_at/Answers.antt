@@ -7,11 +7,11 @@ use Rattle.plan_decide.proofs.halving.plan_at.Goals as goal
 
 pub returns-in-Some-2 : goal.returns-in-Some-2
 returns-in-Some-2 c =
-    let loose = rw c.in-Some.is at c.in_ok-loose.ensures.accepted in
+    let by = rw c.in-Some.is at c.in_ok-value.ensures in
     let plan = rw c.in-Some-2.is at c.in_ok-plan.ensures.accepted in
-    let same = (rw c.in-Some.is at c.in_ok-loose.ensures.order) ∙ c.in_ok-same.ensures ∙ ap lists_of c.deref.ensures.value ∙ sym (rw c.in-Some-2.is at c.in_ok-plan.ensures.order) in
+    let same = by.order ∙ ap lists_of c.deref.ensures.value ∙ sym (rw c.in-Some-2.is at c.in_ok-plan.ensures.order) in
     record {
       plan = plan;
       fits = rw c.in-Some-2.is at c.in_ok-plan.ensures.fits;
-      value = leaving_again (case_in c.args.setting.now) c.args.job MAX_MOMENT c.leaving_in-value.result (plan_of c.in-Some.loose) (plan_of c.in-Some-2.plan) loose plan same c.leaving_in-value.ensures;
+      value = leaving_again (case_in c.args.setting.now) c.args.job MAX_MOMENT c.in-Some.value by.plan (plan_of c.in-Some-2.plan) by.accepted plan same by.leaves;
     }

@@ -1,6 +1,6 @@
 use Rattle.std.proofs.Common.{Some, sym, subst, ap}
 use Rattle.text_lines.specs.Lines.{ended_lines}
-use Rattle.plan_improve.specs.RestCosts.{IsCellOf}
+use Rattle.run_log.specs.Present.{IsCellOf}
 use Rattle.plan_decide.proofs.judging.times_after.Goals as goal
 
 pub accepted_times-requires : goal.accepted_times-requires

@@ -1,6 +1,6 @@
 use Rattle.plan_decide.specs.Settings.{case_in}
 use Rattle.plan_decide.specs.declared.decided.Excluded.TheVariants.{Pair}
-use Rattle.plan_decide.specs.Told.{AreExclusionsBefore, AddsExclusions}
+use Rattle.plan_decide.specs.Listed.{AreExclusionsBefore, AddsExclusions}
 use Rattle.plan_decide.proofs.pairs.add_pairs_of.Given as goal
 
 -- what was listed stays, and the pairs with the jobs before this one are listed

@@ -19,4 +19,4 @@ push_reached_lines-requires-clause-small g c =
 pub returns : goal.returns
 returns g c =
     chain_parts c.args.names.now c.args.cell.now.plan c.args.cell.now.cell c.args.present c.args.first c.args.rest.now c.in-Some.bound c.push_reached_lines.result _ _ _ c.in-Some.ensures
-    c.in_ok-push_bound_line.ensures (rw c.shaped-shaped.ensures.plan at c.push_reached_lines.ensures)
+    (rw (c.put_hold.ensures.written, c.put_overdue.ensures.written, c.ended-line.ensures) at c.in_ok-push_node_at.ensures) (rw c.shaped-shaped.ensures.plan at c.push_reached_lines.ensures)

@@ -1,5 +1,5 @@
 use Rattle.std.proofs.Common.{arith}
-use Rattle.plan_explain.proofs.{Told.{arcs_next, arc_printed, arcs_end, lines_end}, Texts.on_ok_same}
+use Rattle.plan_explain.proofs.{Printed.{arcs_next, arc_printed, arcs_end, lines_end}, Texts.on_ok_same}
 use Rattle.plan_explain.proofs.cycles.push_arc_lines.Goals as goal
 
 pub push_arc_line-requires : goal.push_arc_line-requires

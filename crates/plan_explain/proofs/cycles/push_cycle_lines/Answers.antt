@@ -1,4 +1,4 @@
-use Rattle.plan_explain.proofs.Told.{cycle_arcs}
+use Rattle.plan_explain.proofs.Printed.{cycle_arcs}
 use Rattle.plan_explain.proofs.cycles.push_cycle_lines.Goals as goal
 
 pub push_arc_lines-requires : goal.push_arc_lines-requires

@@ -6,6 +6,3 @@ pub returns-in-Ok-Some-clause-first : goal.returns-in-Ok-Some-clause-first
 returns-in-Ok-Some-clause-first c =
     let is = rw c.in-Ok-Some.field-0-is at c.in-Ok-Some.ensures in
     (inl ((λ cycle. no_cost c.args.fixed.now c.args.start.plan cycle c.in-Ok-Some.cost is), refl), c.requires.stands, is)
-
-pub first_serially-requires-clause-event : goal.first_serially-requires-clause-event
-first_serially-requires-clause-event c = c.requires.event

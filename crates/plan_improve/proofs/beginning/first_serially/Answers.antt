@@ -12,12 +12,12 @@ reorder_by-serial-requires-clause-shaped c =
 
 pub reorder_by-serial-requires-clause-begins : goal.reorder_by-serial-requires-clause-begins
 reorder_by-serial-requires-clause-begins c =
-    fresh_begins c.args.fixed.now c.args.start.plan (reordered c.args.start.plan (lists_of c.in-Ok.order.items)) c.args.start.cell c.requires.stands (c.requires.event.0 c.if-has_event.false)
+    fresh_begins c.args.fixed.now c.args.start.plan (reordered c.args.start.plan (lists_of c.in-Ok.order.items)) c.args.start.cell c.requires.stands c.requires.fresh
 
 pub cost-requires-clause-stands : goal.cost-requires-clause-stands
 cost-requires-clause-stands c =
     stands_by c.args.fixed.now c.args.start c.reorder_by-serial.result (lists_of c.in-Ok.order.items) c.shaped.ensures.well_shaped c.requires.stands c.reorder_by-serial.ensures.plan c.reorder_by-serial.ensures.cell
-    (fresh_begins c.args.fixed.now c.args.start.plan c.reorder_by-serial.result.plan c.args.start.cell c.requires.stands (c.requires.event.0 c.if-has_event.false))
+    (fresh_begins c.args.fixed.now c.args.start.plan c.reorder_by-serial.result.plan c.args.start.cell c.requires.stands c.requires.fresh)
 
 pub unreachable-requires : goal.unreachable-requires
 unreachable-requires c =
@@ -29,9 +29,9 @@ pub returns-in-Ok-Some-clause-first : goal.returns-in-Ok-Some-clause-first
 returns-in-Ok-Some-clause-first c =
     let serial : c.reorder_by-serial.result.plan ≡ reordered c.args.start.plan (serial_order c.args.start.plan.shop) = c.reorder_by-serial.ensures.plan
     ∙ ap (reordered c.args.start.plan) (c.in-Ok.ensures ∙ ap serial_order (c.shop.ensures.same ∙ ap (λ (p : PlannedShop). p.shop) c.shaped.ensures.plan)) in (
-      inr (c.requires.cycle, c.requires.event.0 c.if-has_event.false, serial),
+      inr (c.requires.cycle, c.requires.fresh, serial),
       stands_by c.args.fixed.now c.args.start c.reorder_by-serial.result (lists_of c.in-Ok.order.items) c.shaped.ensures.well_shaped c.requires.stands c.reorder_by-serial.ensures.plan
           c.reorder_by-serial.ensures.cell
-          (fresh_begins c.args.fixed.now c.args.start.plan c.reorder_by-serial.result.plan c.args.start.cell c.requires.stands (c.requires.event.0 c.if-has_event.false)),
+          (fresh_begins c.args.fixed.now c.args.start.plan c.reorder_by-serial.result.plan c.args.start.cell c.requires.stands c.requires.fresh),
       rw c.in-Ok-Some.field-0-is at c.in-Ok-Some.ensures,
     )

@@ -4,9 +4,13 @@ use Rattle.plan_margin.proofs.GreatestLengths.{sources_short, rows_then, below_t
 use Rattle.plan_margin.proofs.lengths.fill_lengths.Goals.{in-Some, in_default}
 use Rattle.plan_margin.proofs.lengths.fill_lengths.Goals as goal
 
-pub length_to-length-requires-clause-short : goal.length_to-length-requires-clause-short
-length_to-length-requires-clause-short c =
-    sources_short _ _ _ c.requires.order _ _ c.loop-at.invariant.rows c.loop-at.at c.loop-at.invariant.below c.in-Some.node c.in-Some.is
+pub length_to-length-requires : goal.length_to-length-requires
+length_to-length-requires c = record {
+  node = c.requires.order.of_plan c.loop-at.at c.in-Some.node c.in-Some.is;
+  rows = c.loop-at.invariant.rows;
+  most = c.requires.most;
+  short = sources_short _ _ _ c.requires.order _ _ c.loop-at.invariant.rows c.loop-at.at c.loop-at.invariant.below c.in-Some.node c.in-Some.is;
+}
 
 pub offset_bounds-lengths-number : goal.offset_bounds-lengths-number
 offset_bounds-lengths-number c =

@@ -14,7 +14,7 @@ pub returns-clause-check : goal.returns-clause-check
 returns-clause-check c = λ content pair text fault outcome asked is first run. instance_first_of content pair text fault is first _ outcome asked run
 
 pub returns-clause-explain : goal.returns-clause-explain
-returns-clause-explain c = λ names told content pair text fault outcome asked is first run. instance_first_of content pair text fault is first _ outcome asked run
+returns-clause-explain c = λ names job content pair text fault outcome asked is first run. instance_first_of content pair text fault is first _ outcome asked run
 
 pub returns-clause-schedule : goal.returns-clause-schedule
 returns-clause-schedule c = λ names content pair text fault outcome asked is first run. instance_first_of content pair text fault is first _ outcome asked run

@@ -9,9 +9,9 @@ pub returns-clause-unshaped : goal.returns-clause-unshaped
 returns-clause-unshaped c = λ protocol at log before after content pair p outcome asked good never run. no_unshaped_resume content pair p good protocol at log before after outcome asked never run
 
 pub returns-clause-resume : goal.returns-clause-resume
-returns-clause-resume c = λ protocol at before after content pair log text p told outcome asked good well is parses events not_past no_plan run.
-    no_resume content pair p good protocol at text told well parses events not_past no_plan log before after outcome asked is run
+returns-clause-resume c = λ protocol at before after content pair log text p recorded outcome asked good well is parses events not_past no_plan run.
+    no_resume content pair p good protocol at text recorded well parses events not_past no_plan log before after outcome asked is run
 
 pub returns-clause-hub : goal.returns-clause-hub
-returns-clause-hub c = λ protocol before after content path instance name files plans file p others outcome asked is good told never run.
-    no_hub content instance name file p others told never protocol path files plans before after outcome asked is good run
+returns-clause-hub c = λ protocol before after content path instance name files plans file p others outcome asked is good parses never run.
+    no_hub content instance name file p others parses never protocol path files plans before after outcome asked is good run

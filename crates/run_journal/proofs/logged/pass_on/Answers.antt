@@ -1,8 +1,6 @@
 use Rattle.std.proofs.Common.{inr, ℕ, List, ◌++◌, length, take, length-drop, sym, ap, ◌∙◌, subst, arith}
+use Rattle.std.proofs.{KnownBytes.{Appends-nil, Appends-trans, Appends-kept}, Math.Seq.take-add, lemmas.List.take_rest}
 use Rattle.std.specs.Io.KnownBytes.{Appends}
-use Rattle.std.proofs.KnownBytes.{Appends-nil, Appends-trans, Appends-kept}
-use Rattle.std.proofs.Math.Seq.{take-add}
-use Rattle.std.proofs.lemmas.List.{take_rest}
 use Rattle.run_journal.proofs.Fronts.{quiet}
 use Rattle.run_journal.proofs.logged.pass_on.Goals as goal
 

@@ -1,5 +1,4 @@
-use Rattle.std.proofs.Common.{◌-◌, ◌≤◌, length, take}
-use Rattle.std.specs.Io.KnownBytes.{Appends}
+use Rattle.std.{proofs.Common.{◌-◌, ◌≤◌, length, take}, specs.Io.KnownBytes.Appends}
 use Rattle.run_journal.proofs.logged.pass_on.Given as goal
 
 abbrev pub invariant-loop-sent : goal.invariant-loop-sent

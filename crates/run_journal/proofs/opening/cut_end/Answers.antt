@@ -1,9 +1,7 @@
 use Rattle.std.proofs.Common.{ℕ, length, take, Some, ap, sym, ◌∙◌, arith}
-use Rattle.run_journal.specs.TornEnds.{is_torn}
-use Rattle.run_journal.specs.WholeLines.{whole_lines, torn_end}
-use Rattle.run_journal.proofs.Fronts.{if_some-map, if_some-both, on_ok-any}
+use Rattle.run_journal.specs.{TornEnds.is_torn, WholeLines.{whole_lines, torn_end}}
+use Rattle.run_journal.proofs.{Fronts.{if_some-map, if_some-both, on_ok-any}, TornAgain.torn_again}
 use Rattle.run_journal.proofs.Whole.{whole-length, take_whole, left_whole, uncut}
-use Rattle.run_journal.proofs.TornAgain.{torn_again}
 use Rattle.run_journal.proofs.opening.cut_end.Goals as goal
 
 pub cut-requires-clause-within : goal.cut-requires-clause-within

@@ -1,12 +1,8 @@
 use Rattle.std.proofs.Common.{◌≡◌, ℕ, List, ◌++◌, length, Some, IfSome, true, false, inl, inr, refl, sym, ap, ◌∙◌, subst}
 use Rattle.text_lines.specs.Lines.{lines_of}
-use Rattle.run_journal.specs.declared.log_run.LogRun.TheVariants.{Named}
-use Rattle.run_journal.specs.LogFiles.{Leaves}
-use Rattle.run_journal.specs.LogRuns.{NameLast}
-use Rattle.run_journal.specs.TornEnds.{is_torn}
-use Rattle.run_journal.specs.WholeLines.{whole_lines, torn_end}
-use Rattle.run_journal.proofs.Fronts.{if_some-map, on_ok-map}
-use Rattle.run_journal.proofs.LogRuns.{unnamed_last}
+use Rattle.run_journal.specs.{declared.log_run.LogRun.TheVariants.Named, LogFiles.Leaves, LogRuns.NameLast}
+use Rattle.run_journal.specs.{TornEnds.is_torn, WholeLines.{whole_lines, torn_end}}
+use Rattle.run_journal.proofs.{Fronts.{if_some-map, on_ok-map}, LogRuns.unnamed_last}
 use Rattle.run_journal.proofs.NamedLogs.{named_crash, no_end, torn_crash, whole_again}
 use Rattle.run_journal.proofs.opening.name_plan.Goals as goal
 

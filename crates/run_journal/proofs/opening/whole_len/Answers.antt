@@ -1,7 +1,5 @@
-use Rattle.std.proofs.Common.{◌≡◌, ℕ, ◌+◌, ◌-◌, ◌<◌, length, ◌∙◌, sym, ap, take, arith}
-use Rattle.std.proofs.lemmas.List.{take_all}
-use Rattle.run_journal.specs.WholeLines.{whole_lines}
-use Rattle.run_journal.proofs.Whole.{whole-take_feed, whole-take_other}
+use Rattle.std.proofs.{Common.{◌≡◌, ℕ, ◌+◌, ◌-◌, ◌<◌, length, ◌∙◌, sym, ap, take, arith}, lemmas.List.take_all}
+use Rattle.run_journal.{specs.WholeLines.whole_lines, proofs.Whole.{whole-take_feed, whole-take_other}}
 use Rattle.run_journal.proofs.opening.whole_len.Goals as goal
 
 pub loop-len-init : goal.loop-len-init

@@ -1,7 +1,6 @@
 use Rattle.std.proofs.Common.{◌≡◌, ◌+◌, ◌++◌, [], ◌∷◌, take, get_or, sym, subst, arith}
 use Rattle.std.proofs.lemmas.List.{take_all, take_more}
-use Rattle.run_journal.specs.Selecting.{Gets}
-use Rattle.run_journal.proofs.Selected.{few_undecided, gets-none, gets-more}
+use Rattle.run_journal.{specs.Selecting.Gets, proofs.Selected.{few_undecided, gets-none, gets-more}}
 use Rattle.run_journal.proofs.selection.select.Goals as goal
 
 pub loop-byte-init : goal.loop-byte-init

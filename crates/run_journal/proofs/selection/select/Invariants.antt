@@ -1,7 +1,5 @@
-use Rattle.std.proofs.Common.{◌+◌, ◌≤◌, length, take}
-use Rattle.std.specs.Vec.{vec_len, vec_capacity}
-use Rattle.run_journal.specs.declared.selection.TheConstants.{DECIDING}
-use Rattle.run_journal.specs.Selecting.{Gets, undecided}
+use Rattle.std.{proofs.Common.{◌+◌, ◌≤◌, length, take}, specs.Vec.{vec_len, vec_capacity}}
+use Rattle.run_journal.specs.{declared.selection.TheConstants.DECIDING, Selecting.{Gets, undecided}}
 use Rattle.run_journal.proofs.selection.select.Given as goal
 
 abbrev pub invariant-loop-byte : goal.invariant-loop-byte

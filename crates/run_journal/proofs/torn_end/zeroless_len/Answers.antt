@@ -1,6 +1,5 @@
 use Rattle.std.proofs.Common.{◌≡◌, ℕ, ◌+◌, ◌-◌, take, sym, ap, ◌∙◌, arith}
-use Rattle.run_journal.specs.TornEnds.{without_zeros}
-use Rattle.run_journal.proofs.TornEnds.{unzeroed-take_zero, unzeroed-take_other}
+use Rattle.run_journal.{specs.TornEnds.without_zeros, proofs.TornEnds.{unzeroed-take_zero, unzeroed-take_other}}
 use Rattle.run_journal.proofs.torn_end.zeroless_len.Goals as goal
 
 pub loop-len-preserved : goal.loop-len-preserved

@@ -9,7 +9,7 @@ pub returns : goal.returns
 returns c =
     let q = c.args.question.now in
     let s = c.args.self.now in
-    let is : IsArc (nodes q) c.side-arc.result = subst (IsArc (nodes q)) (sym c.side-arc.ensures) (side_arc q c.args.side.pair c.args.side.one c.requires.sound c.requires.pair) in
+    let is : IsArc (nodes q) c.side-arc.result = subst (IsArc (nodes q)) (sym c.side-arc.ensures) (side_arc q c.args.side.pair c.args.side.one c.requires.branch.sound c.requires.pair) in
     deciding q s (record { state = s.state; reach = c.connect.new.self; decisions = _ }) c.args.side.pair c.args.side.one c.side-arc.result c.side-arc.ensures c.requires.branch c.requires.pair refl
     (ap (λ (x : Decision). set s.decisions.items c.args.side.pair x) c.decision_of.ensures) c.connect.ensures.nodes
     (λ w later. rises_connected s.reach c.connect.new.self c.side-arc.result.from c.side-arc.result.to w c.connect.ensures.nodes (omega (arith, is.from, c.requires.branch.reach)) (omega (arith, is.to, c.requires.branch.reach)) c.connect.ensures.bits later)

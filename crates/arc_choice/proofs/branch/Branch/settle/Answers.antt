@@ -1,5 +1,5 @@
 use Rattle.std.proofs.Common.{Option, IfSome, subst}
-use Rattle.arc_choice.specs.declared.choosing.Side.{Side}
+use Rattle.arc_choice.specs.declared.question.Side.{Side}
 use Rattle.arc_choice.specs.Choices.{Keeps, side_of}
 use Rattle.arc_choice.specs.Branches.{IsForced}
 use Rattle.arc_choice.proofs.Narrowing.{copied, narrows_by, narrows_then}
@@ -12,4 +12,4 @@ returns-in_ok-decide-in-Some c =
     let side = c.in-Some.side in
     let forced : IsForced q s side = subst (λ (o : Option Side). IfSome o (λ side. IsForced q s side)) c.in-Some.is c.in_ok-side.ensures in
     narrows_by (λ w. Keeps w (side_of q side.pair side.one)) q s c.decide.new.self forced.keeps
-    (narrows_then (λ w. Keeps w (side_of q side.pair side.one)) q s c.close.new.self c.decide.new.self (copied q s c.close.new.self c.requires.branch c.close.ensures) c.in_ok-decide-in-Some.ensures)
+    (narrows_then (λ w. Keeps w (side_of q side.pair side.one)) q s c.close.new.self c.decide.new.self (copied q s c.close.new.self c.requires c.close.ensures) c.in_ok-decide-in-Some.ensures)

@@ -4,7 +4,7 @@ use Rattle.arc_choice.proofs.Narrowing.{narrows_none, narrows_on, none_after}
 use Rattle.arc_choice.proofs.branch.Branch.settle_all.Goals as goal
 
 pub loop-init : goal.loop-init
-loop-init c = narrows_none Always c.args.question.now c.args.self.now c.requires.branch
+loop-init c = narrows_none Always c.args.question.now c.args.self.now c.requires
 
 pub loop-preserved : goal.loop-preserved
 loop-preserved c = narrows_on Always c.args.question.now c.args.self.now c.loop.self c.settle.new.self c.loop.invariant c.in_ok-at.ensures

@@ -1,8 +1,7 @@
 use Rattle.std.proofs.Common.{List, subst}
 use Rattle.byte_streams.specs.Lent.{WroteTo, WroteOneTo}
 use Rattle.cell_control.specs.Control.{Control}
-use Rattle.cell_drive.specs.ProtocolCells.{HubOfCells, HubCloses}
-use Rattle.cell_drive.specs.Numbers.{closing_text, planned_cells}
+use Rattle.cell_drive.specs.{ProtocolCells.{HubOfCells, HubCloses}, Numbers.{closing_text, planned_cells}}
 use Rattle.cell_drive.proofs.Closing.{closing_is}
 use Rattle.cell_drive.proofs.hub.CellsLineHandler.put_closing.Goals as goal
 

@@ -1,7 +1,6 @@
 use Rattle.std.proofs.Common.{subst}
 use Rattle.byte_streams.specs.Lent.{WroteOneTo}
-use Rattle.cell_drive.specs.Session.{SessionState, SessionCloses}
-use Rattle.cell_drive.specs.LineAnswers.{closing_line}
+use Rattle.cell_drive.specs.{Session.{SessionState, SessionCloses}, LineAnswers.closing_line}
 use Rattle.cell_drive.proofs.Sessions.{closes}
 use Rattle.cell_drive.proofs.session.SessionLineHandler.put_closing.Goals as goal
 

@@ -11,9 +11,9 @@ use Rattle.command_words.proofs.words.changes.add_changes.Goals as goal
 pub returns-in_default-clause-added : goal.returns-in_default-clause-added
 returns-in_default-clause-added c =
     let rows = rows_of (found_of c.args.matches.now) in
-    let told = map change_seen c.args.changes.now.items in
+    let before = map change_seen c.args.changes.now.items in
     let none = values_left_out (found_of c.args.matches.now) c.option_of.result.now c.get_raw.result c.get_raw.ensures c.in_default.is ∙ ap (λ (id : List ℕ). values_of id rows) c.option_of.ensures in
-    sym (append-nil told) ∙ ap (λ (values : List (List ℕ)). told ++ asked_from c.args.released.now c.args.promised.now rows c.args.form 1 values) none
+    sym (append-nil before) ∙ ap (λ (values : List (List ℕ)). before ++ asked_from c.args.released.now c.args.promised.now rows c.args.form 1 values) none
 
 pub returns-in_default-clause-fits : goal.returns-in_default-clause-fits
 returns-in_default-clause-fits c =
@@ -33,11 +33,11 @@ pub returns-clause-added : goal.returns-clause-added
 returns-clause-added c =
     let rows = rows_of (found_of c.args.matches.now) in
     let asked = asked_from c.args.released.now c.args.promised.now rows c.args.form in
-    let told = map change_seen c.loop-place.changes.items in
+    let before = map change_seen c.loop-place.changes.items in
     let given = values_given (found_of c.args.matches.now) c.option_of.result.now c.get_raw.result c.in-Some.given c.get_raw.ensures c.in-Some.is ∙ ap (λ (id : List ℕ). values_of id rows) c.option_of.ensures in
-    sym (append-nil told)
-    ∙ ap (λ (values : List (List ℕ)). told ++ asked (c.loop-place.place + 1) values) (sym (from_end c.in-Some.given.now c.loop-place.place c.loop-place-test.false))
-    ∙ c.loop-place.invariant.told
+    sym (append-nil before)
+    ∙ ap (λ (values : List (List ℕ)). before ++ asked (c.loop-place.place + 1) values) (sym (from_end c.in-Some.given.now c.loop-place.place c.loop-place-test.false))
+    ∙ c.loop-place.invariant.so_far
     ∙ ap (λ (values : List (List ℕ)). map change_seen c.args.changes.now.items ++ asked 1 values) given
 
 pub returns-clause-fits : goal.returns-clause-fits

@@ -1,7 +1,7 @@
 use Rattle.std.proofs.Common.{◌≡◌, ◌∙◌, [], true, false, ap, sym}
 use Rattle.clap.specs.Words.{found_of, rows_of}
 use Rattle.clap.specs.declared.error.kind.ErrorKind.TheVariants.{ArgumentConflict, MissingRequiredArgument}
-use Rattle.command_words.specs.Choice.{is_twofold, lacks_log, refused_if, start_in}
+use Rattle.command_words.specs.Choice.{is_twofold, lacks_log, start_in}
 use Rattle.command_words.specs.declared.words.log_start.LogStart.{LogStart}
 use Rattle.command_words.proofs.words.Apart.{found_so, found_not}
 use Rattle.command_words.proofs.words.Reasons.{names_only}

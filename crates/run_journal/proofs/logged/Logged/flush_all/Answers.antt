@@ -1,11 +1,7 @@
 use Rattle.std.proofs.Common.{◌≡◌, ◌≤◌, [], ◌++◌, length, take, drop, Some, IfSome, Err, false, sym, ap, ◌∙◌, subst, arith, take-append-drop, append-nil}
-use Rattle.std.specs.Io.KnownBytes.{Appends, Keeps, append_known}
-use Rattle.std.specs.Vec.{vec_capacity}
-use Rattle.std.proofs.KnownBytes.{append_known-moved}
-use Rattle.std.proofs.lemmas.List.{take_all}
-use Rattle.run_journal.specs.LogFiles.{Leaves}
-use Rattle.run_journal.specs.Selecting.{Gets}
-use Rattle.run_journal.specs.Logged.{Held, fault_if}
+use Rattle.std.proofs.{KnownBytes.append_known-moved, lemmas.List.take_all}
+use Rattle.std.specs.{Io.KnownBytes.{Appends, Keeps, append_known}, Vec.vec_capacity}
+use Rattle.run_journal.specs.{LogFiles.Leaves, Selecting.Gets, Logged.{Held, fault_if}}
 use Rattle.run_journal.proofs.Steps.{not_kept, not_shown, shown, all_pending, on_log_fault, on_output_fault}
 use Rattle.run_journal.proofs.logged.Logged.flush_all.Goals as goal
 

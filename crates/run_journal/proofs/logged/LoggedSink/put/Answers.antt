@@ -1,12 +1,10 @@
 use Rattle.std.proofs.Common.{◌≡◌, ◌≤◌, false, ◌++◌, length, take, drop, sym, ap, ◌∙◌, subst, arith, rules, length-append}
-use Rattle.std.specs.Vec.{vec_capacity}
-use Rattle.std.specs.Io.KnownBytes.{Keeps, append_known}
-use Rattle.std.proofs.KnownBytes.{Keeps-refl, append_known-grown}
-use Rattle.std.proofs.lemmas.List.{length-take, drop-append-le}
+use Rattle.std.proofs.{KnownBytes.{Keeps-refl, append_known-grown}, lemmas.List.{length-take, drop-append-le}}
+use Rattle.std.specs.{Vec.vec_capacity, Io.KnownBytes.{Keeps, append_known}}
 use Rattle.run_journal.specs.Logged.{Held}
 use Rattle.run_journal.proofs.Steps.{gathers}
-use Rattle.run_journal.proofs.logged.LoggedSink.put.Goals as goal
 use Rattle.run_journal.proofs.logged.LoggedSink.put.Goals.{then-is_flushed_first+in_ok-flush, else-is_flushed_first}
+use Rattle.run_journal.proofs.logged.LoggedSink.put.Goals as goal
 
 pub invariant_of-self : goal.invariant_of-self
 invariant_of-self g c =

@@ -1,4 +1,0 @@
-use Rattle.command_answers.proofs.both.Both.shaped.Goals as goal
-
-pub returns-in-Err-clause-first_fault : goal.returns-in-Err-clause-first_fault
-returns-in-Err-clause-first_fault c = rw (← c.self.view_is) c.in-Err.ensures.first_fault

@@ -1,0 +1,112 @@
+//! The instance and the plan that a command reads first, and its other files.
+
+ghost use Rattle.std.specs.Prelude.{◌≡◌, IfOk, IfErr};
+ghost use Rattle.shop_base.specs.Plan.{PlannedShop, IsWellShaped};
+ghost use Rattle.shop_base.specs.ShapeFault.{IsFirstShapeFault};
+ghost use Rattle.command_answers.specs.Steps.{IsOrMemory};
+ghost use Rattle.command_answers.specs.Serial.{serially};
+ghost use Rattle.command_answers.specs.Commands.{ReadsBoth, Shapes};
+
+use crate::answer::Outcome;
+use crate::readings::{instance, plan};
+use crate::texts::Texts;
+use plan_seek::serial_orders;
+use shop_base::{Moment, Plan, ShapeFault, Shaped, Shop, shape};
+use std::alloc::Global;
+use std::marker::Model;
+
+/// The paths of an instance and of a plan for it. Without a name the first holds one instance, else a collection with
+/// an instance of this name.
+#[derive(Drop)]
+pub struct InputPaths<'a> {
+    pub instance: &'a str,
+    pub name: Option<&'a [u8]>,
+    pub plan: &'a str,
+}
+
+impl<'a> Model for InputPaths<'a> {
+    ghost use Rattle.std.specs.Option.{option_copied};
+    ghost use Rattle.command_answers.specs.Commands.{InputPaths};
+
+    ghost Value = { InputPaths };
+
+    ghost view = { λ p. record { path = p.instance.now; name = option_copied p.name; plan = p.plan.now } };
+}
+
+/// The files of an instance and of a plan for it, and that of the names for people, if one is given.
+#[derive(Drop)]
+pub struct Files<'a> {
+    pub pair: InputPaths<'a>,
+    pub names: Option<&'a str>,
+}
+
+/// What is ahead of a run: its files, its log, and the present moment, if another one than the log's last is given.
+#[derive(Drop)]
+pub struct Ahead<'a> {
+    pub files: Files<'a>,
+    pub log: &'a str,
+    pub at: Option<Moment>,
+}
+
+/// A shop and a plan for it, as two texts give them.
+#[derive(Drop)]
+pub(crate) struct ParsedInputs {
+    pub shop: Shop,
+    pub plan: Plan,
+}
+
+impl Model for ParsedInputs {
+    ghost use Rattle.shop_base.specs.Plan.{PlannedShop};
+
+    ghost Value = { PlannedShop };
+
+    ghost view = { λ b. record { shop = b.shop; plan = b.plan } };
+}
+
+impl ParsedInputs {
+    /// The plan, if it is well shaped, else its first fault.
+    pub(crate) fn shaped(self) -> Result<Shaped, ShapeFault>
+        ensures shaped { IfOk result (λ shaped. (shaped ≡ self) × IsWellShaped self) }
+        ensures first_fault { IfErr result (IsFirstShapeFault self) }
+    {
+        match shape(self.shop, self.plan) {
+            Ok(shaped) => Ok(shaped),
+            Err(refused) => Err(refused.fault),
+        }
+    }
+}
+
+/// The instance and the plan in the two files.
+pub(crate) fn read_inputs<T: Texts>(
+    alloc: Global,
+    texts: &mut T,
+    pair: &InputPaths<'_>,
+) -> Outcome<ParsedInputs>
+    ensures { ReadsBoth T.gives pair.now texts.old result texts.new }
+{
+    let shop = instance(alloc, texts, pair.instance, pair.name)?.shop;
+    let plan = plan(alloc, texts, pair.plan)?;
+    Ok(ParsedInputs { shop, plan })
+}
+
+/// The plan of a file, if it is well shaped for the instance of another, else its first fault.
+pub fn shape_files<T: Texts>(
+    alloc: Global,
+    texts: &mut T,
+    pair: &InputPaths<'_>,
+) -> Outcome<Result<Shaped, ShapeFault>>
+    ensures { Shapes T.gives pair.now texts.old result texts.new }
+{
+    let both = read_inputs(alloc, texts, pair)?;
+    Ok(both.shaped())
+}
+
+/// The serial plan with the numbers of this one, whose orders are dropped.
+pub(crate) fn serially(alloc: Global, both: ParsedInputs) -> Outcome<ParsedInputs>
+    ensures { IsOrMemory (λ serial. serial ≡ serially both) result }
+{
+    let ParsedInputs { shop, plan } = both;
+    let order = serial_orders(alloc, &shop)?;
+    let plan = Plan { order, ..plan };
+    Ok(ParsedInputs { shop, plan })
+}

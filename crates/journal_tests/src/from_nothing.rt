@@ -1,0 +1,139 @@
+//! Runs with a log and an output whose bytes are known, so that what is said of these is asked for, and used.
+
+ghost use Rattle.std.specs.Prelude.{◌≡◌, [], None, Some, true, false, IfOk};
+ghost use Rattle.run_journal.specs.LogFiles.{IsDurable};
+ghost use Rattle.logged_drive.specs.LoggedRuns.{IsAllInLog, KeepsShown};
+ghost use Rattle.journal_tests.specs.Memory.{CrashStates};
+ghost use Rattle.journal_tests.specs.Shown.{HasWhatIsShown};
+
+use crate::memory_log::MemoryLog;
+use byte_streams::{Buffered, BufferedSink, FromRead, IntoSink, Sink};
+use cell_drive::{Begun, DriveEnd, Protocol, Replayed, RestEnd, begin_in, replay_in, take_up};
+use logged_drive::{LoggedEnd, drive_logged, go_on_logged};
+use plan_verifier::Verified;
+use run_journal::{FileFault, InitialState, LogFile, WritingRoom, read_log};
+use shop_base::Shaped;
+use std::alloc::Global;
+
+/// Neither the log nor the output had a whole line.
+#[derive(Drop)]
+struct NothingYet;
+
+impl InitialState for NothingYet {
+    ghost use Rattle.std.specs.Prelude.{[], Some};
+
+    ghost before = { Some ([], []) };
+}
+
+/// Drives a cell by these lines, with a log and an output that have no bytes.
+fn drive_from_nothing(
+    begun: Begun,
+    room: WritingRoom,
+    lines: &[u8],
+    log: MemoryLog,
+    output: Buffered<Vec<u8>>,
+) -> LoggedEnd<DriveEnd, Buffered<Vec<u8>>, MemoryLog>
+    requires log { (log.seen ≡ []) × (log.synced ≡ true) × (log.fault ≡ None) }
+    requires output { ⟦<Buffered<Vec<u8>> as Sink>⟧.written output ≡ Some [] }
+    requires shown { ⟦<Buffered<Vec<u8>> as BufferedSink>⟧.pending output ≡ [] }
+    ensures crash { KeepsShown [] [] (CrashStates result.log) (⟦<Buffered<Vec<u8>> as Sink>⟧.written result.output) }
+    ensures in_log { IfOk result.end (λ _. IsAllInLog [] [] (Some result.log.seen) (CrashStates result.log)
+        (⟦<Buffered<Vec<u8>> as Sink>⟧.written result.output)) }
+{
+    let mut reader = FromRead::new(lines);
+    drive_logged(begun, room, &mut reader, log, output, NothingYet)
+}
+
+/// Goes on with a run that was recovered from a log without a whole line, with an output that has no bytes.
+fn go_on_from_nothing(
+    run: Replayed,
+    room: WritingRoom,
+    protocol: Protocol,
+    lines: &[u8],
+    log: MemoryLog,
+    output: Buffered<Vec<u8>>,
+) -> LoggedEnd<RestEnd, Buffered<Vec<u8>>, MemoryLog>
+    requires log { (log.seen ≡ []) × IsDurable (Some log.seen) (CrashStates log) × (log.fault ≡ None) }
+    requires output { ⟦<Buffered<Vec<u8>> as Sink>⟧.written output ≡ Some [] }
+    requires shown { ⟦<Buffered<Vec<u8>> as BufferedSink>⟧.pending output ≡ [] }
+    ensures crash { KeepsShown [] [] (CrashStates result.log) (⟦<Buffered<Vec<u8>> as Sink>⟧.written result.output) }
+    ensures in_log { IfOk result.end (λ _. IsAllInLog [] [] (Some result.log.seen) (CrashStates result.log)
+        (⟦<Buffered<Vec<u8>> as Sink>⟧.written result.output)) }
+{
+    let mut reader = FromRead::new(lines);
+    go_on_logged(run, room, protocol, &mut reader, log, output, NothingYet)
+}
+
+/// What the log and the output have, once all is shown.
+fn both_at_end(
+    alloc: Global,
+    log: MemoryLog,
+    output: Buffered<Vec<u8>>,
+) -> Result<(Vec<u8>, Vec<u8>), FileFault>
+    requires { IsAllInLog [] [] (Some log.seen) (CrashStates log) (⟦<Buffered<Vec<u8>> as Sink>⟧.written output) }
+    ensures { IfOk result (λ both. HasWhatIsShown [] [] both.0.items both.1.items) }
+{
+    let (mut log, mut output) = (log, output);
+    if output.flush().is_err() {
+        return Err(FileFault::Log);
+    }
+    let bytes = log.read(alloc, 1000)?;
+    Ok((bytes, output.into_inner()))
+}
+
+/// What the log and the output have after a run of these lines from its start.
+pub fn driven_from_nothing(
+    alloc: Global,
+    verified: Verified,
+    protocol: Protocol,
+    lines: &[u8],
+) -> Result<(Vec<u8>, Vec<u8>), FileFault>
+    ensures { IfOk result (λ both. HasWhatIsShown [] [] both.0.items both.1.items) }
+{
+    let log = MemoryLog::new(Vec::new(alloc), 1000, 0);
+    let Ok(output) = Buffered::new(alloc, 16, Vec::new(alloc)) else {
+        return Err(FileFault::Memory);
+    };
+    let Ok(room) = WritingRoom::new(alloc) else {
+        return Err(FileFault::Memory);
+    };
+    let Ok(begun) = begin_in(alloc, verified, protocol) else {
+        return Err(FileFault::Memory);
+    };
+    let run = drive_from_nothing(begun, room, lines, log, output);
+    match run.end {
+        Ok(_) => both_at_end(alloc, run.log, run.output),
+        Err(_) => Err(FileFault::Log),
+    }
+}
+
+/// What they have after a run of these lines that is recovered from a log without bytes.
+pub fn gone_on_from_nothing(
+    alloc: Global,
+    shaped: Shaped,
+    protocol: Protocol,
+    lines: &[u8],
+) -> Result<(Vec<u8>, Vec<u8>), FileFault>
+    ensures { IfOk result (λ both. HasWhatIsShown [] [] both.0.items both.1.items) }
+{
+    let mut log = MemoryLog::new(Vec::new(alloc), 1000, 0);
+    let text = read_log(alloc, &mut log)?;
+    let Ok(recovered) = take_up(alloc, shaped, text.lines(), None) else {
+        return Err(FileFault::Log);
+    };
+    let Ok(output) = Buffered::new(alloc, 16, Vec::new(alloc)) else {
+        return Err(FileFault::Memory);
+    };
+    let Ok(room) = WritingRoom::new(alloc) else {
+        return Err(FileFault::Memory);
+    };
+    // There is nothing to be written again.
+    let Ok(recovered) = replay_in(recovered, protocol, &mut IntoSink::new(Vec::new(alloc))) else {
+        return Err(FileFault::Log);
+    };
+    let run = go_on_from_nothing(recovered, room, protocol, lines, log, output);
+    match run.end {
+        Ok(_) => both_at_end(alloc, run.log, run.output),
+        Err(_) => Err(FileFault::Log),
+    }
+}

@@ -1,0 +1,143 @@
+//! Runs over a file that fails at each of its calls, and what each crash leaves of it.
+
+use crate::MemoryLog;
+use byte_streams::{Buffered, BufferedSink, put_all};
+use run_journal::{LogFile, LogText, Logged, UnknownHistory, WritingRoom, cut_end, read_log};
+use std::alloc::Global;
+use std::test::Fail;
+
+/// What a log held as a crash left it.
+const HELD: &[&[u8]] = &[
+    b"",
+    b"report 0 arrive 0\n",
+    b"report 0 arrive 0\norder 0 0 ou",
+    b"report 0 arrive 0\nord\0\0\0",
+];
+
+/// What is answered, each part shown before the next one comes, and how many bytes of it a log gets.
+const PARTS: &[(&[u8], usize)] = &[
+    (b"\n", 1),
+    (b"report 1 arrive 1\nlate 1\norder 1 1 out 0\n", 41),
+    (b"refused 2 BadLine\n", 0),
+    (b"refused 3 Backwards\nreport 2 finish 1 0\n", 20),
+    (b"done 2\n", 0),
+];
+
+/// All of these that a log gets.
+const EVENTS: &[u8] = b"\nreport 1 arrive 1\nlate 1\norder 1 1 out 0\nreport 2 finish 1 0\n";
+
+/// How many bytes an append that fails appends.
+const TORN: &[usize] = &[0, 5, 100];
+
+/// A log as a run leaves it that some call has ended, and how many bytes of it were shown at least.
+fn run(alloc: Global, held: &[u8], calls: usize, torn: usize) -> Result<(MemoryLog, usize), Fail> {
+    let mut log = MemoryLog::new(held.to_vec(alloc)?, calls, torn);
+    let Ok(text) = read_log(alloc, &mut log) else {
+        return Ok((log, 0));
+    };
+    let Ok(()) = cut_end(&mut log, &text) else {
+        return Ok((log, 0));
+    };
+    let output = Buffered::new(alloc, 16, Vec::new(alloc))?;
+    let mut logged = Logged::new(WritingRoom::new(alloc)?, log, output, UnknownHistory);
+    let mut shown = 0_usize;
+    for (bytes, events) in PARTS {
+        if put_all(&mut logged, bytes).is_ok() && logged.flush().is_ok() {
+            shown = shown.saturating_add(*events);
+        }
+    }
+    let (log, _) = logged.into_parts();
+    Ok((log, shown))
+}
+
+/// Whether the whole lines of what is left are those that were held, and then events, so many bytes at least.
+fn is_kept(left: &[u8], held: &[u8], shown: usize) -> bool {
+    match left.strip_prefix(held) {
+        Some(events) => EVENTS.starts_with(events) && events.len() >= shown,
+        None => false,
+    }
+}
+
+/// Whether each crash keeps the lines that were held, and what was shown.
+fn keeps_all(alloc: Global, log: &MemoryLog, held: &[u8], shown: usize) -> Result<bool, Fail> {
+    let (least, most) = log.bounds();
+    for count in least..most.saturating_add(1) {
+        for unwritten in 0..3 {
+            let left = LogText::new(log.after_crash(alloc, count, unwritten)?);
+            if !is_kept(left.lines(), held, shown) {
+                return Ok(false);
+            }
+        }
+    }
+    Ok(true)
+}
+
+/// Whether it is so wherever a run ends.
+fn all_runs_keep(alloc: Global, held: &[u8]) -> Result<bool, Fail> {
+    let lines = LogText::new(held.to_vec(alloc)?);
+    for calls in 0..14 {
+        for torn in TORN {
+            let (log, shown) = run(alloc, held, calls, *torn)?;
+            if !keeps_all(alloc, &log, lines.lines(), shown)? {
+                return Ok(false);
+            }
+        }
+    }
+    Ok(true)
+}
+
+#[test]
+fn each_crash_keeps_what_was_shown(rt: HostRuntime) -> Result<(), Fail> {
+    for held in HELD {
+        assert!(rt; all_runs_keep(rt.alloc(), held)?);
+    }
+    Ok(())
+}
+
+#[test]
+fn a_whole_run_is_in_the_log(rt: HostRuntime) -> Result<(), Fail> {
+    let (mut log, shown) = run(rt.alloc(), b"order 0 0 out 0\nrepo", 14, 0)?;
+    assert_eq!(rt; shown, 62);
+    let bytes = log.read(rt.alloc(), 78)?;
+    assert_eq!(rt;
+        bytes.strip_prefix(b"order 0 0 out 0\n".as_slice()),
+        Some(EVENTS)
+    );
+    assert!(rt; log.read(rt.alloc(), 77).is_err());
+    Ok(())
+}
+
+#[test]
+fn many_answers_are_synced_at_once(rt: HostRuntime) -> Result<(), Fail> {
+    let alloc = rt.alloc();
+    let log = MemoryLog::new(Vec::new(alloc), 40, 0);
+    let output = Buffered::new(alloc, 16, Vec::new(alloc))?;
+    let mut logged = Logged::new(WritingRoom::new(alloc)?, log, output, UnknownHistory);
+    for _ in 0..1000 {
+        put_all(&mut logged, b"report 1000000000 finish 100 50\n")?;
+        put_all(&mut logged, b"order 1000000000 100 50 51\n")?;
+        put_all(&mut logged, b"order 1000000000 101 49 50\n")?;
+    }
+    logged.flush()?;
+    let (log, output) = logged.into_parts();
+    assert_eq!(rt; output.into_inner().len(), 86_000);
+    assert_eq!(rt; log.bounds(), (86_000, 86_000));
+    assert_eq!(rt; log.calls_left(), 36);
+    Ok(())
+}
+
+#[test]
+fn an_answer_that_adds_nothing_is_not_synced(rt: HostRuntime) -> Result<(), Fail> {
+    let alloc = rt.alloc();
+    let log = MemoryLog::new(Vec::new(alloc), 2, 0);
+    let output = Buffered::new(alloc, 16, Vec::new(alloc))?;
+    let mut logged = Logged::new(WritingRoom::new(alloc)?, log, output, UnknownHistory);
+    for _ in 0..3 {
+        put_all(&mut logged, b"refused 1 BadLine\n")?;
+        logged.flush()?;
+    }
+    let (log, output) = logged.into_parts();
+    assert_eq!(rt; output.into_inner().len(), 54);
+    assert_eq!(rt; log.calls_left(), 2);
+    Ok(())
+}

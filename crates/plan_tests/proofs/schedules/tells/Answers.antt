@@ -1,5 +1,0 @@
-use Rattle.plan_verifier.proofs.Reasons.{evident}
-use Rattle.plan_tests.proofs.schedules.tells.Goals as goal
-
-pub schedule-requires : goal.schedule-requires
-schedule-requires c = evident _ c.in_ok-verdict.verdict c.in_ok-verdict.ensures

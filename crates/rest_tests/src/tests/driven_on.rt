@@ -1,0 +1,43 @@
+//! A run that is driven on from a cell, and handed over to a plan, where there is memory enough.
+
+use super::rests::{begun, planned};
+use cell_control::{Report, RestController, TourneyDues};
+use cell_tables::WorkCell;
+use shop_base::Shaped;
+use std::alloc::Global;
+use std::test::Fail;
+
+/// Whether job 0 is sent in once it has come, and what is kept and left then.
+fn sends_in(controller: &mut RestController<TourneyDues>) -> bool {
+    let report = Report::Arrive { job: 0, at: 0 };
+    controller.report(report).is_ok()
+        && controller.orders().len() == 1
+        && controller.leave_by(1) == Some(12)
+        && controller.reports_left() == 7
+}
+
+/// Whether the plan takes over at moment 2, with nothing to move, and what is kept and left then.
+fn takes_over(alloc: Global, controller: &mut RestController<TourneyDues>, shaped: Shaped) -> bool {
+    controller.hand_over(alloc, shaped, 2).is_ok()
+        && controller.orders().is_empty()
+        && controller.leave_by(0) == Some(5)
+        && controller.reports_left() == 7
+}
+
+/// Whether a controller begins with the cell at moment 0, and does both.
+fn goes_on(alloc: Global, cell: WorkCell<Shaped>, shaped: Shaped) -> bool {
+    match RestController::begin(alloc, cell, 0) {
+        Ok(mut controller) => {
+            sends_in(&mut controller) && takes_over(alloc, &mut controller, shaped)
+        }
+        Err(_) => false,
+    }
+}
+
+#[test]
+fn the_rest_of_a_run_is_driven_on(rt: HostRuntime) -> Result<(), Fail> {
+    let cell = begun(rt.alloc())?;
+    let shaped = planned(rt.alloc())?;
+    assert!(rt; goes_on(rt.alloc(), cell, shaped));
+    Ok(())
+}
