@@ -122,6 +122,22 @@ visits_none routes =
     }
 
 module _ (visits : List (List Bool)) (routes : List (List Step)) (n : ℕ) (below : AreVisitsBelow visits routes n) where
+  -- one more job, the machines of whose route are marked
+  pub visits_more : (row : List Bool) → n < length visits → AreVisited row (route_at routes n) → AreVisitsBelow (set visits n row) routes (n + 1)
+  visits_more row inside visited = record {
+    marks = λ j lt. elim (cases_order j n) [
+      | inl same ↦ rw (same, get_or-set_same visits n row [] inside) visited
+      | inr other ↦ (
+          let lower : j < n = elim other [ inl l ↦ omega arith | inr g ↦ omega arith ] in
+          let apart : j ≢ n = omega arith in
+          rw (get_or-set_other visits n j row [] apart) (below.marks j lower))
+    ];
+    unset = λ j le lt.
+        let apart : j ≢ n = omega arith in
+        get_or-set_other visits n j row [] apart ∙ below.unset j (omega arith) (omega (arith, length-set visits n row));
+    size = length-set visits n row ∙ below.size;
+  }
+
   -- there are no more jobs
   pub visits_all : length routes ≤ n → AreVisits visits routes
   visits_all end = λ j within. elim (cases_lt j n) [

@@ -48,7 +48,6 @@ impl Model for Shop {
 
 impl Shop {
     /// The shop with these machines and routes, one route per job. On a refusal the routes are dropped.
-    #[tactic(auto, using(crate::proofs::Refusals::fault_refutes, crate::proofs::OneFault::fault_once))]
     pub fn new(machines: u32, routes: Vec<Vec<Step>>) -> Result<Shop, ShopFault>
         ensures shop { IfOk result (λ shop. shop ≡ record { machines = machines; routes = lists_of routes.items }) }
         ensures sound { OnOk result (IsShop (record { machines = machines; routes = lists_of routes.items })) }
