@@ -8,7 +8,7 @@ use crate::work_cell::WorkCell;
 use shop_base::{JobNo, MachineNo, Moment, Planned, Spot};
 
 /// The state of a job or a machine.
-#[derive(Clone, Copy, Debug, PartialEq, Eq)]
+#[derive(Clone, Copy, Debug)]
 pub enum Standing {
     /// The job hasn't arrived; it should by its release.
     Awaited {

@@ -1,0 +1,5 @@
+use Rattle.std.proofs.Common.{rules}
+use Rattle.cell_tables.proofs.work_cell.WorkCell.machine_of.Goals as goal
+
+pub returns : goal.returns
+returns g c = search rules
