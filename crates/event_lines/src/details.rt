@@ -12,7 +12,7 @@ use shop_base::{JobNo, MachineNo, Moment, Spot};
 use text_lines::LineText;
 
 /// What the controller has instead of what was reported.
-#[derive(Clone, Copy, Debug, PartialEq, Eq)]
+#[derive(Clone, Copy, Debug)]
 pub enum Detail {
     /// Nothing is added.
     Nothing,
@@ -23,7 +23,7 @@ pub enum Detail {
 }
 
 /// What should have ended before a moment: one, and how many others.
-#[derive(Clone, Copy, Debug, PartialEq, Eq)]
+#[derive(Clone, Copy, Debug)]
 pub struct Overdue {
     pub first: Standing,
     pub others: u32,

@@ -11,7 +11,7 @@ use shop_base::{JobNo, MachineNo, Moment, Report};
 use text_lines::after_prefix;
 
 /// What is said to have ended, from version 2 of the lines on.
-#[derive(Clone, Copy, Debug, PartialEq, Eq)]
+#[derive(Clone, Copy, Debug)]
 pub enum Claim {
     /// A report.
     Report(Report),
@@ -40,7 +40,7 @@ impl Claim {
 }
 
 /// What a line asks for, from version 2 of the lines on.
-#[derive(Clone, Copy, Debug, PartialEq, Eq)]
+#[derive(Clone, Copy, Debug)]
 pub enum Request {
     /// That this is taken to have ended.
     Claim(Claim),
