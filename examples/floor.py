@@ -376,7 +376,7 @@ class Run:
         self.floor = Floor(options, rng, self.gateway)
         self.process, self.starts = None, 0  # the gateway, and when it starts
         self.kills = sorted(rng.randint(0, self.floor.driven_by(0).totals()[0]) for _ in range(options.kills))  # after how many ends
-        self.moments, self.told = [], 0  # when something is killed, and after how many changes that was chosen
+        self.moments, self.heard = [], 0  # when something is killed, and after how many changes that was chosen
         self.before, self.since = None, 0  # what had happened, and since when nothing has
 
     def go(self):
@@ -406,8 +406,8 @@ class Run:
         if self.kills and len(self.floor.ended) >= self.kills[0]:
             del self.kills[0]
             self.moments.append(now + self.rng.uniform(0, 5))
-        if len(self.floor.changes) > self.told:
-            self.told += 1
+        if len(self.floor.changes) > self.heard:
+            self.heard += 1
             if self.options.kills and self.rng.random() < 0.5:
                 self.moments.append(now + self.rng.uniform(0, 20))
         if self.moments and now >= min(self.moments) and self.process and self.process.is_alive():

@@ -3,7 +3,7 @@
      drive INSTANCE PLAN [SEED [LOG]]
 
    Without a seed, or with 0, each activity ends when it is due; with another one each ends early, in time or late, as
-   the seed has it. With a log, which may have been cut anywhere, the run is taken up: the reports that stand whole in it
+   the seed has it. With a log, which may have been cut anywhere, the run is recovered: the reports that stand whole in it
    are reported again, and it goes on from there. Ends with status 0 where the run has ended in time, with 11, which is no
    status of a call, where it was late, with 2 where the words are wrong, with the status of cellplan_cell_new where there
    is no cell, with 5 where a file can't be read, a line of the log is damaged or the log can't be written, and with the
@@ -155,13 +155,13 @@ static const char *after_number(const char *text, uint64_t most, uint64_t *numbe
 /* Reports again what a line of the log tells. */
 static void report_again(struct floor *floor, const char *line, const char *end) {
   uint64_t at = 0, job = 0, machine = 0;
-  const char *told = after_number(after_word(line, "report "), UINT64_MAX, &at);
-  const char *finish = after_number(after_word(told, " finish "), UINT32_MAX, &job);
+  const char *event = after_number(after_word(line, "report "), UINT64_MAX, &at);
+  const char *finish = after_number(after_word(event, " finish "), UINT32_MAX, &job);
   if (after_number(after_word(finish, " "), UINT32_MAX, &machine) == end)
     report(floor, CELLPLAN_FINISH, (uint32_t)job, (uint32_t)machine, at);
-  else if (after_number(after_word(told, " arrive "), UINT32_MAX, &job) == end)
+  else if (after_number(after_word(event, " arrive "), UINT32_MAX, &job) == end)
     report(floor, CELLPLAN_ARRIVE, (uint32_t)job, 0, at);
-  else if (after_number(after_word(told, " clean "), UINT32_MAX, &machine) == end)
+  else if (after_number(after_word(event, " clean "), UINT32_MAX, &machine) == end)
     report(floor, CELLPLAN_CLEAN, 0, (uint32_t)machine, at);
   else
     stop("a line of the log is damaged", 5);

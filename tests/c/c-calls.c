@@ -31,9 +31,9 @@ static int missed;
 #define TEXT(text) (const uint8_t *)(text), strlen(text)
 #define NO_NAME nothing, 0
 
-static void same(const char *what, uint64_t told, uint64_t wanted) {
-  if (told == wanted) return;
-  printf("%s: %llu and not %llu\n", what, (unsigned long long)told, (unsigned long long)wanted);
+static void same(const char *what, uint64_t got, uint64_t wanted) {
+  if (got == wanted) return;
+  printf("%s: %llu and not %llu\n", what, (unsigned long long)got, (unsigned long long)wanted);
   missed++;
 }
 
@@ -85,14 +85,14 @@ static int begun_again(struct cellplan_cell *cell, uint32_t ended[2]) {
   size_t count = 0;
   bool late = false;
   ended[0] = cellplan_cell_new(TEXT(two), NO_NAME, TEXT(in_time), cell);
-  uint32_t told = ended[0] == CELLPLAN_GOOD ? CELLPLAN_GOOD : CELLPLAN_NO_CELL;
-  int bad = cellplan_cell_report(cell, CELLPLAN_ARRIVE, 0, 0, 3, orders, 2, &count, &late, &detail) != told;
+  uint32_t got = ended[0] == CELLPLAN_GOOD ? CELLPLAN_GOOD : CELLPLAN_NO_CELL;
+  int bad = cellplan_cell_report(cell, CELLPLAN_ARRIVE, 0, 0, 3, orders, 2, &count, &late, &detail) != got;
   ended[1] = cellplan_cell_new(TEXT(two), NO_NAME, TEXT(in_time), cell);
   if (ended[1] == CELLPLAN_GOOD)
-    told = CELLPLAN_GOOD;
+    got = CELLPLAN_GOOD;
   else
-    wanted = told == CELLPLAN_GOOD ? 3 : 9;
-  bad |= cellplan_cell_now(cell, &at) != told || at != wanted;
+    wanted = got == CELLPLAN_GOOD ? 3 : 9;
+  bad |= cellplan_cell_now(cell, &at) != got || at != wanted;
   return bad;
 }
 
@@ -206,11 +206,11 @@ static int once(void) {
 static void reported(struct cellplan_cell *cell, uint32_t kind, uint32_t job, uint32_t machine, uint64_t at, uint32_t status,
                      uint64_t detail, size_t count, bool late) {
   struct cellplan_order orders[4];
-  size_t told = 9;
+  size_t got = 9;
   bool was_late = !late;
   uint64_t named = 9;
-  same("a report", cellplan_cell_report(cell, kind, job, machine, at, orders, 4, &told, &was_late, &named), status);
-  same("its orders", told, count);
+  same("a report", cellplan_cell_report(cell, kind, job, machine, at, orders, 4, &got, &was_late, &named), status);
+  same("its orders", got, count);
   same("what it names", named, detail);
   same("late", was_late, late);
 }
@@ -285,7 +285,7 @@ static void driven(struct cellplan_cell *cell) {
   read_of_all(cell);
 }
 
-/* A report is taken whatever the room, and its other orders are had afterwards. */
+/* A report is accepted whatever the room, and its other orders are had afterwards. */
 static void beyond_the_room(struct cellplan_cell *cell) {
   struct cellplan_order orders[2];
   size_t count = 9;
@@ -421,7 +421,7 @@ static void not_over(struct cellplan_cell *cell, const char *instance, const cha
   same("that of before", now, 3);
 }
 
-/* Each reason for which a cell that job 0 has entered at moment 3 isn't handed over; the first that holds is told. */
+/* Each reason for which a cell that job 0 has entered at moment 3 isn't handed over; the first that holds is got. */
 static void never_over(struct cellplan_cell *cell) {
   reported(cell, CELLPLAN_ARRIVE, 0, 0, 3, CELLPLAN_GOOD, 0, 1, true);
   not_over(cell, "x", "x", 1000000000001u, CELLPLAN_MOMENT_TOO_LARGE);
@@ -434,7 +434,7 @@ static void never_over(struct cellplan_cell *cell) {
 }
 
 /* What a call tells of the rest at a moment, its status, and that one byte less is no room for it. */
-static void told(uint32_t (*call)(struct cellplan_cell *, uint64_t, uint8_t *, size_t, size_t *), struct cellplan_cell *cell, uint64_t at,
+static void got(uint32_t (*call)(struct cellplan_cell *, uint64_t, uint8_t *, size_t, size_t *), struct cellplan_cell *cell, uint64_t at,
                  uint32_t status, const char *text) {
   uint8_t room[512];
   size_t length = 7;
@@ -480,15 +480,15 @@ static void over(struct cellplan_cell *cell) {
   same("at 9", at, 9);
   same("job 1 leaves", cellplan_cell_leaves(cell, 1, &at), CELLPLAN_GOOD);
   same("at 6", at, 6);
-  told(cellplan_cell_check, cell, 2, CELLPLAN_GOOD, "accepted makespan 9 leaves 9 6\n");
-  told(cellplan_cell_check, cell, 7, CELLPLAN_GOOD, "accepted makespan 10 leaves 10 7\n");
-  told(cellplan_cell_schedule, cell, 2, CELLPLAN_GOOD,
+  got(cellplan_cell_check, cell, 2, CELLPLAN_GOOD, "accepted makespan 9 leaves 9 6\n");
+  got(cellplan_cell_check, cell, 7, CELLPLAN_GOOD, "accepted makespan 10 leaves 10 7\n");
+  got(cellplan_cell_schedule, cell, 2, CELLPLAN_GOOD,
        "accepted makespan 9 leaves 9 6\njob 0 arrives 2 by 17\njob 0 on machine 0 from 6 to 9 by 20 leaves 9\n"
        "job 1 on machine 0 since 2 to 6 by 17 leaves 6\n");
   same("once more", cellplan_cell_hand_over(cell, TEXT(line_of_two), NO_NAME, TEXT(in_a_hurry), 2, orders, 2, &count), CELLPLAN_GOOD);
   same("with no orders", count, 0);
-  told(cellplan_cell_check, cell, 2, CELLPLAN_REFUSED, "refused late 0 9 1.1 0.0 0.1\n");
-  told(cellplan_cell_schedule, cell, 2, CELLPLAN_REFUSED,
+  got(cellplan_cell_check, cell, 2, CELLPLAN_REFUSED, "refused late 0 9 1.1 0.0 0.1\n");
+  got(cellplan_cell_schedule, cell, 2, CELLPLAN_REFUSED,
        "refused late 0 9 1.1 0.0 0.1\njob 0 arrives 2\njob 0 on machine 0 from 6 to 9 leaves 9\njob 1 on machine 0 since 2 to 6 leaves 6\n");
 }
 
@@ -505,7 +505,7 @@ static void over_to_the_end(struct cellplan_cell *cell) {
   reported(cell, CELLPLAN_FINISH, 0, 0, 9, CELLPLAN_GOOD, 0, 1, false);
   same("done then", cellplan_cell_is_done(cell, &yes), CELLPLAN_GOOD);
   same("it is done then", yes, true);
-  told(cellplan_cell_check, cell, 9, CELLPLAN_GOOD, "accepted makespan 9 leaves 9 6\n");
+  got(cellplan_cell_check, cell, 9, CELLPLAN_GOOD, "accepted makespan 9 leaves 9 6\n");
 }
 
 static void named(uint32_t number, const char *wanted) {
@@ -575,7 +575,7 @@ static int asked(void) {
   gone(&cells[5]);
   without_a_cell(&none);
   names();
-  said("told\n");
+  said("got\n");
   for (int i = 0; i < 6; i++) cellplan_cell_free(&cells[i]);
   return missed != 0;
 }

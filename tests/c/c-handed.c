@@ -53,7 +53,7 @@ static void reported(struct cellplan_cell *cell, uint32_t jobs) {
 }
 
 /* Prints what a call tells of the rest of the cell at a moment. */
-static void told(uint32_t (*call)(struct cellplan_cell *, uint64_t, uint8_t *, size_t, size_t *), struct cellplan_cell *cell, uint64_t at) {
+static void print_rest(uint32_t (*call)(struct cellplan_cell *, uint64_t, uint8_t *, size_t, size_t *), struct cellplan_cell *cell, uint64_t at) {
   uint8_t nothing[1];
   size_t length = 0;
   if (call(cell, at, nothing, 0, &length) != CELLPLAN_NO_ROOM) exit(9);
@@ -84,8 +84,8 @@ int main(int argc, char **argv) {
   if (status != CELLPLAN_GOOD) return (int)status;
   moved(&cell, count);
   fprintf(stderr, "%zu\n", lines);
-  told(cellplan_cell_check, &cell, now);
-  told(cellplan_cell_schedule, &cell, now);
+  print_rest(cellplan_cell_check, &cell, now);
+  print_rest(cellplan_cell_schedule, &cell, now);
   cellplan_cell_jobs(&cell, &more);
   for (uint32_t j = jobs; j < more; j++) queue[tail++] = (struct ended){CELLPLAN_ARRIVE, j, 0};
   while (head < tail) reported(&cell, more);

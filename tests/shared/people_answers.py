@@ -30,10 +30,10 @@ class Names:
 
     def of(self, before, number):
         """The word for a number behind the word before it, none where a line begins with it."""
-        told = {"job": self.job, "machine": self.machine}.get(before)
-        if told is None and (before is None or before in MOMENT_BEHIND):
-            told = self.moment
-        return told(number) if told else str(number)
+        named = {"job": self.job, "machine": self.machine}.get(before)
+        if named is None and (before is None or before in MOMENT_BEHIND):
+            named = self.moment
+        return named(number) if named else str(number)
 
 
 def named(names, line):
@@ -49,11 +49,11 @@ def named_visits(names, line):
     if not line.startswith("machine "):
         return line
     _, machine, *visits = line.split(" ")
-    told = ["machine", names.machine(int(machine))]
+    named = ["machine", names.machine(int(machine))]
     for visit in visits:
         job, moments = visit.split(":")
-        told.append("%s:%s" % (names.job(int(job)), "-".join(each if each == "?" else names.moment(int(each)) for each in moments.split("-"))))
-    return " ".join(told)
+        named.append("%s:%s" % (names.job(int(job)), "-".join(each if each == "?" else names.moment(int(each)) for each in moments.split("-"))))
+    return " ".join(named)
 
 
 def named_jobs(names, line):

@@ -1,4 +1,4 @@
-"""A driven run that is taken up from its log, for tests/crashes/cuts and tests/crashes/kills: what has to be kept, and what is written then."""
+"""A driven run that is recovered from its log, for tests/crashes/cuts and tests/crashes/kills: what has to be kept, and what is written then."""
 import subprocess
 from cell_model import PROGRAM, Wrong, want
 
@@ -46,26 +46,26 @@ class Run:
         """How many of the reports are in the log, and the lines that come before the mark and those behind it."""
         kept = events(whole_lines(self.log))
         count = sum(line.startswith("report ") for line in kept)
-        told = [line for _, answer in self.asked[:count] for line in answer if not line.startswith("done ")]
+        before = [line for _, answer in self.asked[:count] for line in answer if not line.startswith("done ")]
         behind = []
-        while events(told) != kept:
-            if not told:
+        while events(before) != kept:
+            if not before:
                 raise Wrong("what is out isn't what the run begins with: %s" % kept[-5:])
-            behind.insert(0, told.pop())
-        return count, told, behind
+            behind.insert(0, before.pop())
+        return count, before, behind
 
     def starts(self):
         """The words of a process that takes the run up or begins it, what it writes first, and the reports that it is to be sent."""
         if self.log is None:
             return ["drive", *self.files, *self.options], [], self.asked
         path = self.written(self.log)
-        count, told, behind = self.begun()
-        return ["resume", *self.files, path, *self.options], told + [""] + behind, self.asked[count:]
+        count, before, behind = self.begun()
+        return ["resume", *self.files, path, *self.options], before + [""] + behind, self.asked[count:]
 
     def sent_again(self, asked):
         """These reports, behind the last one that the log has, which is sent again."""
-        taken = self.asked[:len(self.asked) - len(asked)]
-        return [(line, ["refused 1 " + refusal(line, answer)]) for line, answer in taken[-1:]] + asked
+        before = self.asked[:len(self.asked) - len(asked)]
+        return [(line, ["refused 1 " + refusal(line, answer)]) for line, answer in before[-1:]] + asked
 
     def written(self, log):
         """The path of a file with this log."""
@@ -83,7 +83,7 @@ class Run:
         status, got = self.ends(words, b"")
         before, _, _ = ("\n" + got.decode()).partition("\n\n")
         want("the events before the mark", events(before.split("\n")), events(whole_lines(self.log)))
-        want("what is taken up", got, text_of(first + [self.closing(asked)]))
+        want("what is recovered", got, text_of(first + [self.closing(asked)]))
         want("the status", status, 1 if asked else 0)
         return got
 

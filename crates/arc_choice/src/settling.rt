@@ -10,7 +10,7 @@ use crate::question::{Question, Side};
 use crate::rules::{Clash, Kept};
 use crate::work::Work;
 
-/// The most turns of the rules before a branch is taken as it is: a number in place of a proof of when they come to
+/// The most turns of the rules before a branch is used as it is: a number in place of a proof of when they come to
 /// rest.
 const ROUNDS: u64 = 1_000_000_000_000;
 

@@ -40,7 +40,7 @@ pub record AreCutOff {S : Type 0} (answers : S → ℕ → Option (List ℕ) →
   pub written : Appends before between text
   pub part : TookPart between after cut
 
--- these lines were answered and all of the answers was taken, but showing them failed
+-- these lines were answered and all of the answers was accepted, but showing them failed
 pub record AreUnshown {S : Type 0} (answers : S → ℕ → Option (List ℕ) → List ℕ → S → Type 0) (start : S) (number : ℕ) (lines : List (Option (List ℕ))) (end : S)
     (before after : Option (List ℕ)) : Type 0 where
   pub text : List ℕ
@@ -51,7 +51,7 @@ pub record AreUnshown {S : Type 0} (answers : S → ℕ → Option (List ℕ) �
 abbrev pub AreCutShort : {S : Type 0} → (S → ℕ → Option (List ℕ) → List ℕ → S → Type 0) → S → ℕ → List (Option (List ℕ)) → S → Option (List ℕ) → Option (List ℕ) → Type 0
 AreCutShort answers start number lines end before after = AreCutOff answers start number lines end before after ⊎ AreUnshown answers start number lines end before after
 
--- these lines were answered, and the closing text behind the answers was cut off by a write that failed, or all of it was taken and showing it failed
+-- these lines were answered, and the closing text behind the answers was cut off by a write that failed, or all of it was accepted and showing it failed
 pub record IsClosingCut {S : Type 0} (answers : S → ℕ → Option (List ℕ) → List ℕ → S → Type 0) (closes : S → List ℕ → Type 0) (start : S) (number : ℕ) (lines : List (Option (List ℕ))) (end : S)
     (before after : Option (List ℕ)) : Type 0 where
   pub text : List ℕ

@@ -4,7 +4,7 @@ use Rattle.byte_streams.specs.declared.sink.Sink.{Ghosts as SinkOf}
 use Rattle.byte_streams.specs.Sinks.{Wrote}
 use Rattle.byte_streams.specs.declared.source.Source.{Ghosts as SourceOf}
 
--- what a taker of bytes has taken, where that is known, and whether a write has failed
+-- what a taker of bytes has accepted, where that is known, and whether a write has failed
 pub record SinkState : Type 0 where
   pub written : Option (List ℕ)
   pub failed : Bool
@@ -14,7 +14,7 @@ pub record Input : Type 0 where
   pub left : Option (List ℕ)
   pub failed : Bool
 
--- what an output has taken, where that is known, whether a write has failed, and what isn't shown yet
+-- what an output has accepted, where that is known, whether a write has failed, and what isn't shown yet
 pub record Output : Type 0 where
   pub written : Option (List ℕ)
   pub failed : Bool

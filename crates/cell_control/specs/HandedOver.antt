@@ -14,7 +14,7 @@ IsHandOverFault p c q t (Backwards last) = KeepsSoFar p c q × (t ≤ MAX_MOMENT
 IsHandOverFault p c q t (Cycle nodes) = KeepsSoFar p c q × IsNextMoment c t × IsCycle q nodes.items
 IsHandOverFault p c q t Memory = KeepsSoFar p c q × (t ≤ MAX_MOMENT)
 
--- plan q has taken over at moment t: the run so far keeps it, and the controller begins with the cell as one of that plan
+-- plan q was handed the cell at moment t: the run so far keeps it, and the controller begins with the cell as one of that plan
 pub record IsHandedOver (before : Control) (q : PlannedShop) (t : ℕ) (new : Control) : Type 0 where
   pub kept : KeepsSoFar before.planned before.cell q
   pub carried : Cell

@@ -1,4 +1,4 @@
-//! What is found and taken before anything of a cell is changed.
+//! What is found and allocated before anything of a cell is changed.
 
 ghost use Rattle.std.specs.Prelude.{◌≡◌, [], OnOk, IfOk, IfErr};
 ghost use Rattle.shop_base.specs.Report.{IsNextMoment};

@@ -1,4 +1,4 @@
-//! The memory that a controller needs beside its cell, taken once.
+//! The memory that a controller needs beside its cell, allocated once.
 
 ghost use Rattle.std.specs.Prelude.{◌≡◌, [], IfOk};
 ghost use Rattle.cell_control.specs.Fields.{IsRoomFor};

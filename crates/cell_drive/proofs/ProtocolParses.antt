@@ -50,7 +50,7 @@ module _ (p : PlannedShop) where
       (texts_parse (λ m. standing_part [] (machine_standing p c m)) 0 (machines p) (λ m. standing_parses (machine_standing p c m))))
       (closing_line_parses c)
 
-  -- ---- what is taken
+  -- ---- what is accepted
 
   pub lateness_parses : (at : ℕ) (late : Bool) (overdue : Option Overdue) → ParsesFirst p (lateness_part [] at late overdue) []
   lateness_parses at true None = (others_parse_none p).late at

@@ -71,7 +71,7 @@ module _ (p : PlannedShop) (c : Cell) where
       one_refusal one other (inr (can, does_leap, same)) (inl (reason, is, same')) = absurd (claim_reason-cannot claim reason is can)
       one_refusal one other (inr (can, does_leap, same)) (inr (can', does_leap', same')) = same' ∙ sym same
 
-      -- or it is taken
+      -- or it is accepted
       pub refused_or_admissible : (refusal : Refusal) → IsRefusal protocol p c claim refusal → IsAdmissible protocol p c claim → ⊥
       refused_or_admissible refusal (inl (reason, is, same)) (can, stays) = claim_reason-cannot claim reason is can
       refused_or_admissible refusal (inr (can, does_leap, same)) (can', stays) = absurd (cc)

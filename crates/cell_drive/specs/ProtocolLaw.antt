@@ -67,7 +67,7 @@ abbrev pub NothingOfARunIsClaimedAgain : Type 0
 NothingOfARunIsClaimedAgain = (p : PlannedShop) (before after : List Entry) (report : reports.Report) (again : Claim) (ended : NamedEnd) → IsWellShaped p → IsRun p (events_of (before ++ ReportEntry report ∷ after))
     → ReportsEnd p (cell_after p before) report ended → named again ≡ Some ended → CanClaim p (cell_after p (before ++ ReportEntry report ∷ after)) again → ⊥
 
--- a claim that names its job was taken behind some lines, and then further lines were answered: what it said to have ended can't be claimed again, at whatever moment
+-- a claim that names its job was accepted behind some lines, and then further lines were answered: what it said to have ended can't be claimed again, at whatever moment
 abbrev pub NothingIsAcceptedTwice : Type 0
 NothingIsAcceptedTwice = (p : PlannedShop) (protocol : Protocol) (lines later : List (Option (List ℕ))) (before after end : DrivenCell) (number next : ℕ) (texts text others : List ℕ) (claim again : Claim) (ended : NamedEnd)
     → IsWellShaped p → AreProtocolAnswers p protocol lines texts before → IsAdmissible protocol p before.cell claim → CellRequests p protocol before number (ClaimRequest claim) text after

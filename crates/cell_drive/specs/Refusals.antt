@@ -48,7 +48,7 @@ IsRefusal protocol p c claim refusal =
     ((reason : ReportFault) × IsClaimReason p c claim reason × (refusal ≡ first_refusal (claim_leaps protocol c claim) reason))
     ⊎ (CanClaim p c claim × (claim_leaps protocol c claim ≡ true) × (refusal ≡ Leap))
 
--- the claim is taken: it is possible, and doesn't leap
+-- the claim is accepted: it is possible, and doesn't leap
 abbrev pub IsAdmissible : Protocol → PlannedShop → Cell → Claim → Type 0
 IsAdmissible protocol p c claim = CanClaim p c claim × (claim_leaps protocol c claim ≡ false)
 

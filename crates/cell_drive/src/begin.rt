@@ -149,7 +149,7 @@ pub fn drive<R: Source, W: BufferedSink>(
 /// once. A report whose moment is further than `max_gap` from the last accepted one, or from `from` where that is
 /// later, is refused as `Leap`, after `Backwards` in the order of reasons.
 ///
-/// All memory is taken here.
+/// All memory is allocated here.
 pub fn begin_in(alloc: Global, verified: Verified, protocol: Protocol) -> Result<Begun, AllocError>
     ensures { IfOk result (λ begun. begun ≡ begun_in protocol verified) }
 {

@@ -77,7 +77,7 @@ impl Model for Replayed {
 /// to have no cycle. Where the log records no event the plan has to be an accepted one; else its budgets aren't asked
 /// for, since a cell that has begun has to go on, however late.
 ///
-/// All memory is taken here.
+/// All memory is allocated here.
 pub fn take_up(
     alloc: Global,
     shaped: Shaped,

@@ -91,7 +91,7 @@ module _ (p : PlannedShop) (protocol : Protocol) where
   abbrev driven_to : Cell → List Entry → DrivenCell
   driven_to c entries = record { cell = c; entries = entries }
 
-  -- the events of a report that is taken
+  -- the events of a report that is accepted
   abbrev step_entries : Cell → reports.Report → List ℕ → List Entry
   step_entries c report js = ReportEntry report ∷ map OrderEntry (step_orders p c report js)
 

@@ -1,4 +1,4 @@
--- What was reported in a run isn't taken again, where the run goes on either.
+-- What was reported in a run isn't accepted again, where the run goes on either.
 use Rattle.std.proofs.Common.{◌≡◌, List, ◌∷◌, ◌++◌, sym, ap, ◌∙◌, subst, append_assoc}
 use Rattle.shop_base.specs.{Cell.{Cell, start}, Run.{Event, Reported, after_all, IsRun}}
 use Rattle.shop_base.proofs.ControlledRuns.{events_join, after_all_join}

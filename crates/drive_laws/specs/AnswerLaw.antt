@@ -22,7 +22,7 @@ ReplayAsAnswered = (p : PlannedShop) (log : List (List ℕ)) (entries : List Ent
     → IsCutLogOf p log entries (length late) → AreLate p (start p) (take (length late) entries) late → AreReportLines lines entries
     → AreAnswersTo p lines (plain_lines (take (length late) entries) late ++ entry_lines (drop (length late) entries)) (driven_so_far p entries)
 
--- the lines of an input claim the reports among these events, one after another and nothing else, each so that it is taken by a protocol, from this cell on
+-- the lines of an input claim the reports among these events, one after another and nothing else, each so that it is accepted by a protocol, from this cell on
 abbrev pub AreClaimLines : PlannedShop → Protocol → Cell → List (Option (List ℕ)) → List Entry → Type 0
 AreClaimLines p protocol c lines [] = lines ≡ []
 AreClaimLines p protocol c lines (ReportEntry report ∷ entries) =

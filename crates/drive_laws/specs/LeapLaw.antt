@@ -13,7 +13,7 @@ pub record HasNoLongerTime (p : PlannedShop) (max_gap : ℕ) : Type 0 where
   pub nominals : (j k : ℕ) → j < jobs p → k < steps p j → nominal p j k ≤ max_gap
   pub cleanings : (m : ℕ) → m < machines p → clean p m ≤ max_gap
 
--- at the end of any run a claim that is possible and punctual is then taken
+-- at the end of any run a claim that is possible and punctual is then accepted
 abbrev pub NoPunctualReportLeaps : Type 0
 NoPunctualReportLeaps = (p : PlannedShop) (protocol : Protocol) (max_gap : ℕ) (entries : List Entry) (claim : Claim) → IsWellShaped p → protocol.max_gap ≡ Some max_gap → HasNoLongerTime p max_gap
     → IsRun p (events_of entries) → CanClaim p (cell_after p entries) claim → IsPunctual p (cell_after p entries) (claimed claim) → IsAdmissible protocol p (cell_after p entries) claim

@@ -251,7 +251,7 @@ pub fn a_late_report_finds_something_overdue()
 {}
 
 /// Let the longest time that may pass be no shorter than any release, nominal time and cleaning time of the plan. In a
-/// run of that, whatever is possible and punctual is taken: no punctual report is refused as a leap.
+/// run of that, whatever is possible and punctual is accepted: no punctual report is refused as a leap.
 #[tactic(auto, using(crate::proofs::NoLeap::no_punctual_report_leaps))]
 pub fn no_punctual_report_leaps()
     ensures { NoPunctualReportLeaps }

@@ -65,7 +65,7 @@ not_alone : (line : List ℕ) → HasNone 13 line → pointwise nat_eq (13 ∷ [
 not_alone [] none = refl
 not_alone (b ∷ line) none = and_left (nat_eq 13 b) (pointwise nat_eq [] line) (ne_eqb 13 b (λ same. false≢true (sym none.0 ∙ eq-eqb b 13 (sym same))))
 
--- no carriage return is taken off
+-- no carriage return is removed
 unreturned : (line : List ℕ) → HasNone 13 line → without_return line ≡ line
 unreturned line none =
     let other : ends_with nat_eq line (13 ∷ []) ≡ false = not_alone (drop (length line - 1) line) (absent_behind 13 (length line - 1) line none) in

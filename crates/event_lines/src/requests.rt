@@ -42,7 +42,7 @@ impl Claim {
 /// What a line asks for, from version 2 of the lines on.
 #[derive(Clone, Copy, Debug)]
 pub enum Request {
-    /// That this is taken to have ended.
+    /// That this is assumed to have ended.
     Claim(Claim),
     /// The state.
     Status,

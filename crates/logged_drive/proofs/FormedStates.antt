@@ -119,7 +119,7 @@ others_fit zero few = tt
 others_fit (suc k) few = (refl, (((omega arith, omega (arith, few), omega (arith, few)), inr few), (refl, tt)))
 
 module _ (p : PlannedShop) (shaped : IsWellShaped p) (protocol : Protocol) where
-  -- ---- what is taken
+  -- ---- what is accepted
 
   lateness_formed : (at : ℕ) (late : Bool) (overdue : Option Overdue) → at ≤ MAX_MOMENT → FewFit at (jobs p + machines p) overdue → IsFormed (lateness_part [] at late overdue)
   lateness_formed at false overdue in_range few = formed-none

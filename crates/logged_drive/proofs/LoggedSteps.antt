@@ -31,7 +31,7 @@ all_in_log before seen crash_states held printed is unfailed durable steps = if_
   on_disk = if_some-at seen (b.0 ++ logged step.shown) (λ f. (left : List ℕ) → crash_states left → left ≡ f) (step.log unfailed) durable;
 }) steps
 
--- what the output had taken as the writer began
+-- what the output had accepted as the writer began
 pub at_start : (before : Option (List ℕ × List ℕ)) (seen printed same : Option (List ℕ)) → same ≡ printed → AreInitial before seen printed → IfSome before (λ known. same ≡ Some known.1)
 at_start before seen printed same is are = if_some-map before (λ b both. is ∙ both.1) are
 

@@ -110,7 +110,7 @@ fn cut_and_name<D: LogFile>(
 
 /// Recovers the run in a log that was read, cuts off its torn end, and puts the line of the plan, which has these
 /// digits, behind its whole lines, unless it is their last line of a plan. All the memory with which the run goes on is
-/// taken first: where it runs out, as where the log's text is at fault, the log stays as it is.
+/// allocated first: where it runs out, as where the log's text is at fault, the log stays as it is.
 pub fn recover_log<D: LogFile>(
     alloc: Global,
     shaped: Shaped,

@@ -1,4 +1,4 @@
--- Parts of a row of bytes, taken one after the other from the front.
+-- Parts of a row of bytes, one after the other from the front.
 use Rattle.std.proofs.Common.{◌≡◌, ℕ, suc, ◌+◌, ◌-◌, ◌≤◌, Bool, true, false, not, cond, ◌&&◌, ◌||◌, List, [], ◌∷◌, Some, None, length, get_or, take, drop, filter, refl, sym, ap, ◌∙◌, arith, ltb}
 use Rattle.std.specs.Prelude.{position}
 use Rattle.std.specs.List.{before_first, after_first, position_or_len, onto_first, list_all}

@@ -48,7 +48,7 @@ pub fn read_from_collection(alloc: Global, text: &[u8], name: &[u8]) -> Result<N
     named(alloc, section_draft(alloc, text, name))
 }
 
-/// Reads the route on a job's line: pairs of machine and nominal time. The line's number is taken to be 1.
+/// Reads the route on a job's line: pairs of machine and nominal time. The line's number is assumed to be 1.
 pub fn read_route(alloc: Global, line: &[u8]) -> Result<Vec<Step>, OrFault>
     // What is read is the line's route, and the line's route is read.
     ensures found { IfOk result (λ route. IsJobLine (first_line line.now) route.items) }

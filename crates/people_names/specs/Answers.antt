@@ -22,7 +22,7 @@ abbrev pub PassesExactly : {A : Type 0} → List NamesFault → Result A NamesFa
 PassesExactly faults (Ok x) = faults ≡ []
 PassesExactly faults (Err fault) = IsFirstOf faults fault
 
--- the same where memory is taken: unless it ran out
+-- the same where memory is allocated: unless it ran out
 abbrev pub Passes : {A : Type 0} → List NamesFault → Result A NamesFault → Type 0
 Passes faults (Ok x) = faults ≡ []
 Passes faults (Err fault) = fault ≢ Memory → IsFirstOf faults fault

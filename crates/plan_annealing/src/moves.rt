@@ -7,7 +7,7 @@ use shop_base::Moment;
 use std::alloc::{AllocError, Global};
 
 /// How often a move looks at a node, on average, before it is cut off. The plan may have a cycle then; if it has, the
-/// move is taken back.
+/// move is undone.
 const LOOKS_A_NODE: u64 = 8;
 
 /// Whether a node was met in this move, and with which bound: to the left the last node of the moving job from which a

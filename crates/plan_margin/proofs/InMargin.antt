@@ -53,7 +53,7 @@ module _ (p : PlannedShop) (rank kept : Node → ℕ) (s : ℕ) (shaped : IsWell
     worked : (j k m : ℕ) → IsOn p c j k m → since c j * 1000 + longer s (nominal p j k) ≤ kept (node j (k + 1))
     cleaned : (m from : ℕ) (v : Node) → cleaning c m ≡ Some from → Stands p m (length (entries c m)) v.job v.place → from * 1000 + longer s (clean p m) ≤ kept v
 
-  -- so a report at which nothing has taken longer comes within them
+  -- so a report at which nothing has lasted longer comes within them
   soon-within : (c : Cell) (r : Report) → IsSound p c → IsSoon c → IsWithinMargin p s c r → IsWithin p moment c r
   soon-within c r sound soon no_longer (Arrival j) due v going is =
       let inside : j < jobs p = outside_in_shop p c j sound going.outside in

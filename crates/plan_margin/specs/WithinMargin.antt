@@ -12,7 +12,7 @@ use Rattle.shop_base.specs.Ends.{HasEnded, IsInTime, IsOutByBudget}
 use Rattle.plan_margin.specs.Longer.{longer}
 
 module _ (p : PlannedShop) (s : ℕ) where
-  -- by moment t the activity has taken at most s thousandths longer than stated; a job has come by its release
+  -- by moment t the activity has lasted at most s thousandths longer than stated; a job has come by its release
   abbrev pub IsNoLonger : Cell → Activity → ℕ → Type 0
   IsNoLonger c (Arrival j) t = t ≤ release p j
   IsNoLonger c (Operation j m) t = (k : ℕ) → IsOn p c j k m → t * 1000 ≤ since c j * 1000 + longer s (nominal p j k)

@@ -29,7 +29,7 @@ pub struct DrawnRun {
 
 /// The run that goes on from a cell and the present moment, by the earliest moments ahead: first the visits that are
 /// known so far, in their order, with their ends, and then those ahead, the jobs ascending, each job's visits in the
-/// order of its route. What is overdue is taken to end at the present moment. A whole plan is such a run from the start
+/// order of its route. What is overdue is assumed to end at the present moment. A whole plan is such a run from the start
 /// on, of which nothing is known. Fails only when out of memory.
 pub fn drawn_run<'a, P: Planned>(
     alloc: Global,

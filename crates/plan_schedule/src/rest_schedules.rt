@@ -21,7 +21,7 @@ use std::alloc::{AllocError, Global};
 
 /// When what is left of a run begins and ends, and how late it may end, from a cell and the present moment on: after
 /// the verdict's first line the lines of each job in ascending order, and then the lines of the cleanings that go on.
-/// What is overdue is taken to end at the present moment. Moments are whole time units, the earliest for each move
+/// What is overdue is assumed to end at the present moment. Moments are whole time units, the earliest for each move
 /// ahead. If the rest is accepted, the deadlines follow them. A plan with a cycle has only its first line. Behind the
 /// first line jobs, machines and moments are written by names and clock.
 pub fn schedule_after<P: Planned>(

@@ -50,7 +50,7 @@ pub struct NodeBound {
     pub moment: Moment,
     /// What holds it up.
     pub holds: Hold,
-    /// When that was due, if it is past: it is taken to end at the present moment.
+    /// When that was due, if it is past: it is assumed to end at the present moment.
     pub overdue: Option<Moment>,
 }
 

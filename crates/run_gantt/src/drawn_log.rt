@@ -15,7 +15,7 @@ use std::alloc::{AllocError, Global};
 
 /// The visits in the entries to machines of the shop, as a picture draws them, the last begun first. After a visit to
 /// a machine with a cleaning time a cleaning follows, which ends with the first later report of that machine's
-/// cleaning. Any entries are taken, whether they are a run's or not.
+/// cleaning. Any entries are drawn, whether they are a run's or not.
 pub fn drawn_visits(
     alloc: Global,
     shaped: &Shaped,
@@ -96,7 +96,7 @@ fn push_any(visits: &mut Vec<DrawnVisit>, visit: Option<DrawnVisit>) -> Result<(
     Ok(())
 }
 
-/// When each job of the shop has left the cell, by job; `None` of one that hasn't. Any entries are taken, whether they
+/// When each job of the shop has left the cell, by job; `None` of one that hasn't. Any entries are drawn, whether they
 /// are a run's or not: the first that moves the job out counts. Fails only when out of memory.
 pub fn leavings_so_far(
     alloc: Global,

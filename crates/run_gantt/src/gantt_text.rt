@@ -30,7 +30,7 @@ pub fn gantt(alloc: Global, shaped: &Shaped, entries: &[Entry]) -> Result<String
 /// shop its visits as ` JOB:ENTER-FINISH-LEAVE` and its bar of at most 60 columns.
 ///
 /// A column shows the job that is on the machine at the column's first moment, by the last digit of its number, or
-/// `=` once its operation has ended. Any entries are taken, whether they are a run's or not. But for the bar and the
+/// `=` once its operation has ended. Any entries are drawn, whether they are a run's or not. But for the bar and the
 /// scale, jobs, machines and moments are written by names and clock.
 pub fn gantt_for(
     alloc: Global,

@@ -1,4 +1,4 @@
--- What a log gets of a text, taken byte by byte.
+-- What a log gets of a text, byte by byte.
 use Rattle.std.proofs.Common.{◌≡◌, ◌≢◌, ℕ, ◌≤◌, ◌<◌, ◌==◌, true, false, List, [], ◌∷◌, ◌++◌, length, take, inl, inr, refl, sym, ap, ◌∙◌, subst, arith, append_assoc, append-nil, length-append}
 use Rattle.std.proofs.lemmas.{Bool.{cases_Bool, ne_eqb}, List.{length-take, take-append-le, take_all}}
 use Rattle.std.specs.List.{onto_first, flat_map}

@@ -6,15 +6,15 @@ use Rattle.run_journal.specs.{declared.logged.Unflushed.Unflushed, declared.sele
 use Rattle.run_journal.specs.declared.logged.Unflushed.TheVariants.{Log, Output}
 use Rattle.run_journal.specs.{LogFiles.Leaves, LogFiles.IsDurable, Selecting.IsFront, Selecting.open_line}
 
--- what the output has taken, where that is known, what has come since and isn't out, whether a call has failed, and whether the log has
+-- what the output has accepted, where that is known, what has come since and isn't out, whether a call has failed, and whether the log has
 pub record Held : Type 0 where
   pub written : Option (List ℕ)
   pub pending : List ℕ
   pub failed : Bool
   pub log_failed : Bool
 
--- Since the log held the base, and the output had taken the start, a text has come. The log got of it what a log gets, and
--- got it first: what a log gets of all that the output has taken, and so may have shown, is on the disk behind the base. A
+-- Since the log held the base, and the output had accepted the start, a text has come. The log got of it what a log gets, and
+-- got it first: what a log gets of all that the output has accepted, and so may have shown, is on the disk behind the base. A
 -- crash leaves that, and perhaps the first of what a log gets of the rest.
 pub record AreInStep (base start : List ℕ) (seen : Option (List ℕ)) (crash_states : List ℕ → Type 0) (written : Option (List ℕ)) (pending : List ℕ) (failed : Bool) : Type 0 where
   pub shown : List ℕ

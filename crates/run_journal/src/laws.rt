@@ -27,7 +27,7 @@ pub fn a_crash_leaves_a_log()
 {}
 
 /// What a crash leaves of the line of an event or of a late report, if its line feed isn't on the disk, with zeros
-/// after it or without, is a torn end: so it is never taken for what isn't of a log.
+/// after it or without, is a torn end: so it never counts as what isn't of a log.
 #[tactic(auto, using(crate::proofs::TornEnds::left_lines))]
 pub fn unwritten_lines_are_torn()
     ensures { UnwrittenLinesAreTorn }

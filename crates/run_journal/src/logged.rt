@@ -20,7 +20,7 @@ pub const FULL: usize = 65_536;
 /// The most bytes that are held back: room for one answer more, so that none is shown in parts.
 pub const MAX_PENDING: usize = 81_920;
 
-/// What a log held and what an output had taken before they were joined, as a type that stands for it.
+/// What a log held and what an output had accepted before they were joined, as a type that stands for it.
 pub trait InitialState: Drop {
     ghost use Rattle.std.specs.Prelude.{ℕ, List, Option};
 

@@ -6,7 +6,7 @@ ghost use Rattle.run_journal.specs.TornEnds.{digits_of, stands_for, stands_for_o
 /// Whether a crash can have left these bytes after the whole lines: the beginning of some line of a report, of an
 /// order, of a late report or of a plan, or nothing, and then zeros, or none.
 ///
-/// Zeros before other bytes aren't taken for that, though a file system may leave them; of what stands there nothing
+/// Zeros before other bytes don't count as that, though a file system may leave them; of what stands there nothing
 /// was shown, so it may be cut off by hand.
 pub fn is_torn_end(end: &[u8]) -> bool
     ensures { result ≡ is_torn end.now }

@@ -17,7 +17,7 @@ use std::alloc::Global;
 use text_lines::line_count;
 
 /// Audits a log against a plan, which needn't be an accepted one. Empty lines and the other answers of a driven
-/// cell (`late`, `refused`, `done`, `unfinished`) are passed over. Memory is taken for as many entries as the text
+/// cell (`late`, `refused`, `done`, `unfinished`) are passed over. Memory is allocated for as many entries as the text
 /// has lines, or as a run of the plan can have, whichever is less.
 pub fn audit(alloc: Global, shaped: &Shaped, text: &[u8]) -> Result<Audit, AuditFault>
     ensures kept { IfOk result (IsAudit shaped.now (lines_of text.now)) }

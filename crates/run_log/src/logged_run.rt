@@ -27,7 +27,7 @@ pub struct LoggedRun<P: Planned> {
 }
 
 /// The run of the plan that the whole lines of a log record, and the cell at its end. What comes after the last line
-/// feed is torn, and isn't looked at. Whole lines are taken exactly if an audit keeps them, and the first fault of
+/// feed is torn, and isn't looked at. Whole lines are accepted exactly if an audit keeps them, and the first fault of
 /// others is the audit's: the plan needn't be accepted, nor be the one by which the log was written. There is room for
 /// all entries of a run, so that it can go on.
 pub fn run_of_log<P: Planned>(
