@@ -153,7 +153,7 @@ gone_setting (Run log present) t p c objective j past times inside not which =
     gone_least t (ended_lines log.now) c present objective j past inside (ap (λ (s : ShopTimes). is_waiting s (run_to (ended_lines log.now) c present) j) times ∙ not) which
 
 -- what is kept after a log is kept
-pub kept_if : {E : Type 0} (r : Result (Option Kept) E) (IsOne IsOther : Kept → Type 0) → ((kept : Kept) → IsOne kept → IsOther kept) → IfOk r (λ found. IfSome found IsOne) → IfOk r (λ found. IfSome found IsOther)
+pub kept_if : {A E : Type 0} (r : Result (Option A) E) (IsOne IsOther : A → Type 0) → ((kept : A) → IsOne kept → IsOther kept) → IfOk r (λ found. IfSome found IsOne) → IfOk r (λ found. IfSome found IsOther)
 kept_if (Ok (Some kept)) IsOne IsOther follows is = follows kept is
 kept_if (Ok None) IsOne IsOther follows is = tt
 kept_if (Err e) IsOne IsOther follows is = tt

@@ -41,11 +41,52 @@ limit_was limits k i n inside is =
     let apart : i ≢ k = λ same. true≢false (sym (ap is_some (sym (ap (limit_of (set limits k None)) same ∙ limit_gone limits k inside) ∙ is))) in
     (apart, sym (limit_stays limits k i apart) ∙ is)
 
+-- the jobs that have limits, as they are collected
+pub limited_none : (limits : List (Option ℕ)) → AreLimited limits 0 []
+limited_none limits = record {
+  below = All-nil (λ j. j < 0);
+  ascending = λ a b d one two. absurd (omega (arith, two));
+  limited = All-nil (λ j. IsSome (limit_of limits j));
+  complete = λ j k before is. absurd (omega (arith, before));
+}
+
+pub limited_more : (limits : List (Option ℕ)) (n : ℕ) (js more : List ℕ) → more ≡ js ++ n ∷ [] → IsSome (limit_of limits n) → AreLimited limits n js → AreLimited limits (n + 1) more
+limited_more limits n js more is some known = subst (AreLimited limits (n + 1)) (sym is) (record {
+  below = All-push (λ j. j < n + 1) js n (All-weaker (λ j. j < n) (λ j. j < n + 1) (λ j lt. omega (arith, lt)) js known.below) (omega arith);
+  ascending = pairs_push (λ i j. i < j) js n known.ascending known.below;
+  limited = All-push (λ j. IsSome (limit_of limits j)) js n known.limited some;
+  complete = λ j k lt has. elim (cases_eq j n) [
+    | inl same ↦ subst (Contains (js ++ n ∷ [])) (sym same) (Contains-push js n)
+    | inr other ↦ Contains-append_left js (n ∷ []) j (known.complete j k (omega (arith, lt, other)) has)
+  ];
+})
+
+pub limited_passed : (limits : List (Option ℕ)) (n : ℕ) (js : List ℕ) → limit_of limits n ≡ None → AreLimited limits n js → AreLimited limits (n + 1) js
+limited_passed limits n js none known = record {
+  below = All-weaker (λ j. j < n) (λ j. j < n + 1) (λ j lt. omega (arith, lt)) js known.below;
+  ascending = known.ascending;
+  limited = known.limited;
+  complete = λ j k lt has. elim (cases_eq j n) [
+    | inl same ↦ absurd (true≢false (sym (ap is_some (sym (ap (limit_of limits) same ∙ none) ∙ has))))
+    | inr other ↦ known.complete j k (omega (arith, lt, other)) has
+  ];
+}
+
 module _ (t : Case) where
   fewer_promised : (limits : List (Option ℕ)) (k : ℕ) → k < job_count t → ArePromised t limits → ArePromised t (set limits k None)
   fewer_promised limits k inside are = record {
     count = length-set limits k None ∙ are.count;
     each = λ j n is. are.each j n (limit_was limits k j n (omega (arith, inside, are.count)) is).1;
+  }
+
+  -- the limits of all promises
+  pub all_promised : (limits : List (Option ℕ)) → AreLimits t AllAsked (job_count t) limits → ArePromised t limits
+  all_promised limits all = record {
+    count = all.count;
+    each = λ j n is.
+        (let inside : j < job_count t = omega (arith, limit_inside limits j n is, all.count) in
+        let promise = promise_is t j n (sym (all.each j inside) ∙ is) in
+        (record { inside = inside; waits = promise.0; below = promise.1 }, promise.2));
   }
 
   -- no cap is past the greatest budget
@@ -105,6 +146,14 @@ module _ (t : Case) where
         let here : j < job_count t = omega (arith, limit_inside limits j n was.1, known.promised.count) in
         subst (λ l. CanKeep t (set l j None)) (sym is) (can_keep_fewer limits j k here inside known.promised
         (known.needed (sym fewer ∙ closed) j n (omega (arith, from, was.0)) was.1)));
+  }
+
+  -- what is left before any job was asked about
+  pub left_begin : (left : Left) (n : ℕ) → job_count t ≤ n → ArePromised t left.limits.items → NoPlanKeeps t left.limits.items → IsLeft t left n
+  left_begin left n past promised none = record {
+    promised = promised;
+    none = none;
+    needed = λ closed j k from is. absurd (omega (arith, limit_inside left.limits.items j k is, promised.count, from, past));
   }
 
   pub left_needed : (left : Left) (k : ℕ) → CanKeep t (set left.limits.items k None) → IsLeft t left (k + 1) → IsLeft t left k

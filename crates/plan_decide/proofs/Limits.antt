@@ -1,6 +1,6 @@
 -- The limits of a question, and what an answer to it says.
 use Rattle.std.proofs.Common.{◌≡◌, ℕ, ◌+◌, ◌<◌, ◌≤◌, min, nat_lt, ◌==◌, ◌||◌, if◌then◌else◌, Bool, true, false, List, [], ◌∷◌, ◌++◌, length, Contains, Option, None, Some, is_some, arith, refl, sym, ap, ◌∙◌, subst, inl, inr, true≢false, eqb-true, ltb-true}
-use Rattle.std.proofs.lemmas.Bool.{cases_eq, cases_lt, or_cases}
+use Rattle.std.proofs.lemmas.Bool.{cases_eq, cases_lt, or_cases, cond_above}
 use Rattle.std.proofs.lemmas.List.{get_or_append_left, get_or_push, length_push}
 use Rattle.shop_base.specs.declared.limits.TheConstants.{MAX_MOMENT}
 use Rattle.shop_base.specs.Plan.{PlannedShop, jobs, IsWellShaped}
@@ -38,6 +38,14 @@ promise_is t j n is =
     let waits = limit_if (is_waiting (times_in t) t.past j) (if nat_lt (budget_in t j) MAX_MOMENT then Some (budget_in t j) else None) n is in
     let at = limit_if (nat_lt (budget_in t j) MAX_MOMENT) (Some (budget_in t j)) n waits.1 in
     (waits.0, ltb-true (budget_in t j) MAX_MOMENT at.0, sym (ap cap at.1))
+
+-- a job whose budget is the greatest one has none
+pub promise_past : (t : Case) (j budget : ℕ) → budget ≡ budget_in t j → MAX_MOMENT ≤ budget → None ≡ promise_in t j
+promise_past t j budget same past = go (is_waiting (times_in t) t.past j)
+  where
+    go : (b : Bool) → None ≡ (if b then (if nat_lt (budget_in t j) MAX_MOMENT then Some (budget_in t j) else None) else None)
+    go true = cond_above (budget_in t j) MAX_MOMENT (Some (budget_in t j)) None None (subst (λ (n : ℕ). MAX_MOMENT ≤ n) same past) refl
+    go false = refl
 
 -- what has happened leads to the cell and the present moment by the plan
 abbrev pub IsReachedBy : PlannedShop → Past → Cell → ℕ → Type 0

@@ -1,5 +1,5 @@
 -- What is listed of promises that can't be kept, as it is collected.
-use Rattle.std.proofs.Common.{◌≡◌, ℕ, ◌+◌, ◌<◌, ◌≤◌, List, [], ◌∷◌, ◌++◌, length, Contains, arith, refl, sym, ap, subst, inl, inr, le_refl, ◌⊎◌, ◌∙◌}
+use Rattle.std.proofs.Common.{◌≡◌, ℕ, ◌+◌, ◌<◌, ◌≤◌, ◌==◌, Bool, true, false, true≢false, eqb-true, List, [], ◌∷◌, ◌++◌, length, Contains, arith, refl, sym, ap, subst, inl, inr, le_refl, ◌⊎◌, ◌∙◌}
 use Rattle.std.proofs.lemmas.Bool.{cases_eq}
 use Rattle.std.proofs.lemmas.List.{length_push, nil_from_length}
 use Rattle.std.proofs.lemmas.List.Elements.{All-nil, All-cons, All-push, All-weaker, Contains-append_left, Contains-push}
@@ -53,6 +53,22 @@ before_pair (Pair a b) i j k l (inr (is, more)) (inl before) = inl (omega (arith
 before_pair (Pair a b) i j k l (inr (is, more)) (inr (same, before)) = inr (omega (arith, is, same), omega (arith, more, before))
 before_pair (Several js or_fewer) i j k l later before = before
 
+-- a job alone comes before all pairs
+before_pairs : (e : Excluded) (n : ℕ) → ComesBefore e (Alone n) → ComesBefore e (Pair 0 0)
+before_pairs (Alone i) n before = tt
+before_pairs (Pair i j) n before = absurd before
+before_pairs (Several js or_fewer) n before = absurd before
+
+-- a test whether something is listed
+pub some_listed : (es : List Excluded) (n : ℕ) (is_empty : Bool) → n ≡ length es → is_empty ≡ (n == 0) → is_empty ≡ false → 0 < length es
+some_listed es n is_empty count is not = elim (cases_eq n 0) [
+  | inl none ↦ absurd (true≢false (sym (is ∙ ap (λ (k : ℕ). k == 0) none) ∙ not))
+  | inr some ↦ omega (arith, some, count)
+]
+
+pub none_listed : (es : List Excluded) (n : ℕ) (is_empty : Bool) → n ≡ length es → is_empty ≡ (n == 0) → is_empty ≡ true → length es ≡ 0
+none_listed es n is_empty count is none = omega (arith, count, eqb-true n 0 (sym is ∙ none))
+
 module _ (t : Case) where
   pub none_before : (next : Excluded) → AreExclusionsBefore t next []
   none_before next = record {
@@ -71,6 +87,9 @@ module _ (t : Case) where
   -- nothing more is
   all_before : (e next : Excluded) (es : List Excluded) → ((other : Excluded) → ComesBefore other e → ComesBefore other next) → AreExclusionsBefore t e es → AreExclusionsBefore t next es
   all_before e next es later known = record { listed = known.listed; before = All-weaker (λ other. ComesBefore other e) (λ other. ComesBefore other next) later es known.before }
+
+  pub alone_none : (es : List Excluded) → es ≡ [] → AreAllAlone t 0 es
+  alone_none es is = subst (AreAllAlone t 0) (sym is) (record { listed = none_before (Alone 0); alone = λ j before never. absurd (omega (arith, before)) })
 
   pub alone_more : (n : ℕ) (es more : List Excluded) → more ≡ es ++ Alone n ∷ [] → IsRooted t → IsNeverInTime t n → AreAllAlone t n es → AreAllAlone t (n + 1) more
   alone_more n es more is rooted never known = subst (AreAllAlone t (n + 1)) (sym is) (record {
@@ -104,8 +123,38 @@ module _ (t : Case) where
   pub none_alone : (n : ℕ) (es : List Excluded) → n ≡ job_count t → length es ≡ 0 → AreAllAlone t n es → NoneIsAlone t
   none_alone n es all none known j never = (let has = known.alone j (omega (arith, all, never.promised.inside)) never in omega (arith, none, has.1))
 
+  -- before all pairs jobs alone are listed
+  pub alone_before : (n : ℕ) (es : List Excluded) → AreAllAlone t n es → AreExclusionsBefore t (Pair 0 0) es
+  alone_before n es known = all_before (Alone n) (Pair 0 0) es (λ e before. before_pairs e n before) known.listed
+
+  pub nothing_before : (es : List Excluded) → es ≡ [] → AreExclusionsBefore t (Pair 0 0) es
+  nothing_before es is = subst (AreExclusionsBefore t (Pair 0 0)) (sym is) (none_before (Pair 0 0))
+
+  -- what is listed in the end: jobs alone and then pairs, or pairs, or one exclusion
+  pub exclusions_with : (es more : List Excluded) → 0 < length es → AreAllAlone t (job_count t) es → AreOrderedExclusions t more → AddsExclusions es more → AreExclusions t more
+  exclusions_with es more some known listed adds = record {
+    some = omega (arith, some, adds.more);
+    each = listed.each;
+    order = listed.order;
+    alone = λ j never. adds.kept (Alone j) (known.alone j never.promised.inside never);
+  }
+
+  pub exclusions_some : (es : List Excluded) → 0 < length es → AreOrderedExclusions t es → NoneIsAlone t → AreExclusions t es
+  exclusions_some es some listed none = record { some = some; each = listed.each; order = listed.order; alone = λ j never. absurd (none j never) }
+
+  pub exclusions_one : (e : Excluded) (es more : List Excluded) → length es ≡ 0 → more ≡ es ++ e ∷ [] → IsExclusion t e → NoneIsAlone t → AreExclusions t more
+  exclusions_one e [] more empty is exclusion none = subst (AreExclusions t) (sym is)
+      (exclusions_some (e ∷ []) (omega arith) (record { each = All-cons (IsExclusion t) e [] exclusion (All-nil (IsExclusion t)); order = λ a b d one two. absurd (omega (arith, one, two)) }) none)
+  exclusions_one e (x ∷ es) more empty is exclusion none = absurd (omega (arith, empty))
+
 pub adds_none : (es : List Excluded) → AddsExclusions es es
 adds_none es = record { kept = λ e has. has; more = le_refl _ }
+
+pub adds_one : (es more : List Excluded) (e : Excluded) → more ≡ es ++ e ∷ [] → AddsExclusions es more
+adds_one es more e is = record {
+  kept = λ other has. subst (λ (list : List Excluded). Contains list other) (sym is) (Contains-append_left es (e ∷ []) other has);
+  more = omega (arith, ap length is, length_push es e);
+}
 
 pub adds_on : (es more most : List Excluded) → AddsExclusions es more → AddsExclusions more most → AddsExclusions es most
 adds_on es more most one next = record { kept = λ e has. next.kept e (one.kept e has); more = omega (arith, one.more, next.more) }

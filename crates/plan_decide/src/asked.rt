@@ -13,7 +13,7 @@ use shop_base::{JobNo, Moment};
 use std::alloc::{AllocError, Global};
 
 /// Which promises are asked for.
-#[derive(Clone, Copy, Debug, Drop)]
+#[derive(Clone, Copy)]
 pub(crate) enum Asked {
     /// All of them.
     All,

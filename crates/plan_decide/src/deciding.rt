@@ -139,7 +139,9 @@ fn find_whole<C: Choose, W: Watch>(
     // Called for its clause alone: the plan is well shaped.
     let _shop = shaped.shop();
     let setting = whole(alloc, shaped, aim)?;
-    Ok(find(alloc, &setting, aim, asker)?)
+    let found = find(alloc, &setting, aim, asker);
+    drop(setting);
+    Ok(found?)
 }
 
 /// What is found of plans for the rest of the run in a log.
@@ -162,7 +164,9 @@ fn find_after<C: Choose, W: Watch>(
     // Called for its clause alone: the plan is well shaped.
     let _shop = shaped.shop();
     let setting = after_log(alloc, shaped, log, at, aim)?;
-    Ok(find(alloc, &setting, aim, asker)?)
+    let found = find(alloc, &setting, aim, asker);
+    drop(setting);
+    Ok(found?)
 }
 
 /// What is found of whole plans, with the plan that was given.
@@ -172,11 +176,17 @@ fn whole_back(found: Found, shaped: Shaped) -> Decided<Verified>
 {
     match found {
         Found::Kept(kept) => match kept.into_verified() {
-            Some(verified) => Decided::Kept(verified),
+            Some(verified) => {
+                drop(shaped);
+                Decided::Kept(verified)
+            }
             None => Decided::Open(shaped),
         },
         Found::Best(kept, within) => match kept.into_verified() {
-            Some(verified) => Decided::Best(verified, within),
+            Some(verified) => {
+                drop(shaped);
+                Decided::Best(verified, within)
+            }
             None => Decided::Open(shaped),
         },
         Found::Never(listed) => Decided::Never(listed, shaped),
@@ -190,8 +200,14 @@ fn rest_back(found: Found, shaped: Shaped) -> Decided<Shaped>
         → IsDecided (λ plan. plan) t aim shaped result }
 {
     match found {
-        Found::Kept(kept) => Decided::Kept(kept.into_shaped()),
-        Found::Best(kept, within) => Decided::Best(kept.into_shaped(), within),
+        Found::Kept(kept) => {
+            drop(shaped);
+            Decided::Kept(kept.into_shaped())
+        }
+        Found::Best(kept, within) => {
+            drop(shaped);
+            Decided::Best(kept.into_shaped(), within)
+        }
         Found::Never(listed) => Decided::Never(listed, shaped),
         Found::Open => Decided::Open(shaped),
     }

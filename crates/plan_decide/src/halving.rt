@@ -136,7 +136,11 @@ fn leaving_by(
 {
     let same = copy_orders(alloc, order)?;
     match accepted_at(alloc, setting, job, MAX_MOMENT, same)? {
-        Some(loose) => Ok(Some(leaving_in(setting, &loose, job))),
+        Some(loose) => {
+            let value = leaving_in(setting, &loose, job);
+            drop(loose);
+            Ok(Some(value))
+        }
         None => Ok(None),
     }
 }
@@ -162,6 +166,7 @@ fn look<C: Choose, W: Watch>(
                 if found.value < value {
                     Ok(Looked::Better(found))
                 } else {
+                    drop(found);
                     Ok(Looked::Open)
                 }
             }
@@ -239,8 +244,13 @@ fn halve_once<C: Choose, W: Watch>(
     ensures less { IfOk result (λ next. next.best.value - next.low < halfway.best.value - halfway.low) }
 {
     let limit = halfway.low + (halfway.best.value - halfway.low) / 2;
-    let looked = look(alloc, setting, asker, objective, limit, halfway.best.value)?;
-    Ok(narrowed(halfway, limit, looked))
+    match look(alloc, setting, asker, objective, limit, halfway.best.value) {
+        Ok(looked) => Ok(narrowed(halfway, limit, looked)),
+        Err(error) => {
+            drop(halfway);
+            Err(error)
+        }
+    }
 }
 
 /// What is known once a plan with a value of at most the limit was looked for.
@@ -250,7 +260,21 @@ fn narrowed(halfway: Halfway, limit: Moment, looked: Looked) -> Halfway
     ensures { IsNarrowed halfway limit looked result }
 {
     match looked {
-        Looked::Better(best) => Halfway { best, ..halfway },
+        Looked::Better(best) => {
+            let Halfway {
+                best: worse,
+                at_least,
+                low,
+                ended_open,
+            } = halfway;
+            drop(worse);
+            Halfway {
+                best,
+                at_least,
+                low,
+                ended_open,
+            }
+        }
         Looked::Never => Halfway {
             at_least: limit + 1,
             low: limit + 1,

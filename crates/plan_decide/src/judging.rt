@@ -16,7 +16,7 @@ use alt_graph::Times;
 use cell_tables::WorkCell;
 use plan_verifier::{Judged, Verdict, verify, verify_after};
 use run_log::run_if_replayed;
-use shop_base::{JobNo, Moment, Plan, Planned, Shaped, shape};
+use shop_base::{JobNo, Moment, Plan, Planned, Shaped, Shop, shape};
 use std::alloc::{AllocError, Global};
 
 /// The plan with these budgets and orders, if it is accepted.
@@ -33,16 +33,56 @@ pub(crate) fn accepted_with(
     ensures order { IfOk result (λ found. IfSome found (λ kept. (plan_of kept).plan.order ≡ lists_of order.items)) }
 {
     let shaped = setting.cell.shaped();
-    let shop = copy_shop(alloc, shaped)?;
-    let plan = Plan {
-        release: copy_moments(alloc, &shaped.plan().release)?,
+    let plan = plan_with(alloc, shaped.plan(), budget, order)?;
+    match copy_shop(alloc, shaped) {
+        Ok(shop) => accepted_plan(alloc, setting, shop, plan),
+        Err(error) => {
+            drop(plan);
+            Err(error)
+        }
+    }
+}
+
+/// The plan with these budgets and orders.
+fn plan_with(
+    alloc: Global,
+    plan: &Plan,
+    budget: Vec<Moment>,
+    order: Vec<Vec<JobNo>>,
+) -> Result<Plan, AllocError>
+    ensures release { IfOk result (λ found. found.release ≡ plan.now.release) }
+    ensures budget { IfOk result (λ found. found.budget ≡ budget.items) }
+    ensures order { IfOk result (λ found. found.order ≡ lists_of order.items) }
+    ensures clean { IfOk result (λ found. found.clean ≡ plan.now.clean) }
+{
+    Ok(Plan {
+        release: copy_moments(alloc, &plan.release)?,
         budget,
         order,
-        clean: copy_cleanings(alloc, &shaped.plan().clean)?,
-    };
+        clean: copy_cleanings(alloc, &plan.clean)?,
+    })
+}
+
+/// The shop and the plan, if they fit and it is accepted.
+fn accepted_plan(
+    alloc: Global,
+    setting: &Setting<'_>,
+    shop: Shop,
+    plan: Plan,
+) -> Result<Option<Kept>, AllocError>
+    requires set { IsSet setting.now }
+    requires shop { shop ≡ setting.now.cell.plan.shop }
+    requires release { plan.release ≡ setting.now.cell.plan.plan.release }
+    requires clean { plan.clean ≡ setting.now.cell.plan.plan.clean }
+    ensures { IfOk result (λ found. IfSome found
+        (IsKeptAs (case_in setting.now).past (record { shop = shop; plan = plan }))) }
+{
     match shape(shop, plan) {
         Ok(shaped) => accepted(alloc, setting, shaped),
-        Err(_) => Ok(None),
+        Err(refused) => {
+            drop(refused);
+            Ok(None)
+        }
     }
 }
 
@@ -70,8 +110,15 @@ fn accepted_whole(alloc: Global, shaped: Shaped) -> Result<Option<Kept>, AllocEr
 {
     match verify(alloc, shaped) {
         Ok(Verdict::Accepted(verified)) => Ok(Some(Kept::Whole(verified))),
-        Ok(Verdict::Refused(_, _)) => Ok(None),
-        Err((error, _)) => Err(error),
+        Ok(Verdict::Refused(shaped, why)) => {
+            drop(shaped);
+            drop(why);
+            Ok(None)
+        }
+        Err((error, shaped)) => {
+            drop(shaped);
+            Err(error)
+        }
     }
 }
 
@@ -85,9 +132,16 @@ fn accepted_after(
     requires { IsTimely (ended_lines log.now) present shaped }
     ensures { IfOk result (λ found. IfSome found (IsKeptAfter (ended_lines log.now) present shaped)) }
 {
-    match times_after(alloc, &shaped, log, present)? {
-        Some(times) => Ok(Some(Kept::Rest(shaped, times))),
-        None => Ok(None),
+    match times_after(alloc, &shaped, log, present) {
+        Ok(Some(times)) => Ok(Some(Kept::Rest(shaped, times))),
+        Ok(None) => {
+            drop(shaped);
+            Ok(None)
+        }
+        Err(error) => {
+            drop(shaped);
+            Err(error)
+        }
     }
 }
 
@@ -102,7 +156,11 @@ fn times_after(
     ensures { IfOk result (λ found. IfSome found (AreTimesAfter (ended_lines log.now) present shaped.now)) }
 {
     match run_if_replayed(alloc, shaped, log)? {
-        Some(run) => accepted_times(alloc, &run.cell, present),
+        Some(run) => {
+            let times = accepted_times(alloc, &run.cell, present);
+            drop(run);
+            times
+        }
         None => Ok(None),
     }
 }
@@ -120,7 +178,10 @@ fn accepted_times<P: Planned>(
 {
     match verify_after(alloc, cell, present)? {
         Judged::Accepted(times) => Ok(Some(times)),
-        Judged::Refused(_) => Ok(None),
+        Judged::Refused(why) => {
+            drop(why);
+            Ok(None)
+        }
     }
 }
 

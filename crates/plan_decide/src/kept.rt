@@ -51,7 +51,11 @@ impl Kept {
     {
         match self {
             Kept::Whole(verified) => Some(verified),
-            Kept::Rest(_, _) => None,
+            Kept::Rest(shaped, times) => {
+                drop(shaped);
+                drop(times);
+                None
+            }
         }
     }
 
@@ -61,7 +65,10 @@ impl Kept {
     {
         match self {
             Kept::Whole(verified) => verified.into_shaped(),
-            Kept::Rest(shaped, _) => shaped,
+            Kept::Rest(shaped, times) => {
+                drop(times);
+                shaped
+            }
         }
     }
 }

@@ -1,6 +1,6 @@
 //! Promised jobs left out in turn, where the others still exclude each other.
 
-ghost use Rattle.std.specs.Prelude.{◌≡◌, ◌+◌, ◌<◌, IfOk, OnOk, length, map, slice_set, None};
+ghost use Rattle.std.specs.Prelude.{◌≡◌, ◌+◌, ◌<◌, ℕ, List, Option, IfOk, OnOk, length, map, slice_set, None};
 ghost use Rattle.shop_base.specs.Plan.{jobs};
 ghost use Rattle.plan_decide.specs.Asking.{NoPlanKeeps};
 ghost use Rattle.plan_decide.specs.Settings.{IsSet, case_in};
@@ -108,13 +108,29 @@ fn spare<C: Choose, W: Watch>(
     match asker.ask_limits(alloc, setting, &fewer)? {
         Answer::Never => Ok(Spared::LeftOut(fewer)),
         Answer::Open => Ok(Spared::Open),
-        Answer::Orders(order) => {
-            let budget = caps(alloc, &fewer)?;
-            match accepted_with(alloc, setting, budget, order)? {
-                Some(_) => Ok(Spared::Needed),
-                None => Ok(Spared::Open),
-            }
+        Answer::Orders(order) => needed_by(alloc, setting, &fewer, order),
+    }
+}
+
+/// Whether a job is needed, where the plan with these orders may keep the limits of the others.
+fn needed_by(
+    alloc: Global,
+    setting: &Setting<'_>,
+    fewer: &[Option<Moment>],
+    order: Vec<Vec<JobNo>>,
+) -> Result<Spared, AllocError>
+    requires count { length fewer.now ≡ jobs setting.now.cell.plan }
+    requires set { IsSet setting.now }
+    ensures { (limits : List (Option ℕ)) (j : ℕ) → fewer.now ≡ slice_set limits j None
+        → IfOk result (IsSpared (case_in setting.now) limits j) }
+{
+    let budget = caps(alloc, fewer)?;
+    match accepted_with(alloc, setting, budget, order)? {
+        Some(kept) => {
+            drop(kept);
+            Ok(Spared::Needed)
         }
+        None => Ok(Spared::Open),
     }
 }
 

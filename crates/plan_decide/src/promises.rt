@@ -37,10 +37,23 @@ pub(crate) fn ask_all<C: Choose, W: Watch>(
     ensures { IfOk result (IsReply (case_in setting.now)) }
 {
     let mut listed = all_alone(alloc, setting)?;
-    if !listed.is_empty() {
-        add_pairs(alloc, setting, asker, &mut listed)?;
-        return Ok(Reply::Never(listed));
+    if listed.is_empty() {
+        return ask_promises(alloc, setting, asker);
     }
+    add_pairs(alloc, setting, asker, &mut listed)?;
+    Ok(Reply::Never(listed))
+}
+
+/// Asks for all promises, where none is excluded by its job's bound.
+fn ask_promises<C: Choose, W: Watch>(
+    alloc: Global,
+    setting: &Setting<'_>,
+    asker: &mut Asker<'_, C, W>,
+) -> Result<Reply, AllocError>
+    requires set { IsSet setting.now }
+    requires none_alone { NoneIsAlone (case_in setting.now) }
+    ensures { IfOk result (IsReply (case_in setting.now)) }
+{
     let limits = limits_for(alloc, setting, Asked::All)?;
     match asker.ask_limits(alloc, setting, &limits)? {
         Answer::Orders(order) => Ok(Reply::Orders(order)),

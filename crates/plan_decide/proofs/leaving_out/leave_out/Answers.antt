@@ -1,9 +1,13 @@
-use Rattle.std.proofs.Common.{arith, refl, subst}
+use Rattle.std.proofs.Common.{arith, refl, subst, false}
 use Rattle.shop_base.specs.Plan.{jobs}
 use Rattle.plan_decide.specs.Settings.{case_in}
 use Rattle.plan_decide.specs.LeftOut.{AreLimited}
-use Rattle.plan_decide.proofs.Leaving.{several}
+use Rattle.plan_decide.proofs.Leaving.{several, left_begin}
 use Rattle.plan_decide.proofs.leaving_out.leave_out.Goals as goal
+
+pub loop-job-init : goal.loop-job-init
+loop-job-init g c =
+    left_begin (case_in c.args.setting.now) (record { limits = c.args.limits; or_fewer = false }) c.job_count-job.result (omega (arith, c.job_count-job.ensures.count)) c.requires.promised c.requires.none
 
 pub returns : goal.returns
 returns g c =

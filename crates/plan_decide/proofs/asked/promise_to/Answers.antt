@@ -1,0 +1,7 @@
+use Rattle.std.proofs.Common.{arith}
+use Rattle.plan_decide.specs.Settings.{case_in}
+use Rattle.plan_decide.proofs.Limits.{promise_past}
+use Rattle.plan_decide.proofs.asked.promise_to.Goals as goal
+
+pub returns-else-budget-lt-MAX_MOMENT : goal.returns-else-budget-lt-MAX_MOMENT
+returns-else-budget-lt-MAX_MOMENT c = promise_past (case_in c.args.setting.now) c.args.job c.budget_for-budget.result c.budget_for-budget.ensures (omega (arith, c.if-budget-lt-MAX_MOMENT.false))
