@@ -109,6 +109,7 @@ impl<W: BufferedSink + Drop, D: LogFile + Drop, B: InitialState> Logged<W, D, B>
     pub fn has_log_failed(&self) -> bool
         ensures { result ≡ self.now.log_failed }
     {
+        // A fault of the output isn't one of the log.
         self.log_failed
     }
 
