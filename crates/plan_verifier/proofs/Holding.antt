@@ -1,12 +1,12 @@
 -- What holds up a node is in the tables, and of its bounds one goes before all others.
-use Rattle.std.proofs.Common.{◌≡◌, ◌≢◌, ℕ, ◌+◌, ◌-◌, ◌<◌, ◌≤◌, ◌⊎◌, length, true, false, nat_lt, nat_eq, Option, None, Some, inl, inr, arith, refl, sym, ap, subst, ◌∙◌, ltb-true, eqb-true}
+use Rattle.std.proofs.Common.{◌≡◌, ◌≢◌, ℕ, ◌+◌, ◌-◌, ◌<◌, ◌≤◌, ◌⊎◌, length, Bool, true, false, nat_lt, nat_eq, if◌then◌else◌, Option, None, Some, inl, inr, arith, refl, sym, ap, subst, ◌∙◌, lt-ltb, le-ltb, ltb-true, eqb-true}
 use Rattle.std.specs.Prelude.{MatchOption}
 use Rattle.std.proofs.lemmas.Bool.{and_parts}
 use Rattle.shop_base.specs.{declared.node.Node.Node, declared.shop.Step.Step, declared.job_state.JobState.JobState}
 use Rattle.shop_base.specs.Shop.{step_at}
 use Rattle.shop_base.specs.Plan.{PlannedShop, steps, route, order, job_at, nominal, clean, release, Visits, Stands}
 use Rattle.shop_base.specs.Cell.{Cell, job_in, made, ready, since, entries, cleaning, IsOutside, IsOn}
-use Rattle.shop_base.specs.{Activity.{Cleaning, IsAwaited, IsWorked, IsCleaned}, Movers.due_of_job, Sound.IsSound}
+use Rattle.shop_base.specs.{Activity.{Cleaning, IsAwaited, IsWorked, IsCleaned}, Movers.{due_of_job, due_of_cleaning}, Sound.IsSound}
 use Rattle.shop_base.specs.Ahead.{next_node}
 use Rattle.shop_base.proofs.{CellFacts.{arrival_due, operation_due}, Ahead.held_left}
 use Rattle.alt_graph.proofs.NodeNumbers.{node_same}
@@ -90,6 +90,20 @@ module _ (p : PlannedShop) (c : Cell) where
         let goes : IsCleaned p c m from (from + clean p m) = record { is_cleaned = is; is_due = refl } in
         rw (holds_cleaned p c v (from + clean p m) m (from, goes) stands)
         (bound_is (Cleaned m from (clean p m)) (Some (from + clean p m)) 1 b (cleaned m from (from + clean p m) v goes stands) refl (rw long at same))
+
+    -- nor does a cleaning hold up a leaving, nor the entry of a machine by another than the next, or of one that isn't being cleaned
+    pub free_leaving : steps p v.job ≤ v.place → cleaned_at p c v ≡ None
+    free_leaving past = rw (le-ltb v.place (steps p v.job) past) refl
+
+    pub free_other : (m : ℕ) → Visits p v.job v.place m → is_next_in p c m v.job ≡ false → cleaned_at p c v ≡ None
+    free_other m visits other = rw (lt-ltb v.place (steps p v.job) visits.within, visits.here, other) refl
+
+    pub free_idle : (m : ℕ) → Visits p v.job v.place m → cleaning c m ≡ None → cleaned_at p c v ≡ None
+    free_idle m visits idle = rw (lt-ltb v.place (steps p v.job) visits.within, visits.here, idle) (go (is_next_in p c m v.job))
+      where
+        go : (next : Bool) → (if next then due_of_cleaning p m None else None) ≡ None
+        go true = refl
+        go false = refl
 
     -- a node that is not its job's next and not held up by a cleaning isn't held up
     pub free_later : made c v.job ≢ v.place → cleaned_at p c v ≡ None → IsHeldUp p c v → ⊥

@@ -68,7 +68,6 @@ impl<'a, P: Planned> Bounds for CellBounds<'a, P> {
         self.cell.job_state(node.job).made <= node.place
     }
 
-    #[tactic(auto, using(crate::proofs::Tables::bounds))]
     fn bound(&self, node: Node) -> Option<Moment> {
         // Called for its clause alone: the cell is sound.
         let _plan = self.cell.shaped();

@@ -44,7 +44,7 @@ impl<'a, P: Planned> Bounds for PathBounds<'a, P> {
         self.rest.is_ahead(node)
     }
 
-    #[tactic(auto, using(crate::proofs::PathsAhead::none_begins, crate::proofs::PathsAhead::one_begins))]
+    #[tactic(auto, using(crate::proofs::PathsAhead::one_begins))]
     fn bound(&self, node: Node) -> Option<Moment> {
         // Called for its clause alone: the cell is sound.
         let _plan = self.rest.cell.shaped();

@@ -57,7 +57,6 @@ pub struct NodeBound {
 /// The bound of a node, from a cell and a present moment: of all that holds it up what lasts longest. If several last
 /// equally long, the bound names what goes on with the job, else the cleaning of the machine, else that the job waits.
 /// `None` for a node that only nodes before it hold up, and for one that is passed.
-#[tactic(auto, using(crate::proofs::Holding::free_passed, crate::proofs::Holding::later_bound))]
 pub fn bound_after<P: Planned>(cell: &WorkCell<P>, present: Moment, node: Node) -> Option<NodeBound>
     requires node { IsNode cell.now.plan node }
     requires in_range { present ≤ MAX_MOMENT }
@@ -83,7 +82,6 @@ pub fn bound_after<P: Planned>(cell: &WorkCell<P>, present: Moment, node: Node) 
 
 /// The bound of a node by the cleaning of the machine that its job enters by it, if it is the next entry there and the
 /// machine is being cleaned.
-#[tactic(auto, using(crate::proofs::Holding::cleaning_bound))]
 fn cleaning_bound<P: Planned>(cell: &WorkCell<P>, present: Moment, node: Node) -> Option<NodeBound>
     requires node { IsNode cell.now.plan node }
     requires in_range { present ≤ MAX_MOMENT }

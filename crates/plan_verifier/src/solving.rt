@@ -12,7 +12,6 @@ use std::alloc::{AllocError, Global};
 /// The ranks of the nodes of a cell's plan, and the earliest moments of the nodes ahead: the greatest lengths of the
 /// paths to them from a present moment on; or a cycle. In time and memory linear in the nodes, the arcs and the
 /// machines; fails only when out of memory.
-#[tactic(auto, using(crate::proofs::Tables::rest_rooted, crate::proofs::Rests::solved_ahead))]
 pub fn solve_after<P: Planned>(
     alloc: Global,
     cell: &WorkCell<P>,

@@ -27,7 +27,6 @@ use std::alloc::{AllocError, Global};
 /// Judges a plan: looks first for a cycle, then for the first late job. When out of memory, it gives the plan back. A
 /// cycle stops every run, and in no exact run is the late job gone earlier than the verdict says, so no exact run of a
 /// refused plan has every job out by its budget.
-#[tactic(auto, using(crate::proofs::Reasons::reason_refutes, crate::proofs::Reasons::refused_stops, crate::proofs::Reasons::refused_no_faster, crate::proofs::Reasons::refused_just))]
 pub fn verify(alloc: Global, shaped: Shaped) -> Result<Verdict, (AllocError, Shaped)>
     ensures accepted { IfOk result (OnAccepted (λ verified. (verified.planned ≡ shaped) × IsAcceptable shaped)) }
     ensures refused { IfOk result (OnRefused (λ back why. (back ≡ shaped) × IsReason shaped why)) }
@@ -45,7 +44,6 @@ pub fn verify(alloc: Global, shaped: Shaped) -> Result<Verdict, (AllocError, Sha
 }
 
 /// Judges a whole plan, from its releases.
-#[tactic(auto, using(alt_graph::proofs::WholePlans::whole_rooted, crate::proofs::ByBounds::judged_whole))]
 fn judge_whole(alloc: Global, shaped: &Shaped) -> Result<Judged, AllocError>
     ensures judged { IfOk result (IsJudgedWhole shaped.now) }
     ensures well_shaped { IsWellShaped shaped.now }

@@ -6,6 +6,12 @@ use Rattle.plan_verifier.proofs.deadlines.deadlines_after.Goals as goal
 pub latest_moments-requires : goal.latest_moments-requires
 latest_moments-requires g c = rw c.shaped.ensures.plan c.requires
 
+pub returns-clause-nodes : goal.returns-clause-nodes
+returns-clause-nodes g c = rw c.shaped.ensures.plan at c.latest_moments.ensures.nodes
+
+pub returns-clause-latest : goal.returns-clause-latest
+returns-clause-latest g c = rw c.shaped.ensures.plan at c.latest_moments.ensures.latest
+
 pub returns-clause-deadlines : goal.returns-clause-deadlines
 returns-clause-deadlines g c = λ t next ordered meets. ok_each c.latest_moments.result
     (λ found latest. deadlines_from c.args.cell.now.plan c.args.cell.now.cell t c.args.times.now ordered next (moment_of found) meets

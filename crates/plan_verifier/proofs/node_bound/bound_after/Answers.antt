@@ -1,7 +1,17 @@
 use Rattle.std.proofs.Common.{◌≡◌, ap, arith}
 use Rattle.shop_base.specs.{declared.job_state.JobState.JobState, Cell.made}
-use Rattle.plan_verifier.proofs.Holding.{alone_bound, first_bound}
+use Rattle.plan_verifier.proofs.Holding.{alone_bound, first_bound, free_passed, later_bound}
 use Rattle.plan_verifier.proofs.node_bound.bound_after.Goals as goal
+
+pub returns-then-node-made : goal.returns-then-node-made
+returns-then-node-made g c =
+    free_passed c.args.cell.now.plan c.args.cell.now.cell c.args.present c.args.node c.shaped-plan.ensures.sound
+    (omega (arith, c.if-node-made.true, ap (λ (s : JobState). s.made) c.job_state-made.ensures))
+
+pub returns-then-made-node : goal.returns-then-made-node
+returns-then-made-node g c =
+    later_bound c.args.cell.now.plan c.args.cell.now.cell c.args.present c.args.node c.cleaning_bound-cleaned.result
+    (λ next. omega (arith, next, c.if-made-node.true, ap (λ (s : JobState). s.made) c.job_state-made.ensures)) c.cleaning_bound-cleaned.ensures
 
 pub returns-in-Some : goal.returns-in-Some
 returns-in-Some g c =
