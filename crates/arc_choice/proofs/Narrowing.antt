@@ -1,7 +1,7 @@
 -- States that become others without losing answers.
-use Rattle.std.proofs.Common.{◌≡◌, ◌≢◌, ℕ, ◌+◌, ◌<◌, ◌≤◌, ◌⊎◌, inl, inr, Bool, true, false, Result, Ok, Err, List, length, get_or, set, arith, sym, ap, ◌∙◌, subst, get_or-set_same, get_or-set_other, length-set}
+use Rattle.std.proofs.Common.{◌≡◌, ◌≢◌, ℕ, ◌+◌, ◌<◌, ◌≤◌, ◌⊎◌, inl, inr, Bool, true, false, Result, Ok, Err, List, length, get_or, set, arith, sym, ap, ◌∙◌, subst, get_or-set_same, get_or-set_other, length-set, replicate}
 use Rattle.std.proofs.lemmas.Bool.{cases_eq}
-use Rattle.std.proofs.lemmas.List.{get_or_default}
+use Rattle.std.proofs.lemmas.List.{get_or_default, get_or-replicate, length-replicate}
 use Rattle.arc_choice.specs.declared.question.Arc.{Arc}
 use Rattle.arc_choice.specs.declared.question.Question.{Question}
 use Rattle.arc_choice.specs.declared.branch.State.{State}
@@ -11,7 +11,7 @@ use Rattle.arc_choice.specs.declared.branch.Decision.{Decision}
 use Rattle.arc_choice.specs.declared.branch.Decision.TheVariants.{Open, One}
 use Rattle.arc_choice.specs.Choices.{Keeps, KeepsOne, Answers, IsArc, IsSound, nodes, pair_at, arc_at, no_arc, side_of}
 use Rattle.arc_choice.specs.Reach.{Rises, HasBit}
-use Rattle.arc_choice.specs.Branches.{IsForced, IsBranch, IsWithin, IsCopy, Narrows, HasNone, Propagates, Always, AreHeads, AreLatest, KeepsDecision, decision_at, decision_for}
+use Rattle.arc_choice.specs.Branches.{IsForced, IsBranch, IsWithin, HasAll, IsCopy, Narrows, HasNone, Propagates, Always, AreHeads, AreLatest, KeepsDecision, decision_at, decision_for}
 
 -- ---- one step after another
 
@@ -101,6 +101,27 @@ module _ (q : Question) (arc : Arc) (is : IsArc (nodes q) arc) where
           reach = subst (λ o. Rises o w) (sym reach) within.reach;
           decisions = λ p inside. subst (λ (list : List Decision). KeepsDecision w (pair_at q p) (get_or list p Open)) (sym decisions) (within.decisions p inside);
         };
+  }
+
+-- ---- nothing is decided
+
+module _ (q : Question) (b : Branch) (n : ℕ) (sound : IsSound q) (heads : b.state.heads.items ≡ q.first.items) (latest : b.state.latest.items ≡ q.last.items) (count : n ≡ length q.pairs.items)
+    (decisions : b.decisions.items ≡ replicate n Open) where
+  pub started : b.reach.nodes ≡ nodes q → IsBranch q b
+  started reach = record {
+    sound = sound;
+    heads = ap length heads;
+    latest = ap length latest ∙ sound.lasts;
+    reach = reach;
+    decisions = ap length decisions ∙ length-replicate n Open ∙ count;
+  }
+
+  pub started_with : ((w : ℕ → ℕ) → Answers q w → Rises b.reach w) → HasAll q b
+  started_with rises w answers = record {
+    heads = subst (λ (list : List ℕ). AreHeads list w) (sym heads) (λ v inside. answers.first v inside);
+    latest = subst (λ (list : List ℕ). AreLatest list w) (sym latest) (λ v inside. answers.last v (omega (arith, inside, sound.lasts)));
+    reach = rises w answers;
+    decisions = λ p inside. subst (KeepsDecision w (pair_at q p)) (sym (ap (λ (list : List Decision). get_or list p Open) decisions ∙ get_or-replicate n p Open Open (omega (arith, inside, count)))) tt;
   }
 
 -- ---- a choice

@@ -3,6 +3,9 @@ use Rattle.std.proofs.Common.{◌≡◌, ℕ, ◌<◌, ◌⊎◌, inl, inr, Bool
 use Rattle.arc_choice.specs.declared.question.Question.{Question}
 use Rattle.arc_choice.specs.declared.branch.Branch.{Branch}
 use Rattle.arc_choice.specs.declared.exploring.Waiting.{Waiting}
+use Rattle.arc_choice.specs.declared.exploring.Outcome.{Outcome}
+use Rattle.arc_choice.specs.declared.exploring.Outcome.TheVariants.{Never, Chosen, Open}
+use Rattle.arc_choice.specs.Outcomes.{OnNever}
 use Rattle.arc_choice.specs.Choices.{Keeps, KeepsOne, Answers, side_of, pair_at}
 use Rattle.arc_choice.specs.Branches.{IsBranch, IsWithin, IsCopy, Narrows, HasNone, Always}
 use Rattle.arc_choice.specs.Waits.{IsWaiting, AreWaiting, IsWithinOne, IsWithinSome, Goes, Splits}
@@ -83,6 +86,12 @@ module _ (q : Question) (old xs : List Waiting) (x : Waiting) (keeps : (w : ℕ 
       go : IsWithinSome q xs w ⊎ IsWithinOne q x w → IsWithinSome q xs w
       go (inl still) = still
       go (inr here) = absurd (none w answers here.keeps here.within)
+
+-- what never comes to that
+pub never_open : (P : Type 0) (outcome : Outcome) → OnNever ⊥ outcome → OnNever P outcome
+never_open P Never none = absurd none
+never_open P (Chosen moments) none = tt
+never_open P Open none = tt
 
 -- one branch stands for another
 pub splits_from : (q : Question) (b c : Branch) (xs ys : List Waiting) → Narrows Always q b c → Splits q c xs ys → Splits q b xs ys

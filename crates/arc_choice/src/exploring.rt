@@ -66,14 +66,19 @@ fn root(
 {
     let mut branch = Branch::start(alloc, question)?;
     if !branch.fits(question) {
+        drop(branch);
         return Ok(None);
     }
     if !branch.admits_arcs(question) {
+        drop(branch);
         return Ok(None);
     }
     match branch.tighten(question, links, work) {
         Ok(()) => Ok(Some(branch)),
-        Err(_) => Ok(None),
+        Err(_) => {
+            drop(branch);
+            Ok(None)
+        }
     }
 }
 
@@ -154,6 +159,7 @@ fn next<C: Choose>(
         match branch.take(question, links, work, side) {
             Ok(()) => return Some(branch),
             Err(clash) => {
+                drop(branch);
                 work.clear();
                 chooser.clashed(side.pair, clash.at);
             }

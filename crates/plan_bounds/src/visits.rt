@@ -9,7 +9,7 @@ use crate::bounds::work;
 use shop_base::{JobNo, MachineNo, Moment, Shaped, Step};
 
 /// A job's visit of a machine: its head, its nominal time there, and its tail, in whole time units.
-#[derive(Clone, Copy, Debug, Drop)]
+#[derive(Clone, Copy)]
 pub(crate) struct Visit {
     pub head: Moment,
     pub nominal: Moment,
@@ -18,7 +18,7 @@ pub(crate) struct Visit {
 
 /// What is known of a machine once some jobs were looked at: how many of them visit it, their nominal times there, the
 /// least head, the least tail, and the least that the head of one and the tail of another add up to.
-#[derive(Clone, Copy, Debug, Drop)]
+#[derive(Clone, Copy)]
 pub(crate) struct Visits {
     pub jobs: u64,
     pub work: Moment,
