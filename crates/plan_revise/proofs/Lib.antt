@@ -9,6 +9,7 @@ pub mod PlacedArcs
 pub mod RevisedLaws
 pub mod Outcomes
 pub mod Written
+pub mod AddRefused
 pub mod Downs
 pub mod Lifted
 pub mod Sooner

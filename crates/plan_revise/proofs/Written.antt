@@ -1,6 +1,6 @@
 -- What writes to the rows of a draft make of its plan.
 use Rattle.std.proofs.Common.{◌≡◌, ℕ, zero, suc, ◌+◌, ◌-◌, ◌<◌, ◌≤◌, ◌⊎◌, inl, inr, List, [], ◌∷◌, length, take, drop, get_or, set, Vec, Global, None, Some, Result, Ok, Err, Bool, true, false, eqb, refl, sym, ap, ◌∙◌, subst, arith, add-one, drop-cons}
-use Rattle.std.specs.Prelude.{IfOk, IfErr, IsTrue, ◌↔◌, slice_get}
+use Rattle.std.specs.Prelude.{IfOk, OnOk, IfErr, IsTrue, ◌↔◌, slice_get}
 use Rattle.std.specs.List.{position_or_len}
 use Rattle.std.proofs.lemmas.Bool.{eq-eqb, eqb-true, cases_Bool, cases_lt, lt-ltb}
 use Rattle.std.proofs.lemmas.List.{get_or-map, get_or_default, map-set, length-map}
@@ -24,12 +24,12 @@ use Rattle.plan_revise.specs.Orders.{changed_at, removed, put_last}
 use Rattle.plan_revise.specs.Promises.{no_promise}
 use Rattle.plan_revise.specs.Ended.{ended}
 use Rattle.plan_revise.specs.Placed.{placed}
-use Rattle.plan_revise.specs.Aside.{IsAside, IsAsideJob, IsPlant}
-use Rattle.plan_revise.specs.Changes.{lasting, Becomes}
+use Rattle.plan_revise.specs.Aside.{IsAside, IsAsideJob, IsPlant, HasRoom}
+use Rattle.plan_revise.specs.Changes.{lasting, Becomes, IsScrapped}
 use Rattle.plan_revise.specs.Refusals.{IsRefused}
 use Rattle.plan_revise.specs.Revised.{AreMade, IsRevised, IsReason}
-use Rattle.plan_revise.specs.Settings.{Setting, setting, IsAtWork}
-use Rattle.plan_revise.specs.Stopped.{place_on}
+use Rattle.plan_revise.specs.Settings.{Setting, setting, moves_made, IsAtWork}
+use Rattle.plan_revise.specs.Stopped.{place_on, stopped}
 use Rattle.plan_revise.specs.Fits.{IsSetting}
 use Rattle.plan_revise.specs.Answers.{UnlessMemory, ParsesFirst, refused_at}
 
@@ -100,6 +100,16 @@ pub reason_more : {X : Type 0} (One Other : ChangeFault → Type 0) → ((fault 
 reason_more One Other more (Ok x) why = tt
 reason_more One Other more (Err (Fault fault)) why = more fault why
 reason_more One Other more (Err Memory) why = tt
+
+-- the step that goes on is the one that the job's last move began
+pub work_at : (s : Setting) (j k m : ℕ) → IsAtWork s j k m → moves_made s j - 1 ≡ k
+work_at s j k m work = rw (lt-ltb j (jobs s.given) (visits_job s.given j k m work.on.visits)) (let entered = work.on.entered in omega (arith, entered))
+
+-- a job that is stopped where it is, is scrapped
+pub scrap_made : {X : Type 0} (s : Setting) (p q : PlannedShop) (j : ℕ) → j < jobs p → moves_made s j ≤ steps p j → (answer : Result X Refusal)
+    → OnOk answer (q ≡ stopped s p j (moves_made s j)) → OnOk answer (moves_made s j ≡ 0 → HasRoom s p) → OnOk answer (IsScrapped s p j q)
+scrap_made s p q j inside here (Ok x) is room = record { in_shop = inside; here = λ left. omega (arith, here, left); room = room; is = is }
+scrap_made s p q j inside here (Err refusal) is room = tt
 
 -- a job in an order is of the shop
 pub listed_job : (p : PlannedShop) (m a : ℕ) → IsWellShaped p → m < machines p → a < length (order p m) → job_at p m a < jobs p
