@@ -4,7 +4,7 @@ use Rattle.std.proofs.lemmas.Bool.{cases_order}
 use Rattle.std.proofs.lemmas.List.{get_or_append_left, get_or_push, length_push}
 use Rattle.shop_base.specs.declared.limits.TheConstants.{MAX_MACHINES}
 use Rattle.shop_base.specs.Plan.{PlannedShop, jobs, machines, steps, order, job_at, IsWellShaped}
-use Rattle.alt_graph.specs.Lookups.{AreFirsts, ArePlacesOf, slot_of, HasSlots}
+use Rattle.alt_graph.specs.Lookups.{AreFirsts, AreStepsOf, ArePlacesOf, slot_of, HasSlots}
 use Rattle.shop_base.proofs.Sizes.{steps_few, place_job}
 
 -- ---- the numbers of the first nodes
@@ -84,6 +84,19 @@ module _ (p : PlannedShop) (shaped : IsWellShaped p) (table : List ℕ) (slots :
   places_others m n l i machine within other apart =
       get_or-set_other table (slot_of m (job_at p m n)) (slot_of l i) n 0
       (slots_apart p l i m (job_at p m n) shaped other (place_job p shaped m n machine within) (λ same _. apart same))
+
+-- the steps of one more job
+pub jobs_more : (p : PlannedShop) (old new : List ℕ) (n : ℕ) → n < jobs p
+    → ((j : ℕ) → j < n → AreStepsOf p old j) → AreStepsOf p new n
+    → ((m j : ℕ) → j < jobs p → j ≢ n → get_or new (slot_of m j) 0 ≡ get_or old (slot_of m j) 0)
+    → (j : ℕ) → j < n + 1 → AreStepsOf p new j
+jobs_more p old new n job below noted others j lt = elim (cases_order j n) [
+  | inl same ↦ rw same noted
+  | inr other ↦ (
+      let lower : j < n = elim other [ inl less ↦ omega arith | inr more ↦ omega arith ] in
+      let apart : j ≢ n = omega arith in
+      λ k m visits. others m j (omega arith) apart ∙ below j lower k m visits)
+]
 
 -- the places of one more machine
 pub machines_more : (p : PlannedShop) (old new : List ℕ) (n : ℕ) → IsWellShaped p → n < machines p

@@ -2,7 +2,7 @@
 use Rattle.std.proofs.Common.{◌≡◌, ℕ, ◌+◌, ◌-◌, ◌<◌, ◌≤◌, Option, None, Some, MatchOption, length, arith, refl, sym, ap, ◌∙◌, subst, ◌⊎◌, inl, inr}
 use Rattle.std.proofs.lemmas.Bool.{cases_lt, cases_eq}
 use Rattle.shop_base.specs.declared.node.Node.{Node}
-use Rattle.shop_base.specs.Plan.{jobs, steps, nominal}
+use Rattle.shop_base.specs.Plan.{PlannedShop, jobs, steps, nominal}
 use Rattle.shop_base.specs.Graph.{node, IsNode, Arc, job_arc}
 use Rattle.shop_base.proofs.Cycles.{source_node}
 use Rattle.alt_graph.specs.declared.times.NodeTime.{NodeTime}
@@ -12,7 +12,7 @@ use Rattle.alt_graph.specs.Times.{time_at, rank_of}
 use Rattle.alt_graph.specs.Ranking.{PlanRanking, IsRanked, AreRanked, Grows, IsSettled, AreSettled}
 use Rattle.alt_graph.specs.Places.{node_at}
 use Rattle.alt_graph.proofs.NodeNumbers.{node_same}
-use Rattle.alt_graph.proofs.ArcKinds.{arc_kind}
+use Rattle.alt_graph.proofs.ArcKinds.{arc_kind, target_node}
 
 -- nothing has changed
 pub grows_none : (r : PlanRanking) → Grows r r
@@ -58,6 +58,12 @@ pub target_settled : (Kind : Node → Node → ℕ → Type 0) → ((u v w : Nod
     → ((x : Node) → o ≡ Some x → IsSettled r n x) → (v : Node) (d : ℕ) → Kind u v d → IsSettled r n v
 target_settled Kind once r n u None none settled v d arc = absurd (none v d arc)
 target_settled Kind once r n u (Some x) (e, other) settled v d arc = subst (λ (w : Node). IsSettled r n w) (once u x v e d other arc) (settled x refl)
+
+-- and is a node of the plan
+pub target_in : (p : PlannedShop) (Kind : Node → Node → ℕ → Type 0) (u : Node) → ((v : Node) (d : ℕ) → Kind u v d → Arc p u v d)
+    → (o : Option Node) → MatchOption o ((v : Node) (d : ℕ) → Kind u v d → ⊥) (λ v. (d : ℕ) × Kind u v d) → (x : Node) → o ≡ Some x → IsNode p x
+target_in p Kind u arcs None none x is = absurd cc
+target_in p Kind u arcs (Some y) (d, arc) x is = (let same : y ≡ x = cc in subst (λ (w : Node). IsNode p w) same (target_node p u y d (arcs y d arc)))
 
 -- after the n-th ranked node's targets are settled, all nodes are, one rank later
 pub settled_next : (r s : PlanRanking) (n : ℕ) → AreRanked r → n < length r.done → length r.done < UNRANKED → Grows r s → AreSettled r n

@@ -31,8 +31,9 @@ impl<B: Bounds> Ranking<'_, B> {
     {
         let trail = self.follow(alloc, node)?;
         let least = trail.least_place();
-        let nodes = trail.turned(alloc, least)?;
-        Ok(nodes)
+        let nodes = trail.turned(alloc, least);
+        drop(trail);
+        Ok(nodes?)
     }
 
     /// Follows arcs backwards among the nodes without a rank, until a node comes again.
@@ -48,7 +49,7 @@ impl<B: Bounds> Ranking<'_, B> {
         let mut at = self.graph.number(next);
         'back: while seen[at] == UNRANKED {
             seen[at] = nodes.len() as u32;
-            nodes.push(next)?;
+            nodes.push_reserved(next);
             next = self.free_source(next);
             at = self.graph.number(next);
         }
@@ -96,7 +97,7 @@ impl Trail {
         let count = self.nodes.len() - self.start;
         let mut nodes = Vec::with_capacity(alloc, count)?;
         for arcs in 0..count {
-            nodes.push(self.nodes[self.place_after(place, arcs)])?;
+            nodes.push_reserved(self.nodes[self.place_after(place, arcs)]);
         }
         Ok(nodes)
     }

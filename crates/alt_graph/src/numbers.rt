@@ -16,10 +16,10 @@ pub(crate) fn first_numbers(alloc: Global, shaped: &Shaped) -> Result<Vec<u32>, 
     let jobs = shaped.job_count();
     let mut firsts = Vec::with_capacity(alloc, jobs as usize + 1)?;
     let mut next = 0;
-    firsts.push(next)?;
+    firsts.push_reserved(next);
     for job in 0..jobs {
         next += shaped.step_count(job) + 1;
-        firsts.push(next)?;
+        firsts.push_reserved(next);
     }
     Ok(firsts)
 }

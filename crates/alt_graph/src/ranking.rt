@@ -1,7 +1,7 @@
 //! Ranks and greatest lengths, by a worklist of the nodes whose arcs from before are all ranked.
 
 ghost use Rattle.std.specs.Prelude.{◌≡◌, ◌+◌, ◌<◌, ◌≤◌, ◌↔◌, [], IsTrue, IfOk, MatchOption};
-ghost use Rattle.std.specs.Prelude.{MatchBool, None, ◌⊎◌, length, replicate};
+ghost use Rattle.std.specs.Prelude.{MatchBool, None, ◌⊎◌, length, replicate, vec_capacity};
 ghost use Rattle.std.specs.Option.{ForSome};
 ghost use Rattle.shop_base.specs.declared.limits.TheConstants.{MAX_NOMINAL};
 ghost use Rattle.shop_base.specs.Plan.{jobs, IsWellShaped};
@@ -51,15 +51,23 @@ pub(crate) struct Longest {
 fn no_times(alloc: Global, count: usize) -> Result<Vec<NodeTime>, AllocError>
     ensures { IfOk result (λ rows. rows.items ≡ replicate count no_time) }
 {
-    let mut rows = Vec::with_capacity(alloc, count)?;
-    for _i in 0..count {
-        rows.push(NodeTime {
-            rank: UNRANKED,
-            earliest: 0,
-            before: None,
-        })?;
-    }
-    Ok(rows)
+    let time = NodeTime {
+        rank: UNRANKED,
+        earliest: 0,
+        before: None,
+    };
+    vec![in alloc; time; count]
+}
+
+/// Room for the nodes to be ranked, and what is known of each before any is.
+fn room_for(alloc: Global, count: usize) -> Result<(Vec<Node>, Vec<NodeTime>), AllocError>
+    ensures none { IfOk result (λ room. room.0.items ≡ []) }
+    ensures enough { IfOk result (λ room. count ≤ vec_capacity room.0) }
+    ensures times { IfOk result (λ room. room.1.items ≡ replicate count no_time) }
+{
+    let done = Vec::with_capacity(alloc, count)?;
+    let rows = no_times(alloc, count)?;
+    Ok((done, rows))
 }
 
 /// The longer of two.
@@ -105,8 +113,7 @@ impl<'a, B: Bounds> Ranking<'a, B> {
         ensures none { IfOk result (λ ranking. ranking.done ≡ []) }
     {
         let nodes = graph.node_count();
-        let done = Vec::with_capacity(alloc, nodes)?;
-        let rows = no_times(alloc, nodes)?;
+        let (done, rows) = room_for(alloc, nodes)?;
         Ok(Ranking {
             graph,
             bounds,

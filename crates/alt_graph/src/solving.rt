@@ -51,7 +51,9 @@ pub fn solve_from<B: Bounds>(
     let ranking = Ranking::of(alloc, graph, bounds)?;
     match ranking.first_unranked() {
         Some(node) => {
-            let nodes = ranking.cycle_from(alloc, node)?;
+            let nodes = ranking.cycle_from(alloc, node);
+            drop(ranking);
+            let nodes = nodes?;
             Ok(Solved::Cyclic(nodes))
         }
         None => Ok(Solved::Ordered(ranking.into_times())),

@@ -1,9 +1,13 @@
 use Rattle.std.proofs.Common.{◌≡◌, ◌<◌, length, drop, arith, ap, inl, inr}
 use Rattle.std.proofs.lemmas.Bool.{cases_order}
+use Rattle.std.proofs.lemmas.Grind.{common_steps}
 use Rattle.std.proofs.lemmas.List.{take_at}
 use Rattle.shop_base.specs.Plan.{jobs, steps}
 use Rattle.shop_base.specs.Graph.{node}
 use Rattle.alt_graph.proofs.latest.by_rank.Goals as goal
+
+pub loop-job-init : goal.loop-job-init
+loop-job-init c = grind (arith, common_steps)
 
 pub loop-job-preserved : goal.loop-job-preserved
 loop-job-preserved c =

@@ -1,10 +1,28 @@
-use Rattle.std.proofs.Common.{◌≡◌, ◌-◌, ◌+◌, ◌<◌, length, get_or, None, Some, arith, sym, ap, ◌∙◌}
+use Rattle.std.proofs.Common.{◌≡◌, ℕ, ◌-◌, ◌+◌, ◌<◌, length, get_or, None, Some, arith, sym, ap, ◌∙◌, inl, inr}
+use Rattle.std.proofs.lemmas.Bool.{cases_eq}
 use Rattle.std.proofs.lemmas.List.{get_or_read}
+use Rattle.std.proofs.lemmas.Result.{err_from_is_err_and}
+use Rattle.alt_graph.specs.Times.{rank_of}
 use Rattle.alt_graph.specs.Evidence.{node_count}
 use Rattle.alt_graph.specs.LatestRows.{HasRows}
 use Rattle.alt_graph.proofs.NodeNumbers.{numbers_count}
 use Rattle.alt_graph.proofs.Latests.{latest_more, rows_more, row_inside, start_deadlines, are_inside}
 use Rattle.alt_graph.proofs.latest.latest_moments.Goals as goal
+
+pub returns-in_err-graph : goal.returns-in_err-graph
+returns-in_err-graph c =
+    let p = err_from_is_err_and c.from_residual.result c.from_residual.ensures.1 in
+    rw p.1 (record { nodes = tt; latest = tt; deadlines = λ _ _. tt })
+
+pub returns-in_err-order : goal.returns-in_err-order
+returns-in_err-order c =
+    let p = err_from_is_err_and c.from_residual-in_err-order.result c.from_residual-in_err-order.ensures.1 in
+    rw p.1 (record { nodes = tt; latest = tt; deadlines = λ _ _. tt })
+
+pub returns-in_err-moments : goal.returns-in_err-moments
+returns-in_err-moments c =
+    let p = err_from_is_err_and c.from_residual-in_err-moments.result c.from_residual-in_err-moments.ensures.1 in
+    rw p.1 (record { nodes = tt; latest = tt; deadlines = λ _ _. tt })
 
 pub by_rank-requires-clause-count : goal.by_rank-requires-clause-count
 by_rank-requires-clause-count c = c.node_count.ensures.count ∙ numbers_count _ _ c.node_count.ensures.sound.firsts ∙ ap node_count c.in_ok-graph.ensures.graph.plan
@@ -37,6 +55,38 @@ index_mut-requires c =
     let at : get_or nodes (c.back.left - 1) None ≡ Some c.in-Some.node = sym (get_or_read nodes (c.back.left - 1) c.index.result.now within c.index.ensures None) ∙ c.in-Some.is in
     let is = (c.in_ok-order.ensures.ranked (c.back.left - 1) c.in-Some.node at).0 in
     omega (arith, c.number-at.ensures.number, row_inside _ _ _ _ c.back.invariant.rows is, c.back.moments.ok.0)
+
+pub latest_of-requires-clause-node : goal.latest_of-requires-clause-node
+latest_of-requires-clause-node c =
+    let nodes = c.in_ok-order.order.items in
+    let within : c.back.left - 1 < length nodes = omega (arith, c.back-test.true, c.back.invariant.within) in
+    let at : get_or nodes (c.back.left - 1) None ≡ Some c.in-Some.node = sym (get_or_read nodes (c.back.left - 1) c.index.result.now within c.index.ensures None) ∙ c.in-Some.is in
+    rw c.in_ok-graph.ensures.graph.plan (c.in_ok-order.ensures.ranked (c.back.left - 1) c.in-Some.node at).0
+
+pub latest_of-requires-clause-rows : goal.latest_of-requires-clause-rows
+latest_of-requires-clause-rows c = rw (c.in_ok-graph.ensures.graph.plan, c.deref.ensures.value) c.back.invariant.rows
+
+pub back-smaller-in-Some : goal.back-smaller-in-Some
+back-smaller-in-Some c = omega (arith, c.back-test.true)
+
+pub back-smaller : goal.back-smaller
+back-smaller c = omega (arith, c.back-test.true)
+
+pub back-preserved : goal.back-preserved
+back-preserved c =
+    let t = c.args.times.now in
+    let nodes = c.in_ok-order.order.items in
+    let last = c.back.left - 1 in
+    let within : last < length nodes = omega (arith, c.back-test.true, c.back.invariant.within) in
+    let none : get_or nodes last None ≡ None = sym (get_or_read nodes last c.index.result.now within c.index.ensures None) ∙ c.in_default.is in
+    record {
+      rows = c.back.invariant.rows;
+      latest = λ v is le. elim (cases_eq (rank_of t v) last) [
+        | inl same ↦ absurd (let found = sym (c.in_ok-order.ensures.all v is) ∙ ap (λ (i : ℕ). get_or nodes i None) same ∙ none in cc)
+        | inr other ↦ c.back.invariant.latest v is (omega (arith, other, le))
+      ];
+      within = omega (arith, within);
+    }
 
 pub back-preserved-in-Some : goal.back-preserved-in-Some
 back-preserved-in-Some c =

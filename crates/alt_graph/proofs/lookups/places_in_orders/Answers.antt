@@ -1,5 +1,4 @@
 use Rattle.std.proofs.Common.{arith, ◌≡◌, ◌<◌, length, drop}
-use Rattle.std.proofs.lemmas.Grind.{common_steps}
 use Rattle.std.proofs.lemmas.List.{take_at}
 use Rattle.shop_base.specs.Plan.{machines}
 use Rattle.alt_graph.specs.Lookups.{HasSlots}
@@ -19,4 +18,4 @@ loop-machine-preserved c =
     })
 
 pub returns-clause-places : goal.returns-clause-places
-returns-clause-places c = grind (arith, common_steps)
+returns-clause-places c = λ m lt. c.loop-machine.invariant.places m (omega arith)

@@ -1,4 +1,4 @@
-use Rattle.std.proofs.Common.{◌≡◌, ℕ, ◌<◌, ◌++◌, ◌∷◌, [], length, get_or, replicate, arith, rules, sym, ◌∙◌, ap, subst}
+use Rattle.std.proofs.Common.{◌≡◌, ℕ, ◌<◌, length, get_or, replicate, arith, rules, sym, ◌∙◌, ap, subst}
 use Rattle.std.proofs.lemmas.List.{get_or_read}
 use Rattle.alt_graph.specs.declared.times.TheConstants.{UNRANKED}
 use Rattle.shop_base.specs.Graph.{HasArc}
@@ -15,6 +15,7 @@ back-init g c =
     let free : IsUnranked (ranking_of c.self.inside.graph (g.B.Bounds.bounds c.self.inside.bounds) c.self.inside.done.items c.self.inside.rows.items) c.args.node = subst (λ (r : PlanRanking). IsUnranked r c.args.node) (sym c.self.view_is) c.requires.node in
     record {
       walk = rw (seen, c.in_ok-nodes.ensures.items) (walk_none _ c.self.inside.graph.firsts c.self.invariant.sound.firsts c.self.inside.rows.items c.self.invariant.size c.args.node free.node free.free);
+      room = omega (arith, rows, c.in_ok-nodes.ensures.capacity, c.len-2.ensures);
       at = c.number-at.ensures.number;
     }
 
@@ -26,6 +27,23 @@ index_mut-requires g c = omega (arith, c.back.invariant.at, inside _ c.self.insi
 
 pub index-requires-2 : goal.index-requires-2
 index-requires-2 g c = omega (arith, c.back.invariant.at, inside _ c.self.inside.graph.firsts c.self.invariant.sound.firsts c.self.inside.rows.items c.self.invariant.size c.back.nodes.items c.back.seen.items c.back.next c.back.invariant.walk, c.back.seen.ok.0)
+
+pub push_reserved-requires : goal.push_reserved-requires
+push_reserved-requires g c =
+    let firsts = c.self.inside.graph.firsts in
+    let rows = c.self.inside.rows.items in
+    let seen = c.back.seen.items in
+    let within : c.back.at < length seen = omega (arith, c.back.invariant.at, inside _ firsts c.self.invariant.sound.firsts rows c.self.invariant.size c.back.nodes.items seen c.back.next c.back.invariant.walk) in
+    let read : c.index.result.now ≡ get_or seen c.back.at 0 = get_or_read seen c.back.at c.index.result.now within c.index.ensures 0 in
+    let free : get_or seen (number_of firsts c.back.next) 0 ≡ UNRANKED = ap (λ (i : ℕ). get_or seen i 0) (sym c.back.invariant.at) ∙ sym read ∙ c.back-test.true in
+    omega (
+      arith,
+      c.back.invariant.room,
+      c.back.nodes.ok.0,
+      c.back.invariant.walk.count,
+      c.back.invariant.walk.size,
+      walk_shorter _ firsts c.self.invariant.sound.firsts rows c.self.invariant.size c.back.nodes.items seen c.back.next c.back.invariant.walk free,
+    )
 
 pub back-smaller : goal.back-smaller
 back-smaller g c =
@@ -50,10 +68,10 @@ back-preserved g c =
     let source = c.free_source-next.result in
     let free_source : IsUnranked (ranking_of c.self.inside.graph (g.B.Bounds.bounds c.self.inside.bounds) c.self.inside.done.items c.self.inside.rows.items) source = subst (λ (r : PlanRanking). IsUnranked r source) (sym c.self.view_is) c.free_source-next.ensures.node in
     let arc : HasArc c.self.inside.graph.plan source c.back.next = subst (λ (r : PlanRanking). HasArc r.plan source c.back.next) (sym c.self.view_is) c.free_source-next.ensures.arc in
-    let pushed : c.push.new.self.items ≡ c.back.nodes.items ++ c.back.next ∷ [] = search rules in
     record {
-      walk = rw (pushed, place, c.back.invariant.at) (walk_more _ firsts c.self.invariant.sound.firsts rows c.self.invariant.size c.back.nodes.items seen c.back.next c.back.invariant.walk free
+      walk = rw (c.push_reserved.ensures.items, place, c.back.invariant.at) (walk_more _ firsts c.self.invariant.sound.firsts rows c.self.invariant.size c.back.nodes.items seen c.back.next c.back.invariant.walk free
           source free_source.node free_source.free arc);
+      room = omega (arith, c.push_reserved.ensures.capacity, c.back.invariant.room);
       at = c.number-at-in-back.ensures.number;
     }
 

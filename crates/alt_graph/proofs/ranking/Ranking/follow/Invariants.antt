@@ -1,12 +1,14 @@
-use Rattle.std.proofs.Common.{◌≡◌}
+use Rattle.std.proofs.Common.{◌≡◌, ◌≤◌, length}
+use Rattle.std.specs.Prelude.{vec_capacity}
 use Rattle.alt_graph.specs.Layout.{number_of}
 use Rattle.alt_graph.specs.Trails.{IsWalk, unseen}
 use Rattle.alt_graph.proofs.ranking.Ranking.follow.Given as goal
 
--- the nodes followed so far
+-- the nodes followed so far, and room for all
 abbrev pub invariant-back : goal.invariant-back
 invariant-back g l = record {
   walk : IsWalk l.self-inside.graph.plan l.self-inside.graph.firsts l.self-inside.rows.items l.nodes.items l.seen.items l.next;
+  room : length l.self-inside.rows.items ≤ vec_capacity l.nodes;
   at : l.at ≡ number_of l.self-inside.graph.firsts l.next;
 }
 

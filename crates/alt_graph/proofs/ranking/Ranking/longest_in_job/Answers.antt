@@ -9,6 +9,7 @@ use Rattle.alt_graph.specs.Bounds.{AreRooted, bound_of}
 use Rattle.alt_graph.specs.Sources.{IsJobArc}
 use Rattle.alt_graph.specs.Times.{rank_of}
 use Rattle.alt_graph.specs.Ranking.{PlanRanking, WaitsFor, IsLongest, IsFromBound, IsOver, IsWith}
+use Rattle.shop_base.proofs.Cycles.{source_node}
 use Rattle.alt_graph.proofs.ArcKinds.{arc_short, job_arc_is}
 use Rattle.alt_graph.proofs.LongestPaths.{has_bound, longest_along, longest_both, longest_bound, waits_for}
 use Rattle.alt_graph.proofs.ranking.Ranking.longest_in_job.Goals as goal
@@ -31,6 +32,12 @@ module _ (r : PlanRanking) (shaped : IsWellShaped r.plan) (rooted : AreRooted r.
       → (o : Option Longest) → MatchOption o (bound_of r.bounds v ≡ None) (IsFromBound r v) → MatchOption o (WaitsFor r UNRANKED v) (IsLongest r (IsJobArc r.plan) v)
   bound_alone none None free = absurd (has_bound r shaped rooted v is none free)
   bound_alone none (Some longest) at_base = longest_bound r shaped rooted v is longest none at_base
+
+pub longest_over-requires-clause-node : goal.longest_over-requires-clause-node
+longest_over-requires-clause-node g c = source_node _ _ _ _ (job_arc_is _ _ _ _ (rw c.shaped-shaped.ensures.plan at c.in-Some.ensures.arc))
+
+pub longest_with-requires-clause-node : goal.longest_with-requires-clause-node
+longest_with-requires-clause-node g c = source_node _ _ _ _ (job_arc_is _ _ _ _ (rw c.shaped-shaped.ensures.plan at c.in-Some.ensures.arc))
 
 pub longest_over-requires-clause-short : goal.longest_over-requires-clause-short
 longest_over-requires-clause-short g c = arc_short _ _ _ _ c.shaped-shaped.ensures.sound (job_arc_is _ _ _ _ (rw c.shaped-shaped.ensures.plan at c.in-Some.ensures.arc))

@@ -9,6 +9,7 @@ use Rattle.alt_graph.specs.Bounds.{AreRooted}
 use Rattle.alt_graph.specs.Sources.{IsJobArc, IsBlockingArc}
 use Rattle.alt_graph.specs.Times.{rank_of}
 use Rattle.alt_graph.specs.Ranking.{PlanRanking, WaitsFor, IsLongest, IsWith}
+use Rattle.shop_base.proofs.Cycles.{source_node}
 use Rattle.alt_graph.proofs.ArcKinds.{arc_short, blocking_arc_is}
 use Rattle.alt_graph.proofs.LongestPaths.{longest_alone, longest_freed, waits_for}
 use Rattle.alt_graph.proofs.Ranks.{shaped_of, rooted_of}
@@ -18,6 +19,13 @@ over_freed : (r : PlanRanking) (shaped : IsWellShaped r.plan) (rooted : AreRoote
     → (along : Longest) → IsLongest r (IsJobArc r.plan) v along → (o : Option Longest) → MatchOption o (rank_of r.times s.node ≡ UNRANKED) (IsWith r along s) → MatchOption o (WaitsFor r UNRANKED v) (IsLongest r (Arc r.plan) v)
 over_freed r shaped rooted v is s arc along is_along None free = waits_for r shaped rooted v is s (blocking_arc_is r.plan s.node v s.length arc) free
 over_freed r shaped rooted v is s arc along is_along (Some longest) both = longest_freed r shaped rooted v is along s longest is_along arc both
+
+pub returns-in_err-along : goal.returns-in_err-along
+returns-in_err-along g c = rw c.from_residual.ensures c.in_err-along.ensures
+
+pub longest_with-requires-clause-node : goal.longest_with-requires-clause-node
+longest_with-requires-clause-node g c =
+    subst (λ (q : PlanRanking). IsNode q.plan c.in-Some.source.node) c.self.view_is (source_node _ _ _ _ (blocking_arc_is _ _ _ _ c.in-Some.ensures.arc))
 
 pub longest_with-requires-clause-short : goal.longest_with-requires-clause-short
 longest_with-requires-clause-short g c = arc_short _ _ _ _ c.in-Some.ensures.sound.shaped (blocking_arc_is _ _ _ _ c.in-Some.ensures.arc)

@@ -7,10 +7,23 @@ use Rattle.alt_graph.specs.declared.times.TheConstants.{UNRANKED}
 use Rattle.alt_graph.specs.Sources.{IsJobArc, IsBlockingArc, IsTarget}
 use Rattle.alt_graph.specs.Ranking.{PlanRanking, IsSettled}
 use Rattle.alt_graph.specs.Places.{node_at}
-use Rattle.alt_graph.proofs.ArcKinds.{job_arc_is, target_node, job_target_once, blocking_target_once}
+use Rattle.alt_graph.proofs.ArcKinds.{job_arc_is, blocking_arc_is, target_node, job_target_once, blocking_target_once}
 use Rattle.alt_graph.proofs.Ranks.{ranks_of}
-use Rattle.alt_graph.proofs.Settling.{grows_on, settled_still, settled_earlier, settled_next, target_settled}
+use Rattle.alt_graph.proofs.Settling.{grows_on, settled_still, settled_earlier, settled_next, target_settled, target_in}
 use Rattle.alt_graph.proofs.ranking.Ranking.rank_after.Goals as goal
+
+pub try_target-requires : goal.try_target-requires
+try_target-requires g c =
+    let p = c.args.self.now.plan in
+    target_in p (IsJobArc p) c.index-node.result.now (λ v d arc. job_arc_is p c.index-node.result.now v d arc) c.job_target-target.result (rw c.shaped.ensures.plan at c.job_target-target.ensures)
+
+pub try_target-requires-2 : goal.try_target-requires-2
+try_target-requires-2 g c =
+    let p = c.try_target.new.self.plan in
+    let u = c.index-node.result.now in
+    let to_block : IsTarget (IsBlockingArc p) u c.blocking_target-target.result =
+    subst (λ (q : PlannedShop). IsTarget (IsBlockingArc q) u c.blocking_target-target.result) (ap (λ (r : PlanRanking). r.plan) c.self-2.view_is) c.blocking_target-target.ensures in
+    target_in p (IsBlockingArc p) u (λ v d arc. blocking_arc_is p u v d arc) c.blocking_target-target.result to_block
 
 pub returns-clause-grows : goal.returns-clause-grows
 returns-clause-grows g c = grows_on _ _ _ c.try_target.ensures.grows c.try_target-2.ensures.grows
