@@ -39,10 +39,6 @@ pub(crate) struct Moves {
 
 impl Moves {
     pub fn new(alloc: Global, nodes: usize) -> Result<Moves, AllocError> {
-        let mut marks = Vec::with_capacity(alloc, nodes)?;
-        for _i in 0..nodes {
-            marks.push(Mark { stamp: 0, bound: 0 })?;
-        }
         Ok(Moves {
             swaps: vec![in alloc; NONE; nodes]?,
             made: 0,
@@ -50,7 +46,7 @@ impl Moves {
             last: 0,
             limit: 0,
             least: 0,
-            marks,
+            marks: vec![in alloc; Mark { stamp: 0, bound: 0 }; nodes]?,
             stamp: 0,
             stack: vec![in alloc; NONE; nodes]?,
             height: 0,

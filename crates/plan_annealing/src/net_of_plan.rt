@@ -215,35 +215,46 @@ pub(crate) fn orders_of(
     let mut firsts = vec![in alloc; NONE; machines as usize]?;
     unlink(&mut net.spots);
     relink(&mut net.spots, &net.saved, &mut firsts);
+    orders_from(alloc, net, begun, machines, &firsts)
+}
+
+/// The orders of the machines that are entered at these nodes next.
+fn orders_from(
+    alloc: Global,
+    net: &Net,
+    begun: Option<&Plan>,
+    machines: u32,
+    firsts: &[u32],
+) -> Result<Vec<Vec<JobNo>>, AllocError>
+    ensures { IfOk result (λ orders. length orders.items ≡ machines) }
+{
     let mut orders = Vec::new(alloc);
     for machine in 0..machines {
         let first = firsts.get(machine as usize).copied().unwrap_or(NONE);
-        let entered = entered_on(alloc, net, begun, machine)?;
-        orders.push(order_of(net, entered, first)?)?;
+        orders.push(order_of(alloc, net, begun, machine, first)?)?;
     }
     Ok(orders)
 }
 
-/// The jobs that have entered the machine, in order.
-fn entered_on(
-    alloc: Global,
+/// Adds the jobs that have entered the machine, in order.
+fn add_entered(
     net: &Net,
     begun: Option<&Plan>,
     machine: MachineNo,
-) -> Result<Vec<JobNo>, AllocError> {
-    let mut entered = Vec::new(alloc);
-    let order = match begun {
-        Some(plan) => plan.order.get(machine as usize),
-        None => None,
+    order: &mut Vec<JobNo>,
+) -> Result<(), AllocError> {
+    let Some(plan) = begun else {
+        return Ok(());
     };
-    if let Some(order) = order {
-        for job in order {
-            if entry_of(net, *job, machine) == NONE {
-                entered.push(*job)?;
-            }
+    let Some(entries) = plan.order.get(machine as usize) else {
+        return Ok(());
+    };
+    for job in entries {
+        if entry_of(net, *job, machine) == NONE {
+            order.push(*job)?;
         }
     }
-    Ok(entered)
+    Ok(())
 }
 
 /// Lets no node lead to another job.
@@ -266,9 +277,22 @@ fn relink(spots: &mut [Spot], saved: &[u32], firsts: &mut [u32]) {
     }
 }
 
-/// The order of a machine that is entered here next, after these jobs.
-fn order_of(net: &Net, entered: Vec<JobNo>, first: u32) -> Result<Vec<JobNo>, AllocError> {
-    let mut order = entered;
+/// The order of a machine that is entered here next, after the jobs that have entered it.
+fn order_of(
+    alloc: Global,
+    net: &Net,
+    begun: Option<&Plan>,
+    machine: MachineNo,
+    first: u32,
+) -> Result<Vec<JobNo>, AllocError> {
+    let mut order = Vec::new(alloc);
+    add_entered(net, begun, machine, &mut order)?;
+    add_ahead(net, first, &mut order)?;
+    Ok(order)
+}
+
+/// Adds the jobs that enter the machine from this entry on.
+fn add_ahead(net: &Net, first: u32, order: &mut Vec<JobNo>) -> Result<(), AllocError> {
     let mut entry = first;
     for _ in 0..net.spans.len() {
         if let Some(spot) = net.spots.get(entry as usize) {
@@ -276,5 +300,5 @@ fn order_of(net: &Net, entered: Vec<JobNo>, first: u32) -> Result<Vec<JobNo>, Al
             entry = spot_at(&net.spots, spot.next).target;
         }
     }
-    Ok(order)
+    Ok(())
 }

@@ -32,36 +32,49 @@ pub(crate) struct Pass {
     pub looks: u64,
 }
 
+/// The row of no node.
+const NO_ROW: Old = Old {
+    head: 0,
+    before: NONE,
+    node: NONE,
+};
+
+/// The rows of so many nodes in the order of their numbers, without moments.
+fn rows_of(alloc: Global, nodes: usize) -> Result<Vec<Row>, AllocError> {
+    let mut rows = Vec::with_capacity(alloc, nodes)?;
+    for number in 0..count(nodes) {
+        rows.push(Row {
+            head: 0,
+            tail: 0,
+            before: NONE,
+            place: number,
+        })?;
+    }
+    Ok(rows)
+}
+
+/// The numbers of so many nodes.
+fn numbers(alloc: Global, nodes: usize) -> Result<Vec<u32>, AllocError> {
+    let mut numbers = Vec::with_capacity(alloc, nodes)?;
+    for number in 0..count(nodes) {
+        numbers.push(number)?;
+    }
+    Ok(numbers)
+}
+
 impl Pass {
     /// The nodes in the order of their numbers, without moments.
     pub fn new(alloc: Global, nodes: usize) -> Result<Pass, AllocError> {
-        let mut rows = Vec::with_capacity(alloc, nodes)?;
-        let mut order = Vec::with_capacity(alloc, nodes)?;
-        let mut olds = Vec::with_capacity(alloc, nodes)?;
-        for number in 0..count(nodes) {
-            rows.push(Row {
-                head: 0,
-                tail: 0,
-                before: NONE,
-                place: number,
-            })?;
-            order.push(number)?;
-            olds.push(Old {
-                head: 0,
-                before: NONE,
-                node: NONE,
-            })?;
-        }
         Ok(Pass {
-            rows,
-            order,
+            rows: rows_of(alloc, nodes)?,
+            order: numbers(alloc, nodes)?,
             part: Part {
                 first: 0,
                 last: 0,
                 limit: 0,
             },
             changed: 0,
-            olds,
+            olds: vec![in alloc; NO_ROW; nodes]?,
             timed: 0,
             off: vec![in alloc; NONE; nodes]?,
             off_count: 0,
@@ -220,12 +233,19 @@ impl Pass {
     pub fn undo(&mut self) {
         self.put_all_on();
         for turn in 0..self.timed {
-            if let Some(old) = self.olds.get(turn as usize) {
-                if let Some(row) = self.rows.get_mut(old.node as usize) {
-                    row.head = old.head;
-                    row.before = old.before;
-                }
-            }
+            self.put_back(turn);
+        }
+    }
+
+    /// Gives the node that was timed at this turn its moment before the pass.
+    #[inline(always)]
+    fn put_back(&mut self, turn: u32) {
+        let Some(old) = self.olds.get(turn as usize) else {
+            return;
+        };
+        if let Some(row) = self.rows.get_mut(old.node as usize) {
+            row.head = old.head;
+            row.before = old.before;
         }
     }
 

@@ -1,5 +1,5 @@
 use Rattle.std.proofs.Common.{◌≡◌, length}
-use Rattle.plan_annealing.proofs.net_of_plan.orders_of.Given as goal
+use Rattle.plan_annealing.proofs.net_of_plan.orders_from.Given as goal
 
 -- an order for each machine so far
 abbrev pub invariant-loop-machine : goal.invariant-loop-machine
