@@ -1,5 +1,5 @@
 -- The text that is written for an instance: job lines one after the other, and what reading it back says.
-use Rattle.std.proofs.Common.{◌≡◌, ℕ, suc, ◌+◌, ◌<◌, Bool, true, false, List, [], ◌∷◌, ◌++◌, length, get_or, drop, MatchBool, refl, sym, ap, ◌∙◌, subst, append_assoc, add-one, drop-cons}
+use Rattle.std.proofs.Common.{◌≡◌, ℕ, suc, ◌+◌, ◌<◌, Bool, true, false, List, [], ◌++◌, length, get_or, drop, MatchBool, sym, ap, ◌∙◌, subst, append_assoc, add-one, drop-cons}
 use Rattle.shop_base.specs.declared.shop.Step.{Step}
 use Rattle.shop_base.specs.Shop.{JobShop}
 use Rattle.orlib_read.specs.Instance.{IsInstance}

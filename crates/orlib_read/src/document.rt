@@ -86,13 +86,19 @@ pub fn instance_lines(alloc: Global, description: &[u8], shop: &Shop) -> Result<
     ensures { IfOk result (λ text. text.items ≡ instance_lines description.now shop.now) }
 {
     let mut text = Vec::new(alloc);
-    push_description(&mut text, description)?;
-    push_number(&mut text, u64::from(shop.jobs()))?;
-    text.push(b' ')?;
-    push_number(&mut text, u64::from(shop.machines()))?;
-    text.push(b'\n')?;
-    push_jobs(&mut text, shop)?;
+    push_lines(&mut text, description, shop)?;
     Ok(text)
+}
+
+fn push_lines(text: &mut Vec<u8>, description: &[u8], shop: &Shop) -> Result<(), AllocError>
+    ensures { OnOk result (text.new.items ≡ text.old.items ++ instance_lines description.now shop.now) }
+{
+    push_description(text, description)?;
+    push_number(text, u64::from(shop.jobs()))?;
+    text.push(b' ')?;
+    push_number(text, u64::from(shop.machines()))?;
+    text.push(b'\n')?;
+    push_jobs(text, shop)
 }
 
 fn push_description(text: &mut Vec<u8>, description: &[u8]) -> Result<(), AllocError>
