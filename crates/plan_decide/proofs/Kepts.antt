@@ -1,8 +1,8 @@
 -- Settings, and plans that are kept in them.
-use Rattle.std.proofs.Common.{◌≡◌, ◌≢◌, ℕ, ◌-◌, ◌<◌, ◌≤◌, ◌⊎◌, inl, inr, false, List, [], take, drop, length, slice_index, set, Option, None, Some, arith, refl, sym, ap, subst, ◌∙◌, true≢false}
+use Rattle.std.proofs.Common.{◌≡◌, ◌≢◌, ℕ, ◌-◌, ◌<◌, ◌≤◌, ◌⊎◌, inl, inr, false, List, [], take, drop, length, set, Option, None, Some, arith, refl, sym, ap, subst, ◌∙◌, true≢false}
 use Rattle.std.specs.Prelude.{Result, Ok, Err, IfOk, IfSome}
 use Rattle.std.proofs.lemmas.Bool.{cases_lt}
-use Rattle.std.proofs.lemmas.List.{get_or-set_same, get_or-set_other, length-set, nil_from_length, take_all, length-drop}
+use Rattle.std.proofs.lemmas.List.{length-set, nil_from_length, take_all, length-drop}
 use Rattle.std.proofs.lemmas.List.Sums.{sum_by-take-drop}
 use Rattle.shop_base.specs.declared.node.Node.{Node}
 use Rattle.shop_base.specs.declared.limits.TheConstants.{MAX_MOMENT}
@@ -16,12 +16,10 @@ use Rattle.cell_tables.specs.declared.entry.Entry.{Entry}
 use Rattle.cell_tables.specs.Events.{events_of}
 use Rattle.text_lines.specs.Lines.{ended_lines}
 use Rattle.event_lines.specs.LogLines.{LinesParse}
-use Rattle.run_log.specs.Audits.{IsReplayed}
 use Rattle.shop_base.specs.Report.{IsNextMoment}
-use Rattle.shop_base.specs.Graph.{leaving, IsNode}
+use Rattle.shop_base.specs.Graph.{leaving}
 use Rattle.shop_base.specs.Ahead.{PathAhead}
-use Rattle.alt_graph.specs.Times.{NodeTimes, AreRanks, earliest_of}
-use Rattle.plan_verifier.specs.Accepted.{VerifiedPlan, IsGreatest, IsMakespan}
+use Rattle.alt_graph.specs.Times.{NodeTimes, earliest_of}
 use Rattle.plan_verifier.specs.Leavings.{leaves_in, IsLastLeaving}
 use Rattle.plan_verifier.specs.RestVerdicts.{IsAcceptableAhead}
 use Rattle.plan_bounds.specs.Bounds.{ShopTimes, times_of}
@@ -35,7 +33,7 @@ use Rattle.plan_improve.proofs.OneCell.{parses_run}
 use Rattle.plan_decide.specs.declared.aim.Objective.{Objective}
 use Rattle.plan_decide.specs.declared.aim.Objective.TheVariants.{Makespan, Leaving}
 use Rattle.plan_decide.specs.declared.kept.Kept.{Kept}
-use Rattle.plan_decide.specs.declared.kept.Kept.TheVariants.{Whole, Rest}
+use Rattle.plan_decide.specs.declared.kept.Kept.TheVariants.{Rest}
 use Rattle.plan_decide.specs.declared.setting.Past.{Past as Happened}
 use Rattle.plan_decide.specs.declared.setting.Past.TheVariants.{Nothing, Run}
 use Rattle.plan_decide.specs.Cases.{Past, nothing, run_to, Case, HasValue, is_waiting, times_in, job_count}
@@ -43,7 +41,7 @@ use Rattle.plan_decide.specs.Pasts.{IsPastOf, unbegun, begun}
 use Rattle.plan_decide.specs.Objectives.{IsLeast}
 use Rattle.plan_decide.specs.declared.setting.Setting.{Setting}
 use Rattle.plan_decide.specs.Asking.{NoPlanKeeps}
-use Rattle.plan_decide.specs.Settings.{past_in, present_in, case_in, IsSet, HasLed, plan_of, FitsPast, IsKeptAs, IsKeptAfter, IsTimely, IsPastBy, freed}
+use Rattle.plan_decide.specs.Settings.{past_in, present_in, case_in, IsSet, HasLed, FitsPast, IsKeptAs, IsKeptAfter, IsTimely, IsPastBy, freed}
 use Rattle.plan_decide.proofs.Bounded.{IsRootedIn, same_cell, gone_least}
 use Rattle.plan_decide.proofs.Limits.{IsReachedBy, none_keeps}
 

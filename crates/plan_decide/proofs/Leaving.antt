@@ -10,7 +10,7 @@ use Rattle.plan_limits.specs.Limits.{limit_of}
 use Rattle.plan_decide.specs.declared.asked.Asked.TheVariants.{All as AllAsked}
 use Rattle.plan_decide.specs.declared.decided.Excluded.TheVariants.{Several}
 use Rattle.plan_decide.specs.declared.leaving_out.Left.{Left}
-use Rattle.plan_decide.specs.Cases.{Case, IsOutWithin, is_waiting, job_count, budget_in, times_in, with_budgets}
+use Rattle.plan_decide.specs.Cases.{Case, is_waiting, job_count, budget_in, times_in, with_budgets}
 use Rattle.plan_decide.specs.Promises.{IsPromised}
 use Rattle.plan_decide.specs.Excluding.{AreExcluded, HasPlanWithout, AreNeeded, IsSaidOf, IsExclusion}
 use Rattle.plan_decide.specs.Decisions.{IsAcceptedWith}

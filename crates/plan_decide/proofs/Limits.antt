@@ -1,31 +1,23 @@
 -- The limits of a question, and what an answer to it says.
-use Rattle.std.proofs.Common.{◌≡◌, ℕ, ◌+◌, ◌<◌, ◌≤◌, min, nat_lt, ◌==◌, ◌||◌, if◌then◌else◌, Bool, true, false, List, [], ◌∷◌, ◌++◌, length, Contains, Option, None, Some, is_some, arith, refl, sym, ap, ◌∙◌, subst, inl, inr, true≢false, eqb-true, ltb-true}
-use Rattle.std.proofs.lemmas.Bool.{cases_eq, cases_lt, or_cases, cond_above}
-use Rattle.std.proofs.lemmas.List.{get_or_append_left, get_or_push, length_push}
+use Rattle.std.proofs.Common.{◌≡◌, ℕ, ◌<◌, ◌≤◌, nat_lt, ◌==◌, ◌||◌, if◌then◌else◌, Bool, true, false, List, [], ◌∷◌, length, Contains, Option, None, Some, is_some, arith, refl, sym, ap, ◌∙◌, subst, inl, inr, true≢false, eqb-true, ltb-true}
+use Rattle.std.proofs.lemmas.Bool.{or_cases, cond_above}
 use Rattle.shop_base.specs.declared.limits.TheConstants.{MAX_MOMENT}
-use Rattle.shop_base.specs.Plan.{PlannedShop, jobs, IsWellShaped}
+use Rattle.shop_base.specs.Plan.{PlannedShop, jobs}
 use Rattle.shop_base.specs.Cell.{Cell, IsGone, start}
 use Rattle.plan_bounds.specs.Bounds.{times_of}
-use Rattle.plan_limits.specs.declared.asking.Answer.{Answer}
-use Rattle.plan_limits.specs.declared.asking.Answer.TheVariants.{Never, Orders, Open}
 use Rattle.plan_limits.specs.Stages.{stage_of}
-use Rattle.plan_limits.specs.Limits.{limit_of, NoPlanKeepsFrom}
-use Rattle.plan_limits.specs.Answered.{OnNever}
+use Rattle.plan_limits.specs.Limits.{NoPlanKeepsFrom}
 use Rattle.plan_limits.proofs.Acceptance.{the_start_is_every_plan-holds}
-use Rattle.plan_seek.specs.Tasks.{with_order}
 use Rattle.run_log.specs.Present.{IsCellOf}
-use Rattle.plan_decide.specs.declared.aim.Objective.{Objective}
-use Rattle.plan_decide.specs.declared.aim.Objective.TheVariants.{Makespan, Leaving}
 use Rattle.plan_decide.specs.declared.asked.Asked.{Asked}
-use Rattle.plan_decide.specs.declared.asked.Asked.TheVariants.{Both, AtMost}
-use Rattle.plan_decide.specs.Cases.{Past, nothing, run_to, Case, IsAccepted, IsOutWithin, HasValue, is_waiting, job_count, budget_in, times_in, with_budgets}
+use Rattle.plan_decide.specs.declared.asked.Asked.TheVariants.{Both}
+use Rattle.plan_decide.specs.Cases.{Past, nothing, run_to, Case, is_waiting, job_count, budget_in, times_in, with_budgets}
 use Rattle.plan_decide.specs.Pasts.{case_of}
 use Rattle.plan_decide.specs.Excluding.{AreExcluded}
-use Rattle.plan_decide.specs.Objectives.{IsLeast}
-use Rattle.plan_decide.specs.Asking.{promise_in, limit_asked, AreLimits, KeepsAsked, IsImpossible, KeepsLimits, NoPlanKeeps}
+use Rattle.plan_decide.specs.Asking.{promise_in, AreLimits, IsImpossible, NoPlanKeeps}
 use Rattle.plan_decide.specs.LeftOut.{cap}
 use Rattle.plan_decide.proofs.Budgets.{out_later}
-use Rattle.plan_decide.proofs.Bounded.{goes_on, here_waits, makespan_out, leaving_out, good_acyclic, good_out, accepted_plan}
+use Rattle.plan_decide.proofs.Bounded.{goes_on, here_waits}
 
 -- a limit that depends on a test
 pub limit_if : (b : Bool) (limit : Option ℕ) (n : ℕ) → (if b then limit else None) ≡ Some n → (b ≡ true) × (limit ≡ Some n)

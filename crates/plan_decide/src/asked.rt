@@ -32,11 +32,8 @@ pub(crate) fn promise_to(setting: &Setting<'_>, job: JobNo) -> Option<Moment>
         return None;
     }
     let budget = budget_for(setting, job);
-    if budget < MAX_MOMENT {
-        Some(budget)
-    } else {
-        None
-    }
+    let is_promised = budget < MAX_MOMENT;
+    if is_promised { Some(budget) } else { None }
 }
 
 /// The limit of a job, if the job is asked for.

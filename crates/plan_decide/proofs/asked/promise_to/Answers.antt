@@ -3,5 +3,5 @@ use Rattle.plan_decide.specs.Settings.{case_in}
 use Rattle.plan_decide.proofs.Limits.{promise_past}
 use Rattle.plan_decide.proofs.asked.promise_to.Goals as goal
 
-pub returns-else-budget-lt-MAX_MOMENT : goal.returns-else-budget-lt-MAX_MOMENT
-returns-else-budget-lt-MAX_MOMENT c = promise_past (case_in c.args.setting.now) c.args.job c.budget_for-budget.result c.budget_for-budget.ensures (omega (arith, c.if-budget-lt-MAX_MOMENT.false))
+pub returns-else-is_promised : goal.returns-else-is_promised
+returns-else-is_promised c = promise_past (case_in c.args.setting.now) c.args.job c.budget_for-budget.result c.budget_for-budget.ensures (omega (arith, c.if-is_promised.false))

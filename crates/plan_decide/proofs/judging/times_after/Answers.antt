@@ -1,9 +1,8 @@
-use Rattle.std.proofs.Common.{Some, sym, subst, ap}
+use Rattle.std.proofs.Common.{subst}
 use Rattle.std.specs.Prelude.{IfOk, IfSome}
 use Rattle.text_lines.specs.Lines.{ended_lines}
 use Rattle.plan_verifier.specs.Rest.{AreOrderedAhead}
 use Rattle.plan_verifier.specs.RestVerdicts.{IsAcceptableAhead}
-use Rattle.run_log.specs.Present.{IsCellOf}
 use Rattle.plan_decide.specs.Settings.{AreTimesAfter}
 use Rattle.plan_decide.proofs.Kepts.{kept_if}
 use Rattle.plan_decide.proofs.judging.times_after.Goals as goal
