@@ -18,7 +18,6 @@ impl<D: Dues> Core<Verified, D> {
     /// The controller of an accepted plan before the first report: all jobs outside, no machine entered.
     /// It takes all memory that later calls need, and none of them can answer that it is out of memory. If a request
     /// for memory is refused, the plan comes back with that error; when one is, no clause says.
-    #[tactic(auto, using(crate::proofs::Fields::started))]
     pub fn new(alloc: Global, verified: Verified) -> Result<Controller<D>, (AllocError, Verified)>
         ensures start { IfOk result (λ controller. controller ≡ at_start verified) }
         ensures handed_back { IfErr result (λ refused. refused.1 ≡ verified) }

@@ -211,7 +211,6 @@ impl<P: Timed, D: Dues> Core<P, D> {
     }
 
     /// When the job's activity is due; `None` if it has none, since it is ready or gone or no job.
-    #[tactic(auto, using(crate::proofs::Reading::key_due))]
     pub fn due(&self, job: JobNo) -> Option<Moment>
         ensures { IsDueOf self.now.planned self.now.cell job result }
     {
@@ -280,7 +279,6 @@ impl<P: Timed, D: Dues> Core<P, D> {
 
     /// How many reports are still to come: an arrival of each job, an end of each operation, and an end
     /// of each cleaning.
-    #[tactic(auto, using(crate::proofs::Reading::ended_is))]
     pub fn reports_left(&self) -> u64
         ensures kept { result ≡ self.now.left }
         ensures left { result ≡ reports_left self.now.planned self.now.cell }
@@ -290,7 +288,6 @@ impl<P: Timed, D: Dues> Core<P, D> {
     }
 
     /// Whether the run has ended: all jobs are gone, and no machine is being cleaned.
-    #[tactic(auto, using(crate::proofs::Reading::done_is))]
     pub fn is_done(&self) -> bool
         ensures { IsTrue result ↔ HasEnded self.now.planned self.now.cell }
     {

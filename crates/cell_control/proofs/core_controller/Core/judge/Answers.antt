@@ -1,14 +1,37 @@
-use Rattle.std.proofs.{Common.{sym, subst}, lemmas.Result.err_from_is_err_and}
-use Rattle.shop_base.specs.Report.{IsNextMoment}
+use Rattle.std.proofs.{Common.{◌≡◌, false, ◌↔◌, refl, sym, subst}, lemmas.Result.err_from_is_err_and}
+use Rattle.shop_base.specs.Report.{CanReport, IsNextMoment}
 use Rattle.shop_base.proofs.Decisions.{moment_now}
+use Rattle.cell_control.specs.{Control.Control, Readings.IsOnTime}
 use Rattle.cell_control.proofs.Reasons.{reason-cannot}
 use Rattle.cell_control.proofs.core_controller.Core.judge.Goals as goal
+
+pub returns-clause-possible : goal.returns-clause-possible
+returns-clause-possible g c =
+    let can = subst (λ (v : Control). CanReport v.planned v.cell c.args.report) c.self.view_is c.in_ok-check_report.ensures.possible in
+    (λ _. can, λ _. refl)
+
+pub returns-clause-judged : goal.returns-clause-judged
+returns-clause-judged g c = (
+  refl,
+  record {
+    can = subst (λ (v : Control). CanReport v.planned v.cell c.args.report) c.self.view_is c.in_ok-check_report.ensures.possible;
+    late = subst (λ t. (c.is_late.result ≡ false) ↔ IsOnTime c.args.self.now.planned c.args.self.now.cell t) c.at.ensures c.is_late.ensures;
+  },
+)
+
+pub returns-clause-never_refused : goal.returns-clause-never_refused
+returns-clause-never_refused g c = λ due goes now. refl
 
 pub returns-in_err-check_report-clause-possible : goal.returns-in_err-check_report-clause-possible
 returns-in_err-check_report-clause-possible g c =
     let p = err_from_is_err_and c.from_residual.result c.from_residual.ensures.1 in
     let cannot = reason-cannot _ _ c.args.report _ c.self.invariant.control.sound c.in_err-check_report.ensures.first in
     rw (p.1, ← c.self.view_is) ((λ wrong. absurd (cc)), λ can. absurd (cannot can))
+
+pub returns-in_err-check_report-clause-first_reason : goal.returns-in_err-check_report-clause-first_reason
+returns-in_err-check_report-clause-first_reason g c =
+    let p = err_from_is_err_and c.from_residual.result c.from_residual.ensures.1 in
+    rw (p.1, p.2, ← c.self.view_is) c.in_err-check_report.ensures.first
 
 pub returns-in_err-check_report-clause-never_refused : goal.returns-in_err-check_report-clause-never_refused
 returns-in_err-check_report-clause-never_refused g c =
