@@ -1,6 +1,7 @@
 pub mod Accepted
 pub mod Apart
 pub mod Asking
+pub mod CommandNames
 pub mod Described
 pub mod Fits
 pub mod Forms

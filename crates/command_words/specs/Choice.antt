@@ -14,6 +14,8 @@ use Rattle.command_words.specs.Changes.{change_seen, changes_in, revision_misfit
 use Rattle.command_words.specs.CommandLine.{command_line, most_rounds, greatest_seed, most_choices, latest_moment}
 use Rattle.command_words.specs.declared.words.Chosen.{Chosen}
 use Rattle.command_words.specs.declared.words.CommandName.{CommandName}
+use Rattle.command_words.specs.declared.words.GivenTexts.{GivenTexts}
+use Rattle.command_words.specs.declared.words.Marks.{Marks}
 use Rattle.command_words.specs.declared.words.CommandName.TheVariants.{Input, Facts, Shape, Check, Explain, Schedule, Bounds, Margin, Plan, Improve, Decide, Revise, Drive, Resume, Hub, Digest, Audit, Gantt}
 use Rattle.command_words.specs.declared.words.Lines.{Lines}
 use Rattle.command_words.specs.declared.words.Lines.TheVariants.{One, Two}
@@ -191,6 +193,25 @@ pub record IsChoiceOf (words : List Text) (found : Found) (chosen : Chosen) : Ty
   pub changes : map change_seen chosen.changes.items ≡ changes_in words (rows_found found)
   pub file : chosen.file ≡ file_in (rows_found found)
 
+-- what has to fit together of it, but for the changes
+pub record AreMarksOf (rows : List Row) (marks : Marks) : Type 0 where
+  pub at : marks.at ≡ at_in rows
+  pub early : IfSome marks.at (λ n. n ≤ latest_moment)
+  pub lines : marks.lines ≡ lines_in rows
+  pub leap : marks.leap ≡ leap_in rows
+  pub soon : IfSome marks.leap (λ n. n ≤ latest_moment)
+  pub job : marks.job ≡ job_in rows
+  pub moves : marks.moves ≡ moves_in rows
+  pub start : marks.start ≡ start_in rows
+
+-- its files and other texts
+pub record AreTextsOf (rows : List Row) (given : GivenTexts) : Type 0 where
+  pub files : texts_of given.files.items ≡ files_in rows
+  pub instance : option_map string_bytes given.instance ≡ instance_in rows
+  pub after : option_map string_bytes given.after ≡ after_in rows
+  pub log : option_map string_bytes given.log ≡ kept_in rows
+  pub names : option_map string_bytes given.names ≡ names_in rows
+
 -- the choice has as many files as its command takes, no more rounds than a search may have, no greater seed than it takes, a choice at least and no more than a search may have, no moment past the latest, and no longer time than that
 pub record IsWithin (chosen : Chosen) : Type 0 where
   pub files : TakesFiles chosen.name (length chosen.files.items)
@@ -293,14 +314,18 @@ abbrev pub start_misfit : List Row → Kinds
 start_misfit rows = refused_if (is_twofold (start_in rows) rows) ArgumentConflict
     (refused_if (lacks_log (start_in rows) rows) MissingRequiredArgument [])
 
+-- so of all that has to fit together but the changes, or else for these reasons
+abbrev pub marks_misfit : List Row → Kinds → Kinds
+marks_misfit rows others = or_else (misfits_of rows)
+    (or_else (lines_misfit rows)
+    (or_else (leap_misfit rows)
+    (or_else (decision_misfit rows)
+    (or_else (moves_misfit rows)
+    (or_else (start_misfit rows) others)))))
+
 -- so of what was found in these words
 abbrev pub misfit_in : List Text → Found → Kinds
-misfit_in words found = or_else (misfits_of (rows_found found))
-    (or_else (lines_misfit (rows_found found))
-    (or_else (leap_misfit (rows_found found))
-    (or_else (decision_misfit (rows_found found))
-    (or_else (moves_misfit (rows_found found))
-    (or_else (start_misfit (rows_found found)) (revision_misfit words (rows_found found)))))))
+misfit_in words found = marks_misfit (rows_found found) (revision_misfit words (rows_found found))
 
 -- why the words are refused, or nothing where they are accepted: `clap`'s reasons, or else that what they ask for doesn't fit together
 abbrev pub reasons_in : List Text → Kinds

@@ -4,11 +4,12 @@ ghost use Rattle.std.specs.Prelude.{◌≡◌, ◌≤◌, ◌++◌, [], true, fa
 ghost use Rattle.std.specs.Prelude.{OnOk, Some, codes, map, option_map, is_some};
 ghost use Rattle.std.specs.String.{string_bytes};
 ghost use Rattle.text_lines.specs.Numbers.{value_of};
-ghost use Rattle.clap.specs.Words.{first_of, found_of, kind_of, one_of, rows_of, subcommand_rows_of};
+ghost use Rattle.clap.specs.Words.{Kinds, first_of, found_of, kind_of, one_of, rows_of, subcommand_rows_of};
 ghost use Rattle.command_words.specs.declared.words.CommandName.{CommandName};
 ghost use Rattle.command_words.specs.CommandLine.{most_rounds, greatest_seed, most_choices, latest_moment};
 ghost use Rattle.command_words.specs.Given.{is_moment, is_number, values_of};
-ghost use Rattle.command_words.specs.Choice.{FitsBetween, IsChoiceOf, IsFit, IsWithin, NamesOneOf, NamesReason};
+ghost use Rattle.command_words.specs.Choice.{AreMarksOf, AreTextsOf, FitsBetween, IsChoiceOf, IsFit, IsWithin, NamesOneOf};
+ghost use Rattle.command_words.specs.Choice.{NamesReason, marks_misfit};
 ghost use Rattle.command_words.specs.Choice.{are_both, at_in, choices_in, decision_misfit, are_both_set, files_in};
 ghost use Rattle.command_words.specs.Choice.{first_given, found_in, is_set, job_in, job_misfit, kept_in, leap_in};
 ghost use Rattle.command_words.specs.Choice.{leap_misfit, lines_in, lines_misfit, log_given, misfit_in, misfit_of};
@@ -136,6 +137,27 @@ pub struct Chosen {
     pub file: bool,
 }
 
+/// What has to fit together of a choice, but for its changes.
+#[derive(Clone, Copy)]
+struct Marks {
+    at: Option<u64>,
+    lines: Option<Lines>,
+    leap: Option<u64>,
+    job: Option<u32>,
+    moves: bool,
+    start: LogStart,
+}
+
+/// The texts of a choice.
+#[derive(Drop)]
+struct GivenTexts {
+    instance: Option<String>,
+    after: Option<String>,
+    log: Option<String>,
+    names: Option<String>,
+    files: Vec<String>,
+}
+
 /// Why the words choose nothing.
 #[derive(Debug, Drop, Error)]
 pub enum WordsFault {
@@ -203,8 +225,16 @@ pub fn read_words(alloc: Global, words: &[&str]) -> Result<Chosen, WordsFault>
 {
     let program = command_line::whole(alloc)?;
     match program.try_get_matches_from(words) {
-        Ok(matches) => chosen_by(alloc, words, &matches),
-        Err(error) => Err(fault_of(alloc, &error)),
+        Ok(matches) => {
+            let chosen = chosen_by(alloc, words, &matches);
+            drop(matches);
+            chosen
+        }
+        Err(error) => {
+            let fault = fault_of(alloc, &error);
+            drop(error);
+            Err(fault)
+        }
     }
 }
 
@@ -271,26 +301,60 @@ fn chosen_of(
     ensures refused { IfErr result (NamesOneOf
         (misfit_in (map (λ given. given.now) words.now) (Some (word.now, rows_of (found_of matches.now))))) }
 {
+    let marks = marks_of(alloc, word, matches)?;
+    let changes = changes_of(alloc, words, matches)?;
+    let given = given_of(alloc, matches)?;
     Ok(Chosen {
         name: name_of(word),
-        files: files_of(alloc, matches)?,
-        instance: text_of(alloc, matches, "instance")?,
+        files: given.files,
+        instance: given.instance,
         rounds: rounds_of(matches),
         seed: seed_of(matches),
-        after: text_of(alloc, matches, "after")?,
-        log: text_of(alloc, matches, "log")?,
+        after: given.after,
+        log: given.log,
+        at: marks.at,
+        lines: marks.lines,
+        leap: marks.leap,
+        choices: choices_of(matches),
+        job: marks.job,
+        least: is_set(matches, "least"),
+        svg: is_set(matches, "svg"),
+        moves: marks.moves,
+        names: given.names,
+        start: marks.start,
+        changes,
+        file: is_set(matches, "file"),
+    })
+}
+
+/// What has to fit together, but for the changes.
+fn marks_of(alloc: Global, word: &str, matches: &ArgMatches<'_>) -> Result<Marks, WordsFault>
+    ensures exact { IfOk result (AreMarksOf (rows_of (found_of matches.now))) }
+    ensures fits { IfOk result
+        (λ _. (others : Kinds) → marks_misfit (rows_of (found_of matches.now)) others ≡ others) }
+    ensures refused { IfErr result
+        (λ fault. (others : Kinds) → NamesOneOf (marks_misfit (rows_of (found_of matches.now)) others) fault) }
+{
+    Ok(Marks {
         at: rest_at(alloc, word, matches)?,
         lines: lines_of(alloc, matches)?,
         leap: leap_of(alloc, matches)?,
-        choices: choices_of(matches),
         job: job_of(alloc, matches)?,
-        least: is_set(matches, "least"),
-        svg: is_set(matches, "svg"),
         moves: moves_of(alloc, matches)?,
-        names: text_of(alloc, matches, "names")?,
         start: start_of(alloc, matches)?,
-        changes: changes_of(alloc, words, matches)?,
-        file: is_set(matches, "file"),
+    })
+}
+
+/// The files and the other texts.
+fn given_of(alloc: Global, matches: &ArgMatches<'_>) -> Result<GivenTexts, AllocError>
+    ensures { IfOk result (AreTextsOf (rows_of (found_of matches.now))) }
+{
+    Ok(GivenTexts {
+        instance: text_of(alloc, matches, "instance")?,
+        after: text_of(alloc, matches, "after")?,
+        log: text_of(alloc, matches, "log")?,
+        names: text_of(alloc, matches, "names")?,
+        files: files_of(alloc, matches)?,
     })
 }
 

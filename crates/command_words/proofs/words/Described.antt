@@ -16,7 +16,8 @@ one_more a r old arg new d same local h = record {
   local = h.globals ∙ ap₂ (λ x y. x || y) d.local local;
 }
 
-with_command : (a : App) (s : Shape) (old sub new : Command) → Describes a old → Describes (leaf s) sub → AddsSubcommand old sub new
+-- with one command more
+pub with_command : (a : App) (s : Shape) (old sub new : Command) → Describes a old → Describes (leaf s) sub → AddsSubcommand old sub new
     → Describes (with_subcommand a s) new
 with_command a s old sub new d e h = record {
   app = h.shape e.local ∙ ap₂ with_subcommand d.app (ap (λ (x : App). x.top) e.app);
@@ -29,9 +30,9 @@ push a [] name = refl
 push a (x ∷ xs) name = push (with_subcommand a (described x)) xs name
 
 -- one command more of those in the list
-pub next_command : (names : List CommandName) (i : ℕ) (d : CommandName) (old sub new : Command) → i < length names → Describes (program_with (take i names)) old
-    → Describes (leaf (described (get_or names i d))) sub → AddsSubcommand old sub new → Describes (program_with (take (i + 1) names)) new
-next_command names i d old sub new lt before one added =
+pub next_command : (names : List CommandName) (i : ℕ) (d : CommandName) (new : Command) → i < length names
+    → Describes (with_subcommand (program_with (take i names)) (described (get_or names i d))) new → Describes (program_with (take (i + 1) names)) new
+next_command names i d new lt more =
     let same : program_with (take (i + 1) names) ≡ with_subcommand (program_with (take i names)) (described (get_or names i d)) =
     ap program_with (take_more names i d lt) ∙ push _ (take i names) (get_or names i d) in
-    subst (λ (a : App). Describes a new) (sym same) (with_command _ _ old sub new before one added)
+    subst (λ (a : App). Describes a new) (sym same) more

@@ -46,10 +46,14 @@ no_reasons first next other (Err fault) none same is = tt
 pub names_later : (first next : Kinds) (fault : WordsFault) → first ≡ [] → NamesOneOf next fault → NamesOneOf (or_else first next) fault
 names_later first next fault none is = subst (λ (ks : Kinds). NamesOneOf (or_else ks next) fault) (sym none) is
 
+-- nothing is found first
+pub none_first : (first next : Kinds) → first ≡ [] → or_else first next ≡ next
+none_first first next none = ap (λ (ks : Kinds). or_else ks next) none
+
 -- the fault is passed on
-pub passed_on : {A : Type 0} (kinds : Kinds) (read : Result A WordsFault) (fault : WordsFault) → IsErrAnd read (λ passed. passed ≡ fault) → NamesOneOf kinds fault → IfErr read (NamesOneOf kinds)
-passed_on kinds (Ok chosen) fault passed is = tt
-passed_on kinds (Err reason) fault passed is = subst (λ (f : WordsFault). NamesOneOf kinds f) (sym passed) is
+pub passed_on : {A : Type 0} (Is : WordsFault → Type 0) (read : Result A WordsFault) (fault : WordsFault) → IsErrAnd read (λ passed. passed ≡ fault) → Is fault → IfErr read Is
+passed_on Is (Ok chosen) fault passed is = tt
+passed_on Is (Err reason) fault passed is = subst Is (sym passed) is
 
 -- the matches of a command that was found
 pub rows_same : (found : Found) (rows : List Row) → Some rows ≡ option_map (λ (p : Text × List Row). p.1) found → rows_found found ≡ rows

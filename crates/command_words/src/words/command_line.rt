@@ -1,7 +1,7 @@
 //! The command line as `clap` gets it, one command in each function.
 
 ghost use Rattle.std.specs.Prelude.{◌≡◌, IfOk, [], ◌∷◌, false, codes};
-ghost use Rattle.clap.specs.Words.{App, Rule, rule_of, with_rule};
+ghost use Rattle.clap.specs.Words.{App, Rule, Shape, rule_of, with_rule, with_subcommand};
 ghost use Rattle.command_words.specs.CommandLine.{Describes, adding_rules, bare_program, choices_rule, command};
 ghost use Rattle.command_words.specs.CommandLine.{command_line, described, file_rule, leaf, lengthening_rules};
 ghost use Rattle.command_words.specs.CommandLine.{log_command, log_rules, names_rule, option_rule, plan_command};
@@ -192,7 +192,13 @@ fn with_arg<'a>(
     ensures { (a : App) (r : Rule) → IfOk command.entry (Describes a) → rule_of arg.entry ≡ r → arg.entry.global ≡ false
         → IfOk result (Describes (with_rule a r)) }
 {
-    command?.arg(arg)
+    match command {
+        Ok(command) => command.arg(arg),
+        Err(error) => {
+            drop(arg);
+            Err(error)
+        }
+    }
 }
 
 /// A command on an instance.
@@ -442,9 +448,26 @@ fn program_with<'a>(alloc: Global, names: &[CommandName]) -> Result<Command<'a>,
 {
     let mut program = bare(alloc);
     for name in names {
-        program = program.subcommand(command_of(alloc, *name)?)?;
+        program = with_command(program, command_of(alloc, *name))?;
     }
     Ok(program)
+}
+
+/// The program with one more command.
+fn with_command<'a>(
+    program: Command<'a>,
+    command: Result<Command<'a>, AllocError>,
+) -> Result<Command<'a>, AllocError>
+    ensures { (a : App) (s : Shape) → Describes a program.entry → IfOk command.entry (Describes (leaf s))
+        → IfOk result (Describes (with_subcommand a s)) }
+{
+    match command {
+        Ok(command) => program.subcommand(command),
+        Err(error) => {
+            drop(program);
+            Err(error)
+        }
+    }
 }
 
 /// The whole command line of the program.

@@ -1,43 +1,58 @@
-use Rattle.command_words.proofs.words.Reasons.{passed_on, names_first, names_later}
+use Rattle.std.proofs.Common.{◌∙◌, ap, length, subst, sym}
+use Rattle.std.specs.String.{string_bytes}
+use Rattle.std.proofs.lemmas.List.{length-map}
+use Rattle.clap.specs.Words.{Kinds}
+use Rattle.command_words.specs.Choice.{NamesOneOf}
+use Rattle.command_words.proofs.words.CommandNames.{takes_same}
+use Rattle.command_words.proofs.words.Reasons.{passed_on}
 use Rattle.command_words.proofs.words.chosen_of.Goals as goal
 
-pub returns-in_err-rest_at-clause-refused : goal.returns-in_err-rest_at-clause-refused
-returns-in_err-rest_at-clause-refused c =
-    passed_on _ c.from_residual-in_err-rest_at.result c.in_err-rest_at.field-0.0 c.from_residual-in_err-rest_at.ensures.1 (names_first _ _ _ c.in_err-rest_at.ensures.refused)
+pub returns-in_err-marks-clause-refused : goal.returns-in_err-marks-clause-refused
+returns-in_err-marks-clause-refused c =
+    passed_on _ c.from_residual.result c.in_err-marks.field-0.0 c.from_residual.ensures.1 (c.in_err-marks.ensures.refused _)
 
-pub returns-in_err-lines_of-clause-refused : goal.returns-in_err-lines_of-clause-refused
-returns-in_err-lines_of-clause-refused c =
-    passed_on _ c.from_residual-in_err-lines_of.result c.in_err-lines_of.field-0.0 c.from_residual-in_err-lines_of.ensures.1
-    (names_later _ _ _ c.in_ok-rest_at.ensures.fits (names_first _ _ _ c.in_err-lines_of.ensures.refused))
+pub returns-in_err-changes-clause-refused : goal.returns-in_err-changes-clause-refused
+returns-in_err-changes-clause-refused c =
+    let fault = c.in_err-changes.field-0.0 in
+    passed_on _ c.from_residual-in_err-changes.result fault c.from_residual-in_err-changes.ensures.1
+    (subst (λ (kinds : Kinds). NamesOneOf kinds fault) (sym (c.in_ok-marks.ensures.fits _)) c.in_err-changes.ensures.refused)
 
-pub returns-in_err-leap_of-clause-refused : goal.returns-in_err-leap_of-clause-refused
-returns-in_err-leap_of-clause-refused c =
-    passed_on _ c.from_residual-in_err-leap_of.result c.in_err-leap_of.field-0.0 c.from_residual-in_err-leap_of.ensures.1
-    (names_later _ _ _ c.in_ok-rest_at.ensures.fits (names_later _ _ _ c.in_ok-lines_of.ensures.fits (names_first _ _ _ c.in_err-leap_of.ensures.refused)))
+pub returns-clause-fits : goal.returns-clause-fits
+returns-clause-fits c = c.in_ok-marks.ensures.fits _ ∙ c.in_ok-changes.ensures.fits
 
-pub returns-in_err-job_of-clause-refused : goal.returns-in_err-job_of-clause-refused
-returns-in_err-job_of-clause-refused c =
-    passed_on _ c.from_residual-in_err-job_of.result c.in_err-job_of.field-0.0 c.from_residual-in_err-job_of.ensures.1
-    (names_later _ _ _ c.in_ok-rest_at.ensures.fits (names_later _ _ _ c.in_ok-lines_of.ensures.fits
-    (names_later _ _ _ c.in_ok-leap_of.ensures.fits (names_first _ _ _ c.in_err-job_of.ensures.refused))))
+pub returns-clause-holds : goal.returns-clause-holds
+returns-clause-holds c = record {
+  name = c.name_of.ensures;
+  files = c.in_ok-given.ensures.files;
+  instance = c.in_ok-given.ensures.instance;
+  rounds = c.rounds_of.ensures.exact;
+  seed = c.seed_of.ensures.exact;
+  choices = c.choices_of.ensures.exact;
+  job = c.in_ok-marks.ensures.exact.job;
+  least = c.is_set.ensures;
+  after = c.in_ok-given.ensures.after;
+  log = c.in_ok-given.ensures.log;
+  at = c.in_ok-marks.ensures.exact.at;
+  lines = c.in_ok-marks.ensures.exact.lines;
+  leap = c.in_ok-marks.ensures.exact.leap;
+  svg = c.is_set-2.ensures;
+  moves = c.in_ok-marks.ensures.exact.moves;
+  names = c.in_ok-given.ensures.names;
+  start = c.in_ok-marks.ensures.exact.start;
+  changes = c.in_ok-changes.ensures.exact;
+  file = c.is_set-3.ensures;
+}
 
-pub returns-in_err-moves_of-clause-refused : goal.returns-in_err-moves_of-clause-refused
-returns-in_err-moves_of-clause-refused c =
-    passed_on _ c.from_residual-in_err-moves_of.result c.in_err-moves_of.field-0.0 c.from_residual-in_err-moves_of.ensures.1
-    (names_later _ _ _ c.in_ok-rest_at.ensures.fits (names_later _ _ _ c.in_ok-lines_of.ensures.fits
-    (names_later _ _ _ c.in_ok-leap_of.ensures.fits (names_later _ _ _ c.in_ok-job_of.ensures.fits
-    (names_first _ _ _ c.in_err-moves_of.ensures.refused)))))
-
-pub returns-in_err-start_of-clause-refused : goal.returns-in_err-start_of-clause-refused
-returns-in_err-start_of-clause-refused c =
-    passed_on _ c.from_residual-in_err-start_of.result c.in_err-start_of.field-0.0 c.from_residual-in_err-start_of.ensures.1
-    (names_later _ _ _ c.in_ok-rest_at.ensures.fits (names_later _ _ _ c.in_ok-lines_of.ensures.fits
-    (names_later _ _ _ c.in_ok-leap_of.ensures.fits (names_later _ _ _ c.in_ok-job_of.ensures.fits
-    (names_later _ _ _ c.in_ok-moves_of.ensures.fits (names_first _ _ _ c.in_err-start_of.ensures.refused))))))
-
-pub returns-in_err-changes_of-clause-refused : goal.returns-in_err-changes_of-clause-refused
-returns-in_err-changes_of-clause-refused c =
-    passed_on _ c.from_residual-in_err-changes_of.result c.in_err-changes_of.field-0.0 c.from_residual-in_err-changes_of.ensures.1
-    (names_later _ _ _ c.in_ok-rest_at.ensures.fits (names_later _ _ _ c.in_ok-lines_of.ensures.fits
-    (names_later _ _ _ c.in_ok-leap_of.ensures.fits (names_later _ _ _ c.in_ok-job_of.ensures.fits
-    (names_later _ _ _ c.in_ok-moves_of.ensures.fits (names_later _ _ _ c.in_ok-start_of.ensures.fits c.in_err-changes_of.ensures.refused))))))
+pub returns-clause-within : goal.returns-clause-within
+returns-clause-within c =
+    let files = c.in_ok-given.given.files.items in
+    record {
+      files = takes_same c.requires.0.0 c.name_of.result c.args.word.now _ (length files) c.requires.0.1 c.name_of.ensures
+          (sym (length-map files string_bytes) ∙ ap length c.in_ok-given.ensures.files) c.requires.0.2;
+      rounds = c.rounds_of.ensures.few;
+      seed = c.seed_of.ensures.small;
+      some = c.choices_of.ensures.some;
+      choices = c.choices_of.ensures.few;
+      at = c.in_ok-marks.ensures.exact.early;
+      leap = c.in_ok-marks.ensures.exact.soon;
+    }

@@ -1,4 +1,5 @@
-use Rattle.std.proofs.Common.{◌∙◌, ◌++◌, ◌+◌, List, ℕ, ap, append-nil, map, sym}
+use Rattle.std.proofs.Common.{◌∙◌, ◌++◌, ◌+◌, List, ℕ, ap, append-nil, arith, map, sym}
+use Rattle.std.proofs.lemmas.Grind.{common_steps}
 use Rattle.clap.specs.Words.{found_of, rows_of}
 use Rattle.clap.specs.declared.error.kind.ErrorKind.TheVariants.{ValueValidation}
 use Rattle.command_words.specs.Given.{values_of}
@@ -46,3 +47,6 @@ returns-clause-fits c =
     let such = is_such c.args.form in
     let given = values_given (found_of c.args.matches.now) c.option_of.result.now c.get_raw.result c.in-Some.given c.get_raw.ensures c.in-Some.is ∙ ap (λ (id : List ℕ). values_of id rows) c.option_of.ensures in
     such_fits such (values_of (option_of c.args.form) rows) (all_such such c.in-Some.given.now _ c.loop-place.place given c.loop-place.invariant.such c.loop-place-test.false)
+
+pub loop-place-preserved : goal.loop-place-preserved
+loop-place-preserved c = grind (arith, common_steps)
