@@ -24,6 +24,12 @@ module _ (t : ShopTimes) (nodes : List Node) where
   later : (m n e : ℕ) → IsEntry t nodes m n e → IsEntry t nodes m (n + 1) e
   later m n e entry = record { inside = entry.inside; earlier = omega (arith, entry.earlier); visit = entry.visit }
 
+  pub entries_on : (n : ℕ) (rows : List (Vec ℕ Global)) → AreEntries t nodes n rows → AreEntries t nodes (n + 1) rows
+  entries_on n rows are = record { count = are.count; rows = λ m i lower. later m n _ (are.rows m i lower) }
+
+  pub entries_none : (rows : List (Vec ℕ Global)) → length rows ≡ t.shop.machines → AreEmpty rows → AreEntries t nodes 0 rows
+  entries_none rows count none = record { count = count; rows = λ m i lower. absurd (omega (arith, lower, ap length (none m))) }
+
   -- what is in a row is an entry
   pub entry_at : (m n i : ℕ) (rows : List (Vec ℕ Global)) (row : List ℕ) → AreEntries t nodes n rows → row ≡ row_of rows m → i < length row → IsEntry t nodes m n (get_or row i 0)
   entry_at m n i rows row are is within = subst (IsRow m n) (sym is) (are.rows m) i within

@@ -20,6 +20,17 @@ pushed P xs x d before here n within = elim (cases_lt n (length xs)) [
 ]
 
 module _ (t : ShopTimes) (c : Cell) where
+  pub numbered_none : (nodes : List Node) → nodes ≡ [] → AreNumberedTo t c 0 0 nodes
+  numbered_none nodes is = record {
+    inside = λ n within. absurd (omega (arith, within, none));
+    before = λ n within. absurd (omega (arith, within, none));
+    sorted = λ n l less within. absurd (omega (arith, within, none));
+    followed = λ n within place. absurd (omega (arith, within, none));
+  }
+    where
+      none : length nodes ≡ 0
+      none = ap length is
+
   module _ (j k : ℕ) (nodes : List Node) (are : AreNumberedTo t c j k nodes) where
     -- the job's next place is added
     pub numbered_push : IsPlace t c (node j k) → AreNumberedTo t c j (k + 1) (nodes ++ node j k ∷ [])

@@ -54,13 +54,17 @@ pub fn ask<P: Planned, C: Choose>(
     }
     let question = question_of(alloc, cell, present, limits, &nodes)?;
     if question.pairs.len() > MAX_PAIRS {
+        drop(question);
         return Ok(Answer::Open);
     }
-    match explore(alloc, &question, chooser, choices)? {
+    let outcome = explore(alloc, &question, chooser, choices);
+    drop(question);
+    match outcome? {
         Outcome::Never => Ok(Answer::Never),
         Outcome::Chosen(heads) => {
-            let orders = orders_by(alloc, cell, limits, &nodes, &heads)?;
-            Ok(Answer::Orders(orders))
+            let orders = orders_by(alloc, cell, limits, &nodes, &heads);
+            drop(heads);
+            Ok(Answer::Orders(orders?))
         }
         Outcome::Open => Ok(Answer::Open),
     }

@@ -1,11 +1,16 @@
-use Rattle.std.proofs.Common.{◌+◌, arith, ap, sym, subst}
+use Rattle.std.proofs.Common.{◌+◌, arith, ap, refl, sym, subst}
 use Rattle.shop_base.specs.declared.job_state.JobState.{JobState}
 use Rattle.shop_base.specs.Plan.{PlannedShop, steps}
 use Rattle.shop_base.specs.Graph.{node}
 use Rattle.plan_bounds.specs.Bounds.{times_of}
 use Rattle.plan_limits.specs.Asked.{IsPlace, AreNumberedTo}
-use Rattle.plan_limits.proofs.Numbered.{numbered_push}
+use Rattle.plan_limits.proofs.Numbered.{numbered_push, numbered_from}
 use Rattle.plan_limits.proofs.numbering.add_job.Goals as goal
+
+pub loop-place-init : goal.loop-place-init
+loop-place-init g c =
+    let cell = c.args.cell.now in
+    numbered_from (times_of cell.plan) cell.cell c.args.job 0 c.args.nodes.now.items c.requires.numbered _ refl
 
 pub loop-place-preserved : goal.loop-place-preserved
 loop-place-preserved g c =

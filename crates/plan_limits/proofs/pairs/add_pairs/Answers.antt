@@ -6,8 +6,29 @@ use Rattle.plan_bounds.specs.Bounds.{times_of}
 use Rattle.plan_limits.specs.declared.moments.TheConstants.{FINE}
 use Rattle.plan_limits.specs.Asked.{IsEntry, IsMachinePair, AreMachinePairs, pair_between}
 use Rattle.plan_limits.proofs.Numbered.{pushed}
-use Rattle.plan_limits.proofs.Entries.{row_of, row_at, entry_at, entries_push}
+use Rattle.plan_limits.proofs.Entries.{row_of, row_at, entry_at, entries_on, entries_push}
 use Rattle.plan_limits.proofs.pairs.add_pairs.Goals as goal
+
+pub returns-in_default-clause-entries : goal.returns-in_default-clause-entries
+returns-in_default-clause-entries c = entries_on (times_of c.args.shaped.now) c.args.nodes.now c.args.number c.args.entries.now.items c.requires.entries
+
+pub clean_of-requires : goal.clean_of-requires
+clean_of-requires c =
+    let node = node_at c.args.nodes.now c.args.number in
+    visits_machine c.args.shaped.now node.job node.place c.in-Some.machine c.in-Some.ensures.well_shaped c.in-Some.ensures.machine
+
+pub index-requires : goal.index-requires
+index-requires c =
+    let node = node_at c.args.nodes.now c.args.number in
+    omega (arith, visits_machine c.args.shaped.now node.job node.place c.in-Some.machine c.in-Some.ensures.well_shaped c.in-Some.ensures.machine, c.requires.entries.count)
+
+pub index_mut-requires : goal.index_mut-requires
+index_mut-requires c =
+    let node = node_at c.args.nodes.now c.args.number in
+    omega (arith, visits_machine c.args.shaped.now node.job node.place c.in-Some.machine c.in-Some.ensures.well_shaped c.in-Some.ensures.machine, c.requires.entries.count)
+
+pub pair_of-requires-clause-other : goal.pair_of-requires-clause-other
+pair_of-requires-clause-other c = omega (arith, c.requires.number, c.requires.few)
 
 pub pair_of-requires-clause-one : goal.pair_of-requires-clause-one
 pair_of-requires-clause-one c =
