@@ -32,18 +32,9 @@ set_there (w ∷ controls) zero v = refl
 set_there (w ∷ controls) (suc k) v = ap (λ (cells : List PlannedCell). planned_cell w ∷ cells) (set_there controls k v)
 
 -- one more cell begins
-pub one_more_begun : (controls : List Control) (plans : List VerifiedPlan) (v : Control) (w : VerifiedPlan) → planned_cells controls ≡ hub_start plans → planned_cell v ≡ cell_start w
-    → planned_cells (controls ++ v ∷ []) ≡ hub_start (plans ++ w ∷ [])
-one_more_begun controls plans v w begun is =
-    added controls ∙ ap (λ (cells : List PlannedCell). cells ++ planned_cell v ∷ []) begun ∙ ap (λ (c : PlannedCell). hub_start plans ++ c ∷ []) is ∙ sym (started plans)
-  where
-    added : (some : List Control) → planned_cells (some ++ v ∷ []) ≡ planned_cells some ++ planned_cell v ∷ []
-    added [] = refl
-    added (u ∷ some) = ap (λ (cells : List PlannedCell). planned_cell u ∷ cells) (added some)
-
-    started : (some : List VerifiedPlan) → hub_start (some ++ w ∷ []) ≡ hub_start some ++ cell_start w ∷ []
-    started [] = refl
-    started (u ∷ some) = ap (λ (cells : List PlannedCell). cell_start u ∷ cells) (started some)
+pub one_more_begun : (plans : List VerifiedPlan) (w : VerifiedPlan) → hub_start plans ++ cell_start w ∷ [] ≡ hub_start (plans ++ w ∷ [])
+one_more_begun [] w = refl
+one_more_begun (u ∷ plans) w = ap (λ (cells : List PlannedCell). cell_start u ∷ cells) (one_more_begun plans w)
 
 -- ---- what is asked of it
 

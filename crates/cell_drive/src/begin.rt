@@ -153,7 +153,13 @@ pub fn drive<R: Source, W: BufferedSink>(
 pub fn begin_in(alloc: Global, verified: Verified, protocol: Protocol) -> Result<Begun, AllocError>
     ensures { IfOk result (λ begun. begun ≡ begun_in protocol verified) }
 {
-    let room = reading_room(alloc)?;
+    let room = match reading_room(alloc) {
+        Ok(room) => room,
+        Err(error) => {
+            drop(verified);
+            return Err(error);
+        }
+    };
     let session = begin(alloc, verified, protocol)?;
     Ok(Begun { session, room })
 }

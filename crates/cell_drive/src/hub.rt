@@ -1,13 +1,13 @@
 //! Several cells, in the order of their numbers, that are driven by the lines of one input.
 
-ghost use Rattle.std.specs.Prelude.{◌≡◌, ◌↔◌, Err, IfOk, IsTrue, MatchOption, OnOk};
+ghost use Rattle.std.specs.Prelude.{◌≡◌, ◌↔◌, [], ◌∷◌, ◌++◌, Err, IfOk, IsTrue, MatchOption, OnOk};
 ghost use Rattle.shop_base.specs.Ends.{HasEnded};
 ghost use Rattle.byte_streams.specs.Lent.{WroteTo, WroteOneTo, streams_of};
 ghost use Rattle.plan_verifier.specs.Accepted.{IsVerified};
 ghost use Rattle.cell_drive.specs.Protocols.{plain_from};
 ghost use Rattle.cell_drive.specs.ManyCells.{AreAllDone, AreVerified, cell_start, hub_start};
 ghost use Rattle.cell_drive.specs.ProtocolCells.{AreDrivesIn, AsksCell, AsksNoCell, hub_of};
-ghost use Rattle.cell_drive.specs.Numbers.{AnsweredByCells, AreInRun, closing_text, planned_cell, planned_cells};
+ghost use Rattle.cell_drive.specs.Numbers.{AnsweredByCells, AreInRun, closing_text, planned_cells};
 
 use crate::protocol::Protocol;
 use crate::replies::{put_closing, put_refused};
@@ -54,22 +54,31 @@ fn begin<D: Dues>(alloc: Global, plans: Vec<Verified>) -> Result<Vec<Controller<
 {
     let mut cells = Vec::new(alloc);
     for verified in plans {
-        cells.reserve(1)?;
-        cells.push_reserved(begin_cell(alloc, verified)?);
+        begin_cell(alloc, verified, &mut cells)?;
     }
     Ok(cells)
 }
 
-/// The cell of a plan before the first line.
-fn begin_cell<D: Dues>(alloc: Global, verified: Verified) -> Result<Controller<D>, AllocError>
-    ensures started { IfOk result (λ cell. planned_cell cell ≡ cell_start verified) }
+/// Begins the cell of a plan before the first line, behind these.
+fn begin_cell<D: Dues>(
+    alloc: Global,
+    verified: Verified,
+    cells: &mut Vec<Controller<D>>,
+) -> Result<(), AllocError>
+    ensures started { OnOk result
+        (planned_cells cells.new.items ≡ planned_cells cells.old.items ++ cell_start verified ∷ []) }
     ensures verified { OnOk result (IsVerified verified) }
 {
+    if let Err(error) = cells.reserve(1) {
+        drop(verified);
+        return Err(error);
+    }
     match Controller::new(alloc, verified) {
         Ok(controller) => {
             // Called for its clauses alone: the plan is an accepted one.
             let _plan = controller.verified();
-            Ok(controller)
+            cells.push_reserved(controller);
+            Ok(())
         }
         Err((error, verified)) => {
             drop(verified);
@@ -174,6 +183,15 @@ impl<D: Dues> LineHandler for Cells<D> {
     }
 }
 
+/// What the runs have come to.
+fn end<D: Dues>(driven: Cells<D>) -> HubEnd
+    ensures { IsTrue result.all_done ↔ AreAllDone driven.cells }
+{
+    HubEnd {
+        all_done: all_done(&driven.controllers),
+    }
+}
+
 /// Drives a cell for each accepted plan, numbered from 0 in their order: takes a report on a cell from each line
 /// of input, and writes the moves that it releases before the next line is answered.
 ///
@@ -208,16 +226,23 @@ pub fn drive_hub_in<R: Source, W: BufferedSink>(
         (streams_of R.Source W.Sink W.pending reader.new writer.new) result }
     ensures untouched { result ≡ Err DriveFault.Memory → (reader.new ≡ reader.old) × (writer.new ≡ writer.old) }
 {
-    let mut room = reading_room(alloc)?;
+    let mut room = match reading_room(alloc) {
+        Ok(room) => room,
+        Err(error) => {
+            drop(cells);
+            return Err(DriveFault::from(error));
+        }
+    };
     let controllers: Vec<Controller<TourneyDues>> = begin(alloc, cells)?;
     let mut driven = Cells {
         protocol,
         controllers,
     };
     match stream(&mut driven, reader, &mut room, writer) {
-        Ok(()) => Ok(HubEnd {
-            all_done: all_done(&driven.controllers),
-        }),
-        Err(fault) => Err(fault),
+        Ok(()) => Ok(end(driven)),
+        Err(fault) => {
+            drop(driven);
+            Err(fault)
+        }
     }
 }

@@ -92,7 +92,13 @@ pub fn take_up(
 {
     // Called for its clause alone: the plan is well shaped.
     let _plan = shaped.shop();
-    let room = reading_room(alloc)?;
+    let room = match reading_room(alloc) {
+        Ok(room) => room,
+        Err(error) => {
+            drop(shaped);
+            return Err(ResumeFault::from(error));
+        }
+    };
     match run_of_log(alloc, shaped, text) {
         Ok(run) => recover_run(alloc, run, at, room),
         Err(fault) => Err(ResumeFault::from(fault)),
@@ -121,7 +127,13 @@ fn recover_run(
         return Err(ResumeFault::Past { last });
     }
     let starts = entries.is_empty();
-    let (late, start) = ready_again(alloc, cell.shaped(), &entries)?;
+    let (late, start) = match ready_again(alloc, cell.shaped(), &entries) {
+        Ok(ready) => ready,
+        Err(error) => {
+            drop(cell);
+            return Err(ResumeFault::from(error));
+        }
+    };
     match begin(alloc, cell, starts, present) {
         Ok(controller) => Ok(RecoveredRun {
             run: with_due(controller, RunLog::of_entries(entries), late, room),
@@ -235,7 +247,10 @@ fn rest_fault(fault: RestFault, cell: WorkCell<Shaped>, present: Moment) -> Resu
 {
     match fault {
         RestFault::Cycle(nodes) => ResumeFault::Refused(cell.into_basis(), Why::Cycle(nodes)),
-        fault @ RestFault::Memory => ResumeFault::from(AllocFailure { fault }),
+        fault @ RestFault::Memory => {
+            drop(cell);
+            ResumeFault::from(AllocFailure { fault })
+        }
         RestFault::MomentTooLarge
         | RestFault::IncompatiblePlan
         | RestFault::Backwards { last: _ } => { unreachable!() }

@@ -14,7 +14,7 @@ use event_lines::{Claim, Detail};
 use shop_base::Planned;
 
 /// Why what a line claims is refused.
-#[derive(Clone, Copy, Debug, PartialEq, Eq)]
+#[derive(Clone, Copy)]
 pub enum Refusal {
     /// It isn't possible.
     Reason(ReportFault),

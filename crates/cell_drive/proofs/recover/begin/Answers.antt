@@ -1,6 +1,8 @@
 use Rattle.std.proofs.Common.{◌≡◌, ap, sym, subst, ◌∙◌}
+use Rattle.std.specs.Prelude.{OnOk}
 use Rattle.shop_base.specs.{Cell.Cell, Plan.PlannedShop, Report.IsNextMoment}
 use Rattle.cell_tables.specs.PlannedCell.{PlannedCell}
+use Rattle.plan_verifier.specs.Accepted.{IsAcceptable}
 use Rattle.cell_control.specs.Begun.{IsRestFault}
 use Rattle.cell_drive.specs.ResumeFaults.{IsRefusal}
 use Rattle.cell_drive.proofs.recover.begin.Goals as goal
@@ -14,3 +16,9 @@ returns-in-Err-begin-clause-fault c =
     let fault : IsRestFault c.in-Err-begin.cell.plan c.in-Err-begin.cell.cell c.args.present c.in-Err-begin.fault =
     subst (λ (x : PlannedCell PlannedShop). IsRestFault x.plan x.cell c.args.present c.in-Err-begin.fault) (sym back) c.in-Err-begin.ensures.fault in
     subst (λ (p : PlannedShop). IsRefusal p c.args.starts c.rest_fault.result) plan (c.rest_fault.ensures c.args.starts)
+
+pub returns-in-Ok-begin-clause-accepted : goal.returns-in-Ok-begin-clause-accepted
+returns-in-Ok-begin-clause-accepted c starts = subst (λ r. OnOk r (IsAcceptable c.args.cell.plan)) c.in-Ok.is (c.check_start.ensures.accepted starts)
+
+pub returns-in-Err-clause-fault : goal.returns-in-Err-clause-fault
+returns-in-Err-clause-fault c = c.in-Err.ensures.fault
