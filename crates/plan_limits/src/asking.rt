@@ -62,9 +62,8 @@ pub fn ask<P: Planned, C: Choose>(
     match outcome? {
         Outcome::Never => Ok(Answer::Never),
         Outcome::Chosen(heads) => {
-            let orders = orders_by(alloc, cell, limits, &nodes, &heads);
-            drop(heads);
-            Ok(Answer::Orders(orders?))
+            let orders = orders_by(alloc, cell, limits, &nodes, &heads)?;
+            Ok(Answer::Orders(orders))
         }
         Outcome::Open => Ok(Answer::Open),
     }
