@@ -3,6 +3,8 @@ pub mod Passing
 pub mod SearchLines
 pub mod ImproveLines
 pub mod LogAnswers
+pub mod AskedJobs
+pub mod NamesAndLogs
 pub mod RestAnswers
 pub mod RevisedAnswers
 pub mod RunFaults

@@ -8,7 +8,7 @@ ghost use Rattle.command_answers.specs.Deciding.{IsDecisionAnswer, IsLineRefused
 ghost use Rattle.command_answers.specs.Deciding.{decide_command_fault, out_of_range_line};
 ghost use Rattle.command_answers.specs.DecisionLines.{never_lines, within_line};
 ghost use Rattle.command_answers.specs.Documents.{IsHeadedAnswer};
-ghost use Rattle.command_answers.specs.Commands.{RunsDecide, WithSoundNames};
+ghost use Rattle.command_answers.specs.Commands.{RunsDecide, WithNames, WithSoundNames};
 
 use crate::answer::{Answer, Answered, GOOD, REFUSED};
 use crate::asked_job::no_job_answer;
@@ -70,13 +70,35 @@ fn both_decided<T: Texts, C: Choose, W: Watch>(
         (option_copied names.entry) both texts.old result texts.new }
 {
     match serially(alloc, both)?.shaped() {
-        Ok(shaped) => {
-            let names = names_of(alloc, texts, names, &shaped)?;
+        Ok(shaped) => sound_decided(alloc, texts, shaped, names, aim, choices, chooser, watch),
+        Err(fault) => Ok(bad_numbers_answer(alloc, fault)?),
+    }
+}
+
+/// What is decided for a shop with the numbers of this plan, with the names and the clock of a file.
+fn sound_decided<T: Texts, C: Choose, W: Watch>(
+    alloc: Global,
+    texts: &mut T,
+    shaped: Shaped,
+    names: Option<&str>,
+    aim: Aim,
+    choices: u64,
+    chooser: &mut C,
+    watch: &mut W,
+) -> Answered
+    ensures { WithNames T.gives (option_copied names.entry) shaped
+        (λ book. IsDecisionAnswer book (whole_case shaped) aim) texts.old result texts.new }
+{
+    match names_of(alloc, texts, names, &shaped) {
+        Ok(names) => {
             let answer = shaped_decided(alloc, &names, shaped, aim, choices, chooser, watch);
             drop(names);
             answer
         }
-        Err(fault) => Ok(bad_numbers_answer(alloc, fault)?),
+        Err(fault) => {
+            drop(shaped);
+            Err(fault)
+        }
     }
 }
 

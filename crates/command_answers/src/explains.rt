@@ -64,10 +64,17 @@ fn shaped_explained<T: Texts>(
         drop(shaped);
         return Ok(no_job_answer(alloc, absent)?);
     }
-    let names = names_of(alloc, texts, names, &shaped)?;
-    let answer = plan_explained(alloc, &names, job, shaped);
-    drop(names);
-    Ok(answer?)
+    match names_of(alloc, texts, names, &shaped) {
+        Ok(names) => {
+            let answer = plan_explained(alloc, &names, job, shaped);
+            drop(names);
+            Ok(answer?)
+        }
+        Err(fault) => {
+            drop(shaped);
+            Err(fault)
+        }
+    }
 }
 
 /// The explanation of the verdict on a plan.
@@ -90,7 +97,10 @@ fn plan_explained(
             let text = text?;
             Ok(Answer { text, status })
         }
-        Err((error, _)) => Err(error),
+        Err((error, back)) => {
+            drop(back);
+            Err(error)
+        }
     }
 }
 

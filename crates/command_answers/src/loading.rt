@@ -84,7 +84,10 @@ pub(crate) fn judged(alloc: Global, both: ParsedInputs) -> Outcome<Loaded>
     match both.shaped() {
         Ok(shaped) => match verify(alloc, shaped) {
             Ok(verdict) => Ok(Loaded::Judged(verdict)),
-            Err((error, _)) => Err(CommandFault::from(error)),
+            Err((error, back)) => {
+                drop(back);
+                Err(CommandFault::from(error))
+            }
         },
         Err(fault) => Ok(Loaded::NotShaped(fault)),
     }

@@ -10,7 +10,7 @@ use crate::answer::{Answer, Answered, GOOD};
 use crate::command_fault::Unanswered;
 use crate::inputs::{Files, read_inputs};
 use crate::lines::{log_refused, push_fact};
-use crate::naming::names_of;
+use crate::naming::names_and_log;
 use crate::shapes::not_shaped_answer;
 use crate::texts::Texts;
 use people_names::Names;
@@ -61,11 +61,9 @@ fn shaped_log<T: Texts>(
     ensures { let p = shaped.now in WithNamesAndLog T.gives (option_copied names.entry) log.now p
         (λ book. IsLogLine book wanted p) texts.old result texts.new }
 {
-    let names = names_of(alloc, texts, names, shaped)?;
-    let text = texts.text(alloc, log)?;
-    let answer = audited(alloc, &names, shaped, &text, wanted);
-    drop(text);
-    drop(names);
+    let read = names_and_log(alloc, texts, shaped, names, log)?;
+    let answer = audited(alloc, &read.names, shaped, &read.log, wanted);
+    drop(read);
     answer
 }
 

@@ -3,7 +3,8 @@
 ghost use Rattle.std.specs.Prelude.{IfOk};
 ghost use Rattle.std.specs.Option.{option_copied};
 ghost use Rattle.command_answers.specs.Margins.{IsMarginAnswer, IsMarginAnswerOf, IsMarginLine};
-ghost use Rattle.command_answers.specs.Commands.{RunsMargin};
+ghost use Rattle.command_answers.specs.Steps.{IsOrMemory};
+ghost use Rattle.command_answers.specs.Commands.{RunsMargin, WithNames};
 
 use crate::answer::{Answer, Answered, GOOD};
 use crate::checks::verdict_answer;
@@ -23,13 +24,31 @@ pub fn margin_answer<T: Texts>(alloc: Global, texts: &mut T, files: &Files<'_>) 
     ensures { RunsMargin T.gives files.now.pair (option_copied files.now.names) texts.old result texts.new }
 {
     match read_inputs(alloc, texts, &files.pair)?.shaped() {
-        Ok(shaped) => {
-            let names = names_of(alloc, texts, files.names, &shaped)?;
+        Ok(shaped) => shaped_margin(alloc, texts, shaped, files.names),
+        Err(fault) => Ok(not_shaped_answer(alloc, fault)?),
+    }
+}
+
+/// The margin of a plan, or the line of its check, with the names and the clock of a file.
+fn shaped_margin<T: Texts>(
+    alloc: Global,
+    texts: &mut T,
+    shaped: Shaped,
+    names: Option<&str>,
+) -> Answered
+    ensures { WithNames T.gives (option_copied names.entry) shaped
+        (λ book. IsOrMemory (IsMarginAnswer book shaped)) texts.old result texts.new }
+{
+    match names_of(alloc, texts, names, &shaped) {
+        Ok(names) => {
             let answer = plan_margin(alloc, &names, shaped);
             drop(names);
             Ok(answer?)
         }
-        Err(fault) => Ok(not_shaped_answer(alloc, fault)?),
+        Err(fault) => {
+            drop(shaped);
+            Err(fault)
+        }
     }
 }
 
@@ -45,7 +64,10 @@ fn plan_margin(alloc: Global, names: &Names, shaped: Shaped) -> Result<Answer, A
             drop(verdict);
             answer
         }
-        Err((error, _)) => Err(error),
+        Err((error, back)) => {
+            drop(back);
+            Err(error)
+        }
     }
 }
 

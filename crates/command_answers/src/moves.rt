@@ -6,24 +6,23 @@ ghost use Rattle.shop_base.specs.declared.limits.TheConstants.{MAX_MOMENT};
 ghost use Rattle.shop_base.specs.Cell.{start};
 ghost use Rattle.shop_base.specs.Report.{IsNextMoment};
 ghost use Rattle.command_answers.specs.declared.command_fault.CommandFault.TheVariants.{Memory};
-ghost use Rattle.command_answers.specs.Moves.{AreLinesBelow, AreMovesOfLog, IsMovesAnswer};
-ghost use Rattle.command_answers.specs.Rests.{IsCellAnswer};
+ghost use Rattle.command_answers.specs.Moves.{AreLinesBelow, AreMovesOfLog, AreMovesOfPlan, IsMovesAnswer};
+ghost use Rattle.command_answers.specs.declared.rests.PlanAnswer.TheVariants.{Verdict};
+ghost use Rattle.command_answers.specs.Rests.{AnswersRest, IsCellAnswer};
 ghost use Rattle.command_answers.specs.Steps.{IsOrMemory};
-ghost use Rattle.command_answers.specs.Commands.{RunsMoves, RunsRestMoves};
+ghost use Rattle.command_answers.specs.Commands.{RunsMoves, RunsRestMoves, WithNames, WithNamesAndLog};
 
 use crate::answer::{Answer, Answered, Outcome};
 use crate::command_fault::{CommandFault, Unanswered};
 use crate::inputs::{Ahead, Files, read_inputs};
 use crate::logs::log_fault_answer;
-use crate::naming::names_of;
-use crate::rests::{past_answer, present_at, rest_status};
+use crate::naming::{names_and_log, names_of};
+use crate::rests::{PlanAnswer, answer_rest, past_answer, present_at};
 use crate::shapes::not_shaped_answer;
 use crate::texts::Texts;
 use cell_tables::WorkCell;
 use people_names::Names;
-use plan_explain::first_line_after;
 use plan_moves::{moves_from, push_move_lines};
-use plan_verifier::verify_after;
 use run_log::run_of_log;
 use shop_base::{Moment, Shaped};
 use std::alloc::Global;
@@ -35,13 +34,31 @@ pub fn moves_answer<T: Texts>(alloc: Global, texts: &mut T, files: &Files<'_>) -
     ensures { RunsMoves T.gives files.now.pair (option_copied files.now.names) texts.old result texts.new }
 {
     match read_inputs(alloc, texts, &files.pair)?.shaped() {
-        Ok(shaped) => {
-            let names = names_of(alloc, texts, files.names, &shaped)?;
+        Ok(shaped) => shaped_moves(alloc, texts, shaped, files.names),
+        Err(fault) => Ok(not_shaped_answer(alloc, fault)?),
+    }
+}
+
+/// The moves from the start of a plan on, with the names and the clock of a file.
+fn shaped_moves<T: Texts>(
+    alloc: Global,
+    texts: &mut T,
+    shaped: Shaped,
+    names: Option<&str>,
+) -> Answered
+    ensures { WithNames T.gives (option_copied names.entry) shaped
+        (λ book. IsOrMemory (AreMovesOfPlan book shaped)) texts.old result texts.new }
+{
+    match names_of(alloc, texts, names, &shaped) {
+        Ok(names) => {
             let answer = plan_moves(alloc, &names, shaped);
             drop(names);
             answer
         }
-        Err(fault) => Ok(not_shaped_answer(alloc, fault)?),
+        Err(fault) => {
+            drop(shaped);
+            Err(fault)
+        }
     }
 }
 
@@ -52,15 +69,32 @@ pub fn rest_moves_answer<T: Texts>(alloc: Global, texts: &mut T, ahead: &Ahead<'
         (option_copied ahead.now.files.names) ahead.now.log.now texts.old result texts.new }
 {
     match read_inputs(alloc, texts, &ahead.files.pair)?.shaped() {
-        Ok(shaped) => {
-            let names = names_of(alloc, texts, ahead.files.names, &shaped)?;
-            let text = texts.text(alloc, ahead.log)?;
-            let answer = log_moves(alloc, &names, shaped, &text, ahead.at);
-            drop(text);
-            drop(names);
+        Ok(shaped) => shaped_rest_moves(alloc, texts, shaped, ahead),
+        Err(fault) => Ok(not_shaped_answer(alloc, fault)?),
+    }
+}
+
+/// The moves ahead in the run of a plan in the log of a file.
+fn shaped_rest_moves<T: Texts>(
+    alloc: Global,
+    texts: &mut T,
+    shaped: Shaped,
+    ahead: &Ahead<'_>,
+) -> Answered
+    requires { IfSome ahead.now.at (λ present. present ≤ MAX_MOMENT) }
+    ensures { WithNamesAndLog T.gives (option_copied ahead.now.files.names) ahead.now.log.now shaped
+        (λ book. AreMovesOfLog book ahead.now.at shaped) texts.old result texts.new }
+{
+    match names_and_log(alloc, texts, &shaped, ahead.files.names, ahead.log) {
+        Ok(read) => {
+            let answer = log_moves(alloc, &read.names, shaped, &read.log, ahead.at);
+            drop(read);
             answer
         }
-        Err(fault) => Ok(not_shaped_answer(alloc, fault)?),
+        Err(fault) => {
+            drop(shaped);
+            Err(fault)
+        }
     }
 }
 
@@ -70,7 +104,10 @@ fn plan_moves(alloc: Global, names: &Names, shaped: Shaped) -> Answered
 {
     match WorkCell::start(alloc, shaped) {
         Ok(cell) => cell_moves(alloc, names, cell, 0),
-        Err((error, _)) => Err(CommandFault::from(error)),
+        Err((error, back)) => {
+            drop(back);
+            Err(CommandFault::from(error))
+        }
     }
 }
 
@@ -112,13 +149,29 @@ fn cell_moves(alloc: Global, names: &Names, cell: WorkCell<Shaped>, present: Mom
     requires { IsNextMoment cell.cell present }
     ensures { IsOrMemory (IsMovesAnswer names.now cell.plan cell.cell present) result }
 {
-    let verdict = verify_after(alloc, &cell, present)?;
-    let line = first_line_after(alloc, &cell, verdict.seen());
-    let status = rest_status(&verdict);
-    drop(verdict);
-    let mut text = line?;
-    push_moves(alloc, &mut text, names, cell, present)?;
-    Ok(Answer { text, status })
+    match answer_rest(alloc, names, &cell, present, PlanAnswer::Verdict) {
+        Ok(line) => moves_below(alloc, line, names, cell, present),
+        Err(error) => {
+            drop(cell);
+            Err(CommandFault::from(error))
+        }
+    }
+}
+
+/// The moves from a cell and a present moment on, below the line of the verdict on the rest.
+fn moves_below(
+    alloc: Global,
+    mut line: Answer,
+    names: &Names,
+    cell: WorkCell<Shaped>,
+    present: Moment,
+) -> Answered
+    requires next { IsNextMoment cell.cell present }
+    requires line { AnswersRest names.now Verdict cell.plan cell.cell present line }
+    ensures { IsOrMemory (IsMovesAnswer names.now cell.plan cell.cell present) result }
+{
+    push_moves(alloc, &mut line.text, names, cell, present)?;
+    Ok(line)
 }
 
 /// Adds a line for each move. A plan with a cycle has none.
@@ -135,7 +188,11 @@ fn push_moves(
     ensures fault { IfErr result (λ fault. fault ≡ Memory) }
 {
     match moves_from(alloc, cell, present) {
-        Ok(moves) => Ok(push_move_lines(text, names, &moves)?),
+        Ok(moves) => {
+            let pushed = push_move_lines(text, names, &moves);
+            drop(moves);
+            Ok(pushed?)
+        }
         Err(fault) => match Unanswered::from(fault).0 {
             Some(fault) => Err(fault),
             None => Ok(()),

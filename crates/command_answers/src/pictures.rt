@@ -12,7 +12,7 @@ ghost use Rattle.run_gantt.specs.DrawnVisits.{drawn_visits};
 ghost use Rattle.run_gantt.specs.LeavingsSoFar.{leavings_so_far};
 ghost use Rattle.plan_explain.specs.RestVerdicts.{IsRestJudged};
 ghost use Rattle.command_answers.specs.Steps.{IsOrMemory};
-ghost use Rattle.command_answers.specs.Commands.{WithNamesAndLog};
+ghost use Rattle.command_answers.specs.Commands.{WithNames, WithNamesAndLog};
 ghost use Rattle.command_answers.specs.Pictures.{DrawsLog, DrawsRest, DrawsSchedule, IsCellDrawn, IsLogDrawn};
 ghost use Rattle.command_answers.specs.Pictures.{IsPlanDrawn, IsRestDrawing, IsRestDrawn, IsRunPicture, IsVerdictDrawn};
 ghost use Rattle.command_answers.specs.Pictures.{line_at, log_sheet, run_head, run_sheet};
@@ -20,7 +20,7 @@ ghost use Rattle.command_answers.specs.Pictures.{line_at, log_sheet, run_head, r
 use crate::answer::{Answer, GOOD, Outcome, REFUSED};
 use crate::inputs::{Ahead, Files, read_inputs};
 use crate::logs::log_fault_answer;
-use crate::naming::names_of;
+use crate::naming::{names_and_log, names_of};
 use crate::rest_improves::cycle_answer;
 use crate::rests::{past_answer, present_at};
 use crate::shapes::not_shaped_answer;
@@ -80,10 +80,9 @@ fn shaped_log<T: Texts>(
     ensures { let p = shaped.now in WithNamesAndLog T.gives (option_copied names.entry) log.now p
         (λ book. IsLogDrawn book p) texts.old result texts.new }
 {
-    let names = names_of(alloc, texts, names, shaped)?;
-    let text = texts.text(alloc, log)?;
-    let drawn = log_drawn(alloc, names, shaped, &text);
-    drop(text);
+    let read = names_and_log(alloc, texts, shaped, names, log)?;
+    let drawn = log_drawn(alloc, read.names, shaped, &read.log);
+    drop(read.log);
     drawn
 }
 
@@ -137,11 +136,27 @@ pub fn schedule_picture<T: Texts>(alloc: Global, texts: &mut T, files: &Files<'_
     ensures { DrawsSchedule T.gives files.now.pair (option_copied files.now.names) texts.old result texts.new }
 {
     match read_inputs(alloc, texts, &files.pair)?.shaped() {
-        Ok(shaped) => {
-            let names = names_of(alloc, texts, files.names, &shaped)?;
-            Ok(plan_drawn(alloc, names, shaped)?)
-        }
+        Ok(shaped) => shaped_drawn(alloc, texts, shaped, files.names),
         Err(fault) => Ok(Drawn::Line(not_shaped_answer(alloc, fault)?)),
+    }
+}
+
+/// Draws a whole plan, with the names of a file if there is one.
+fn shaped_drawn<T: Texts>(
+    alloc: Global,
+    texts: &mut T,
+    shaped: Shaped,
+    names: Option<&str>,
+) -> Outcome<Drawn>
+    ensures { WithNames T.gives (option_copied names.entry) shaped
+        (λ book. IsOrMemory (IsPlanDrawn book shaped)) texts.old result texts.new }
+{
+    match names_of(alloc, texts, names, &shaped) {
+        Ok(names) => Ok(plan_drawn(alloc, names, shaped)?),
+        Err(fault) => {
+            drop(shaped);
+            Err(fault)
+        }
     }
 }
 
@@ -150,17 +165,23 @@ fn plan_drawn(alloc: Global, names: Names, shaped: Shaped) -> Result<Drawn, Allo
     ensures { IfOk result (IsPlanDrawn names shaped) }
 {
     match WorkCell::start(alloc, shaped) {
-        Ok(cell) => rest_drawn(
-            alloc,
-            RestToDraw {
+        Ok(cell) => {
+            let rest = RestToDraw {
                 names,
                 cell: &cell,
                 present: 0,
                 line: None,
                 visits: &[],
-            },
-        ),
-        Err((error, _)) => Err(error),
+            };
+            let drawn = rest_drawn(alloc, rest);
+            drop(cell);
+            drawn
+        }
+        Err((error, back)) => {
+            drop(names);
+            drop(back);
+            Err(error)
+        }
     }
 }
 
@@ -174,14 +195,32 @@ pub fn rest_picture<T: Texts>(alloc: Global, texts: &mut T, ahead: &Ahead<'_>) -
         (option_copied ahead.now.files.names) ahead.now.log.now texts.old result texts.new }
 {
     match read_inputs(alloc, texts, &ahead.files.pair)?.shaped() {
-        Ok(shaped) => {
-            let names = names_of(alloc, texts, ahead.files.names, &shaped)?;
-            let text = texts.text(alloc, ahead.log)?;
-            let drawn = rest_of_log(alloc, names, shaped, &text, ahead.at);
-            drop(text);
+        Ok(shaped) => shaped_rest(alloc, texts, shaped, ahead),
+        Err(fault) => Ok(Drawn::Line(not_shaped_answer(alloc, fault)?)),
+    }
+}
+
+/// Draws the run of a plan in the log of a file and its rest.
+fn shaped_rest<T: Texts>(
+    alloc: Global,
+    texts: &mut T,
+    shaped: Shaped,
+    ahead: &Ahead<'_>,
+) -> Outcome<Drawn>
+    requires { IfSome ahead.now.at (λ present. present ≤ MAX_MOMENT) }
+    ensures { WithNamesAndLog T.gives (option_copied ahead.now.files.names) ahead.now.log.now shaped
+        (λ book. IsRestDrawing ahead.now.at book shaped) texts.old result texts.new }
+{
+    match names_and_log(alloc, texts, &shaped, ahead.files.names, ahead.log) {
+        Ok(read) => {
+            let drawn = rest_of_log(alloc, read.names, shaped, &read.log, ahead.at);
+            drop(read.log);
             drawn
         }
-        Err(fault) => Ok(Drawn::Line(not_shaped_answer(alloc, fault)?)),
+        Err(fault) => {
+            drop(shaped);
+            Err(fault)
+        }
     }
 }
 
@@ -197,7 +236,11 @@ fn rest_of_log(
     ensures { IsOrMemory (IsRestDrawing at names shaped log.now) result }
 {
     match run_of_log(alloc, shaped, log) {
-        Ok(run) => Ok(cell_drawn(alloc, names, &run.cell, at, &run.entries)?),
+        Ok(run) => {
+            let drawn = cell_drawn(alloc, names, &run.cell, at, &run.entries);
+            drop(run);
+            Ok(drawn?)
+        }
         Err(fault) => Ok(Drawn::Line(log_fault_answer(alloc, fault)?)),
     }
 }
@@ -262,7 +305,9 @@ fn rest_drawn(alloc: Global, rest: RestToDraw<'_>) -> Result<Drawn, AllocError>
         IfOk result (IsRestDrawn r.names r.cell.now.plan r.cell.now.cell r.present r.line r.visits.now) }
 {
     let verdict = verify_after(alloc, rest.cell, rest.present)?;
-    verdict_drawn(alloc, rest, &verdict)
+    let drawn = verdict_drawn(alloc, rest, &verdict);
+    drop(verdict);
+    drawn
 }
 
 /// Draws what the verdict on the rest is about, with its status. Of a cycle there is its line.

@@ -7,13 +7,16 @@ ghost use Rattle.text_lines.specs.Lines.{ended_lines};
 ghost use Rattle.command_answers.specs.Shapes.{IsLineOfFault};
 ghost use Rattle.command_answers.specs.DecidingRests.{IsRestDecisionAnswer, refusal};
 ghost use Rattle.command_answers.specs.Commands.{RunsDecideRest, WithRestDecision};
+ghost use Rattle.command_answers.specs.Naming.{ReadsNames};
+ghost use Rattle.command_answers.specs.Steps.{Concludes, Then};
+ghost use Rattle.command_answers.specs.Texts.{Asks};
 
 use crate::answer::{Answer, Answered};
 use crate::decides::{decided_answer, undecided_answer};
 use crate::improves::with_orders;
 use crate::inputs::{Ahead, ParsedInputs, read_inputs};
 use crate::lines::{bad_numbers_answer, fault_answer};
-use crate::naming::names_of;
+use crate::naming::names_and_log;
 use crate::texts::Texts;
 use arc_choice::Choose;
 use people_names::Names;
@@ -62,16 +65,41 @@ fn both_rest_decided<T: Texts, C: Choose, W: Watch>(
 {
     match both.shaped() {
         Ok(shaped) => {
-            let names = names_of(alloc, texts, ahead.files.names, &shaped)?;
-            let text = texts.text(alloc, ahead.log)?;
-            let answer = rest_decided(
-                alloc, &names, shaped, &text, ahead.at, aim, choices, chooser, watch,
-            );
-            drop(text);
-            drop(names);
-            answer
+            shaped_rest_decided(alloc, texts, shaped, ahead, aim, choices, chooser, watch)
         }
         Err(fault) => Ok(unfit_answer(alloc, fault)?),
+    }
+}
+
+/// What is decided of the rest of the run of a plan in the log of a file.
+fn shaped_rest_decided<T: Texts, C: Choose, W: Watch>(
+    alloc: Global,
+    texts: &mut T,
+    shaped: Shaped,
+    ahead: &Ahead<'_>,
+    aim: Aim,
+    choices: u64,
+    chooser: &mut C,
+    watch: &mut W,
+) -> Answered
+    requires { IfSome ahead.now.at (λ present. present ≤ MAX_MOMENT) }
+    ensures { Then (ReadsNames T.gives (option_copied ahead.now.files.names) shaped)
+        (λ book. Then (Asks T.gives ahead.now.log.now)
+        (λ log. Concludes (IsRestDecisionAnswer book ahead.now.at (ended_lines log) shaped aim)))
+        texts.old result texts.new }
+{
+    let at = ahead.at;
+    match names_and_log(alloc, texts, &shaped, ahead.files.names, ahead.log) {
+        Ok(read) => {
+            let (names, log) = (&read.names, &read.log);
+            let answer = rest_decided(alloc, names, shaped, log, at, aim, choices, chooser, watch);
+            drop(read);
+            answer
+        }
+        Err(fault) => {
+            drop(shaped);
+            Err(fault)
+        }
     }
 }
 

@@ -6,6 +6,8 @@ ghost use Rattle.text_lines.specs.Lines.{ended_lines};
 ghost use Rattle.command_answers.specs.ImprovingRests.{RestRoundsOf, IsRestAnswer, IsJudgedAnswer, IsUnfoundAnswer};
 ghost use Rattle.command_answers.specs.ImprovingRests.{HasAnswer, IsCycleLine, improve_command_fault};
 ghost use Rattle.command_answers.specs.Commands.{RunsImproveRest, WithRest};
+ghost use Rattle.command_answers.specs.Steps.{Concludes, Then};
+ghost use Rattle.command_answers.specs.Texts.{Asks};
 
 use crate::answer::{Answer, Answered, GOOD, REFUSED};
 use crate::command_fault::Unanswered;
@@ -58,11 +60,36 @@ fn better_rest_answer<T: Texts, W: Watch>(
         both texts.old result texts.new }
 {
     match both.shaped() {
-        Ok(start) => {
-            let text = texts.text(alloc, ahead.log)?;
-            found_answer(alloc, start, &text, ahead.at, improvers, rounds, watch)
-        }
+        Ok(start) => shaped_rest_answer(alloc, texts, start, ahead, improvers, rounds, watch),
         Err(fault) => Ok(not_shaped_answer(alloc, fault)?),
+    }
+}
+
+/// The answer of the search from a well-shaped plan for the rest of the run in the log of a file.
+fn shaped_rest_answer<T: Texts, W: Watch>(
+    alloc: Global,
+    texts: &mut T,
+    start: Shaped,
+    ahead: &Ahead<'_>,
+    improvers: &[Box<dyn Improver>],
+    rounds: u32,
+    watch: &mut W,
+) -> Answered
+    requires { IfSome ahead.now.at (λ present. present ≤ MAX_MOMENT) }
+    ensures { Then (Asks T.gives ahead.now.log.now)
+        (λ log. Concludes (IsRestAnswer (RestRoundsOf rounds (λ b. may b) improvers.now) ahead.now.at rounds
+        (ended_lines log) start)) texts.old result texts.new }
+{
+    match texts.text(alloc, ahead.log) {
+        Ok(text) => {
+            let answer = found_answer(alloc, start, &text, ahead.at, improvers, rounds, watch);
+            drop(text);
+            answer
+        }
+        Err(fault) => {
+            drop(start);
+            Err(fault)
+        }
     }
 }
 

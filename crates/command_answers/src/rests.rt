@@ -17,7 +17,7 @@ use crate::asked_job::{absent_job, no_job_answer};
 use crate::inputs::{Ahead, read_inputs};
 use crate::lines::push_fact;
 use crate::logs::log_fault_answer;
-use crate::naming::names_of;
+use crate::naming::names_and_log;
 use crate::shapes::not_shaped_answer;
 use crate::texts::Texts;
 use cell_tables::WorkCell;
@@ -88,12 +88,18 @@ fn shaped_rest<T: Texts>(
         drop(shaped);
         return Ok(no_job_answer(alloc, absent)?);
     }
-    let names = names_of(alloc, texts, ahead.files.names, &shaped)?;
-    let text = texts.text(alloc, ahead.log)?;
-    let answer = answer_rest_of_log(alloc, &names, shaped, &text, ahead.at, wanted);
-    drop(text);
-    drop(names);
-    answer
+    match names_and_log(alloc, texts, &shaped, ahead.files.names, ahead.log) {
+        Ok(read) => {
+            let (names, log) = (&read.names, &read.log);
+            let answer = answer_rest_of_log(alloc, names, shaped, log, ahead.at, wanted);
+            drop(read);
+            answer
+        }
+        Err(fault) => {
+            drop(shaped);
+            Err(fault)
+        }
+    }
 }
 
 /// What is answered for the rest of the run in a log.
@@ -110,7 +116,11 @@ fn answer_rest_of_log(
     ensures { IsOrMemory (IsRestLine names.now wanted at shaped log.now) result }
 {
     match run_of_log(alloc, shaped, log) {
-        Ok(run) => Ok(cell_answered(alloc, names, &run.cell, at, wanted)?),
+        Ok(run) => {
+            let answer = cell_answered(alloc, names, &run.cell, at, wanted);
+            drop(run);
+            Ok(answer?)
+        }
         Err(fault) => log_fault_answer(alloc, fault),
     }
 }

@@ -3,11 +3,13 @@
 ghost use Rattle.std.specs.Prelude.{◌≡◌, ◌≤◌, ◌++◌, [], IfOk, IfSome, OnOk, map, get_or};
 ghost use Rattle.shop_base.specs.declared.limits.TheConstants.{MAX_MOMENT};
 ghost use Rattle.shop_base.specs.Report.{IsNextMoment};
+ghost use Rattle.plan_explain.specs.RestVerdicts.{IsRestJudged};
 ghost use Rattle.command_answers.specs.Commands.{RunsRevise, WithLogOf};
 ghost use Rattle.command_answers.specs.Revising.{IsChanged, IsInstanceAnswer, IsPrinted, IsReviseAnswer, IsPlaced};
 ghost use Rattle.command_answers.specs.Revising.{IsRevisedFrom, IsRevisedRest, IsUnrevised, change_refused_line};
 ghost use Rattle.command_answers.specs.Revising.{flag_of, is_printable, printable_part};
-ghost use Rattle.command_answers.specs.Steps.{IsOrMemory};
+ghost use Rattle.command_answers.specs.Steps.{Concludes, IsOrMemory, Then};
+ghost use Rattle.command_answers.specs.Texts.{Asks};
 
 use crate::answer::{Answer, Answered, GOOD, REFUSED};
 use crate::command_fault::{CommandFault, Unrevised};
@@ -89,11 +91,35 @@ fn both_revised<T: Texts>(
         log.now both texts.old result texts.new }
 {
     match both.shaped() {
-        Ok(shaped) => {
-            let text = texts.text(alloc, log)?;
-            log_revised(alloc, shaped, description, &text, wanted)
-        }
+        Ok(shaped) => shaped_revised(alloc, texts, shaped, description, log, wanted),
         Err(fault) => Ok(not_shaped_answer(alloc, fault)?),
+    }
+}
+
+/// What is answered of a shop and a well-shaped plan, by the log of a file.
+fn shaped_revised<T: Texts>(
+    alloc: Global,
+    texts: &mut T,
+    shaped: Shaped,
+    description: &[u8],
+    log: &str,
+    wanted: Revision<'_>,
+) -> Answered
+    requires { IfSome wanted.at (λ present. present ≤ MAX_MOMENT) }
+    ensures { Then (Asks T.gives log.now) (λ text. Concludes (IsReviseAnswer wanted.entry.prints description.now
+        wanted.entry.at wanted.entry.changes.now (map (λ value. value.now) wanted.entry.values.now) shaped text))
+        texts.old result texts.new }
+{
+    match texts.text(alloc, log) {
+        Ok(text) => {
+            let answer = log_revised(alloc, shaped, description, &text, wanted);
+            drop(text);
+            answer
+        }
+        Err(fault) => {
+            drop(shaped);
+            Err(fault)
+        }
     }
 }
 
@@ -110,7 +136,11 @@ fn log_revised(
         (map (λ value. value.now) wanted.entry.values.now) shaped log.now result }
 {
     match run_of_log(alloc, shaped, log) {
-        Ok(run) => cell_revised(alloc, &run.cell, description, wanted),
+        Ok(run) => {
+            let answer = cell_revised(alloc, &run.cell, description, wanted);
+            drop(run);
+            answer
+        }
         Err(fault) => log_fault_answer(alloc, fault),
     }
 }
@@ -149,7 +179,26 @@ fn rest_revised(
         (map (λ value. value.now) wanted.entry.values.now) cell.now.plan cell.now.cell present result }
 {
     let verdict = verify_after(alloc, cell, present)?;
-    match &verdict {
+    let answer = verdict_revised(alloc, cell, present, &verdict, description, wanted);
+    drop(verdict);
+    answer
+}
+
+/// What is answered by the verdict on the rest.
+fn verdict_revised(
+    alloc: Global,
+    cell: &WorkCell<Shaped>,
+    present: Moment,
+    verdict: &Judged,
+    description: &[u8],
+    wanted: Revision<'_>,
+) -> Answered
+    requires next { IsNextMoment cell.now.cell present }
+    requires judged { IsRestJudged cell.now.plan cell.now.cell present verdict.now }
+    ensures { IsRevisedRest wanted.entry.prints description.now wanted.entry.changes.now
+        (map (λ value. value.now) wanted.entry.values.now) cell.now.plan cell.now.cell present result }
+{
+    match verdict {
         Judged::Refused(Why::Cycle(nodes)) => Ok(cycle_answer(alloc, nodes)?),
         Judged::Refused(Why::Late { .. }) => changed(alloc, cell, present, description, wanted),
         Judged::Accepted(_) => changed(alloc, cell, present, description, wanted),
@@ -169,7 +218,11 @@ fn changed(
         (map (λ value. value.now) wanted.entry.values.now) cell.now.plan cell.now.cell present result }
 {
     match revise(alloc, cell, present, wanted.changes) {
-        Ok(shaped) => printed(alloc, &shaped, description, wanted.prints),
+        Ok(shaped) => {
+            let answer = printed(alloc, &shaped, description, wanted.prints);
+            drop(shaped);
+            answer
+        }
         Err(cause) => unrevised(alloc, Unrevised::from(cause), wanted),
     }
 }

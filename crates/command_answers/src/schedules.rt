@@ -3,7 +3,8 @@
 ghost use Rattle.std.specs.Prelude.{IfOk};
 ghost use Rattle.std.specs.Option.{option_copied};
 ghost use Rattle.command_answers.specs.Timetables.{IsPlanScheduled};
-ghost use Rattle.command_answers.specs.Commands.{RunsSchedule};
+ghost use Rattle.command_answers.specs.Steps.{IsOrMemory};
+ghost use Rattle.command_answers.specs.Commands.{RunsSchedule, WithNames};
 
 use crate::answer::{Answer, Answered};
 use crate::checks::status_of;
@@ -22,13 +23,31 @@ pub fn schedule_answer<T: Texts>(alloc: Global, texts: &mut T, files: &Files<'_>
     ensures { RunsSchedule T.gives files.now.pair (option_copied files.now.names) texts.old result texts.new }
 {
     match read_inputs(alloc, texts, &files.pair)?.shaped() {
-        Ok(shaped) => {
-            let names = names_of(alloc, texts, files.names, &shaped)?;
+        Ok(shaped) => shaped_scheduled(alloc, texts, shaped, files.names),
+        Err(fault) => Ok(not_shaped_answer(alloc, fault)?),
+    }
+}
+
+/// The schedule of a plan, with the names and the clock of a file.
+fn shaped_scheduled<T: Texts>(
+    alloc: Global,
+    texts: &mut T,
+    shaped: Shaped,
+    names: Option<&str>,
+) -> Answered
+    ensures { WithNames T.gives (option_copied names.entry) shaped
+        (λ book. IsOrMemory (IsPlanScheduled book shaped)) texts.old result texts.new }
+{
+    match names_of(alloc, texts, names, &shaped) {
+        Ok(names) => {
             let answer = plan_scheduled(alloc, &names, shaped);
             drop(names);
             Ok(answer?)
         }
-        Err(fault) => Ok(not_shaped_answer(alloc, fault)?),
+        Err(fault) => {
+            drop(shaped);
+            Err(fault)
+        }
     }
 }
 
@@ -46,6 +65,9 @@ fn plan_scheduled(alloc: Global, names: &Names, shaped: Shaped) -> Result<Answer
             let text = text?;
             Ok(Answer { text, status })
         }
-        Err((error, _)) => Err(error),
+        Err((error, back)) => {
+            drop(back);
+            Err(error)
+        }
     }
 }

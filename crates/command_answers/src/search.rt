@@ -42,7 +42,11 @@ fn search_answer(
     let ParsedInputs { shop, plan } = both;
     let (release, budget, clean) = (plan.release, plan.budget, plan.clean);
     match seek(alloc, shop, release, budget, clean, proposers, rounds) {
-        Ok(verified) => document_answer(alloc, verified.shaped().plan(), GOOD),
+        Ok(verified) => {
+            let answer = document_answer(alloc, verified.shaped().plan(), GOOD);
+            drop(verified);
+            answer
+        }
         Err(refused) => no_plan_answer(alloc, refused.fault),
     }
 }

@@ -1,8 +1,6 @@
-use Rattle.std.proofs.Common.{◌∙◌, Ok, inl, inr, refl, subst}
-use Rattle.shop_base.specs.Plan.{PlannedShop, IsWellShaped}
+use Rattle.std.proofs.Common.{inr, refl, subst}
+use Rattle.shop_base.specs.Plan.{PlannedShop}
 use Rattle.shop_base.specs.ShapeFault.{IsFirstShapeFault}
-use Rattle.plan_decide.specs.Pasts.{whole_case}
-use Rattle.command_answers.specs.Deciding.{IsDecisionAnswer}
 use Rattle.command_answers.proofs.decides.both_decided.Goals as goal
 
 pub returns-in_ok-bad_numbers_answer-in-Err : goal.returns-in_ok-bad_numbers_answer-in-Err

@@ -1,7 +1,6 @@
-use Rattle.std.proofs.Common.{◌≤◌, ◌<◌, ◌∙◌, ℕ, IfOk, ap, subst, sym, unwrap_or}
+use Rattle.std.proofs.Common.{◌≤◌, ℕ, rules, subst, sym}
 use Rattle.shop_base.specs.declared.limits.TheConstants.{MAX_MOMENT}
 use Rattle.command_answers.proofs.RestAnswers.{present_within}
-use Rattle.command_answers.proofs.PictureAnswers.{rest_shown}
 use Rattle.command_answers.proofs.pictures.cell_drawn.Goals as goal
 
 pub rest_drawn-requires : goal.rest_drawn-requires
@@ -12,3 +11,6 @@ rest_drawn-requires c =
       in_order = subst (λ (n : ℕ). n ≤ c.present_at-present.result) last c.if-present-last.false;
       in_range = subst (λ (n : ℕ). n ≤ MAX_MOMENT) (sym c.present_at-present.ensures) (present_within MAX_MOMENT c.args.at c.last-last.result c.requires low);
     }
+
+pub returns : goal.returns
+returns c = search rules depth 2

@@ -8,12 +8,12 @@ use Rattle.command_answers.proofs.LogAnswers.{refused_log}
 use Rattle.command_answers.proofs.PictureAnswers.{run_shown}
 use Rattle.command_answers.proofs.pictures.rest_of_log.Goals as goal
 
-pub returns-in_ok-cell_drawn-in-Ok : goal.returns-in_ok-cell_drawn-in-Ok
-returns-in_ok-cell_drawn-in-Ok c =
+pub returns-in_ok-drawn-in-Ok : goal.returns-in_ok-drawn-in-Ok
+returns-in_ok-drawn-in-Ok c =
     let run = c.in-Ok.run' in
     let is = c.in-Ok.ensures in
-    run_shown c.args.at c.args.names c.args.shaped c.args.log.now (run.entries.items, is.parses, is.replayed.run) run.cell.plan run.cell.cell _ c.in_ok-cell_drawn-in-Ok.field-0
-    is.plan is.replayed.cell c.deref.ensures.value c.in_ok-cell_drawn-in-Ok.ensures
+    run_shown c.args.at c.args.names c.args.shaped c.args.log.now (run.entries.items, is.parses, is.replayed.run) run.cell.plan run.cell.cell _ c.in_ok-drawn-in-Ok.field-0
+    is.plan is.replayed.cell c.deref.ensures.value c.in_ok-drawn-in-Ok.ensures
 
 pub returns-in_ok-log_fault_answer-in-Err : goal.returns-in_ok-log_fault_answer-in-Err
 returns-in_ok-log_fault_answer-in-Err c =

@@ -1,13 +1,5 @@
-use Rattle.std.proofs.Common.{Ok, refl, inl}
+use Rattle.std.proofs.Common.{inl}
 use Rattle.command_answers.proofs.rest_improves.better_rest_answer.Goals as goal
 
-pub returns-in_ok-text-in-Ok : goal.returns-in_ok-text-in-Ok
-returns-in_ok-text-in-Ok g c = inl (
-  c.in-Ok.ensures.shaped.1,
-  record {
-    came = Ok c.in_ok-text-in-Ok.text.items;
-    mid = c.text.new.self;
-    is = c.in_ok-text-in-Ok.ensures.asked;
-    goes_on = (rw (← c.in-Ok.ensures.shaped.0) (rw (← c.deref.ensures.value) c.found_answer.ensures), refl);
-  },
-)
+pub returns-in-Ok : goal.returns-in-Ok
+returns-in-Ok g c = inl (c.in-Ok.ensures.shaped.1, rw (← c.in-Ok.ensures.shaped.0) c.shaped_rest_answer.ensures)

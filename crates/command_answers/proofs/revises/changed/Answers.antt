@@ -6,7 +6,7 @@ pub unrevised-requires : goal.unrevised-requires
 unrevised-requires c = placed c.args.cell.now.plan c.args.cell.now.cell c.args.present c.args.wanted.changes.now c.in-Err.cause c.from.result c.in-Err.ensures.refused c.from.ensures
 
 pub returns-in-Ok : goal.returns-in-Ok
-returns-in-Ok c = inl (record { revised = c.in-Ok.shaped; is = c.in-Ok.ensures.revised; printed = c.printed.ensures })
+returns-in-Ok c = inl (record { revised = c.in-Ok.shaped; is = c.in-Ok.ensures.revised; printed = c.printed-answer.ensures })
 
 pub returns-in-Err : goal.returns-in-Err
 returns-in-Err c =

@@ -10,7 +10,7 @@ returns-in-Ok c =
     let run = c.in-Ok.run' in
     let is = c.in-Ok.ensures in
     of_run c.args.wanted.prints c.args.description.now c.args.wanted.at c.args.wanted.changes.now (map (λ value. value.now) c.args.wanted.values.now) c.args.shaped c.args.log.now
-    (run.entries.items, is.parses, is.replayed.run) run.cell.plan run.cell.cell c.cell_revised.result is.plan is.replayed.cell c.cell_revised.ensures
+    (run.entries.items, is.parses, is.replayed.run) run.cell.plan run.cell.cell c.cell_revised-answer.result is.plan is.replayed.cell c.cell_revised-answer.ensures
 
 pub returns-in-Err : goal.returns-in-Err
 returns-in-Err c =
