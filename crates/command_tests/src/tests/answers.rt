@@ -5,6 +5,7 @@ use super::shelf::{IN_TIME, PAIR, Shelf, TWO};
 use command_answers::{Answer, CommandFault, plan_answer};
 use plan_seek::{GreedyProposer, Proposer, ShiftProposer};
 use std::alloc::{AllocError, Global};
+use std::process::Abort;
 use std::test::Fail;
 
 /// Whether the answer is this text, with this status.
@@ -15,10 +16,21 @@ fn tells(answer: Result<Answer, CommandFault>, text: &[u8], status: u8) -> bool 
     }
 }
 
-fn proposers(alloc: Global) -> Result<Vec<Box<dyn Proposer>>, AllocError> {
-    let mut proposers: Vec<Box<dyn Proposer>> = Vec::new(alloc);
-    proposers.push(Box::new(alloc, GreedyProposer::new())?)?;
-    proposers.push(Box::new(alloc, ShiftProposer::new())?)?;
+fn greedy(alloc: Global) -> Result<Box<dyn Proposer>, AllocError> {
+    let boxed: Box<dyn Proposer> = Box::new(alloc, GreedyProposer::new())?;
+    Ok(boxed)
+}
+
+fn shifting(alloc: Global) -> Result<Box<dyn Proposer>, AllocError> {
+    let boxed: Box<dyn Proposer> = Box::new(alloc, ShiftProposer::new())?;
+    Ok(boxed)
+}
+
+/// Both planners of the program.
+pub(super) fn proposers(alloc: Global) -> Result<Vec<Box<dyn Proposer>>, AllocError> {
+    let mut proposers = Vec::new(alloc);
+    proposers.push(greedy(alloc)?)?;
+    proposers.push(shifting(alloc)?)?;
     Ok(proposers)
 }
 
@@ -39,17 +51,23 @@ const SEARCHES: &[(&[u8], u32, &[u8], u8)] = &[
     (IN_TIME, 1001, b"too many rounds\n", 1),
 ];
 
-#[test]
-fn a_plan_is_found_or_the_rounds_are_too_many(rt: HostRuntime) -> Result<(), Fail> {
-    let proposers = proposers(rt.alloc())?;
+/// Each search by these planners answers so.
+fn answers_each(rt: &(impl Abort + AllocGlobal), proposers: &[Box<dyn Proposer>]) {
     for &(plan, rounds, text, status) in SEARCHES {
         let mut shelf = Shelf {
             instance: TWO,
             plan,
             log: b"",
         };
-        let answer = plan_answer(rt.alloc(), &mut shelf, &PAIR, &proposers, rounds);
+        let answer = plan_answer(rt.alloc(), &mut shelf, &PAIR, proposers, rounds);
         assert!(rt; tells(answer, text, status));
     }
+}
+
+#[test]
+fn a_plan_is_found_or_the_rounds_are_too_many(rt: HostRuntime) -> Result<(), Fail> {
+    let proposers = proposers(rt.alloc())?;
+    answers_each(&rt, &proposers);
+    drop(proposers);
     Ok(())
 }

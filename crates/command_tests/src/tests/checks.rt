@@ -4,9 +4,8 @@ use super::shelf::{CROSSED, IN_TIME, LATE, TWO};
 use super::verdicts::said;
 use command_answers::{Loaded, load};
 use plan_verifier::Verified;
-use shop_base::{JobNo, ShapeFault};
+use shop_base::{JobNo, Moment, ShapeFault};
 use std::alloc::{AllocError, Global};
-use std::process::Abort;
 use std::test::Fail;
 
 const RING: &[u8] = b"ring\n3 3\n0 1 1 1\n1 1 2 1\n2 1 0 1\n";
@@ -41,7 +40,9 @@ fn loaded(loaded: &Loaded) -> &'static str {
 fn evidence_stands_the_checks(rt: HostRuntime) -> Result<(), Fail> {
     for &(instance, plan, verdict) in JUDGED {
         let answer = load(rt.alloc(), instance, None, plan)?;
-        assert!(rt; loaded(&answer) == verdict, "{verdict}");
+        let is = loaded(&answer) == verdict;
+        drop(answer);
+        assert!(rt; is, "{verdict}");
     }
     Ok(())
 }
@@ -84,7 +85,9 @@ fn is_not_shaped(loaded: &Loaded, first: ShapeFault) -> bool {
 fn the_first_fault_of_a_shape_is_loaded(rt: HostRuntime) -> Result<(), Fail> {
     for &(plan, first) in NOT_SHAPED {
         let answer = load(rt.alloc(), TWO, None, plan)?;
-        assert!(rt; is_not_shaped(&answer, first));
+        let is = is_not_shaped(&answer, first);
+        drop(answer);
+        assert!(rt; is);
     }
     Ok(())
 }
@@ -97,23 +100,41 @@ fn chain_length(alloc: Global, verified: &Verified, job: JobNo) -> Result<usize,
     }
 }
 
-/// The earliest leavings of the jobs, and the lengths of their chains.
-fn tells_of_jobs(rt: &(impl Abort + AllocGlobal), verified: &Verified) -> Result<(), AllocError> {
-    for (job, leave, length) in [(0, Some(5), 3), (1, Some(10), 6), (2, None, 0)] {
-        assert!(rt; verified.earliest_leave(job) == leave);
-        assert!(rt; chain_length(rt.alloc(), verified, job)? == length);
-    }
-    Ok(())
+/// The earliest leaving of a job, and how many nodes its chain has.
+fn leaving(
+    alloc: Global,
+    verified: &Verified,
+    job: JobNo,
+) -> Result<(Option<Moment>, usize), AllocError> {
+    let leave = verified.earliest_leave(job);
+    Ok((leave, chain_length(alloc, verified, job)?))
+}
+
+/// The same of the two jobs, and of one that isn't there.
+fn leavings(
+    alloc: Global,
+    verified: &Verified,
+) -> Result<[(Option<Moment>, usize); 3], AllocError> {
+    let first = leaving(alloc, verified, 0)?;
+    let second = leaving(alloc, verified, 1)?;
+    Ok([first, second, leaving(alloc, verified, 2)?])
+}
+
+/// The makespan, and how many reports there are of the plan, and of the one that is taken out.
+fn counts(verified: Verified) -> (Moment, u64, u64) {
+    let (makespan, count) = (verified.makespan(), verified.shaped().report_count());
+    let shaped = verified.into_shaped();
+    let same_count = shaped.report_count();
+    drop(shaped);
+    (makespan, count, same_count)
 }
 
 #[test]
 fn an_accepted_plan_tells_its_leavings_and_chains(rt: HostRuntime) -> Result<(), Fail> {
-    let verified = match load(rt.alloc(), TWO, None, IN_TIME)?.accepted() {
-        Ok(verified) => verified,
-        Err(_) => return Err("the plan isn't accepted".into()),
-    };
-    tells_of_jobs(&rt, &verified)?;
-    assert!(rt; verified.makespan() == 10 && verified.shaped().report_count() == 6);
-    assert!(rt; verified.into_shaped().report_count() == 6);
+    let verified = load(rt.alloc(), TWO, None, IN_TIME)?.accepted()?;
+    let leavings = leavings(rt.alloc(), &verified);
+    let counts = counts(verified);
+    assert!(rt; leavings? == [(Some(5), 3), (Some(10), 6), (None, 0)]);
+    assert!(rt; counts == (10, 6, 6));
     Ok(())
 }

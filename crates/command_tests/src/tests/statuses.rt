@@ -57,6 +57,17 @@ fn faults() -> [(CommandFault, &'static str, u8); 11] {
     ]
 }
 
+/// Whether each of these faults, which end the program by the status of another one, has its text.
+fn are_written(alloc: Global) -> Result<[bool; 5], AllocError> {
+    let log = ResumeFault::Log(AuditFault::NotReady { line: 4567 });
+    let log = says(alloc, &log, "Log NotReady line 4567")?;
+    let past = says(alloc, &ResumeFault::Past { last: 45 }, "Past 45")?;
+    let of_resume = says(alloc, &ResumeFault::Memory, "Memory")?;
+    let of_words = says(alloc, &WordsFault::Memory, "Memory")?;
+    let of_seek = says(alloc, &SeekFault::Memory, "Memory")?;
+    Ok([log, past, of_resume, of_words, of_seek])
+}
+
 #[test]
 fn faults_have_a_text_and_a_status(rt: HostRuntime) -> Result<(), Fail> {
     for (fault, text, status) in faults() {
@@ -65,12 +76,7 @@ fn faults_have_a_text_and_a_status(rt: HostRuntime) -> Result<(), Fail> {
             "{text}"
         );
     }
-    let fault = ResumeFault::Log(AuditFault::NotReady { line: 4567 });
-    assert!(rt; says(rt.alloc(), &fault, "Log NotReady line 4567")?);
-    assert!(rt; says(rt.alloc(), &ResumeFault::Past { last: 45 }, "Past 45")?);
-    assert!(rt; says(rt.alloc(), &ResumeFault::Memory, "Memory")?);
-    assert!(rt; says(rt.alloc(), &WordsFault::Memory, "Memory")?);
-    assert!(rt; says(rt.alloc(), &SeekFault::Memory, "Memory")?);
+    assert!(rt; are_written(rt.alloc())? == [true; 5]);
     Ok(())
 }
 
@@ -79,13 +85,17 @@ fn leaves_out(alloc: Global, shaped: Shaped, why: Why) -> Result<bool, AllocErro
     says(alloc, &ResumeFault::Refused(shaped, why), "Refused")
 }
 
+/// The plan of a verdict that refuses it, and why.
+fn refused(loaded: Loaded) -> Result<(Shaped, Why), Loaded> {
+    match loaded {
+        Loaded::Judged(Verdict::Refused(shaped, why)) => Ok((shaped, why)),
+        other => Err(other),
+    }
+}
+
 #[test]
 fn a_fault_leaves_a_refused_plan_out_of_its_text(rt: HostRuntime) -> Result<(), Fail> {
-    match load(rt.alloc(), TWO, None, LATE)? {
-        Loaded::Judged(Verdict::Refused(shaped, why)) => {
-            assert!(rt; leaves_out(rt.alloc(), shaped, why)?);
-            Ok(())
-        }
-        _ => Err("the plan isn't refused".into()),
-    }
+    let (shaped, why) = refused(load(rt.alloc(), TWO, None, LATE)?)?;
+    assert!(rt; leaves_out(rt.alloc(), shaped, why)?);
+    Ok(())
 }
