@@ -30,21 +30,32 @@ impl Watch for Watched {
     }
 }
 
+fn improver(
+    alloc: Global,
+    questions: &Rc<Cell<u32>>,
+    answer: Answer,
+    place: u32,
+) -> Result<Box<dyn Improver>, AllocError> {
+    let questions = questions.clone()?;
+    let improver = Scripted {
+        answer,
+        first: 0,
+        place,
+        questions,
+    };
+    let boxed: Box<dyn Improver> = Box::new(alloc, improver)?;
+    Ok(boxed)
+}
+
 /// The improvers, each in its place.
 fn improvers(
     alloc: Global,
     questions: &Rc<Cell<u32>>,
     answers: [Answer; 3],
 ) -> Result<Vec<Box<dyn Improver>>, AllocError> {
-    let mut improvers: Vec<Box<dyn Improver>> = Vec::new(alloc);
+    let mut improvers = Vec::new(alloc);
     for place in 0..ASKED {
-        let improver = Scripted {
-            answer: answers[place as usize],
-            first: 0,
-            place,
-            questions: questions.clone()?,
-        };
-        improvers.push(Box::new(alloc, improver)?)?;
+        improvers.push(improver(alloc, questions, answers[place as usize], place)?)?;
     }
     Ok(improvers)
 }
@@ -71,11 +82,6 @@ fn is_end(
     }
 }
 
-/// The same of an answer that is dropped then.
-fn end_of(alloc: Global, answer: Result<Verdict, NotImproved>, plan: &[u8]) -> Result<End, Fail> {
-    Ok(is_end(alloc, &answer, plan)?)
-}
-
 /// How the search from the plan that is given ends, where the other one is to come out or back.
 fn improved(
     alloc: Global,
@@ -86,7 +92,9 @@ fn improved(
 ) -> Result<End, Fail> {
     let start = planned(alloc, TWO, plans[0])?;
     let answer = improve(alloc, start, improvers, rounds, watch);
-    end_of(alloc, answer, plans[1])
+    let end = is_end(alloc, &answer, plans[1]);
+    drop(answer);
+    Ok(end?)
 }
 
 /// Job 1 has to be out first.
@@ -266,7 +274,22 @@ const SEARCHES: &[Search] = &[
     ),
 ];
 
-/// How the search ends, how many rounds are reported, and how often improvers are asked.
+/// How the search by improvers that count their questions ends, and how many rounds are reported.
+fn watched(
+    alloc: Global,
+    plans: [&[u8]; 2],
+    answers: [Answer; 3],
+    rounds: u32,
+    questions: &Rc<Cell<u32>>,
+) -> Result<(End, u32), Fail> {
+    let improvers = improvers(alloc, questions, answers)?;
+    let mut watch = Watched { rounds: 0 };
+    let end = improved(alloc, plans, &improvers, rounds, &mut watch);
+    drop(improvers);
+    Ok((end?, watch.rounds))
+}
+
+/// The same, and how many questions there were.
 fn searched(
     alloc: Global,
     plans: [&[u8]; 2],
@@ -274,10 +297,11 @@ fn searched(
     rounds: u32,
 ) -> Result<(End, u32, u32), Fail> {
     let questions = Rc::new(alloc, Cell::new(0))?;
-    let asked = improvers(alloc, &questions, answers)?;
-    let mut watch = Watched { rounds: 0 };
-    let end = improved(alloc, plans, &asked, rounds, &mut watch)?;
-    Ok((end, watch.rounds, questions.get()))
+    let found = watched(alloc, plans, answers, rounds, &questions);
+    let count = questions.get();
+    drop(questions);
+    let (end, reported) = found?;
+    Ok((end, reported, count))
 }
 
 #[test]
@@ -304,7 +328,7 @@ fn says(alloc: Global, fault: ImproveFault, text: &str) -> Result<bool, AllocErr
 
 #[test]
 fn faults_have_a_text(rt: HostRuntime) -> Result<(), Fail> {
-    assert!(rt; says(rt.alloc(), ImproveFault::Memory, "Memory")?);
-    assert!(rt; says(rt.alloc(), ImproveFault::TooManyRounds, "TooManyRounds")?);
+    let memory = says(rt.alloc(), ImproveFault::Memory, "Memory")?;
+    assert!(rt; memory && says(rt.alloc(), ImproveFault::TooManyRounds, "TooManyRounds")?);
     Ok(())
 }

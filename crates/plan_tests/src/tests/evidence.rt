@@ -62,7 +62,9 @@ fn checked(
     places: &[(JobNo, u32)],
 ) -> Result<(Option<Moment>, bool), Fail> {
     let nodes = nodes(alloc, places)?;
-    Ok((check_chain(shaped, &nodes), check_cycle(shaped, &nodes)))
+    let found = (check_chain(shaped, &nodes), check_cycle(shaped, &nodes));
+    drop(nodes);
+    Ok(found)
 }
 
 fn found(
@@ -71,7 +73,9 @@ fn found(
     places: &[(JobNo, u32)],
 ) -> Result<(Option<Moment>, bool), Fail> {
     let shaped = planned(alloc, TWO, plan)?;
-    checked(alloc, &shaped, places)
+    let found = checked(alloc, &shaped, places);
+    drop(shaped);
+    found
 }
 
 #[test]

@@ -32,7 +32,9 @@ fn is_described(named: &Named, description: &[u8], work: u64) -> bool {
 fn descriptions_are_read_as_they_stand(rt: HostRuntime) -> Result<(), Fail> {
     for &(text, description, work) in DESCRIBED {
         let named = read_instance(rt.alloc(), text)?;
-        assert!(rt; is_described(&named, description, work));
+        let is = is_described(&named, description, work);
+        drop(named);
+        assert!(rt; is);
     }
     Ok(())
 }
@@ -60,15 +62,19 @@ const LAST: &[Step] = &[
 /// Whether the instance of this name has this description and work.
 fn is_found(alloc: Global, name: &[u8], description: &[u8], work: u64) -> Result<bool, OrFault> {
     let named = read_from_collection(alloc, COLLECTION, name)?;
-    Ok(is_described(&named, description, work))
+    let is = is_described(&named, description, work);
+    drop(named);
+    Ok(is)
 }
 
 #[test]
 fn instances_of_a_collection_are_found_by_name(rt: HostRuntime) -> Result<(), Fail> {
-    assert!(rt; is_found(rt.alloc(), b"two", b" small", 10)?);
-    assert!(rt; is_found(rt.alloc(), b"one", b"", 7)?);
-    let two = read_from_collection(rt.alloc(), COLLECTION, b"two")?;
-    assert!(rt; goes(&two.shop, LAST));
+    let two = is_found(rt.alloc(), b"two", b" small", 10)?;
+    let one = is_found(rt.alloc(), b"one", b"", 7)?;
+    let named = read_from_collection(rt.alloc(), COLLECTION, b"two")?;
+    let route = goes(&named.shop, LAST);
+    drop(named);
+    assert!(rt; (two, one, route) == (true, true, true));
     Ok(())
 }
 

@@ -23,17 +23,25 @@ const GREATER: &[u8] =
 /// Whether the plan of the text is written as that text again.
 fn is_written_again(alloc: Global, text: &[u8]) -> Result<bool, PlanFault> {
     let plan = read_plan(alloc, text)?;
-    is_text(alloc, &plan, text)
+    let is = is_text(alloc, &plan, text);
+    drop(plan);
+    is
 }
 
 fn is_printed(alloc: Global, plan: &Plan, printed: &str) -> Result<bool, Fail> {
     Ok(format!(in alloc; "{plan:?}")?.as_str() == printed)
 }
 
+fn is_refused(alloc: Global, text: &[u8], fault: PlanFault) -> bool {
+    read_plan(alloc, text).err() == Some(fault)
+}
+
 /// Whether the plan of the text is read so.
 fn is_read(alloc: Global, text: &[u8], printed: &str) -> Result<bool, Fail> {
     let plan = read_plan(alloc, text)?;
-    is_printed(alloc, &plan, printed)
+    let is = is_printed(alloc, &plan, printed);
+    drop(plan);
+    is
 }
 
 #[test]
@@ -43,9 +51,8 @@ fn plans_are_read_and_written_again(rt: HostRuntime) -> Result<(), Fail> {
     }
     let printed =
         "Plan { release: [4294967296], budget: [4294967297], order: [[4294967295]], clean: Some([4294967298]) }";
-    assert!(rt; is_read(rt.alloc(), GREATER, printed)?);
-    let refused = read_plan(rt.alloc(), b"x = 1\n").err();
-    assert!(rt; refused == Some(PlanFault::UnknownKey));
+    let read = is_read(rt.alloc(), GREATER, printed)?;
+    assert!(rt; read && is_refused(rt.alloc(), b"x = 1\n", PlanFault::UnknownKey));
     Ok(())
 }
 
@@ -53,7 +60,9 @@ fn plans_are_read_and_written_again(rt: HostRuntime) -> Result<(), Fail> {
 fn refusal(alloc: Global, budget: Vec<Moment>) -> Result<Option<PlanFault>, PlanFault> {
     let mut plan = read_plan(alloc, IN_SERIES)?;
     plan.budget = budget;
-    Ok(plan_document(alloc, &plan).err())
+    let refused = plan_document(alloc, &plan).err();
+    drop(plan);
+    Ok(refused)
 }
 
 #[test]
@@ -72,7 +81,7 @@ fn says(alloc: Global, fault: PlanFault, text: &str) -> Result<bool, AllocError>
 
 #[test]
 fn faults_have_a_text(rt: HostRuntime) -> Result<(), Fail> {
-    assert!(rt; says(rt.alloc(), PlanFault::NotReadBack, "NotReadBack")?);
-    assert!(rt; says(rt.alloc(), PlanFault::Memory, "Memory")?);
+    let memory = says(rt.alloc(), PlanFault::Memory, "Memory")?;
+    assert!(rt; memory && says(rt.alloc(), PlanFault::NotReadBack, "NotReadBack")?);
     Ok(())
 }

@@ -35,11 +35,6 @@ pub(crate) fn two_jobs(alloc: Global) -> Result<Shop, Fail> {
 
 /// The plan of a text, shaped for the instance of the other.
 pub(crate) fn planned(alloc: Global, instance: &[u8], plan: &[u8]) -> Result<Shaped, Fail> {
-    match shape(
-        read_instance(alloc, instance)?.shop,
-        read_plan(alloc, plan)?,
-    ) {
-        Ok(shaped) => Ok(shaped),
-        Err(refused) => Err(refused.fault.into()),
-    }
+    let shop = read_instance(alloc, instance)?.shop;
+    Ok(shape(shop, read_plan(alloc, plan)?)?)
 }

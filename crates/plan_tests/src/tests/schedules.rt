@@ -47,7 +47,7 @@ fn judged(alloc: Global, shaped: Shaped) -> Result<Verdict, AllocError>
 {
     match verify(alloc, shaped) {
         Ok(verdict) => Ok(verdict),
-        Err((error, _)) => Err(error),
+        Err(refused) => Err(refused.0),
     }
 }
 
@@ -55,7 +55,11 @@ fn judged(alloc: Global, shaped: Shaped) -> Result<Verdict, AllocError>
 fn tells(alloc: Global, plan: &[u8], text: &[u8]) -> Result<bool, Fail> {
     let shaped = planned(alloc, TWO, plan)?;
     let verdict = judged(alloc, shaped)?;
-    Ok(schedule(alloc, &Names::none(alloc), &verdict)?.as_slice() == text)
+    let names = Names::none(alloc);
+    let schedule = schedule(alloc, &names, &verdict);
+    drop(names);
+    drop(verdict);
+    Ok(schedule?.as_slice() == text)
 }
 
 #[test]

@@ -12,6 +12,24 @@ use std::cell::Cell;
 use std::rc::Rc;
 use std::test::Fail;
 
+fn planner(
+    alloc: Global,
+    questions: &Rc<Cell<u32>>,
+    answer: Answer,
+    first: u32,
+    place: u32,
+) -> Result<Box<dyn Proposer>, AllocError> {
+    let questions = questions.clone()?;
+    let planner = Scripted {
+        answer,
+        first,
+        place,
+        questions,
+    };
+    let boxed: Box<dyn Proposer> = Box::new(alloc, planner)?;
+    Ok(boxed)
+}
+
 /// The planners, each in its place.
 fn planners(
     alloc: Global,
@@ -19,29 +37,34 @@ fn planners(
     answers: [Answer; 3],
     first: u32,
 ) -> Result<Vec<Box<dyn Proposer>>, AllocError> {
-    let mut proposers: Vec<Box<dyn Proposer>> = Vec::new(alloc);
+    let mut planners = Vec::new(alloc);
     for place in 0..ASKED {
-        let planner = Scripted {
-            answer: answers[place as usize],
-            first,
-            place,
-            questions: questions.clone()?,
-        };
-        proposers.push(Box::new(alloc, planner)?)?;
+        let answer = answers[place as usize];
+        planners.push(planner(alloc, questions, answer, first, place)?)?;
     }
-    Ok(proposers)
+    Ok(planners)
 }
 
 /// Whether this is the text of the fault, and shop and numbers come back.
 fn is_refused(alloc: Global, refused: NotFound, given: &[u8], wanted: &str) -> Result<bool, Fail> {
+    let NotFound {
+        fault,
+        shop,
+        release,
+        budget,
+        clean,
+    } = refused;
     let plan = Plan {
-        release: refused.release,
-        budget: refused.budget,
+        release,
+        budget,
         order: Vec::new(alloc),
-        clean: refused.clean,
+        clean,
     };
-    let same = refused.shop.work() == 10 && is_text(alloc, &plan, given)?;
-    Ok(same && says(alloc, refused.fault, wanted)?)
+    let work = shop.work();
+    drop(shop);
+    let same = is_text(alloc, &plan, given);
+    drop(plan);
+    Ok(same? && work == 10 && says(alloc, fault, wanted)?)
 }
 
 fn says(alloc: Global, fault: SeekFault, text: &str) -> Result<bool, AllocError> {
@@ -73,7 +96,11 @@ fn is_answer(
     wanted: &str,
 ) -> Result<bool, Fail> {
     match answer {
-        Ok(verified) => Ok(is_text(alloc, verified.shaped().plan(), wanted.as_bytes())?),
+        Ok(verified) => {
+            let is = is_text(alloc, verified.shaped().plan(), wanted.as_bytes());
+            drop(verified);
+            Ok(is?)
+        }
         Err(refused) => is_refused(alloc, refused, given, wanted),
     }
 }
@@ -164,6 +191,20 @@ const SEARCHES: &[Search] = &[
     (AMPLE, [HUNGRY, SILENT, SILENT], 0, 1001, "TooManyRounds", 0),
 ];
 
+/// The same by these planners, which are dropped then.
+fn is_found_by(
+    alloc: Global,
+    given: &[u8],
+    planners: Result<Vec<Box<dyn Proposer>>, AllocError>,
+    rounds: u32,
+    wanted: &str,
+) -> Result<bool, Fail> {
+    let planners = planners?;
+    let is = is_found(alloc, given, &planners, rounds, wanted);
+    drop(planners);
+    is
+}
+
 /// Whether the search answers this, and how often planners are asked.
 fn searched(
     alloc: Global,
@@ -174,9 +215,11 @@ fn searched(
     wanted: &str,
 ) -> Result<(bool, u32), Fail> {
     let questions = Rc::new(alloc, Cell::new(0))?;
-    let proposers = planners(alloc, &questions, answers, first)?;
-    let is_wanted = is_found(alloc, given, &proposers, rounds, wanted)?;
-    Ok((is_wanted, questions.get()))
+    let planners = planners(alloc, &questions, answers, first);
+    let is = is_found_by(alloc, given, planners, rounds, wanted);
+    let count = questions.get();
+    drop(questions);
+    Ok((is?, count))
 }
 
 #[test]
@@ -205,7 +248,9 @@ fn is_proposed(
     wanted: &str,
 ) -> Result<bool, Fail> {
     let orders = planner.propose(alloc, shop, round)?;
-    are_printed(alloc, &orders, wanted)
+    let are = are_printed(alloc, &orders, wanted);
+    drop(orders);
+    are
 }
 
 /// Whether a planner proposes this in a round for an instance.
@@ -217,17 +262,20 @@ fn proposes(
     wanted: &str,
 ) -> Result<bool, Fail> {
     let named = read_instance(alloc, instance)?;
-    is_proposed(alloc, planner, &named.shop, round, wanted)
+    let is = is_proposed(alloc, planner, &named.shop, round, wanted);
+    drop(named);
+    is
 }
 
 #[test]
 fn planners_propose_orders(rt: HostRuntime) -> Result<(), Fail> {
     let (shift, greedy) = (ShiftProposer::new(), GreedyProposer::new());
-    assert!(rt; proposes(rt.alloc(), &shift, TWO, 1, "Some([[1, 0], [1, 0]])")?);
-    assert!(rt; proposes(rt.alloc(), &greedy, TWO, 0, "Some([[0, 1], [0, 1]])")?);
+    let shifted = proposes(rt.alloc(), &shift, TWO, 1, "Some([[1, 0], [1, 0]])")?;
+    let first = proposes(rt.alloc(), &greedy, TWO, 0, "Some([[0, 1], [0, 1]])")?;
     // no command asks in so late a round
     let wanted =
         "Some([[3, 5, 4, 0, 2, 1], [5, 3, 4, 1, 0, 2], [4, 2, 3, 5, 0, 1], [5, 2, 3, 4, 0, 1], [4, 5, 3, 1, 2, 0], [5, 4, 2, 3, 1, 0]])";
-    assert!(rt; proposes(rt.alloc(), &greedy, FT06, 1000, wanted)?);
+    let last = proposes(rt.alloc(), &greedy, FT06, 1000, wanted)?;
+    assert!(rt; (shifted, first, last) == (true, true, true));
     Ok(())
 }

@@ -40,12 +40,16 @@ fn bounds(alloc: Global, solved: &Solved, node: Node) -> Result<Bounds, Fail> {
 
 fn bounds_of_graph(alloc: Global, shaped: &Shaped, node: Node) -> Result<Bounds, Fail> {
     let solved = solve(alloc, shaped)?;
-    bounds(alloc, &solved, node)
+    let found = bounds(alloc, &solved, node);
+    drop(solved);
+    found
 }
 
 fn bounds_of_plan(alloc: Global, plan: &[u8], node: Node) -> Result<Bounds, Fail> {
     let shaped = planned(alloc, TWO, plan)?;
-    bounds_of_graph(alloc, &shaped, node)
+    let found = bounds_of_graph(alloc, &shaped, node);
+    drop(shaped);
+    found
 }
 
 #[test]

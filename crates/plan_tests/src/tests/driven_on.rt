@@ -1,8 +1,8 @@
 //! A run that is driven on from a cell, and handed over to a plan, where there is memory enough.
 
-use super::rests::{begun, planned};
+use super::plans::{CLEANED, TWO, planned};
+use super::rests::begun;
 use cell_control::{Report, RestController, TourneyDues};
-use cell_tables::WorkCell;
 use shop_base::Shaped;
 use std::alloc::Global;
 use std::test::Fail;
@@ -24,20 +24,26 @@ fn takes_over(alloc: Global, controller: &mut RestController<TourneyDues>, shape
         && controller.reports_left() == 7
 }
 
-/// Whether a controller begins with the cell at moment 0, and does both.
-fn goes_on(alloc: Global, cell: WorkCell<Shaped>, shaped: Shaped) -> bool {
-    match RestController::begin(alloc, cell, 0) {
-        Ok(mut controller) => {
-            sends_in(&mut controller) && takes_over(alloc, &mut controller, shaped)
-        }
-        Err(_) => false,
-    }
+/// A controller that begins with the cell at moment 0.
+fn resting(alloc: Global) -> Result<RestController<TourneyDues>, Fail> {
+    Ok(RestController::begin(alloc, begun(alloc)?, 0)?)
+}
+
+/// Whether it does both.
+fn goes_on(
+    alloc: Global,
+    controller: &mut RestController<TourneyDues>,
+) -> Result<(bool, bool), Fail> {
+    let sent = sends_in(controller);
+    let shaped = planned(alloc, TWO, CLEANED)?;
+    Ok((sent, takes_over(alloc, controller, shaped)))
 }
 
 #[test]
 fn the_rest_of_a_run_is_driven_on(rt: HostRuntime) -> Result<(), Fail> {
-    let cell = begun(rt.alloc())?;
-    let shaped = planned(rt.alloc())?;
-    assert!(rt; goes_on(rt.alloc(), cell, shaped));
+    let mut controller = resting(rt.alloc())?;
+    let went = goes_on(rt.alloc(), &mut controller);
+    drop(controller);
+    assert!(rt; went? == (true, true));
     Ok(())
 }

@@ -4,44 +4,20 @@
 ghost use Rattle.std.specs.Prelude.{IfOk, IfSome};
 ghost use Rattle.plan_verifier.specs.RestVerdicts.{IsAcceptedAhead};
 
+use super::plans::{CLEANED, TWO, planned};
 use alt_graph::Solved;
 use cell_tables::WorkCell;
-use orlib_read::read_instance;
-use plan_text::read_plan;
 use plan_verifier::{
     Judged, Why, check_chain_after, deadlines_after, makespan, solve_after, verify_after,
 };
 use shop_base::limits::MAX_MOMENT;
-use shop_base::{Moment, Node, Shaped, shape};
+use shop_base::{Moment, Node, Shaped};
 use std::alloc::{AllocError, Global};
 use std::test::Fail;
 
-/// Two jobs that cross on two machines.
-const TWO: &[u8] = b"two\n2 2\n0 3 1 2\n1 4 0 1\n";
-
-/// Job 0 before job 1, and machine 1 cleaned for 2 after each; neither job can come later.
-const CLEANED: &[u8] =
-    b"version = 2\nrelease = [0, 0]\nbudget = [5, 12]\norder = [[0, 1], [0, 1]]\nclean = [0, 2]\n";
-
-/// The plan of a text, shaped for the instance of the other.
-pub(super) fn shaped_as(alloc: Global, instance: &[u8], plan: &[u8]) -> Result<Shaped, Fail> {
-    let shop = read_instance(alloc, instance)?.shop;
-    match shape(shop, read_plan(alloc, plan)?) {
-        Ok(shaped) => Ok(shaped),
-        Err(refused) => Err(refused.fault.into()),
-    }
-}
-
-pub(super) fn planned(alloc: Global) -> Result<Shaped, Fail> {
-    shaped_as(alloc, TWO, CLEANED)
-}
-
-/// The cell at the start.
+/// The cell at the start of a plan by which neither job can come later.
 pub(super) fn begun(alloc: Global) -> Result<WorkCell<Shaped>, Fail> {
-    match WorkCell::start(alloc, planned(alloc)?) {
-        Ok(cell) => Ok(cell),
-        Err((error, _)) => Err(error.into()),
-    }
+    Ok(WorkCell::start(alloc, planned(alloc, TWO, CLEANED)?)?)
 }
 
 /// The verdict from a moment on, none where that is past.
@@ -98,11 +74,18 @@ fn is_solved(alloc: Global, cell: &WorkCell<Shaped>) -> Result<bool, AllocError>
     }
 }
 
+/// Whether it is in time from moment 0 on, late from moment 1 on, and solved.
+fn verdicts(alloc: Global, cell: &WorkCell<Shaped>) -> Result<(bool, bool, bool), AllocError> {
+    let in_time = is_in_time(alloc, cell)?;
+    let late = is_late(alloc, cell)?;
+    Ok((in_time, late, is_solved(alloc, cell)?))
+}
+
 #[test]
 fn the_rest_of_a_run_is_judged(rt: HostRuntime) -> Result<(), Fail> {
     let cell = begun(rt.alloc())?;
-    assert!(rt; is_in_time(rt.alloc(), &cell)?);
-    assert!(rt; is_late(rt.alloc(), &cell)?);
-    assert!(rt; is_solved(rt.alloc(), &cell)?);
+    let found = verdicts(rt.alloc(), &cell);
+    drop(cell);
+    assert!(rt; found? == (true, true, true));
     Ok(())
 }
