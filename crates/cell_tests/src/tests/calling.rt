@@ -1,20 +1,15 @@
 //! A caller of a controller, and what it is given.
 
 use cell_control::{Controller, MoveOrder, Report, TourneyDues};
-use plan_verifier::Verified;
 use std::alloc::{AllocError, Global};
 
 /// Takes a cell through these reports: the moves that they order, or none where one of them isn't possible.
 pub fn moves_of(
     alloc: Global,
-    verified: Verified,
+    controller: &mut Controller<TourneyDues>,
     reports: &[Report],
 ) -> Result<Option<Vec<MoveOrder>>, AllocError> {
     let mut moves = Vec::new(alloc);
-    let mut controller: Controller<TourneyDues> = match Controller::new(alloc, verified) {
-        Ok(controller) => controller,
-        Err((error, _verified)) => return Err(error),
-    };
     for report in reports {
         if controller.report(*report).is_err() {
             return Ok(None);

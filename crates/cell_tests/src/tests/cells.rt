@@ -38,26 +38,27 @@ pub(super) const INSTANT: Texts = (
     b"release = [0]\nbudget = [0]\norder = [[0]]\n",
 );
 
-fn shaped(alloc: Global, texts: Texts) -> Result<Shaped, Fail> {
+/// The plan of the texts.
+pub(super) fn shaped(alloc: Global, texts: Texts) -> Result<Shaped, Fail> {
     let shop = read_instance(alloc, texts.0)?.shop;
-    match shape(shop, read_plan(alloc, texts.1)?) {
-        Ok(shaped) => Ok(shaped),
-        Err(refused) => Err(refused.fault.into()),
+    Ok(shape(shop, read_plan(alloc, texts.1)?)?)
+}
+
+/// The plan of a verdict that accepts it.
+fn accepted_by(verdict: Verdict) -> Result<Verified, Verdict> {
+    match verdict {
+        Verdict::Accepted(verified) => Ok(verified),
+        refused => Err(refused),
     }
 }
 
 /// The plan of the texts, which is accepted.
 pub(super) fn accepted(alloc: Global, texts: Texts) -> Result<Verified, Fail> {
-    match verify(alloc, shaped(alloc, texts)?) {
-        Ok(Verdict::Accepted(verified)) => Ok(verified),
-        _ => Err("the plan isn't accepted".into()),
-    }
+    let verdict = verify(alloc, shaped(alloc, texts)?)?;
+    Ok(accepted_by(verdict)?)
 }
 
 /// A controller of the plan.
 pub(super) fn controller<D: Dues>(alloc: Global, texts: Texts) -> Result<Controller<D>, Fail> {
-    match Controller::new(alloc, accepted(alloc, texts)?) {
-        Ok(cell) => Ok(cell),
-        Err((error, _)) => Err(error.into()),
-    }
+    Ok(Controller::new(alloc, accepted(alloc, texts)?)?)
 }

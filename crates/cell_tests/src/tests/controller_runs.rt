@@ -1,15 +1,16 @@
 //! Runs of a controller, report by report, and what its readers give then.
 
 use super::calling::moves_of;
-use super::cells::{CLEANED, CROSSING, FOLLOWING, INSTANT, Texts, accepted, controller};
+use super::cells::{CLEANED, CROSSING, FOLLOWING, INSTANT, Texts, controller};
 use super::events::{arrive, enter, finish, go_on};
 use super::worked_runs::{
     AT_ONCE, AT_THE_LIMIT, CLEANING, CLEANING_END, EARLY, EARLY_END, FIRST, FOLLOWED, FOLLOWED_END,
     LATE_LEAVING, LATE_RUN, LATE_WAITING, REFUSED, Row, SECOND_LEAVING, THIRD_LEAVING, UNCLEAN,
     are_orders,
 };
-use cell_control::{Controller, Dues, Phase, ScanDues, TourneyDues};
-use shop_base::{JobNo, MachineNo, Moment};
+use cell_control::{Controller, Dues, Phase, Report, ScanDues, TourneyDues};
+use shop_base::{JobNo, MachineNo, Moment, MoveOrder};
+use std::alloc::Global;
 use std::process::Abort;
 use std::test::Fail;
 
@@ -278,19 +279,20 @@ fn makes<D: Dues>(rt: &impl Abort, cell: &mut Controller<D>, run: &Run) {
     for rows in run.parts {
         gives(rt, cell, rows);
     }
-    let now = run.end.1;
-    assert!(rt; tells_of_end(cell, run.end), "the run at {now}");
-    assert!(rt; tells_of_jobs(cell, run.jobs), "the jobs at {now}");
-    assert!(rt;
+    let found = (
+        tells_of_end(cell, run.end),
+        tells_of_jobs(cell, run.jobs),
         tells_of_machines(cell, run.machines),
-        "the machines at {now}"
     );
+    let now = run.end.1;
+    assert!(rt; found == (true, true, true), "{found:?} at {now}");
 }
 
 fn makes_each_run<D: Dues>(rt: &(impl Abort + AllocGlobal)) -> Result<(), Fail> {
     for run in RUNS {
         let mut cell: Controller<D> = controller(rt.alloc(), run.texts)?;
         makes(rt, &mut cell, run);
+        drop(cell);
     }
     Ok(())
 }
@@ -305,23 +307,51 @@ fn tourney_dues_serve_a_controller(rt: HostRuntime) -> Result<(), Fail> {
     makes_each_run::<TourneyDues>(&rt)
 }
 
+/// The makespans of the plan that a controller keeps, and of the one that is taken out.
+fn makespans(cell: Controller<TourneyDues>) -> (Moment, Moment) {
+    let kept = cell.verified().makespan();
+    let verified = cell.into_verified();
+    let makespan = verified.makespan();
+    drop(verified);
+    (kept, makespan)
+}
+
 #[test]
 fn a_controller_keeps_its_plan(rt: HostRuntime) -> Result<(), Fail> {
     let mut cell = controller::<TourneyDues>(rt.alloc(), CLEANED)?;
-    assert!(rt; cell.orders().is_empty());
+    let is_still = cell.orders().is_empty();
     gives(&rt, &mut cell, FIRST);
-    assert!(rt; cell.verified().makespan() == 12);
-    assert!(rt; cell.into_verified().makespan() == 12);
+    let found = makespans(cell);
+    assert!(rt; is_still && found == (12, 12));
     Ok(())
+}
+
+/// Whether these are the moves, or there are none.
+fn are_moves(moves: &Option<Vec<MoveOrder>>, wanted: Option<&[MoveOrder]>) -> bool {
+    match moves {
+        Some(moves) => wanted == Some(moves.as_slice()),
+        None => wanted.is_none(),
+    }
+}
+
+/// Whether a caller is given these moves by the reports, or none where one isn't possible.
+fn are_given(
+    alloc: Global,
+    reports: &[Report],
+    wanted: Option<&[MoveOrder]>,
+) -> Result<bool, Fail> {
+    let mut cell = controller::<TourneyDues>(alloc, CROSSING)?;
+    let moves = moves_of(alloc, &mut cell, reports);
+    drop(cell);
+    Ok(are_moves(&moves?, wanted))
 }
 
 #[test]
 fn a_caller_is_given_the_moves(rt: HostRuntime) -> Result<(), Fail> {
     let reports = [arrive(0, 0), arrive(1, 0), finish(0, 0, 3)];
-    let moves = moves_of(rt.alloc(), accepted(rt.alloc(), CROSSING)?, &reports)?;
     let wanted = [enter(0, 0, 0), go_on(0, 0, 1, 3)];
-    assert!(rt; moves.ok_or("a report isn't possible")?.as_slice() == wanted.as_slice());
-    let moves = moves_of(rt.alloc(), accepted(rt.alloc(), CROSSING)?, &reports[2..])?;
-    assert!(rt; moves.is_none());
+    let given = are_given(rt.alloc(), &reports, Some(wanted.as_slice()))?;
+    let none = are_given(rt.alloc(), &reports[2..], None)?;
+    assert!(rt; given && none);
     Ok(())
 }

@@ -97,6 +97,20 @@ fn echoed(reader: &mut Reader<'_>, writer: &mut Writer<'_>) -> Result<End, Drive
     }
 }
 
+/// Drives what is to be driven over this reader and this writer.
+fn driven_by(
+    alloc: Global,
+    driver: Driver,
+    reader: &mut Reader<'_>,
+    writer: &mut Writer<'_>,
+) -> Result<Result<End, DriveFault>, Fail> {
+    match driver {
+        Driver::Cell(texts) => Ok(driven_cell(alloc, accepted(alloc, texts)?, reader, writer)),
+        Driver::Cells(plans) => Ok(driven_cells(alloc, verified(alloc, plans)?, reader, writer)),
+        Driver::Echo => Ok(echoed(reader, writer)),
+    }
+}
+
 /// Drives what is to be driven over devices with these limits.
 pub(super) fn driven_over(alloc: Global, driven: &Driven, limits: Limits) -> Result<Outcome, Fail> {
     let written = Cell::new(0);
@@ -114,19 +128,12 @@ pub(super) fn driven_over(alloc: Global, driven: &Driven, limits: Limits) -> Res
         limits.takes_nothing,
     );
     let mut writer = Buffered::new(alloc, limits.buffered, device)?;
-    let end = match driven.driver {
-        Driver::Cell(texts) => {
-            driven_cell(alloc, accepted(alloc, texts)?, &mut reader, &mut writer)
-        }
-        Driver::Cells(plans) => {
-            driven_cells(alloc, verified(alloc, plans)?, &mut reader, &mut writer)
-        }
-        Driver::Echo => echoed(&mut reader, &mut writer),
-    };
+    let end = driven_by(alloc, driven.driver, &mut reader, &mut writer);
     let giver = reader.into_inner();
+    let alike = writer.into_inner().alike;
     Ok(Outcome {
-        end,
-        alike: writer.into_inner().alike,
+        end: end?,
+        alike,
         count: written.get(),
         before_last_read: giver.written_at_last,
         reads: giver.calls,

@@ -73,14 +73,11 @@ fn a_failed_read_leaves_the_answers_of_the_complete_lines(rt: HostRuntime) -> Re
         for reads in 0..driven.input.len() + 1 {
             let outcome = driven_over(rt.alloc(), driven, Limits { reads, ..BYTES })?;
             let out = answered_within(driven, reads);
-            assert!(rt;
+            let found = (
                 outcome.is(Err(DriveFault::Read), out),
-                "after {reads} reads"
+                outcome.before_last_read,
             );
-            assert!(rt;
-                outcome.before_last_read == out,
-                "before the read after {reads}"
-            );
+            assert!(rt; found == (true, out), "{found:?} after {reads} reads");
         }
     }
     Ok(())
@@ -101,11 +98,8 @@ fn failed_flushes_leave_what_was_answered(
         } else {
             driven.text.len()
         };
-        assert!(rt;
-            outcome.is(Err(DriveFault::Write), out),
-            "after {shows} flushes"
-        );
-        assert!(rt; outcome.reads == shows, "after {shows} flushes");
+        let found = (outcome.is(Err(DriveFault::Write), out), outcome.reads);
+        assert!(rt; found == (true, shows), "{found:?} after {shows} flushes");
     }
     Ok(())
 }

@@ -34,33 +34,42 @@ fn tells_each_change<D: Dues>(rt: &(impl Abort + AllocGlobal)) -> Result<(), Fai
     dues.set(0, 7);
     dues.set(3, 4);
     dues.set(4, 4);
-    assert!(rt; are_due(&dues, Some(4), Some(7), Some(4)));
+    let set = are_due(&dues, Some(4), Some(7), Some(4));
     dues.clear(3);
-    assert!(rt; are_due(&dues, Some(4), Some(7), None));
+    let one_cleared = are_due(&dues, Some(4), Some(7), None);
     dues.clear(4);
-    assert!(rt; are_due(&dues, Some(7), Some(7), None));
-    assert!(rt; replace(&mut dues, 0, 9) == Some(7));
-    assert!(rt; are_due(&dues, Some(9), Some(9), None));
-    assert!(rt; dues.get(5).is_none());
+    let two_cleared = are_due(&dues, Some(7), Some(7), None);
+    let before = replace(&mut dues, 0, 9);
+    let replaced = are_due(&dues, Some(9), Some(9), None);
+    let past_the_end = dues.get(5);
     dues.clear(0);
     dues.clear(0);
-    assert!(rt; are_due(&dues, None, None, None));
+    let all_cleared = are_due(&dues, None, None, None);
+    drop(dues);
+    assert!(rt; set && one_cleared && two_cleared);
+    assert!(rt; before == Some(7) && replaced);
+    assert!(rt; past_the_end.is_none() && all_cleared);
     Ok(())
 }
 
 fn takes_any_size_and_moment<D: Dues>(rt: &(impl Abort + AllocGlobal)) -> Result<(), Fail> {
     let none = D::sized(rt.alloc(), 0)?;
-    assert!(rt; are_due(&none, None, None, None));
+    let is_empty = are_due(&none, None, None, None);
+    drop(none);
     let mut one = D::sized(rt.alloc(), 1)?;
-    assert!(rt; one.least().is_none());
+    let unset = one.least();
     one.set(0, u64::MAX);
-    assert!(rt; one.least() == Some(u64::MAX));
-    let mut most = D::sized(rt.alloc(), 300)?;
-    most.set(299, 0);
-    most.set(150, u64::MAX);
-    assert!(rt; most.least() == Some(0));
-    most.clear(299);
-    assert!(rt; most.least() == Some(u64::MAX));
+    let only = one.least();
+    drop(one);
+    let mut many = D::sized(rt.alloc(), 300)?;
+    many.set(299, 0);
+    many.set(150, u64::MAX);
+    let least = many.least();
+    many.clear(299);
+    let left = many.least();
+    drop(many);
+    assert!(rt; is_empty && unset.is_none() && only == Some(u64::MAX));
+    assert!(rt; least == Some(0) && left == Some(u64::MAX));
     Ok(())
 }
 

@@ -6,6 +6,7 @@ use cell_hub::HubFault;
 use run_log::{AuditFault, LogFault, WriteFault};
 use std::alloc::{AllocError, Global};
 use std::fmt::Display;
+use std::process::Abort;
 use std::test::Fail;
 
 /// Whether this is the text of the fault.
@@ -69,28 +70,49 @@ const OF_DRIVEN_CELLS: &[(DriveFault, &str, u8)] = &[
     (DriveFault::Memory, "Memory", 4),
 ];
 
-#[test]
-fn each_fault_has_a_text(rt: HostRuntime) -> Result<(), Fail> {
+fn reasons_say_it(rt: &(impl Abort + AllocGlobal)) -> Result<(), AllocError> {
     for &(reason, text, name) in REASONS {
         assert!(rt;
             says(rt.alloc(), &reason, text)? && reason.name() == name,
             "{text}"
         );
     }
+    Ok(())
+}
+
+fn hubs_say_it(rt: &(impl Abort + AllocGlobal)) -> Result<(), AllocError> {
     for &(fault, text) in OF_HUBS {
         assert!(rt; says(rt.alloc(), &fault, text)?, "{text}");
     }
+    Ok(())
+}
+
+fn audits_say_it(rt: &(impl Abort + AllocGlobal)) -> Result<(), AllocError> {
     for &(fault, text) in OF_AUDITS {
         assert!(rt; says(rt.alloc(), &fault, text)?, "{text}");
     }
+    Ok(())
+}
+
+fn driven_cells_say_it(rt: &(impl Abort + AllocGlobal)) -> Result<(), AllocError> {
     for &(fault, text, status) in OF_DRIVEN_CELLS {
         assert!(rt;
             says(rt.alloc(), &fault, text)? && fault.status() == status,
             "{text}"
         );
     }
-    assert!(rt; says(rt.alloc(), &ReadFault, "Read")?);
-    assert!(rt; says(rt.alloc(), &WriteFault, "Write")?);
-    assert!(rt; says(rt.alloc(), &LogFault::Full, "Full")?);
+    Ok(())
+}
+
+#[test]
+fn each_fault_has_a_text(rt: HostRuntime) -> Result<(), Fail> {
+    reasons_say_it(&rt)?;
+    hubs_say_it(&rt)?;
+    audits_say_it(&rt)?;
+    driven_cells_say_it(&rt)?;
+    let read = says(rt.alloc(), &ReadFault, "Read")?;
+    let write = says(rt.alloc(), &WriteFault, "Write")?;
+    let full = says(rt.alloc(), &LogFault::Full, "Full")?;
+    assert!(rt; (read, write, full) == (true, true, true));
     Ok(())
 }

@@ -1,12 +1,20 @@
 //! A log without room.
 
-use super::cells::{INSTANT, accepted};
+use super::cells::{INSTANT, Texts, accepted};
 use super::events::{arrive, enter};
 use cell_tables::Entry;
 use run_log::RunLog;
 use shop_base::MoveOrder;
-use std::process::Abort;
+use std::alloc::Global;
 use std::test::Fail;
+
+/// A log for one run of the plan.
+fn log_of(alloc: Global, texts: Texts) -> Result<RunLog, Fail> {
+    let verified = accepted(alloc, texts)?;
+    let log = RunLog::for_run(alloc, &verified);
+    drop(verified);
+    Ok(log?)
+}
 
 /// Notes a report, and answers whether there was room, and how many entries there are then.
 fn report_noted(log: &mut RunLog) -> (bool, usize) {
@@ -21,16 +29,29 @@ fn orders_noted(log: &mut RunLog, orders: &[MoveOrder]) -> (bool, usize) {
 }
 
 /// Notes what there is room for, and more.
-fn fills(rt: &impl Abort, log: &mut RunLog) {
+fn fills(log: &mut RunLog) -> [(bool, usize); 7] {
     let orders = [enter(0, 0, 0), enter(0, 0, 0)];
-    assert!(rt; report_noted(log) == (true, 1));
-    assert!(rt; orders_noted(log, &orders) == (true, 3));
-    assert!(rt; orders_noted(log, &orders) == (false, 3));
-    assert!(rt; report_noted(log) == (true, 4));
-    assert!(rt; report_noted(log) == (false, 4));
-    assert!(rt; orders_noted(log, &orders[..1]) == (false, 4));
-    assert!(rt; orders_noted(log, &[]) == (true, 4));
+    [
+        report_noted(log),
+        orders_noted(log, &orders),
+        orders_noted(log, &orders),
+        report_noted(log),
+        report_noted(log),
+        orders_noted(log, &orders[..1]),
+        orders_noted(log, &[]),
+    ]
 }
+
+/// What each of them answers.
+const NOTED: [(bool, usize); 7] = [
+    (true, 1),
+    (true, 3),
+    (false, 3),
+    (true, 4),
+    (false, 4),
+    (false, 4),
+    (true, 4),
+];
 
 /// Whether these are a report, two orders and a report.
 fn are_noted(entries: &[Entry]) -> bool {
@@ -46,8 +67,10 @@ fn are_noted(entries: &[Entry]) -> bool {
 
 #[test]
 fn a_log_has_room_for_one_run(rt: HostRuntime) -> Result<(), Fail> {
-    let mut log = RunLog::for_run(rt.alloc(), &accepted(rt.alloc(), INSTANT)?)?;
-    fills(&rt, &mut log);
-    assert!(rt; are_noted(log.entries()));
+    let mut log = log_of(rt.alloc(), INSTANT)?;
+    let found = fills(&mut log);
+    let entries = are_noted(log.entries());
+    drop(log);
+    assert!(rt; found == NOTED && entries);
     Ok(())
 }

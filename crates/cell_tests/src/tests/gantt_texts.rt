@@ -1,6 +1,6 @@
 //! Entries that are drawn though no log has them. How those of runs are drawn is shown by `tests/commands/runs`.
 
-use super::cells::{INSTANT, accepted};
+use super::cells::{INSTANT, shaped};
 use super::events::{enter, finish, go_on, leave};
 use cell_tables::Entry;
 use run_gantt::gantt;
@@ -12,8 +12,10 @@ const STRANGER: u32 = 4_000_000_013;
 
 /// Whether this is the drawing of the entries, for the one job.
 fn are_drawn(alloc: Global, entries: &[Entry], drawing: &str) -> Result<bool, Fail> {
-    let verified = accepted(alloc, INSTANT)?;
-    Ok(gantt(alloc, verified.shaped(), entries)?.as_str() == drawing)
+    let shaped = shaped(alloc, INSTANT)?;
+    let drawn = gantt(alloc, &shaped, entries);
+    drop(shaped);
+    Ok(drawn?.as_str() == drawing)
 }
 
 #[test]
@@ -25,7 +27,7 @@ fn entries_of_no_run_are_drawn(rt: HostRuntime) -> Result<(), Fail> {
         Entry::Order(leave(STRANGER, 0, 3)),
     ];
     let drawing = "scale 1\nmachine 0 4000000013:0-1-3\nbar 3==.\n";
-    assert!(rt; are_drawn(rt.alloc(), &strangers, drawing)?);
+    let of_strangers = are_drawn(rt.alloc(), &strangers, drawing)?;
     let again = [
         Entry::Order(go_on(0, 0, 0, 5)),
         Entry::Report(finish(0, 0, 4)),
@@ -33,13 +35,14 @@ fn entries_of_no_run_are_drawn(rt: HostRuntime) -> Result<(), Fail> {
         Entry::Order(leave(0, 0, 1)),
     ];
     let drawing = "scale 1\nmachine 0 0:5-4-2 0:2-?-1\nbar ......\n";
-    assert!(rt; are_drawn(rt.alloc(), &again, drawing)?);
+    let of_one_again = are_drawn(rt.alloc(), &again, drawing)?;
     let last = [
         Entry::Order(enter(0, 0, 0)),
         Entry::Report(finish(0, 0, u64::MAX)),
     ];
     let drawing = "scale 307445734561825861\nmachine 0 0:0-18446744073709551615-?\n\
         bar 000000000000000000000000000000000000000000000000000000000000\n";
-    assert!(rt; are_drawn(rt.alloc(), &last, drawing)?);
+    let to_the_last = are_drawn(rt.alloc(), &last, drawing)?;
+    assert!(rt; of_strangers && of_one_again && to_the_last);
     Ok(())
 }

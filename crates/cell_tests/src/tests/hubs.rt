@@ -4,16 +4,14 @@ use super::cells::{CROSSING, INSTANT, Texts, accepted};
 use super::events::arrive;
 use cell_control::{Ack, Dues, ScanDues, TourneyDues};
 use cell_hub::{Hub, HubFault, Ticket};
+use plan_verifier::Verified;
 use std::alloc::Global;
 use std::process::Abort;
 use std::test::Fail;
 
 /// The ticket of one more cell, with this plan.
 fn admitted<D: Dues>(alloc: Global, hub: &mut Hub<D>, texts: Texts) -> Result<Ticket, Fail> {
-    match hub.admit(accepted(alloc, texts)?) {
-        Ok(ticket) => Ok(ticket),
-        Err((fault, _)) => Err(fault.into()),
-    }
+    Ok(hub.admit(accepted(alloc, texts)?)?)
 }
 
 /// Whether the cell of the ticket is there and waits for so many reports.
@@ -32,28 +30,36 @@ fn dismissed<D: Dues>(hub: &mut Hub<D>, ticket: Ticket) -> Option<u64> {
     }
 }
 
-/// Gives the first cell its first report, and dismisses it.
-fn leaves<D: Dues>(rt: &impl Abort, hub: &mut Hub<D>, first: Ticket) {
-    assert!(rt; first == Ticket { slot: 0, serial: 0 });
-    assert!(rt; hub.report(first, arrive(0, 0)).is_ok());
-    assert!(rt; dismissed(hub, first) == Some(5));
+/// Whether the first cell takes its first report, and is dismissed.
+fn leaves<D: Dues>(hub: &mut Hub<D>, first: Ticket) -> bool {
+    first == Ticket { slot: 0, serial: 0 }
+        && hub.report(first, arrive(0, 0)).is_ok()
+        && dismissed(hub, first) == Some(5)
 }
 
-/// The second cell answers in its place, and not under its ticket.
-fn follows<D: Dues>(rt: &impl Abort, hub: &mut Hub<D>, first: Ticket, second: Ticket) {
-    assert!(rt; second == Ticket { slot: 0, serial: 1 });
-    assert!(rt; hub.report(first, arrive(1, 0)) == Err(HubFault::NoSuchCell));
-    assert!(rt; hub.cell(first).is_none() && dismissed(hub, first).is_none());
-    assert!(rt; hub.report(second, arrive(0, 0)) == Ok(Ack { late: false }));
-    assert!(rt; waits_for(hub, second, 5));
+/// Whether the second cell answers in its place, and not under its ticket.
+fn follows<D: Dues>(hub: &mut Hub<D>, first: Ticket, second: Ticket) -> bool {
+    second == Ticket { slot: 0, serial: 1 }
+        && hub.report(first, arrive(1, 0)) == Err(HubFault::NoSuchCell)
+        && hub.cell(first).is_none()
+        && dismissed(hub, first).is_none()
+        && hub.report(second, arrive(0, 0)) == Ok(Ack { late: false })
+        && waits_for(hub, second, 5)
+}
+
+/// Admits two cells, the second once the first has left, and answers whether each did as it should.
+fn succeed<D: Dues>(alloc: Global, hub: &mut Hub<D>) -> Result<(bool, bool), Fail> {
+    let first = admitted(alloc, hub, CROSSING)?;
+    let left = leaves(hub, first);
+    let second = admitted(alloc, hub, CROSSING)?;
+    Ok((left, follows(hub, first, second)))
 }
 
 fn a_dismissed_ticket_is_silent<D: Dues>(rt: &(impl Abort + AllocGlobal)) -> Result<(), Fail> {
     let mut hub: Hub<D> = Hub::new(rt.alloc());
-    let first = admitted(rt.alloc(), &mut hub, CROSSING)?;
-    leaves(rt, &mut hub, first);
-    let second = admitted(rt.alloc(), &mut hub, CROSSING)?;
-    follows(rt, &mut hub, first, second);
+    let found = succeed(rt.alloc(), &mut hub);
+    drop(hub);
+    assert!(rt; found? == (true, true));
     Ok(())
 }
 
@@ -63,17 +69,28 @@ fn dismissed_tickets_never_answer(rt: HostRuntime) -> Result<(), Fail> {
     a_dismissed_ticket_is_silent::<TourneyDues>(&rt)
 }
 
+/// Whether the plan is handed back, since all serials are spent.
+fn hands_back<D: Dues>(hub: &mut Hub<D>, verified: Verified) -> bool {
+    match hub.admit(verified).err() {
+        Some((fault, back)) => fault == HubFault::SerialsSpent && back.makespan() == 10,
+        None => false,
+    }
+}
+
+/// The ticket of one more cell, and whether the next plan is handed back.
+fn spent<D: Dues>(alloc: Global, hub: &mut Hub<D>) -> Result<(Ticket, bool), Fail> {
+    let ticket = admitted(alloc, hub, CROSSING)?;
+    let verified = accepted(alloc, CROSSING)?;
+    Ok((ticket, hands_back(hub, verified)))
+}
+
 #[test]
 fn spent_serials_hand_the_plan_back(rt: HostRuntime) -> Result<(), Fail> {
     let serial = u64::MAX - 1;
     let mut hub: Hub<TourneyDues> = Hub::with_serial(rt.alloc(), serial);
-    assert!(rt; admitted(rt.alloc(), &mut hub, CROSSING)? == Ticket { slot: 0, serial });
-    match hub.admit(accepted(rt.alloc(), CROSSING)?) {
-        Ok(_) => panic!(rt; "a serial too many"),
-        Err((fault, verified)) => {
-            assert!(rt; fault == HubFault::SerialsSpent && verified.makespan() == 10);
-        }
-    }
+    let found = spent(rt.alloc(), &mut hub);
+    drop(hub);
+    assert!(rt; found? == (Ticket { slot: 0, serial }, true));
     Ok(())
 }
 
@@ -84,25 +101,42 @@ fn stays<D: Dues>(hub: &mut Hub<D>, ticket: Ticket, stays: bool) -> bool {
         && dismissed(hub, ticket).is_some() == stays
 }
 
+/// Whether the ticket is the next one, and the cell before each third one is dismissed then.
+fn follows_on<D: Dues>(hub: &mut Hub<D>, ticket: Ticket, serial: u64, before: Ticket) -> bool {
+    ticket.serial == serial && (serial % 3 != 2 || dismissed(hub, before).is_some())
+}
+
+/// Admits many cells, each third one in place of the one before.
+fn fills<D: Dues>(
+    rt: &(impl Abort + AllocGlobal),
+    hub: &mut Hub<D>,
+    tickets: &mut Vec<Ticket>,
+) -> Result<(), Fail> {
+    let mut before = Ticket { slot: 0, serial: 0 };
+    for serial in 0..1_101 {
+        let ticket = admitted(rt.alloc(), hub, INSTANT)?;
+        assert!(rt; follows_on(hub, ticket, serial, before), "{serial}");
+        tickets.push(ticket)?;
+        before = ticket;
+    }
+    Ok(())
+}
+
+/// Each ticket has its cell, but for those that were dismissed.
+fn all_stay<D: Dues>(rt: &impl Abort, hub: &mut Hub<D>, tickets: &[Ticket]) {
+    for &ticket in tickets {
+        let serial = ticket.serial;
+        assert!(rt; stays(hub, ticket, serial % 3 != 1), "{serial}");
+    }
+}
+
 #[test]
 fn slots_are_filled_again_and_again(rt: HostRuntime) -> Result<(), Fail> {
     let mut hub: Hub<ScanDues> = Hub::new(rt.alloc());
     let mut tickets: Vec<Ticket> = Vec::new(rt.alloc());
-    for serial in 0..1_101 {
-        let ticket = admitted(rt.alloc(), &mut hub, INSTANT)?;
-        assert!(rt; ticket.serial == serial);
-        if serial % 3 == 2 {
-            let before = tickets.last().copied().ok_or("no ticket before")?;
-            assert!(rt;
-                dismissed(&mut hub, before).is_some(),
-                "the cell before {serial}"
-            );
-        }
-        tickets.push(ticket)?;
-    }
-    for &ticket in &tickets {
-        let serial = ticket.serial;
-        assert!(rt; stays(&mut hub, ticket, serial % 3 != 1), "{serial}");
-    }
-    Ok(())
+    let filled = fills(&rt, &mut hub, &mut tickets);
+    all_stay(&rt, &mut hub, &tickets);
+    drop(hub);
+    drop(tickets);
+    filled
 }

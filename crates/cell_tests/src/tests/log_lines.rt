@@ -28,8 +28,9 @@ fn all_lines_are_written_or_their_first_bytes(rt: HostRuntime) {
             let mut writer = IntoSink::new(device);
             let all = write_lines(&entries, &mut writer).is_ok();
             let alike = writer.into_inner().alike;
-            assert!(rt; alike && count.get() == calls, "after {calls} calls");
-            assert!(rt; all == (calls == LINES.len()), "after {calls} calls");
+            let found = (alike, count.get(), all);
+            let wanted = (true, calls, calls == LINES.len());
+            assert!(rt; found == wanted, "after {calls} calls");
         }
     }
 }
@@ -37,8 +38,12 @@ fn all_lines_are_written_or_their_first_bytes(rt: HostRuntime) {
 #[test]
 fn nothing_is_written_without_a_call(rt: HostRuntime) -> Result<(), Fail> {
     let mut writer = IntoSink::new(Vec::new(rt.alloc()));
-    assert!(rt; put_all(&mut writer, b"").is_ok());
-    assert!(rt; put_all(&mut writer, b"ab").is_ok() && put_all(&mut writer, b"c").is_ok());
-    assert!(rt; writer.into_inner().as_slice() == b"abc".as_slice());
+    let nothing = put_all(&mut writer, b"").is_ok();
+    let two = put_all(&mut writer, b"ab").is_ok();
+    let one = put_all(&mut writer, b"c").is_ok();
+    let text = writer.into_inner();
+    let is = text.as_slice() == b"abc".as_slice();
+    drop(text);
+    assert!(rt; nothing && two && one && is);
     Ok(())
 }

@@ -74,8 +74,8 @@ fn goes_on<D: Dues>(rt: &impl Abort, cell: &mut Controller<D>, reports: &[Ended]
         } else {
             0
         };
-        assert!(rt; left.checked_sub(fall) == Some(cell.reports_left()));
-        assert!(rt; is_due(cell) != cell.is_done());
+        let fell = left.checked_sub(fall) == Some(cell.reports_left());
+        assert!(rt; fell && is_due(cell) != cell.is_done());
     }
 }
 
@@ -94,7 +94,9 @@ fn ends<D: Dues>(
     for _round in 0..cell.reports_left() {
         goes_on(rt, &mut cell, reports, pace);
     }
-    assert!(rt; cell.is_done() && cell.punctual() == (pace == 0));
+    let ended = cell.is_done() && cell.punctual() == (pace == 0);
+    drop(cell);
+    assert!(rt; ended);
     Ok(())
 }
 

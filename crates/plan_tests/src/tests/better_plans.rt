@@ -275,7 +275,7 @@ const SEARCHES: &[Search] = &[
 ];
 
 /// How the search by improvers that count their questions ends, and how many rounds are reported.
-fn watched(
+fn end_and_rounds(
     alloc: Global,
     plans: [&[u8]; 2],
     answers: [Answer; 3],
@@ -297,7 +297,7 @@ fn searched(
     rounds: u32,
 ) -> Result<(End, u32, u32), Fail> {
     let questions = Rc::new(alloc, Cell::new(0))?;
-    let found = watched(alloc, plans, answers, rounds, &questions);
+    let found = end_and_rounds(alloc, plans, answers, rounds, &questions);
     let count = questions.get();
     drop(questions);
     let (end, reported) = found?;

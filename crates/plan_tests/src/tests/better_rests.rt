@@ -76,7 +76,7 @@ fn annealing(alloc: Global) -> Result<Box<dyn Improver>, AllocError> {
     Ok(boxed)
 }
 
-fn silent(alloc: Global, questions: &Rc<Cell<u32>>) -> Result<Box<dyn Improver>, AllocError> {
+fn counting(alloc: Global, questions: &Rc<Cell<u32>>) -> Result<Box<dyn Improver>, AllocError> {
     let questions = questions.clone()?;
     let boxed: Box<dyn Improver> = Box::new(alloc, Silent { questions })?;
     Ok(boxed)
@@ -89,7 +89,7 @@ fn improvers(
 ) -> Result<Vec<Box<dyn Improver>>, AllocError> {
     let mut improvers = Vec::new(alloc);
     improvers.push(annealing(alloc)?)?;
-    improvers.push(silent(alloc, questions)?)?;
+    improvers.push(counting(alloc, questions)?)?;
     Ok(improvers)
 }
 
@@ -146,7 +146,7 @@ fn improved(
 }
 
 /// The same by the annealing and an improver that counts its questions, and the costs that are noted.
-fn noted(
+fn end_and_costs(
     alloc: Global,
     search: Search,
     plan: &[u8],
@@ -164,7 +164,7 @@ fn noted(
 /// The same, and how many questions there were.
 fn searched(alloc: Global, search: Search, plan: &[u8]) -> Result<(End, Costs, u32), Fail> {
     let questions = Rc::new(alloc, Cell::new(0))?;
-    let found = noted(alloc, search, plan, &questions);
+    let found = end_and_costs(alloc, search, plan, &questions);
     let count = questions.get();
     drop(questions);
     let (end, costs) = found?;

@@ -1,7 +1,7 @@
 //! Runs over a file that fails at each of its calls, and what each crash leaves of it.
 
-use crate::MemoryLog;
-use byte_streams::{Buffered, BufferedSink, put_all};
+use super::memory_log::MemoryLog;
+use byte_streams::{Buffered, BufferedSink, WriteFault, put_all};
 use run_journal::{LogFile, LogText, Logged, UnknownHistory, WritingRoom, cut_end, read_log};
 use std::alloc::Global;
 use std::test::Fail;
@@ -35,9 +35,11 @@ fn run(alloc: Global, held: &[u8], calls: usize, torn: usize) -> Result<(MemoryL
     let Ok(text) = read_log(alloc, &mut log) else {
         return Ok((log, 0));
     };
-    let Ok(()) = cut_end(&mut log, &text) else {
+    let cut = cut_end(&mut log, &text);
+    drop(text);
+    if cut.is_err() {
         return Ok((log, 0));
-    };
+    }
     let output = Buffered::new(alloc, 16, Vec::new(alloc))?;
     let mut logged = Logged::new(WritingRoom::new(alloc)?, log, output, UnknownHistory);
     let mut shown = 0_usize;
@@ -64,7 +66,9 @@ fn keeps_all(alloc: Global, log: &MemoryLog, held: &[u8], shown: usize) -> Resul
     for count in least..most.saturating_add(1) {
         for unwritten in 0..3 {
             let left = LogText::new(log.after_crash(alloc, count, unwritten)?);
-            if !is_kept(left.lines(), held, shown) {
+            let kept = is_kept(left.lines(), held, shown);
+            drop(left);
+            if !kept {
                 return Ok(false);
             }
         }
@@ -72,18 +76,26 @@ fn keeps_all(alloc: Global, log: &MemoryLog, held: &[u8], shown: usize) -> Resul
     Ok(true)
 }
 
-/// Whether it is so wherever a run ends.
-fn all_runs_keep(alloc: Global, held: &[u8]) -> Result<bool, Fail> {
-    let lines = LogText::new(held.to_vec(alloc)?);
+/// Whether it is so wherever a run ends, of a log that held these whole lines.
+fn each_run_keeps(alloc: Global, held: &[u8], lines: &[u8]) -> Result<bool, Fail> {
     for calls in 0..14 {
         for torn in TORN {
             let (log, shown) = run(alloc, held, calls, *torn)?;
-            if !keeps_all(alloc, &log, lines.lines(), shown)? {
+            let keeps = keeps_all(alloc, &log, lines, shown);
+            drop(log);
+            if !keeps? {
                 return Ok(false);
             }
         }
     }
     Ok(true)
+}
+
+fn all_runs_keep(alloc: Global, held: &[u8]) -> Result<bool, Fail> {
+    let text = LogText::new(held.to_vec(alloc)?);
+    let keep = each_run_keeps(alloc, held, text.lines());
+    drop(text);
+    keep
 }
 
 #[test]
@@ -94,50 +106,76 @@ fn each_crash_keeps_what_was_shown(rt: HostRuntime) -> Result<(), Fail> {
     Ok(())
 }
 
+/// Whether a read gives these bytes behind the first line.
+fn is_read(bytes: Vec<u8>, events: &[u8]) -> bool {
+    bytes.strip_prefix(b"order 0 0 out 0\n".as_slice()) == Some(events)
+}
+
 #[test]
 fn a_whole_run_is_in_the_log(rt: HostRuntime) -> Result<(), Fail> {
     let (mut log, shown) = run(rt.alloc(), b"order 0 0 out 0\nrepo", 14, 0)?;
-    assert_eq!(rt; shown, 62);
-    let bytes = log.read(rt.alloc(), 78)?;
-    assert_eq!(rt;
-        bytes.strip_prefix(b"order 0 0 out 0\n".as_slice()),
-        Some(EVENTS)
-    );
-    assert!(rt; log.read(rt.alloc(), 77).is_err());
+    let bytes = log.read(rt.alloc(), 78);
+    let refused = log.read(rt.alloc(), 77).is_err();
+    drop(log);
+    let read = is_read(bytes?, EVENTS);
+    assert!(rt; shown == 62 && read && refused);
     Ok(())
+}
+
+type Answers = Logged<Buffered<Vec<u8>>, MemoryLog, UnknownHistory>;
+
+/// Answers with an empty log, of which so many calls don't fail.
+fn output_with_log(alloc: Global, calls: usize) -> Result<Answers, Fail> {
+    let output = Buffered::new(alloc, 16, Vec::new(alloc))?;
+    let room = WritingRoom::new(alloc)?;
+    let log = MemoryLog::new(Vec::new(alloc), calls, 0);
+    Ok(Logged::new(room, log, output, UnknownHistory))
+}
+
+/// How many bytes are shown, how many a crash leaves of the log, and how many of its calls don't fail any more.
+fn ends(answers: Answers) -> (usize, (usize, usize), usize) {
+    let (log, output) = answers.into_parts();
+    let (bounds, calls) = (log.bounds(), log.calls_left());
+    drop(log);
+    let text = output.into_inner();
+    let shown = text.len();
+    drop(text);
+    (shown, bounds, calls)
+}
+
+/// Puts many answers, and shows them at once.
+fn put_many(answers: &mut Answers) -> Result<(), WriteFault> {
+    for _ in 0..1000 {
+        put_all(answers, b"report 1000000000 finish 100 50\n")?;
+        put_all(answers, b"order 1000000000 100 50 51\n")?;
+        put_all(answers, b"order 1000000000 101 49 50\n")?;
+    }
+    answers.flush()
 }
 
 #[test]
 fn many_answers_are_synced_at_once(rt: HostRuntime) -> Result<(), Fail> {
-    let alloc = rt.alloc();
-    let log = MemoryLog::new(Vec::new(alloc), 40, 0);
-    let output = Buffered::new(alloc, 16, Vec::new(alloc))?;
-    let mut logged = Logged::new(WritingRoom::new(alloc)?, log, output, UnknownHistory);
-    for _ in 0..1000 {
-        put_all(&mut logged, b"report 1000000000 finish 100 50\n")?;
-        put_all(&mut logged, b"order 1000000000 100 50 51\n")?;
-        put_all(&mut logged, b"order 1000000000 101 49 50\n")?;
+    let mut answers = output_with_log(rt.alloc(), 40)?;
+    let put = put_many(&mut answers);
+    let found = ends(answers);
+    assert!(rt; put.is_ok() && found == (86_000, (86_000, 86_000), 36));
+    Ok(())
+}
+
+/// Puts three answers that add nothing to a log, each shown before the next one.
+fn put_refusals(answers: &mut Answers) -> Result<(), WriteFault> {
+    for _ in 0..3 {
+        put_all(answers, b"refused 1 BadLine\n")?;
+        answers.flush()?;
     }
-    logged.flush()?;
-    let (log, output) = logged.into_parts();
-    assert_eq!(rt; output.into_inner().len(), 86_000);
-    assert_eq!(rt; log.bounds(), (86_000, 86_000));
-    assert_eq!(rt; log.calls_left(), 36);
     Ok(())
 }
 
 #[test]
 fn an_answer_that_adds_nothing_is_not_synced(rt: HostRuntime) -> Result<(), Fail> {
-    let alloc = rt.alloc();
-    let log = MemoryLog::new(Vec::new(alloc), 2, 0);
-    let output = Buffered::new(alloc, 16, Vec::new(alloc))?;
-    let mut logged = Logged::new(WritingRoom::new(alloc)?, log, output, UnknownHistory);
-    for _ in 0..3 {
-        put_all(&mut logged, b"refused 1 BadLine\n")?;
-        logged.flush()?;
-    }
-    let (log, output) = logged.into_parts();
-    assert_eq!(rt; output.into_inner().len(), 54);
-    assert_eq!(rt; log.calls_left(), 2);
+    let mut answers = output_with_log(rt.alloc(), 2)?;
+    let put = put_refusals(&mut answers);
+    let (shown, _, calls) = ends(answers);
+    assert!(rt; put.is_ok() && (shown, calls) == (54, 2));
     Ok(())
 }

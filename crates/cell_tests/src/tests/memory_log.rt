@@ -6,7 +6,7 @@ use std::marker::Model;
 
 /// A file in memory, which fails from some call on.
 #[derive(Drop)]
-pub struct MemoryLog {
+pub(super) struct MemoryLog {
     /// All that a crash may leave.
     most: Vec<u8>,
     /// How many bytes of that a read gives.
@@ -27,7 +27,7 @@ pub struct MemoryLog {
 
 impl Model for MemoryLog {
     ghost use Rattle.std.specs.Prelude.{◌≤◌, take, length};
-    ghost use Rattle.journal_tests.specs.Memory.{InMemory};
+    ghost use Rattle.cell_tests.specs.Memory.{InMemory};
 
     ghost Value = { InMemory };
 
@@ -46,7 +46,7 @@ impl Model for MemoryLog {
 impl MemoryLog {
     /// A file with these bytes, all of them on the disk. So many calls don't fail. The next, if it appends, appends so
     /// many bytes.
-    pub fn new(bytes: Vec<u8>, calls: usize, torn: usize) -> MemoryLog
+    pub(super) fn new(bytes: Vec<u8>, calls: usize, torn: usize) -> MemoryLog
         ensures seen { result.seen ≡ bytes.items }
         ensures synced { result.synced ≡ true }
         ensures unfailed { result.fault ≡ None }
@@ -66,7 +66,7 @@ impl MemoryLog {
     }
 
     /// How many bytes a crash leaves at least, and at most.
-    pub fn bounds(&self) -> (usize, usize) {
+    pub(super) fn bounds(&self) -> (usize, usize) {
         if self.synced {
             (self.len, self.len)
         } else {
@@ -75,7 +75,7 @@ impl MemoryLog {
     }
 
     /// What a crash leaves that leaves so many bytes, with so many zeros behind them where not all is on the disk.
-    pub fn after_crash(
+    pub(super) fn after_crash(
         &self,
         alloc: Global,
         count: usize,
@@ -92,7 +92,7 @@ impl MemoryLog {
     }
 
     /// How many calls don't fail any more.
-    pub fn calls_left(&self) -> usize {
+    pub(super) fn calls_left(&self) -> usize {
         self.calls
     }
 
@@ -112,7 +112,7 @@ impl MemoryLog {
 }
 
 /// Counts a call of which so many don't fail any more, and answers whether it doesn't.
-pub(crate) fn passes(calls: &mut usize) -> bool {
+pub(super) fn passes(calls: &mut usize) -> bool {
     if *calls == 0 {
         return false;
     }
@@ -122,7 +122,7 @@ pub(crate) fn passes(calls: &mut usize) -> bool {
 
 impl LogFile for MemoryLog {
     ghost use Rattle.std.specs.Prelude.{Some};
-    ghost use Rattle.journal_tests.specs.Memory.{CrashStates};
+    ghost use Rattle.cell_tests.specs.Memory.{CrashStates};
 
     ghost seen = { λ m. Some m.seen };
 

@@ -3,10 +3,10 @@
 ghost use Rattle.std.specs.Prelude.{◌≡◌, [], None, Some, true, false, IfOk};
 ghost use Rattle.run_journal.specs.LogFiles.{IsDurable};
 ghost use Rattle.logged_drive.specs.LoggedRuns.{IsAllInLog, KeepsShown};
-ghost use Rattle.journal_tests.specs.Memory.{CrashStates};
-ghost use Rattle.journal_tests.specs.Shown.{HasWhatIsShown};
+ghost use Rattle.cell_tests.specs.Memory.{CrashStates};
+ghost use Rattle.cell_tests.specs.Shown.{HasWhatIsShown};
 
-use crate::memory_log::MemoryLog;
+use super::memory_log::MemoryLog;
 use byte_streams::{Buffered, BufferedSink, FromRead, IntoSink, Sink};
 use cell_drive::{Begun, DriveEnd, Protocol, Replayed, RestEnd, begin_in, replay_in, take_up};
 use logged_drive::{LoggedEnd, drive_logged, go_on_logged};
@@ -75,14 +75,18 @@ fn both_at_end(
 {
     let (mut log, mut output) = (log, output);
     if output.flush().is_err() {
+        drop(log);
+        drop(output);
         return Err(FileFault::Log);
     }
-    let bytes = log.read(alloc, 1000)?;
-    Ok((bytes, output.into_inner()))
+    let bytes = log.read(alloc, 1000);
+    drop(log);
+    let text = output.into_inner();
+    Ok((bytes?, text))
 }
 
 /// What the log and the output have after a run of these lines from its start.
-pub fn driven_from_nothing(
+pub(super) fn driven_from_nothing(
     alloc: Global,
     verified: Verified,
     protocol: Protocol,
@@ -90,16 +94,19 @@ pub fn driven_from_nothing(
 ) -> Result<(Vec<u8>, Vec<u8>), FileFault>
     ensures { IfOk result (λ both. HasWhatIsShown [] [] both.0.items both.1.items) }
 {
-    let log = MemoryLog::new(Vec::new(alloc), 1000, 0);
-    let Ok(output) = Buffered::new(alloc, 16, Vec::new(alloc)) else {
-        return Err(FileFault::Memory);
-    };
-    let Ok(room) = WritingRoom::new(alloc) else {
-        return Err(FileFault::Memory);
-    };
     let Ok(begun) = begin_in(alloc, verified, protocol) else {
         return Err(FileFault::Memory);
     };
+    let Ok(output) = Buffered::new(alloc, 16, Vec::new(alloc)) else {
+        drop(begun);
+        return Err(FileFault::Memory);
+    };
+    let Ok(room) = WritingRoom::new(alloc) else {
+        drop(begun);
+        drop(output);
+        return Err(FileFault::Memory);
+    };
+    let log = MemoryLog::new(Vec::new(alloc), 1000, 0);
     let run = drive_from_nothing(begun, room, lines, log, output);
     match run.end {
         Ok(_) => both_at_end(alloc, run.log, run.output),
@@ -108,7 +115,7 @@ pub fn driven_from_nothing(
 }
 
 /// What they have after a run of these lines that is recovered from a log without bytes.
-pub fn gone_on_from_nothing(
+pub(super) fn gone_on_from_nothing(
     alloc: Global,
     shaped: Shaped,
     protocol: Protocol,
@@ -117,14 +124,25 @@ pub fn gone_on_from_nothing(
     ensures { IfOk result (λ both. HasWhatIsShown [] [] both.0.items both.1.items) }
 {
     let mut log = MemoryLog::new(Vec::new(alloc), 1000, 0);
-    let text = read_log(alloc, &mut log)?;
-    let Ok(recovered) = take_up(alloc, shaped, text.lines(), None) else {
+    let text = match read_log(alloc, &mut log) {
+        Ok(text) => text,
+        Err(fault) => {
+            drop(shaped);
+            return Err(fault);
+        }
+    };
+    let recovery = take_up(alloc, shaped, text.lines(), None);
+    drop(text);
+    let Ok(recovered) = recovery else {
         return Err(FileFault::Log);
     };
     let Ok(output) = Buffered::new(alloc, 16, Vec::new(alloc)) else {
+        drop(recovered);
         return Err(FileFault::Memory);
     };
     let Ok(room) = WritingRoom::new(alloc) else {
+        drop(recovered);
+        drop(output);
         return Err(FileFault::Memory);
     };
     // There is nothing to be written again.

@@ -1,7 +1,7 @@
 use Rattle.std.proofs.Common.{◌≡◌, ◌≤◌, ◌++◌, length, take, refl, sym, subst, rules}
 use Rattle.run_journal.specs.LogFiles.{IsLeft}
-use Rattle.journal_tests.proofs.Parts.{part_left}
-use Rattle.journal_tests.proofs.memory_log.MemoryLogLogFile.append.Goals as goal
+use Rattle.cell_tests.proofs.Parts.{part_left}
+use Rattle.cell_tests.proofs.tests.memory_log.MemoryLogLogFile.append.Goals as goal
 
 pub returns-clause-crash : goal.returns-clause-crash
 returns-clause-crash c left may =

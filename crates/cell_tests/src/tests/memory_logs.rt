@@ -1,13 +1,13 @@
 ghost use Rattle.std.specs.Prelude.{◌≡◌, option_map, bytes_eq};
 
-use crate::memory_log::{MemoryLog, passes};
+use super::memory_log::{MemoryLog, passes};
 use run_journal::{FileFault, Logs};
 use std::alloc::Global;
 use std::marker::Model;
 
 /// A folder in memory with room for one log, which fails from some call on.
 #[derive(Drop)]
-pub struct MemoryLogs {
+pub(super) struct MemoryLogs {
     alloc: Global,
     /// The path of its log.
     path: Vec<u8>,
@@ -25,7 +25,7 @@ pub struct MemoryLogs {
 
 impl Model for MemoryLogs {
     ghost use Rattle.std.specs.Prelude.{option_map};
-    ghost use Rattle.journal_tests.specs.Memory.{OneLog};
+    ghost use Rattle.cell_tests.specs.Memory.{OneLog};
 
     ghost Value = { OneLog };
 
@@ -47,7 +47,7 @@ fn are_same(one: &[u8], other: &[u8]) -> bool
 
 impl MemoryLogs {
     /// A folder for the log of this path, which isn't there. So many calls don't fail.
-    pub fn new(alloc: Global, path: Vec<u8>, calls: usize) -> MemoryLogs {
+    pub(super) fn new(alloc: Global, path: Vec<u8>, calls: usize) -> MemoryLogs {
         MemoryLogs {
             alloc,
             path,
@@ -60,13 +60,13 @@ impl MemoryLogs {
     }
 
     /// Whether the log is there, and whether its name is on the disk.
-    pub fn has_log(&self) -> (bool, bool) {
+    pub(super) fn has_log(&self) -> (bool, bool) {
         (self.bytes.is_some(), self.named)
     }
 }
 
 impl Logs for MemoryLogs {
-    ghost use Rattle.journal_tests.specs.Memory.{folder_of};
+    ghost use Rattle.cell_tests.specs.Memory.{folder_of};
 
     type Log = MemoryLog;
 
