@@ -1,21 +1,15 @@
 -- What follows a plan that was loaded, by whether it is accepted.
-use Rattle.std.proofs.Common.{◌≡◌, Result, Ok, Err, IsErrAnd, sym, subst}
+use Rattle.std.proofs.Common.{◌≡◌, Result, Ok, Err, sym, subst}
 use Rattle.plan_verifier.specs.Accepted.{VerifiedPlan}
 use Rattle.plan_verifier.specs.declared.verdict.Verdict.TheVariants.{Accepted, Refused}
 use Rattle.cell_drive.specs.declared.protocol.Protocol.{Protocol}
 use Rattle.command_answers.specs.declared.answer.Answer.{Answer}
 use Rattle.command_answers.specs.declared.command_fault.CommandFault.{CommandFault}
-use Rattle.command_answers.specs.declared.command_fault.CommandFault.TheVariants.{Memory}
 use Rattle.command_answers.specs.declared.loading.Loaded.{Loaded}
 use Rattle.command_answers.specs.declared.loading.Loaded.TheVariants.{NotShaped, Judged}
 use Rattle.command_answers.specs.Checks.{accepted_in}
-use Rattle.command_answers.specs.Steps.{IsOrMemory}
 use Rattle.command_run.specs.Streams.{Streams}
 use Rattle.command_run.specs.Drives.{DrivesCell, Drives, IsLineAnswer}
-
-pub memory_reported : {A : Type 0} (Is : A → Type 0) (outcome : Result A CommandFault) → IsErrAnd outcome (λ fault. fault ≡ Memory) → IsOrMemory Is outcome
-memory_reported Is (Ok a) wanting = absurd wanting
-memory_reported Is (Err fault) wanting = wanting
 
 same_line : (loaded other : Loaded) (outcome : Result Answer CommandFault) → loaded ≡ other → IsLineAnswer other outcome → IsLineAnswer loaded outcome
 same_line loaded other outcome same answered = subst (λ (l : Loaded). IsLineAnswer l outcome) (sym same) answered

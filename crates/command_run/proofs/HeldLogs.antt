@@ -23,6 +23,7 @@ use Rattle.run_journal.specs.Logged.{Held, StayInStep}
 use Rattle.run_journal.specs.Openings.{IsFound, IsOfLog, IsUnmade, IsUnnamed}
 use Rattle.run_journal.specs.WholeLines.{whole_lines}
 use Rattle.run_journal.proofs.NamedLogs.{logs_before, plan_parses, whole_plan}
+use Rattle.run_journal.proofs.Fronts.{if_some-at, if_some-map}
 use Rattle.logged_drive.specs.CrashLaw.{IsRecoveredAfter}
 use Rattle.logged_drive.specs.LoggedRuns.{IsAllInLog, KeepsShown}
 use Rattle.command_answers.specs.declared.answer.Answer.{Answer}
@@ -70,18 +71,6 @@ pub line_unprinted : (p : PlannedShop) (known : Option (List ℕ × List ℕ)) �
 line_unprinted p None line = tt
 line_unprinted p (Some t) line = subst (λ (l : List ℕ). LinesParse p (ended_lines l) []) (sym line) (plan_parses p (digits_in p) (digits_are p.shop p.plan))
 
--- from what is known to something else
-pub known_as : {P Q : List ℕ × List ℕ → Type 0} (known : Option (List ℕ × List ℕ)) → ((t : List ℕ × List ℕ) → P t → Q t) → IfSome known P → IfSome known Q
-known_as None becomes is = tt
-known_as (Some t) becomes is = becomes t is
-
-pub known_both : {P Q R : List ℕ × List ℕ → Type 0} (known : Option (List ℕ × List ℕ)) → ((t : List ℕ × List ℕ) → P t → Q t → R t) → IfSome known P → IfSome known Q → IfSome known R
-known_both None becomes one other = tt
-known_both (Some t) becomes one other = becomes t one other
-
-pub at_known : {X : Type 0} (o : Option X) (x : X) (P : X → Type 0) → o ≡ Some x → IfSome o P → P x
-at_known o x P is holds = subst (λ o. IfSome o P) is holds
-
 -- the plan that a verdict is on
 pub judged_plan : (p : PlannedShop) (verdict : Verdict) → OnAccepted (λ verified. (verified.planned ≡ p) × IsAcceptable p) verdict → OnRefused (λ back why. (back ≡ p) × IsReason p why) verdict → judged verdict ≡ p
 judged_plan p (Accepted verified) accepted refused = accepted.0
@@ -97,7 +86,7 @@ pub left_held : {D : Type 0} (seen : D → Option (List ℕ)) (crash_states : D 
     → IsHeldAfter seen crash_states fault written known printed good opened (left_if (is_some opened))
 left_held seen crash_states fault written folder p known start printed good None empty is_new = tt
 left_held seen crash_states fault written folder p known start printed good (Some log) empty is_new =
-    (empty.ready.unfailed, empty.unwritten, known_as known (λ t is. (at_known folder.logs is.logs (λ _. seen log ≡ Some []) is.there empty.known, empty.ready.durable)) is_new)
+    (empty.ready.unfailed, empty.unwritten, if_some-map known (λ t is. (if_some-at folder.logs is.logs (λ _. seen log ≡ Some []) is.there empty.known, empty.ready.durable)) is_new)
 
 -- so is one that was found, with its bytes
 pub undriven_found : (there : Option (List ℕ)) → false ≡ is_driven (option_map Found there)
@@ -110,7 +99,7 @@ pub found_held : {D : Type 0} (seen : D → Option (List ℕ)) (crash_states : D
     → IsHeldAfter seen crash_states fault written known printed good (option_map (λ there. there.0) found) (option_map Found (option_map (λ there. there.1) found))
 found_held seen crash_states fault written folder known printed good None is logs = tt
 found_held seen crash_states fault written folder known printed good (Some there) is logs =
-    (is.ready.unfailed, is.unwritten, known_as known (λ t has. (at_known folder.logs has.0 (λ _. seen there.0 ≡ Some there.1) has.1 is.known, is.ready.durable)) logs)
+    (is.ready.unfailed, is.unwritten, if_some-map known (λ t has. (if_some-at folder.logs has.0 (λ _. seen there.0 ≡ Some there.1) has.1 is.known, is.ready.durable)) logs)
 
 -- where a new log can't be had
 module _ {D : Type 0} (seen : D → Option (List ℕ)) (crash_states : D → List ℕ → Type 0) (fault : D → Option FileFault) (written : D → Bool) (folder after : Folder) (path : List ℕ) (p : PlannedShop) (there : Bool) (known : Option (List ℕ × List ℕ)) (start printed : Option (List ℕ)) (good : Type 0) (why : FileFault)
@@ -128,7 +117,7 @@ module _ {D : Type 0} (seen : D → Option (List ℕ)) (crash_states : D → Lis
     end = Some (Found []);
     driven = refl;
     why_is = inr (inl (is.is, is.own, refl));
-    held = (is.unfailed, unwritten is.unfailed, known_as known (λ t new. (at_known folder.logs new.logs (λ _. seen log ≡ Some []) new.there (logs_before there path folder (seen log ≡ Some []) is.empty), is.durable)) is_new);
+    held = (is.unfailed, unwritten is.unfailed, if_some-map known (λ t new. (if_some-at folder.logs new.logs (λ _. seen log ≡ Some []) new.there (logs_before there path folder (seen log ≡ Some []) is.empty), is.durable)) is_new);
   }
   lacks_held (Some log) (inr is) unwritten = record {
     end = Some (Unlined p);
@@ -137,8 +126,8 @@ module _ {D : Type 0} (seen : D → Option (List ℕ)) (crash_states : D → Lis
     held = (
       is.is.1,
       tt,
-      known_as known (λ t new.
-          at_known folder.logs new.logs (λ _. Leaves (crash_states log) 0 (plan_line (digits_in p))) new.there (logs_before there path folder (Leaves (crash_states log) 0 (plan_line (digits_in p))) is.crash)) is_new,
+      if_some-map known (λ t new.
+          if_some-at folder.logs new.logs (λ _. Leaves (crash_states log) 0 (plan_line (digits_in p))) new.there (logs_before there path folder (Leaves (crash_states log) 0 (plan_line (digits_in p))) is.crash)) is_new,
     );
   }
 
@@ -158,8 +147,3 @@ module _ {D : Type 0} (seen : D → Option (List ℕ)) (crash_states : D → Lis
       unread : (o : Option (List ℕ × List ℕ)) → IfSome o (λ t. Unit {0})
       unread None = tt
       unread (Some t) = tt
-
--- from what holds of a log that was opened to something else
-pub opened_as : {X : Type 0} {P Q : X → Type 0} (opened : Option X) → ((x : X) → P x → Q x) → IfSome opened P → IfSome opened Q
-opened_as None becomes is = tt
-opened_as (Some x) becomes is = becomes x is

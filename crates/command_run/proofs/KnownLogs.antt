@@ -21,13 +21,13 @@ use Rattle.run_journal.specs.LogFiles.{IsDurable}
 use Rattle.run_journal.specs.LogRuns.{IsNamedFor}
 use Rattle.run_journal.proofs.NamedLogs.{named_parses, named_whole, whole_again}
 use Rattle.run_journal.specs.WholeLines.{before_any, whole_lines}
+use Rattle.run_journal.proofs.Fronts.{if_some-at}
 use Rattle.logged_drive.specs.declared.recovered_log.RecoverFault.{RecoverFault}
 use Rattle.logged_drive.specs.declared.recovered_log.RecoverFault.TheVariants.{Resume, NoTornEnd, File}
 use Rattle.logged_drive.specs.RecoveredLogs.{IsRecoverFault}
 use Rattle.command_words.specs.declared.words.log_start.LogStart.{LogStart}
 use Rattle.command_run.specs.Resumes.{end_of_rest}
 use Rattle.command_run.specs.Logs.{Begins, DrivesFitting, DrivesFound, DrivesWithLog, HasFewLines, IsEmptyLog, IsFoundLog, IsRecoveredFromLog, IsHistoryOf, IsHistoryOfFound, IsHistoryOfNew, IsHistoryOfOld, IsHistoryOfPath, Step, RecoversRun, digits_in}
-use Rattle.command_run.proofs.HeldLogs.{at_known}
 
 -- ---- what is replayed
 
@@ -126,7 +126,7 @@ pub path_known : {D : Type 0} (folder mid : Folder) (path : List ℕ) (p : Plann
     → IsHistoryOfFound mid p protocol at (option_map (λ there. there.1) found) printed t
 path_known folder mid path p protocol at printed found opened there t is =
     let same : mid.logs ≡ folder.logs = ap (λ (f : Folder). f.logs) opened ∙ logs_handed (is_some found) folder in
-    let here = at_known folder.logs is.logs (λ logs. option_map (λ there. there.1) found ≡ held logs path) is.there there in
+    let here = if_some-at folder.logs is.logs (λ logs. option_map (λ there. there.1) found ≡ held logs path) is.there there in
     record {
       logs = is.logs;
       in_folder = same ∙ is.there;

@@ -14,4 +14,3 @@ pub mod Keepers
 pub mod Choosing
 pub mod Endings
 pub mod LogsAtEnd
-pub mod FittingLogs

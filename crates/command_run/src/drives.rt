@@ -1,13 +1,14 @@
 //! The command `drive`, and what the other ones that drive cells share with it.
 
 ghost use Rattle.std.specs.Prelude.{◌≡◌, []};
-ghost use Rattle.command_run.specs.Drives.{IsEndAnswer, drive_command_fault, status_at, end_of_drive};
+ghost use Rattle.command_run.specs.Drives.{IsEndAnswer, IsLineAnswer, drive_command_fault, status_at, end_of_drive};
 ghost use Rattle.command_run.specs.Program.{RunsDrive};
 
 use crate::devices::Streams;
 use cell_drive::{BufferedSink, DriveEnd, DriveFault, Protocol, Source, drive_in};
 use command_answers::{
-    Answer, Answered, CommandFault, GOOD, InputPaths, REFUSED, Texts, load_files, loaded_answer,
+    Answer, Answered, CommandFault, GOOD, InputPaths, Loaded, REFUSED, Texts, load_files,
+    loaded_answer,
 };
 use std::alloc::Global;
 
@@ -49,8 +50,17 @@ pub(crate) fn drive_answer<T: Texts, R: Source, W: BufferedSink>(
             );
             end_answer(alloc, end)
         }
-        Err(other) => Ok(loaded_answer(alloc, &other)?),
+        Err(other) => line_answer(alloc, other),
     }
+}
+
+/// The line of a plan that isn't driven.
+pub(crate) fn line_answer(alloc: Global, loaded: Loaded) -> Answered
+    ensures { IsLineAnswer loaded result }
+{
+    let answer = loaded_answer(alloc, &loaded);
+    drop(loaded);
+    Ok(answer?)
 }
 
 /// What is answered at the end of a run, whose lines are written already.

@@ -23,10 +23,14 @@ pub(crate) fn end<R: Source, W: BufferedSink, E: Sink>(
     ensures input { streams.new.input ≡ streams.old.input }
 {
     match outcome {
-        Ok(answer) => match print(&answer, &mut streams.output) {
-            Ok(status) => status,
-            Err(fault) => tell(alloc, &fault, errors),
-        },
+        Ok(answer) => {
+            let printed = print(&answer, &mut streams.output);
+            drop(answer);
+            match printed {
+                Ok(status) => status,
+                Err(fault) => tell(alloc, &fault, errors),
+            }
+        }
         Err(fault) => tell(alloc, &fault, errors),
     }
 }

@@ -21,8 +21,8 @@ pub(crate) fn better_answer<T: Texts, S: Screen>(
 ) -> Answered
     ensures { ImprovesPlan T.gives rounds pair.now texts.old result texts.new }
 {
-    let mut improvers: Vec<Box<dyn Improver>> = Vec::new(alloc);
     let annealing = Box::new(alloc, AnnealingImprover::new(seed)).map_err(AllocError::from)?;
+    let mut improvers: Vec<Box<dyn Improver>> = Vec::new(alloc);
     improvers.push(annealing).map_err(AllocError::from)?;
     let mut progress = Progress { screen, rounds };
     let answer = improve_answer(alloc, texts, pair, &improvers, rounds, &mut progress);
@@ -43,8 +43,8 @@ pub(crate) fn better_rest_answer<T: Texts, S: Screen>(
     ensures { ImprovesRest T.gives ahead.now.at rounds ahead.now.files.pair ahead.now.log.now
         texts.old result texts.new }
 {
-    let mut improvers: Vec<Box<dyn Improver>> = Vec::new(alloc);
     let annealing = Box::new(alloc, AnnealingImprover::new(seed)).map_err(AllocError::from)?;
+    let mut improvers: Vec<Box<dyn Improver>> = Vec::new(alloc);
     improvers.push(annealing).map_err(AllocError::from)?;
     let mut progress = Progress { screen, rounds };
     let answer = improve_rest_answer(alloc, texts, ahead, &improvers, rounds, &mut progress);

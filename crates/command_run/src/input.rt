@@ -21,7 +21,9 @@ pub(crate) fn input_answer<R: Source, W: BufferedSink>(
     ensures output { streams.new.output ≡ streams.old.output }
 {
     let mut room = reading_room(alloc)?;
-    let text = read_pieces(alloc, &mut streams.input, &mut room, &streams.output)?;
+    let read = read_pieces(alloc, &mut streams.input, &mut room, &streams.output);
+    drop(room);
+    let text = read?;
     facts_of(alloc, &text, None)
 }
 

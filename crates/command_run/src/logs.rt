@@ -148,7 +148,10 @@ fn show_again<W: BufferedSink>(
     match replay_in(recovered, protocol, output) {
         Ok(run) => match output.flush() {
             Ok(()) => Ok(run),
-            Err(_) => Err(DriveFault::Write),
+            Err(_) => {
+                drop(run);
+                Err(DriveFault::Write)
+            }
         },
         Err(fault) => Err(fault),
     }

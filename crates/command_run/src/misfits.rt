@@ -12,7 +12,7 @@ use run_journal::LogRun;
 use std::alloc::{AllocError, Global};
 
 /// Why a log isn't driven as the words ask.
-#[derive(Clone, Copy, Debug, PartialEq, Eq)]
+#[derive(Clone, Copy)]
 pub enum Misfit {
     /// It has begun, and should be new.
     NotNew,

@@ -20,7 +20,7 @@ use run_picture::Picture;
 use std::alloc::Global;
 
 /// In which form a schedule is printed.
-#[derive(Clone, Copy, Debug)]
+#[derive(Clone, Copy)]
 pub(crate) enum Timetable {
     /// When what begins and ends.
     Moments,

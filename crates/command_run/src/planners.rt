@@ -15,10 +15,10 @@ pub(crate) fn seek_answer<T: Texts>(
 ) -> Answered
     ensures { SeeksPlan T.gives rounds pair.now texts.old result texts.new }
 {
-    let mut planners: Vec<Box<dyn Proposer>> = Vec::new(alloc);
     let greedy = Box::new(alloc, GreedyProposer::new()).map_err(AllocError::from)?;
-    planners.push(greedy).map_err(AllocError::from)?;
     let shift = Box::new(alloc, ShiftProposer::new()).map_err(AllocError::from)?;
+    let mut planners: Vec<Box<dyn Proposer>> = Vec::new(alloc);
+    planners.push(greedy).map_err(AllocError::from)?;
     planners.push(shift).map_err(AllocError::from)?;
     plan_answer(alloc, texts, pair, &planners, rounds)
 }

@@ -8,7 +8,6 @@ ghost use Rattle.plan_verifier.specs.Seen.{judged};
 ghost use Rattle.cell_drive.specs.InProtocol.{begun_in};
 ghost use Rattle.run_journal.specs.LogRuns.{IsRunOf};
 ghost use Rattle.run_journal.specs.WholeLines.{whole_lines};
-ghost use Rattle.command_run.specs.Drives.{IsLineAnswer};
 ghost use Rattle.command_run.specs.Logs.{Begins, BeginsAccepted, BeginsBy, BeginsRun, DrivesByLog};
 ghost use Rattle.command_run.specs.Logs.{DrivesFitting, DrivesFound, HasFewLines, IsEmptyLog, IsFoundLog};
 ghost use Rattle.command_run.specs.Logs.{IsHistoryOfFound, IsHistoryOfLog, IsHistoryOfNew, IsHistoryOfOld};
@@ -17,12 +16,13 @@ ghost use Rattle.command_run.specs.Logs.{RecoversRun, bytes_in, digits_in};
 ghost use Rattle.command_run.specs.Readiness.{IsReadied};
 ghost use Rattle.command_run.specs.Program.{RunsLoggedDrive};
 
+use crate::drives::line_answer;
 use crate::log_faults::LogFault;
 use crate::misfits::{misfit_answer, misfit_of};
 use crate::resumes::unrecovered_answer;
 use cell_drive::{Begun, Protocol, begin_in};
 use command_answers::{
-    Answered, CommandFault, InputPaths, Loaded, Texts, loaded_answer, log_fault_answer, shape_files,
+    Answered, CommandFault, InputPaths, Loaded, Texts, log_fault_answer, shape_files,
 };
 use command_words::LogStart;
 use event_lines::RunDigits;
@@ -70,13 +70,6 @@ pub(crate) struct Undriven<D> {
 
 /// A run that is ready, or why none is.
 type Readied<D> = Result<Ready<D>, Undriven<D>>;
-
-/// The line of a plan.
-fn line_answer(alloc: Global, loaded: &Loaded) -> Answered
-    ensures { IsLineAnswer loaded.now result }
-{
-    Ok(loaded_answer(alloc, loaded)?)
-}
 
 /// What is answered where no run is recovered from a log.
 fn unrecovered_log_answer(alloc: Global, fault: RecoverFault) -> Answered
@@ -145,10 +138,14 @@ fn ready_begun<L: Logs>(
 {
     match new_log(logs, path, opened, digits) {
         Ok(log) => Ok(Ready::Begin { begun, room, log }),
-        Err(back) => Err(Undriven {
-            outcome: Err(LogFault::from(back.fault).0),
-            log: back.log,
-        }),
+        Err(back) => {
+            drop(begun);
+            drop(room);
+            Err(Undriven {
+                outcome: Err(LogFault::from(back.fault).0),
+                log: back.log,
+            })
+        }
     }
 }
 
@@ -161,8 +158,13 @@ fn begun_with_room(
     ensures { IfOk result (λ both. both.0 ≡ begun_in protocol verified) }
 {
     let begun = begin_in(alloc, verified, protocol)?;
-    let room = WritingRoom::new(alloc)?;
-    Ok((begun, room))
+    match WritingRoom::new(alloc) {
+        Ok(room) => Ok((begun, room)),
+        Err(error) => {
+            drop(begun);
+            Err(error)
+        }
+    }
 }
 
 /// Takes all memory of a run by an accepted plan, and then the log, which has no bytes.
@@ -210,13 +212,10 @@ fn ready_judged<L: Logs>(
         Verdict::Accepted(verified) => {
             ready_accepted(alloc, verified, digits, asked, opened, logs)
         }
-        Verdict::Refused(shaped, why) => {
-            let refused = Loaded::Judged(Verdict::Refused(shaped, why));
-            Err(Undriven {
-                outcome: line_answer(alloc, &refused),
-                log: opened,
-            })
-        }
+        Verdict::Refused(shaped, why) => Err(Undriven {
+            outcome: line_answer(alloc, Loaded::Judged(Verdict::Refused(shaped, why))),
+            log: opened,
+        }),
     }
 }
 
@@ -238,10 +237,13 @@ fn ready_new<L: Logs>(
 {
     match verify(alloc, shaped) {
         Ok(verdict) => ready_judged(alloc, verdict, digits, asked, opened, logs),
-        Err((error, _)) => Err(Undriven {
-            outcome: Err(CommandFault::from(error)),
-            log: opened,
-        }),
+        Err((error, back)) => {
+            drop(back);
+            Err(Undriven {
+                outcome: Err(CommandFault::from(error)),
+                log: opened,
+            })
+        }
     }
 }
 
@@ -337,10 +339,13 @@ fn ready_found<L: Logs>(
         asked.entry.at shaped (option_map (λ there. there.1) found)) result }
 {
     match misfit_of(asked.start, run_found(&found), digits) {
-        Some(misfit) => Err(Undriven {
-            outcome: misfit_answer(alloc, misfit),
-            log: log_found(found),
-        }),
+        Some(misfit) => {
+            drop(shaped);
+            Err(Undriven {
+                outcome: misfit_answer(alloc, misfit),
+                log: log_found(found),
+            })
+        }
         None => ready_fitting(alloc, shaped, digits, asked, found, logs),
     }
 }
@@ -362,10 +367,13 @@ fn ready_opened<L: Logs>(
 {
     match open_log(alloc, logs, asked.path) {
         Ok(found) => ready_found(alloc, shaped, digits, asked, found, logs),
-        Err(back) => Err(Undriven {
-            outcome: Err(LogFault::from(back.fault).0),
-            log: back.log,
-        }),
+        Err(back) => {
+            drop(shaped);
+            Err(Undriven {
+                outcome: Err(LogFault::from(back.fault).0),
+                log: back.log,
+            })
+        }
     }
 }
 
@@ -384,10 +392,13 @@ fn ready_shaped<L: Logs>(
 {
     match run_digits(alloc, shaped.shop(), shaped.plan()) {
         Ok(digits) => ready_opened(alloc, shaped, &digits, asked, logs),
-        Err(error) => Err(Undriven {
-            outcome: Err(CommandFault::from(error)),
-            log: None,
-        }),
+        Err(error) => {
+            drop(shaped);
+            Err(Undriven {
+                outcome: Err(CommandFault::from(error)),
+                log: None,
+            })
+        }
     }
 }
 
@@ -409,7 +420,7 @@ pub(crate) fn ready_run<T: Texts, L: Logs>(
     match shape_files(alloc, texts, pair) {
         Ok(Ok(shaped)) => ready_shaped(alloc, shaped, asked, logs),
         Ok(Err(fault)) => Err(Undriven {
-            outcome: line_answer(alloc, &Loaded::NotShaped(fault)),
+            outcome: line_answer(alloc, Loaded::NotShaped(fault)),
             log: None,
         }),
         Err(fault) => Err(Undriven {

@@ -1,20 +1,19 @@
 //! The command `resume`.
 
-ghost use Rattle.std.specs.Prelude.{◌≤◌, IfSome};
+ghost use Rattle.std.specs.Prelude.{◌≤◌, IfSome, Ok};
 ghost use Rattle.shop_base.specs.declared.limits.TheConstants.{MAX_MOMENT};
 ghost use Rattle.command_run.specs.Drives.{IsEndAnswer};
-ghost use Rattle.command_run.specs.Resumes.{IsRecovery, IsUnrecoveredAnswer, ResumesLog, end_of_rest};
+ghost use Rattle.command_run.specs.Resumes.{IsRecovery, IsUnrecoveredAnswer, ResumesLog, ResumesText, end_of_rest};
 ghost use Rattle.command_run.specs.Program.{RunsResume};
 
 use crate::devices::Streams;
-use crate::drives::{CommandFaultOf, ended};
+use crate::drives::{CommandFaultOf, ended, line_answer};
 use cell_drive::{
     BufferedSink, DriveFault, Protocol, RecoveredRun, RestEnd, ResumeFault, Source, resume_in,
     take_up,
 };
 use command_answers::{
-    Answered, CommandFault, InputPaths, Loaded, Texts, loaded_answer, log_fault_answer,
-    past_answer, shape_files,
+    Answered, CommandFault, InputPaths, Loaded, Texts, log_fault_answer, past_answer, shape_files,
 };
 use plan_verifier::Verdict;
 use shop_base::{Moment, Shaped};
@@ -37,7 +36,7 @@ pub(crate) fn resume_answer<T: Texts, R: Source, W: BufferedSink>(
 {
     match shape_files(alloc, texts, pair)? {
         Ok(shaped) => resume_log(alloc, texts, shaped, log, at, protocol, streams),
-        Err(fault) => Ok(loaded_answer(alloc, &Loaded::NotShaped(fault))?),
+        Err(fault) => line_answer(alloc, Loaded::NotShaped(fault)),
     }
 }
 
@@ -55,7 +54,27 @@ fn resume_log<T: Texts, R: Source, W: BufferedSink>(
     requires { IfSome at (λ present. present ≤ MAX_MOMENT) }
     ensures { ResumesLog T.gives protocol at log.now shaped texts.old streams.old result texts.new streams.new }
 {
-    let text = texts.text(alloc, log)?;
+    match texts.text(alloc, log) {
+        Ok(text) => resume_text(alloc, shaped, text, at, protocol, streams),
+        Err(fault) => {
+            drop(shaped);
+            Err(fault)
+        }
+    }
+}
+
+/// Recovers the run of a plan from the text of its log, and drives it on.
+fn resume_text<R: Source, W: BufferedSink>(
+    alloc: Global,
+    shaped: Shaped,
+    text: Vec<u8>,
+    at: Option<Moment>,
+    protocol: Protocol,
+    streams: &mut Streams<R, W>,
+) -> Answered
+    requires { IfSome at (λ present. present ≤ MAX_MOMENT) }
+    ensures { ResumesText protocol at shaped (Ok text.items) streams.old streams.new result }
+{
     match recoverable(alloc, shaped, text, at) {
         Ok(recovered) => {
             let end = resume_in(recovered, protocol, &mut streams.input, &mut streams.output);
@@ -87,8 +106,7 @@ pub(crate) fn unrecovered_answer(alloc: Global, fault: ResumeFault) -> Answered
         ResumeFault::Log(fault) => log_fault_answer(alloc, fault),
         ResumeFault::Past { last } => Ok(past_answer(alloc, last)?),
         ResumeFault::Refused(shaped, why) => {
-            let refused = Loaded::Judged(Verdict::Refused(shaped, why));
-            Ok(loaded_answer(alloc, &refused)?)
+            line_answer(alloc, Loaded::Judged(Verdict::Refused(shaped, why)))
         }
         fault @ ResumeFault::Memory => Err(CommandFault::from(Wanting { fault })),
     }

@@ -1,7 +1,6 @@
 use Rattle.std.proofs.Common.{Ok, Err, ap, sym, ◌∙◌, refl}
 use Rattle.std.proofs.lemmas.Result.{err_from_is_err_and}
-use Rattle.command_answers.specs.Checks.{IsLineOf}
-use Rattle.command_run.proofs.Accepting.{memory_reported, drives_accepted, drives_known}
+use Rattle.command_run.proofs.Accepting.{drives_accepted, drives_known}
 use Rattle.command_run.proofs.drives.drive_answer.Goals as goal
 
 pub returns-in_err-load_files : goal.returns-in_err-load_files
@@ -22,17 +21,9 @@ returns-in-Ok g c = record {
   }));
 }
 
-pub returns-in_err-loaded_answer-in-Err : goal.returns-in_err-loaded_answer-in-Err
-returns-in_err-loaded_answer-in-Err g c = record {
+pub returns-in-Err : goal.returns-in-Err
+returns-in-Err g c = record {
   loaded = Ok c.in_ok-load_files.field-0;
   loads = rw (← c.in_ok-load_files.was) c.load_files.ensures;
-  drives = drives_known c.args.protocol c.in_ok-load_files.field-0 c.in-Err.other _ _ c.from_residual-in_err-loaded_answer-in-Err.result (sym c.accepted.ensures ∙ c.in-Err.is)
-      (memory_reported (IsLineOf c.in-Err.other) _ c.from_residual-in_err-loaded_answer-in-Err.ensures.1) refl;
-}
-
-pub returns-in_ok-loaded_answer-in-Err : goal.returns-in_ok-loaded_answer-in-Err
-returns-in_ok-loaded_answer-in-Err g c = record {
-  loaded = Ok c.in_ok-load_files.field-0;
-  loads = rw (← c.in_ok-load_files.was) c.load_files.ensures;
-  drives = drives_known c.args.protocol c.in_ok-load_files.field-0 c.in-Err.other _ _ (Ok c.in_ok-loaded_answer-in-Err.field-0) (sym c.accepted.ensures ∙ c.in-Err.is) c.in_ok-loaded_answer-in-Err.ensures refl;
+  drives = drives_known c.args.protocol c.in_ok-load_files.field-0 c.in-Err.other _ _ c.line_answer.result (sym c.accepted.ensures ∙ c.in-Err.is) c.line_answer.ensures refl;
 }

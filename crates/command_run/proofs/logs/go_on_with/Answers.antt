@@ -2,12 +2,13 @@ use Rattle.std.proofs.Common.{Bool, Some, Result, ap, ◌∙◌, subst, refl}
 use Rattle.byte_streams.specs.declared.drive_fault.DriveFault.{DriveFault}
 use Rattle.cell_drive.specs.Recovered.{plan_of, replayed_events}
 use Rattle.run_journal.specs.Logged.{fault_if}
+use Rattle.run_journal.proofs.Fronts.{if_some-both, if_some-map}
 use Rattle.command_run.specs.Logs.{Driven, IsLoggedAnswer}
-use Rattle.command_run.proofs.HeldLogs.{gone_on_to_end, keeps_in_log, known_as, known_both}
+use Rattle.command_run.proofs.HeldLogs.{gone_on_to_end, keeps_in_log}
 use Rattle.command_run.proofs.logs.go_on_with.Goals as goal
 
 pub go_on_logged-end-requires-clause-whole : goal.go_on_logged-end-requires-clause-whole
-go_on_logged-end-requires-clause-whole g c = known_as g.B.InitialState.before (λ t from. from.0) c.requires.recoverable
+go_on_logged-end-requires-clause-whole g c = if_some-map g.B.InitialState.before (λ t from. from.0) c.requires.recoverable
 
 pub returns : goal.returns
 returns g c =
@@ -18,7 +19,7 @@ returns g c =
     let p = plan_of c.args.run in
     let events = replayed_events c.args.run in
     let answer = subst (λ (done : Result Bool DriveFault). IsLoggedAnswer log_failed done c.logged_end-outcome.result) c.is_rest_done.ensures c.logged_end-outcome.ensures in
-    let up = known_both g.B.InitialState.before (λ t from is. is p from.1 from.2) c.requires.recoverable had.recoverable in
+    let up = if_some-both g.B.InitialState.before (λ t from is. is p from.1 from.2) c.requires.recoverable had.recoverable in
     rw (← c.streams.view_is) (record {
       went_on = record {
         end = Some (Driven p events run.held);

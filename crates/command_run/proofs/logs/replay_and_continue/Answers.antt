@@ -1,13 +1,13 @@
 use Rattle.std.proofs.Common.{Ok, Err, Some, ap, sym, subst, refl}
 use Rattle.byte_streams.specs.Lent.{output_of}
 use Rattle.cell_drive.specs.Recovered.{Recovered}
+use Rattle.run_journal.proofs.Fronts.{if_some-map}
 use Rattle.command_run.specs.Logs.{IsRecoveredFromLog, Left}
-use Rattle.command_run.proofs.HeldLogs.{known_as}
 use Rattle.command_run.proofs.KnownLogs.{same_run}
 use Rattle.command_run.proofs.logs.replay_and_continue.Goals as goal
 
 pub go_on_with-requires-clause-recoverable : goal.go_on_with-requires-clause-recoverable
-go_on_with-requires-clause-recoverable g c = known_as g.B.InitialState.before (λ t from. subst (λ (x : Recovered). IsRecoveredFromLog x t.0) (sym c.in-Ok.ensures.same) from) c.requires.recoverable
+go_on_with-requires-clause-recoverable g c = if_some-map g.B.InitialState.before (λ t from. subst (λ (x : Recovered). IsRecoveredFromLog x t.0) (sym c.in-Ok.ensures.same) from) c.requires.recoverable
 
 pub returns-in-Ok : goal.returns-in-Ok
 returns-in-Ok g c =
@@ -35,6 +35,6 @@ returns-in-Err g c =
       went_on = record {
         end = Some Left;
         is = (refl, record { replay = Err c.in-Err.fault; mid = output_of g.W.Sink g.W.BufferedSink.pending c.show_again.new.output; replays = c.in-Err.ensures; goes_on = (ap Err c.from.ensures, refl, refl) });
-        held = (ready.unfailed, tt, known_as g.B.InitialState.before (λ t seen. (seen, ready.durable)) c.requires.seen);
+        held = (ready.unfailed, tt, if_some-map g.B.InitialState.before (λ t seen. (seen, ready.durable)) c.requires.seen);
       };
     })

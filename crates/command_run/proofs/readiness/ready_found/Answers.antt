@@ -1,9 +1,10 @@
 use Rattle.std.proofs.Common.{None, Some, option_map, subst, refl}
 use Rattle.event_lines.specs.declared.run_digits.RunDigits.{RunDigits}
+use Rattle.run_journal.proofs.Fronts.{if_some-map}
 use Rattle.command_run.specs.declared.misfits.Misfit.{Misfit}
 use Rattle.command_run.specs.Misfits.{IsMisfit}
 use Rattle.command_run.specs.Logs.{Found}
-use Rattle.command_run.proofs.HeldLogs.{found_held, known_as, undriven_found}
+use Rattle.command_run.proofs.HeldLogs.{found_held, undriven_found}
 use Rattle.command_run.proofs.Readied.{readied_as}
 use Rattle.command_run.proofs.readiness.ready_found.Goals as goal
 
@@ -24,7 +25,7 @@ returns-in-Some g c =
             drives = (c.misfit_answer.ensures, record { same = refl; is = refl }, refl);
           },
         );
-        held = found_held _ _ _ _ (g.L.Logs.folder c.args.logs.now) known _ _ c.args.found c.requires.found (known_as known (λ t is. (is.logs, is.in_folder)) had);
+        held = found_held _ _ _ _ (g.L.Logs.folder c.args.logs.now) known _ _ c.args.found c.requires.found (if_some-map known (λ t is. (is.logs, is.in_folder)) had);
       };
     })
 

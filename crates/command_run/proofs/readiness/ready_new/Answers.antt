@@ -13,8 +13,8 @@ returns-in-Ok g c =
     (λ step is. inl (c.in-Ok.verdict, record { accepted = c.in-Ok.ensures.accepted; refused = c.in-Ok.ensures.refused }, is))
     (λ output known had. subst (λ (p : PlannedShop). IsHistoryOfNew (g.L.Logs.folder c.args.logs.now) p output known) (sym same) had)
 
-pub returns : goal.returns
-returns g c = record {
+pub returns-in-Err : goal.returns-in-Err
+returns-in-Err g c = record {
   ready = tt;
   undriven = λ known before had. record {
     end = left_if (is_some c.args.opened);

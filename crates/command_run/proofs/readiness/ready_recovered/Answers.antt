@@ -6,8 +6,8 @@ use Rattle.run_journal.specs.LogFiles.{IsDurable}
 use Rattle.run_journal.specs.LogRuns.{IsNamedFor, IsNamedOrNot}
 use Rattle.run_journal.specs.TornEnds.{is_torn}
 use Rattle.run_journal.specs.WholeLines.{torn_end, whole_lines}
+use Rattle.run_journal.proofs.Fronts.{if_some-at, if_some-map}
 use Rattle.command_run.specs.Logs.{NotRecovered, digits_in}
-use Rattle.command_run.proofs.HeldLogs.{at_known, known_as}
 use Rattle.command_run.proofs.KnownLogs.{few_lines, old_named, old_recovered}
 use Rattle.command_run.proofs.readiness.ready_recovered.Goals as goal
 
@@ -65,13 +65,13 @@ returns-in-Err g c =
         held = (
           had.known,
           λ of_text. ap g.D.LogFile.written (had.untouched of_text) ∙ c.requires.unwritten,
-          known_as known (λ t is. record {
+          if_some-map known (λ t is. record {
             untouched = λ of_text. (
               ap g.D.LogFile.seen (had.untouched of_text) ∙ is.0,
               subst (λ l. IsDurable (g.D.LogFile.seen l) (g.D.LogFile.crash_states l)) (sym (had.untouched of_text)) c.requires.ready.durable,
             );
-            crash = at_known (g.D.LogFile.seen log) text (λ file. (left : List ℕ) → g.D.LogFile.crash_states log_now left → IsNamedOrNot (digits_in c.args.shaped) (whole_lines file) (whole_lines left)) is.0 crash;
-            torn_again = at_known (g.D.LogFile.seen log) text (λ file. is_torn (torn_end file) ≡ true → (left : List ℕ) → g.D.LogFile.crash_states log_now left → is_torn (torn_end left) ≡ true) is.0 had.torn_again;
+            crash = if_some-at (g.D.LogFile.seen log) text (λ file. (left : List ℕ) → g.D.LogFile.crash_states log_now left → IsNamedOrNot (digits_in c.args.shaped) (whole_lines file) (whole_lines left)) is.0 crash;
+            torn_again = if_some-at (g.D.LogFile.seen log) text (λ file. is_torn (torn_end file) ≡ true → (left : List ℕ) → g.D.LogFile.crash_states log_now left → is_torn (torn_end left) ≡ true) is.0 had.torn_again;
           }) was,
         );
       };

@@ -1,5 +1,5 @@
 use Rattle.std.proofs.Common.{◌≡◌, ◌∙◌, [], true, false, Some, sym, refl}
-use Rattle.command_run.proofs.HeldLogs.{at_known}
+use Rattle.run_journal.proofs.Fronts.{if_some-at}
 use Rattle.command_run.proofs.KnownLogs.{bytes_written, empty_begins, empty_found, new_known, old_known}
 use Rattle.command_run.proofs.Readied.{readied_as}
 use Rattle.command_run.proofs.readiness.ready_there.Goals as goal
@@ -20,6 +20,6 @@ returns g c =
     readied_as _ _ _ _ _ _ _ _ c.ready_recovered.result c.ready_recovered.ensures
     (λ step is. bytes_written _ _ _ _ _ _ step c.args.text bytes is refl)
     (λ output known had. (
-      at_known (g.L.Logs.folder c.args.logs.now).logs had.logs (λ _. g.L.Log.LogFile.seen c.args.log ≡ Some c.args.text) had.in_folder c.requires.found.known,
+      if_some-at (g.L.Logs.folder c.args.logs.now).logs had.logs (λ _. g.L.Log.LogFile.seen c.args.log ≡ Some c.args.text) had.in_folder c.requires.found.known,
       old_known _ _ _ _ output known c.args.text bytes had.is,
     ))

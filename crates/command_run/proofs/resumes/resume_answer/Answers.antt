@@ -2,10 +2,8 @@ use Rattle.std.proofs.Common.{Ok, Err, Result, ap, sym, subst, ◌∙◌, refl}
 use Rattle.std.proofs.lemmas.Result.{err_from_is_err_and}
 use Rattle.shop_base.specs.declared.shape_fault.ShapeFault.{ShapeFault}
 use Rattle.shop_base.specs.Plan.{PlannedShop}
-use Rattle.command_answers.specs.Checks.{IsLineOf}
 use Rattle.command_answers.specs.declared.loading.Loaded.TheVariants.{NotShaped}
 use Rattle.command_run.specs.Resumes.{Resumes}
-use Rattle.command_run.proofs.Accepting.{memory_reported}
 use Rattle.command_run.proofs.resumes.resume_answer.Goals as goal
 
 pub returns-in_err-shaped : goal.returns-in_err-shaped
@@ -24,18 +22,10 @@ returns-in-Ok g c = record {
   resumes = rw c.in-Ok.is c.resume_log.ensures;
 }
 
-pub returns-in_err-loaded_answer-in-Err : goal.returns-in_err-loaded_answer-in-Err
-returns-in_err-loaded_answer-in-Err g c = record {
+pub returns-in-Err : goal.returns-in-Err
+returns-in-Err g c = record {
   shaped = Ok c.in_ok-shaped.field-0;
   texts_mid = c.shape_files.new.texts;
   shapes = rw (← c.in_ok-shaped.was) c.shape_files.ensures;
-  resumes = rw c.in-Err.is (memory_reported (IsLineOf (NotShaped c.in-Err.fault)) _ c.from_residual-in_err-loaded_answer-in-Err.ensures.1, refl, refl);
-}
-
-pub returns-in_ok-loaded_answer-in-Err : goal.returns-in_ok-loaded_answer-in-Err
-returns-in_ok-loaded_answer-in-Err g c = record {
-  shaped = Ok c.in_ok-shaped.field-0;
-  texts_mid = c.shape_files.new.texts;
-  shapes = rw (← c.in_ok-shaped.was) c.shape_files.ensures;
-  resumes = rw c.in-Err.is (c.in_ok-loaded_answer-in-Err.ensures, refl, refl);
+  resumes = rw c.in-Err.is (c.line_answer.ensures, refl, refl);
 }
