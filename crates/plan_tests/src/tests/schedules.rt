@@ -56,10 +56,10 @@ fn tells(alloc: Global, plan: &[u8], text: &[u8]) -> Result<bool, Fail> {
     let shaped = planned(alloc, TWO, plan)?;
     let verdict = judged(alloc, shaped)?;
     let names = Names::none(alloc);
-    let schedule = schedule(alloc, &names, &verdict);
+    let answer = schedule(alloc, &names, &verdict);
     drop(names);
     drop(verdict);
-    Ok(schedule?.as_slice() == text)
+    Ok(answer?.as_slice() == text)
 }
 
 #[test]
