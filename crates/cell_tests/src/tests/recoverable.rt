@@ -24,14 +24,19 @@ fn recoverable(alloc: Global, protocol: Protocol, left: Vec<u8>) -> Result<Vec<u
     let mut log = MemoryLog::new(left, 1000, 0);
     let text = read_log(alloc, &mut log)?;
     let shaped = shaped(alloc, CROSSING)?;
-    let ready = recover_log(alloc, shaped, &mut log, &text, None, &DIGITS).ok();
+    let Ok(ready) = recover_log(alloc, shaped, &mut log, &text, None, &DIGITS) else {
+        return Err("the run isn't recovered".into());
+    };
     drop(text);
-    let RecoveredLog { recovered, room } = ready.ok_or("the run isn't recovered")?;
+    let RecoveredLog { recovered, room } = ready;
     let run = replay_in(recovered, protocol, &mut output)?;
-    if output.flush().is_err() {
-        drop(run);
-        drop(room);
-        return Err("the run isn't written once more".into());
+    match output.flush() {
+        Ok(()) => {}
+        Err(fault) => {
+            drop(run);
+            drop(room);
+            return Err(fault.into());
+        }
     }
     let mut reader = FromRead::new(REPORTS);
     let LoggedEnd {
