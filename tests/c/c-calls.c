@@ -167,7 +167,7 @@ static int each_handed_over(void) {
 }
 
 /* Asks for the rest of a cell, and says how it ended. The cell is what it was. */
-static int each_rest_told(void) {
+static int each_rest_answered(void) {
   static uint32_t (*const calls[])(struct cellplan_cell *, uint64_t, uint8_t *, size_t, size_t *) = {cellplan_cell_check, cellplan_cell_schedule};
   int bad = 0;
   fprintf(stderr, " rest");
@@ -195,7 +195,7 @@ static int once(void) {
   bad |= each_judged(" explain", cellplan_explain);
   bad |= each_begun();
   bad |= each_handed_over();
-  bad |= each_rest_told();
+  bad |= each_rest_answered();
   bad |= begun_again(&cell, ended);
   cellplan_cell_free(&cell);
   fprintf(stderr, " again %u %u\n", (unsigned)ended[0], (unsigned)ended[1]);
@@ -434,7 +434,7 @@ static void never_over(struct cellplan_cell *cell) {
 }
 
 /* What a call tells of the rest at a moment, its status, and that one byte less is no room for it. */
-static void got(uint32_t (*call)(struct cellplan_cell *, uint64_t, uint8_t *, size_t, size_t *), struct cellplan_cell *cell, uint64_t at,
+static void answers(uint32_t (*call)(struct cellplan_cell *, uint64_t, uint8_t *, size_t, size_t *), struct cellplan_cell *cell, uint64_t at,
                  uint32_t status, const char *text) {
   uint8_t room[512];
   size_t length = 7;
@@ -480,15 +480,15 @@ static void over(struct cellplan_cell *cell) {
   same("at 9", at, 9);
   same("job 1 leaves", cellplan_cell_leaves(cell, 1, &at), CELLPLAN_GOOD);
   same("at 6", at, 6);
-  got(cellplan_cell_check, cell, 2, CELLPLAN_GOOD, "accepted makespan 9 leaves 9 6\n");
-  got(cellplan_cell_check, cell, 7, CELLPLAN_GOOD, "accepted makespan 10 leaves 10 7\n");
-  got(cellplan_cell_schedule, cell, 2, CELLPLAN_GOOD,
+  answers(cellplan_cell_check, cell, 2, CELLPLAN_GOOD, "accepted makespan 9 leaves 9 6\n");
+  answers(cellplan_cell_check, cell, 7, CELLPLAN_GOOD, "accepted makespan 10 leaves 10 7\n");
+  answers(cellplan_cell_schedule, cell, 2, CELLPLAN_GOOD,
        "accepted makespan 9 leaves 9 6\njob 0 arrives 2 by 17\njob 0 on machine 0 from 6 to 9 by 20 leaves 9\n"
        "job 1 on machine 0 since 2 to 6 by 17 leaves 6\n");
   same("once more", cellplan_cell_hand_over(cell, TEXT(line_of_two), NO_NAME, TEXT(in_a_hurry), 2, orders, 2, &count), CELLPLAN_GOOD);
   same("with no orders", count, 0);
-  got(cellplan_cell_check, cell, 2, CELLPLAN_REFUSED, "refused late 0 9 1.1 0.0 0.1\n");
-  got(cellplan_cell_schedule, cell, 2, CELLPLAN_REFUSED,
+  answers(cellplan_cell_check, cell, 2, CELLPLAN_REFUSED, "refused late 0 9 1.1 0.0 0.1\n");
+  answers(cellplan_cell_schedule, cell, 2, CELLPLAN_REFUSED,
        "refused late 0 9 1.1 0.0 0.1\njob 0 arrives 2\njob 0 on machine 0 from 6 to 9 leaves 9\njob 1 on machine 0 since 2 to 6 leaves 6\n");
 }
 
@@ -505,7 +505,7 @@ static void over_to_the_end(struct cellplan_cell *cell) {
   reported(cell, CELLPLAN_FINISH, 0, 0, 9, CELLPLAN_GOOD, 0, 1, false);
   same("done then", cellplan_cell_is_done(cell, &yes), CELLPLAN_GOOD);
   same("it is done then", yes, true);
-  got(cellplan_cell_check, cell, 9, CELLPLAN_GOOD, "accepted makespan 9 leaves 9 6\n");
+  answers(cellplan_cell_check, cell, 9, CELLPLAN_GOOD, "accepted makespan 9 leaves 9 6\n");
 }
 
 static void named(uint32_t number, const char *wanted) {
@@ -575,7 +575,7 @@ static int asked(void) {
   gone(&cells[5]);
   without_a_cell(&none);
   names();
-  said("got\n");
+  said("ended\n");
   for (int i = 0; i < 6; i++) cellplan_cell_free(&cells[i]);
   return missed != 0;
 }
