@@ -54,7 +54,9 @@ impl Net {
 
     /// Keeps the sources of all nodes.
     pub fn save(&mut self) {
-        save_sources(&self.spots, &mut self.saved);
+        for (spot, place) in self.spots.iter().zip(self.saved.iter_mut()) {
+            *place = spot.source;
+        }
     }
 
     /// Sets what is left from each node on, where a job's leaving counts as it is or, with budgets, by how much it is
@@ -67,13 +69,6 @@ impl Net {
                 set_rest(&mut self.spots, span, 0);
             }
         }
-    }
-}
-
-/// Keeps the source of each node at its place.
-fn save_sources(spots: &[Spot], saved: &mut [u32]) {
-    for (number, source) in saved.iter_mut().enumerate() {
-        *source = spot_at(spots, count(number)).source;
     }
 }
 

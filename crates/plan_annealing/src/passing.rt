@@ -233,19 +233,12 @@ impl Pass {
     pub fn undo(&mut self) {
         self.put_all_on();
         for turn in 0..self.timed {
-            self.put_back(turn);
-        }
-    }
-
-    /// Gives the node that was timed at this turn its moment before the pass.
-    #[inline(always)]
-    fn put_back(&mut self, turn: u32) {
-        let Some(old) = self.olds.get(turn as usize) else {
-            return;
-        };
-        if let Some(row) = self.rows.get_mut(old.node as usize) {
-            row.head = old.head;
-            row.before = old.before;
+            if let Some(old) = self.olds.get(turn as usize) {
+                if let Some(row) = self.rows.get_mut(old.node as usize) {
+                    row.head = old.head;
+                    row.before = old.before;
+                }
+            }
         }
     }
 
