@@ -70,10 +70,7 @@ impl Visits {
     fn none(alloc: Global, machines: u32) -> Result<Visits, AllocError>
         ensures { IfOk result (λ visits. visits ≡ machine_visits machines []) }
     {
-        let mut first = Vec::with_capacity(alloc, machines as usize)?;
-        for _i in 0..machines {
-            first.push(None)?;
-        }
+        let first = vec![in alloc; None; machines as usize]?;
         Ok(Visits {
             table: Vec::new(alloc),
             first,

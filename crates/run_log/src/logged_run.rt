@@ -85,7 +85,10 @@ pub(crate) fn run_or_fault<P: Planned>(
     let mut run = LoggedRun::with_room(alloc, basis, room)?;
     match run.take_lines(ended_part(text)) {
         Ok(()) => Ok(Ok(run)),
-        Err(fault) => Ok(Err(fault)),
+        Err(fault) => {
+            drop(run);
+            Ok(Err(fault))
+        }
     }
 }
 
@@ -105,8 +108,13 @@ pub(crate) fn read_log<P: Planned>(
     ensures fault { IfErr result (IsAuditFault (P.planned basis) (lines_of text.now)) }
 {
     let mut run = LoggedRun::with_room(alloc, basis, room)?;
-    run.take_lines(text)?;
-    Ok(run)
+    match run.take_lines(text) {
+        Ok(()) => Ok(run),
+        Err(fault) => {
+            drop(run);
+            Err(fault)
+        }
+    }
 }
 
 impl<P: Planned> LoggedRun<P> {

@@ -48,7 +48,10 @@ pub fn run_at<P: Planned>(
     let _plan = run.cell.shaped();
     match present_moment(at, run.cell.last()) {
         Ok(present) => Ok(Ok((run, present))),
-        Err(fault) => Ok(Err(fault)),
+        Err(fault) => {
+            drop(run);
+            Ok(Err(fault))
+        }
     }
 }
 

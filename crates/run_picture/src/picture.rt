@@ -1,7 +1,7 @@
 //! A whole picture.
 
-ghost use Rattle.std.specs.Prelude.{◌≡◌, ◌≤◌, flat_map, OnOk};
-ghost use Rattle.run_picture.specs.{Late.is_late, BoxText.box_text, Boxes.if_any};
+ghost use Rattle.std.specs.Prelude.{◌≡◌, ◌≤◌, [], ◌∷◌, codes, flat_map, OnOk};
+ghost use Rattle.run_picture.specs.{Late.is_late, BoxText.box_text, Boxes.if_any, Parts.before};
 ghost use Rattle.run_picture.specs.PictureText.{frame_text, axis_text, rows_text, visit_text, visits_text};
 ghost use Rattle.run_picture.specs.PictureText.{marks_text, present_text, picture_text, IsPicture};
 ghost use Rattle.byte_streams.specs.Lent.{WroteTo};
@@ -94,6 +94,27 @@ fn put_picture<W: Sink>(
     let margin = left_margin(names, sheet.machines);
     put_head(output, margin, sheet.machines, sheet.head)?;
     put_axis(output, names, sheet.machines, sheet.last, ticks)?;
+    put_drawing(output, names, sheet, visits, late)
+}
+
+/// Writes what comes after the axis.
+fn put_drawing<W: Sink>(
+    output: &mut W,
+    names: &Names,
+    sheet: Sheet,
+    visits: &[DrawnVisit],
+    late: &[Option<LateLeaving>],
+) -> Result<(), WriteFault>
+    ensures wrote { WroteTo W.Sink result output.old output.new
+        (before
+        (rows_text names.now sheet.machines
+        ∷ visits_text names.now sheet.last late.now visits.now
+        ∷ marks_text sheet.last late.now
+        ∷ present_text sheet.machines sheet.last sheet.present
+        ∷ [])
+        (codes "</svg>\n")) }
+    ensures unfailed { OnOk result (W.failed output.new ≡ W.failed output.old) }
+{
     put_rows(output, names, sheet.machines)?;
     put_visits(output, names, sheet.last, late, visits)?;
     put_marks(output, sheet.last, late)?;
