@@ -93,6 +93,14 @@ impl SystemLog {
         Ok(())
     }
 
+    /// Locks it, and fails if its path doesn't lead to it any more.
+    fn lock(&self) -> Result<(), FileFault>
+        ensures { IfErr result IsOpenFault }
+    {
+        lock(&self.rt, &self.file)?;
+        self.found_again()
+    }
+
     /// Whether it has this many bytes, as far as that is known.
     fn has_len(&self, len: u64) -> bool {
         match self.len {
@@ -220,9 +228,24 @@ fn is_shown_in(rt: &HostRuntime, file: &File) -> bool {
     }
 }
 
-/// Locks a file that was opened by this path. One that has the number of a standard stream, since that one is closed,
-/// is no log: what is written to the stream would stand in it. Nor is one to which the standard output goes, or to
-/// which the path doesn't lead any more.
+/// Locks a file. One that has the number of a standard stream, since that one is closed, is no log: what is written to
+/// the stream would stand in it. Nor is one to which the standard output goes.
+fn lock(rt: &HostRuntime, file: &File) -> Result<(), FileFault>
+    ensures { IfErr result IsOpenFault }
+{
+    if file.as_raw_fd() <= STANDARD_ERROR || is_shown_in(rt, file) {
+        return Err(FileFault::Log);
+    }
+    match file.try_lock() {
+        Ok(()) => Ok(()),
+        Err(error) => match io::Error::from(error).kind() {
+            ErrorKind::WouldBlock => Err(FileFault::InUse),
+            _ => Err(FileFault::Log),
+        },
+    }
+}
+
+/// Locks a file that was opened by this path, if the path still leads to it.
 fn locked(
     rt: &HostRuntime,
     path: String,
@@ -233,26 +256,20 @@ fn locked(
     ensures unwritten { IfOk result (λ log. log.written ≡ false) }
     ensures fault { IfErr result IsOpenFault }
 {
-    if file.as_raw_fd() <= STANDARD_ERROR || is_shown_in(rt, &file) {
-        return Err(FileFault::Log);
-    }
-    match file.try_lock() {
-        Ok(()) => {
-            let log = SystemLog {
-                rt: *rt,
-                path,
-                file,
-                len,
-                fault: None,
-                written: false,
-            };
-            log.found_again()?;
-            Ok(log)
+    let log = SystemLog {
+        rt: *rt,
+        path,
+        file,
+        len,
+        fault: None,
+        written: false,
+    };
+    match log.lock() {
+        Ok(()) => Ok(log),
+        Err(fault) => {
+            drop(log);
+            Err(fault)
         }
-        Err(error) => match io::Error::from(error).kind() {
-            ErrorKind::WouldBlock => Err(FileFault::InUse),
-            _ => Err(FileFault::Log),
-        },
     }
 }
 
@@ -326,16 +343,31 @@ fn opened(rt: &HostRuntime, path: &str) -> Result<Option<SystemLog>, FileFault>
     let mut how = OpenOptions::new();
     how.read(true).append(true);
     match how.open(rt, path) {
-        Ok(file) => {
-            let log = locked(rt, own, file, None)?;
-            // Whoever put it there may not have synced its name.
-            sync_names(rt, path)?;
-            Ok(Some(log))
+        Ok(file) => named(rt, path, locked(rt, own, file, None)?),
+        Err(error) => {
+            drop(own);
+            match error.kind() {
+                ErrorKind::NotFound => Ok(None),
+                _ => Err(LogFailure::from(error).0),
+            }
         }
-        Err(error) => match error.kind() {
-            ErrorKind::NotFound => Ok(None),
-            _ => Err(LogFailure::from(error).0),
-        },
+    }
+}
+
+/// A log that was opened by this path, with its name on the disk: whoever put it there may not have synced that.
+fn named(rt: &HostRuntime, path: &str, log: SystemLog) -> Result<Option<SystemLog>, FileFault>
+    requires unfailed { log.fault ≡ None }
+    requires unwritten { log.written ≡ false }
+    ensures unfailed { IfOk result (λ found. IfSome found (λ log. log.fault ≡ None)) }
+    ensures unwritten { IfOk result (λ found. IfSome found (λ log. log.written ≡ false)) }
+    ensures fault { IfErr result IsDiskFault }
+{
+    match sync_names(rt, path) {
+        Ok(()) => Ok(Some(log)),
+        Err(fault) => {
+            drop(log);
+            Err(fault)
+        }
     }
 }
 
@@ -352,7 +384,10 @@ fn made(rt: &HostRuntime, path: &str) -> Result<SystemLog, FileFault>
         // Where another process has made it meanwhile, and is done with it, it has bytes: then it isn't as long as it
         // should be.
         Ok(file) => locked(rt, own, file, Some(0)),
-        Err(error) => Err(LogFailure::from(error).0),
+        Err(error) => {
+            drop(own);
+            Err(LogFailure::from(error).0)
+        }
     }
 }
 
