@@ -31,9 +31,9 @@ pub(crate) fn make_step<P: Planned, D: Dues>(
     ensures same_plan { cell.new ≡ record cell.old { cell = cell.new.cell } }
     ensures capacity { orders.new.capacity ≡ orders.old.capacity }
 {
-    let _plan = cell.shaped();
     let ack = Ack { late };
     drop_orders(orders);
+    let _plan = cell.shaped();
     let candidate = candidate_after(cell, report);
     end_activity(cell, dues, report);
     release_moves(cell, dues, orders, candidate);
