@@ -111,14 +111,31 @@ fn is_read(bytes: Vec<u8>, events: &[u8]) -> bool {
     bytes.strip_prefix(b"order 0 0 out 0\n".as_slice()) == Some(events)
 }
 
+/// Whether a read of no more than so many bytes gives these ones behind the first line.
+fn gives(alloc: Global, log: &mut MemoryLog, most: usize, events: &[u8]) -> bool {
+    match log.read(alloc, most) {
+        Ok(bytes) => is_read(bytes, events),
+        Err(_) => false,
+    }
+}
+
+/// Whether a read of no more than so many bytes is refused.
+fn is_refused(alloc: Global, log: &mut MemoryLog, most: usize) -> bool {
+    log.read(alloc, most).is_err()
+}
+
+/// Whether the log has just these bytes behind the first line, 78 with that.
+fn has_events(alloc: Global, log: &mut MemoryLog, events: &[u8]) -> (bool, bool) {
+    let given = gives(alloc, log, 78, events);
+    (given, is_refused(alloc, log, 77))
+}
+
 #[test]
 fn a_whole_run_is_in_the_log(rt: HostRuntime) -> Result<(), Fail> {
     let (mut log, shown) = run(rt.alloc(), b"order 0 0 out 0\nrepo", 14, 0)?;
-    let bytes = log.read(rt.alloc(), 78);
-    let refused = log.read(rt.alloc(), 77).is_err();
+    let found = has_events(rt.alloc(), &mut log, EVENTS);
     drop(log);
-    let read = is_read(bytes?, EVENTS);
-    assert!(rt; shown == 62 && read && refused);
+    assert!(rt; shown == 62 && found == (true, true));
     Ok(())
 }
 

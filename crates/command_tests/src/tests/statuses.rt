@@ -20,41 +20,38 @@ fn says(alloc: Global, fault: &impl Display, text: &str) -> Result<bool, AllocEr
     Ok(fault.to_string(alloc)?.as_str() == text)
 }
 
-/// Faults, their texts and their statuses.
-fn faults() -> [(CommandFault, &'static str, u8); 11] {
-    [
-        (
-            CommandFault::Instance(OrFault::BadSizes { line: 5 }),
-            "Instance BadSizes line 5",
-            3,
-        ),
-        (
-            CommandFault::Instance(OrFault::Shop(ShopFault::NoJobs)),
-            "Instance Shop NoJobs",
-            3,
-        ),
-        (
-            CommandFault::Plan(PlanFault::UnknownKey),
-            "Plan UnknownKey",
-            3,
-        ),
-        (
-            CommandFault::Plan(PlanFault::NotReadBack),
-            "Plan NotReadBack",
-            3,
-        ),
-        (
-            CommandFault::Names(NamesFault::BadClock),
-            "Names BadClock",
-            3,
-        ),
-        (CommandFault::Memory, "Memory", 4),
-        (CommandFault::Read, "Read", 5),
-        (CommandFault::Write, "Write", 5),
-        (CommandFault::InputTooLong, "InputTooLong", 5),
-        (CommandFault::Log, "Log", 5),
-        (CommandFault::LogInUse, "LogInUse", 5),
-    ]
+/// Whether this is the text of the fault, and its status.
+fn has(alloc: Global, fault: CommandFault, text: &str, status: u8) -> Result<bool, AllocError> {
+    let is = says(alloc, &fault, text);
+    let ends = fault.status() == status;
+    drop(fault);
+    Ok(is? && ends)
+}
+
+/// Whether each of these faults of a text has its text and its status.
+fn of_texts(alloc: Global) -> Result<[bool; 5], AllocError> {
+    let sizes = CommandFault::Instance(OrFault::BadSizes { line: 5 });
+    let sizes = has(alloc, sizes, "Instance BadSizes line 5", 3)?;
+    let jobs = CommandFault::Instance(OrFault::Shop(ShopFault::NoJobs));
+    let jobs = has(alloc, jobs, "Instance Shop NoJobs", 3)?;
+    let key = CommandFault::Plan(PlanFault::UnknownKey);
+    let key = has(alloc, key, "Plan UnknownKey", 3)?;
+    let back = CommandFault::Plan(PlanFault::NotReadBack);
+    let back = has(alloc, back, "Plan NotReadBack", 3)?;
+    let clock = CommandFault::Names(NamesFault::BadClock);
+    let clock = has(alloc, clock, "Names BadClock", 3)?;
+    Ok([sizes, jobs, key, back, clock])
+}
+
+/// The same of the other faults.
+fn of_devices(alloc: Global) -> Result<[bool; 6], AllocError> {
+    let memory = has(alloc, CommandFault::Memory, "Memory", 4)?;
+    let read = has(alloc, CommandFault::Read, "Read", 5)?;
+    let write = has(alloc, CommandFault::Write, "Write", 5)?;
+    let input = has(alloc, CommandFault::InputTooLong, "InputTooLong", 5)?;
+    let log = has(alloc, CommandFault::Log, "Log", 5)?;
+    let in_use = has(alloc, CommandFault::LogInUse, "LogInUse", 5)?;
+    Ok([memory, read, write, input, log, in_use])
 }
 
 /// Whether each of these faults, which end the program by the status of another one, has its text.
@@ -70,12 +67,8 @@ fn are_written(alloc: Global) -> Result<[bool; 5], AllocError> {
 
 #[test]
 fn faults_have_a_text_and_a_status(rt: HostRuntime) -> Result<(), Fail> {
-    for (fault, text, status) in faults() {
-        assert!(rt;
-            says(rt.alloc(), &fault, text)? && fault.status() == status,
-            "{text}"
-        );
-    }
+    assert!(rt; of_texts(rt.alloc())? == [true; 5]);
+    assert!(rt; of_devices(rt.alloc())? == [true; 6]);
     assert!(rt; are_written(rt.alloc())? == [true; 5]);
     Ok(())
 }

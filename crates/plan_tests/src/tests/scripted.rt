@@ -41,17 +41,24 @@ pub(crate) struct Scripted {
     pub(crate) first: u32,
     /// Its place among those that are asked in turn.
     pub(crate) place: u32,
-    /// How often they were asked. A question out of turn counts as a million.
+    /// How often they were asked, and the greatest number once a question came out of turn.
     pub(crate) questions: Rc<Cell<u32>>,
+}
+
+/// How often they were asked with a question in this turn.
+fn counted(before: u32, turn: u32) -> u32 {
+    if before == turn {
+        before.saturating_add(1)
+    } else {
+        u32::MAX
+    }
 }
 
 impl Scripted {
     /// Counts a question, and answers what is given.
     fn asked(&self, round: u32) -> Answer {
         let turn = round.saturating_mul(ASKED).saturating_add(self.place);
-        let before = self.questions.get();
-        let question = if before == turn { 1 } else { 1_000_000 };
-        self.questions.set(before.saturating_add(question));
+        self.questions.set(counted(self.questions.get(), turn));
         if round < self.first {
             Answer::Silent
         } else {
