@@ -96,23 +96,23 @@ module _ (p : PlannedShop) (lines : List (List ℕ)) (at : Option ℕ) where
   run_fault_is recorded (Refused back why) parses run is = (recorded, parses, run, is)
   run_fault_is recorded Memory parses run is = tt
 
-  -- what can be recovered is refused for want of memory alone
-  pub only_want : (fault : ResumeFault) → IsResumeFault p lines at fault → IsRecoverable p lines at → fault ≡ Memory
-  only_want Memory is can = refl
-  only_want (Log fault) is can = absurd (first_bad-no_run p lines fault is (can.recorded, can.parses, can.is_run))
-  only_want (Past last) (recorded, parses, run, is) can =
+  -- what can be recovered is refused only where memory ran out
+  pub only_memory : (fault : ResumeFault) → IsResumeFault p lines at fault → IsRecoverable p lines at → fault ≡ Memory
+  only_memory Memory is can = refl
+  only_memory (Log fault) is can = absurd (first_bad-no_run p lines fault is (can.recorded, can.parses, can.is_run))
+  only_memory (Past last) (recorded, parses, run, is) can =
       let same : recorded ≡ can.recorded = one_reading p lines recorded can.recorded parses can.parses in
       let here : last ≡ (cell_after p can.recorded).last = is.0 ∙ ap (λ (es : List Entry). (cell_after p es).last) same in
       let past_there : unwrap_or at (cell_after p can.recorded).last < (cell_after p can.recorded).last = subst (λ n. unwrap_or at n < n) here is.1 in
       absurd (omega (arith, past_there, can.not_past))
-  only_want (Refused back (Cycle nodes)) (recorded, parses, run, is) can = absurd (can.acyclic nodes.items (cycle_simple p nodes.items is.2))
-  only_want (Refused back (Late job leaves chain times)) (recorded, parses, run, is) can =
+  only_memory (Refused back (Cycle nodes)) (recorded, parses, run, is) can = absurd (can.acyclic nodes.items (cycle_simple p nodes.items is.2))
+  only_memory (Refused back (Late job leaves chain times)) (recorded, parses, run, is) can =
       let same : recorded ≡ can.recorded = one_reading p lines recorded can.recorded parses can.parses in
       let acceptable = can.accepted (sym same ∙ is.2.0) in
       let late = is.2.1.0 in
       absurd (omega (arith, late.past, acceptable.budgets job late.job chain.items leaves late.path))
 
   -- so is whatever is said of the run that they record
-  pub only_want_of : {T : Type 0} (recorded : List Entry) (r : Result T ResumeFault) → LinesParse p lines recorded → IsRun p (events_of recorded) → IfErr r (IsRunFault p recorded at) → IsRecoverable p lines at → IfErr r (λ fault. fault ≡ Memory)
-  only_want_of recorded (Ok x) parses run is can = tt
-  only_want_of recorded (Err fault) parses run is can = only_want fault (run_fault_is recorded fault parses run is) can
+  pub only_memory_of : {T : Type 0} (recorded : List Entry) (r : Result T ResumeFault) → LinesParse p lines recorded → IsRun p (events_of recorded) → IfErr r (IsRunFault p recorded at) → IsRecoverable p lines at → IfErr r (λ fault. fault ≡ Memory)
+  only_memory_of recorded (Ok x) parses run is can = tt
+  only_memory_of recorded (Err fault) parses run is can = only_memory fault (run_fault_is recorded fault parses run is) can

@@ -1,5 +1,5 @@
 -- A stream of answers, as what driving comes to.
-use Rattle.std.proofs.Common.{◌≡◌, ℕ, List, Option, Ok, Err, subst, arith}
+use Rattle.std.proofs.Common.{◌≡◌, ℕ, List, Option, Result, Ok, Err, OnOk, subst, arith}
 use Rattle.byte_streams.specs.declared.drive_fault.DriveFault.{DriveFault, TheVariants.{Read, Write, InputTooLong, Memory}}
 use Rattle.byte_streams.specs.{Lent.Streams, Streams.{ComesTo, IsStreamed}}
 use Rattle.cell_drive.specs.OneRun.{IsStreamedFrom}
@@ -35,3 +35,18 @@ module _ {S : Type 0} (answers : S → ℕ → Option (List ℕ) → List ℕ �
       → IsStreamed {T = T} (Err fault) room answers closes start end before after → IsStreamedFrom {T = U} answers closes first (Err fault) end before after
   streamed_to_fault U fault first same size is =
       subst (λ (s : S). IsStreamedFrom {T = U} answers closes s (Err fault) end before after) same (from_broken U fault (broken_so U fault size is))
+
+  pub streamed_from : {T : Type 0} (outcome : Result T DriveFault) (first : S) → start ≡ first → IsStreamed outcome 65536 answers closes start end before after
+      → IsStreamedFrom answers closes first outcome end before after
+  streamed_from (Ok x) first same is = streamed_to_end x x first same is
+  streamed_from {T} (Err fault) first same is = subst (λ (s : S). IsStreamedFrom {T = T} answers closes s (Err fault) end before after) same (from_broken T fault is)
+
+  pub never_memory : {T : Type 0} (outcome : Result T DriveFault) → IsStreamed outcome 65536 answers closes start end before after → outcome ≡ Err Memory → ⊥
+  never_memory {T} outcome is memory =
+      let so : IsStreamed {T = T} (Err Memory) 65536 answers closes start end before after = subst (λ (o : Result T DriveFault). IsStreamed o 65536 answers closes start end before after) memory is in
+      absurd so.comes_to
+
+-- what holds anyway holds of a success
+pub on_ok : {T E : Type 0} {P : Type 0} (outcome : Result T E) → P → OnOk outcome P
+on_ok (Ok x) p = p
+on_ok (Err e) p = tt

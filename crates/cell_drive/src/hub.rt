@@ -1,12 +1,14 @@
 //! Several cells, in the order of their numbers, that are driven by the lines of one input.
 
-ghost use Rattle.std.specs.Prelude.{◌≡◌, ◌↔◌, [], ◌∷◌, ◌++◌, Err, IfOk, IsTrue, MatchOption, OnOk};
+ghost use Rattle.std.specs.Prelude.{◌≡◌, ◌↔◌, [], ◌∷◌, ◌++◌, vec_len, Err, IfOk, IsTrue, MatchOption, OnOk};
 ghost use Rattle.shop_base.specs.Ends.{HasEnded};
+ghost use Rattle.byte_streams.specs.{declared.rooms.TheConstants.MAX_PIECE, Streams.IsStreamed};
 ghost use Rattle.byte_streams.specs.Lent.{WroteTo, WroteOneTo, streams_of};
 ghost use Rattle.plan_verifier.specs.Accepted.{IsVerified};
 ghost use Rattle.cell_drive.specs.Protocols.{plain_from};
 ghost use Rattle.cell_drive.specs.ManyCells.{AreAllDone, AreVerified, cell_start, hub_start};
-ghost use Rattle.cell_drive.specs.ProtocolCells.{AreDrivesIn, AsksCell, AsksNoCell, hub_of};
+ghost use Rattle.cell_drive.specs.ProtocolCells.{AreDrivesIn, AsksCell, AsksNoCell, HubAnswer, HubCloses, HubOfCells};
+ghost use Rattle.cell_drive.specs.ProtocolCells.{hub_of};
 ghost use Rattle.cell_drive.specs.Numbers.{AnsweredByCells, AreInRun, closing_text, planned_cells};
 
 use crate::protocol::Protocol;
@@ -192,6 +194,30 @@ fn end<D: Dues>(driven: Cells<D>) -> HubEnd
     }
 }
 
+/// Drives these cells to the end of their input.
+fn drive_cells<R: Source, W: BufferedSink>(
+    driven: Cells<TourneyDues>,
+    room: Vec<u8>,
+    reader: &mut R,
+    writer: &mut W,
+) -> Result<HubEnd, DriveFault>
+    requires { vec_len room ≡ MAX_PIECE }
+    ensures { (last : HubOfCells)
+        × IsStreamed result MAX_PIECE HubAnswer HubCloses driven last
+        (streams_of R.Source W.Sink W.pending reader.old writer.old)
+        (streams_of R.Source W.Sink W.pending reader.new writer.new)
+        × IfOk result (λ come_to. IsTrue come_to.all_done ↔ AreAllDone last.cells) }
+{
+    let (mut driven, mut room) = (driven, room);
+    match stream(&mut driven, reader, &mut room, writer) {
+        Ok(()) => Ok(end(driven)),
+        Err(fault) => {
+            drop(driven);
+            Err(fault)
+        }
+    }
+}
+
 /// Drives a cell for each accepted plan, numbered from 0 in their order: takes a report on a cell from each line
 /// of input, and writes the moves that it releases before the next line is answered.
 ///
@@ -226,7 +252,7 @@ pub fn drive_hub_in<R: Source, W: BufferedSink>(
         (streams_of R.Source W.Sink W.pending reader.new writer.new) result }
     ensures untouched { result ≡ Err DriveFault.Memory → (reader.new ≡ reader.old) × (writer.new ≡ writer.old) }
 {
-    let mut room = match reading_room(alloc) {
+    let room = match reading_room(alloc) {
         Ok(room) => room,
         Err(error) => {
             drop(cells);
@@ -234,15 +260,9 @@ pub fn drive_hub_in<R: Source, W: BufferedSink>(
         }
     };
     let controllers: Vec<Controller<TourneyDues>> = begin(alloc, cells)?;
-    let mut driven = Cells {
+    let driven = Cells {
         protocol,
         controllers,
     };
-    match stream(&mut driven, reader, &mut room, writer) {
-        Ok(()) => Ok(end(driven)),
-        Err(fault) => {
-            drop(driven);
-            Err(fault)
-        }
-    }
+    drive_cells(driven, room, reader, writer)
 }

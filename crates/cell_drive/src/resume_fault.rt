@@ -49,7 +49,7 @@ impl From<AuditFault> for ResumeFault {
     }
 }
 
-/// A want of memory for the rest of a run.
+/// Memory that ran out for the rest of a run.
 #[derive(Drop)]
 pub(crate) struct AllocFailure {
     pub(crate) fault: RestFault,

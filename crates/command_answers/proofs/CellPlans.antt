@@ -1,33 +1,74 @@
 -- Plans that are loaded one after another.
-use Rattle.std.proofs.Common.{◌≡◌, ℕ, ◌+◌, ◌<◌, List, [], ◌∷◌, Option, Result, length, subst, sym, ap, ◌∙◌, map, drop, get_or, string_bytes, String, Global}
+use Rattle.std.proofs.Common.{◌≡◌, ℕ, ◌+◌, ◌<◌, List, [], ◌∷◌, ◌++◌, Option, None, Some, Result, Ok, Err, length, inl, inr, refl, subst, sym, ap, ◌∙◌, map, drop, get_or, string_bytes, String, Global}
 use Rattle.std.proofs.lemmas.List.{at_drop_more}
 use Rattle.plan_verifier.specs.Accepted.{VerifiedPlan}
 use Rattle.command_answers.specs.declared.cells.Cells.{Cells}
 use Rattle.command_answers.specs.declared.command_fault.CommandFault.{CommandFault}
 use Rattle.command_answers.specs.declared.loading.Loaded.{Loaded}
 use Rattle.command_answers.specs.Checks.{accepted_in}
-use Rattle.command_answers.specs.Steps.{GoesOn}
-use Rattle.command_answers.specs.Cells.{AfterPlan, LoadsOne, LoadsEach}
+use Rattle.command_answers.specs.Cells.{AddsCell, AfterPlan, IsAdded, LoadsOne, LoadsEach}
 
 -- what the plans that are left come to, all plans come to
 abbrev pub Carries : {W : Type 0} → (W → List ℕ → Result (List ℕ) CommandFault → W → Type 0) → List ℕ → Option (List ℕ) → List VerifiedPlan → List (List ℕ) → W → List (List ℕ) → W → Type 0
 Carries {W} gives text name cells left now all start = (outcome : Result Cells CommandFault) (after : W) → LoadsEach gives text name cells left now outcome after
     → LoadsEach gives text name [] all start outcome after
 
--- one plan more is loaded, and then this follows
-pub one_more : {W : Type 0} (gives : W → List ℕ → Result (List ℕ) CommandFault → W → Type 0) (text : List ℕ) (name : Option (List ℕ)) (cells : List VerifiedPlan)
-    (paths : List (String Global)) (i : ℕ) (now : W) (all : List (List ℕ)) (start : W) → Carries gives text name cells (map string_bytes (drop i paths)) now all start
-    → (item : String Global) → i < length paths → item ≡ get_or paths i item → (path : List ℕ) → path ≡ string_bytes item
-    → (came loaded : Result Loaded CommandFault) (mid : W) → came ≡ loaded → LoadsOne gives text name path now came mid → (outcome : Result Cells CommandFault) (after : W)
-    → GoesOn (λ l. AfterPlan cells (λ more. LoadsEach gives text name more (map string_bytes (drop (i + 1) paths))) (accepted_in l)) loaded mid outcome after
-    → LoadsEach gives text name [] all start outcome after
-one_more gives text name cells paths i now all start carries item inside is path same_path came loaded mid same one outcome after on =
-    let left : drop i paths ≡ item ∷ drop (i + 1) paths = at_drop_more (λ x. x) paths i item inside ∙ ap (λ x. x ∷ drop (i + 1) paths) (sym is) in
-    carries outcome after (subst (λ ps. LoadsEach gives text name cells (map string_bytes ps) now outcome after) (sym left)
-    (record { came = loaded; mid = mid; is = subst (λ p. LoadsOne gives text name p now loaded mid) same_path (subst (λ r. LoadsOne gives text name path now r mid) same one); goes_on = on }))
+-- an accepted plan stands after these, and then there is the rest
+after_none : {W : Type 0} (cells more : List VerifiedPlan) (rest : List VerifiedPlan → W → Result Cells CommandFault → W → Type 0) (asked : Result VerifiedPlan Loaded) (mid : W)
+    (outcome : Result Cells CommandFault) (after : W) → IsAdded cells asked None more → rest more mid outcome after → AfterPlan cells rest asked mid outcome after
+after_none cells more rest (Ok v) mid outcome after same so = inl (subst (λ cs. rest cs mid outcome after) same so)
+after_none cells more rest (Err other) mid outcome after wrong so = absurd wrong
 
--- what follows a plan that was asked for whether it is accepted
-pub after_asked : {W : Type 0} (cells : List VerifiedPlan) (rest : List VerifiedPlan → W → Result Cells CommandFault → W → Type 0) (loaded : Loaded) (asked answered : Result VerifiedPlan Loaded)
-    (mid : W) (outcome : Result Cells CommandFault) (after : W) → asked ≡ accepted_in loaded → asked ≡ answered → AfterPlan cells rest answered mid outcome after
-    → AfterPlan cells rest (accepted_in loaded) mid outcome after
-after_asked cells rest loaded asked answered mid outcome after is same follows = subst (λ r. AfterPlan cells rest r mid outcome after) (sym same ∙ is) follows
+-- any other ends all
+after_some : {W : Type 0} (cells more : List VerifiedPlan) (rest : List VerifiedPlan → W → Result Cells CommandFault → W → Type 0) (asked : Result VerifiedPlan Loaded) (mid : W)
+    (outcome : Result Cells CommandFault) → IsAdded cells asked (Some outcome) more → AfterPlan cells rest asked mid outcome mid
+after_some cells more rest (Ok v) mid outcome memory = inr (memory, refl)
+after_some cells more rest (Err other) mid outcome line = (line, refl)
+
+module _ {W : Type 0} (gives : W → List ℕ → Result (List ℕ) CommandFault → W → Type 0) (text : List ℕ) (name : Option (List ℕ)) (cells : List VerifiedPlan) where
+  -- what comes of a plan that is loaded
+  pub one_added : (path : List ℕ) (before mid : W) (came : Result Loaded CommandFault) (loaded : Loaded) (ended : Option (Result Cells CommandFault)) (more : List VerifiedPlan) → came ≡ Ok loaded
+      → LoadsOne gives text name path before came mid → IsAdded cells (accepted_in loaded) ended more → AddsCell gives text name cells path before ended more mid
+  one_added path before mid came loaded None more is one added = λ paths outcome after so. record {
+    came = Ok loaded;
+    mid = mid;
+    is = subst (λ (r : Result Loaded CommandFault). LoadsOne gives text name path before r mid) is one;
+    goes_on = after_none cells more (λ cs. LoadsEach gives text name cs paths) (accepted_in loaded) mid outcome after added so;
+  }
+  one_added path before mid came loaded (Some outcome) more is one added = λ paths. record {
+    came = Ok loaded;
+    mid = mid;
+    is = subst (λ (r : Result Loaded CommandFault). LoadsOne gives text name path before r mid) is one;
+    goes_on = after_some cells more (λ cs. LoadsEach gives text name cs paths) (accepted_in loaded) mid outcome added;
+  }
+
+  -- what comes of one that isn't
+  pub none_added : (path : List ℕ) (before mid : W) (came : Result Loaded CommandFault) (fault : CommandFault) → came ≡ Err fault → LoadsOne gives text name path before came mid
+      → AddsCell gives text name cells path before (Some (Err fault)) cells mid
+  none_added path before mid came fault is one = λ paths. record {
+    came = Err fault;
+    mid = mid;
+    is = subst (λ (r : Result Loaded CommandFault). LoadsOne gives text name path before r mid) is one;
+    goes_on = (refl, refl);
+  }
+
+  module _ (paths : List (String Global)) (i : ℕ) (now : W) (all : List (List ℕ)) (start : W) (carries : Carries gives text name cells (map string_bytes (drop i paths)) now all start)
+      (item : String Global) (inside : i < length paths) (is : item ≡ get_or paths i item) (path : List ℕ) (same_path : path ≡ string_bytes item)
+      (ended : Option (Result Cells CommandFault)) (more : List VerifiedPlan) (mid : W) (adds : AddsCell gives text name cells path now ended more mid) where
+    -- what the plans from this one on come to, all plans come to
+    from_here : (outcome : Result Cells CommandFault) (after : W) → LoadsEach gives text name cells (path ∷ map string_bytes (drop (i + 1) paths)) now outcome after
+        → LoadsEach gives text name [] all start outcome after
+    from_here outcome after so =
+        let left : drop i paths ≡ item ∷ drop (i + 1) paths = at_drop_more (λ x. x) paths i item inside ∙ ap (λ x. x ∷ drop (i + 1) paths) (sym is) in
+        carries outcome after (subst (λ ps. LoadsEach gives text name cells (map string_bytes ps) now outcome after) (sym left)
+        (subst (λ p. LoadsEach gives text name cells (p ∷ map string_bytes (drop (i + 1) paths)) now outcome after) same_path so))
+
+    -- so do those after this one
+    pub carried_on : ended ≡ None → Carries gives text name more (map string_bytes (drop (i + 1) paths)) mid all start
+    carried_on none = λ outcome after so. from_here outcome after
+        (subst (λ (e : Option (Result Cells CommandFault)). AddsCell gives text name cells path now e more mid) none adds (map string_bytes (drop (i + 1) paths)) outcome after so)
+
+    -- this one ends all
+    pub ended_here : (outcome : Result Cells CommandFault) → ended ≡ Some outcome → LoadsEach gives text name [] all start outcome mid
+    ended_here outcome some = from_here outcome mid
+        (subst (λ (e : Option (Result Cells CommandFault)). AddsCell gives text name cells path now e more mid) some adds (map string_bytes (drop (i + 1) paths)))

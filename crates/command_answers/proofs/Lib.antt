@@ -15,3 +15,4 @@ pub mod BoundTexts
 pub mod DecideLines
 pub mod DecideRestLines
 pub mod Unnamed
+pub mod ShapedPlans

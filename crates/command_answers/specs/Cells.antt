@@ -1,5 +1,5 @@
 -- What loading the plans of several cells comes to.
-use Rattle.std.specs.Prelude.{◌≡◌, ◌⊎◌, ◌++◌, ◌∷◌, [], ℕ, List, map, Option, Result, Ok, Err, String, string_bytes, length, codes, decimal}
+use Rattle.std.specs.Prelude.{◌≡◌, ◌⊎◌, ◌++◌, ◌∷◌, [], ℕ, List, map, Option, None, Some, Result, Ok, Err, String, string_bytes, length, codes, decimal}
 use Rattle.plan_verifier.specs.Accepted.{VerifiedPlan}
 use Rattle.command_answers.specs.declared.answer.Answer.{Answer}
 use Rattle.command_answers.specs.declared.cells.Cells.{Cells}
@@ -31,6 +31,13 @@ abbrev pub AfterPlan : {W : Type 0} → List VerifiedPlan → (List VerifiedPlan
 AfterPlan cells rest (Ok v) before outcome after = rest (cells ++ v ∷ []) before outcome after ⊎ ((outcome ≡ Err Memory) × (after ≡ before))
 AfterPlan cells rest (Err other) before outcome after = IsCellLine (length cells) other outcome × (after ≡ before)
 
+-- a plan that was asked for whether it is accepted stands after these, unless memory ran out; the line of any other ends all
+abbrev pub IsAdded : List VerifiedPlan → Result VerifiedPlan Loaded → Option (Result Cells CommandFault) → List VerifiedPlan → Type 0
+IsAdded cells (Ok v) None more = more ≡ cells ++ v ∷ []
+IsAdded cells (Ok v) (Some outcome) more = outcome ≡ Err Memory
+IsAdded cells (Err other) None more = ⊥
+IsAdded cells (Err other) (Some outcome) more = IsCellLine (length cells) other outcome
+
 -- the paths, each as its bytes
 abbrev pub paths_of : {A : Type 0} → List (String A) → List (List ℕ)
 paths_of paths = map string_bytes paths
@@ -45,6 +52,12 @@ module _ {W : Type 0} (gives : W → List ℕ → Result (List ℕ) CommandFault
   LoadsEach text name cells [] before outcome after = AreAccepted cells outcome × (after ≡ before)
   LoadsEach text name cells (path ∷ paths) before outcome after =
       Then (LoadsOne text name path) (λ loaded. AfterPlan cells (λ more. LoadsEach text name more paths) (accepted_in loaded)) before outcome after
+
+  -- the plan of a path is loaded after these: what the next ones come to then, they come to with it; or this comes of all, whatever the next ones are
+  abbrev pub AddsCell : List ℕ → Option (List ℕ) → List VerifiedPlan → List ℕ → W → Option (Result Cells CommandFault) → List VerifiedPlan → W → Type 0
+  AddsCell text name cells path before None more mid = (paths : List (List ℕ)) (outcome : Result Cells CommandFault) (after : W)
+      → LoadsEach text name more paths mid outcome after → LoadsEach text name cells (path ∷ paths) before outcome after
+  AddsCell text name cells path before (Some outcome) more after = (paths : List (List ℕ)) → LoadsEach text name cells (path ∷ paths) before outcome after
 
   -- the instance's file is asked for, then each plan's once the plan before it is accepted
   abbrev pub LoadsCells : List ℕ → Option (List ℕ) → List (List ℕ) → W → Result Cells CommandFault → W → Type 0

@@ -35,3 +35,8 @@ pub record IsNotShapedLine (p : PlannedShop) (answer : Answer) : Type 0 where
 -- the line of a plan's shape
 abbrev pub IsShapeLine : PlannedShop → Answer → Type 0
 IsShapeLine p answer = IsShapedLine p answer ⊎ IsNotShapedLine p answer
+
+-- the line of what a plan is found to be
+abbrev pub IsFoundLine : Result PlannedShop ShapeFault → Answer → Type 0
+IsFoundLine (Ok shaped) answer = (answer.text.items ≡ codes "shaped\n") × (answer.status ≡ 0)
+IsFoundLine (Err fault) answer = IsRefusedLine answer

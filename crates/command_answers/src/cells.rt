@@ -2,10 +2,12 @@
 
 ghost use Rattle.std.specs.Prelude.{[]};
 ghost use Rattle.std.specs.Option.{option_copied};
-ghost use Rattle.command_answers.specs.Cells.{IsCellLine, paths_of, LoadsOne, LoadsEach, LoadsCells};
+ghost use Rattle.command_answers.specs.Checks.{accepted_in};
+ghost use Rattle.command_answers.specs.Cells.{IsCellLine, paths_of, AddsCell, IsAdded, LoadsOne, LoadsEach, LoadsCells};
 
 use crate::answer::{Answer, Outcome};
 use crate::checks::loaded_answer;
+use crate::command_fault::CommandFault;
 use crate::inputs::ParsedInputs;
 use crate::lines::push_fact;
 use crate::loading::{Loaded, judged};
@@ -50,17 +52,50 @@ fn load_each<T: Texts>(
 {
     let mut cells = Vec::new(alloc);
     for path in plans {
-        let loaded = load_one(alloc, texts, text, name, path.as_str())?;
-        match loaded.accepted() {
-            Ok(verified) => cells.push(verified).map_err(AllocError::from)?,
-            Err(other) => {
-                let line = cell_line(alloc, cells.len() as u64, &other);
-                drop(other);
-                return line;
+        match add_cell(alloc, texts, text, name, path.as_str(), &mut cells) {
+            None => {}
+            Some(ended) => {
+                drop(cells);
+                return ended;
             }
         }
     }
     Ok(Cells::Accepted(cells))
+}
+
+/// Adds the plan of a file, if it is accepted, for the instance in the text; else there is what ends all.
+fn add_cell<T: Texts>(
+    alloc: Global,
+    texts: &mut T,
+    text: &[u8],
+    name: Option<&[u8]>,
+    path: &str,
+    cells: &mut Vec<Verified>,
+) -> Option<Outcome<Cells>>
+    ensures { AddsCell T.gives text.now (option_copied name.entry) cells.old.items path.now
+        texts.old result cells.new.items texts.new }
+{
+    match load_one(alloc, texts, text, name, path) {
+        Ok(loaded) => add_loaded(alloc, loaded, cells),
+        Err(fault) => Some(Err(fault)),
+    }
+}
+
+/// Adds a plan, if it is accepted; else there is its line, which ends all.
+fn add_loaded(alloc: Global, loaded: Loaded, cells: &mut Vec<Verified>) -> Option<Outcome<Cells>>
+    ensures { IsAdded cells.old.items (accepted_in loaded) result cells.new.items }
+{
+    match loaded.accepted() {
+        Ok(verified) => match cells.push(verified).map_err(AllocError::from) {
+            Ok(()) => None,
+            Err(error) => Some(Err(CommandFault::from(error))),
+        },
+        Err(other) => {
+            let line = cell_line(alloc, cells.len() as u64, &other);
+            drop(other);
+            Some(line)
+        }
+    }
 }
 
 /// The verdict on the plan of a file, for the instance in the text.

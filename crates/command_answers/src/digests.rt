@@ -5,9 +5,9 @@ ghost use Rattle.command_answers.specs.Digests.{digest_line};
 ghost use Rattle.command_answers.specs.Commands.{RunsDigest};
 
 use crate::answer::{Answer, Answered, GOOD};
-use crate::inputs::{InputPaths, read_inputs};
+use crate::inputs::{InputPaths, shape_files};
 use crate::lines::line_answer;
-use crate::shapes::not_shaped_answer;
+use crate::shapes::unshaped_answer;
 use crate::texts::Texts;
 use event_lines::put_digits;
 use plan_digest::run_digits;
@@ -23,13 +23,13 @@ const ROOM: usize = 44;
 pub fn digest_answer<T: Texts>(alloc: Global, texts: &mut T, pair: &InputPaths<'_>) -> Answered
     ensures { RunsDigest T.gives pair.now texts.old result texts.new }
 {
-    match read_inputs(alloc, texts, pair)?.shaped() {
+    match shape_files(alloc, texts, pair)? {
         Ok(shaped) => {
             let answer = digits_answer(alloc, &shaped);
             drop(shaped);
             Ok(answer?)
         }
-        Err(fault) => Ok(not_shaped_answer(alloc, fault)?),
+        Err(fault) => unshaped_answer(alloc, fault),
     }
 }
 

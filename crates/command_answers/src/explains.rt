@@ -11,10 +11,10 @@ ghost use Rattle.command_answers.specs.Commands.{IfThere, RunsExplain, WithNames
 use crate::answer::{Answer, Answered};
 use crate::asked_job::{absent_job, no_job_answer};
 use crate::checks::status_of;
-use crate::inputs::{Files, read_inputs};
+use crate::inputs::{Files, shape_files};
 use crate::loading::{Loaded, load};
 use crate::naming::names_of;
-use crate::shapes::not_shaped_answer;
+use crate::shapes::{not_shaped_answer, unshaped_answer};
 use crate::texts::Texts;
 use people_names::Names;
 use plan_verifier::verify;
@@ -43,9 +43,9 @@ pub fn explain_answer<T: Texts>(
 ) -> Answered
     ensures { RunsExplain T.gives files.now.pair (option_copied files.now.names) job texts.old result texts.new }
 {
-    match read_inputs(alloc, texts, &files.pair)?.shaped() {
+    match shape_files(alloc, texts, &files.pair)? {
         Ok(shaped) => shaped_explained(alloc, texts, shaped, files.names, job),
-        Err(fault) => Ok(not_shaped_answer(alloc, fault)?),
+        Err(fault) => unshaped_answer(alloc, fault),
     }
 }
 

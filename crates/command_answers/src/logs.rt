@@ -8,10 +8,10 @@ ghost use Rattle.command_answers.specs.Commands.{RunsLog, WithNamesAndLog};
 
 use crate::answer::{Answer, Answered, GOOD};
 use crate::command_fault::Unanswered;
-use crate::inputs::{Files, read_inputs};
+use crate::inputs::{Files, shape_files};
 use crate::lines::{log_refused, push_fact};
 use crate::naming::names_and_log;
-use crate::shapes::not_shaped_answer;
+use crate::shapes::unshaped_answer;
 use crate::texts::Texts;
 use people_names::Names;
 use run_gantt::gantt_for;
@@ -39,13 +39,13 @@ pub fn log_answer<T: Texts>(
 ) -> Answered
     ensures { RunsLog T.gives wanted files.now.pair (option_copied files.now.names) log.now texts.old result texts.new }
 {
-    match read_inputs(alloc, texts, &files.pair)?.shaped() {
+    match shape_files(alloc, texts, &files.pair)? {
         Ok(shaped) => {
             let answer = shaped_log(alloc, texts, &shaped, files.names, log, wanted);
             drop(shaped);
             answer
         }
-        Err(fault) => Ok(not_shaped_answer(alloc, fault)?),
+        Err(fault) => unshaped_answer(alloc, fault),
     }
 }
 

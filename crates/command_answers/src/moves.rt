@@ -14,11 +14,11 @@ ghost use Rattle.command_answers.specs.Commands.{RunsMoves, RunsRestMoves, WithN
 
 use crate::answer::{Answer, Answered, Outcome};
 use crate::command_fault::{CommandFault, Unanswered};
-use crate::inputs::{Ahead, Files, read_inputs};
+use crate::inputs::{Ahead, Files, shape_files};
 use crate::logs::log_fault_answer;
 use crate::naming::{names_and_log, names_of};
 use crate::rests::{PlanAnswer, answer_rest, past_answer, present_at};
-use crate::shapes::not_shaped_answer;
+use crate::shapes::unshaped_answer;
 use crate::texts::Texts;
 use cell_tables::WorkCell;
 use people_names::Names;
@@ -33,9 +33,9 @@ use std::alloc::Global;
 pub fn moves_answer<T: Texts>(alloc: Global, texts: &mut T, files: &Files<'_>) -> Answered
     ensures { RunsMoves T.gives files.now.pair (option_copied files.now.names) texts.old result texts.new }
 {
-    match read_inputs(alloc, texts, &files.pair)?.shaped() {
+    match shape_files(alloc, texts, &files.pair)? {
         Ok(shaped) => shaped_moves(alloc, texts, shaped, files.names),
-        Err(fault) => Ok(not_shaped_answer(alloc, fault)?),
+        Err(fault) => unshaped_answer(alloc, fault),
     }
 }
 
@@ -68,9 +68,9 @@ pub fn rest_moves_answer<T: Texts>(alloc: Global, texts: &mut T, ahead: &Ahead<'
     ensures { RunsRestMoves T.gives ahead.now.at ahead.now.files.pair
         (option_copied ahead.now.files.names) ahead.now.log.now texts.old result texts.new }
 {
-    match read_inputs(alloc, texts, &ahead.files.pair)?.shaped() {
+    match shape_files(alloc, texts, &ahead.files.pair)? {
         Ok(shaped) => shaped_rest_moves(alloc, texts, shaped, ahead),
-        Err(fault) => Ok(not_shaped_answer(alloc, fault)?),
+        Err(fault) => unshaped_answer(alloc, fault),
     }
 }
 

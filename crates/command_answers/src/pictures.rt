@@ -13,12 +13,13 @@ ghost use Rattle.run_gantt.specs.LeavingsSoFar.{leavings_so_far};
 ghost use Rattle.plan_explain.specs.RestVerdicts.{IsRestJudged};
 ghost use Rattle.command_answers.specs.Steps.{IsOrMemory};
 ghost use Rattle.command_answers.specs.Commands.{WithNames, WithNamesAndLog};
-ghost use Rattle.command_answers.specs.Pictures.{DrawsLog, DrawsRest, DrawsSchedule, IsCellDrawn, IsLogDrawn};
+ghost use Rattle.command_answers.specs.Shapes.{IsRefusedLine};
+ghost use Rattle.command_answers.specs.Pictures.{DrawsLog, DrawsRest, DrawsSchedule, IsCellDrawn, IsLineAlone, IsLogDrawn};
 ghost use Rattle.command_answers.specs.Pictures.{IsPlanDrawn, IsRestDrawing, IsRestDrawn, IsRunPicture, IsVerdictDrawn};
 ghost use Rattle.command_answers.specs.Pictures.{line_at, log_sheet, run_head, run_sheet};
 
 use crate::answer::{Answer, GOOD, Outcome, REFUSED};
-use crate::inputs::{Ahead, Files, read_inputs};
+use crate::inputs::{Ahead, Files, shape_files};
 use crate::logs::log_fault_answer;
 use crate::naming::{names_and_log, names_of};
 use crate::rest_improves::cycle_answer;
@@ -32,7 +33,7 @@ use plan_schedule::{DrawnRun, drawn_run};
 use plan_verifier::{Judged, Why, verify_after};
 use run_log::{Audit, audit, run_of_log};
 use run_picture::{DrawnVisit, Head, Picture, Sheet, last_moment, late_leavings, lateness, latest};
-use shop_base::{Moment, Shaped};
+use shop_base::{Moment, ShapeFault, Shaped};
 use std::alloc::{AllocError, Global};
 
 /// What a command draws.
@@ -59,14 +60,21 @@ pub fn log_picture<T: Texts>(
 ) -> Outcome<Drawn>
     ensures { DrawsLog T.gives files.now.pair (option_copied files.now.names) log.now texts.old result texts.new }
 {
-    match read_inputs(alloc, texts, &files.pair)?.shaped() {
+    match shape_files(alloc, texts, &files.pair)? {
         Ok(shaped) => {
             let drawn = shaped_log(alloc, texts, &shaped, files.names, log);
             drop(shaped);
             drawn
         }
-        Err(fault) => Ok(Drawn::Line(not_shaped_answer(alloc, fault)?)),
+        Err(fault) => unshaped_drawn(alloc, fault),
     }
+}
+
+/// The line of a plan that isn't well shaped, with its first fault.
+fn unshaped_drawn(alloc: Global, fault: ShapeFault) -> Outcome<Drawn>
+    ensures { IsOrMemory (IsLineAlone IsRefusedLine) result }
+{
+    Ok(Drawn::Line(not_shaped_answer(alloc, fault)?))
 }
 
 /// Draws the log of a file by a plan, with the names of another if there is one.
@@ -135,9 +143,9 @@ fn log_sheet(shaped: &Shaped, run: &Audit) -> Sheet
 pub fn schedule_picture<T: Texts>(alloc: Global, texts: &mut T, files: &Files<'_>) -> Outcome<Drawn>
     ensures { DrawsSchedule T.gives files.now.pair (option_copied files.now.names) texts.old result texts.new }
 {
-    match read_inputs(alloc, texts, &files.pair)?.shaped() {
+    match shape_files(alloc, texts, &files.pair)? {
         Ok(shaped) => shaped_drawn(alloc, texts, shaped, files.names),
-        Err(fault) => Ok(Drawn::Line(not_shaped_answer(alloc, fault)?)),
+        Err(fault) => unshaped_drawn(alloc, fault),
     }
 }
 
@@ -194,9 +202,9 @@ pub fn rest_picture<T: Texts>(alloc: Global, texts: &mut T, ahead: &Ahead<'_>) -
     ensures { DrawsRest T.gives ahead.now.at ahead.now.files.pair
         (option_copied ahead.now.files.names) ahead.now.log.now texts.old result texts.new }
 {
-    match read_inputs(alloc, texts, &ahead.files.pair)?.shaped() {
+    match shape_files(alloc, texts, &ahead.files.pair)? {
         Ok(shaped) => shaped_rest(alloc, texts, shaped, ahead),
-        Err(fault) => Ok(Drawn::Line(not_shaped_answer(alloc, fault)?)),
+        Err(fault) => unshaped_drawn(alloc, fault),
     }
 }
 

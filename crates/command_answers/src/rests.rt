@@ -14,11 +14,11 @@ ghost use Rattle.plan_verifier.specs.Seen.{lent};
 
 use crate::answer::{Answer, Answered, GOOD, REFUSED};
 use crate::asked_job::{absent_job, no_job_answer};
-use crate::inputs::{Ahead, read_inputs};
+use crate::inputs::{Ahead, shape_files};
 use crate::lines::push_fact;
 use crate::logs::log_fault_answer;
 use crate::naming::names_and_log;
-use crate::shapes::not_shaped_answer;
+use crate::shapes::unshaped_answer;
 use crate::texts::Texts;
 use cell_tables::WorkCell;
 use people_names::Names;
@@ -66,9 +66,9 @@ pub fn rest_answer<T: Texts>(
     ensures { RunsRest T.gives wanted ahead.now.at ahead.now.files.pair
         (option_copied ahead.now.files.names) ahead.now.log.now texts.old result texts.new }
 {
-    match read_inputs(alloc, texts, &ahead.files.pair)?.shaped() {
+    match shape_files(alloc, texts, &ahead.files.pair)? {
         Ok(shaped) => shaped_rest(alloc, texts, shaped, ahead, wanted),
-        Err(fault) => Ok(not_shaped_answer(alloc, fault)?),
+        Err(fault) => unshaped_answer(alloc, fault),
     }
 }
 

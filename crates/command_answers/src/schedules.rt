@@ -8,9 +8,9 @@ ghost use Rattle.command_answers.specs.Commands.{RunsSchedule, WithNames};
 
 use crate::answer::{Answer, Answered};
 use crate::checks::status_of;
-use crate::inputs::{Files, read_inputs};
+use crate::inputs::{Files, shape_files};
 use crate::naming::names_of;
-use crate::shapes::not_shaped_answer;
+use crate::shapes::unshaped_answer;
 use crate::texts::Texts;
 use people_names::Names;
 use plan_verifier::verify;
@@ -22,9 +22,9 @@ use std::alloc::{AllocError, Global};
 pub fn schedule_answer<T: Texts>(alloc: Global, texts: &mut T, files: &Files<'_>) -> Answered
     ensures { RunsSchedule T.gives files.now.pair (option_copied files.now.names) texts.old result texts.new }
 {
-    match read_inputs(alloc, texts, &files.pair)?.shaped() {
+    match shape_files(alloc, texts, &files.pair)? {
         Ok(shaped) => shaped_scheduled(alloc, texts, shaped, files.names),
-        Err(fault) => Ok(not_shaped_answer(alloc, fault)?),
+        Err(fault) => unshaped_answer(alloc, fault),
     }
 }
 

@@ -1,14 +1,15 @@
 //! The command `shape`.
 
 ghost use Rattle.std.specs.Prelude.{IfOk};
-ghost use Rattle.command_answers.specs.Shapes.{IsRefusedLine};
+ghost use Rattle.command_answers.specs.Shapes.{IsFoundLine, IsRefusedLine};
+ghost use Rattle.command_answers.specs.Steps.{IsOrMemory};
 ghost use Rattle.command_answers.specs.Commands.{RunsShape};
 
 use crate::answer::{Answer, Answered, GOOD};
-use crate::inputs::{InputPaths, read_inputs};
+use crate::inputs::{InputPaths, shape_files};
 use crate::lines::{fault_answer, line_answer};
 use crate::texts::Texts;
-use shop_base::ShapeFault;
+use shop_base::{ShapeFault, Shaped};
 use std::alloc::{AllocError, Global};
 
 /// Whether the plan of a file is well shaped for the instance of another, and if not, its first fault. The words
@@ -16,12 +17,20 @@ use std::alloc::{AllocError, Global};
 pub fn shape_answer<T: Texts>(alloc: Global, texts: &mut T, pair: &InputPaths<'_>) -> Answered
     ensures { RunsShape T.gives pair.now texts.old result texts.new }
 {
-    match read_inputs(alloc, texts, pair)?.shaped() {
+    let found = shape_files(alloc, texts, pair)?;
+    Ok(found_answer(alloc, found)?)
+}
+
+/// The line of a well-shaped plan, or of one that isn't, with its first fault.
+fn found_answer(alloc: Global, found: Result<Shaped, ShapeFault>) -> Result<Answer, AllocError>
+    ensures { IfOk result (IsFoundLine found) }
+{
+    match found {
         Ok(shaped) => {
             drop(shaped);
-            Ok(line_answer(alloc, b"shaped\n", GOOD)?)
+            line_answer(alloc, b"shaped\n", GOOD)
         }
-        Err(fault) => Ok(not_shaped_answer(alloc, fault)?),
+        Err(fault) => not_shaped_answer(alloc, fault),
     }
 }
 
@@ -30,4 +39,11 @@ pub(crate) fn not_shaped_answer(alloc: Global, fault: ShapeFault) -> Result<Answ
     ensures { IfOk result IsRefusedLine }
 {
     fault_answer(alloc, b"not shaped ", fault)
+}
+
+/// The same, where out of memory is a fault of the command.
+pub(crate) fn unshaped_answer(alloc: Global, fault: ShapeFault) -> Answered
+    ensures { IsOrMemory IsRefusedLine result }
+{
+    Ok(not_shaped_answer(alloc, fault)?)
 }
