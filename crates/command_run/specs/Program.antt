@@ -20,7 +20,7 @@ use Rattle.command_words.specs.Choice.{IsChoiceOf, IsWithin, NamesOneOf, reasons
 use Rattle.command_answers.specs.declared.answer.Answer.{Answer}
 use Rattle.command_answers.specs.declared.cells.Cells.{Cells}
 use Rattle.command_answers.specs.declared.command_fault.CommandFault.{CommandFault}
-use Rattle.command_answers.specs.declared.command_fault.CommandFault.TheVariants.{Read, Write, InputTooLong, LogInUse, Memory as Wanting}
+use Rattle.command_answers.specs.declared.command_fault.CommandFault.TheVariants.{Read, Write, InputTooLong, LogInUse, Memory as OutOfMemory}
 use Rattle.command_answers.specs.declared.loading.Loaded.{Loaded}
 use Rattle.command_answers.specs.declared.logs.LogAnswer.TheVariants.{Numbers}
 use Rattle.command_answers.specs.declared.rests.PlanAnswer.TheVariants.{Verdict, Reasons}
@@ -242,7 +242,7 @@ module _ {W : Type 0} (gives : W → List ℕ → Result (List ℕ) CommandFault
   Follows (Err (Usage false text)) before status after log =
       WasPrinted (string_bytes text) before.errors after.errors × (status ≡ 2) × (after.texts ≡ before.texts) × (after.streams ≡ before.streams) × NoLog before after log
   Follows (Err Memory) before status after log =
-      Ends (Err Wanting) before.streams.output after.streams.output before.errors after.errors status
+      Ends (Err OutOfMemory) before.streams.output after.streams.output before.errors after.errors status
       × (after.texts ≡ before.texts) × (after.streams.input ≡ before.streams.input) × NoLog before after log
 
   -- the program: the words are read, and what they ask for is done; and what became of the log, if one is held

@@ -108,7 +108,7 @@ pub(crate) fn unrecovered_answer(alloc: Global, fault: ResumeFault) -> Answered
         ResumeFault::Refused(shaped, why) => {
             line_answer(alloc, Loaded::Judged(Verdict::Refused(shaped, why)))
         }
-        fault @ ResumeFault::Memory => Err(CommandFault::from(Wanting { fault })),
+        fault @ ResumeFault::Memory => Err(CommandFault::from(RecoverAllocFailure { fault })),
     }
 }
 
@@ -122,13 +122,13 @@ fn rest_answer(alloc: Global, end: Result<RestEnd, DriveFault>) -> Answered
     }
 }
 
-/// A want of memory for recovering a run.
+/// Memory that ran out while a run was recovered.
 #[derive(Drop)]
-struct Wanting {
+struct RecoverAllocFailure {
     fault: ResumeFault,
 }
 
-impl Model for Wanting {
+impl Model for RecoverAllocFailure {
     ghost use Rattle.std.specs.Prelude.{◌≡◌};
     ghost use Rattle.cell_drive.specs.declared.resume_fault.ResumeFault.{ResumeFault};
     ghost use Rattle.cell_drive.specs.declared.resume_fault.ResumeFault.TheVariants.{Memory};
@@ -140,13 +140,13 @@ impl Model for Wanting {
     ghost invariant = { λ w. w.fault ≡ Memory };
 }
 
-impl From<Wanting> for CommandFault {
+impl From<RecoverAllocFailure> for CommandFault {
     ghost use Rattle.std.specs.Prelude.{◌≡◌};
     ghost use Rattle.command_answers.specs.declared.command_fault.CommandFault.TheVariants.{Memory};
 
     ghost from_gives = { λ _ fault. fault ≡ Memory };
 
-    fn from(cause: Wanting) -> CommandFault {
+    fn from(cause: RecoverAllocFailure) -> CommandFault {
         match cause.fault {
             ResumeFault::Memory => CommandFault::Memory,
             ResumeFault::Log(_) | ResumeFault::Past { last: _ } | ResumeFault::Refused(_, _) =>
