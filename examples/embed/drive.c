@@ -168,7 +168,7 @@ static void report_again(struct floor *floor, const char *line, const char *end)
 }
 
 /* Reports again what stands whole in the log. */
-static void take_up(struct floor *floor, struct text log) {
+static void recover(struct floor *floor, struct text log) {
   const char *line = (const char *)log.bytes, *behind = line + log.length, *end;
   while ((end = memchr(line, '\n', (size_t)(behind - line)))) {
     if (after_word(line, "report")) report_again(floor, line, end);
@@ -177,7 +177,7 @@ static void take_up(struct floor *floor, struct text log) {
 }
 
 /* Reports what ends next. */
-static void go_on(struct floor *floor) {
+static void continue_run(struct floor *floor) {
   uint64_t soonest = NEVER, now = 0;
   uint32_t next = 0;
   bool is_job = true;
@@ -232,12 +232,12 @@ int main(int argc, char **argv) {
   open_floor(&floor);
   if (argc > 4) {
     struct text log = whole(argv[4]);
-    take_up(&floor, log);
+    recover(&floor, log);
     free(log.bytes);
   }
   bool done = false, punctual = false;
   uint64_t now = 0;
-  while (cellplan_cell_is_done(&floor.cell, &done) == CELLPLAN_GOOD && !done) go_on(&floor);
+  while (cellplan_cell_is_done(&floor.cell, &done) == CELLPLAN_GOOD && !done) continue_run(&floor);
   cellplan_cell_now(&floor.cell, &now);
   cellplan_cell_punctual(&floor.cell, &punctual);
   printf("done %" PRIu64 "\n", now);

@@ -37,8 +37,8 @@ abbrev pub IsReplayedIn : {T : Type 0} → Protocol → Recovered → SinkState 
 IsReplayedIn protocol recovered = IsReplayWritten (replay_text protocol recovered)
 
 -- behind the events, which were written again, the run was driven on by this protocol to this end; or that was broken off by this fault
-abbrev pub IsGoneOnIn : Protocol → Recovered → Streams → Streams → Result RestEnd DriveFault → Type 0
-IsGoneOnIn protocol recovered = WritesAndGoesOn protocol (due_text recovered) recovered
+abbrev pub IsContinuedIn : Protocol → Recovered → Streams → Streams → Result RestEnd DriveFault → Type 0
+IsContinuedIn protocol recovered = WritesAndGoesOn protocol (due_text recovered) recovered
 
 -- the events of the run that was recovered were written again by this protocol, and it was driven on
 abbrev pub IsResumeIn : Protocol → Recovered → Streams → Streams → Result RestEnd DriveFault → Type 0

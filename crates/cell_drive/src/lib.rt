@@ -2,7 +2,7 @@
 //!
 //! A session is a controller and the [`Protocol`] in which lines are read and answered. [`drive`] and [`drive_hub`]
 //! begin one at the start of a run, for one cell or for several. A driven run is recovered from its log, which may
-//! have been cut at any byte: [`take_up`] gives what the run had come to by the log, or why it can't be recovered.
+//! have been cut at any byte: [`recover`] gives what the run had come to by the log, or why it can't be recovered.
 //! [`resume_in`] goes on from there: it writes the run once more, and drives it on.
 #![tactic(auto)]
 
@@ -30,7 +30,7 @@ pub use byte_streams::{
 pub use event_lines::{done_line, late_line, refused_line, report_of, unfinished_line};
 pub use hub::{HubEnd, drive_hub, drive_hub_in};
 pub use protocol::Protocol;
-pub use recover::{RecoveredRun, Replayed, take_up};
+pub use recover::{RecoveredRun, Replayed, recover};
 pub use refusals::Refusal;
-pub use resume::{RestEnd, go_on_in, replay_in, resume_in};
+pub use resume::{RestEnd, continue_in, replay_in, resume_in};
 pub use resume_fault::ResumeFault;

@@ -78,7 +78,7 @@ impl Model for Replayed {
 /// for, since a cell that has begun has to go on, however late.
 ///
 /// All memory is allocated here.
-pub fn take_up(
+pub fn recover(
     alloc: Global,
     shaped: Shaped,
     text: &[u8],

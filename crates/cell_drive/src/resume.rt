@@ -6,7 +6,7 @@ ghost use Rattle.byte_streams.specs.Lent.{WroteTo, streams_of, sink_state};
 ghost use Rattle.event_lines.specs.EventLines.{entry_lines};
 ghost use Rattle.cell_drive.specs.{Recovered.AreAtStart, Recovered.plan_of, Resuming.due_text, Replay.replay_text};
 ghost use Rattle.cell_drive.specs.Session.{IsRestEndOf, SessionAnswer, SessionCloses, SessionState};
-ghost use Rattle.cell_drive.specs.InProtocol.{IsGoneOnIn, IsResumeIn, IsReplayedIn};
+ghost use Rattle.cell_drive.specs.InProtocol.{IsContinuedIn, IsResumeIn, IsReplayedIn};
 
 use crate::protocol::Protocol;
 use crate::recover::{RecoveredRun, Replayed};
@@ -139,17 +139,17 @@ fn drive_on<R: Source, W: BufferedSink>(
     }
 }
 
-/// Goes on with a run that was recovered, and whose events were written again, by this protocol: writes an empty line,
+/// Continues a run that was recovered, and whose events were written again, by this protocol: writes an empty line,
 /// the mark, and the orders that are due, and then drives the run on as [`crate::drive_in`] does.
 ///
 /// `Memory` is never answered. A closing line is written only where nothing has failed before it.
-pub fn go_on_in<R: Source, W: BufferedSink>(
+pub fn continue_in<R: Source, W: BufferedSink>(
     run: Replayed,
     protocol: Protocol,
     reader: &mut R,
     writer: &mut W,
 ) -> Result<RestEnd, DriveFault>
-    ensures { IsGoneOnIn protocol run (streams_of R.Source W.Sink W.pending reader.old writer.old)
+    ensures { IsContinuedIn protocol run (streams_of R.Source W.Sink W.pending reader.old writer.old)
         (streams_of R.Source W.Sink W.pending reader.new writer.new) result }
 {
     let Ok(()) = put_due(&run, writer) else {
@@ -170,8 +170,8 @@ pub fn go_on_in<R: Source, W: BufferedSink>(
     drive_on(session, room, reader, writer)
 }
 
-/// Goes on with a run that was recovered by this protocol: writes its events again as [`replay_in`] does, and then goes
-/// on as [`go_on_in`] does. What is written is by itself a log of the whole run.
+/// Continues a run that was recovered by this protocol: writes its events again as [`replay_in`] does, and then
+/// continues it as [`continue_in`] does. What is written is by itself a log of the whole run.
 ///
 /// `Memory` is never answered.
 pub fn resume_in<R: Source, W: BufferedSink>(
@@ -185,7 +185,7 @@ pub fn resume_in<R: Source, W: BufferedSink>(
     ensures memory { result ≢ Err DriveFault.Memory }
 {
     match replay_in(recovered, protocol, writer) {
-        Ok(run) => go_on_in(run, protocol, reader, writer),
+        Ok(run) => continue_in(run, protocol, reader, writer),
         Err(fault) => Err(fault),
     }
 }

@@ -273,7 +273,7 @@ fn locked(
     }
 }
 
-/// A path that a log keeps. It is had before the file is opened, so that none is made where memory is wanting.
+/// A path that a log keeps. It is allocated before the file is opened, so that none is made where memory runs out.
 fn own_path(rt: &HostRuntime, path: &str) -> Result<String, FileFault>
     ensures { IfErr result IsDiskFault }
 {

@@ -13,7 +13,7 @@ module _ (p : PlannedShop) (lines : List (List ℕ)) (Is : Answer → Type 0) (a
   -- the line of a fault that is none of memory is what is printed of these lines
   line_answered : (fault : AuditFault) (outcome : Result Answer CommandFault) → IsFirstBad p lines fault → IsOrMemory (IsFaultLine fault) outcome → IsOrMemory Is outcome
   line_answered fault (Ok answer) first line = answered_so answer (record { fault = fault; first = first; line = line })
-  line_answered fault (Err wanting) first line = line
+  line_answered fault (Err no_memory) first line = line
 
   pub refused_log : (fault : AuditFault) (outcome : Result Answer CommandFault) → IsAuditFault p lines fault → IsLogFaultAnswer fault outcome → IsOrMemory Is outcome
   refused_log Memory outcome is answered = rw answered refl

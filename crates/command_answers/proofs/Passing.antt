@@ -4,11 +4,11 @@ use Rattle.shop_base.specs.Shop.{JobShop}
 use Rattle.shop_base.specs.Plan.{ShopPlan, PlannedShop}
 use Rattle.orlib_read.specs.declared.named.Named.{Named}
 use Rattle.orlib_read.specs.declared.or_fault.OrFault.{OrFault}
-use Rattle.orlib_read.specs.declared.or_fault.OrFault.TheVariants.{Memory as WantOfReader}
+use Rattle.orlib_read.specs.declared.or_fault.OrFault.TheVariants.{Memory as NoReaderMemory}
 use Rattle.plan_text.specs.declared.plan_fault.PlanFault.{PlanFault}
 use Rattle.plan_text.specs.declared.plan_fault.PlanFault.TheVariants.{Memory as OutOfMemory}
 use Rattle.people_names.specs.declared.names_fault.NamesFault.{NamesFault}
-use Rattle.people_names.specs.declared.names_fault.NamesFault.TheVariants.{Memory as WantOfNames}
+use Rattle.people_names.specs.declared.names_fault.NamesFault.TheVariants.{Memory as NoNamesMemory}
 use Rattle.command_answers.specs.declared.command_fault.CommandFault.{CommandFault}
 use Rattle.command_answers.specs.declared.command_fault.CommandFault.TheVariants.{Instance, Plan, Names, Read, Write, InputTooLong, Log, LogInUse, Memory}
 use Rattle.command_answers.specs.Instances.{Holds, IsInstanceRefusal, instance_command_fault}
@@ -23,10 +23,10 @@ passed_memory P (Ok a) fault memory passed = absurd passed
 passed_memory P (Err answered) fault memory passed = passed ∙ memory
 
 -- an answer that passes on what a reader printed refuses by the fault that it had to print
-pub passed_instance : {A : Type 0} (answer : Result A CommandFault) (reported fault : OrFault) → (reported ≢ WantOfReader → reported ≡ fault)
+pub passed_instance : {A : Type 0} (answer : Result A CommandFault) (reported fault : OrFault) → (reported ≢ NoReaderMemory → reported ≡ fault)
     → IsErrAnd answer (λ passed. passed ≡ instance_command_fault reported) → IsInstanceRefusal answer fault
 passed_instance (Ok a) reported fault same passed = absurd passed
-passed_instance (Err answered) WantOfReader fault same passed = rw passed tt
+passed_instance (Err answered) NoReaderMemory fault same passed = rw passed tt
 passed_instance (Err answered) reported fault same passed = rw passed (same (λ memory. cc memory))
 
 pub passed_plan : {A : Type 0} (answer : Result A CommandFault) (reported fault : PlanFault) → (reported ≢ OutOfMemory → reported ≡ fault)
@@ -35,10 +35,10 @@ passed_plan (Ok a) reported fault same passed = absurd passed
 passed_plan (Err answered) OutOfMemory fault same passed = rw passed tt
 passed_plan (Err answered) reported fault same passed = rw passed (same (λ memory. cc memory))
 
-pub passed_names : {A : Type 0} (answer : Result A CommandFault) (reported fault : NamesFault) → (reported ≢ WantOfNames → reported ≡ fault)
+pub passed_names : {A : Type 0} (answer : Result A CommandFault) (reported fault : NamesFault) → (reported ≢ NoNamesMemory → reported ≡ fault)
     → IsErrAnd answer (λ passed. passed ≡ names_command_fault reported) → IsNamesRefusal answer fault
 passed_names (Ok a) reported fault same passed = absurd passed
-passed_names (Err answered) WantOfNames fault same passed = rw passed tt
+passed_names (Err answered) NoNamesMemory fault same passed = rw passed tt
 passed_names (Err answered) reported fault same passed = rw passed (same (λ memory. cc memory))
 
 -- what is said of a fault is said of an answer that passes it on

@@ -15,7 +15,7 @@ use Rattle.alt_graph.specs.Evidence.{IsCycle}
 use Rattle.alt_graph.specs.Solved.{HasCycle}
 use Rattle.cell_control.specs.Begun.{IsRestFault}
 use Rattle.cell_control.specs.declared.rest_fault.RestFault.{RestFault}
-use Rattle.cell_control.specs.declared.rest_fault.RestFault.TheVariants.{MomentTooLarge, IncompatiblePlan, Backwards, Cycle, Memory as WantOfMoves}
+use Rattle.cell_control.specs.declared.rest_fault.RestFault.TheVariants.{MomentTooLarge, IncompatiblePlan, Backwards, Cycle, Memory as NoMovesMemory}
 use Rattle.plan_explain.specs.RestVerdicts.{HasRanks, IsRestJudged}
 use Rattle.command_answers.specs.declared.answer.Answer.{Answer}
 use Rattle.command_answers.specs.declared.command_fault.CommandFault.{CommandFault}
@@ -74,7 +74,7 @@ no_moves p c t (Cycle nodes) next is none = found nodes.items is.1
     found : (us : List Node) → IsCycle p us → HasCycle p
     found [] cycle = absurd cycle
     found (u ∷ us) cycle = (u ∷ us, cycle.0)
-no_moves p c t WantOfMoves next is none = absurd (cc none)
+no_moves p c t NoMovesMemory next is none = absurd (cc none)
 
 -- ---- statuses
 

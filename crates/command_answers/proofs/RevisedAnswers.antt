@@ -35,8 +35,8 @@ module _ (p : PlannedShop) (c : Cell) (t : ℕ) (changes : List Change) where
     refused_at : (reason : NotRevised) (outcome : Result Answer CommandFault) → IsReason p c t changes reason → IsUnrevised changes values (unrevised_of reason) outcome
         → IsOrMemory (IsChangeRefused prints description changes values p c t) outcome
     refused_at (Refused n fault) (Ok answer) is line = record { place = n; fault = fault; first = is; change = line.0; there = line.1; line = line.2.0; refused = line.2.1 }
-    refused_at (Refused n fault) (Err wanting) is line = line.2
-    refused_at NoMemory outcome is wanting = rw wanting refl
+    refused_at (Refused n fault) (Err no_memory) is line = line.2
+    refused_at NoMemory outcome is no_memory = rw no_memory refl
 
     -- what is answered where nothing is changed
     pub refused_answered : (reason : NotRevised) (why : Unrevised) (outcome : Result Answer CommandFault) → IsReason p c t changes reason → why ≡ unrevised_of reason → IsUnrevised changes values why outcome

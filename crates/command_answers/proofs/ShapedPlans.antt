@@ -73,13 +73,13 @@ line_found p (Err fault) answer first line = inr (record { fault = fault; first 
 -- the line of a fault that is a plan's first one is that of the plan
 pub line_of_first : (p : PlannedShop) (fault : ShapeFault) (outcome : Result Answer CommandFault) → IsFirstShapeFault p fault → IsOrMemory IsRefusedLine outcome → IsOrMemory (IsNotShapedLine p) outcome
 line_of_first p fault (Ok answer) first line = record { fault = fault; first = first; line = line }
-line_of_first p fault (Err wanting) first line = line
+line_of_first p fault (Err no_memory) first line = line
 
 -- so where it is alone
 pub line_alone : (p : PlannedShop) (fault : ShapeFault) (outcome : Result Drawn CommandFault) → IsFirstShapeFault p fault → IsOrMemory (IsLineAlone IsRefusedLine) outcome → IsOrMemory (IsUnshapedDrawn p) outcome
 line_alone p fault (Ok (Line answer)) first line = record { fault = fault; first = first; line = line }
 line_alone p fault (Ok (Picture picture status)) first line = line
-line_alone p fault (Err wanting) first line = line
+line_alone p fault (Err no_memory) first line = line
 
 module _ {W : Type 0} (gives : W → List ℕ → Result (List ℕ) CommandFault → W → Type 0) (pair : InputPaths) (step : PlannedShop → W → Result Answer CommandFault → W → Type 0) (before mid : W)
     (found : Result (Result PlannedShop ShapeFault) CommandFault) (shapes : Shapes gives pair before found mid) where

@@ -143,7 +143,7 @@ pub(crate) fn unfound_answer(alloc: Global, fault: ImproveFault) -> Answered
     ensures { IsUnfoundAnswer fault result }
 {
     match Unanswered::from(fault).0 {
-        Some(wanting) => Err(wanting),
+        Some(no_memory) => Err(no_memory),
         None => refused_answer(alloc, fault),
     }
 }

@@ -8,7 +8,7 @@ use Rattle.command_answers.specs.declared.answer.Answer.{Answer}
 use Rattle.command_answers.specs.declared.command_fault.CommandFault.{CommandFault}
 use Rattle.command_run.specs.Streams.{Devices, Streams}
 use Rattle.command_run.specs.Logs.{IsHistoryOfLog, LogEnd, step_of}
-use Rattle.command_run.specs.Program.{IsHistoryOfChosen, IsHistoryOfWords, NoLog, RunsChosen, RunsCommand, RunsLoggedDrive, kept_log_in, manner_in, pair_in}
+use Rattle.command_run.specs.Program.{IsHistoryOfChosen, IsHistoryOfWords, NoLog, RunsChosen, RunsCommand, RunsLoggedDrive, kept_log_in, protocol_in, pair_in}
 
 module _ {W : Type 0} (gives : W → List ℕ → Result (List ℕ) CommandFault → W → Type 0) where
   pub unlogged : (chosen : Chosen) (before after : Devices W) (outcome : Result Answer CommandFault) (mid : Streams) → kept_log_in chosen ≡ None
@@ -17,7 +17,7 @@ module _ {W : Type 0} (gives : W → List ℕ → Result (List ℕ) CommandFault
       subst (λ (log : Option (List ℕ)). RunsChosen gives log chosen before outcome mid after None) (sym none) (runs, same)
 
   pub logged : (chosen : Chosen) (before after : Devices W) (outcome : Result Answer CommandFault) (mid : Streams) (end : Option LogEnd) (path : List ℕ) (pair : InputPaths) (protocol : Protocol) → kept_log_in chosen ≡ Some path
-      → pair ≡ pair_in chosen → protocol ≡ manner_in chosen → RunsLoggedDrive gives before.folder after.folder path chosen.start protocol chosen.at pair before.texts (step_of before.streams outcome mid end) after.texts
+      → pair ≡ pair_in chosen → protocol ≡ protocol_in chosen → RunsLoggedDrive gives before.folder after.folder path chosen.start protocol chosen.at pair before.texts (step_of before.streams outcome mid end) after.texts
       → RunsChosen gives (kept_log_in chosen) chosen before outcome mid after end
   logged chosen before after outcome mid end path pair protocol keeps same_pair same_manner runs =
       subst (λ (log : Option (List ℕ)). RunsChosen gives log chosen before outcome mid after end) (sym keeps)
@@ -25,7 +25,7 @@ module _ {W : Type 0} (gives : W → List ℕ → Result (List ℕ) CommandFault
       (subst (λ (q : InputPaths). RunsLoggedDrive gives before.folder after.folder path chosen.start protocol chosen.at q before.texts (step_of before.streams outcome mid end) after.texts) same_pair runs))
 
   pub history_of_path : (chosen : Chosen) (before : Devices W) (path : List ℕ) (known : Option (List ℕ × List ℕ)) → kept_log_in chosen ≡ Some path → IfSome known (IsHistoryOfChosen gives chosen before)
-      → IfSome known (IsHistoryOfLog gives before.folder (pair_in chosen) path (manner_in chosen) chosen.at before.texts before.streams.output.written)
+      → IfSome known (IsHistoryOfLog gives before.folder (pair_in chosen) path (protocol_in chosen) chosen.at before.texts before.streams.output.written)
   history_of_path chosen before path None keeps is = tt
   history_of_path chosen before path (Some t) keeps is = is path keeps
 

@@ -48,7 +48,7 @@ use Rattle.command_run.specs.Resumes.{IsRecovery, ResumesRecovered, ResumesText,
 use Rattle.command_run.specs.Hubs.{AreDrivesIn, DrivesAll}
 use Rattle.command_run.specs.Ending.{Ends, EndsBy, EndsAside, IsPrinted, IsFaultPrinted, IsPrintedAfter, IsOfText, IsLineOut, WasPrinted}
 use Rattle.command_run.specs.Logs.{LogEnd, is_driven, step_of}
-use Rattle.command_run.specs.Program.{AreWordsRead, RunsCommand, RunsChosen, Follows, starts_again, status_by, draws_in, file_at, form_in, kept_log_in, log_in, manner_in, name_in, names_in, pair_in, plans_in}
+use Rattle.command_run.specs.Program.{AreWordsRead, RunsCommand, RunsChosen, Follows, starts_again, status_by, draws_in, file_at, form_in, kept_log_in, log_in, protocol_in, name_in, names_in, pair_in, plans_in}
 use Rattle.command_run.specs.Laws.{IsOutcomeOfWords, IsFailureOf, PrintsFaultsAlone, HoldsNothing, WereDriven, WereRefused, IsUnanswered, Ran, RanCommand, WroteNoMore}
 use Rattle.command_run.proofs.LowStatuses.{IsLow, low}
 use Rattle.command_run.proofs.Keepers.{keeper}
@@ -147,14 +147,14 @@ module _ {W : Type 0} (gives : W → List ℕ → Result (List ℕ) CommandFault
   kept name same = inl (ap (λ (s : Streams). s.output) same)
 
   drives_written : (loaded : Result Loaded CommandFault) (later : W) (outcome : Result Answer CommandFault) → Loads gives (pair_in chosen) texts loaded later
-      → Drives (manner_in chosen) loaded before after outcome → WereDriven gives Drive chosen texts before after
+      → Drives (protocol_in chosen) loaded before after outcome → WereDriven gives Drive chosen texts before after
   drives_written (Err fault) later outcome loads is = kept Drive is.1
   drives_written (Ok (NotShaped fault)) later outcome loads is = kept Drive is.1
   drives_written (Ok (Judged (Refused back why))) later outcome loads is = kept Drive is.1
   drives_written (Ok (Judged (Accepted v))) later outcome loads is = inr (inl (refl, inl (record { cell = v; later = later; loads = loads; end = is.end; is = is.is })))
 
   hub_written : (loaded : Result Cells CommandFault) (later : W) (outcome : Result Answer CommandFault) → LoadsCells gives (file_at chosen 0) (name_in chosen) (plans_in chosen) texts loaded later
-      → DrivesAll (manner_in chosen) loaded before after outcome → WereDriven gives Hub chosen texts before after
+      → DrivesAll (protocol_in chosen) loaded before after outcome → WereDriven gives Hub chosen texts before after
   hub_written (Err fault) later outcome loads is = kept Hub is.1
   hub_written (Ok (Line answer)) later outcome loads is = kept Hub is.1
   hub_written (Ok (AllAccepted cells)) later outcome loads is =
@@ -162,18 +162,18 @@ module _ {W : Type 0} (gives : W → List ℕ → Result (List ℕ) CommandFault
 
   module _ (p : PlannedShop) (mid : W) (shapes : Shapes gives (pair_in chosen) texts (Ok (Ok p)) mid) (later : W) (outcome : Result Answer CommandFault) where
     recovered_written : (text : List ℕ) (recovered : Result Recovered ResumeFault) → Asks gives (file_at chosen 2) mid (Ok text) later → IsRecovery p chosen.at text recovered
-        → ResumesRecovered (manner_in chosen) recovered before after outcome → WereDriven gives Resume chosen texts before after
+        → ResumesRecovered (protocol_in chosen) recovered before after outcome → WereDriven gives Resume chosen texts before after
     recovered_written text (Ok t) asks takes is =
         inr (inr (inl (refl, record { plan = p; mid = mid; shapes = shapes; text = text; later = later; asks = asks; recovered = t; takes = takes; end = is.end; is = is.is })))
     recovered_written text (Err fault) asks takes is = kept Resume is.1
 
     text_written : (text : Result (List ℕ) CommandFault) → Asks gives (file_at chosen 2) mid text later
-        → ResumesText (manner_in chosen) chosen.at p text before after outcome → WereDriven gives Resume chosen texts before after
+        → ResumesText (protocol_in chosen) chosen.at p text before after outcome → WereDriven gives Resume chosen texts before after
     text_written (Ok text) asks is = recovered_written text is.0 asks is.1 is.2
     text_written (Err fault) asks is = kept Resume is.1
 
   resumes_written : (shaped : Result (Result PlannedShop ShapeFault) CommandFault) (mid later : W) (outcome : Result Answer CommandFault) → Shapes gives (pair_in chosen) texts shaped mid
-      → Resumes gives (manner_in chosen) chosen.at (file_at chosen 2) shaped mid before outcome later after → WereDriven gives Resume chosen texts before after
+      → Resumes gives (protocol_in chosen) chosen.at (file_at chosen 2) shaped mid before outcome later after → WereDriven gives Resume chosen texts before after
   resumes_written (Err fault) mid later outcome shapes is = kept Resume is.1
   resumes_written (Ok (Err fault)) mid later outcome shapes is = kept Resume is.1
   resumes_written (Ok (Ok p)) mid later outcome shapes is = text_written p mid shapes later outcome is.text is.asks is.resumes
@@ -260,12 +260,12 @@ picture_shown picture status before after (Err fault) out = inr out.2
 driven_shown : {W : Type 0} (gives : W → List ℕ → Result (List ℕ) CommandFault → W → Type 0) (chosen : Chosen) (texts : W) (before after : Streams) (name : CommandName)
     → WereDriven gives name chosen texts before after → before.output.pending ≡ [] → HoldsNothing after.output
 driven_shown gives chosen texts before after name (inl same) none = inl (ap (λ (o : Output). o.pending) same ∙ none)
-driven_shown gives chosen texts before after name (inr (inl (is, inr drove))) none = logged_shown gives (manner_in chosen) (pair_in chosen) texts before after drove none
+driven_shown gives chosen texts before after name (inr (inl (is, inr drove))) none = logged_shown gives (protocol_in chosen) (pair_in chosen) texts before after drove none
 driven_shown gives chosen texts before after name (inr (inl (is, inl drove))) none =
-    drive_shown (manner_in chosen) drove.cell before after drove.end drove.is none
-driven_shown gives chosen texts before after name (inr (inr (inl (is, drove)))) none = resume_shown (manner_in chosen) drove.recovered before after drove.end drove.is none
+    drive_shown (protocol_in chosen) drove.cell before after drove.end drove.is none
+driven_shown gives chosen texts before after name (inr (inr (inl (is, drove)))) none = resume_shown (protocol_in chosen) drove.recovered before after drove.end drove.is none
 driven_shown gives chosen texts before after name (inr (inr (inr (inl (is, drove))))) none =
-    hub_shown (manner_in chosen) drove.cells before after drove.end drove.are none
+    hub_shown (protocol_in chosen) drove.cells before after drove.end drove.are none
 driven_shown gives chosen texts before after name (inr (inr (inr (inr (inl (is, drew)))))) none = picture_shown drew.picture drew.status before.output after.output drew.outcome drew.out
 driven_shown gives chosen texts before after name (inr (inr (inr (inr (inr (is, drew)))))) none = picture_shown drew.picture drew.status before.output after.output drew.outcome drew.out
 
@@ -310,7 +310,7 @@ module _ {W : Type 0} (gives : W → List ℕ → Result (List ℕ) CommandFault
   chosen_written : (log : Option (List ℕ)) → kept_log_in chosen ≡ log → RunsChosen gives log chosen before outcome mid after end → WereDriven gives chosen.name chosen before.texts before.streams mid
   chosen_written None none run = written gives chosen before.texts before.streams mid chosen.name after.texts outcome run.0
   chosen_written (Some path) keeps run =
-      elim (logged_written gives (pair_in chosen) (manner_in chosen) before.texts after.texts before.streams mid outcome end before.folder after.folder path chosen.start chosen.at run.shaped run.shapes run.drives) [
+      elim (logged_written gives (pair_in chosen) (protocol_in chosen) before.texts after.texts before.streams mid outcome end before.folder after.folder path chosen.start chosen.at run.shaped run.shapes run.drives) [
         | inl same ↦ inl same
         | inr drove ↦ inr (inl (keeper chosen.name (option_map string_bytes chosen.log) path keeps, inr drove))
       ]
@@ -318,7 +318,7 @@ module _ {W : Type 0} (gives : W → List ℕ → Result (List ℕ) CommandFault
   -- and its answer is a good one, or one that refuses
   chosen_low : (log : Option (List ℕ)) → RunsChosen gives log chosen before outcome mid after end → IsLow outcome
   chosen_low None run = low gives chosen.name chosen before.texts before.streams outcome after.texts mid run.0
-  chosen_low (Some path) run = low_logged before.folder after.folder path chosen.start (manner_in chosen) chosen.at run.shaped (step_of before.streams outcome mid end) run.drives
+  chosen_low (Some path) run = low_logged before.folder after.folder path chosen.start (protocol_in chosen) chosen.at run.shaped (step_of before.streams outcome mid end) run.drives
 
 module _ {W : Type 0} (gives : W → List ℕ → Result (List ℕ) CommandFault → W → Type 0) (words : List (List ℕ)) (before : Devices W) (status : ℕ) (after : Devices W) (end : Option LogEnd) where
   -- a command that was run, as a part of the program's run

@@ -12,7 +12,7 @@ use Rattle.byte_streams.specs.declared.drive_fault.DriveFault.TheVariants.{Write
 use Rattle.byte_streams.specs.Lent.{Output, output_sink}
 use Rattle.cell_drive.specs.declared.protocol.Protocol.{Protocol}
 use Rattle.cell_drive.specs.Recovered.{Recovered, IsRecovered, plan_of, replayed_events as events_in}
-use Rattle.cell_drive.specs.InProtocol.{IsGoneOnIn, IsReplayedIn}
+use Rattle.cell_drive.specs.InProtocol.{IsContinuedIn, IsReplayedIn}
 use Rattle.event_lines.specs.declared.run_digits.RunDigits.{RunDigits}
 use Rattle.plan_digest.proofs.SixteenDigits.{digits_are}
 use Rattle.run_journal.specs.declared.file_fault.FileFault.{FileFault}
@@ -36,9 +36,9 @@ pub never_shown : (protocol : Protocol) (t run : Recovered) (before mid after : 
 never_shown protocol t run before mid after is kept failed = (failed, ([], record { out = _; took = Appends-kept _ _ _ _ is.0 kept; whole = append-nil _ }))
 
 -- what goes on is what was recovered
-pub same_run : (protocol : Protocol) (t run : Recovered) (step : Step) → run ≡ t → DrivesWithLog (plan_of run) (events_in run) (IsGoneOnIn protocol run) end_of_rest step
-    → DrivesWithLog (plan_of t) (events_in t) (IsGoneOnIn protocol t) end_of_rest step
-same_run protocol t run step same is = subst (λ (x : Recovered). DrivesWithLog (plan_of x) (events_in x) (IsGoneOnIn protocol x) end_of_rest step) same is
+pub same_run : (protocol : Protocol) (t run : Recovered) (step : Step) → run ≡ t → DrivesWithLog (plan_of run) (events_in run) (IsContinuedIn protocol run) end_of_rest step
+    → DrivesWithLog (plan_of t) (events_in t) (IsContinuedIn protocol t) end_of_rest step
+same_run protocol t run step same is = subst (λ (x : Recovered). DrivesWithLog (plan_of x) (events_in x) (IsContinuedIn protocol x) end_of_rest step) same is
 
 -- ---- the whole lines of a log
 

@@ -42,13 +42,13 @@ low_log_unrecovered (File fault) outcome is = subst IsLow (sym is) tt
 module _ (folder folder_after : Folder) (path : List ℕ) (protocol : Protocol) (at : Option ℕ) where
   low_begun : (there : Bool) (verdict : Verdict) (step : Step) → BeginsBy folder folder_after path protocol there verdict step → IsLow step.outcome
   low_begun there (Refused back why) step is = low_or (IsLineOf (Judged (Refused back why))) step.outcome (low_line_of (Judged (Refused back why))) is.0
-  low_begun there (Accepted v) step (inl wanting) = subst IsLow (sym wanting.0) tt
+  low_begun there (Accepted v) step (inl no_memory) = subst IsLow (sym no_memory.0) tt
   low_begun there (Accepted v) step (inr (inl lacks)) = subst IsLow (sym lacks.is) tt
   low_begun there (Accepted v) step (inr (inr run)) = low_logged_end run.drove.log_failed (end_of_drive run.drove.end) step.outcome run.drove.answer
 
   low_begins : (p : PlannedShop) (there : Bool) (step : Step) → Begins folder folder_after path protocol p there step → IsLow step.outcome
   low_begins p there step (inl (verdict, is, by)) = low_begun there verdict step by
-  low_begins p there step (inr wanting) = subst IsLow (sym wanting.0) tt
+  low_begins p there step (inr no_memory) = subst IsLow (sym no_memory.0) tt
 
   low_after : (t : Recovered) (mid : Output) (replay : Result Recovered DriveFault) (step : Step) → GoesOnAfter protocol t mid replay step → IsLow step.outcome
   low_after t mid (Ok done) step run = low_logged_end run.log_failed (end_of_rest run.end) step.outcome run.answer
@@ -76,7 +76,7 @@ module _ (folder folder_after : Folder) (path : List ℕ) (start : LogStart) (pr
   low_logged (Err fault) step is = subst IsLow (sym is.0) tt
   low_logged (Ok (Err fault)) step is = low_or (IsLineOf (NotShaped fault)) step.outcome (low_line_of (NotShaped fault)) is.0
   low_logged (Ok (Ok p)) step (inl is) = low_opened p is.opened step is.drives
-  low_logged (Ok (Ok p)) step (inr wanting) = subst IsLow (sym wanting.0) tt
+  low_logged (Ok (Ok p)) step (inr no_memory) = subst IsLow (sym no_memory.0) tt
 
 -- ---- what is written
 
@@ -93,14 +93,14 @@ module _ {W : Type 0} (gives : W → List ℕ → Result (List ℕ) CommandFault
     begun : (folder folder_after : Folder) (path : List ℕ) (there : Bool) (verdict : Verdict) → IsVerdict p verdict
         → BeginsBy folder folder_after path protocol there verdict (step_of before outcome after end) → Written
     begun folder folder_after path there (Refused back why) is by = unwritten by.1.same
-    begun folder folder_after path there (Accepted v) is (inl wanting) = unwritten wanting.1.same
+    begun folder folder_after path there (Accepted v) is (inl no_memory) = unwritten no_memory.1.same
     begun folder folder_after path there (Accepted v) is (inr (inl lacks)) = unwritten lacks.same
     begun folder folder_after path there (Accepted v) is (inr (inr run)) =
         inr (record { plan = p; later = later; shapes = shapes; outcome = outcome; log = end; is = inl (v, is.accepted.0, run.drove) })
 
     begins : (folder folder_after : Folder) (path : List ℕ) (there : Bool) → Begins folder folder_after path protocol p there (step_of before outcome after end) → Written
     begins folder folder_after path there (inl (verdict, is, by)) = begun folder folder_after path there verdict is by
-    begins folder folder_after path there (inr wanting) = unwritten wanting.1.same
+    begins folder folder_after path there (inr no_memory) = unwritten no_memory.1.same
 
     recoverable : (at : Option ℕ) (text : List ℕ) (recovered : Result Recovered RecoverFault) → RecoversLog p at text recovered → ContinuesRecovered p protocol text recovered (step_of before outcome after end) → Written
     recoverable at text (Ok t) takes on =
@@ -126,7 +126,7 @@ module _ {W : Type 0} (gives : W → List ℕ → Result (List ℕ) CommandFault
   logged_written folder folder_after path start at (Err fault) shapes is = unwritten is.1.same
   logged_written folder folder_after path start at (Ok (Err fault)) shapes is = unwritten is.1.same
   logged_written folder folder_after path start at (Ok (Ok p)) shapes (inl is) = opened_written p shapes folder folder_after path start at is.opened is.drives
-  logged_written folder folder_after path start at (Ok (Ok p)) shapes (inr wanting) = unwritten wanting.1.same
+  logged_written folder folder_after path start at (Ok (Ok p)) shapes (inr no_memory) = unwritten no_memory.1.same
 
 -- ---- what is shown
 
@@ -190,10 +190,10 @@ nothing_driven log step isnt none = never_driven step.log log step.outcome none.
 module _ (folder folder_after : Folder) (path : List ℕ) (protocol : Protocol) (at : Option ℕ) where
   silent_begins : (p : PlannedShop) (there : Bool) (step : Step) → Begins folder folder_after path protocol p there step → IsDriven step.log → IsSilent step.outcome
   silent_begins p there step (inl (Refused back why, is, by)) = nothing_driven (left_if there) step (left_undriven there) by.1
-  silent_begins p there step (inl (Accepted v, is, inl wanting)) = nothing_driven (left_if there) step (left_undriven there) wanting.1
+  silent_begins p there step (inl (Accepted v, is, inl no_memory)) = nothing_driven (left_if there) step (left_undriven there) no_memory.1
   silent_begins p there step (inl (Accepted v, is, inr (inl lacks))) = λ driven. silent_fault _ step.outcome lacks.is
   silent_begins p there step (inl (Accepted v, is, inr (inr run))) = λ driven. silent_end run.drove.log_failed (end_of_drive run.drove.end) step.outcome run.drove.answer
-  silent_begins p there step (inr wanting) = nothing_driven (left_if there) step (left_undriven there) wanting.1
+  silent_begins p there step (inr no_memory) = nothing_driven (left_if there) step (left_undriven there) no_memory.1
 
   silent_after : (t : Recovered) (mid : Output) (replay : Result Recovered DriveFault) (step : Step) → GoesOnAfter protocol t mid replay step → IsSilent step.outcome
   silent_after t mid (Ok done) step run = silent_end run.log_failed (end_of_rest run.end) step.outcome run.answer
@@ -221,4 +221,4 @@ module _ (folder folder_after : Folder) (path : List ℕ) (start : LogStart) (pr
   silent_logged (Err fault) step is = nothing_driven None step (λ bad. bad) is.1
   silent_logged (Ok (Err fault)) step is = nothing_driven None step (λ bad. bad) is.1
   silent_logged (Ok (Ok p)) step (inl is) = silent_opened p is.opened step is.drives
-  silent_logged (Ok (Ok p)) step (inr wanting) = nothing_driven None step (λ bad. bad) wanting.1
+  silent_logged (Ok (Ok p)) step (inr no_memory) = nothing_driven None step (λ bad. bad) no_memory.1

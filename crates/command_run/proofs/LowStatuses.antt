@@ -89,7 +89,7 @@ use Rattle.command_answers.specs.ImprovingRests.{RestAsked, IsRestAnswer}
 use Rattle.command_run.specs.Choosers.{Decides}
 use Rattle.command_run.specs.Improvers.{AsksOne, AsksOneForRest, ImprovesPlan, ImprovesRest, Improves}
 use Rattle.command_answers.specs.Commands.{RunsPlanAnswer}
-use Rattle.command_run.specs.Program.{RunsCommand, aim_in, file_at, form_in, log_in, names_in, manner_in, name_in, pair_in, plans_in}
+use Rattle.command_run.specs.Program.{RunsCommand, aim_in, file_at, form_in, log_in, names_in, protocol_in, name_in, pair_in, plans_in}
 
 -- the answer's status is 0 or 1
 abbrev pub IsLow : Result Answer CommandFault → Type 0
@@ -383,7 +383,7 @@ low_cell_line number loaded (Err fault) each is = tt
 low_after_plan : {W : Type 0} (cells : List VerifiedPlan) (rest : List VerifiedPlan → W → Result Cells CommandFault → W → Type 0) (accepted : Result VerifiedPlan Loaded) (before : W) (outcome : Result Cells CommandFault) (after : W)
     → ((more : List VerifiedPlan) → rest more before outcome after → IsLowLine outcome) → AfterPlan cells rest accepted before outcome after → IsLowLine outcome
 low_after_plan cells rest (Ok v) before outcome after each (inl on) = each _ on
-low_after_plan cells rest (Ok v) before outcome after each (inr wanting) = subst IsLowLine (sym wanting.0) tt
+low_after_plan cells rest (Ok v) before outcome after each (inr no_memory) = subst IsLowLine (sym no_memory.0) tt
 low_after_plan cells rest (Err other) before outcome after each is = low_cell_line _ other outcome (low_line_of other) is.0
 
 low_loaded : {W : Type 0} (gives : W → List ℕ → Result (List ℕ) CommandFault → W → Type 0) (text : List ℕ) (name : Option (List ℕ)) (cells : List VerifiedPlan) (paths : List (List ℕ))
@@ -527,13 +527,13 @@ module _ {W : Type 0} (gives : W → List ℕ → Result (List ℕ) CommandFault
       → SeeksPlan gives rounds pair texts outcome after → IsLow outcome
   low_seeks rounds pair texts outcome after (inl run) =
       low_both pair (λ p. Concludes (IsSearchAnswer (search_by_two (task_in p)) rounds)) texts outcome after (λ p mid on. low_sought (search_by_two (task_in p)) rounds outcome on.0) run
-  low_seeks rounds pair texts outcome after (inr wanting) = subst IsLow (sym wanting.0) tt
+  low_seeks rounds pair texts outcome after (inr no_memory) = subst IsLow (sym no_memory.0) tt
 
   low_improves : (rounds : ℕ) (pair : InputPaths) (texts : W) (outcome : Result Answer CommandFault) (after : W)
       → ImprovesPlan gives rounds pair texts outcome after → IsLow outcome
   low_improves rounds pair texts outcome after (inl run) =
       low_both pair (λ p. Concludes (IsImproveAnswer (AsksOne rounds) rounds (ordered p))) texts outcome after (λ p mid on. low_improved (AsksOne rounds) rounds (ordered p) outcome on.0) run
-  low_improves rounds pair texts outcome after (inr wanting) = subst IsLow (sym wanting.0) tt
+  low_improves rounds pair texts outcome after (inr no_memory) = subst IsLow (sym no_memory.0) tt
 
   low_with_rest : (at : Option ℕ) (rounds : ℕ) (log : List ℕ) (p : PlannedShop) (mid : W) (outcome : Result Answer CommandFault) (after : W)
       → WithRest gives (AsksOneForRest rounds) at rounds log p mid outcome after → IsLow outcome
@@ -544,7 +544,7 @@ module _ {W : Type 0} (gives : W → List ℕ → Result (List ℕ) CommandFault
       → ImprovesRest gives at rounds pair log texts outcome after → IsLow outcome
   low_rest_improves at rounds pair log texts outcome after (inl run) =
       low_both pair (λ p. WithRest gives (AsksOneForRest rounds) at rounds log (ordered p)) texts outcome after (λ p mid on. low_with_rest at rounds log (ordered p) mid outcome after on) run
-  low_rest_improves at rounds pair log texts outcome after (inr wanting) = subst IsLow (sym wanting.0) tt
+  low_rest_improves at rounds pair log texts outcome after (inr no_memory) = subst IsLow (sym no_memory.0) tt
 
   low_bettered : (at : Option ℕ) (rounds : ℕ) (pair : InputPaths) (log : Option (List ℕ)) (texts : W) (outcome : Result Answer CommandFault) (after : W)
       → Improves gives at rounds pair log texts outcome after → IsLow outcome
@@ -558,7 +558,7 @@ module _ {W : Type 0} (gives : W → List ℕ → Result (List ℕ) CommandFault
       (λ named mid on. held IsLow _ _ mid outcome after low_failed
       (λ plan later goes. low_with_log_of (λ p. IsReviseAnswer (printed_for file) named.description.items at run.changes (values_asked asked) p)
       (λ p. low_revised (printed_for file) named.description.items at run.changes (values_asked asked) p) log (record { shop = named.shop; plan = plan }) later outcome after goes) on) run.runs
-  low_revises file at asked pair log texts outcome after (inr wanting) = subst IsLow (sym wanting.0) tt
+  low_revises file at asked pair log texts outcome after (inr no_memory) = subst IsLow (sym no_memory.0) tt
 
   -- what comes of a plan whose numbers are sound, with names
   low_sound : (Comes : NameBook → Result Answer CommandFault → Type 0) (names : Option (List ℕ)) (p : PlannedShop) (mid : W) (outcome : Result Answer CommandFault) (after : W)
@@ -612,10 +612,10 @@ module _ {W : Type 0} (gives : W → List ℕ → Result (List ℕ) CommandFault
   low Decide chosen texts before outcome texts_after after run = low_all_decided (aim_in chosen) chosen.at (pair_in chosen) (names_in chosen) (log_in chosen) texts outcome texts_after run.0
   low Improve chosen texts before outcome texts_after after run = low_bettered chosen.at chosen.rounds (pair_in chosen) (log_in chosen) texts outcome texts_after run.0
   low Revise chosen texts before outcome texts_after after run = low_revises chosen.file chosen.at chosen.changes.items (pair_in chosen) (file_at chosen 2) texts outcome texts_after run.0
-  low Drive chosen texts before outcome texts_after after run = low_drives (manner_in chosen) run.loaded before after outcome run.drives
-  low Resume chosen texts before outcome texts_after after run = low_resumes (manner_in chosen) chosen.at _ run.shaped run.texts_mid before outcome texts_after after run.resumes
+  low Drive chosen texts before outcome texts_after after run = low_drives (protocol_in chosen) run.loaded before after outcome run.drives
+  low Resume chosen texts before outcome texts_after after run = low_resumes (protocol_in chosen) chosen.at _ run.shaped run.texts_mid before outcome texts_after after run.resumes
   low Hub chosen texts before outcome texts_after after run =
-      low_drives_all (manner_in chosen) run.loaded before after outcome
+      low_drives_all (protocol_in chosen) run.loaded before after outcome
       (held IsLowLine _ (λ text. LoadsEach gives text (name_in chosen) [] (plans_in chosen)) texts run.loaded texts_after low_line_failed (λ text mid on. low_loaded gives text (name_in chosen) [] (plans_in chosen) mid run.loaded texts_after on) run.loads) run.drives
   low Digest chosen texts before outcome texts_after after run =
       low_both (pair_in chosen) (λ p. Concludes (IsOrMemory (IsDigestAnswer p))) texts outcome texts_after (λ p mid on. low_or (IsDigestAnswer p) outcome (low_digest p) on.0) run.0

@@ -68,7 +68,7 @@ use Rattle.command_run.specs.Logs.{DrivesWithLog, GoesOnWithLog, LogEnd, step_of
 use Rattle.command_run.specs.Resumes.{ResumesText, IsRecovery}
 use Rattle.command_run.specs.Hubs.{AreDrivesIn, DrivesCells}
 use Rattle.command_run.specs.Ending.{WasPrinted, IsLineOut, IsOfText}
-use Rattle.command_run.specs.Program.{RunsDrive, RunsResume, RunsHub, RunsChosen, RunsProgram, draws_in, file_at, kept_log_in, log_in, manner_in, name_in, names_in, pair_in, plans_in}
+use Rattle.command_run.specs.Program.{RunsDrive, RunsResume, RunsHub, RunsChosen, RunsProgram, draws_in, file_at, kept_log_in, log_in, protocol_in, name_in, names_in, pair_in, plans_in}
 
 -- ---- what is printed first where the files don't change
 
@@ -398,7 +398,7 @@ pub record RunsWell (content : List ℕ → Result (List ℕ) CommandFault) (wor
   pub wrote : after.streams.output.written ≡ Some (start ++ written)
   pub was_read : after.streams.input.failed ≡ false
   pub was_written : after.streams.output.failed ≡ false
-  pub no_want : status ≢ 4
+  pub not_out_of_memory : status ≢ 4
 
 -- `drive` with an accepted plan writes the same, and ends with the same status, whenever it is run on the same words, files and input, of no more bytes than the limit
 abbrev pub DriveWritesTheSame : Type 0
@@ -502,9 +502,9 @@ module _ {W : Type 0} (gives : W → List ℕ → Result (List ℕ) CommandFault
   -- nothing was written; or the command drives cells, and those of its files were driven; or its files were drawn
   abbrev pub WereDriven : CommandName → Chosen → W → Streams → Streams → Type 0
   WereDriven name chosen texts before after = (after.output ≡ before.output)
-      ⊎ (((name ≡ Drive) × (DroveCell (manner_in chosen) (pair_in chosen) texts before after ⊎ DroveWithLog (manner_in chosen) (pair_in chosen) texts before after))
-      ⊎ (((name ≡ Resume) × DroveOn (manner_in chosen) chosen.at (pair_in chosen) (file_at chosen 2) texts before after)
-      ⊎ (((name ≡ Hub) × DroveCells (manner_in chosen) (file_at chosen 0) (name_in chosen) (plans_in chosen) texts before after)
+      ⊎ (((name ≡ Drive) × (DroveCell (protocol_in chosen) (pair_in chosen) texts before after ⊎ DroveWithLog (protocol_in chosen) (pair_in chosen) texts before after))
+      ⊎ (((name ≡ Resume) × DroveOn (protocol_in chosen) chosen.at (pair_in chosen) (file_at chosen 2) texts before after)
+      ⊎ (((name ≡ Hub) × DroveCells (protocol_in chosen) (file_at chosen 0) (name_in chosen) (plans_in chosen) texts before after)
       ⊎ (((name ≡ Schedule) × DrewPicture (DrawsTimetable gives chosen.at (pair_in chosen) (names_in chosen) (log_in chosen)) texts before after)
       ⊎ ((name ≡ Gantt) × DrewPicture (DrawsLog gives (pair_in chosen) (names_in chosen) (file_at chosen 2)) texts before after)))))
 

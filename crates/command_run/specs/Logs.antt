@@ -20,7 +20,7 @@ use Rattle.cell_drive.specs.declared.protocol.Protocol.{Protocol}
 use Rattle.cell_drive.specs.declared.resume.RestEnd.{RestEnd}
 use Rattle.cell_drive.specs.Recovered.{Recovered, IsRecovered, IsRecoverable, plan_of, replayed_events}
 use Rattle.cell_drive.specs.Replay.{replay_text}
-use Rattle.cell_drive.specs.InProtocol.{IsDriveIn, IsGoneOnIn, IsReplayedIn}
+use Rattle.cell_drive.specs.InProtocol.{IsDriveIn, IsContinuedIn, IsReplayedIn}
 use Rattle.run_journal.specs.declared.file_fault.FileFault.{FileFault}
 use Rattle.run_journal.specs.declared.file_fault.FileFault.TheVariants.{Log as NotLogged, InUse, Read as NotRead, TooLong, Memory as NoMemoryForLog}
 use Rattle.run_journal.specs.declared.log_run.LogRun.{LogRun}
@@ -201,7 +201,7 @@ from_output mid step = record step { before = with_output step.before mid }
 
 -- then the run goes on with the log; or the replay has failed, with no byte read, and the log is left
 abbrev pub GoesOnAfter : Protocol → Recovered → Output → Result Recovered DriveFault → Step → Type 0
-GoesOnAfter protocol t mid (Ok done) step = DrivesWithLog (plan_of t) (replayed_events t) (IsGoneOnIn protocol t) end_of_rest (from_output mid step)
+GoesOnAfter protocol t mid (Ok done) step = DrivesWithLog (plan_of t) (replayed_events t) (IsContinuedIn protocol t) end_of_rest (from_output mid step)
 GoesOnAfter protocol t mid (Err fault) step = (step.outcome ≡ Err (drive_command_fault fault)) × (step.after ≡ with_output step.before mid) × (step.log ≡ Some Left)
 
 -- so a run that was recovered goes on

@@ -120,8 +120,8 @@ is_second (Some One) = false
 is_second (Some Two) = true
 
 -- the protocol by which cells are driven: a leap counts from the present moment at the earliest, if one is given
-abbrev pub manner_in : Chosen → Protocol
-manner_in chosen = record { version_2 = is_second chosen.lines; max_gap = chosen.leap; from = unwrap_or chosen.at 0 }
+abbrev pub protocol_in : Chosen → Protocol
+protocol_in chosen = record { version_2 = is_second chosen.lines; max_gap = chosen.leap; from = unwrap_or chosen.at 0 }
 
 -- the files of the instance and of the first plan
 abbrev pub pair_in : Chosen → InputPaths
@@ -198,11 +198,11 @@ module _ {W : Type 0} (gives : W → List ℕ → Result (List ℕ) CommandFault
   RunsCommand Revise chosen texts before outcome texts_after after =
       Revises gives chosen.file chosen.at chosen.changes.items (pair_in chosen) (file_at chosen 2) texts outcome texts_after × (after ≡ before)
   RunsCommand Drive chosen texts before outcome texts_after after =
-      RunsDrive (manner_in chosen) (pair_in chosen) texts before outcome texts_after after
+      RunsDrive (protocol_in chosen) (pair_in chosen) texts before outcome texts_after after
   RunsCommand Resume chosen texts before outcome texts_after after =
-      RunsResume (manner_in chosen) chosen.at (pair_in chosen) (file_at chosen 2) texts before outcome texts_after after
+      RunsResume (protocol_in chosen) chosen.at (pair_in chosen) (file_at chosen 2) texts before outcome texts_after after
   RunsCommand Hub chosen texts before outcome texts_after after =
-      RunsHub (manner_in chosen) (file_at chosen 0) (name_in chosen) (plans_in chosen) texts before outcome texts_after after
+      RunsHub (protocol_in chosen) (file_at chosen 0) (name_in chosen) (plans_in chosen) texts before outcome texts_after after
   RunsCommand Digest chosen texts before outcome texts_after after =
       RunsDigest gives (pair_in chosen) texts outcome texts_after × (after ≡ before)
   RunsCommand Audit chosen texts before outcome texts_after after =
@@ -215,7 +215,7 @@ module _ {W : Type 0} (gives : W → List ℕ → Result (List ℕ) CommandFault
   RunsChosen None chosen before outcome mid after log =
       RunsCommand chosen.name chosen before.texts before.streams outcome after.texts mid × NoLog before after log
   RunsChosen (Some path) chosen before outcome mid after log =
-      RunsLoggedDrive before.folder after.folder path chosen.start (manner_in chosen) chosen.at (pair_in chosen) before.texts (step_of before.streams outcome mid log) after.texts
+      RunsLoggedDrive before.folder after.folder path chosen.start (protocol_in chosen) chosen.at (pair_in chosen) before.texts (step_of before.streams outcome mid log) after.texts
 
   -- the command is run, and then its answer printed, or its fault printed, with its own status; what is answered in place of a picture is printed too
   pub record Commands (chosen : Chosen) (before : Devices W) (status : ℕ) (after : Devices W) (log : Option LogEnd) : Type 0 where
@@ -254,7 +254,7 @@ module _ {W : Type 0} (gives : W → List ℕ → Result (List ℕ) CommandFault
 -- what is known of the log that the command keeps, if it keeps one, and of what the output has written once the events in that are replayed
 abbrev pub IsHistoryOfChosen : {W : Type 0} → (W → List ℕ → Result (List ℕ) CommandFault → W → Type 0) → Chosen → Devices W → List ℕ × List ℕ → Type 0
 IsHistoryOfChosen gives chosen before known = (path : List ℕ) → kept_log_in chosen ≡ Some path
-    → IsHistoryOfLog gives before.folder (pair_in chosen) path (manner_in chosen) chosen.at before.texts before.streams.output.written known
+    → IsHistoryOfLog gives before.folder (pair_in chosen) path (protocol_in chosen) chosen.at before.texts before.streams.output.written known
 
 -- what is known of the log that the words ask for, and of what the output has written once the events in that are replayed
 abbrev pub IsHistoryOfWords : {W : Type 0} → (W → List ℕ → Result (List ℕ) CommandFault → W → Type 0) → List (List ℕ) → Devices W → List ℕ × List ℕ → Type 0

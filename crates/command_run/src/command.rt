@@ -8,7 +8,7 @@ ghost use Rattle.command_words.specs.Choice.{IsWithin};
 ghost use Rattle.command_answers.specs.Commands.{RunsPlanAnswer};
 ghost use Rattle.command_run.specs.Improvers.{Improves};
 ghost use Rattle.command_run.specs.Program.{RunsCommand, aim_in, file_at, is_second, kept_log_in, form_in, log_in};
-ghost use Rattle.command_run.specs.Program.{names_in, manner_in, name_in, overall_aim, pair_in};
+ghost use Rattle.command_run.specs.Program.{names_in, protocol_in, name_in, overall_aim, pair_in};
 
 use crate::choosers::decided_answer;
 use crate::devices::{Screen, Streams};
@@ -152,7 +152,7 @@ fn present(at: Option<Moment>) -> Moment
 
 /// The protocol by which cells are driven. A leap counts from the present moment at the earliest, if one is given.
 pub(crate) fn protocol(chosen: &Chosen) -> Protocol
-    ensures { result ≡ manner_in chosen.now }
+    ensures { result ≡ protocol_in chosen.now }
 {
     Protocol {
         version_2: is_second(chosen.lines),

@@ -68,8 +68,8 @@ pub fn tell<E: Sink>(alloc: Global, fault: &CommandFault, errors: &mut E) -> u8
     match text_line(alloc, fault) {
         Ok(line) => print_line(errors, error_line(fault, &line), fault.status()),
         Err(error) => {
-            let wanting = CommandFault::from(error);
-            print_line(errors, error_line(&wanting, b""), wanting.status())
+            let no_memory = CommandFault::from(error);
+            print_line(errors, error_line(&no_memory, b""), no_memory.status())
         }
     }
 }
@@ -77,7 +77,7 @@ pub fn tell<E: Sink>(alloc: Global, fault: &CommandFault, errors: &mut E) -> u8
 /// The line of a refused text. For another fault it is empty, and takes no memory.
 fn text_line(alloc: Global, fault: &CommandFault) -> Result<Vec<u8>, AllocError>
     ensures line { IfOk result (λ line. IsTextLine fault.now line.items) }
-    ensures wanting { IfErr result (λ _. IsOfText fault.now) }
+    ensures no_memory { IfErr result (λ _. IsOfText fault.now) }
 {
     match fault {
         CommandFault::Instance(fault) => {

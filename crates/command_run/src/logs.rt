@@ -5,7 +5,7 @@ ghost use Rattle.shop_base.specs.declared.limits.TheConstants.{MAX_MOMENT};
 ghost use Rattle.byte_streams.specs.Lent.{output_of};
 ghost use Rattle.event_lines.specs.RunDigits.{plan_line};
 ghost use Rattle.cell_drive.specs.Recovered.{plan_of, replayed_events};
-ghost use Rattle.cell_drive.specs.InProtocol.{IsDriveIn, IsGoneOnIn};
+ghost use Rattle.cell_drive.specs.InProtocol.{IsDriveIn, IsContinuedIn};
 ghost use Rattle.cell_drive.specs.Replay.{replay_text};
 ghost use Rattle.run_journal.specs.Logged.{AreInitial};
 ghost use Rattle.command_run.specs.Drives.{end_of_drive};
@@ -24,7 +24,7 @@ use cell_drive::{
     replay_in,
 };
 use command_answers::{Answered, InputPaths, Texts};
-use logged_drive::{LoggedEnd, RecoveredLog, drive_logged, go_on_logged};
+use logged_drive::{LoggedEnd, RecoveredLog, continue_logged, drive_logged};
 use run_journal::{InitialState, LogFile, Logs, WritingRoom};
 use std::alloc::Global;
 
@@ -102,8 +102,8 @@ fn drive_with<R: Source, W: BufferedSink + Drop, D: LogFile + Drop, B: InitialSt
     }
 }
 
-/// Goes on with a run that was recovered from a log, whose events were replayed.
-fn go_on_with<R: Source, W: BufferedSink + Drop, D: LogFile + Drop, B: InitialState>(
+/// Continues a run that was recovered from a log, whose events were replayed.
+fn continue_with<R: Source, W: BufferedSink + Drop, D: LogFile + Drop, B: InitialState>(
     alloc: Global,
     run: Replayed,
     room: WritingRoom,
@@ -118,7 +118,7 @@ fn go_on_with<R: Source, W: BufferedSink + Drop, D: LogFile + Drop, B: InitialSt
     requires shown { streams.output.pending ≡ [] }
     ensures went_on { StepsWith D.seen D.crash_states D.fault D.written
         B.before streams result.outcome result.streams result.driven result.log
-        (DrivesWithLog (plan_of run) (replayed_events run) (IsGoneOnIn protocol run) end_of_rest) }
+        (DrivesWithLog (plan_of run) (replayed_events run) (IsContinuedIn protocol run) end_of_rest) }
 {
     let Streams { mut input, output } = streams;
     let LoggedEnd {
@@ -126,7 +126,7 @@ fn go_on_with<R: Source, W: BufferedSink + Drop, D: LogFile + Drop, B: InitialSt
         log_failed,
         log,
         output,
-    } = go_on_logged(run, room, protocol, &mut input, log, output, before);
+    } = continue_logged(run, room, protocol, &mut input, log, output, before);
     let outcome = logged_end(alloc, is_rest_done(end), log_failed);
     LoggedRun {
         outcome,
@@ -180,7 +180,7 @@ fn replay_and_continue<R: Source, W: BufferedSink + Drop, D: LogFile + Drop, B: 
     } = recovered;
     let Streams { input, mut output } = streams;
     match show_again(run, protocol, &mut output) {
-        Ok(run) => go_on_with(
+        Ok(run) => continue_with(
             alloc,
             run,
             room,

@@ -9,8 +9,8 @@ ghost use Rattle.command_run.specs.Program.{RunsResume};
 use crate::devices::Streams;
 use crate::drives::{CommandFaultOf, ended, line_answer};
 use cell_drive::{
-    BufferedSink, DriveFault, Protocol, RecoveredRun, RestEnd, ResumeFault, Source, resume_in,
-    take_up,
+    BufferedSink, DriveFault, Protocol, RecoveredRun, RestEnd, ResumeFault, Source, recover,
+    resume_in,
 };
 use command_answers::{
     Answered, CommandFault, InputPaths, Loaded, Texts, log_fault_answer, past_answer, shape_files,
@@ -94,7 +94,7 @@ fn recoverable(
     requires { IfSome at (λ present. present ≤ MAX_MOMENT) }
     ensures { IsRecovery shaped at text.items result }
 {
-    take_up(alloc, shaped, &text, at)
+    recover(alloc, shaped, &text, at)
 }
 
 /// What is answered where a run isn't recovered: the line of the log's first fault, of a moment that is past, or of the

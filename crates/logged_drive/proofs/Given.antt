@@ -13,7 +13,7 @@ use Rattle.cell_tables.specs.declared.entry.Entry.{Entry}
 use Rattle.event_lines.specs.LogLines.{LinesParse}
 use Rattle.cell_drive.specs.declared.{protocol.Protocol.Protocol, begin.DriveEnd.DriveEnd, resume.RestEnd.RestEnd}
 use Rattle.cell_drive.specs.{OneRun.IsStreamedFrom, AnswerText.{DrivenCell, undriven, CellCloses}}
-use Rattle.cell_drive.specs.{InProtocol.{IsDriveIn, IsGoneOnIn}, Resuming.{due_text, driven_so_far, session_from}}
+use Rattle.cell_drive.specs.{InProtocol.{IsDriveIn, IsContinuedIn}, Resuming.{due_text, driven_so_far, session_from}}
 use Rattle.cell_drive.specs.Session.{SessionAnswer, SessionCloses, seen, session_start, SessionState}
 use Rattle.cell_drive.specs.{Recovered.{Recovered, IsRecovered, plan_of, replayed_events}, ProtocolText.ProtocolAnswers}
 use Rattle.cell_drive.proofs.{CellTexts.took_second, Sessions.{a_session_answers_so, seen_closes}}
@@ -122,7 +122,7 @@ driven_first : (protocol : Protocol) (v : VerifiedPlan) (before after : Streams)
 driven_first protocol v before after outcome is =
     of_session (session_start protocol v) [] before.output.written before.output.written after.output.written (Appends-nil before.output.written) (from_start SessionAnswer SessionCloses outcome (session_start protocol v) is.end before after is.streamed)
 
-goes_first : (protocol : Protocol) (recovered : Recovered) (before after : Streams) (outcome : Result RestEnd DriveFault) → IsGoneOnIn protocol recovered before after outcome
+goes_first : (protocol : Protocol) (recovered : Recovered) (before after : Streams) (outcome : Result RestEnd DriveFault) → IsContinuedIn protocol recovered before after outcome
     → IsFirstOfCell (plan_of recovered) protocol (due_text recovered) (driven_so_far (plan_of recovered) recovered.log.entries) before.output.written after.output.written
 goes_first protocol recovered before after outcome (inl cut) =
     let due = due_text recovered in
@@ -174,7 +174,7 @@ recovered_after protocol v verified (Some known) seen crash_states held printed 
 
 pub recovered_once_more : (protocol : Protocol) (recovered : Recovered) (before : Option (List ℕ × List ℕ)) (seen : Option (List ℕ)) (crash_states : List ℕ → Type 0) (held : Held) (printed after : Option (List ℕ))
     (input input_after : Input) (outcome : Result RestEnd DriveFault) → after ≡ held.written → IfSome before (λ known. whole_lines known.0 ≡ known.0) → IfSome before (λ known. printed ≡ Some known.1)
-    → IsGoneOnIn protocol recovered (record { input = input; output = output_held (nothing_held printed) }) (record { input = input_after; output = output_held held }) outcome → StayInStep before seen crash_states held
+    → IsContinuedIn protocol recovered (record { input = input; output = output_held (nothing_held printed) }) (record { input = input_after; output = output_held held }) outcome → StayInStep before seen crash_states held
     → IfSome before (λ known. (p : PlannedShop) (at : Option ℕ) → IsRecovered p (ended_lines known.0) at recovered → law.IsRecoveredAfter p (replayed_events recovered) known.1 crash_states after)
 recovered_once_more protocol recovered None seen crash_states held printed after input input_after outcome same whole start went step = tt
 recovered_once_more protocol recovered (Some known) seen crash_states held printed after input input_after outcome same whole start went step = λ p at up.

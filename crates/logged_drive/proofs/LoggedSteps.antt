@@ -5,7 +5,7 @@ use Rattle.byte_streams.specs.declared.drive_fault.DriveFault.{DriveFault, TheVa
 use Rattle.byte_streams.specs.Lent.{Input, Output, Streams}
 use Rattle.plan_verifier.specs.Accepted.{VerifiedPlan}
 use Rattle.cell_drive.specs.declared.{protocol.Protocol.Protocol, begin.DriveEnd.DriveEnd, resume.RestEnd.RestEnd}
-use Rattle.cell_drive.specs.{Recovered.Recovered, InProtocol.{IsDriveIn, IsGoneOnIn}}
+use Rattle.cell_drive.specs.{Recovered.Recovered, InProtocol.{IsDriveIn, IsContinuedIn}}
 use Rattle.run_journal.specs.{LogFiles.IsDurable, WholeLines.whole_lines, LoggedLines.logged}
 use Rattle.run_journal.specs.{Logged.{Held, AreInitial, StayInStep}, Laws.ACrashKeepsWhatWasShown}
 use Rattle.run_journal.proofs.Fronts.{if_some-at, if_some-both, if_some-map}
@@ -71,22 +71,22 @@ module _ {T : Type 0} (drives : Streams → Streams → Result T DriveFault → 
 -- ---- a run that goes on
 
 module _ (protocol : Protocol) (recovered : Recovered) (before after : Streams) where
-  pub unfailed_behind : (outcome : Result RestEnd DriveFault) → IsGoneOnIn protocol recovered before after outcome → OnOk outcome (after.output.failed ≡ before.output.failed)
+  pub unfailed_behind : (outcome : Result RestEnd DriveFault) → IsContinuedIn protocol recovered before after outcome → OnOk outcome (after.output.failed ≡ before.output.failed)
   unfailed_behind (Ok end) (inl cut) = (let bad : Ok end ≡ Err Write = cut.0 in absurd (cc bad))
   unfailed_behind (Ok end) (inr on) = on.streamed.comes_to.write_unfailed ∙ on.unfailed
   unfailed_behind (Err fault) went = tt
 
-  at_write : IsGoneOnIn protocol recovered before after (Err Write) → after.output.failed ≡ true
+  at_write : IsContinuedIn protocol recovered before after (Err Write) → after.output.failed ≡ true
   at_write (inl cut) = cut.1
   at_write (inr on) = on.streamed.comes_to.0
 
-  pub write_failed_behind : (outcome : Result RestEnd DriveFault) → outcome ≡ Err Write → IsGoneOnIn protocol recovered before after outcome → after.output.failed ≡ true
-  write_failed_behind outcome is went = at_write (subst (IsGoneOnIn protocol recovered before after) is went)
+  pub write_failed_behind : (outcome : Result RestEnd DriveFault) → outcome ≡ Err Write → IsContinuedIn protocol recovered before after outcome → after.output.failed ≡ true
+  write_failed_behind outcome is went = at_write (subst (IsContinuedIn protocol recovered before after) is went)
 
-  at_memory : IsGoneOnIn protocol recovered before after (Err Memory) → ⊥
+  at_memory : IsContinuedIn protocol recovered before after (Err Memory) → ⊥
   at_memory (inl cut) = (let bad : Err Memory ≡ Err Write = cut.0 in cc bad)
   at_memory (inr on) = on.streamed.comes_to
 
   -- memory doesn't run out in it
-  pub no_memory_behind : (outcome : Result RestEnd DriveFault) → outcome ≡ Err Memory → IsGoneOnIn protocol recovered before after outcome → ⊥
-  no_memory_behind outcome is went = at_memory (subst (IsGoneOnIn protocol recovered before after) is went)
+  pub no_memory_behind : (outcome : Result RestEnd DriveFault) → outcome ≡ Err Memory → IsContinuedIn protocol recovered before after outcome → ⊥
+  no_memory_behind outcome is went = at_memory (subst (IsContinuedIn protocol recovered before after) is went)

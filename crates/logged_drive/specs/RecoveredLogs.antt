@@ -19,8 +19,8 @@ pub record ParseARun (p : PlannedShop) (lines : List (List ℕ)) : Type 0 where
   pub is_run : IsRun p (events_of recorded)
 
 -- memory ran out
-abbrev pub want_of_memory : RecoverFault
-want_of_memory = Resume Memory
+abbrev pub out_of_memory : RecoverFault
+out_of_memory = Resume Memory
 
 -- after bad lines nothing is asked of the end; before any other fault a crash can have left it
 abbrev pub IsAfterEnd : ResumeFault → Bool → Type 0

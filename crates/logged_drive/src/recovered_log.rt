@@ -26,9 +26,9 @@ pub enum RecoverFault {
 
 impl From<AllocError> for RecoverFault {
     ghost use Rattle.std.specs.Prelude.{◌≡◌};
-    ghost use Rattle.logged_drive.specs.RecoveredLogs.{want_of_memory};
+    ghost use Rattle.logged_drive.specs.RecoveredLogs.{out_of_memory};
 
-    ghost from_gives = { λ _ fault. fault ≡ want_of_memory };
+    ghost from_gives = { λ _ fault. fault ≡ out_of_memory };
 
     fn from(error: AllocError) -> RecoverFault {
         RecoverFault::Resume(ResumeFault::from(error))

@@ -8,10 +8,10 @@ ghost use Rattle.event_lines.specs.RunDigits.{AreDigits};
 ghost use Rattle.run_journal.specs.{LogFiles.HasFailed, LogFiles.IsDurable, LogRuns.IsNamedFor, LogRuns.IsNamedOrNot};
 ghost use Rattle.run_journal.specs.{TornEnds.is_torn, WholeLines.torn_end, WholeLines.whole_lines};
 ghost use Rattle.logged_drive.specs.RecoveredLogs.{IsOfDevice, IsOfText, IsOnlyRecoverFault, IsRecoverFault};
-ghost use Rattle.logged_drive.specs.RecoveredLogs.{file_fault, want_of_memory};
+ghost use Rattle.logged_drive.specs.RecoveredLogs.{file_fault, out_of_memory};
 
 use crate::recovered_log::{RecoverFault, RecoveredLog};
-use cell_drive::{RecoveredRun, ResumeFault, take_up};
+use cell_drive::{RecoveredRun, ResumeFault, recover};
 use event_lines::RunDigits;
 use run_journal::{FileFault, LogFile, LogText, WritingRoom, cut_end, is_torn_end, name_plan};
 use shop_base::{Moment, Shaped};
@@ -44,7 +44,7 @@ fn recover_text(
         → IfErr result IsOfDevice }
 {
     let torn = is_torn_end(text.end());
-    match take_up(alloc, shaped, text.lines(), at) {
+    match recover(alloc, shaped, text.lines(), at) {
         Ok(recovered) => {
             if torn {
                 Ok(recovered)
@@ -77,7 +77,7 @@ fn recover_text(
 /// What was recovered, with the room of the writer that goes on with its log.
 fn with_room<T: Drop>(alloc: Global, recovered: T) -> Result<(T, WritingRoom), RecoverFault>
     ensures recovered { IfOk result (λ both. both.0 ≡ recovered) }
-    ensures memory { IfErr result (λ fault. fault ≡ want_of_memory) }
+    ensures memory { IfErr result (λ fault. fault ≡ out_of_memory) }
 {
     let room = WritingRoom::new(alloc)?;
     Ok((recovered, room))

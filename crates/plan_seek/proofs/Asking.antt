@@ -8,7 +8,7 @@ use Rattle.shop_base.specs.declared.shape_fault.ShapeFault.{ShapeFault}
 use Rattle.shop_base.specs.ShapeFault.{IsFirstShapeFault}
 use Rattle.plan_verifier.specs.Accepted.{IsAcceptable}
 use Rattle.plan_seek.specs.declared.attempt.Attempt.{Attempt}
-use Rattle.plan_seek.specs.declared.attempt.Attempt.TheVariants.{Accepted, InVain, WantsMemory}
+use Rattle.plan_seek.specs.declared.attempt.Attempt.TheVariants.{Accepted, InVain, NoMemory}
 use Rattle.plan_seek.specs.Orders.{Proposal}
 use Rattle.plan_seek.specs.Tasks.{PlanTask, task_in, with_order}
 use Rattle.plan_seek.specs.Turns.{PlanSearch, search_by, IsInVain, MayFail, IsFirstFound, EachMayFail, EachInRound, turn_of}
@@ -25,7 +25,7 @@ pub shaped_outcome : (t : PlanTask) (orders : List (List ℕ)) (p : PlannedShop)
 shaped_outcome t orders p (Accepted verified) is given = rw is at given
 shaped_outcome t orders p (InVain back) is given =
     (given.0 ∙ ap task_in is, λ accepted. given.1 (subst IsAcceptable (sym is) accepted.acceptable))
-shaped_outcome t orders p (WantsMemory error back) is given = given ∙ ap task_in is
+shaped_outcome t orders p (NoMemory error back) is given = given ∙ ap task_in is
 
 -- the plan with these orders isn't well shaped
 pub refused_outcome : (t back : PlanTask) (orders : List (List ℕ)) (shop other_shop : JobShop) (plan other_plan : ShopPlan) (fault : ShapeFault)

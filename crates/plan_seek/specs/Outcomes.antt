@@ -3,7 +3,7 @@ use Rattle.std.specs.Prelude.{◌≡◌, ℕ, ◌<◌, List, Some, Result, Ok, E
 use Rattle.shop_base.specs.Plan.{PlannedShop}
 use Rattle.plan_verifier.specs.Accepted.{VerifiedPlan}
 use Rattle.plan_seek.specs.declared.attempt.Attempt.{Attempt}
-use Rattle.plan_seek.specs.declared.attempt.Attempt.TheVariants.{Accepted, InVain, WantsMemory}
+use Rattle.plan_seek.specs.declared.attempt.Attempt.TheVariants.{Accepted, InVain, NoMemory}
 use Rattle.plan_seek.specs.declared.seek_fault.NotFound.{NotFound}
 use Rattle.plan_seek.specs.declared.seek_fault.SeekFault.{SeekFault}
 use Rattle.plan_seek.specs.declared.seek_fault.SeekFault.TheVariants.{BadNumbers, Exhausted, TooManyRounds, Memory}
@@ -21,7 +21,7 @@ pub record IsPlanFor (t : PlanTask) (p : PlannedShop) : Type 0 where
 abbrev pub IsOutcome : PlanTask → (List (List ℕ) → Type 0) → Type 0 → Attempt → Type 0
 IsOutcome t Found Failed (Accepted verified) = IsPlanFor t verified.planned × Found verified.planned.plan.order
 IsOutcome t Found Failed (InVain back) = (back ≡ t) × Failed
-IsOutcome t Found Failed (WantsMemory error back) = back ≡ t
+IsOutcome t Found Failed (NoMemory error back) = back ≡ t
 
 -- within one round: these orders may be proposed at some turn, and at each turn before it a proposal may be made that isn't accepted
 pub record IsFoundIn (s : PlanSearch) (round : ℕ) (order : List (List ℕ)) : Type 0 where

@@ -18,7 +18,7 @@ pub(crate) enum Attempt {
     /// There is no plan, or it isn't accepted.
     InVain(Task),
     /// Out of memory: what the request was refused with, and the task.
-    WantsMemory(AllocError, Task),
+    NoMemory(AllocError, Task),
 }
 
 /// Shapes and verifies the plan with these orders.
@@ -40,6 +40,6 @@ fn try_shaped(alloc: Global, shaped: Shaped) -> Attempt
     match verify(alloc, shaped) {
         Ok(Verdict::Accepted(verified)) => Attempt::Accepted(verified),
         Ok(Verdict::Refused(shaped, _)) => Attempt::InVain(Task::of_shaped(shaped)),
-        Err((error, shaped)) => Attempt::WantsMemory(error, Task::of_shaped(shaped)),
+        Err((error, shaped)) => Attempt::NoMemory(error, Task::of_shaped(shaped)),
     }
 }

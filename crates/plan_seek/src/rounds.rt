@@ -23,7 +23,7 @@ pub(crate) fn try_rounds(
         match try_round(alloc, task, proposers, round) {
             Attempt::Accepted(verified) => return Attempt::Accepted(verified),
             Attempt::InVain(back) => task = back,
-            Attempt::WantsMemory(error, back) => return Attempt::WantsMemory(error, back),
+            Attempt::NoMemory(error, back) => return Attempt::NoMemory(error, back),
         }
     }
     Attempt::InVain(task)
@@ -37,7 +37,7 @@ fn try_round(alloc: Global, mut task: Task, proposers: &[Box<dyn Proposer>], rou
         match try_proposer(alloc, task, proposer, round) {
             Attempt::Accepted(verified) => return Attempt::Accepted(verified),
             Attempt::InVain(back) => task = back,
-            Attempt::WantsMemory(error, back) => return Attempt::WantsMemory(error, back),
+            Attempt::NoMemory(error, back) => return Attempt::NoMemory(error, back),
         }
     }
     Attempt::InVain(task)
@@ -50,7 +50,7 @@ fn try_proposer(alloc: Global, task: Task, proposer: &Box<dyn Proposer>, round: 
     match ask(alloc, proposer, &task.shop, round) {
         Ok(Some(order)) => try_orders(alloc, task, order),
         Ok(None) => Attempt::InVain(task),
-        Err(error) => Attempt::WantsMemory(error, task),
+        Err(error) => Attempt::NoMemory(error, task),
     }
 }
 

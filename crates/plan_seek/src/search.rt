@@ -78,6 +78,6 @@ fn search(
     match try_rounds(alloc, task, proposers, rounds) {
         Attempt::Accepted(verified) => Ok(verified),
         Attempt::InVain(task) => try_serial(alloc, task),
-        Attempt::WantsMemory(error, task) => Err(task.not_found(SeekFault::from(error))),
+        Attempt::NoMemory(error, task) => Err(task.not_found(SeekFault::from(error))),
     }
 }

@@ -69,8 +69,8 @@ pub answered : {A : Type 0} (Is : A → Type 0) (files : List (List ℕ)) (outco
 answered Is files (Ok a) asked is same = (is, same)
 answered Is files (Err fault) asked is same = is
 
-pub wanting : {A : Type 0} (Is : A → Type 0) (files : List (List ℕ)) (outcome : Result A CommandFault) (asked : List (List ℕ)) → outcome ≡ Err Memory → IsAnswered Is files outcome asked
-wanting Is files outcome asked is = subst (λ r. IsAnswered Is files r asked) (sym is) refl
+pub no_memory : {A : Type 0} (Is : A → Type 0) (files : List (List ℕ)) (outcome : Result A CommandFault) (asked : List (List ℕ)) → outcome ≡ Err Memory → IsAnswered Is files outcome asked
+no_memory Is files outcome asked is = subst (λ r. IsAnswered Is files r asked) (sym is) refl
 
 -- what came was drawn
 came_drawn : (Is : Drawn → Type 0) (files : List (List ℕ)) (drawn : Result Drawn CommandFault) (before after : Streams) (outcome : Result Answer CommandFault) (asked : List (List ℕ))
@@ -108,7 +108,7 @@ module _ (content : List ℕ → Result (List ℕ) CommandFault) (pair : InputPa
       let of_plan : ShopPlan → PlannedShop = λ q. record { shop = p.shop; plan = q } in
       let same : of_shop shop ≡ p = ap of_shop same_shop ∙ ap of_plan same_plan in
       subst (λ r. IsAnswered (λ q. q ≡ p) (pair.path ∷ pair.plan ∷ []) r asked) (sym on.0) (same, on.1 ∙ files)
-  plan_came shop (Err f) mid read asked same_shop is files on = wanting _ _ read asked (on.0 ∙ ap Err (is.only p.plan good.tell.plan))
+  plan_came shop (Err f) mid read asked same_shop is files on = no_memory _ _ read asked (on.0 ∙ ap Err (is.only p.plan good.tell.plan))
 
   -- so does the instance's text give its shop
   instance_came : (came : Result Named CommandFault) (mid : List (List ℕ)) (read : Result PlannedShop CommandFault) (asked : List (List ℕ)) → IsInstanceRead good.instance pair.name came → mid ≡ pair.path ∷ []
@@ -118,7 +118,7 @@ module _ (content : List ℕ → Result (List ℕ) CommandFault) (pair : InputPa
       let same_shop = (is.only good.tell.description p.shop good.tell.shop).1 in
       let plan = asked_and_read content (λ t. IsPlanRead t) pair.plan good.plan good.plan_is mid on.is.came on.is.mid on.came on.mid on.is.is on.is.goes_on in
       plan_came named.shop on.came on.mid read asked same_shop plan.0 (plan.1 ∙ ap (λ ps. ps ++ pair.plan ∷ []) files) on.goes_on
-  instance_came (Err f) mid read asked is files on = wanting _ _ read asked (on.0 ∙ ap Err (is.only good.tell.description p.shop good.tell.shop))
+  instance_came (Err f) mid read asked is files on = no_memory _ _ read asked (on.0 ∙ ap Err (is.only good.tell.description p.shop good.tell.shop))
 
   both_come : (read : Result PlannedShop CommandFault) (asked : List (List ℕ)) → ReadsBoth (Shelf content) pair [] read asked → IsAnswered (λ q. q ≡ p) (pair.path ∷ pair.plan ∷ []) read asked
   both_come read asked run =
@@ -138,7 +138,7 @@ module _ (content : List ℕ → Result (List ℕ) CommandFault) (pair : InputPa
   parsed_answered : {A : Type 0} (Is : A → Type 0) (outcome : Result A CommandFault) (asked : List (List ℕ)) → Concludes (IsOrMemory Is) (pair.path ∷ pair.plan ∷ []) outcome asked ⊎ (outcome ≡ Err Memory)
       → IsAnswered Is (pair.path ∷ pair.plan ∷ []) outcome asked
   parsed_answered Is outcome asked (inl concluded) = answered Is _ outcome asked concluded.0 concluded.1
-  parsed_answered Is outcome asked (inr none) = wanting Is _ outcome asked none
+  parsed_answered Is outcome asked (inr none) = no_memory Is _ outcome asked none
 
   pub good_plan : {A : Type 0} (Is : PlannedShop → A → Type 0) (outcome : Result A CommandFault) (asked : List (List ℕ)) → WithBoth (Shelf content) pair (λ q. Concludes (IsOrMemory (Is q))) [] outcome asked
       → IsAnswered (Is p) (pair.path ∷ pair.plan ∷ []) outcome asked
@@ -193,8 +193,8 @@ module _ (content : List ℕ → Result (List ℕ) CommandFault) (pair : InputPa
       let later = unnamed (λ book. Then (Asks (Shelf content) log) (λ t. Concludes (IsOrMemory (IsLine book p t)))) (pair.path ∷ pair.plan ∷ []) asked outcome (Shelf content) p run in
       let read = asked_and_read content (λ t. IsOrMemory (IsLine no_names p t)) log text is (pair.path ∷ pair.plan ∷ []) later.came later.mid outcome asked later.is later.goes_on in
       answered _ _ outcome asked read.0 read.1
-  named_log_came IsLine log text outcome asked is shaped (inl (inr unshaped)) = wanting _ _ outcome asked (shaped_after_all p outcome shaped unshaped.0)
-  named_log_came IsLine log text outcome asked is shaped (inr none) = wanting _ _ outcome asked none
+  named_log_came IsLine log text outcome asked is shaped (inl (inr unshaped)) = no_memory _ _ outcome asked (shaped_after_all p outcome shaped unshaped.0)
+  named_log_came IsLine log text outcome asked is shaped (inr none) = no_memory _ _ outcome asked none
 
   pub good_named_log : (IsLine : NameBook → PlannedShop → List ℕ → Answer → Type 0) (log text : List ℕ) (outcome : Result Answer CommandFault) (asked : List (List ℕ)) → content log ≡ Ok text → IsWellShaped p
       → WithBoth (Shelf content) pair (λ q. IfShaped (Shelf content) q (WithNamesAndLog (Shelf content) None log q (λ book. IsLine book q))) [] outcome asked
@@ -243,8 +243,8 @@ module _ (content : List ℕ → Result (List ℕ) CommandFault) (pair : InputPa
       let later = unnamed (λ book. Then (Asks (Shelf content) log) (λ t. Concludes (IsOrMemory (IsDrawing book p t)))) (pair.path ∷ pair.plan ∷ []) asked drawn (Shelf content) p run in
       let read = asked_and_read content (λ t. IsOrMemory (IsDrawing no_names p t)) log text is (pair.path ∷ pair.plan ∷ []) later.came later.mid drawn asked later.is later.goes_on in
       answered _ _ drawn asked read.0 read.1
-  drawn_log_came IsDrawing log text drawn asked is shaped (inl (inr unshaped)) = wanting _ _ drawn asked (drawn_after_all drawn shaped unshaped.0)
-  drawn_log_came IsDrawing log text drawn asked is shaped (inr none) = wanting _ _ drawn asked none
+  drawn_log_came IsDrawing log text drawn asked is shaped (inl (inr unshaped)) = no_memory _ _ drawn asked (drawn_after_all drawn shaped unshaped.0)
+  drawn_log_came IsDrawing log text drawn asked is shaped (inr none) = no_memory _ _ drawn asked none
 
   pub good_rest_picture : (at : Option ℕ) (before after : Streams) (log text : List ℕ) (outcome : Result Answer CommandFault) (asked : List (List ℕ)) → content log ≡ Ok text → IsWellShaped p
       → RunsPicture (DrawsRest (Shelf content) at pair None log) [] before outcome asked after → IsDrawn (IsRestDrawing at no_names p text) (pair.path ∷ pair.plan ∷ log ∷ []) before outcome asked after
@@ -333,7 +333,7 @@ module _ (content : List ℕ → Result (List ℕ) CommandFault) (pair : InputPa
 
   drives_no_cell : (protocol : Protocol) (loaded : Result Loaded CommandFault) (asked : List (List ℕ)) (before after : Streams) (outcome : Result Answer CommandFault) → (IsWellShaped p → IsAcceptable p → ⊥)
       → IsAnswered (IsLoaded p) (pair.path ∷ pair.plan ∷ []) loaded asked → Drives protocol loaded before after outcome → IsAnswered (IsCheckLine p) (pair.path ∷ pair.plan ∷ []) outcome asked × (after ≡ before)
-  drives_no_cell protocol (Err fault) asked before after outcome never is drives = (wanting (IsCheckLine p) _ outcome asked (drives.0 ∙ ap Err is), drives.1)
+  drives_no_cell protocol (Err fault) asked before after outcome never is drives = (no_memory (IsCheckLine p) _ outcome asked (drives.0 ∙ ap Err is), drives.1)
   drives_no_cell protocol (Ok (NotShaped fault)) asked before after outcome never is drives = (line_answered (NotShaped fault) outcome asked is.0 is.1 drives.0, drives.1)
   drives_no_cell protocol (Ok (Judged (Refused back why))) asked before after outcome never is drives = (line_answered (Judged (Refused back why)) outcome asked is.0 is.1 drives.0, drives.1)
   drives_no_cell protocol (Ok (Judged (Accepted v))) asked before after outcome never is drives = absurd (never is.0.well_shaped is.0.accepted.1)
@@ -346,7 +346,7 @@ module _ (content : List ℕ → Result (List ℕ) CommandFault) (pair : InputPa
   resumes_unshaped : (protocol : Protocol) (at : Option ℕ) (log : List ℕ) (shaped : Result (Result PlannedShop ShapeFault) CommandFault) (mid asked : List (List ℕ)) (before after : Streams) (outcome : Result Answer CommandFault) → (IsWellShaped p → ⊥)
       → IsAnswered (IsShapedOrNot p) (pair.path ∷ pair.plan ∷ []) shaped mid → Resumes (Shelf content) protocol at log shaped mid before outcome asked after
       → IsAnswered (IsCheckLine p) (pair.path ∷ pair.plan ∷ []) outcome asked × (after ≡ before)
-  resumes_unshaped protocol at log (Err fault) mid asked before after outcome never is resumes = (wanting (IsCheckLine p) _ outcome asked (resumes.0 ∙ ap Err is), resumes.1)
+  resumes_unshaped protocol at log (Err fault) mid asked before after outcome never is resumes = (no_memory (IsCheckLine p) _ outcome asked (resumes.0 ∙ ap Err is), resumes.1)
   resumes_unshaped protocol at log (Ok (Err fault)) mid asked before after outcome never is resumes = (line_answered (NotShaped fault) outcome asked is.0 (resumes.2 ∙ is.1) resumes.0, resumes.1)
   resumes_unshaped protocol at log (Ok (Ok q)) mid asked before after outcome never is resumes = absurd (never is.0.1)
 
@@ -374,7 +374,7 @@ module _ (content : List ℕ → Result (List ℕ) CommandFault) (pair : InputPa
 
     unrecovered_answered : (fault : ResumeFault) (files asked : List (List ℕ)) (outcome : Result Answer CommandFault) → asked ≡ files → IsResumeFault p (ended_lines text) at fault → IsUnrecoveredAnswer fault outcome
         → IsAnswered (IsCheckLine p) files outcome asked
-    unrecovered_answered OutOfMemory files asked outcome same is answered_so = wanting (IsCheckLine p) files outcome asked answered_so
+    unrecovered_answered OutOfMemory files asked outcome same is answered_so = no_memory (IsCheckLine p) files outcome asked answered_so
     unrecovered_answered (Log fault) files asked outcome same is answered_so = absurd (first_bad-no_run p (ended_lines text) fault is (recorded, parses, run))
     unrecovered_answered (Past last) files asked outcome same (others, also, events, is_past) answered_so =
         let one : others ≡ recorded = one_reading p (ended_lines text) others recorded also parses in
@@ -404,5 +404,5 @@ module _ (content : List ℕ → Result (List ℕ) CommandFault) (pair : InputPa
         → IsAnswered (IsCheckLine p) (pair.path ∷ pair.plan ∷ log ∷ []) outcome asked × (after ≡ before)
     no_resume log before after outcome asked is runs = elim (good_resume protocol at before after log text outcome asked well is runs) [
       | inl (files, resumes) ↦ text_resumes (pair.path ∷ pair.plan ∷ log ∷ []) asked before after outcome files resumes
-      | inr (none, unread) ↦ (wanting (IsCheckLine p) (pair.path ∷ pair.plan ∷ log ∷ []) outcome asked none, unread)
+      | inr (none, unread) ↦ (no_memory (IsCheckLine p) (pair.path ∷ pair.plan ∷ log ∷ []) outcome asked none, unread)
     ]

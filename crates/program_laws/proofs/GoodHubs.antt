@@ -27,7 +27,7 @@ use Rattle.command_run.specs.Hubs.{DrivesAll}
 use Rattle.command_run.specs.Program.{RunsHub}
 use Rattle.command_run.specs.Laws.{Shelf, IsAnswered, ParsesAsPlanOf, ParsesAsAcceptedPlan, ParseAsAcceptedPlans, DrivesPlans, IsNumberedLine}
 use Rattle.plan_verifier.proofs.Reasons.{reason_refutes}
-use Rattle.program_laws.proofs.GoodFiles.{answered, wanting, asked_and_read}
+use Rattle.program_laws.proofs.GoodFiles.{answered, no_memory, asked_and_read}
 
 -- the plans of cells
 abbrev plans_of : List VerifiedPlan → List PlannedShop
@@ -55,7 +55,7 @@ module _ (content : List ℕ → Result (List ℕ) CommandFault) (instance : Lis
       let of_plan : ShopPlan → PlannedShop = λ q. record { shop = p.shop; plan = q } in
       let same : of_shop shop ≡ p = ap of_shop same_shop ∙ ap of_plan (is.only p.plan good.tell.plan) in
       answered (IsLoaded p) _ loaded asked (subst (λ q. IsOrMemory (IsLoaded q) loaded) same on.0) (on.1 ∙ files)
-  plan_came path p good shop (Err f) before mid loaded asked same_shop is files on = wanting _ _ loaded asked (on.0 ∙ ap Err (is.only p.plan good.tell.plan))
+  plan_came path p good shop (Err f) before mid loaded asked same_shop is files on = no_memory _ _ loaded asked (on.0 ∙ ap Err (is.only p.plan good.tell.plan))
 
   -- the plan of a file is accepted
   one_came : (path : List ℕ) (p : PlannedShop) → ParsesAsPlanOf content instance name path p → (came : Result Named CommandFault) (before mid : List (List ℕ))
@@ -66,7 +66,7 @@ module _ (content : List ℕ → Result (List ℕ) CommandFault) (instance : Lis
       let same_shop = (is.only good.tell.description p.shop good.tell.shop).1 in
       let read = asked_and_read content (λ t. IsPlanRead t) path good.plan good.plan_is mid on.is.came on.is.mid on.came on.mid on.is.is on.is.goes_on in
       plan_came path p good named.shop on.came before on.mid loaded asked same_shop read.0 (read.1 ∙ ap (λ (files : List (List ℕ)). files ++ path ∷ []) same) on.goes_on
-  one_came path p good (Err f) before mid loaded asked is same on = wanting _ _ loaded asked (on.0 ∙ ap Err (is.only good.tell.description p.shop good.tell.shop))
+  one_came path p good (Err f) before mid loaded asked is same on = no_memory _ _ loaded asked (on.0 ∙ ap Err (is.only good.tell.description p.shop good.tell.shop))
 
   -- behind it come the others
   others_come : (path : List ℕ) (p : PlannedShop) → ParsesAsAcceptedPlan content instance name path p → (paths : List (List ℕ)) (plans : List PlannedShop) (cells : List VerifiedPlan) (before mid : List (List ℕ))
@@ -75,10 +75,10 @@ module _ (content : List ℕ → Result (List ℕ) CommandFault) (instance : Lis
       → (one : Result Loaded CommandFault) (loaded : Result Cells CommandFault) (asked : List (List ℕ)) → IsAnswered (IsLoaded p) (before ++ path ∷ []) one mid
       → GoesOn (λ l. AfterPlan cells (λ more. LoadsEach (Shelf content) instance name more paths) (accepted_in l)) one mid loaded asked
       → IsAnswered (AreCellsOf (plans_of cells ++ p ∷ plans)) (before ++ path ∷ paths) loaded asked
-  others_come path p good paths plans cells before mid rest (Err f) loaded asked is on = wanting _ _ loaded asked (on.0 ∙ ap Err is)
+  others_come path p good paths plans cells before mid rest (Err f) loaded asked is on = no_memory _ _ loaded asked (on.0 ∙ ap Err is)
   others_come path p good paths plans cells before mid rest (Ok (NotShaped fault)) loaded asked is on = absurd (shape_fault_refutes p fault is.0 good.well_shaped)
   others_come path p good paths plans cells before mid rest (Ok (Judged (Refused back why))) loaded asked is on = absurd (reason_refutes p why is.0.refused.1 good.acceptable)
-  others_come path p good paths plans cells before mid rest (Ok (Judged (Accepted v))) loaded asked is (inr none) = wanting _ _ loaded asked none.0
+  others_come path p good paths plans cells before mid rest (Ok (Judged (Accepted v))) loaded asked is (inr none) = no_memory _ _ loaded asked none.0
   others_come path p good paths plans cells before mid rest (Ok (Judged (Accepted v))) loaded asked is (inl on) =
       let one : plans_of (cells ++ v ∷ []) ≡ plans_of cells ++ p ∷ [] =
       map-append (λ (v : VerifiedPlan). v.planned) cells (v ∷ []) ∙ ap (λ (q : PlannedShop). plans_of cells ++ q ∷ []) is.0.accepted.0 in
@@ -121,7 +121,7 @@ IsCellsLine number p (Line answer) = IsNumberedLine number p answer
 -- it is the answer, with no byte read or written
 line_answered : (protocol : Protocol) (number : ℕ) (p : PlannedShop) (files : List (List ℕ)) (loaded : Result Cells CommandFault) (before after : Streams) (outcome : Result Answer CommandFault) (asked : List (List ℕ))
     → IsAnswered (IsCellsLine number p) files loaded asked → DrivesAll protocol loaded before after outcome → IsAnswered (IsNumberedLine number p) files outcome asked × (after ≡ before)
-line_answered protocol number p files (Err fault) before after outcome asked is drives = (wanting _ _ outcome asked (drives.0 ∙ ap Err is), drives.1)
+line_answered protocol number p files (Err fault) before after outcome asked is drives = (no_memory _ _ outcome asked (drives.0 ∙ ap Err is), drives.1)
 line_answered protocol number p files (Ok (Line answer)) before after outcome asked is drives = (subst (λ r. IsAnswered (IsNumberedLine number p) files r asked) (sym drives.0) is, drives.1)
 line_answered protocol number p files (Ok (AllAccepted cells)) before after outcome asked is drives = absurd is.0
 
@@ -138,7 +138,7 @@ module _ (content : List ℕ → Result (List ℕ) CommandFault) (instance : Lis
   ends_there : (cells : List VerifiedPlan) (rest : List VerifiedPlan → List (List ℕ) → Result Cells CommandFault → List (List ℕ) → Type 0) (one : Result Loaded CommandFault) (mid files : List (List ℕ))
       (loaded : Result Cells CommandFault) (asked : List (List ℕ)) → IsAnswered (IsLoaded p) files one mid → GoesOn (λ l. AfterPlan cells rest (accepted_in l)) one mid loaded asked
       → IsAnswered (IsCellsLine (length cells) p) files loaded asked
-  ends_there cells rest (Err f) mid files loaded asked is on = wanting _ _ loaded asked (on.0 ∙ ap Err is)
+  ends_there cells rest (Err f) mid files loaded asked is on = no_memory _ _ loaded asked (on.0 ∙ ap Err is)
   ends_there cells rest (Ok (NotShaped fault)) mid files loaded asked is on = cell_answered (length cells) p files (NotShaped fault) loaded asked is.0 on.0 (on.1 ∙ is.1)
   ends_there cells rest (Ok (Judged (Refused back why))) mid files loaded asked is on = cell_answered (length cells) p files (Judged (Refused back why)) loaded asked is.0 on.0 (on.1 ∙ is.1)
   ends_there cells rest (Ok (Judged (Accepted v))) mid files loaded asked is on = absurd (never is.0.well_shaped is.0.accepted.1)
@@ -150,10 +150,10 @@ module _ (content : List ℕ → Result (List ℕ) CommandFault) (instance : Lis
       → (one : Result Loaded CommandFault) (loaded : Result Cells CommandFault) (asked : List (List ℕ)) → IsAnswered (IsLoaded q) (before ++ path ∷ []) one mid
       → GoesOn (λ l. AfterPlan cells (λ more. LoadsEach (Shelf content) instance name more (paths ++ file ∷ others)) (accepted_in l)) one mid loaded asked
       → IsAnswered (IsCellsLine (length cells + length (path ∷ paths)) p) (before ++ path ∷ (paths ++ file ∷ [])) loaded asked
-  passes path q good paths cells before mid rest (Err f) loaded asked is on = wanting _ _ loaded asked (on.0 ∙ ap Err is)
+  passes path q good paths cells before mid rest (Err f) loaded asked is on = no_memory _ _ loaded asked (on.0 ∙ ap Err is)
   passes path q good paths cells before mid rest (Ok (NotShaped fault)) loaded asked is on = absurd (shape_fault_refutes q fault is.0 good.well_shaped)
   passes path q good paths cells before mid rest (Ok (Judged (Refused back why))) loaded asked is on = absurd (reason_refutes q why is.0.refused.1 good.acceptable)
-  passes path q good paths cells before mid rest (Ok (Judged (Accepted v))) loaded asked is (inr none) = wanting _ _ loaded asked none.0
+  passes path q good paths cells before mid rest (Ok (Judged (Accepted v))) loaded asked is (inr none) = no_memory _ _ loaded asked none.0
   passes path q good paths cells before mid rest (Ok (Judged (Accepted v))) loaded asked is (inl on) =
       let number : length (cells ++ v ∷ []) + length paths ≡ length cells + length (path ∷ paths) = omega (arith, length_push cells v) in
       let files : mid ++ (paths ++ file ∷ []) ≡ before ++ path ∷ (paths ++ file ∷ []) =

@@ -19,10 +19,10 @@ use Rattle.command_answers.specs.declared.command_fault.CommandFault.{CommandFau
 use Rattle.command_answers.specs.Commands.{InputPaths, Shapes}
 use Rattle.command_answers.specs.Shapes.{IsShapedOrNot}
 use Rattle.command_run.specs.Logs.{IsHistoryOf, IsHistoryOfOld, digits_in}
-use Rattle.command_run.specs.Program.{keeps_log, kept_log_in, log_kept_by, manner_in, pair_in}
+use Rattle.command_run.specs.Program.{keeps_log, kept_log_in, log_kept_by, protocol_in, pair_in}
 use Rattle.command_run.specs.Laws.{Shelf}
 use Rattle.program_laws.specs.ResumeLaw.{moment_given}
-use Rattle.program_laws.specs.HistoryLaw.{AskForLog, NewLogHasHistory, OldLogHasHistory, manner_of}
+use Rattle.program_laws.specs.HistoryLaw.{AskForLog, NewLogHasHistory, OldLogHasHistory, protocol_of}
 use Rattle.program_laws.proofs.GoodFiles.{good_plan}
 use Rattle.program_laws.proofs.SameWriting.{same_manner}
 
@@ -54,7 +54,7 @@ pub new_log_has_history : {W : Type 0} (gives : W → List ℕ → Result (List 
 new_log_has_history gives words before logs start digits there output none are chosen choice path kept p mid shapes = record {
   logs = logs;
   there = there;
-  is = new_known before.folder logs before.streams.output.written start (plan_line digits) p (manner_in chosen) chosen.at (held logs path) there output (ap plan_line (sym (are chosen p mid choice shapes)))
+  is = new_known before.folder logs before.streams.output.written start (plan_line digits) p (protocol_in chosen) chosen.at (held logs path) there output (ap plan_line (sym (are chosen p mid choice shapes)))
       (none path (asked_path words chosen path choice kept));
 }
 
@@ -71,7 +71,7 @@ same_replay protocol p lines at recovered other up also =
 pub old_log_has_history : OldLogHasHistory
 old_log_has_history content words pair log byte bytes named p recovered before logs start ask tell unasked there output has up is_named chosen choice path kept q mid shapes =
     let base : List ℕ = byte ∷ bytes in
-    let protocol : Protocol = manner_of words in
+    let protocol : Protocol = protocol_of words in
     let at : Option ℕ = moment_given words in
     let known : List ℕ × List ℕ = (named, start ++ replay_text protocol recovered) in
     let here : path ≡ log = (let both : Some path ≡ Some log = sym (asked_path words chosen path choice kept) ∙ ask.kept in cc both) in
@@ -83,12 +83,12 @@ old_log_has_history content words pair log byte bytes named p recovered before l
       log = is_named;
       output = λ other also. record { start = start; was = output; is = ap (λ (text : List ℕ). start ++ text) (sym (same_replay protocol p (ended_lines (whole_lines base)) at recovered other up also)) };
     } in
-    let chosen_so : IsHistoryOfOld q (manner_in chosen) chosen.at base before.streams.output.written known =
-    subst (λ (r : PlannedShop). IsHistoryOfOld r (manner_in chosen) chosen.at base before.streams.output.written known) (sym same)
+    let chosen_so : IsHistoryOfOld q (protocol_in chosen) chosen.at base before.streams.output.written known =
+    subst (λ (r : PlannedShop). IsHistoryOfOld r (protocol_in chosen) chosen.at base before.streams.output.written known) (sym same)
     (subst (λ (m : Protocol). IsHistoryOfOld p m chosen.at base before.streams.output.written known) (sym (same_manner words chosen choice))
     (subst (λ (a : Option ℕ). IsHistoryOfOld p protocol a base before.streams.output.written known) (sym choice.at) old)) in
     record {
       logs = logs;
       there = there;
-      is = subst (λ (b : Option (List ℕ)). IsHistoryOf before.folder q (manner_in chosen) chosen.at b before.streams.output.written known) (sym (ap (λ (l : List ℕ). held logs l) here ∙ has)) chosen_so;
+      is = subst (λ (b : Option (List ℕ)). IsHistoryOf before.folder q (protocol_in chosen) chosen.at b before.streams.output.written known) (sym (ap (λ (l : List ℕ). held logs l) here ∙ has)) chosen_so;
     }

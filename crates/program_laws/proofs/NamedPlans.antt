@@ -96,7 +96,7 @@ module _ (p : PlannedShop) (digits : RunDigits) (bytes : List ℕ) (named : Name
       → held logs path ≡ Some bytes → (start ≡ HandOver → ⊥) → DrivesShaped folder after path start protocol at shape step → DrivenBy p step.log → ⊥
   shaped folder after logs path start protocol at (Err fault) step there has asked is = never p step.log None is.1.is (undriven p None)
   shaped folder after logs path start protocol at (Ok (Err fault)) step there has asked is = never p step.log None is.1.is (undriven p None)
-  shaped folder after logs path start protocol at (Ok (Ok q)) step there has asked (inr wanting) = never p step.log None wanting.1.is (undriven p None)
+  shaped folder after logs path start protocol at (Ok (Ok q)) step there has asked (inr no_memory) = never p step.log None no_memory.1.is (undriven p None)
   shaped folder after logs path start protocol at (Ok (Ok q)) step there has asked (inl is) = opened folder after path start protocol at q is.opened step asked here is.drives
     where
       here : (found : Option (List ℕ)) → is.opened ≡ Ok found → found ≡ Some bytes

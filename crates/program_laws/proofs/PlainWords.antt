@@ -138,17 +138,17 @@ module _ (content : List ℕ → Result (List ℕ) CommandFault) (pair : InputPa
   pub plan_first : (rounds : ℕ) (outcome : Result Answer CommandFault) (asked : List (List ℕ)) → SeeksPlan (Shelf content) rounds pair [] outcome asked
       → IsInstanceRefused pair.path fault outcome asked ⊎ ((outcome ≡ Err Memory) × (asked ≡ []))
   plan_first rounds outcome asked (inl run) = inl (instance_first_of _ outcome asked run)
-  plan_first rounds outcome asked (inr wanting) = inr wanting
+  plan_first rounds outcome asked (inr no_memory) = inr no_memory
 
   pub improve_first : (rounds : ℕ) (outcome : Result Answer CommandFault) (asked : List (List ℕ)) → ImprovesPlan (Shelf content) rounds pair [] outcome asked
       → IsInstanceRefused pair.path fault outcome asked ⊎ ((outcome ≡ Err Memory) × (asked ≡ []))
   improve_first rounds outcome asked (inl run) = inl (instance_first_of _ outcome asked run)
-  improve_first rounds outcome asked (inr wanting) = inr wanting
+  improve_first rounds outcome asked (inr no_memory) = inr no_memory
 
   pub improve_rest_first : (at : Option ℕ) (rounds : ℕ) (log : List ℕ) (outcome : Result Answer CommandFault) (asked : List (List ℕ)) → ImprovesRest (Shelf content) at rounds pair log [] outcome asked
       → IsInstanceRefused pair.path fault outcome asked ⊎ ((outcome ≡ Err Memory) × (asked ≡ []))
   improve_rest_first at rounds log outcome asked (inl run) = inl (instance_first_of _ outcome asked run)
-  improve_rest_first at rounds log outcome asked (inr wanting) = inr wanting
+  improve_rest_first at rounds log outcome asked (inr no_memory) = inr no_memory
 
   pub drive_first : (protocol : Protocol) (before after : Streams) (outcome : Result Answer CommandFault) (asked : List (List ℕ)) → RunsDrive (Shelf content) protocol pair [] before outcome asked after
       → IsInstanceRefused pair.path fault outcome asked × (after ≡ before)

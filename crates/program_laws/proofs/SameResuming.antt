@@ -39,10 +39,10 @@ use Rattle.command_run.specs.Streams.{Streams, Output}
 use Rattle.command_run.specs.Drives.{IsEndAnswer, status_at}
 use Rattle.command_run.specs.Resumes.{IsRecovery, IsUnrecoveredAnswer, ResumesRecovered, end_of_rest}
 use Rattle.command_run.specs.Ending.{Ends, EndsBy}
-use Rattle.command_run.specs.Program.{AreWordsRead, RunsResume, RunsCommand, RunsChosen, Follows, draws, file_at, is_second, keeps_log, kept_log_in, log_kept_by, manner_in, pair_in}
+use Rattle.command_run.specs.Program.{AreWordsRead, RunsResume, RunsCommand, RunsChosen, Follows, draws, file_at, is_second, keeps_log, kept_log_in, log_kept_by, protocol_in, pair_in}
 use Rattle.command_run.specs.Laws.{Shelf, ParseAsPlan, RunsWell}
 use Rattle.program_laws.specs.ResumeLaw.{AskForResume, AskForOneManner, moment_given, ResumeWritesTheSame, ResumeWritesAsDrive}
-use Rattle.program_laws.specs.HistoryLaw.{manner_of}
+use Rattle.program_laws.specs.HistoryLaw.{protocol_of}
 use Rattle.program_laws.proofs.GoodFiles.{good_resume}
 use Rattle.program_laws.proofs.SameWriting.{Wrote, same_manner, first, all_read, fewer, written_is, memory_status, memory_ends, own_ends, write_ends, ended_as, same_done, follows_wrote}
 
@@ -109,8 +109,8 @@ module _ (content : List ℕ → Result (List ℕ) CommandFault) (words : List (
         let same_output = write_ends outcome mid.output well.after.streams.output well.before.errors well.after.errors status answer ends in
         let bad : true ≡ false = sym failed ∙ sym (ap (λ (o : Output). o.failed) same_output) ∙ well.was_written in cc bad
 
-    not_wanting : IsEndAnswer (Err OutOfMemory) outcome → ⊥
-    not_wanting answer = well.no_want (memory_ends outcome mid.output well.after.streams.output well.before.errors well.after.errors status answer ends)
+    never_out : IsEndAnswer (Err OutOfMemory) outcome → ⊥
+    never_out answer = well.not_out_of_memory (memory_ends outcome mid.output well.after.streams.output well.before.errors well.after.errors status answer ends)
 
     -- behind a text that was written, all was read and written, whoever answers the lines
     module _ {S : Type 0} (answers : S → ℕ → Option (List ℕ) → List ℕ → S → Type 0) (closes : S → List ℕ → Type 0) (start last : S) (front : List ℕ) (middle : Output) where
@@ -169,47 +169,47 @@ module _ (content : List ℕ → Result (List ℕ) CommandFault) (words : List (
         → ResumesRecovered protocol recovered well.before.streams mid outcome → Resumed p protocol (ended_lines text) at input status written
     log_resumed protocol at text can (Ok recovered) is on = resumed_so protocol (ended_lines text) at recovered is.is on.end on.is on.answer
     log_resumed protocol at text can (Err fault) is on =
-        absurd (not_wanting (subst (λ (f : ResumeFault). IsUnrecoveredAnswer f outcome) (is.can can) on.0))
+        absurd (never_out (subst (λ (f : ResumeFault). IsUnrecoveredAnswer f outcome) (is.can can) on.0))
 
   follows_resumed : (pair : InputPaths) (log text : List ℕ) (read : Result Chosen WordsFault) → AskForResume words pair log → ParseAsPlan content pair p → IsWellShaped p → content log ≡ Ok text
       → IsRecoverable p (ended_lines text) (moment_given words) → AreWordsRead words read → Follows (Shelf content) read well.before status well.after well.log
-      → Resumed p (manner_of words) (ended_lines text) (moment_given words) input status written
+      → Resumed p (protocol_of words) (ended_lines text) (moment_given words) input status written
   follows_resumed pair log text (Ok chosen) ask good shaped came can are follows =
       let name : chosen.name ≡ Resume = is_resume chosen.name (are.chosen.name ∙ ask.resume) in
       let no_log : kept_log_in chosen ≡ None = ap (λ (n : CommandName). log_kept_by (keeps_log n) (option_map string_bytes chosen.log)) name in
       let unlogged : RunsCommand (Shelf content) chosen.name chosen well.before.texts well.before.streams follows.outcome well.after.texts follows.mid =
       (subst (λ (l : Option (List ℕ)). RunsChosen (Shelf content) l chosen well.before follows.outcome follows.mid well.after well.log) no_log follows.runs).0 in
-      let runs : RunsResume (Shelf content) (manner_in chosen) chosen.at (pair_in chosen) (file_at chosen 2) well.before.texts well.before.streams follows.outcome well.after.texts follows.mid =
+      let runs : RunsResume (Shelf content) (protocol_in chosen) chosen.at (pair_in chosen) (file_at chosen 2) well.before.texts well.before.streams follows.outcome well.after.texts follows.mid =
       subst (λ n. RunsCommand (Shelf content) n chosen well.before.texts well.before.streams follows.outcome well.after.texts follows.mid) name unlogged in
-      let resume : RunsResume (Shelf content) (manner_of words) (moment_given words) pair log [] well.before.streams follows.outcome well.after.texts follows.mid =
-      subst (λ (l : List ℕ). RunsResume (Shelf content) (manner_of words) (moment_given words) pair l [] well.before.streams follows.outcome well.after.texts follows.mid) (asked_log words pair log chosen ask are.chosen)
-      (subst (λ (q : InputPaths). RunsResume (Shelf content) (manner_of words) (moment_given words) q (file_at chosen 2) [] well.before.streams follows.outcome well.after.texts follows.mid) (asked_pair words pair log chosen ask are.chosen)
-      (subst (λ (a : Option ℕ). RunsResume (Shelf content) (manner_of words) a (pair_in chosen) (file_at chosen 2) [] well.before.streams follows.outcome well.after.texts follows.mid) are.chosen.at
+      let resume : RunsResume (Shelf content) (protocol_of words) (moment_given words) pair log [] well.before.streams follows.outcome well.after.texts follows.mid =
+      subst (λ (l : List ℕ). RunsResume (Shelf content) (protocol_of words) (moment_given words) pair l [] well.before.streams follows.outcome well.after.texts follows.mid) (asked_log words pair log chosen ask are.chosen)
+      (subst (λ (q : InputPaths). RunsResume (Shelf content) (protocol_of words) (moment_given words) q (file_at chosen 2) [] well.before.streams follows.outcome well.after.texts follows.mid) (asked_pair words pair log chosen ask are.chosen)
+      (subst (λ (a : Option ℕ). RunsResume (Shelf content) (protocol_of words) a (pair_in chosen) (file_at chosen 2) [] well.before.streams follows.outcome well.after.texts follows.mid) are.chosen.at
       (subst (λ (m : Protocol). RunsResume (Shelf content) m chosen.at (pair_in chosen) (file_at chosen 2) [] well.before.streams follows.outcome well.after.texts follows.mid) (same_manner words chosen are.chosen)
-      (subst (λ (asked : List (List ℕ)). RunsResume (Shelf content) (manner_in chosen) chosen.at (pair_in chosen) (file_at chosen 2) asked well.before.streams follows.outcome well.after.texts follows.mid) well.unasked runs)))) in
+      (subst (λ (asked : List (List ℕ)). RunsResume (Shelf content) (protocol_in chosen) chosen.at (pair_in chosen) (file_at chosen 2) asked well.before.streams follows.outcome well.after.texts follows.mid) well.unasked runs)))) in
       let ends : Ends follows.outcome follows.mid.output well.after.streams.output well.before.errors well.after.errors status =
       subst (λ (n : CommandName). EndsBy (draws n chosen.svg) follows.outcome follows.mid.output well.after.streams.output well.before.errors well.after.errors status) name
       (own_ends chosen follows.outcome _ _ _ _ follows.own status well.log no_log follows.status_is follows.ends) in
-      elim (good_resume content pair p good (manner_of words) (moment_given words) well.before.streams follows.mid log text follows.outcome well.after.texts shaped came resume) [
-        | inl resumes ↦ log_resumed follows.mid follows.outcome follows.input ends (manner_of words) (moment_given words) text can resumes.1.0 resumes.1.1 resumes.1.2
-        | inr none ↦ absurd (not_wanting follows.mid follows.outcome follows.input ends none.0)
+      elim (good_resume content pair p good (protocol_of words) (moment_given words) well.before.streams follows.mid log text follows.outcome well.after.texts shaped came resume) [
+        | inl resumes ↦ log_resumed follows.mid follows.outcome follows.input ends (protocol_of words) (moment_given words) text can resumes.1.0 resumes.1.1 resumes.1.2
+        | inr none ↦ absurd (never_out follows.mid follows.outcome follows.input ends none.0)
       ]
   follows_resumed pair log text (Err (Usage help message)) ask good shaped came can are follows =
       absurd (let named = subst (λ kinds. NamesOneOf kinds (Usage help message)) ask.accepted are.refused in named.1)
-  follows_resumed pair log text (Err NoWordsMemory) ask good shaped came can are follows = absurd (well.no_want (memory_status well.before.errors well.after.errors status follows.0.1))
+  follows_resumed pair log text (Err NoWordsMemory) ask good shaped came can are follows = absurd (well.not_out_of_memory (memory_status well.before.errors well.after.errors status follows.0.1))
 
 -- ---- two runs
 
 pub resume_writes_the_same : ResumeWritesTheSame
 resume_writes_the_same content words pair log text p input status other_status written other ask good shaped came can few well also =
-    let protocol = manner_of words in
+    let protocol = protocol_of words in
     let one = follows_resumed content words p input few status written well pair log text well.run.read ask good shaped came can well.run.is well.run.follows in
     let two = follows_resumed content words p input few other_status other also pair log text also.run.read ask good shaped came can also.run.is also.run.follows in
     let same = one_text_from_a_log p protocol (ended_lines text) (moment_given words) one.recovered two.recovered input written other one.state two.state one.up two.up one.is_text two.is_text in
     let done : two.done ≡ one.done = same_done p one.state two.state one.done two.done one.last two.last one.left two.left one.so_far two.so_far same.1 in
     (two.own ∙ ap status_at done ∙ sym one.own, same.0)
 
-one_manner : (words others : List (List ℕ)) → AskForOneManner words others → manner_of words ≡ manner_of others
+one_manner : (words others : List (List ℕ)) → AskForOneManner words others → protocol_of words ≡ protocol_of others
 one_manner words others one =
     let of : Option Lines → Option ℕ → Option ℕ → Protocol = λ version max_gap at. record { version_2 = is_second version; max_gap = max_gap; from = unwrap_or at 0 } in
     let leap : Option ℕ = leap_in (rows_found (found_in words)) in
@@ -218,7 +218,7 @@ one_manner words others one =
 
 pub resume_writes_as_drive : ResumeWritesAsDrive
 resume_writes_as_drive content words others pair log text p input status other_status written other ask ask_drive one_of good shaped acceptable came none few well also =
-    let protocol = manner_of words in
+    let protocol = protocol_of words in
     let can : IsRecoverable p (ended_lines text) (moment_given words) = record {
       recorded = [];
       parses = none;

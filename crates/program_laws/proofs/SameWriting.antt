@@ -39,9 +39,9 @@ use Rattle.command_run.specs.Streams.{Streams, Output, Errors}
 use Rattle.command_run.specs.Drives.{IsEnded, IsEndAnswer, IsDriveIn, DrivesCell, status_at, end_of_drive}
 use Rattle.command_run.specs.Ending.{IsFaultPrinted, IsPrinted, IsPrintedAfter, Ends, EndsBy}
 use Rattle.command_run.specs.Logs.{LogEnd}
-use Rattle.command_run.specs.Program.{AreWordsRead, RunsDrive, RunsCommand, RunsChosen, Follows, draws, draws_in, is_second, keeps_log, kept_log_in, log_kept_by, manner_in, pair_in, status_by}
+use Rattle.command_run.specs.Program.{AreWordsRead, RunsDrive, RunsCommand, RunsChosen, Follows, draws, draws_in, is_second, keeps_log, kept_log_in, log_kept_by, protocol_in, pair_in, status_by}
 use Rattle.command_run.specs.Laws.{Shelf, ParseAsPlan, AskForDrive, RunsWell}
-use Rattle.program_laws.specs.HistoryLaw.{manner_of}
+use Rattle.program_laws.specs.HistoryLaw.{protocol_of}
 use Rattle.program_laws.proofs.GoodFiles.{good_drive}
 
 driven_or_not : {P Q R S : Type 0} → (P × Q) ⊎ (R × S) → Q ⊎ R
@@ -87,7 +87,7 @@ same_pair words pair chosen ask is =
     ap (λ a. of a (option_map string_bytes chosen.instance) (get_or (map string_bytes chosen.files.items) 1 [])) path
     ∙ ap (λ b. of pair.path b (get_or (map string_bytes chosen.files.items) 1 [])) name ∙ ap (λ c. of pair.path pair.name c) plan
 
-pub same_manner : (words : List (List ℕ)) (chosen : Chosen) → IsChoiceOf words (found_in words) chosen → manner_in chosen ≡ manner_of words
+pub same_manner : (words : List (List ℕ)) (chosen : Chosen) → IsChoiceOf words (found_in words) chosen → protocol_in chosen ≡ protocol_of words
 same_manner words chosen is =
     ap (λ (v : Option Lines). record { version_2 = is_second v; max_gap = chosen.leap; from = unwrap_or chosen.at 0 }) is.lines
     ∙ ap (λ (l : Option ℕ). record { version_2 = is_second (lines_in (rows_found (found_in words))); max_gap = l; from = unwrap_or chosen.at 0 }) is.leap
@@ -136,7 +136,7 @@ memory_status before after status (inr (text, out)) = absurd text
 
 pub memory_ends : (outcome : Result Answer CommandFault) (before after : Output) (printed_before printed_after : Errors) (status : ℕ) → outcome ≡ Err Memory → Ends outcome before after printed_before printed_after status → status ≡ 4
 memory_ends outcome before after printed_before printed_after status is ends =
-    let wanting = subst (λ o. Ends o before after printed_before printed_after status) is ends in memory_status printed_before printed_after status wanting.1
+    let no_memory = subst (λ o. Ends o before after printed_before printed_after status) is ends in memory_status printed_before printed_after status no_memory.1
 
 pub write_ends : (outcome : Result Answer CommandFault) (before after : Output) (printed_before printed_after : Errors) (status : ℕ) → outcome ≡ Err Write → Ends outcome before after printed_before printed_after status → after ≡ before
 write_ends outcome before after printed_before printed_after status is ends =
@@ -188,7 +188,7 @@ module _ (content : List ℕ → Result (List ℕ) CommandFault) (words : List (
     never_broke TooLong is answer =
         let less = fewer well.before.streams.input.left mid.input.left input is.input well.given is.was_read in
         absurd (omega (arith, less, few, is.comes_to.0))
-    never_broke OutOfMemory is answer = absurd (well.no_want (memory_ends outcome mid.output well.after.streams.output well.before.errors well.after.errors status answer ends))
+    never_broke OutOfMemory is answer = absurd (well.not_out_of_memory (memory_ends outcome mid.output well.after.streams.output well.before.errors well.after.errors status answer ends))
 
   so_far_of : (v : VerifiedPlan) (state : SessionState) (end : DriveEnd) → v.planned ≡ p → IsEndOf v state end → IsSoFar p state.log.entries end.done end.last end.left
   so_far_of v state end same is =
@@ -218,27 +218,27 @@ module _ (content : List ℕ → Result (List ℕ) CommandFault) (words : List (
       → well.after.streams.input ≡ mid.input → Ends outcome mid.output well.after.streams.output well.before.errors well.after.errors status → Wrote p protocol input status written
   cell_wrote protocol mid outcome (inl (v, same, cell)) same_input ends = drive_wrote protocol v mid outcome cell.end same cell.is cell.answer same_input ends
   cell_wrote protocol mid outcome (inr none) same_input ends =
-      absurd (well.no_want (memory_ends outcome mid.output well.after.streams.output well.before.errors well.after.errors status none ends))
+      absurd (well.not_out_of_memory (memory_ends outcome mid.output well.after.streams.output well.before.errors well.after.errors status none ends))
 
   pub follows_wrote : (pair : InputPaths) (read : Result Chosen WordsFault) → AskForDrive words pair → ParseAsPlan content pair p → IsWellShaped p → IsAcceptable p → AreWordsRead words read
-      → Follows (Shelf content) read well.before status well.after well.log → Wrote p (manner_of words) input status written
+      → Follows (Shelf content) read well.before status well.after well.log → Wrote p (protocol_of words) input status written
   follows_wrote pair (Ok chosen) ask good shaped acceptable are follows =
       let name = is_drive chosen.name (are.chosen.name ∙ ask.drive) in
-      let protocol = manner_of words in
+      let protocol = protocol_of words in
       let unlogged : RunsCommand (Shelf content) chosen.name chosen well.before.texts well.before.streams follows.outcome well.after.texts follows.mid =
       (subst (λ (l : Option (List ℕ)). RunsChosen (Shelf content) l chosen well.before follows.outcome follows.mid well.after well.log) (no_log words pair chosen ask are.chosen) follows.runs).0 in
-      let runs : RunsDrive (Shelf content) (manner_in chosen) (pair_in chosen) well.before.texts well.before.streams follows.outcome well.after.texts follows.mid =
+      let runs : RunsDrive (Shelf content) (protocol_in chosen) (pair_in chosen) well.before.texts well.before.streams follows.outcome well.after.texts follows.mid =
       subst (λ n. RunsCommand (Shelf content) n chosen well.before.texts well.before.streams follows.outcome well.after.texts follows.mid) name unlogged in
       let drive : RunsDrive (Shelf content) protocol pair [] well.before.streams follows.outcome well.after.texts follows.mid =
       subst (λ (q : InputPaths). RunsDrive (Shelf content) protocol q [] well.before.streams follows.outcome well.after.texts follows.mid) (same_pair words pair chosen ask are.chosen)
       (subst (λ (m : Protocol). RunsDrive (Shelf content) m (pair_in chosen) [] well.before.streams follows.outcome well.after.texts follows.mid) (same_manner words chosen are.chosen)
-      (subst (λ (asked : List (List ℕ)). RunsDrive (Shelf content) (manner_in chosen) (pair_in chosen) asked well.before.streams follows.outcome well.after.texts follows.mid) well.unasked runs)) in
+      (subst (λ (asked : List (List ℕ)). RunsDrive (Shelf content) (protocol_in chosen) (pair_in chosen) asked well.before.streams follows.outcome well.after.texts follows.mid) well.unasked runs)) in
       cell_wrote protocol follows.mid follows.outcome (driven_or_not (good_drive content pair p good protocol well.before.streams follows.mid follows.outcome well.after.texts shaped acceptable drive)) follows.input
       (subst (λ (n : CommandName). EndsBy (draws n chosen.svg) follows.outcome follows.mid.output well.after.streams.output well.before.errors well.after.errors status) name
       (own_ends chosen follows.outcome _ _ _ _ follows.own status well.log (no_log words pair chosen ask are.chosen) follows.status_is follows.ends))
   follows_wrote pair (Err (Usage help text)) ask good shaped acceptable are follows =
       absurd (let named = subst (λ kinds. NamesOneOf kinds (Usage help text)) ask.accepted are.refused in named.1)
-  follows_wrote pair (Err NoWordsMemory) ask good shaped acceptable are follows = absurd (well.no_want (memory_status well.before.errors well.after.errors status follows.0.1))
+  follows_wrote pair (Err NoWordsMemory) ask good shaped acceptable are follows = absurd (well.not_out_of_memory (memory_status well.before.errors well.after.errors status follows.0.1))
 
 -- ---- two runs
 
@@ -266,6 +266,6 @@ pub drive_writes_the_same : (content : List ℕ → Result (List ℕ) CommandFau
     → AskForDrive words pair → ParseAsPlan content pair p → IsWellShaped p → IsAcceptable p → length input ≤ MAX_INPUT
     → RunsWell content words input status written → RunsWell content words input other_status other → (other_status ≡ status) × (other ≡ written)
 drive_writes_the_same content words pair p input status other_status written other ask good shaped acceptable few one two =
-    wrote_the_same p (manner_of words) input status other_status written other shaped
+    wrote_the_same p (protocol_of words) input status other_status written other shaped
     (follows_wrote content words p input few status written one pair one.run.read ask good shaped acceptable one.run.is one.run.follows)
     (follows_wrote content words p input few other_status other two pair two.run.read ask good shaped acceptable two.run.is two.run.follows)

@@ -32,7 +32,7 @@ use Rattle.command_run.specs.Logs.{Begins, DrivesAs, DrivesFitting, DrivesOpened
 use Rattle.command_run.specs.Program.{Follows, RunsChosen, draws, draws_in, kept_log_in}
 use Rattle.command_run.proofs.Endings.{IsOwnOr, own_or}
 use Rattle.command_run.proofs.Keepers.{keeper}
-use Rattle.program_laws.specs.MemoryLaw.{WantOfMemoryChangesNoLog}
+use Rattle.program_laws.specs.MemoryLaw.{OutOfMemoryChangesNoLog}
 
 -- ---- what never ends with 4
 
@@ -166,11 +166,11 @@ module _ (folder after : Folder) (path : List ℕ) (protocol : Protocol) (at : O
 
   begins_has : (p : PlannedShop) (there : Bool) (step : Step) → Begins folder after path protocol p there step → IsChanged step.log → HasMemory step.outcome
   begins_has p there step (inl (Refused back why, is, by)) changed = never_changed step.log (left_if there) step.outcome by.1.is (left_unchanged there) changed
-  begins_has p there step (inl (Accepted v, is, inl wanting)) changed = never_changed step.log (left_if there) step.outcome wanting.1.is (left_unchanged there) changed
+  begins_has p there step (inl (Accepted v, is, inl no_memory)) changed = never_changed step.log (left_if there) step.outcome no_memory.1.is (left_unchanged there) changed
   begins_has p there step (inl (Accepted v, is, inr (inl lacks))) changed = lacks_has v.planned there lacks.fault step.log step.outcome lacks.is lacks.why changed
   begins_has p there step (inl (Accepted v, is, inr (inr run))) changed =
       has_driven run.drove.log_failed (end_of_drive run.drove.end) step.outcome (end_has run.drove.end run.drove.memory) run.drove.answer
-  begins_has p there step (inr wanting) changed = never_changed step.log (left_if there) step.outcome wanting.1.is (left_unchanged there) changed
+  begins_has p there step (inr no_memory) changed = never_changed step.log (left_if there) step.outcome no_memory.1.is (left_unchanged there) changed
 
   fitting_has : (p : PlannedShop) (there : Option (List ℕ)) (step : Step) → DrivesFitting folder after path protocol at p there step → IsChanged step.log → HasMemory step.outcome
   fitting_has p None step is = begins_has p false step is
@@ -191,9 +191,9 @@ module _ (folder after : Folder) (path : List ℕ) (start : LogStart) (protocol 
   logged_has (Err fault) step is = never_changed step.log None step.outcome is.1.is (λ bad. bad)
   logged_has (Ok (Err fault)) step is = never_changed step.log None step.outcome is.1.is (λ bad. bad)
   logged_has (Ok (Ok p)) step (inl is) = opened_has p is.opened step is.drives
-  logged_has (Ok (Ok p)) step (inr wanting) = never_changed step.log None step.outcome wanting.1.is (λ bad. bad)
+  logged_has (Ok (Ok p)) step (inr no_memory) = never_changed step.log None step.outcome no_memory.1.is (λ bad. bad)
 
-pub no_log_changed : {W : Type 0} (gives : W → List ℕ → Result (List ℕ) CommandFault → W → Type 0) → WantOfMemoryChangesNoLog gives
+pub no_log_changed : {W : Type 0} (gives : W → List ℕ → Result (List ℕ) CommandFault → W → Type 0) → OutOfMemoryChangesNoLog gives
 no_log_changed {W} gives words before after end written runs untouched = follows runs.read runs.follows
   where
     by_log : (chosen : Chosen) (log : Option (List ℕ)) (outcome : Result Answer CommandFault) (mid : Streams) → kept_log_in chosen ≡ log → RunsChosen gives log chosen before outcome mid after (Some end)

@@ -21,8 +21,8 @@ use Rattle.command_run.specs.Laws.{Shelf, ParseAsPlan}
 use Rattle.program_laws.specs.ResumeLaw.{moment_given}
 
 -- the protocol that words ask for
-abbrev pub manner_of : List (List ℕ) → Protocol
-manner_of words = record { version_2 = is_second (lines_in (rows_found (found_in words))); max_gap = leap_in (rows_found (found_in words)); from = unwrap_or (moment_given words) 0 }
+abbrev pub protocol_of : List (List ℕ) → Protocol
+protocol_of words = record { version_2 = is_second (lines_in (rows_found (found_in words))); max_gap = leap_in (rows_found (found_in words)); from = unwrap_or (moment_given words) 0 }
 
 -- each plan that the files which the words name may give has these digits, with its shop
 abbrev pub AreDigitsOfPlan : {W : Type 0} → (W → List ℕ → Result (List ℕ) CommandFault → W → Type 0) → List (List ℕ) → W → RunDigits → Type 0
@@ -47,4 +47,4 @@ OldLogHasHistory = (content : List ℕ → Result (List ℕ) CommandFault) (word
     (before : Devices (List (List ℕ))) (logs : List NamedLog) (start : List ℕ)
     → AskForLog words pair log → ParseAsPlan content pair p → before.texts ≡ [] → before.folder.logs ≡ Some logs → before.streams.output.written ≡ Some start → held logs log ≡ Some (byte ∷ bytes)
     → IsRecovered p (ended_lines (whole_lines (byte ∷ bytes))) (moment_given words) recovered → IsNamedFor (digits_in p) (whole_lines (byte ∷ bytes)) base
-    → IsHistoryOfWords (Shelf content) words before (base, start ++ replay_text (manner_of words) recovered)
+    → IsHistoryOfWords (Shelf content) words before (base, start ++ replay_text (protocol_of words) recovered)

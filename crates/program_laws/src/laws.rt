@@ -29,7 +29,7 @@ ghost use Rattle.command_run.specs.Laws.{FaultsArePrinted, NothingIsHeldBack, Wh
 ghost use Rattle.program_laws.specs.ResumeLaw.{ResumeWritesTheSame, ResumeWritesAsDrive};
 ghost use Rattle.program_laws.specs.OneLogLaw.{ANewLogIsOfOneRun, ARecoveredLogIsOfOneRun};
 ghost use Rattle.program_laws.specs.PlanLaw.{NoOtherPlanDrives};
-ghost use Rattle.program_laws.specs.MemoryLaw.{WantOfMemoryChangesNoLog};
+ghost use Rattle.program_laws.specs.MemoryLaw.{OutOfMemoryChangesNoLog};
 ghost use Rattle.program_laws.specs.HistoryLaw.{NewLogHasHistory, OldLogHasHistory};
 
 use command_answers::Texts;
@@ -162,8 +162,8 @@ pub fn no_other_plan_drives<T: Texts>()
 /// A run that ends with 4, since memory ran out, has changed no byte of its log: it appended none, and cut none off.
 /// (What a log that is held at the end has is said by the clause of `run`, and *written* of [`run_journal::LogFile`] is
 /// what says that.)
-pub fn want_of_memory_changes_no_log<T: Texts>()
-    ensures { WantOfMemoryChangesNoLog T.gives }
+pub fn out_of_memory_changes_no_log<T: Texts>()
+    ensures { OutOfMemoryChangesNoLog T.gives }
 {}
 
 /// However often a crash cuts its log and the run is recovered from there, by its own plan and with no moment given,

@@ -8,8 +8,8 @@ ghost use Rattle.cell_tests.specs.Shown.{HasWhatIsShown};
 
 use super::memory_log::MemoryLog;
 use byte_streams::{Buffered, BufferedSink, FromRead, IntoSink, Sink};
-use cell_drive::{Begun, DriveEnd, Protocol, Replayed, RestEnd, begin_in, replay_in, take_up};
-use logged_drive::{LoggedEnd, drive_logged, go_on_logged};
+use cell_drive::{Begun, DriveEnd, Protocol, Replayed, RestEnd, begin_in, recover, replay_in};
+use logged_drive::{LoggedEnd, continue_logged, drive_logged};
 use plan_verifier::Verified;
 use run_journal::{FileFault, InitialState, LogFile, WritingRoom, read_log};
 use shop_base::Shaped;
@@ -44,8 +44,8 @@ fn drive_from_nothing(
     drive_logged(begun, room, &mut reader, log, output, NothingYet)
 }
 
-/// Goes on with a run that was recovered from a log without a whole line, with an output that has no bytes.
-fn go_on_from_nothing(
+/// Continues a run that was recovered from a log without a whole line, with an output that has no bytes.
+fn continue_from_nothing(
     run: Replayed,
     room: WritingRoom,
     protocol: Protocol,
@@ -61,7 +61,7 @@ fn go_on_from_nothing(
         (⟦<Buffered<Vec<u8>> as Sink>⟧.written result.output)) }
 {
     let mut reader = FromRead::new(lines);
-    go_on_logged(run, room, protocol, &mut reader, log, output, NothingYet)
+    continue_logged(run, room, protocol, &mut reader, log, output, NothingYet)
 }
 
 /// What the log and the output have, once all is shown.
@@ -131,7 +131,7 @@ pub(super) fn gone_on_from_nothing(
             return Err(fault);
         }
     };
-    let recovery = take_up(alloc, shaped, text.lines(), None);
+    let recovery = recover(alloc, shaped, text.lines(), None);
     drop(text);
     let Ok(recovered) = recovery else {
         return Err(FileFault::Log);
@@ -149,7 +149,7 @@ pub(super) fn gone_on_from_nothing(
     let Ok(recovered) = replay_in(recovered, protocol, &mut IntoSink::new(Vec::new(alloc))) else {
         return Err(FileFault::Log);
     };
-    let run = go_on_from_nothing(recovered, room, protocol, lines, log, output);
+    let run = continue_from_nothing(recovered, room, protocol, lines, log, output);
     match run.end {
         Ok(_) => both_at_end(alloc, run.log, run.output),
         Err(_) => Err(FileFault::Log),

@@ -5,7 +5,7 @@ use super::memory_log::MemoryLog;
 use super::two_jobs::{DIGITS, FIRST, LATER, LINE, PLAIN, REPORTS, V2_MANNER, driven, is_joined};
 use byte_streams::{Buffered, BufferedSink, FromRead};
 use cell_drive::{Protocol, replay_in};
-use logged_drive::{LoggedEnd, RecoveredLog, go_on_logged, recover_log};
+use logged_drive::{LoggedEnd, RecoveredLog, continue_logged, recover_log};
 use run_journal::{LogFile, UnknownHistory, read_log};
 use std::alloc::Global;
 use std::test::Fail;
@@ -43,7 +43,7 @@ fn recoverable(alloc: Global, protocol: Protocol, left: Vec<u8>) -> Result<Vec<u
         mut log,
         output,
         ..
-    } = go_on_logged(
+    } = continue_logged(
         run,
         room,
         protocol,

@@ -1,4 +1,4 @@
-//! Calls that are wanting memory, and then are made again. `tests/crashes/refused-memory` runs these tests again and
+//! Calls whose memory runs out, and that are made again then. `tests/crashes/refused-memory` runs these tests again and
 //! again, and refuses each request for memory between an announcement and its answer in turn. Where none is refused,
 //! they show the answers of calls that have all memory.
 
@@ -24,9 +24,9 @@ fn asks(rt: &impl Eprint) {
     let _ = eprintln!(rt; "asked");
 }
 
-/// Writes the answer to it: whether memory was wanting.
-fn answers(rt: &impl Eprint, wanting: bool) {
-    let _ = eprintln!(rt; "{}", if wanting { "wanting" } else { "had" });
+/// Writes the answer to it: whether memory ran out.
+fn answers(rt: &impl Eprint, ran_out: bool) {
+    let _ = eprintln!(rt; "{}", if ran_out { "ran out" } else { "had" });
 }
 
 fn two_jobs(alloc: Global) -> Result<Shop, Fail> {
@@ -67,7 +67,7 @@ fn whole(alloc: Global, back: Shaped, plan: &[u8]) -> Result<Shaped, Fail> {
     }
 }
 
-/// The verdict on the plan, once more where memory was wanting, with what came back.
+/// The verdict on the plan, once more where memory ran out, with what came back.
 fn judged(rt: &(impl AllocGlobal + Eprint), plan: &[u8]) -> Result<Verdict, Fail> {
     let shaped = shaped(rt.alloc(), plan)?;
     asks(rt);
@@ -90,7 +90,7 @@ fn a_plan_comes_back_unjudged(rt: HostRuntime) -> Result<(), Fail> {
     Ok(())
 }
 
-/// The graph of the plan, solved once more where memory was wanting.
+/// The graph of the plan, solved once more where memory ran out.
 fn solved(rt: &(impl AllocGlobal + Eprint), plan: &[u8]) -> Result<Solved, Fail> {
     let shaped = shaped(rt.alloc(), plan)?;
     asks(rt);
@@ -136,7 +136,7 @@ fn a_graph_is_solved(rt: HostRuntime) -> Result<(), Fail> {
     Ok(())
 }
 
-/// A longest chain to the leaving of job 1, written once more where memory was wanting.
+/// A longest chain to the leaving of job 1, written once more where memory ran out.
 fn chain(rt: &(impl AllocGlobal + Eprint), times: &Times) -> Result<Option<Vec<Node>>, AllocError> {
     asks(rt);
     let answer = times.chain(rt.alloc(), node(1, 2));
@@ -178,7 +178,7 @@ fn still_accepted(alloc: Global, back: Verified) -> Result<Verified, Fail> {
     }
 }
 
-/// The controller of the plan in time, made once more where memory was wanting, of what came back.
+/// The controller of the plan in time, made once more where memory ran out, of what came back.
 fn controller<D: Dues>(rt: &(impl AllocGlobal + Eprint)) -> Result<Controller<D>, Fail> {
     let verified = accepted(rt.alloc())?;
     asks(rt);
@@ -204,7 +204,7 @@ fn a_plan_comes_back_without_a_controller(rt: HostRuntime) -> Result<(), Fail> {
     a_plan_comes_back::<TourneyDues>(&rt)
 }
 
-/// The least of due moments of which there are none yet, made once more where memory was wanting.
+/// The least of due moments of which there are none yet, made once more where memory ran out.
 fn least<D: Dues>(rt: &(impl AllocGlobal + Eprint)) -> Result<Option<Moment>, AllocError> {
     asks(rt);
     let answer = D::sized(rt.alloc(), 5);
@@ -243,7 +243,7 @@ fn has_cells<D: Dues>(hub: &Hub<D>, count: usize) -> bool {
     true
 }
 
-/// The ticket of one more cell. Where memory is wanting at first, the hub stays as it is.
+/// The ticket of one more cell. Where memory runs out at first, the hub stays as it is.
 fn admitted<D: Dues>(
     rt: &(impl Abort + AllocGlobal + Eprint),
     hub: &mut Hub<D>,
@@ -357,14 +357,14 @@ fn sought(
     seek(alloc, shop, release, budget, clean, proposers, 2)
 }
 
-fn is_wanting(answer: &Result<Verified, NotFound>) -> bool {
+fn ran_out(answer: &Result<Verified, NotFound>) -> bool {
     match answer {
         Ok(_) => false,
         Err(refused) => refused.fault == SeekFault::Memory,
     }
 }
 
-/// What is found where memory was wanting: looked for once more, with what came back.
+/// What is found where memory ran out: looked for once more, with what came back.
 fn found_again(
     alloc: Global,
     refused: NotFound,
@@ -389,7 +389,7 @@ fn found(
     let plan = read_plan(alloc, given)?;
     asks(rt);
     let answer = sought(alloc, shop, plan, proposers);
-    answers(rt, is_wanting(&answer));
+    answers(rt, ran_out(&answer));
     match answer {
         Ok(verified) => Ok(Ok(verified)),
         Err(refused) => found_again(alloc, refused, given, proposers),
@@ -448,7 +448,7 @@ fn all_comes_back_from_a_search(rt: HostRuntime) -> Result<(), Fail> {
     found
 }
 
-/// The plan that came back, where memory was wanting.
+/// The plan that came back, where memory ran out.
 fn undecided(refused: Undecided) -> Result<Shaped, DecideFault> {
     let Undecided { fault, shaped } = refused;
     if fault == DecideFault::Memory {
@@ -458,7 +458,7 @@ fn undecided(refused: Undecided) -> Result<Shaped, DecideFault> {
     Err(fault)
 }
 
-/// What is decided of the plan, once more where memory was wanting, with what came back.
+/// What is decided of the plan, once more where memory ran out, with what came back.
 fn decided_at_last(
     rt: &(impl AllocGlobal + Eprint),
     plan: &[u8],
@@ -504,7 +504,7 @@ fn a_plan_comes_back_undecided(rt: HostRuntime) -> Result<(), Fail> {
     Ok(())
 }
 
-/// The text of the plan, written once more where memory was wanting.
+/// The text of the plan, written once more where memory ran out.
 fn document(rt: &(impl AllocGlobal + Eprint), plan: &Plan) -> Result<String, PlanFault> {
     asks(rt);
     let answer = plan_document(rt.alloc(), plan);

@@ -153,7 +153,7 @@ fn log<'a>(alloc: Global) -> Arg<'a>
     ensures rule { rule_of result ≡ option_rule (codes "log") }
     ensures local { result.global ≡ false }
 {
-    let help = "Keep this log, and take up the run in it";
+    let help = "Keep this log, and continue the run in it";
     option(alloc, "log", "LOG", help)
 }
 
@@ -250,7 +250,7 @@ fn reasons<'a>(alloc: Global) -> Result<Command<'a>, AllocError>
     ensures { IfOk result (Describes (leaf (described CommandName.Explain))) }
 {
     let about = "Says why a plan is accepted or refused";
-    let help = "Tell the chain to job J's leaving";
+    let help = "Print the chain to job J's leaving";
     let so_far = with_arg(on_rest(alloc, "explain", about), job(alloc, help));
     with_arg(so_far, names(alloc))
 }
@@ -370,8 +370,8 @@ fn logged<'a>(alloc: Global) -> Result<Command<'a>, AllocError>
 {
     let about = "Drives a cell by a plan: reports come in, move orders go out";
     let new = "Begin a run: the log must not have begun";
-    let goes_on = "Take up a run: the log must have begun, by this plan";
-    let hand_over = "Take up a run by this plan, whichever it had";
+    let goes_on = "Continue a run: the log must have begun, by this plan";
+    let hand_over = "Continue a run by this plan, whichever it had";
     let plan = with_arg(on_plan(alloc, "drive", about), log(alloc));
     let begun = with_arg(plan, switch(alloc, "new", new));
     let so_far = with_arg(begun, switch(alloc, "continue", goes_on));

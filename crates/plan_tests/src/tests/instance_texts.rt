@@ -79,7 +79,7 @@ fn instances_of_a_collection_are_found_by_name(rt: HostRuntime) -> Result<(), Fa
 }
 
 #[test]
-fn want_of_memory_has_a_text(rt: HostRuntime) -> Result<(), Fail> {
+fn out_of_memory_has_a_text(rt: HostRuntime) -> Result<(), Fail> {
     assert!(rt; OrFault::Memory.to_string(rt.alloc())?.as_str() == "Memory");
     Ok(())
 }

@@ -6,12 +6,12 @@ use Rattle.command_run.specs.Logs.{IsRecoveredFromLog, Left}
 use Rattle.command_run.proofs.KnownLogs.{same_run}
 use Rattle.command_run.proofs.logs.replay_and_continue.Goals as goal
 
-pub go_on_with-requires-clause-recoverable : goal.go_on_with-requires-clause-recoverable
-go_on_with-requires-clause-recoverable g c = if_some-map g.B.InitialState.before (λ t from. subst (λ (x : Recovered). IsRecoveredFromLog x t.0) (sym c.in-Ok.ensures.same) from) c.requires.recoverable
+pub continue_with-requires-clause-recoverable : goal.continue_with-requires-clause-recoverable
+continue_with-requires-clause-recoverable g c = if_some-map g.B.InitialState.before (λ t from. subst (λ (x : Recovered). IsRecoveredFromLog x t.0) (sym c.in-Ok.ensures.same) from) c.requires.recoverable
 
 pub returns-in-Ok : goal.returns-in-Ok
 returns-in-Ok g c =
-    let run = c.go_on_with.ensures.went_on in
+    let run = c.continue_with.ensures.went_on in
     rw (← c.streams.view_is) (record {
       went_on = record {
         end = run.end;

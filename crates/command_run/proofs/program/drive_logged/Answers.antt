@@ -1,7 +1,7 @@
 use Rattle.std.proofs.Common.{◌≡◌, ◌==◌, ◌&&◌, if◌then◌else◌, ℕ, List, Bool, Option, IfSome, ap, sym, ◌∙◌, subst}
 use Rattle.command_run.specs.Streams.{Devices}
 use Rattle.command_run.specs.Logs.{IsHistoryOfLog, is_driven}
-use Rattle.command_run.specs.Program.{kept_log_in, manner_in, pair_in, starts_again, status_by}
+use Rattle.command_run.specs.Program.{kept_log_in, protocol_in, pair_in, starts_again, status_by}
 use Rattle.command_run.proofs.Choosing.{history_of_path, logged}
 use Rattle.command_run.proofs.Endings.{own_or}
 use Rattle.command_run.proofs.Keepers.{kept_ends}
@@ -13,7 +13,7 @@ pub logged_answer-outcome-requires-clause-history : goal.logged_answer-outcome-r
 logged_answer-outcome-requires-clause-history g c =
     let chosen = c.args.chosen.now in
     rw (c.pair-pair.ensures, c.protocol-protocol.ensures)
-    (subst (λ (d : Devices g.row.T.Denot). IfSome g.B.InitialState.before (IsHistoryOfLog g.T.Texts.gives d.folder (pair_in chosen) c.args.path.now (manner_in chosen) chosen.at d.texts d.streams.output.written)) (sym c.devices.view_is)
+    (subst (λ (d : Devices g.row.T.Denot). IfSome g.B.InitialState.before (IsHistoryOfLog g.T.Texts.gives d.folder (pair_in chosen) c.args.path.now (protocol_in chosen) chosen.at d.texts d.streams.output.written)) (sym c.devices.view_is)
     (history_of_path g.T.Texts.gives chosen c.args.devices c.args.path.now g.B.InitialState.before c.requires.kept c.requires.known))
 
 pub returns : goal.returns

@@ -10,8 +10,8 @@ returns-in-Accepted g c =
     found_in_round c.args.proposers.now (λ b. (goal.Proposer-dyn g (b.vtable, b.value)).may b.value) c.loop-proposer.task c.args.task c.in-Accepted.verified.planned
     c.proposer-item.result c.args.round c.loop-proposer.proposer-index c.loop-proposer.invariant.0 (omega arith) c.proposer-item.is c.in-Accepted.ensures c.loop-proposer.invariant.1
 
-pub returns-in-WantsMemory : goal.returns-in-WantsMemory
-returns-in-WantsMemory g c = c.in-WantsMemory.ensures ∙ c.loop-proposer.invariant.0
+pub returns-in-NoMemory : goal.returns-in-NoMemory
+returns-in-NoMemory g c = c.in-NoMemory.ensures ∙ c.loop-proposer.invariant.0
 
 pub loop-proposer-preserved : goal.loop-proposer-preserved
 loop-proposer-preserved g c = (

@@ -10,8 +10,8 @@ returns-in-Accepted g c =
     found_after c.args.proposers.now (λ b. (goal.Proposer-dyn g (b.vtable, b.value)).may b.value) c.loop-round.task c.args.task c.in-Accepted.verified.planned
     c.loop-round.round c.args.rounds c.loop-round.invariant.0 (omega arith) c.in-Accepted.ensures c.loop-round.invariant.1
 
-pub returns-in-WantsMemory : goal.returns-in-WantsMemory
-returns-in-WantsMemory g c = c.in-WantsMemory.ensures ∙ c.loop-round.invariant.0
+pub returns-in-NoMemory : goal.returns-in-NoMemory
+returns-in-NoMemory g c = c.in-NoMemory.ensures ∙ c.loop-round.invariant.0
 
 pub loop-round-preserved : goal.loop-round-preserved
 loop-round-preserved g c = (

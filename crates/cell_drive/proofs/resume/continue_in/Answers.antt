@@ -2,7 +2,7 @@ use Rattle.std.proofs.Common.{sym, subst, inl, inr, refl}
 use Rattle.std.specs.Io.KnownBytes.{Appends}
 use Rattle.byte_streams.specs.Lent.{output_of}
 use Rattle.cell_drive.specs.{Recovered.Recovered, Resuming.due_text}
-use Rattle.cell_drive.proofs.resume.go_on_in.Goals as goal
+use Rattle.cell_drive.proofs.resume.continue_in.Goals as goal
 
 pub returns : goal.returns
 returns g c =

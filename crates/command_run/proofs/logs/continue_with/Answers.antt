@@ -5,17 +5,17 @@ use Rattle.run_journal.specs.Logged.{fault_if}
 use Rattle.run_journal.proofs.Fronts.{if_some-both, if_some-map}
 use Rattle.command_run.specs.Logs.{Driven, IsLoggedAnswer}
 use Rattle.command_run.proofs.HeldLogs.{gone_on_to_end, keeps_in_log}
-use Rattle.command_run.proofs.logs.go_on_with.Goals as goal
+use Rattle.command_run.proofs.logs.continue_with.Goals as goal
 
-pub go_on_logged-end-requires-clause-whole : goal.go_on_logged-end-requires-clause-whole
-go_on_logged-end-requires-clause-whole g c = if_some-map g.B.InitialState.before (λ t from. from.0) c.requires.recoverable
+pub continue_logged-end-requires-clause-whole : goal.continue_logged-end-requires-clause-whole
+continue_logged-end-requires-clause-whole g c = if_some-map g.B.InitialState.before (λ t from. from.0) c.requires.recoverable
 
 pub returns : goal.returns
 returns g c =
-    let had = c.go_on_logged-end.ensures in
+    let had = c.continue_logged-end.ensures in
     let run = had.went_on in
-    let end = c.go_on_logged-end.result.end in
-    let log_failed = c.go_on_logged-end.result.log_failed in
+    let end = c.continue_logged-end.result.end in
+    let log_failed = c.continue_logged-end.result.log_failed in
     let p = plan_of c.args.run in
     let events = replayed_events c.args.run in
     let answer = subst (λ (done : Result Bool DriveFault). IsLoggedAnswer log_failed done c.logged_end-outcome.result) c.is_rest_done.ensures c.logged_end-outcome.ensures in

@@ -4,23 +4,23 @@ ghost use Rattle.std.specs.Prelude.{◌≡◌, ◌≢◌, ℕ, [], Option, None,
 ghost use Rattle.shop_base.specs.Plan.{PlannedShop};
 ghost use Rattle.text_lines.specs.Lines.{ended_lines};
 ghost use Rattle.byte_streams.specs.Lent.{input_of, output_of};
-ghost use Rattle.cell_drive.specs.{Recovered.IsRecovered, Recovered.replayed_events, InProtocol.IsGoneOnIn};
+ghost use Rattle.cell_drive.specs.{Recovered.IsRecovered, Recovered.replayed_events, InProtocol.IsContinuedIn};
 ghost use Rattle.run_journal.specs.{LogFiles.IsDurable, WholeLines.whole_lines, Logged.AreInitial, Logged.fault_if};
 ghost use Rattle.logged_drive.specs.CrashLaw.{IsRecoveredAfter};
 ghost use Rattle.logged_drive.specs.LoggedRuns.{IsAllInLog, KeepsShown, RunsLogged};
 
 use crate::logged_run::LoggedEnd;
 use byte_streams::{BufferedSink, DriveFault, Source};
-use cell_drive::{Protocol, Replayed, RestEnd, go_on_in};
+use cell_drive::{Protocol, Replayed, RestEnd, continue_in};
 use run_journal::laws::a_crash_keeps_what_was_shown;
 use run_journal::{InitialState, LogFile, Logged, WritingRoom};
 
-/// Goes on with a run that was recovered, and whose events were written again, as [`go_on_in`] does, with its log. The
+/// Continues a run that was recovered, and whose events were written again, as [`continue_in`] does, with its log. The
 /// mark, the orders that are due and the answers are put into it as far as a log gets them, and onto the disk, before
 /// any of it is shown.
 ///
 /// `Memory` is never answered. The log and the output are given back, whatever comes.
-pub fn go_on_logged<R: Source, W: BufferedSink + Drop, D: LogFile + Drop, B: InitialState>(
+pub fn continue_logged<R: Source, W: BufferedSink + Drop, D: LogFile + Drop, B: InitialState>(
     run: Replayed,
     room: WritingRoom,
     protocol: Protocol,
@@ -34,7 +34,7 @@ pub fn go_on_logged<R: Source, W: BufferedSink + Drop, D: LogFile + Drop, B: Ini
     requires whole { IfSome B.before (λ known. whole_lines known.0 ≡ known.0) }
     requires shown { W.pending output ≡ [] }
     requires unfailed { D.fault log ≡ None }
-    ensures went_on { RunsLogged (IsGoneOnIn protocol run) B.before (input_of R.Source reader.old)
+    ensures went_on { RunsLogged (IsContinuedIn protocol run) B.before (input_of R.Source reader.old)
         (W.written output) result.end result.log_failed (input_of R.Source reader.new) (D.seen result.log)
         (D.crash_states result.log) (output_of W.Sink W.pending result.output) }
 
@@ -63,7 +63,7 @@ pub fn go_on_logged<R: Source, W: BufferedSink + Drop, D: LogFile + Drop, B: Ini
     // Called for its clause alone.
     a_crash_keeps_what_was_shown();
     let mut writer = Logged::new(room, log, output, before);
-    let end = go_on_in(run, protocol, reader, &mut writer);
+    let end = continue_in(run, protocol, reader, &mut writer);
     let log_failed = writer.has_log_failed();
     let (log, output) = writer.into_parts();
     LoggedEnd {
