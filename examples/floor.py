@@ -9,7 +9,7 @@ FILE is an instance and PLAN a plan for it that `cellplan check` accepts; withou
 
 `Gateway` is what a floor of one's own needs. It is a process, which starts `cellplan drive --log LOG --continue`, carries out its orders and
 reports what has ended. Between it and the floor telegrams go to and fro; with `--bad-line` these are lost, doubled, delayed and swapped. It
-keeps nothing but LOG and the texts that LOG was driven by, so whatever dies, it goes on by these and by what the floor tells of itself.
+keeps nothing but LOG and the texts that LOG was driven by, so whatever dies, it goes on by these and by what the floor says of itself.
 
 K times a run (2) the gateway, the cellplan that it has started, or both are killed (SIGKILL), at random moments, and the gateway is started
 again, as a service is. In between the floor goes on.
@@ -50,10 +50,10 @@ class FieldBus:
         try:
             self.line.send(json.dumps(words).encode(), socket.MSG_DONTWAIT)
         except BlockingIOError:
-            pass  # lost, like others: all is sent again until the floor tells that it is done
+            pass  # lost, like others: all is sent again until the floor says that it is done
 
     def state(self):
-        """The newest state that the floor has told, once another telegram has come or some time has gone."""
+        """The newest state that the floor has sent, once another telegram has come or some time has gone."""
         wait = 0.05
         while select.select([self.line], [], [], wait)[0] or self.newest["now"] < 0:
             state = json.loads(self.line.recv(1 << 20))
@@ -122,7 +122,7 @@ class Gateway:
         self.start("--hand-over", "--at", now)
 
     def start(self, *words):
-        """Starts cellplan, and reads what the log has. Which of its orders are carried out, the floor tells."""
+        """Starts cellplan, and reads what the log has. Which of its orders are carried out, the floor says."""
         self.changes = self.changes_of(self.number)
         words = [self.program, "drive", *self.texts(self.number), "--log", self.log, "--lines", "2", *words]
         self.cellplan = subprocess.Popen(words, stdin=subprocess.PIPE, stdout=subprocess.PIPE, text=True)
@@ -132,7 +132,7 @@ class Gateway:
         self.ask()
 
     def ask(self, *reports):
-        """Sends these reports, and reads the answers up to the state, which is asked for behind them and tells all that goes on."""
+        """Sends these reports, and reads the answers up to the state, which is asked for behind them and lists all that goes on."""
         try:
             os.write(self.cellplan.stdin.fileno(), "".join(line + "\n" for line in [*reports, "status"]).encode())
         except BrokenPipeError:
@@ -146,7 +146,7 @@ class Gateway:
         sys.exit(self.close() or START_AGAIN)
 
     def follow(self, words):
-        """Follows a line, and tells whether it ends the state."""
+        """Follows a line, and answers whether it ends the state."""
         kind = words[0] if words else "mark"
         if kind == "report":
             self.reports, self.last = self.reports + 1, int(words[1])
@@ -307,7 +307,7 @@ class Floor:
         return self.now() + nominal * self.rng.choice([0, 0.5, 0.9, 0.9, 1, 1.3])
 
     def goes_on(self):
-        """Ends what is due, takes telegrams, and tells its state."""
+        """Ends what is due, takes telegrams, and sends its state."""
         while self.ends and self.ends[0][0] <= self.now():
             moment, what = heapq.heappop(self.ends)
             self.ended.setdefault(what, max(0, int(moment)))

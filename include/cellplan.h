@@ -24,7 +24,7 @@
    - `malloc`, `realloc` and `free` are those of one allocator. What the first two give begins at a multiple of 16, as with
      those of glibc; no call asks for more.
    - The stack has room. cellplan_check, cellplan_explain, cellplan_cell_new and cellplan_cell_hand_over touch some 26,000 bytes
-     of it, for texts of any length; give them 32 KiB. A plan's text that nests tables within tables wants more before it is
+     of it, for texts of any length; give them 32 KiB. A plan's text that nests tables within tables needs more before it is
      refused: the deepest that was found, 80 within 80, touches 1,600,000 bytes, so where a plan may be anybody's text give them
      2 MiB. cellplan_cell_check and cellplan_cell_schedule touch less than 4 KiB, and all other calls less than 1 KiB.
      (tests/c/c-library measures it.)
@@ -59,7 +59,7 @@ enum {
   CELLPLAN_REFUSED = 1,    /* the plan isn't accepted */
   CELLPLAN_FAULT = 3,      /* the text of the instance or of the plan is refused */
   CELLPLAN_NO_MEMORY = 4,  /* memory ran out */
-  CELLPLAN_NO_ROOM = 6,    /* the text is longer than the room for it; its length is told */
+  CELLPLAN_NO_ROOM = 6,    /* the text is longer than the room for it; its length is given */
   CELLPLAN_NONE = 7,       /* there is none of what was asked for */
   CELLPLAN_NO_CELL = 8,    /* the cell holds no controller */
   CELLPLAN_NO_KIND = 9,    /* the report is of no kind */
@@ -130,19 +130,19 @@ uint32_t cellplan_reason(uint32_t number, uint8_t *name, size_t room, size_t *le
    where `cellplan check --instance ''` looks for an instance of a collection, and there is none. A text may have any
    length, where `cellplan check` refuses one over 67108864 bytes, with status 5.
    GOOD where the plan is accepted, REFUSED where it isn't, each with the line; FAULT with the line that the program
-   tells on its standard error, which begins with `cellplan: `; NO_ROOM with the length of the line, which isn't written;
+   prints on its standard error, which begins with `cellplan: `; NO_ROOM with the length of the line, which isn't written;
    NO_MEMORY with the length 0. */
 uint32_t cellplan_check(const uint8_t *instance, size_t instance_length, const uint8_t *name, size_t name_length,
                         const uint8_t *plan, size_t plan_length, uint8_t *line, size_t room, size_t *length);
 
 /* Says why: writes the text that `cellplan explain` prints, of one line or many, and its length. All else is as above; with
-   a room of 0 bytes either call tells how many its answer needs, and then has judged the plan once more. */
+   a room of 0 bytes either call gives how many its answer needs, and then has judged the plan once more. */
 uint32_t cellplan_explain(const uint8_t *instance, size_t instance_length, const uint8_t *name, size_t name_length,
                           const uint8_t *plan, size_t plan_length, uint8_t *text, size_t room, size_t *length);
 
 /* Begins a cell with the plan, before the first report; what the cell held before is freed. The texts are as above, and
    aren't read any more when the call has ended.
-   GOOD; REFUSED, FAULT or NO_MEMORY, and then the cell holds what it held. cellplan_check tells why. */
+   GOOD; REFUSED, FAULT or NO_MEMORY, and then the cell holds what it held. cellplan_check says why. */
 uint32_t cellplan_cell_new(const uint8_t *instance, size_t instance_length, const uint8_t *name, size_t name_length,
                            const uint8_t *plan, size_t plan_length, struct cellplan_cell *cell);
 
@@ -226,7 +226,7 @@ uint32_t cellplan_cell_jobs(struct cellplan_cell *cell, uint32_t *count);
 uint32_t cellplan_cell_machines(struct cellplan_cell *cell, uint32_t *count);
 
 /* The job's earliest leaving by the plan, which it keeps to while no report is late; NONE for a number that is no job's. Of a cell
-   that was handed over it is the moment that was told then: of a job that was gone that at which it left, of the others the
+   that was handed over it is the moment that was given then: of a job that was gone that at which it left, of the others the
    earliest from there. */
 uint32_t cellplan_cell_leaves(struct cellplan_cell *cell, uint32_t job, uint64_t *at);
 

@@ -152,7 +152,7 @@ static const char *after_number(const char *text, uint64_t most, uint64_t *numbe
   return text;
 }
 
-/* Reports again what a line of the log tells. */
+/* Reports again what a line of the log says. */
 static void report_again(struct floor *floor, const char *line, const char *end) {
   uint64_t at = 0, job = 0, machine = 0;
   const char *event = after_number(after_word(line, "report "), UINT64_MAX, &at);

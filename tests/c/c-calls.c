@@ -433,7 +433,7 @@ static void never_over(struct cellplan_cell *cell) {
   not_over(cell, two, crossed, 3, CELLPLAN_REFUSED);
 }
 
-/* What a call tells of the rest at a moment, its status, and that one byte less is no room for it. */
+/* What a call answers of the rest at a moment, its status, and that one byte less is no room for it. */
 static void answers(uint32_t (*call)(struct cellplan_cell *, uint64_t, uint8_t *, size_t, size_t *), struct cellplan_cell *cell, uint64_t at,
                  uint32_t status, const char *text) {
   uint8_t room[512];

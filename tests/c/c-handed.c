@@ -1,6 +1,6 @@
 /* A cell that is handed over in mid-run: c-handed INSTANCE PLAN OTHER_INSTANCE OTHER_PLAN REPORTS drives a cell of the first plan for so many
    reports, hands it over to the other one at the last moment, and drives it to its end. It prints the log of the run, and on the standard
-   error how many lines of it there were once the cell was handed over, and then what is told of the rest from there: the check, and the
+   error how many lines of it there were once the cell was handed over, and then what is answered of the rest from there: the check, and the
    schedule. */
 #include "c-driving.h"
 
@@ -52,7 +52,7 @@ static void reported(struct cellplan_cell *cell, uint32_t jobs) {
   moved(cell, count);
 }
 
-/* Prints what a call tells of the rest of the cell at a moment. */
+/* Prints what a call answers of the rest of the cell at a moment. */
 static void print_rest(uint32_t (*call)(struct cellplan_cell *, uint64_t, uint8_t *, size_t, size_t *), struct cellplan_cell *cell, uint64_t at) {
   uint8_t nothing[1];
   size_t length = 0;

@@ -1,9 +1,9 @@
 /* Preloaded under the program and the tests. By tests/crashes/refused-memory and tests/c/c-library: refuses the request for memory with
-   the number in REFUSE, counted from 1, and says on the descriptor in REFUSE_TELL that it has met it. Where REFUSE_ASKED is set, it
+   the number in REFUSE, counted from 1, and says on the descriptor in REFUSE_MET that it has met it. Where REFUSE_ASKED is set, it
    counts those requests alone that come between a line `asked` on the standard error and the next line there. Where REFUSE_FREE is
    set too, it says of each call of `free` between them that it has met it.
    By tests/crashes/logs: interrupts the call on the standard stream INTERRUPT with the number INTERRUPT_AT, which then makes the file
-   INTERRUPT_TELL.
+   INTERRUPT_MET.
    By tests/crashes/failed-writes: refuses the write to the standard output with the number in REFUSE_WRITE, counted from 1, and
    none after it. */
 #define _GNU_SOURCE
@@ -43,9 +43,9 @@ static void begin(void) {
 /* whether the call on this stream is interrupted */
 static int interrupted(int stream) {
   static long calls;
-  const char *which = getenv("INTERRUPT"), *at = getenv("INTERRUPT_AT"), *tell = getenv("INTERRUPT_TELL");
-  if (!which || !at || !tell || atoi(which) != stream || ++calls != atol(at)) return 0;
-  close(open(tell, O_CREAT | O_WRONLY, 0666));
+  const char *which = getenv("INTERRUPT"), *at = getenv("INTERRUPT_AT"), *file = getenv("INTERRUPT_MET");
+  if (!which || !at || !file || atoi(which) != stream || ++calls != atol(at)) return 0;
+  close(open(file, O_CREAT | O_WRONLY, 0666));
   errno = EINTR;
   return 1;
 }
@@ -68,8 +68,8 @@ ssize_t write(int to, const void *bytes, size_t size) {
 }
 
 static void met(void) {
-  const char *tell = getenv("REFUSE_TELL");
-  if (tell && write(atoi(tell), "met\n", 4) != 4) _exit(99);
+  const char *descriptor = getenv("REFUSE_MET");
+  if (descriptor && write(atoi(descriptor), "met\n", 4) != 4) _exit(99);
 }
 
 static int refused(void) {

@@ -1,4 +1,4 @@
-/* Preloaded under the program by tests/crashes/floors: tells in a file beside each log, LOG.synced, how many bytes of it are on the disk for certain,
+/* Preloaded under the program by tests/crashes/floors: writes in a file beside each log, LOG.synced, how many bytes of it are on the disk for certain,
    which are those that it had as the last sync began that ended well, or fewer where it was cut since. */
 #define _GNU_SOURCE
 #include <dlfcn.h>
@@ -9,7 +9,7 @@
 #include <sys/stat.h>
 #include <unistd.h>
 
-static void tell(int file, long size) {
+static void note(int file, long size) {
   char link[64], path[4096], text[32];
   snprintf(link, sizeof link, "/proc/self/fd/%d", file);
   ssize_t length = readlink(link, path, sizeof path - 8);
@@ -25,13 +25,13 @@ int fdatasync(int file) {
   int (*next)(int) = (int (*)(int))dlsym(RTLD_NEXT, "fdatasync");
   struct stat before;
   int result = fstat(file, &before) == 0 ? next(file) : -1;
-  if (result == 0) tell(file, before.st_size);
+  if (result == 0) note(file, before.st_size);
   return result;
 }
 
 static int cut(int file, off_t size, const char *name) {
   int (*next)(int, off_t) = (int (*)(int, off_t))dlsym(RTLD_NEXT, name);
-  tell(file, size);
+  note(file, size);
   return next(file, size);
 }
 

@@ -82,7 +82,7 @@ class Plan:
 
 
 class Floor:
-    """A run of a plan: where the jobs are, what goes on and until when, and the lines that tell it, in either version."""
+    """A run of a plan: where the jobs are, what goes on and until when, and the lines that say it, in either version."""
 
     def __init__(self, shop, plan, version=1):
         self.shop, self.plan, self.version = shop, plan, version

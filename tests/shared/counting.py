@@ -1,4 +1,5 @@
-"""What the scripts of tests in Python count: what has passed, and what hasn't, which is told at once. The last line is 'N passed, M failed'."""
+"""What the scripts of tests in Python count: what has passed, and what hasn't, which is printed at once. The last line is 'N passed,
+M failed'."""
 import os, sys
 
 
@@ -24,7 +25,7 @@ class Count:
             self.miss(wrong)
 
     def enough(self, kinds, least):
-        """Tells how many there were of each kind; each but those that `least` doesn't want has to be met so often."""
+        """Prints how many there were of each kind; each but those that `least` doesn't want has to be met so often."""
         print(", ".join("%d %s" % (count, kind) for kind, count in kinds.items()))
         for kind, count in kinds.items():
             if count < (least(kind) if callable(least) else least):

@@ -3,7 +3,7 @@ import re
 from cell_model import Plan, Shop, leavings
 
 MOST_MOMENT = NOT_PROMISED = 10**12
-TOLD_DEADLINES = 5 * 10**11
+LAST_PRINTED_DEADLINE = 5 * 10**11
 MOST_RESERVE = 10000
 MOMENT_BEHIND = {"leaves", "budget", "since", "from", "to", "by", "left", "arrives", "least"}
 
@@ -39,7 +39,7 @@ class Names:
 def named(names, line):
     """A line of `explain`, `schedule` or `bounds`, but not the first one of the first two, or of `margin`."""
     line = re.sub(r"budget %d( slack \d+)?$" % NOT_PROMISED, "no budget", line)
-    line = re.sub(r" by (\d+)(?= leaves|$)", lambda by: by[0] if int(by[1]) <= TOLD_DEADLINES else "", line)
+    line = re.sub(r" by (\d+)(?= leaves|$)", lambda by: by[0] if int(by[1]) <= LAST_PRINTED_DEADLINE else "", line)
     words = line.split(" ")
     return " ".join(names.of(words[place - 1] if place else None, int(word)) if word.isdigit() else word for place, word in enumerate(words))
 

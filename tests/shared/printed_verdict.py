@@ -60,7 +60,7 @@ def first_line(plan, leaves, printed):
 
 
 def explained(shop, plan, status, text):
-    """`explain` of a well-shaped plan ends with this status and writes this text: tells the kind of its verdict."""
+    """`explain` of a well-shaped plan ends with this status and writes this text: gives the kind of its verdict."""
     lines = text.splitlines()
     words = lines[0].split()
     leaves = leavings(shop, plan)

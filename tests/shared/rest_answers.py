@@ -331,7 +331,7 @@ def scheduled(rest, printed):
 
 
 def scheduled_job(rest, job, by):
-    """The lines of one job, where by tells the deadline of a move, if it has one."""
+    """The lines of one job, where by gives the deadline of a move, if it has one."""
     step, done, since = rest.cell.step[job], rest.cell.done[job], rest.cell.since[job]
     if rest.cell.gone(job):
         return ["job %d left %d" % (job, since)]
@@ -364,6 +364,6 @@ def answer(command, shop, plan, log, at, printed):
     if at is not None and at < cell.last:
         return ["log past %d" % cell.last], 1, "past"
     rest = Rest(cell, cell.last if at is None else at)
-    tells = {"check": lambda: [first_line(rest, printed[0])], "explain": lambda: explained(rest, printed), "schedule": lambda: scheduled(rest, printed)}
+    written = {"check": lambda: [first_line(rest, printed[0])], "explain": lambda: explained(rest, printed), "schedule": lambda: scheduled(rest, printed)}
     kind = "cycle" if rest.row is None else "late" if rest.late() else "accepted"
-    return tells[command](), 0 if kind == "accepted" else 1, kind
+    return written[command](), 0 if kind == "accepted" else 1, kind

@@ -1,12 +1,12 @@
-# Tells each place of Rattle sources where a want of memory could come from anything but a refused request: a line
+# Prints each place of Rattle sources where out of memory could come from anything but a refused request: a line
 # 'FILE:LINE: WHY: TEXT' for each. It reads words and signs alone, so each rule says a little more than it would have to.
 #
 #   awk -v bounds=TABLE -v statuses=PATHS -f places.awk FILE..
 #
-# In the files whose names match PATHS a number may be the status of a call or of the program: that of want of memory, 4, stands
+# In the files whose names match PATHS a number may be the status of a call or of the program: that of out of memory, 4, stands
 # in the arm of a fault's Memory alone, and no status is computed.
 # TABLE has a line 'FILE | CALL | WHAT BOUNDS IT' for each request for a capacity, and for each call of a function that passes
-# a number of its caller's on to one. One that no source makes is told too.
+# a number of its caller's on to one. One that no source makes is printed too.
 
 function trim(text) {
   gsub(/^[ \t]+|[ \t]+$/, "", text)
@@ -130,8 +130,8 @@ function drop_ghosts(i, j, kept) {
   kept = 0
   for (i = 1; i <= tokens; i++) {
     if (token[i] == "#" && token[i + 1] ~ /^[[!]$/) {
-      if (token[i + 2] == "path") tell(i, "a source that may stand elsewhere")
-      if (token[i + 2] == "default" && token[i + 4] == "Memory") tell(i, "Memory by default")
+      if (token[i + 2] == "path") report(i, "a source that may stand elsewhere")
+      if (token[i + 2] == "default" && token[i + 4] == "Memory") report(i, "Memory by default")
       j = closing(token[i + 1] == "[" ? i + 1 : i + 2)
       look_at_attribute(i, j)
       i = j
@@ -162,9 +162,9 @@ function drop_ghosts(i, j, kept) {
 # a derived trait of another kind may make any variant, and the text of an error may be as wide as it says
 function look_at_attribute(i, end) {
   if (token[i + 2] == "derive") {
-    for (i += 3; i < end; i++) if (token[i] !~ derives) tell(i, "a derived trait that may make a value")
+    for (i += 3; i < end; i++) if (token[i] !~ derives) report(i, "a derived trait that may make a value")
   } else {
-    for (; i < end; i++) if (said[i] ~ wide) tell(i, "a text that is filled up")
+    for (; i < end; i++) if (said[i] ~ wide) report(i, "a text that is filled up")
   }
 }
 
@@ -174,8 +174,8 @@ function gives_status(i, end) {
   return 0
 }
 
-# whether a number is that of want of memory, however it is written
-function is_want_number(word) {
+# whether a number is that of out of memory, however it is written
+function is_memory_number(word) {
   if (word !~ /^[0-9]/) return word ~ /^b?'\\(x04|u[{]0*4[}])'$/
   gsub(/_/, "", word)
   sub(/[ui](8|16|32|64|128|size)$/, "", word)
@@ -192,7 +192,7 @@ function computes(i, word) {
   return word == "as" || token[i - 1] ~ /^(\.|::)$/ && token[i + 1] == "(" && word ~ computing
 }
 
-function tell(i, why) {
+function report(i, why) {
   print file ":" line[i] ": " why ": " trim(raw[line[i]])
 }
 
@@ -277,10 +277,10 @@ function type_of(i, end, depth, name) {
   return name
 }
 
-# whether want of memory may be made here: from an AllocError, in the arm of a fault of ours that says so, or where a fault is made of one of a
+# whether out of memory may be made here: from an AllocError, in the arm of a fault of ours that says so, or where a fault is made of one of a
 # library that does
-function may_want(i, m) {
-  if (may_tell()) return 1
+function may_make(i, m) {
+  if (may_answer()) return 1
   if (from[open] == "") return 0
   if (from[open] == "AllocError") return token[i - 2] == into[open] || token[i - 2] == "Self"
   for (m = open; m > 0 && kind[m] != "match"; m--) continue
@@ -289,43 +289,43 @@ function may_want(i, m) {
   return pattern[m] ~ /^([A-Za-z]+::Memory|ErrorKind::OutOfMemory)$/
 }
 
-# whether want of memory may be told here: in the arm of a fault that says so
-function may_tell(m) {
+# whether out of memory may be answered here: in the arm of a fault that says so
+function may_answer(m) {
   for (m = open; m > 0 && kind[m] != "match"; m--) continue
   return m > 0 && state[m] == "body" && guard[m] == "" && pattern[m] ~ /^[A-Za-z]+::Memory$/
 }
 
 function look_at_alloc_error(i) {
   if (using) {
-    if (token[i + 1] == "as") tell(i, "AllocError under another name")
+    if (token[i + 1] == "as") report(i, "AllocError under another name")
   } else if (token[i - 1] == "for" && token[i + 1] ~ /^({|where)$/) {
-    tell(i, "an impl for AllocError, where Self is one")
+    report(i, "an impl for AllocError, where Self is one")
   } else if (item == "type") {
-    if (token[i + 1] == ";") tell(i, "AllocError under another name")
+    if (token[i + 1] == ";") report(i, "AllocError under another name")
   } else if (!in_pattern() && (item == "value" || in_function[open])) {
-    if (!(token[i + 1] == "::" && token[i + 2] == "from") && token[i + 1] !~ /^[>|]$/) tell(i, "AllocError as a value")
+    if (!(token[i + 1] == "::" && token[i + 2] == "from") && token[i + 1] !~ /^[>|]$/) report(i, "AllocError as a value")
   }
 }
 
 function look_at_memory(i) {
-  if (using) tell(i, "a variant Memory brought in")
+  if (using) report(i, "a variant Memory brought in")
   else if (token[i - 1] != "::") {
-    if (kind[open] != "enum" && token[i - 1] != ".") tell(i, "Memory without its type")
-  } else if (!in_pattern() && !may_want(i)) tell(i, token[i - 2] "::Memory as a value")
+    if (kind[open] != "enum" && token[i - 1] != ".") report(i, "Memory without its type")
+  } else if (!in_pattern() && !may_make(i)) report(i, token[i - 2] "::Memory as a value")
 }
 
 # what is done with an error: it is passed on by `from`, by a variant that holds it, or by a closure that uses all of it
 function look_at_mapping(i, j, end) {
   end = closing(i + 1)
   j = i + 2
-  if (token[i - 1] == "::") tell(i, "an error whose way isn't followed")
+  if (token[i - 1] == "::") report(i, "an error whose way isn't followed")
   if (token[j] == "move") j++
   if (token[j] != "|") {
-    if (token[end - 1] != "from" && token[end - 1] !~ /^[A-Z]/) tell(i, "an error that isn't passed on by from")
+    if (token[end - 1] != "from" && token[end - 1] !~ /^[A-Z]/) report(i, "an error that isn't passed on by from")
     return
   }
   while (token[++j] != "|" && j < end) if (token[j] ~ /^[a-z_]/ && token[j] != "mut" && !is_used(token[j], j + 1, end)) {
-    tell(i, "a closure that drops an error")
+    report(i, "a closure that drops an error")
     return
   }
 }
@@ -420,8 +420,8 @@ function look_at_request(i, name, call, start) {
   start = token[i] == "new" ? i - 2 : i
   call = meaning(start, name == "with_capacity" ? second_comma(i + 1) : closing(i + (name == "vec!" ? 2 : 1)) - 1, name == "vec!" ? "]" : ")", i)
   asked[file " " without_blanks(call)] = 1
-  if (!(file " " without_blanks(call) in row_of)) tell(i, "a capacity that isn't among the stated bounds, " call)
-  if (passes_on && !(function_at(begin[open] + 1, type[open]) in is_asked)) tell(i, "a capacity that is passed on by a function, and none of its calls is among the stated bounds")
+  if (!(file " " without_blanks(call) in row_of)) report(i, "a capacity that isn't among the stated bounds, " call)
+  if (passes_on && !(function_at(begin[open] + 1, type[open]) in is_asked)) report(i, "a capacity that is passed on by a function, and none of its calls is among the stated bounds")
 }
 
 function is_filled(i, end, depth, count) {
@@ -442,25 +442,25 @@ function makes_a_box_alone(i) {
 function look_at(i, word) {
   if (word == "AllocError") look_at_alloc_error(i)
   else if (word == "Memory") look_at_memory(i)
-  else if (tolower(said[i]) ~ /out of memory/ && !may_tell()) tell(i, "the line of want of memory")
-  else if (said[i] ~ wide && token[i] != "bytes") tell(i, "a text that is filled up")
-  else if (word == "OutOfMemory" && !in_pattern()) tell(i, "OutOfMemory as a value")
-  else if (word ~ /^(AllocFailed|SpawnError|from_raw_os_error)$/) tell(i, "what an AllocError could be made of")
-  else if (word == "Error" && token[i - 1] == "::" && token[i - 2] == "fmt") tell(i, "what an AllocError could be made of")
-  else if (word == "default" && token[i - 1] == "::") tell(i, "a default value, which may be a fmt::Error")
-  else if (word ~ /^(unsafe|macro_rules|include|transmute)$/ && !makes_a_box_alone(i)) tell(i, "code whose words don't tell what it makes")
-  else if (word ~ /^(forget|leak|ManuallyDrop)$/) tell(i, "a value that is never dropped")
-  else if (word == "is_memory" && token[i - 1] == "fn") tell(i, "an error of ours that says that it is want of memory")
-  else if (word == "Error" && using && from_fmt) tell(i, "what an AllocError could be made of")
+  else if (tolower(said[i]) ~ /out of memory/ && !may_answer()) report(i, "the line of out of memory")
+  else if (said[i] ~ wide && token[i] != "bytes") report(i, "a text that is filled up")
+  else if (word == "OutOfMemory" && !in_pattern()) report(i, "OutOfMemory as a value")
+  else if (word ~ /^(AllocFailed|SpawnError|from_raw_os_error)$/) report(i, "what an AllocError could be made of")
+  else if (word == "Error" && token[i - 1] == "::" && token[i - 2] == "fmt") report(i, "what an AllocError could be made of")
+  else if (word == "default" && token[i - 1] == "::") report(i, "a default value, which may be a fmt::Error")
+  else if (word ~ /^(unsafe|macro_rules|include|transmute)$/ && !makes_a_box_alone(i)) report(i, "code whose words don't say what it makes")
+  else if (word ~ /^(forget|leak|ManuallyDrop)$/) report(i, "a value that is never dropped")
+  else if (word == "is_memory" && token[i - 1] == "fn") report(i, "an error of ours that says that it is out of memory")
+  else if (word == "Error" && using && from_fmt) report(i, "what an AllocError could be made of")
   else if (word ~ /^(map_err|or_else)$/ && token[i + 1] == "(") look_at_mapping(i)
-  else if (word ~ drops && (token[i - 1] == "." && token[i + 1] == "(" || token[i - 1] == "::")) tell(i, "a call that may drop an error")
-  else if (word == "unwrap_or" && caller(i - 2) !~ gives_option) tell(i, "a call that may drop an error")
-  else if (word ~ asks && (using ? word ~ /^(from|repeat)/ : token[i - 1] == "::" && token[i + 1] != "(" || token[i - 1] == "." && token[i + 1] == "::")) tell(i, "a request for a capacity that isn't written as a call")
+  else if (word ~ drops && (token[i - 1] == "." && token[i + 1] == "(" || token[i - 1] == "::")) report(i, "a call that may drop an error")
+  else if (word == "unwrap_or" && caller(i - 2) !~ gives_option) report(i, "a call that may drop an error")
+  else if (word ~ asks && (using ? word ~ /^(from|repeat)/ : token[i - 1] == "::" && token[i + 1] != "(" || token[i - 1] == "." && token[i + 1] == "::")) report(i, "a request for a capacity that isn't written as a call")
   else if (word ~ asks && token[i + 1] == "(" && token[i - 1] ~ /^(\.|::)$/) look_at_request(i, word)
   else if (token[i + 1] == "(" && token[i - 1] != "fn" && (function_at(i, token[i - 2]) in is_asked || word in is_public)) look_at_request(i, word)
   else if (word ~ /^(small)?vec$/ && token[i + 1] == "!" && is_filled(i + 2)) look_at_request(i, "vec!")
-  else if (word == "*" && using && (of_a_type || from_fmt)) tell(i, "all variants brought in")
-  else if (word == "as" && using && from_fmt && token[i - 1] ~ /^(fmt|self)$/) tell(i, "fmt under another name")
+  else if (word == "*" && using && (of_a_type || from_fmt)) report(i, "all variants brought in")
+  else if (word == "as" && using && from_fmt && token[i - 1] ~ /^(fmt|self)$/) report(i, "fmt under another name")
 }
 
 # whether the value of a field is computed
@@ -473,11 +473,11 @@ function is_computed(i, depth) {
   return 0
 }
 
-# in a file of statuses: the one of want of memory by its number, by a name of ours, or computed; a constant usize is none
+# in a file of statuses: the one of out of memory by its number, by a name of ours, or computed; a constant usize is none
 function look_at_status(i, word) {
-  if (word ~ /^[A-Z0-9_]*MEMORY[A-Z0-9_]*$/) tell(i, "a name for the status of want of memory")
-  else if (is_want_number(word) && !in_pattern() && !may_tell()) tell(i, "the status of want of memory as a number")
-  else if ((of_status[open] || item == "value") && computes(i, word) || word == "status" && token[i + 1] == ":" && is_computed(i + 2)) tell(i, "a status that is computed")
+  if (word ~ /^[A-Z0-9_]*MEMORY[A-Z0-9_]*$/) report(i, "a name for the status of out of memory")
+  else if (is_memory_number(word) && !in_pattern() && !may_answer()) report(i, "the status of out of memory as a number")
+  else if ((of_status[open] || item == "value") && computes(i, word) || word == "status" && token[i + 1] == ":" && is_computed(i + 2)) report(i, "a status that is computed")
 }
 
 # what an item, a let, a match or an arm begins or ends with

@@ -1,4 +1,4 @@
-# Tells each line of Rattle sources in which a fault of a stream or of a log may be made without a device: 'FILE:LINE: TEXT', and each
+# Prints each line of Rattle sources in which a fault of a stream or of a log may be made without a device: 'FILE:LINE: TEXT', and each
 # line of the table that no source needs. The sources have the layout of `rt fmt`.
 #
 #   awk -v places=TABLE -v devices=PATHS -f places.awk FILE..
@@ -37,12 +37,12 @@ END { for (key in row) if (!(key in needed)) print places ":" row[key] ": no sou
   parent = last[FILENAME, depth - 4]
   if ((text ~ /^(pub )?use / || parent ~ /^(pub )?use /) && text !~ /Fault(::| as )|[ {,]Error[,;}]/) next
   if (text ~ /^pub struct (ReadFault|WriteFault);$/) next
-  if (rest ~ /(^|[^A-Za-z_])(ReadFault|WriteFault|FileFault::)/ || text ~ /^(pub )?use .*FileFault as / || text ~ /^type .*Fault/ || text ~ /^impl FileFault/) if (!is_failed()) tell()
-  if (FILENAME ~ devices && text ~ /(^|[^A-Za-z])(io::Error::|ErrorKind::|Error::)/ && text !~ /^(ErrorKind::[A-Za-z]+|Err\(error\)) => / && text !~ /^Err\(error\) => match io::Error::from\(error\)\.kind\(\) \{$/) tell()
-  if (FILENAME ~ devices && text ~ /^(pub )?use std::io.*[ {,:]Error[,;}]/) tell()
+  if (rest ~ /(^|[^A-Za-z_])(ReadFault|WriteFault|FileFault::)/ || text ~ /^(pub )?use .*FileFault as / || text ~ /^type .*Fault/ || text ~ /^impl FileFault/) if (!is_failed()) report()
+  if (FILENAME ~ devices && text ~ /(^|[^A-Za-z])(io::Error::|ErrorKind::|Error::)/ && text !~ /^(ErrorKind::[A-Za-z]+|Err\(error\)) => / && text !~ /^Err\(error\) => match io::Error::from\(error\)\.kind\(\) \{$/) report()
+  if (FILENAME ~ devices && text ~ /^(pub )?use std::io.*[ {,:]Error[,;}]/) report()
 }
 
-function tell() { print FILENAME ":" FNR ": " text }
+function report() { print FILENAME ":" FNR ": " text }
 
 # at this depth a match of a call of a device with which its function begins, or a match or a condition that stands in the table
 function is_device(at, header) {
@@ -53,7 +53,7 @@ function is_device(at, header) {
   return 1
 }
 
-# the fault is alone what an arm for a failed call answers, or what stands behind a listed condition, or what std's error is told as
+# the fault is alone what an arm for a failed call answers, or what stands behind a listed condition, or what std's error is reported as
 function is_failed(arm) {
   if (text ~ "^(return )?Err\\(" fault "\\);?$") {
     if (parent ~ /^if /) return is_device(depth - 4)
