@@ -194,7 +194,7 @@ fn end<D: Dues>(driven: Cells<D>) -> HubEnd
     }
 }
 
-/// Drives these cells to the end of their input.
+/// Drives these cells to the end of their input, of which each piece is read into the room.
 fn drive_cells<R: Source, W: BufferedSink>(
     driven: Cells<TourneyDues>,
     room: Vec<u8>,

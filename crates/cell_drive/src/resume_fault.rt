@@ -49,7 +49,7 @@ impl From<AuditFault> for ResumeFault {
     }
 }
 
-/// Memory that ran out for the rest of a run.
+/// A fault of beginning the rest of a run that is `Memory`.
 #[derive(Drop)]
 pub(crate) struct AllocFailure {
     pub(crate) fault: RestFault,

@@ -93,11 +93,11 @@ impl SystemLog {
         Ok(())
     }
 
-    /// Locks it, and fails if its path doesn't lead to it any more.
+    /// Locks it, and fails if its path doesn't lead to it any more, or it hasn't its length.
     fn lock(&self) -> Result<(), FileFault>
         ensures { IfErr result IsOpenFault }
     {
-        lock(&self.rt, &self.file)?;
+        lock_file(&self.rt, &self.file)?;
         self.found_again()
     }
 
@@ -230,7 +230,7 @@ fn is_shown_in(rt: &HostRuntime, file: &File) -> bool {
 
 /// Locks a file. One that has the number of a standard stream, since that one is closed, is no log: what is written to
 /// the stream would stand in it. Nor is one to which the standard output goes.
-fn lock(rt: &HostRuntime, file: &File) -> Result<(), FileFault>
+fn lock_file(rt: &HostRuntime, file: &File) -> Result<(), FileFault>
     ensures { IfErr result IsOpenFault }
 {
     if file.as_raw_fd() <= STANDARD_ERROR || is_shown_in(rt, file) {
@@ -245,7 +245,7 @@ fn lock(rt: &HostRuntime, file: &File) -> Result<(), FileFault>
     }
 }
 
-/// Locks a file that was opened by this path, if the path still leads to it.
+/// The log of a file that was opened by this path, locked; a fault where the path doesn't lead to it any more.
 fn locked(
     rt: &HostRuntime,
     path: String,

@@ -75,7 +75,7 @@ pub line_of_first : (p : PlannedShop) (fault : ShapeFault) (outcome : Result Ans
 line_of_first p fault (Ok answer) first line = record { fault = fault; first = first; line = line }
 line_of_first p fault (Err no_memory) first line = line
 
--- so where it is alone
+-- the same, where the line is drawn in place of a picture
 pub line_alone : (p : PlannedShop) (fault : ShapeFault) (outcome : Result Drawn CommandFault) → IsFirstShapeFault p fault → IsOrMemory (IsLineAlone IsRefusedLine) outcome → IsOrMemory (IsUnshapedDrawn p) outcome
 line_alone p fault (Ok (Line answer)) first line = record { fault = fault; first = first; line = line }
 line_alone p fault (Ok (Picture picture status)) first line = line

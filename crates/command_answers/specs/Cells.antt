@@ -31,7 +31,7 @@ abbrev pub AfterPlan : {W : Type 0} → List VerifiedPlan → (List VerifiedPlan
 AfterPlan cells rest (Ok v) before outcome after = rest (cells ++ v ∷ []) before outcome after ⊎ ((outcome ≡ Err Memory) × (after ≡ before))
 AfterPlan cells rest (Err other) before outcome after = IsCellLine (length cells) other outcome × (after ≡ before)
 
--- a plan that was asked for whether it is accepted stands after these, unless memory ran out; the line of any other ends all
+-- an accepted plan is put behind these, unless memory ran out; the line of any other ends all
 abbrev pub IsAdded : List VerifiedPlan → Result VerifiedPlan Loaded → Option (Result Cells CommandFault) → List VerifiedPlan → Type 0
 IsAdded cells (Ok v) None more = more ≡ cells ++ v ∷ []
 IsAdded cells (Ok v) (Some outcome) more = outcome ≡ Err Memory

@@ -66,7 +66,7 @@ abbrev pub unwritten_fault : NotWritten → CommandFault
 unwritten_fault OutOfMemory = Memory
 unwritten_fault NotRead = Plan NotReadBack
 
--- why nothing is changed, of which out of memory is a fault of the command
+-- why nothing is changed, of which `Memory` is a fault of the command
 abbrev pub unrevised_of : NotRevised → Unrevised
 unrevised_of (Refused place fault) = RefusedAt place fault
 unrevised_of NoMemory = Ends Memory

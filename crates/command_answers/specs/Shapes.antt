@@ -36,7 +36,7 @@ pub record IsNotShapedLine (p : PlannedShop) (answer : Answer) : Type 0 where
 abbrev pub IsShapeLine : PlannedShop → Answer → Type 0
 IsShapeLine p answer = IsShapedLine p answer ⊎ IsNotShapedLine p answer
 
--- the line of what a plan is found to be
+-- the line of a plan that was found well shaped, or of one with this fault
 abbrev pub IsFoundLine : Result PlannedShop ShapeFault → Answer → Type 0
 IsFoundLine (Ok shaped) answer = (answer.text.items ≡ codes "shaped\n") × (answer.status ≡ 0)
 IsFoundLine (Err fault) answer = IsRefusedLine answer

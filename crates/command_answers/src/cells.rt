@@ -63,7 +63,7 @@ fn load_each<T: Texts>(
     Ok(Cells::Accepted(cells))
 }
 
-/// Adds the plan of a file, if it is accepted, for the instance in the text; else there is what ends all.
+/// Adds the plan of a file, if it is accepted, for the instance in the text; else gives what the loading ends with.
 fn add_cell<T: Texts>(
     alloc: Global,
     texts: &mut T,
@@ -81,7 +81,7 @@ fn add_cell<T: Texts>(
     }
 }
 
-/// Adds a plan, if it is accepted; else there is its line, which ends all.
+/// Adds a plan, if it is accepted; else gives what the loading ends with: its line, or that memory ran out.
 fn add_loaded(alloc: Global, loaded: Loaded, cells: &mut Vec<Verified>) -> Option<Outcome<Cells>>
     ensures { IsAdded cells.old.items (accepted_in loaded) result cells.new.items }
 {

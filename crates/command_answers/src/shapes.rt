@@ -41,7 +41,7 @@ pub(crate) fn not_shaped_answer(alloc: Global, fault: ShapeFault) -> Result<Answ
     fault_answer(alloc, b"not shaped ", fault)
 }
 
-/// The same, where out of memory is a fault of the command.
+/// The same line, as the answer of a command.
 pub(crate) fn unshaped_answer(alloc: Global, fault: ShapeFault) -> Answered
     ensures { IsOrMemory IsRefusedLine result }
 {

@@ -309,7 +309,7 @@ fault_of (Found bytes) = None
 fault_of (Unread fault) = Some fault
 fault_of (Unlined p) = Some NotLogged
 
--- no byte was changed of one that couldn't be synced or read, that wasn't as the words ask, that was left because of the plan, or that wasn't recovered for its text or since memory ran out
+-- no byte was changed of one that couldn't be synced or read, that wasn't as the words ask, that was left because of the plan, or that wasn't recovered because of its text, or because memory ran out
 abbrev pub IsUntouched : Bool → LogEnd → Type 0
 IsUntouched written (Unread fault) = written ≡ false
 IsUntouched written (Found bytes) = written ≡ false

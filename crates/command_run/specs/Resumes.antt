@@ -23,7 +23,7 @@ use Rattle.command_answers.specs.Rests.{IsPastLine}
 use Rattle.command_run.specs.Streams.{Streams}
 use Rattle.command_run.specs.Drives.{IsEndAnswer, IsLineAnswer}
 
--- the text is a log that is recovered by the plan, at the moment that is given or else at its last one, with all that is known of it; or this is its fault, which is out of memory alone where it can be recovered
+-- the text is a log that is recovered by the plan, at the moment that is given or else at its last one, with all that is known of it; or this is its fault, which is `Memory` alone where it can be recovered
 pub record IsRecovery (p : PlannedShop) (at : Option ℕ) (text : List ℕ) (recovered : Result Recovered ResumeFault) : Type 0 where
   pub is : IfOk recovered (IsRecovered p (ended_lines text) at)
   pub fault : IfErr recovered (IsResumeFault p (ended_lines text) at)

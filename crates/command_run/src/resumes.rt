@@ -122,7 +122,7 @@ fn rest_answer(alloc: Global, end: Result<RestEnd, DriveFault>) -> Answered
     }
 }
 
-/// Memory that ran out while a run was recovered.
+/// A fault of recovering a run that is `Memory`.
 #[derive(Drop)]
 struct RecoverAllocFailure {
     fault: ResumeFault,

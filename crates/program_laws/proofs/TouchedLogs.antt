@@ -36,7 +36,7 @@ use Rattle.program_laws.specs.MemoryLaw.{OutOfMemoryChangesNoLog}
 
 -- ---- what never ends with 4
 
--- a good answer, or a fault that isn't out of memory and whose words take none
+-- a good answer, or a fault other than `Memory`, whose words take none
 abbrev HasMemory : Result Answer CommandFault → Type 0
 HasMemory (Ok answer) = answer.status ≤ 1
 HasMemory (Err (Instance fault)) = ⊥

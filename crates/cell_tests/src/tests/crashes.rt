@@ -2,7 +2,9 @@
 
 use super::memory_log::MemoryLog;
 use byte_streams::{Buffered, BufferedSink, WriteFault, put_all};
-use run_journal::{LogFile, LogText, Logged, UnknownHistory, WritingRoom, cut_end, read_log};
+use run_journal::{
+    FileFault, LogFile, LogText, Logged, UnknownHistory, WritingRoom, cut_end, read_log,
+};
 use std::alloc::Global;
 use std::test::Fail;
 
@@ -112,10 +114,15 @@ fn is_read(bytes: Vec<u8>, events: &[u8]) -> bool {
 }
 
 /// Whether a read of no more than so many bytes gives these ones behind the first line.
-fn gives(alloc: Global, log: &mut MemoryLog, most: usize, events: &[u8]) -> bool {
+fn gives(
+    alloc: Global,
+    log: &mut MemoryLog,
+    most: usize,
+    events: &[u8],
+) -> Result<bool, FileFault> {
     match log.read(alloc, most) {
-        Ok(bytes) => is_read(bytes, events),
-        Err(_) => false,
+        Ok(bytes) => Ok(is_read(bytes, events)),
+        Err(fault) => Err(fault),
     }
 }
 
@@ -124,18 +131,23 @@ fn is_refused(alloc: Global, log: &mut MemoryLog, most: usize) -> bool {
     log.read(alloc, most).is_err()
 }
 
-/// Whether the log has just these bytes behind the first line, 78 with that.
-fn has_events(alloc: Global, log: &mut MemoryLog, events: &[u8]) -> (bool, bool) {
-    let given = gives(alloc, log, 78, events);
-    (given, is_refused(alloc, log, 77))
+/// Whether the log has just so many bytes, these ones behind the first line.
+fn has(
+    alloc: Global,
+    log: &mut MemoryLog,
+    length: usize,
+    events: &[u8],
+) -> Result<bool, FileFault> {
+    let given = gives(alloc, log, length, events)?;
+    Ok(given && is_refused(alloc, log, length.saturating_sub(1)))
 }
 
 #[test]
 fn a_whole_run_is_in_the_log(rt: HostRuntime) -> Result<(), Fail> {
     let (mut log, shown) = run(rt.alloc(), b"order 0 0 out 0\nrepo", 14, 0)?;
-    let found = has_events(rt.alloc(), &mut log, EVENTS);
+    let found = has(rt.alloc(), &mut log, 78, EVENTS);
     drop(log);
-    assert!(rt; shown == 62 && found == (true, true));
+    assert!(rt; shown == 62 && found?);
     Ok(())
 }
 

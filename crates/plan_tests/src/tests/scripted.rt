@@ -45,7 +45,7 @@ pub(crate) struct Scripted {
     pub(crate) questions: Rc<Cell<u32>>,
 }
 
-/// How often they were asked with a question in this turn.
+/// The count after one more question, which came at this turn.
 fn counted(before: u32, turn: u32) -> u32 {
     if before == turn {
         before.saturating_add(1)
