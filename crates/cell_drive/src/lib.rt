@@ -11,7 +11,7 @@ mod hub;
 mod judging;
 mod lateness;
 mod protocol;
-mod recover;
+mod recovery;
 mod refusals;
 mod replay;
 mod replies;
@@ -30,7 +30,7 @@ pub use byte_streams::{
 pub use event_lines::{done_line, late_line, refused_line, report_of, unfinished_line};
 pub use hub::{HubEnd, drive_hub, drive_hub_in};
 pub use protocol::Protocol;
-pub use recover::{RecoveredRun, Replayed, recover};
+pub use recovery::{RecoveredRun, Replayed, recover};
 pub use refusals::Refusal;
 pub use resume::{RestEnd, continue_in, replay_in, resume_in};
 pub use resume_fault::ResumeFault;

@@ -9,7 +9,7 @@ ghost use Rattle.cell_drive.specs.Session.{IsRestEndOf, SessionAnswer, SessionCl
 ghost use Rattle.cell_drive.specs.InProtocol.{IsContinuedIn, IsResumeIn, IsReplayedIn};
 
 use crate::protocol::Protocol;
-use crate::recover::{RecoveredRun, Replayed};
+use crate::recovery::{RecoveredRun, Replayed};
 use crate::replay::put_replay_events;
 use crate::session::Session;
 use crate::v1_replay::put_v1_replay;

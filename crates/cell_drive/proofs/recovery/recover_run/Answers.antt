@@ -1,5 +1,5 @@
 use Rattle.std.proofs.{Common.{arith, rules}, lemmas.Grind.common_steps}
-use Rattle.cell_drive.proofs.recover.recover_run.Goals as goal
+use Rattle.cell_drive.proofs.recovery.recover_run.Goals as goal
 
 pub returns-in-Err-clause-fault : goal.returns-in-Err-clause-fault
 returns-in-Err-clause-fault c = rw c.from.ensures tt

@@ -5,7 +5,7 @@ use Rattle.cell_tables.specs.PlannedCell.{PlannedCell}
 use Rattle.plan_verifier.specs.Accepted.{IsAcceptable}
 use Rattle.cell_control.specs.Begun.{IsRestFault}
 use Rattle.cell_drive.specs.ResumeFaults.{IsRefusal}
-use Rattle.cell_drive.proofs.recover.begin.Goals as goal
+use Rattle.cell_drive.proofs.recovery.begin.Goals as goal
 
 pub returns-in-Err-begin-clause-fault : goal.returns-in-Err-begin-clause-fault
 returns-in-Err-begin-clause-fault c =

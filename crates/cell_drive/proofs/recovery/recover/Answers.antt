@@ -4,7 +4,7 @@ use Rattle.shop_base.specs.Plan.{PlannedShop}
 use Rattle.text_lines.specs.Lines.{ended_lines}
 use Rattle.cell_drive.specs.ResumeFaults.{IsOnlyLogFault, IsRunFault}
 use Rattle.cell_drive.proofs.{OneFault.only_log_fault, Recovering.only_memory_of}
-use Rattle.cell_drive.proofs.recover.recover.Goals as goal
+use Rattle.cell_drive.proofs.recovery.recover.Goals as goal
 
 pub returns-in-Ok-run_of_log-clause-only : goal.returns-in-Ok-run_of_log-clause-only
 returns-in-Ok-run_of_log-clause-only c can =

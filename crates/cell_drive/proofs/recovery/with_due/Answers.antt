@@ -4,7 +4,7 @@ use Rattle.shop_base.specs.declared.move_order.MoveOrder.{MoveOrder}
 use Rattle.cell_tables.specs.{declared.entry.Entry.Entry, declared.entry.Entry.TheVariants.Order as OrderEntry}
 use Rattle.run_log.specs.Log.{Notes}
 use Rattle.cell_drive.proofs.Recovering.{done_unless, room_for_due, recovered_run, replayed_first}
-use Rattle.cell_drive.proofs.recover.with_due.Goals as goal
+use Rattle.cell_drive.proofs.recovery.with_due.Goals as goal
 
 pub unwrap-requires : goal.unwrap-requires
 unwrap-requires c =
