@@ -9,7 +9,7 @@ use Rattle.arc_choice.specs.declared.branch.Branch.{Branch}
 use Rattle.arc_choice.specs.declared.rules.Clash.{Clash}
 use Rattle.arc_choice.specs.declared.branch.Decision.{Decision}
 use Rattle.arc_choice.specs.declared.branch.Decision.TheVariants.{Open, One}
-use Rattle.arc_choice.specs.Choices.{Keeps, KeepsOne, Answers, IsArc, IsSound, nodes, pair_at, arc_at, no_arc, side_of}
+use Rattle.arc_choice.specs.Choices.{Keeps, KeepsOne, Answers, IsArc, IsSoundQuestion, nodes, pair_at, arc_at, no_arc, side_of}
 use Rattle.arc_choice.specs.Reach.{Rises, HasBit}
 use Rattle.arc_choice.specs.Branches.{IsForced, IsBranch, IsWithin, HasAll, IsCopy, Narrows, HasNone, Propagates, Always, AreHeads, AreLatest, KeepsDecision, decision_at, decision_for}
 
@@ -105,7 +105,7 @@ module _ (q : Question) (arc : Arc) (is : IsArc (nodes q) arc) where
 
 -- ---- nothing is decided
 
-module _ (q : Question) (b : Branch) (n : ℕ) (sound : IsSound q) (heads : b.state.heads.items ≡ q.first.items) (latest : b.state.latest.items ≡ q.last.items) (count : n ≡ length q.pairs.items)
+module _ (q : Question) (b : Branch) (n : ℕ) (sound : IsSoundQuestion q) (heads : b.state.heads.items ≡ q.first.items) (latest : b.state.latest.items ≡ q.last.items) (count : n ≡ length q.pairs.items)
     (decisions : b.decisions.items ≡ replicate n Open) where
   pub started : b.reach.nodes ≡ nodes q → IsBranch q b
   started reach = record {
@@ -169,7 +169,7 @@ other_forced q s p inside none = record { pair = inside; keeps = λ w answers wi
     go w answers within (inr other) = other
 
 -- a side is an arc
-pub side_arc : (q : Question) (p : ℕ) (one : Bool) → IsSound q → p < length q.pairs.items → IsArc (nodes q) (side_of q p one)
+pub side_arc : (q : Question) (p : ℕ) (one : Bool) → IsSoundQuestion q → p < length q.pairs.items → IsArc (nodes q) (side_of q p one)
 side_arc q p true sound inside = sound.ones p inside
 side_arc q p false sound inside = sound.others p inside
 
@@ -192,7 +192,7 @@ copied q s t state copy = record {
 }
 
 -- an arc of the question is one
-pub arc_is : (q : Question) (arcs : List Arc) (a : ℕ) (d : Arc) → arcs ≡ q.arcs.items → a < length arcs → IsSound q → IsArc (nodes q) (get_or arcs a d)
+pub arc_is : (q : Question) (arcs : List Arc) (a : ℕ) (d : Arc) → arcs ≡ q.arcs.items → a < length arcs → IsSoundQuestion q → IsArc (nodes q) (get_or arcs a d)
 arc_is q arcs a d are inside sound =
     let same : get_or arcs a d ≡ arc_at q a = get_or_default arcs a d no_arc inside ∙ ap (λ (list : List Arc). get_or list a no_arc) are in
     subst (IsArc (nodes q)) (sym same) (sound.arcs a (omega (arith, ap length are)))

@@ -9,7 +9,7 @@ use Rattle.arc_choice.specs.declared.branch.Branch.{Branch}
 use Rattle.arc_choice.specs.declared.branch.Decision.{Decision}
 use Rattle.arc_choice.specs.declared.branch.Decision.TheVariants.{Open, One, Other}
 use Rattle.arc_choice.specs.declared.rules.Clash.{Clash}
-use Rattle.arc_choice.specs.Choices.{Keeps, Answers, IsArc, IsImpossible, IsSound, nodes, pair_at, side_of}
+use Rattle.arc_choice.specs.Choices.{Keeps, Answers, IsArc, IsImpossible, IsSoundQuestion, nodes, pair_at, side_of}
 use Rattle.arc_choice.specs.Reach.{Rises}
 
 -- no node comes before its head
@@ -37,7 +37,7 @@ decision_for one = if one then One else Other
 module _ (q : Question) where
   -- the branch is one of this question, which can be searched
   pub record IsBranch (b : Branch) : Type 0 where
-    pub sound : IsSound q
+    pub sound : IsSoundQuestion q
     pub heads : length b.state.heads.items ≡ nodes q
     pub latest : length b.state.latest.items ≡ nodes q
     pub reach : b.reach.nodes ≡ nodes q

@@ -43,5 +43,5 @@ module _ (q : Question) where
     pub keeps : (w : ℕ → ℕ) → Answers q w → IsWithin q branch w ⊎ IsWithinSome old w → IsWithinSome new w
 
 -- where there is no such branch, nothing that waited has answers
-abbrev pub GoesOn : Question → List Waiting → List Waiting → Option Branch → Type 0
-GoesOn q old new result = MatchOption result (HasNoneIn q old) (λ branch. Goes q branch old new)
+abbrev pub IsNextBranch : Question → List Waiting → List Waiting → Option Branch → Type 0
+IsNextBranch q old new result = MatchOption result (HasNoneIn q old) (λ branch. Goes q branch old new)

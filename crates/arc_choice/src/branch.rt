@@ -1,7 +1,7 @@
 //! A branch of the search: what is known of all moments that answer a question and keep the sides decided so far.
 
 ghost use Rattle.std.specs.Prelude.{◌≡◌, ℕ, ◌<◌, ◌≤◌, IfOk, IfSome, length};
-ghost use Rattle.arc_choice.specs.Choices.{IsSound, Answers, nodes};
+ghost use Rattle.arc_choice.specs.Choices.{IsSoundQuestion, Answers, nodes};
 ghost use Rattle.arc_choice.specs.Outcomes.{OnNever};
 ghost use Rattle.arc_choice.specs.Reach.{Rises};
 ghost use Rattle.arc_choice.specs.Branches.{IsBranch, HasAll, IsCopy, decision_at};
@@ -60,7 +60,7 @@ impl State {
 impl Branch {
     /// What is known before anything is decided.
     pub(crate) fn start(alloc: Global, question: &Question) -> Result<Branch, AllocError>
-        requires { IsSound question.now }
+        requires { IsSoundQuestion question.now }
         ensures branch { IfOk result (IsBranch question.now) }
         ensures all { IfOk result (HasAll question.now) }
     {
@@ -172,7 +172,7 @@ fn all_below(alloc: Global, number: usize) -> Result<Vec<usize>, AllocError> {
 
 /// What the arcs alone say of which nodes come after which.
 fn reach_of(alloc: Global, question: &Question) -> Result<Reach, AllocError>
-    requires { IsSound question.now }
+    requires { IsSoundQuestion question.now }
     ensures rises { IfOk result (λ reach. (w : ℕ → ℕ) → Answers question.now w → Rises reach w) }
     ensures nodes { IfOk result (λ reach. reach.nodes ≡ nodes question.now) }
 {

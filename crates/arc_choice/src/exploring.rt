@@ -1,10 +1,10 @@
 //! The search: depth first, with the branches that are still to be looked at on a stack.
 
 ghost use Rattle.std.specs.Prelude.{◌<◌, length, IfOk};
-ghost use Rattle.arc_choice.specs.Choices.{IsSound, IsImpossible};
+ghost use Rattle.arc_choice.specs.Choices.{IsSoundQuestion, IsImpossible};
 ghost use Rattle.arc_choice.specs.Outcomes.{OnNever};
 ghost use Rattle.arc_choice.specs.Branches.{IsBranch, HasAll, IsRoot};
-ghost use Rattle.arc_choice.specs.Waits.{AreWaiting, GoesOn, Splits};
+ghost use Rattle.arc_choice.specs.Waits.{AreWaiting, IsNextBranch, Splits};
 
 use crate::branch::Branch;
 use crate::choosing::Choose;
@@ -42,7 +42,7 @@ pub fn explore<C: Choose>(
     chooser: &mut C,
     choices: u64,
 ) -> Result<Outcome, AllocError>
-    requires { IsSound question.now }
+    requires { IsSoundQuestion question.now }
     ensures { IfOk result (OnNever (IsImpossible question.now)) }
 {
     chooser.begin(alloc, question)?;
@@ -61,7 +61,7 @@ fn root(
     links: &Links,
     work: &mut Work,
 ) -> Result<Option<Branch>, AllocError>
-    requires { IsSound question.now }
+    requires { IsSoundQuestion question.now }
     ensures { IfOk result (IsRoot question.now) }
 {
     let mut branch = Branch::start(alloc, question)?;
@@ -151,7 +151,7 @@ fn next<C: Choose>(
     waiting: &mut Vec<Waiting>,
 ) -> Option<Branch>
     requires { AreWaiting question.now waiting.old.items }
-    ensures { GoesOn question.now waiting.old.items waiting.new.items result }
+    ensures { IsNextBranch question.now waiting.old.items waiting.new.items result }
 {
     while let Some(last) = waiting.pop() {
         let Waiting { branch, side } = last;

@@ -6,10 +6,10 @@ mod branch;
 mod choosing;
 mod exploring;
 mod links;
+mod propagating;
 mod question;
 mod reach;
 mod rules;
-mod settling;
 mod work;
 
 pub use branch::State;

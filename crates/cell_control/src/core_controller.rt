@@ -90,7 +90,7 @@ impl<P: Timed, D: Dues> Core<P, D> {
         ensures never_refused { IfEndsNow self.old report (IsOk result) }
     {
         let possible = self.judge(report)?;
-        Ok(self.take(possible))
+        Ok(self.accept(possible))
     }
 
     /// Judges a report: it is possible, and late or not, or this is the first reason for which it isn't possible.
@@ -131,8 +131,8 @@ impl<P: Timed, D: Dues> Core<P, D> {
         })
     }
 
-    /// Takes a report that was judged possible in this cell, as [`Core::report`] does.
-    pub fn take(&mut self, possible: Possible) -> Ack
+    /// Accepts a report that was judged possible in this cell, as [`Core::report`] does.
+    pub fn accept(&mut self, possible: Possible) -> Ack
         requires { IsPossible self.old.planned self.old.cell possible }
         ensures answered { IsAnswered self.old possible.report result self.new }
         ensures late { result.late ≡ possible.late }
@@ -150,7 +150,7 @@ impl<P: Timed, D: Dues> Core<P, D> {
         ack
     }
 
-    /// Takes the report that the machine has been cleaned after this job, as [`Core::report`] takes the report of
+    /// Accepts the report that the machine has been cleaned after this job, as [`Core::report`] accepts that of
     /// a cleaning. It is expected only while the machine is being cleaned after just that job. So none is accepted
     /// twice in a run, at whatever moments.
     pub fn clean_after(
@@ -168,7 +168,7 @@ impl<P: Timed, D: Dues> Core<P, D> {
         // Called for its clause alone: the cell is sound.
         let _plan = self.shaped();
         let possible = self.judge_clean_after(machine, job, at)?;
-        Ok(self.take(possible))
+        Ok(self.accept(possible))
     }
 
     /// The moves that it ordered last, in the order in which they are made: those that the last accepted report has
@@ -257,7 +257,7 @@ impl<P: Timed, D: Dues> Core<P, D> {
         self.cell.last()
     }
 
-    /// Whether no report was late since it began, but that what was overdue then has ended then.
+    /// Whether no report was late since it began; what was overdue then counts as ended then.
     pub fn punctual(&self) -> bool
         ensures { result ≡ self.now.punctual }
     {

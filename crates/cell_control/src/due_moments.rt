@@ -53,7 +53,7 @@ pub(crate) fn renew_machine<P: Planned, D: Dues>(
     renew(dues, cleaning_key(cell, machine), due);
 }
 
-/// Notes what goes on in the cell.
+/// Notes when each activity that goes on in the cell is due.
 pub fn note_all<P: Planned, D: Dues>(cell: &WorkCell<P>, dues: &mut D)
     requires { length (D.dues dues.old) ≡ jobs cell.now.plan + machines cell.now.plan }
     ensures { AreDueMoments cell.now.plan cell.now.cell (D.dues dues.new) }

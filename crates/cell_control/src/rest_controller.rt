@@ -6,12 +6,12 @@ ghost use Rattle.cell_control.specs.HandedOver.{IsHandedOver, IsHandOverFault};
 
 use crate::controller::Controller;
 use crate::core_controller::Core;
+use crate::dispatching::dispatch_enabled;
 use crate::dues::Dues;
 use crate::handing::take_over;
 use crate::preparing::prepare;
 use crate::rest_fault::RestFault;
 use crate::room::Room;
-use crate::settling::settle;
 use crate::timed::Held;
 use alt_graph::Times;
 use cell_tables::WorkCell;
@@ -71,7 +71,7 @@ impl<D: Dues> Core<Held, D> {
         let _plan = cell.shaped();
         let Room { dues, mut orders } = room;
         let mut cell = hold(cell, times);
-        settle(&mut cell, &mut orders, present);
+        dispatch_enabled(&mut cell, &mut orders, present);
         Core::begin_at_rest(cell, Room { dues, orders }, present)
     }
 

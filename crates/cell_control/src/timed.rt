@@ -7,10 +7,10 @@ use shop_base::{Planned, Shaped};
 
 /// A plan with a rank and a moment for each node of its graph: what a controller is made of.
 pub trait Timed: Planned {
-    // What is known of the nodes.
+    // The ranks and moments of the nodes.
     ghost times: { Self → NodeTimes };
 
-    /// What is known of the nodes.
+    /// The ranks and moments of the nodes.
     fn times(&self) -> &Times
         ensures { result.now ≡ times self.now };
 }

@@ -6,7 +6,7 @@ use Rattle.shop_base.specs.{Plan.{PlannedShop, IsWellShaped}, Cell.Cell, Run.IsA
 use Rattle.shop_base.specs.{ReportsLeft.reports_left, Sound.IsSound}
 use Rattle.shop_base.proofs.ReportsLeft.{ended_where_none, none_where_ended}
 use Rattle.event_lines.specs.{AnswerLines.{done_line, unfinished_line}, SentLines.cell_prefix}
-use Rattle.cell_drive.specs.{LineAnswers.{IsClosingLine, closing_line}, ManyCells.{PlannedCell, CellsClose, AreAllDone}}
+use Rattle.cell_drive.specs.{LineAnswers.{IsClosingLine, closing_line}, ManyCells.{HubCell, CellsClose, AreAllDone}}
 use Rattle.cell_drive.specs.Numbers.{AreInRun, closing_text}
 
 pub closing_unfinished : (p : PlannedShop) (c : Cell) → (reports_left p c ≡ 0 → ⊥) → closing_line p c ≡ unfinished_line (reports_left p c)
@@ -21,7 +21,7 @@ closing_line_is p c shaped sound rest = elim (cases_Bool (reports_left p c == 0)
       inr ((λ ended. left (none_where_ended p c shaped sound ended)), closing_unfinished p c left)
 ]
 
-pub closing_is : (cells : List PlannedCell) (number : ℕ) → AreInRun cells → CellsClose number cells (closing_text number cells)
+pub closing_is : (cells : List HubCell) (number : ℕ) → AreInRun cells → CellsClose number cells (closing_text number cells)
 closing_is [] number in_run = refl
 closing_is (c ∷ cells) number (first, others) = (
   closing_line c.plan.planned c.cell,
@@ -31,17 +31,17 @@ closing_is (c ∷ cells) number (first, others) = (
   refl,
 )
 
-next_there : (cells : List PlannedCell) (k : ℕ) (c : PlannedCell) → slice_get cells k ≡ Some c → drop k cells ≡ c ∷ drop (suc k) cells
+next_there : (cells : List HubCell) (k : ℕ) (c : HubCell) → slice_get cells k ≡ Some c → drop k cells ≡ c ∷ drop (suc k) cells
 next_there [] k c found = absurd (cc)
 next_there (d ∷ cells) zero c found = cc
 next_there (d ∷ cells) (suc k) c found = next_there cells k c found
 
 -- the closing line of the next cell, and those after it
-pub next_closing : (cells : List PlannedCell) (k : ℕ) (c : PlannedCell) → slice_get cells k ≡ Some c → (cell_prefix k ++ closing_line c.plan.planned c.cell) ++ closing_text (k + 1) (drop (k + 1) cells) ≡ closing_text k (drop k cells)
+pub next_closing : (cells : List HubCell) (k : ℕ) (c : HubCell) → slice_get cells k ≡ Some c → (cell_prefix k ++ closing_line c.plan.planned c.cell) ++ closing_text (k + 1) (drop (k + 1) cells) ≡ closing_text k (drop k cells)
 next_closing cells k c found = rw (next_there cells k c found, add-one) refl
 
-pub next_done : (cells : List PlannedCell) (k : ℕ) (c : PlannedCell) → slice_get cells k ≡ Some c → AreAllDone (drop k cells) → HasEnded c.plan.planned c.cell × AreAllDone (drop (k + 1) cells)
+pub next_done : (cells : List HubCell) (k : ℕ) (c : HubCell) → slice_get cells k ≡ Some c → AreAllDone (drop k cells) → HasEnded c.plan.planned c.cell × AreAllDone (drop (k + 1) cells)
 next_done cells k c found all = rw add-one (subst AreAllDone (next_there cells k c found) all)
 
-pub one_more_done : (cells : List PlannedCell) (k : ℕ) (c : PlannedCell) → slice_get cells k ≡ Some c → HasEnded c.plan.planned c.cell → AreAllDone (drop (k + 1) cells) → AreAllDone (drop k cells)
+pub one_more_done : (cells : List HubCell) (k : ℕ) (c : HubCell) → slice_get cells k ≡ Some c → HasEnded c.plan.planned c.cell → AreAllDone (drop (k + 1) cells) → AreAllDone (drop k cells)
 one_more_done cells k c found ended rest = subst AreAllDone (sym (next_there cells k c found)) (ended, rw add-one at rest)

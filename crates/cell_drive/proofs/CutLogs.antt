@@ -9,7 +9,7 @@ use Rattle.cell_tables.specs.declared.entry.Entry.{Entry, TheVariants.{Report as
 use Rattle.cell_tables.specs.Events.{events_of}
 use Rattle.event_lines.specs.{LogLines.LinesParse, Requests.claimed, ReadBack.ParsesFirst}
 use Rattle.event_lines.specs.declared.requests.Request.{Request, TheVariants.{Claim as ClaimRequest, Status}}
-use Rattle.event_lines.proofs.{Readings.parse-parts, Telling.parses_none}
+use Rattle.event_lines.proofs.{Readings.parse-parts, EntryParses.parses_none}
 use Rattle.run_log.proofs.Audits.{events-join}
 use Rattle.byte_streams.specs.Answering.{AnswerAll}
 use Rattle.cell_drive.specs.{declared.protocol.Protocol.Protocol, AnswerText.{DrivenCell, undriven, CellCloses}}

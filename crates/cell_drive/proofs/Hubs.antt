@@ -5,7 +5,7 @@ use Rattle.shop_base.specs.declared.report.Report.{Report}
 use Rattle.plan_verifier.specs.Accepted.{VerifiedPlan}
 use Rattle.cell_control.specs.Control.{Control}
 use Rattle.event_lines.specs.{AnswerLines.refused_line, SentLines.cell_prefix, declared.requests.Request.Request}
-use Rattle.cell_drive.specs.{declared.protocol.Protocol.Protocol, ManyCells.{PlannedCell, cell_start, hub_start}}
+use Rattle.cell_drive.specs.{declared.protocol.Protocol.Protocol, ManyCells.{HubCell, cell_start, hub_start}}
 use Rattle.cell_drive.specs.ProtocolCells.{AsksCell, AsksOf, IsReplyIn, CellsReply, ProtocolCellsAnswer, HubAnswer, hub_of}
 use Rattle.cell_drive.specs.Replies.{RepliesBy, HasAccepted, accepted_events}
 use Rattle.cell_drive.specs.Numbers.{AnsweredByCells, AreInRun, planned_cell, planned_cells}
@@ -29,12 +29,12 @@ one_there controls k v below is = there_at controls k v below ∙ ap (λ (x : Co
 set_there : (controls : List Control) (k : ℕ) (v : Control) → planned_cells (set controls k v) ≡ set (planned_cells controls) k (planned_cell v)
 set_there [] k v = refl
 set_there (w ∷ controls) zero v = refl
-set_there (w ∷ controls) (suc k) v = ap (λ (cells : List PlannedCell). planned_cell w ∷ cells) (set_there controls k v)
+set_there (w ∷ controls) (suc k) v = ap (λ (cells : List HubCell). planned_cell w ∷ cells) (set_there controls k v)
 
 -- one more cell begins
 pub one_more_begun : (plans : List VerifiedPlan) (w : VerifiedPlan) → hub_start plans ++ cell_start w ∷ [] ≡ hub_start (plans ++ w ∷ [])
 one_more_begun [] w = refl
-one_more_begun (u ∷ plans) w = ap (λ (cells : List PlannedCell). cell_start u ∷ cells) (one_more_begun plans w)
+one_more_begun (u ∷ plans) w = ap (λ (cells : List HubCell). cell_start u ∷ cells) (one_more_begun plans w)
 
 -- ---- what is asked of it
 
@@ -43,7 +43,7 @@ module _ (protocol : Protocol) (controls : List Control) (number k : ℕ) where
   pub answers_none : (request : Request) → slice_get (planned_cells controls) k ≡ None
       → CellsReply protocol (planned_cells controls) number (record { cell = k; request = request }) (refused_line number (codes "NoSuchCell")) (planned_cells controls)
   answers_none request none =
-      subst (λ (o : Option PlannedCell). IsReplyIn protocol o (planned_cells controls) number (record { cell = k; request = request }) (refused_line number (codes "NoSuchCell")) (planned_cells controls)) (sym none)
+      subst (λ (o : Option HubCell). IsReplyIn protocol o (planned_cells controls) number (record { cell = k; request = request }) (refused_line number (codes "NoSuchCell")) (planned_cells controls)) (sym none)
       (record { text_is = refl; end_is = refl })
 
   -- its controller replies
@@ -51,7 +51,7 @@ module _ (protocol : Protocol) (controls : List Control) (number k : ℕ) where
       → RepliesBy protocol (cell_prefix k) v number request accepted new text → CellsReply protocol (planned_cells controls) number (record { cell = k; request = request }) text (planned_cells (set controls k new))
   reply_answers v new request accepted text found is answer =
       let end = planned_cells (set controls k new) in
-      subst (λ (o : Option PlannedCell). IsReplyIn protocol o (planned_cells controls) number (record { cell = k; request = request }) text end) (sym found) (record {
+      subst (λ (o : Option HubCell). IsReplyIn protocol o (planned_cells controls) number (record { cell = k; request = request }) text end) (sym found) (record {
         events = accepted_events new accepted;
         next = new.cell;
         answer = answer;
@@ -69,7 +69,7 @@ asked_of protocol controls ends number line text cell request some asked replied
 }
 
 -- a line by which nothing changes
-pub unchanged : (protocol : Protocol) (cells : List PlannedCell) (number : ℕ) (line : Option (List ℕ)) (text : List ℕ) → ProtocolCellsAnswer protocol cells number line text cells
+pub unchanged : (protocol : Protocol) (cells : List HubCell) (number : ℕ) (line : Option (List ℕ)) (text : List ℕ) → ProtocolCellsAnswer protocol cells number line text cells
     → HubAnswer (hub_of protocol cells) number line text (hub_of protocol cells)
 unchanged protocol cells number line text answer = record { answer = answer; protocol = refl }
 

@@ -3,7 +3,7 @@ use Rattle.std.proofs.Common.{◌≡◌, ℕ, zero, suc, List, [], ◌∷◌, �
 use Rattle.std.specs.Prelude.{slice_get}
 use Rattle.shop_base.proofs.{Keeping.start-sound, ControlledRuns.start_at_rest}
 use Rattle.plan_verifier.specs.Accepted.{VerifiedPlan, IsVerified}
-use Rattle.cell_drive.specs.{ManyCells.{PlannedCell, AreVerified, cell_start, hub_start}, Numbers.{IsInRun, AreInRun}}
+use Rattle.cell_drive.specs.{ManyCells.{HubCell, AreVerified, cell_start, hub_start}, Numbers.{IsInRun, AreInRun}}
 
 pub starts_in_run : (v : VerifiedPlan) → IsVerified v → IsInRun (cell_start v)
 starts_in_run v verified = record { verified = verified; sound = start-sound v.planned verified.schedule.shaped; rest = start_at_rest v.planned }
@@ -17,12 +17,12 @@ pub one_more_verified : (plans : List VerifiedPlan) (v : VerifiedPlan) → AreVe
 one_more_verified [] v all is = (is, tt)
 one_more_verified (w ∷ plans) v all is = (all.0, one_more_verified plans v all.1 is)
 
-pub one_in_run : (cells : List PlannedCell) (k : ℕ) (c : PlannedCell) → AreInRun cells → slice_get cells k ≡ Some c → IsInRun c
+pub one_in_run : (cells : List HubCell) (k : ℕ) (c : HubCell) → AreInRun cells → slice_get cells k ≡ Some c → IsInRun c
 one_in_run [] k c all found = absurd (cc)
 one_in_run (d ∷ cells) zero c all found = let same : d ≡ c = cc in subst IsInRun same all.0
 one_in_run (d ∷ cells) (suc k) c all found = one_in_run cells k c all.1 found
 
-pub set_in_run : (cells : List PlannedCell) (k : ℕ) (next : PlannedCell) → AreInRun cells → IsInRun next → AreInRun (set cells k next)
+pub set_in_run : (cells : List HubCell) (k : ℕ) (next : HubCell) → AreInRun cells → IsInRun next → AreInRun (set cells k next)
 set_in_run [] k next all is = tt
 set_in_run (d ∷ cells) zero next all is = (is, all.1)
 set_in_run (d ∷ cells) (suc k) next all is = (all.0, set_in_run cells k next all.1 is)

@@ -17,7 +17,7 @@ use Rattle.cell_drive.specs.{declared.hub.HubEnd.HubEnd, Refusals.{refusal_word,
 use Rattle.cell_drive.specs.{LineAnswers.{LineAnswer, IsClosingLine}, AnswerText.{DrivenCell, undriven, CellCloses}}
 use Rattle.cell_drive.specs.ProtocolText.{AsksFor, IsClaimRefused, IsClaimAccepted, RequestAnswer, CellRequests, refusal_prefix, ProtocolAnswers, acceptance_lines, prints_end, printed_overdue}
 use Rattle.cell_drive.specs.{ProtocolLaw.{OneAnswerText, OneTextForLines}, Numbers.{IsInRun, AreInRun}}
-use Rattle.cell_drive.specs.ManyCells.{PlannedCell, CellsClose, hub_start}
+use Rattle.cell_drive.specs.ManyCells.{HubCell, CellsClose, hub_start}
 use Rattle.cell_drive.specs.ProtocolCells.{AsksCell, AsksOf, OfCell, IsReplyIn, CellsReply, AreDrivesIn, hub_of_plans}
 use Rattle.cell_drive.specs.ProtocolCellsLaw.{OneCellsTextForLines, OneCellsText}
 use Rattle.cell_drive.proofs.ManyCells.{start_in_run, one_in_run, set_in_run}
@@ -179,10 +179,10 @@ one_answer_text p protocol input text other end last shaped is also =
 
 -- ---- many cells
 
-pub on_course : (c : PlannedCell) → IsInRun c → IsOnCourse c.plan.planned c.cell
+pub on_course : (c : HubCell) → IsInRun c → IsOnCourse c.plan.planned c.cell
 on_course c is = record { shaped = is.verified.schedule.shaped; sound = is.sound; rest = is.rest }
 
-pub one_closing_text : (cells : List PlannedCell) (number : ℕ) (text other : List ℕ) → CellsClose number cells text → CellsClose number cells other → other ≡ text
+pub one_closing_text : (cells : List HubCell) (number : ℕ) (text other : List ℕ) → CellsClose number cells text → CellsClose number cells other → other ≡ text
 one_closing_text [] number text other is also = also ∙ sym is
 one_closing_text (c ∷ cells) number text other is also =
     let line = one_closing c.plan.planned c.cell is.0 also.0 is.2 also.2 in
@@ -204,19 +204,19 @@ one_asked_cell version_2 line asked other is also =
     ap (λ (k : ℕ). record { cell = k; request = other.request }) same.0 ∙ ap (λ (r : Request). record { cell = asked.cell; request = r }) same.1
 
 module _ (protocol : Protocol) where
-  one_in : (o : Option PlannedCell) (cells : List PlannedCell) (number : ℕ) (asked : OfCell) (text other : List ℕ) (end last : List PlannedCell) → ((c : PlannedCell) → o ≡ Some c → IsInRun c)
+  one_in : (o : Option HubCell) (cells : List HubCell) (number : ℕ) (asked : OfCell) (text other : List ℕ) (end last : List HubCell) → ((c : HubCell) → o ≡ Some c → IsInRun c)
       → IsReplyIn protocol o cells number asked text end → IsReplyIn protocol o cells number asked other last → (other ≡ text) × (last ≡ end)
   one_in None cells number asked text other end last in_run one also = (also.text_is ∙ sym one.text_is, also.end_is ∙ sym one.end_is)
   one_in (Some c) cells number asked text other end last in_run one also =
       let same = one_request_answer c.plan.planned protocol (cell_prefix asked.cell) c.cell number (on_course c (in_run c refl)) asked.request text other one.events also.events one.next also.next one.answer also.answer in
       (same.text_is, also.end_is ∙ ap (λ (x : Cell). set cells asked.cell (record { plan = c.plan; cell = x })) same.next_is ∙ sym one.end_is)
 
-  one_of_cells : (cells : List PlannedCell) (number : ℕ) (asked : OfCell) (text other : List ℕ) (end last : List PlannedCell) → AreInRun cells
+  one_of_cells : (cells : List HubCell) (number : ℕ) (asked : OfCell) (text other : List ℕ) (end last : List HubCell) → AreInRun cells
       → CellsReply protocol cells number asked text end → CellsReply protocol cells number asked other last → (other ≡ text) × (last ≡ end)
   one_of_cells cells number asked text other end last in_run one also =
       one_in (slice_get cells asked.cell) cells number asked text other end last (λ c found. one_in_run cells asked.cell c in_run found) one also
 
-  keeps_in : (o : Option PlannedCell) (cells : List PlannedCell) (number : ℕ) (asked : OfCell) (text : List ℕ) (end : List PlannedCell) → AreInRun cells → ((c : PlannedCell) → o ≡ Some c → IsInRun c)
+  keeps_in : (o : Option HubCell) (cells : List HubCell) (number : ℕ) (asked : OfCell) (text : List ℕ) (end : List HubCell) → AreInRun cells → ((c : HubCell) → o ≡ Some c → IsInRun c)
       → IsReplyIn protocol o cells number asked text end → AreInRun end
   keeps_in None cells number asked text end all in_run is = subst AreInRun (sym is.end_is) all
   keeps_in (Some c) cells number asked text end all in_run is =
@@ -224,7 +224,7 @@ module _ (protocol : Protocol) where
       let next = request_keeps c.plan.planned protocol (cell_prefix asked.cell) c.cell number (on_course c kept) asked.request text is.events is.next is.answer in
       subst AreInRun (sym is.end_is) (set_in_run cells asked.cell (record { plan = c.plan; cell = is.next }) all (record { verified = kept.verified; sound = next.sound; rest = next.rest }))
 
-  pub replies_keep : (cells : List PlannedCell) (number : ℕ) (asked : OfCell) (text : List ℕ) (end : List PlannedCell) → AreInRun cells → CellsReply protocol cells number asked text end → AreInRun end
+  pub replies_keep : (cells : List HubCell) (number : ℕ) (asked : OfCell) (text : List ℕ) (end : List HubCell) → AreInRun cells → CellsReply protocol cells number asked text end → AreInRun end
   replies_keep cells number asked text end all is = keeps_in (slice_get cells asked.cell) cells number asked text end all (λ c found. one_in_run cells asked.cell c all found) is
 
 pub one_cells_text_for_lines : OneCellsTextForLines
@@ -234,7 +234,7 @@ one_cells_text_for_lines plans protocol lines text other end last verified all a
 pub one_cells_text : OneCellsText
 one_cells_text plans protocol input text other end last verified is also =
     let one = one_cells_text_for_lines plans protocol (input_lines input) is.answers also.answers end last verified is.are_answers also.are_answers in
-    let closing = one_closing_text end 0 is.closing also.closing is.is_closing (subst (λ (s : List PlannedCell). CellsClose 0 s also.closing) one.1 also.is_closing) in
+    let closing = one_closing_text end 0 is.closing also.closing is.is_closing (subst (λ (s : List HubCell). CellsClose 0 s also.closing) one.1 also.is_closing) in
     (also.whole ∙ ap (λ (t : List ℕ). t ++ also.closing) one.0 ∙ ap (λ (t : List ℕ). is.answers ++ t) closing ∙ sym is.whole, one.1)
 
 -- where memory ran out before the first byte was read

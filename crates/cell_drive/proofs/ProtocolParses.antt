@@ -9,7 +9,7 @@ use Rattle.event_lines.specs.{EventLines.{report_line, order_lines}, AnswerLines
 use Rattle.event_lines.specs.{ReadBack.{IsSpaceless, ParsesFirst}, declared.details.Overdue.Overdue, Requests.claimed}
 use Rattle.event_lines.specs.StandingLines.{unfinished_standing_line, refused_detail_line}
 use Rattle.event_lines.specs.declared.requests.Request.{Request, TheVariants.{Claim as ClaimRequest, Status}}
-use Rattle.event_lines.proofs.Telling.{parses_none, parses_both, others_parse_none}
+use Rattle.event_lines.proofs.EntryParses.{parses_none, parses_both, others_parse_none}
 use Rattle.cell_drive.specs.{declared.protocol.Protocol.Protocol, Refusals.{refusal_word, refusal_detail}}
 use Rattle.cell_drive.specs.{declared.refusals.Refusal.{Refusal, TheVariants.{Reason, Leap}}, LineAnswers.closing_line}
 use Rattle.cell_drive.specs.States.{is_over, standing_part, texts_from, jobs_text, machines_text, state_text}

@@ -13,7 +13,7 @@ use Rattle.cell_tables.specs.declared.entry.Entry.{Entry, TheVariants.{Report as
 use Rattle.cell_tables.specs.Events.{events_of}
 use Rattle.event_lines.specs.{EventLines.{report_line, order_line, order_lines}, LogLines.LinesParse}
 use Rattle.event_lines.specs.ReadBack.{IsSpaceless, ParsesFirst}
-use Rattle.event_lines.proofs.Telling.{parses_none, parses_both, parses_entry, others_parse_none}
+use Rattle.event_lines.proofs.EntryParses.{parses_none, parses_both, parses_entry, others_parse_none}
 use Rattle.run_log.proofs.Audits.{events-join}
 use Rattle.byte_streams.specs.Answering.{AnswerAll}
 use Rattle.cell_drive.specs.{AnswerText.{DrivenCell, undriven, CellCloses}, AuditLaw.IsLogOf}

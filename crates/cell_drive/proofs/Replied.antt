@@ -20,7 +20,7 @@ either_way false prefix = refl
 pub no_prefix : (protocol : Protocol) → refusal_prefix protocol [] ≡ []
 no_prefix protocol = either_way protocol.version_2 []
 
--- what was taken is accepted by these lines
+-- what was claimed is accepted by these lines
 pub accepts : (protocol : Protocol) (prefix : List ℕ) (v new : Control) (claim : Claim) (late : Bool) (ack : Ack) → IsAdmissible protocol v.planned v.cell claim → (late ≡ false) ↔ IsPunctual v.planned v.cell (claimed claim)
     → IsAnswered v (claimed claim) ack new
     → AcceptedBy protocol prefix v claim new (acceptance_lines prefix (claimed claim) late (printed_overdue protocol v.planned v.cell (claimed claim)) new.orders (prints_end protocol new.planned new.cell))

@@ -6,7 +6,7 @@ use Rattle.byte_streams.specs.{declared.drive_fault.DriveFault.DriveFault, Lent.
 use Rattle.cell_drive.specs.{declared.protocol.Protocol.Protocol, declared.begin.DriveEnd.DriveEnd}
 use Rattle.cell_drive.specs.{declared.resume.RestEnd.RestEnd, OneRun.IsStreamedFrom}
 use Rattle.cell_drive.specs.Session.{SessionState, SessionAnswer, SessionCloses, IsEndOf, session_start}
-use Rattle.cell_drive.specs.{Recovered.Recovered, Resuming.WritesAndGoesOn, Resuming.again_of, Resuming.due_text}
+use Rattle.cell_drive.specs.{Recovered.Recovered, Resuming.WritesAndContinues, Resuming.again_of, Resuming.due_text}
 use Rattle.cell_drive.specs.Replay.{IsReplayWritten, replay_text}
 
 -- a run that has begun: its plan, and the protocol by which it is to be driven
@@ -38,8 +38,8 @@ IsReplayedIn protocol recovered = IsReplayWritten (replay_text protocol recovere
 
 -- behind the events, which were written again, the run was driven on by this protocol to this end; or that was broken off by this fault
 abbrev pub IsContinuedIn : Protocol → Recovered → Streams → Streams → Result RestEnd DriveFault → Type 0
-IsContinuedIn protocol recovered = WritesAndGoesOn protocol (due_text recovered) recovered
+IsContinuedIn protocol recovered = WritesAndContinues protocol (due_text recovered) recovered
 
 -- the events of the run that was recovered were written again by this protocol, and it was driven on
 abbrev pub IsResumeIn : Protocol → Recovered → Streams → Streams → Result RestEnd DriveFault → Type 0
-IsResumeIn protocol recovered = WritesAndGoesOn protocol (again_of protocol recovered) recovered
+IsResumeIn protocol recovered = WritesAndContinues protocol (again_of protocol recovered) recovered

@@ -10,7 +10,7 @@ use Rattle.event_lines.specs.declared.requests.Claim.TheVariants.{Report, CleanA
 use Rattle.event_lines.specs.declared.requests.Request.TheVariants.{Claim as ClaimRequest, Status}
 use Rattle.cell_drive.specs.{declared.protocol.Protocol.Protocol, declared.hub.HubEnd.HubEnd, OneRun.IsStreamedFrom}
 use Rattle.cell_drive.specs.{LineAnswers.SaysOnly, LineAnswers.LineAnswer, ProtocolText.RequestAnswer}
-use Rattle.cell_drive.specs.ManyCells.{PlannedCell, hub_start, AreVerified, CellsClose, AreAllDone}
+use Rattle.cell_drive.specs.ManyCells.{HubCell, hub_start, AreVerified, CellsClose, AreAllDone}
 
 -- the line asks this of the cell of this number: in version 1 of the lines it is a report on it, in version 2 whatever is a request
 abbrev pub AsksCell : Bool → List ℕ → ℕ → Request → Type 0
@@ -33,31 +33,31 @@ abbrev pub AsksOf : Bool → List ℕ → OfCell → Type 0
 AsksOf version_2 line asked = AsksCell version_2 line asked.cell asked.request
 
 -- the cell answers what it is asked, with its number before each line, and the others stay as they are
-pub record IsCellReply (protocol : Protocol) (c : PlannedCell) (cells : List PlannedCell) (number : ℕ) (asked : OfCell) (text : List ℕ) (end : List PlannedCell) : Type 0 where
+pub record IsCellReply (protocol : Protocol) (c : HubCell) (cells : List HubCell) (number : ℕ) (asked : OfCell) (text : List ℕ) (end : List HubCell) : Type 0 where
   pub events : List Entry
   pub next : Cell
   pub answer : RequestAnswer c.plan.planned protocol (cell_prefix asked.cell) c.cell number asked.request text events next
   pub end_is : end ≡ slice_set cells asked.cell (record { plan = c.plan; cell = next })
 
 -- what is asked is answered by the cell of its number, where there is one
-abbrev pub IsReplyIn : Protocol → Option PlannedCell → List PlannedCell → ℕ → OfCell → List ℕ → List PlannedCell → Type 0
+abbrev pub IsReplyIn : Protocol → Option HubCell → List HubCell → ℕ → OfCell → List ℕ → List HubCell → Type 0
 IsReplyIn protocol None cells number asked text end = SaysOnly (refused_line number (codes "NoSuchCell")) cells text end
 IsReplyIn protocol (Some c) cells number asked text end = IsCellReply protocol c cells number asked text end
 
-abbrev pub CellsReply : Protocol → List PlannedCell → ℕ → OfCell → List ℕ → List PlannedCell → Type 0
+abbrev pub CellsReply : Protocol → List HubCell → ℕ → OfCell → List ℕ → List HubCell → Type 0
 CellsReply protocol cells number asked text end = IsReplyIn protocol (slice_get cells asked.cell) cells number asked text end
 
 -- and so is a line
-abbrev pub ProtocolCellsAnswer : Protocol → List PlannedCell → ℕ → Option (List ℕ) → List ℕ → List PlannedCell → Type 0
+abbrev pub ProtocolCellsAnswer : Protocol → List HubCell → ℕ → Option (List ℕ) → List ℕ → List HubCell → Type 0
 ProtocolCellsAnswer protocol = LineAnswer (AsksOf protocol.version_2) (CellsReply protocol)
 
 -- these cells, and the protocol
 pub record HubOfCells : Type 0 where
   pub protocol : Protocol
-  pub cells : List PlannedCell
+  pub cells : List HubCell
 
 -- a protocol and cells, as one
-abbrev pub hub_of : Protocol → List PlannedCell → HubOfCells
+abbrev pub hub_of : Protocol → List HubCell → HubOfCells
 hub_of protocol cells = record { protocol = protocol; cells = cells }
 
 -- before the first line

@@ -22,11 +22,11 @@ IsRefusedFor p Starts (Cycle nodes) = IsCycle p nodes.items
 IsRefusedFor p Starts (Late job leaves chain times) = Starts × IsReason p (Late job leaves chain times)
 
 -- out of memory, or the plan is refused, and comes back
-abbrev pub IsRefusal : PlannedShop → Bool → ResumeFault → Type 0
-IsRefusal p starts (Log fault) = ⊥
-IsRefusal p starts (Past last) = ⊥
-IsRefusal p starts (Refused back why) = (back ≡ p) × IsRefusedFor p (starts ≡ true) why
-IsRefusal p starts Memory = Unit {0}
+abbrev pub IsStartRefusal : PlannedShop → Bool → ResumeFault → Type 0
+IsStartRefusal p starts (Log fault) = ⊥
+IsStartRefusal p starts (Past last) = ⊥
+IsStartRefusal p starts (Refused back why) = (back ≡ p) × IsRefusedFor p (starts ≡ true) why
+IsStartRefusal p starts Memory = Unit {0}
 
 -- the fault of a run that these events record: the moment that was given is past; or it isn't, and the plan is refused
 abbrev pub IsRunFault : PlannedShop → List Entry → Option ℕ → ResumeFault → Type 0

@@ -56,7 +56,7 @@ abbrev pub session_from : Protocol → Recovered → SessionState
 session_from protocol recovered = session_by protocol recovered.control recovered.log
 
 -- this text was written, and behind it the answers to the input, which is read into a room of 65,536 bytes, are streamed from this session on. It comes to this end or this fault, with this cell and log
-pub record GoesOn (protocol : Protocol) (text : List ℕ) (recovered : Recovered) (before after : Streams) (outcome : Result RestEnd DriveFault) : Type 0 where
+pub record IsContinuedRun (protocol : Protocol) (text : List ℕ) (recovered : Recovered) (before after : Streams) (outcome : Result RestEnd DriveFault) : Type 0 where
   pub from : IsRecoveredRun recovered
   pub middle : Output
   pub again : Appends before.output.written middle.written text
@@ -66,8 +66,8 @@ pub record GoesOn (protocol : Protocol) (text : List ℕ) (recovered : Recovered
   pub came_to : IfOk outcome (IsRestEndOf (plan_of recovered) end)
 
 -- either of these
-abbrev pub WritesAndGoesOn : Protocol → List ℕ → Recovered → Streams → Streams → Result RestEnd DriveFault → Type 0
-WritesAndGoesOn protocol text recovered before after outcome = IsCutAgain text before after outcome ⊎ GoesOn protocol text recovered before after outcome
+abbrev pub WritesAndContinues : Protocol → List ℕ → Recovered → Streams → Streams → Result RestEnd DriveFault → Type 0
+WritesAndContinues protocol text recovered before after outcome = IsCutAgain text before after outcome ⊎ IsContinuedRun protocol text recovered before after outcome
 
 -- the events are a run of the plan, and lead to a cell at rest
 abbrev pub IsRunToRest : PlannedShop → List Entry → Type 0
@@ -85,20 +85,20 @@ OneResumedText = (p : PlannedShop) (protocol : Protocol) (entries : List Entry) 
 
 -- what was written behind what stood there, where driving on succeeded, is such a text of what was read
 abbrev pub WhatWasResumedIsSuchAText : Type 0
-WhatWasResumedIsSuchAText = (protocol : Protocol) (recovered : Recovered) (end : RestEnd) (before after : Streams) (is : GoesOn protocol (again_of protocol recovered) recovered before after (Ok end))
+WhatWasResumedIsSuchAText = (protocol : Protocol) (recovered : Recovered) (end : RestEnd) (before after : Streams) (is : IsContinuedRun protocol (again_of protocol recovered) recovered before after (Ok end))
     → IsResumedText (plan_of recovered) protocol recovered.log.entries recovered.late is.streamed.input (again_of protocol recovered ++ (is.streamed.comes_to.text ++ is.streamed.comes_to.closing)) (seen is.end)
 
 -- an audit of what was written finds what driving on came to, and its only fault is that it is out of memory
 abbrev pub AnAuditKeepsWhatWasResumed : Type 0
 AnAuditKeepsWhatWasResumed = (protocol : Protocol) (recovered : Recovered) (end : RestEnd) (before after : Streams) (start text : List ℕ) (outcome : Result Audit AuditFault)
-    → WritesAndGoesOn protocol (again_of protocol recovered) recovered before after (Ok end)
+    → WritesAndContinues protocol (again_of protocol recovered) recovered before after (Ok end)
     → before.output.written ≡ Some start → after.output.written ≡ Some (start ++ text)
     → IfOk outcome (IsAudit (plan_of recovered) (lines_of text))
     → (ParseAsRun (plan_of recovered) (lines_of text) → IfErr outcome (λ fault. fault ≡ OutOfMemory))
     → MatchResult outcome (IsFoundAgain (plan_of recovered) end.log.entries end.done end.last end.left) (λ fault. fault ≡ OutOfMemory)
 
 -- after the events that the log recorded come those of the controlled run that goes on from their cell, at the moment at which the controller began
-pub record GoesOnFrom (recovered : Recovered) (end : RestEnd) : Type 0 where
+pub record ContinuesFrom (recovered : Recovered) (end : RestEnd) : Type 0 where
   pub later : List Entry
   pub whole : end.log.entries ≡ replayed_events recovered ++ later
   pub reports : List Report
@@ -106,4 +106,4 @@ pub record GoesOnFrom (recovered : Recovered) (end : RestEnd) : Type 0 where
 
 -- so it is where driving on succeeded
 abbrev pub WhatWasResumedGoesOn : Type 0
-WhatWasResumedGoesOn = (text : List ℕ) (protocol : Protocol) (recovered : Recovered) (end : RestEnd) (before after : Streams) → GoesOn protocol text recovered before after (Ok end) → GoesOnFrom recovered end
+WhatWasResumedGoesOn = (text : List ℕ) (protocol : Protocol) (recovered : Recovered) (end : RestEnd) (before after : Streams) → IsContinuedRun protocol text recovered before after (Ok end) → ContinuesFrom recovered end

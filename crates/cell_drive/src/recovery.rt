@@ -1,6 +1,6 @@
 //! A log that is recovered.
 
-ghost use Rattle.std.specs.Prelude.{◌≡◌, ◌*◌, ◌≤◌, vec_len, vec_capacity, unwrap_or, Bool};
+ghost use Rattle.std.specs.Prelude.{◌≡◌, ◌*◌, ◌≤◌, vec_len, vec_capacity, Bool};
 ghost use Rattle.std.specs.Prelude.{true, IfOk, IfErr, OnOk, IfSome};
 ghost use Rattle.shop_base.specs.{declared.limits.TheConstants.MAX_MOMENT, Plan.IsWellShaped, Cell.start};
 ghost use Rattle.shop_base.specs.{Report.IsNextMoment, Run.IsRun, Ends.stated_number};
@@ -13,7 +13,7 @@ ghost use Rattle.byte_streams.specs.declared.rooms.TheConstants.{MAX_PIECE};
 ghost use Rattle.cell_drive.specs.{OneRun.cell_after, LateEvents.AreLate};
 ghost use Rattle.cell_drive.specs.Recovered.{AreAtStart, IsRecovered, IsRecoveredFrom, IsRecoveredRun};
 ghost use Rattle.cell_drive.specs.Recovered.{IsRecoverable, replayed_events};
-ghost use Rattle.cell_drive.specs.ResumeFaults.{IsResumeFault, IsOnlyLogFault, IsRunFault, IsRefusal};
+ghost use Rattle.cell_drive.specs.ResumeFaults.{IsResumeFault, IsOnlyLogFault, IsRunFault, IsStartRefusal};
 
 use crate::lateness::late_events;
 use crate::resume_fault::{AllocFailure, ResumeFault};
@@ -21,7 +21,7 @@ use byte_streams::reading_room;
 use cell_control::{RestController, RestFault, TourneyDues};
 use cell_tables::{Entry, Tables, WorkCell};
 use plan_verifier::{Verdict, Why, verify};
-use run_log::{LoggedRun, RunLog, run_of_log};
+use run_log::{LoggedRun, RunLog, present_at, run_of_log};
 use shop_base::{Moment, Shaped};
 use std::alloc::{AllocError, Global};
 use std::marker::Model;
@@ -172,16 +172,6 @@ fn start_tables(alloc: Global, shaped: &Shaped) -> Result<Tables, AllocError>
     }
 }
 
-/// The present moment: the one that is given, or the last one.
-fn present_at(at: Option<Moment>, last: Moment) -> Moment
-    ensures { result ≡ unwrap_or at last }
-{
-    match at {
-        Some(present) => present,
-        None => last,
-    }
-}
-
 /// Begins with the cell. At the start of a run its plan has to be accepted; else it has to have no cycle.
 fn begin(
     alloc: Global,
@@ -192,7 +182,7 @@ fn begin(
     requires { IsNextMoment cell.cell present }
     ensures begun { IfOk result (IsBegun cell.plan cell.cell present) }
     ensures accepted { starts ≡ true → OnOk result (IsAcceptable cell.plan) }
-    ensures fault { IfErr result (IsRefusal cell.plan starts) }
+    ensures fault { IfErr result (IsStartRefusal cell.plan starts) }
 {
     match check_start(alloc, cell, starts) {
         Ok(cell) => match RestController::begin(alloc, cell, present) {
@@ -212,7 +202,7 @@ fn check_start(
     ensures plan { IfOk result (λ checked. checked.plan ≡ cell.plan) }
     ensures cell { IfOk result (λ checked. checked.cell ≡ cell.cell) }
     ensures accepted { starts ≡ true → OnOk result (IsAcceptable cell.plan) }
-    ensures fault { IfErr result (IsRefusal cell.plan starts) }
+    ensures fault { IfErr result (IsStartRefusal cell.plan starts) }
 {
     if starts {
         check_plan(alloc, cell)
@@ -226,7 +216,7 @@ fn check_plan(alloc: Global, cell: WorkCell<Shaped>) -> Result<WorkCell<Shaped>,
     ensures plan { IfOk result (λ checked. checked.plan ≡ cell.plan) }
     ensures cell { IfOk result (λ checked. checked.cell ≡ cell.cell) }
     ensures accepted { OnOk result (IsAcceptable cell.plan) }
-    ensures fault { IfErr result (IsRefusal cell.plan true) }
+    ensures fault { IfErr result (IsStartRefusal cell.plan true) }
 {
     let (shaped, tables) = cell.into_parts();
     match verify(alloc, shaped) {
@@ -243,7 +233,7 @@ fn check_plan(alloc: Global, cell: WorkCell<Shaped>) -> Result<WorkCell<Shaped>,
 fn rest_fault(fault: RestFault, cell: WorkCell<Shaped>, present: Moment) -> ResumeFault
     requires moment { IsNextMoment cell.cell present }
     requires fault { IsRestFault cell.plan cell.cell present fault }
-    ensures { (starts : Bool) → IsRefusal cell.plan starts result }
+    ensures { (starts : Bool) → IsStartRefusal cell.plan starts result }
 {
     match fault {
         RestFault::Cycle(nodes) => ResumeFault::Refused(cell.into_basis(), Why::Cycle(nodes)),

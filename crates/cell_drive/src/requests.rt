@@ -47,7 +47,7 @@ fn accept_judged<P: Timed, D: Dues, W: Sink>(
 {
     let report = possible.report();
     let overdue = printed_overdue(protocol, controller.work_cell(), late, report);
-    controller.take(possible);
+    controller.accept(possible);
     let ended = prints_end(protocol, controller);
     put_accepted(
         prefix,

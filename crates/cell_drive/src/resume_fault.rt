@@ -6,7 +6,7 @@ use std::alloc::AllocError;
 use std::marker::Model;
 use thiserror::Error;
 
-/// Why a run isn't recovered from its log: the first reason, in the order of the variants.
+/// Why a run isn't recovered from its log: the first reason, in the order of the variants, unless memory runs out.
 #[derive(Debug, Drop, Error)]
 pub enum ResumeFault {
     /// The log's whole lines record no run of the plan: the first fault of the first bad one, as of an audit.

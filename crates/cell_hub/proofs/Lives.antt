@@ -29,7 +29,7 @@ record Fits (h : HubState) (t : Ticket) (life : Life) : Type 0 where
   spent : life ≡ dismissed → t.serial < h.next_serial
 
 -- the life of the ticket goes on with this call, and fits the hub after it
-record GoesOn (new : HubState) (t : Ticket) (life : Life) (call : HubCall) : Type 0 where
+record LifeGoesOn (new : HubState) (t : Ticket) (life : Life) (call : HubCall) : Type 0 where
   next : Life
   lives : Lives t life call next
   fits : Fits new t next
@@ -41,7 +41,7 @@ apart t (stands c) call off none = law.elsewhere c call off
 apart t dismissed call off none = law.after call none
 
 -- a call on another ticket, which may change that ticket's cell
-past : (old new : HubState) (t other : Ticket) (content : Option Control) (life : Life) (call : HubCall) → t ≢ other → Puts old new other content → old.next_serial ≤ new.next_serial → (IsOnTicket t call → ⊥) → FindsNoCell t call → Fits old t life → GoesOn new t life call
+past : (old new : HubState) (t other : Ticket) (content : Option Control) (life : Life) (call : HubCall) → t ≢ other → Puts old new other content → old.next_serial ≤ new.next_serial → (IsOnTicket t call → ⊥) → FindsNoCell t call → Fits old t life → LifeGoesOn new t life call
 past old new t other content life call differ puts up off none fits = record {
   next = life;
   lives = apart t life call off none;
@@ -49,7 +49,7 @@ past old new t other content life call differ puts up off none fits = record {
 }
 
 -- a call that changes nothing
-kept : (old new : HubState) (t : Ticket) (life : Life) (call : HubCall) → new ≡ old → Lives t life call life → Fits old t life → GoesOn new t life call
+kept : (old new : HubState) (t : Ticket) (life : Life) (call : HubCall) → new ≡ old → Lives t life call life → Fits old t life → LifeGoesOn new t life call
 kept old new t life call same lives fits = record { next = life; lives = lives; fits = subst (λ h. Fits h t life) (sym same) fits }
 
 -- a call that finds no cell under the ticket
@@ -58,7 +58,7 @@ unfound old t not_given call fits empty none = law.before call none
 unfound old t (stands c) call fits empty none = let e = fits.content in absurd (cc)
 unfound old t dismissed call fits empty none = law.after call none
 
-given_on : (old new : HubState) (plan : VerifiedPlan) (t : Ticket) (life : Life) → IsAdmitted old plan t new → Fits old t life → GoesOn new t life (Admitted plan (Ok t))
+given_on : (old new : HubState) (plan : VerifiedPlan) (t : Ticket) (life : Life) → IsAdmitted old plan t new → Fits old t life → LifeGoesOn new t life (Admitted plan (Ok t))
 given_on old new plan t not_given is fits = record {
   next = stands (at_start plan);
   lives = law.given plan;
@@ -67,7 +67,7 @@ given_on old new plan t not_given is fits = record {
 given_on old new plan t (stands c) is fits = let e = fits.content in let f = is.vacant in absurd (cc)
 given_on old new plan t dismissed is fits = let so = fits.spent refl in absurd (omega (arith, is.serial))
 
-answered_on : (old new : HubState) (t : Ticket) (r : Report) (ack : Ack) (life : Life) → IsReported old t r ack new → Fits old t life → GoesOn new t life (Reported t r (Ok ack))
+answered_on : (old new : HubState) (t : Ticket) (r : Report) (ack : Ack) (life : Life) → IsReported old t r ack new → Fits old t life → LifeGoesOn new t life (Reported t r (Ok ack))
 answered_on old new t r ack not_given is fits = let e = fits.content in let f = is.cell in absurd (cc)
 answered_on old new t r ack (stands c) is fits =
     let e = fits.content in
@@ -97,7 +97,7 @@ shown_on old t content not_given is fits = law.before _ (λ on. is ∙ fits.cont
 shown_on old t content (stands c) is fits = subst (λ x. Lives t (stands c) (Shown t x) (stands c)) (sym (is ∙ fits.content)) (law.shown c)
 shown_on old t content dismissed is fits = law.after _ (λ on. is ∙ fits.content)
 
-removed_on : (old new : HubState) (t : Ticket) (content : Control) (life : Life) → AreSerialsBelow old → IsDismissed old t content new → Fits old t life → GoesOn new t life (Dismissed t (Ok content))
+removed_on : (old new : HubState) (t : Ticket) (content : Control) (life : Life) → AreSerialsBelow old → IsDismissed old t content new → Fits old t life → LifeGoesOn new t life (Dismissed t (Ok content))
 removed_on old new t content not_given below is fits = let e = fits.content in let f = is.cell in absurd (cc)
 removed_on old new t content (stands c) below is fits =
     let e = fits.content in
@@ -111,16 +111,16 @@ removed_on old new t content (stands c) below is fits =
 removed_on old new t content dismissed below is fits = let e = fits.content in let f = is.cell in absurd (cc)
 
 -- any call
-goes_on : (old new : HubState) (t : Ticket) (life : Life) (call : HubCall) → AreSerialsBelow old → IsCall old call new → Fits old t life → GoesOn new t life call
+goes_on : (old new : HubState) (t : Ticket) (life : Life) (call : HubCall) → AreSerialsBelow old → IsCall old call new → Fits old t life → LifeGoesOn new t life call
 goes_on old new t life (Admitted plan (Ok given)) below is fits =
     elim (same_ticket t given) [
-      | inl same ↦ subst (λ (u : Ticket). IsAdmitted old plan u new → GoesOn new t life (Admitted plan (Ok u))) same (λ on. given_on old new plan t life on fits) is
+      | inl same ↦ subst (λ (u : Ticket). IsAdmitted old plan u new → LifeGoesOn new t life (Admitted plan (Ok u))) same (λ on. given_on old new plan t life on fits) is
       | inr differ ↦ past old new t given _ life _ differ is.cells (omega (arith, is.next_serial)) (λ on. differ (cc)) (λ on. differ (cc)) fits
     ]
 goes_on old new t life (Admitted plan (Err refused)) below is fits = kept old new t life _ is.2 (apart t life _ (λ on. absurd (cc)) (λ on. absurd (cc))) fits
 goes_on old new t life (Reported other r (Ok ack)) below is fits =
     elim (same_ticket t other) [
-      | inl same ↦ subst (λ (u : Ticket). IsReported old u r ack new → GoesOn new t life (Reported u r (Ok ack))) same (λ on. answered_on old new t r ack life on fits) is
+      | inl same ↦ subst (λ (u : Ticket). IsReported old u r ack new → LifeGoesOn new t life (Reported u r (Ok ack))) same (λ on. answered_on old new t r ack life on fits) is
       | inr differ ↦ past old new t other _ life _ differ is.cells (omega (arith, is.next_serial)) (λ on. differ (sym on)) (λ on. absurd (differ (sym on))) fits
     ]
 goes_on old new t life (Reported other r (Err fault)) below is fits =
@@ -135,7 +135,7 @@ goes_on old new t life (Shown other content) below is fits =
     ]
 goes_on old new t life (Dismissed other (Ok content)) below is fits =
     elim (same_ticket t other) [
-      | inl same ↦ subst (λ (u : Ticket). IsDismissed old u content new → GoesOn new t life (Dismissed u (Ok content))) same (λ on. removed_on old new t content life below on fits) is
+      | inl same ↦ subst (λ (u : Ticket). IsDismissed old u content new → LifeGoesOn new t life (Dismissed u (Ok content))) same (λ on. removed_on old new t content life below on fits) is
       | inr differ ↦ past old new t other _ life _ differ is.cells (omega (arith, is.next_serial)) (λ on. differ (sym on)) (λ on. absurd (differ (sym on))) fits
     ]
 goes_on old new t life (Dismissed other (Err fault)) below is fits =

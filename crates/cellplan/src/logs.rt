@@ -136,11 +136,13 @@ impl LogFile for SystemLog {
 
     fn append(&mut self, bytes: &[u8]) -> Result<(), FileFault> {
         self.written = true;
+        let itself = self.is_itself();
         self.len = match self.len {
             Some(len) => Some(len.saturating_add(bytes.len() as u64)),
             None => None,
         };
-        let done = self.file.write_all(bytes).is_ok();
+        // Behind what somebody else left of it the bytes could be read as another run.
+        let done = itself && self.file.write_all(bytes).is_ok();
         self.noted(done)
     }
 

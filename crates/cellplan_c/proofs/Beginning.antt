@@ -53,12 +53,12 @@ module _ (instance : List ℕ) (name : Option (List ℕ)) (plan : List ℕ) wher
       let judged = are.found.is.accepted in
       record {
         accepted = verified;
-        tell = subst (λ (p : PlannedShop). BothParse instance name plan p) (sym judged.0) are.found.tell;
+        parsed = subst (λ (p : PlannedShop). BothParse instance name plan p) (sym judged.0) are.found.parsed;
         well_shaped = is.0.schedule.shaped;
         acceptable = subst IsAcceptable (sym judged.0) judged.1;
         verified = is.0;
         start = is.1;
-        same = λ p tell. ap (λ (c : Control). c.planned) is.1 ∙ (are.only p tell).accepted.0;
+        same = λ p parse. ap (λ (c : Control). c.planned) is.1 ∙ (are.only p parse).accepted.0;
         left = subst (λ (c : Control). reports_left c.planned c.cell ≡ stated_number c.planned) (sym is.1) (start-reports_left verified.planned);
         leavings = subst (λ (c : Control). (j : ℕ) → j < jobs c.planned → IsEarliestLeaving c j) (sym is.1) (leavings_kept verified is.0);
       }
@@ -69,7 +69,7 @@ module _ (instance : List ℕ) (name : Option (List ℕ)) (plan : List ℕ) wher
     judged small = elim status [ inl four ↦ absurd (omega (arith, four, small)) | inr is ↦ record { loaded = loaded; both = are.found; status_is = is } ]
 
     pub only : (p : PlannedShop) → BothParse instance name plan p → IsStatusOfPlan p result
-    only p tell = elim status [ inl four ↦ inl four | inr is ↦ inr (loaded, are.only p tell, is) ]
+    only p parse = elim status [ inl four ↦ inl four | inr is ↦ inr (loaded, are.only p parse, is) ]
 
     pub statuses : (result ≤ 4) × (result ≢ 2)
     statuses = elim status [

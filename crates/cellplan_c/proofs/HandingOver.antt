@@ -89,9 +89,9 @@ module _ (instance : List ℕ) (name : Option (List ℕ)) (plan : List ℕ) (t :
         handed_over_by = λ good. absurd (omega (arith, good, is, bounds.0));
         fault = λ three. (fault, record { right = are.fault; status = sym is ∙ three });
         first = λ _ other first. either;
-        second = λ _ other tells first. either;
+        second = λ _ other parses first. either;
         found = λ _ no_fault memory. absurd (elim either [ inl three ↦ no_fault three | inr four ↦ memory four ]);
-        only = λ _ p tell. no_memory (is ∙ ap status_of (are.only p tell));
+        only = λ _ p parse. no_memory (is ∙ ap status_of (are.only p parse));
       }
 
   -- a plan is given, and this came of it
@@ -103,13 +103,13 @@ module _ (instance : List ℕ) (name : Option (List ℕ)) (plan : List ℕ) (t :
     too_large = ((λ large. absurd (soon large)), λ over. absurd (omega (arith, low, over)));
     handed_over_by = λ good. record {
       planned = are.found.planned;
-      tell = are.found.tell;
+      parsed = are.found.parsed;
       handed_over = handed are.found.planned are.found.is good;
-      same = λ p tell. (handed p (are.only p tell) good).begun.planned;
+      same = λ p parse. (handed p (are.only p parse) good).begun.planned;
     };
     fault = λ three. absurd (no_fault three);
     first = λ _ fault is. absurd (are.first fault is);
-    second = λ _ fault tells is. absurd (are.second fault tells is);
-    found = λ _ _ _. record { planned = are.found.planned; tell = are.found.tell; is = judged are.found.planned are.found.is };
-    only = λ _ p tell. judged p (are.only p tell);
+    second = λ _ fault parses is. absurd (are.second fault parses is);
+    found = λ _ _ _. record { planned = are.found.planned; parsed = are.found.parsed; is = judged are.found.planned are.found.is };
+    only = λ _ p parse. judged p (are.only p parse);
   }

@@ -7,4 +7,4 @@ mod Judging
 mod Laying
 mod Reading
 mod Slots
-mod Telling
+mod Answering

@@ -3,7 +3,7 @@ use Rattle.std.proofs.Common.{◌≡◌, ◌≢◌, ℕ, ◌⊎◌, Option, Some
 use Rattle.cell_control.specs.Control.{Control}
 use Rattle.cellplan_c.specs.declared.cell.Cell.{Cell}
 use Rattle.cellplan_c.specs.Numbers.{answer_of}
-use Rattle.cellplan_c.specs.Readings.{Finds, Tells}
+use Rattle.cellplan_c.specs.Readings.{Finds, Reads}
 use Rattle.cellplan_c.specs.Held.{Held}
 use Rattle.cellplan_c.specs.contracts.inner.Inner as Inner
 
@@ -19,8 +19,8 @@ module _ {A : Type 0} (old new : Cell) (status : ℕ) (before after : A) (inner 
     unwritten = unwritten;
   }
 
-  pub tells : (Is : Control → A → Type 0) → status ≡ 0 → Is inner.controller after → Tells old new status before after Is
-  tells Is good is = record {
+  pub reads : (Is : Control → A → Type 0) → status ≡ 0 → Is inner.controller after → Reads old new status before after Is
+  reads Is good is = record {
     written = subst (λ (h : Held). IfSome h (λ held. (status ≡ 0) × Is held.controller after)) (sym held) (good, is);
     no_cell = (λ none. absurd (cc (none, held)), λ eight. absurd (omega (arith, good, eight)));
     unchanged = kept ∙ sym held;

@@ -66,11 +66,11 @@ IsTextsReport instance name plan Is answer =
 
 -- an answer to the two texts is given, or the line of what is wrong with them: that of their shop and plan wherever they give them, else the line of the first fault of the instance, or of the plan's
 pub record AreTextsReported (instance : List ℕ) (name : Option (List ℕ)) (plan : List ℕ) (Is : PlannedShop → Answer → Type 0)
-    (Tells : (Answer → Type 0) → Type 0) : Type 0 where
-  pub found : Tells (IsTextsReport instance name plan Is)
-  pub only : (p : PlannedShop) → BothParse instance name plan p → Tells (Is p)
-  pub first : (fault : OrFault) → IsFirstInstanceFault instance name fault → Tells (IsTextFaultReport (Instance fault))
-  pub second : (fault : PlanFault) → ParsesAsShop instance name → IsFirstPlanFault plan fault → Tells (IsTextFaultReport (Plan fault))
+    (Reports : (Answer → Type 0) → Type 0) : Type 0 where
+  pub found : Reports (IsTextsReport instance name plan Is)
+  pub only : (p : PlannedShop) → BothParse instance name plan p → Reports (Is p)
+  pub first : (fault : OrFault) → IsFirstInstanceFault instance name fault → Reports (IsTextFaultReport (Instance fault))
+  pub second : (fault : PlanFault) → ParsesAsShop instance name → IsFirstPlanFault plan fault → Reports (IsTextFaultReport (Plan fault))
 
 -- the moment kept for the leaving of job j
 abbrev pub kept_leaving : Control → ℕ → ℕ
@@ -87,7 +87,7 @@ pub record IsEarliestLeaving (v : Control) (j : ℕ) : Type 0 where
 -- the controller of the accepted plan that the two texts give, before the first report
 pub record IsStarted (instance : List ℕ) (name : Option (List ℕ)) (plan : List ℕ) (control : Control) : Type 0 where
   pub accepted : VerifiedPlan
-  pub tell : BothParse instance name plan accepted.planned
+  pub parsed : BothParse instance name plan accepted.planned
   pub well_shaped : IsWellShaped accepted.planned
   pub acceptable : IsAcceptable accepted.planned
   pub verified : IsVerified accepted

@@ -48,14 +48,14 @@ module _ (instance : List ℕ) (name : Option (List ℕ)) (plan : List ℕ) (t :
   -- the cell is handed over to the plan that the two texts give
   pub record HasHandedOver (old new : Control) : Type 0 where
     pub planned : PlannedShop
-    pub tell : BothParse instance name plan planned
+    pub parsed : BothParse instance name plan planned
     pub handed_over : IsHandedOver old planned t new
     pub same : (p : PlannedShop) → BothParse instance name plan p → new.planned ≡ p
 
   -- the status is of a plan that the two texts give
   pub record IsStatusOfParsed (old : Control) (status : ℕ) : Type 0 where
     pub planned : PlannedShop
-    pub tell : BothParse instance name plan planned
+    pub parsed : BothParse instance name plan planned
     pub is : IsHandOverStatus old planned t status
 
   -- what handing over to the plan of the two texts comes to, by its status: the moment is judged first, then the texts, and then the plan that they give

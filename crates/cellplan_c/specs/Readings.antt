@@ -21,7 +21,7 @@ pub record Finds {A : Type 0} (old new : Cell) (status : ℕ) (before after : A)
   pub unwritten : status ≢ 0 → after ≡ before
 
 -- the call writes what is always there of the controller that the cell holds, at status 0; and 8 says that the cell holds none
-pub record Tells {A : Type 0} (old new : Cell) (status : ℕ) (before after : A) (Is : Control → A → Type 0) : Type 0 where
+pub record Reads {A : Type 0} (old new : Cell) (status : ℕ) (before after : A) (Is : Control → A → Type 0) : Type 0 where
   pub written : Holding old (λ held. (status ≡ 0) × Is held after)
   pub no_cell : (old.slot.held ≡ None) ↔ (status ≡ 8)
   pub unchanged : new.slot.held ≡ old.slot.held

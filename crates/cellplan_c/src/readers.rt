@@ -5,7 +5,7 @@ ghost use Rattle.shop_base.specs.Plan.{jobs, machines};
 ghost use Rattle.shop_base.specs.Ends.{HasEnded};
 ghost use Rattle.cell_tables.specs.Readings.{IsCleanedFor};
 ghost use Rattle.cell_control.specs.Readings.{IsJobOn, IsDueOf, IsDueOfCleaning};
-ghost use Rattle.cellplan_c.specs.Readings.{Finds, Tells, IsPhaseFound, IsLeaveOf, AreReportsLeft};
+ghost use Rattle.cellplan_c.specs.Readings.{Finds, Reads, IsPhaseFound, IsLeaveOf, AreReportsLeft};
 
 use crate::cell::Cell;
 use crate::numbers::{Phase, phase_numbers};
@@ -107,7 +107,7 @@ pub extern "C" fn cellplan_cell_cleaned_after(
 /// The moment of the last event, 0 before the first report.
 #[unsafe(no_mangle)]
 pub extern "C" fn cellplan_cell_now(alloc: Global, cell: &mut Cell, at: &mut u64) -> u32
-    ensures { Tells cell.old cell.new result at.old at.new (λ held at. at ≡ held.cell.last) }
+    ensures { Reads cell.old cell.new result at.old at.new (λ held at. at ≡ held.cell.last) }
 {
     let Some(inner) = cell.take(alloc) else {
         return NO_CELL;
@@ -121,7 +121,7 @@ pub extern "C" fn cellplan_cell_now(alloc: Global, cell: &mut Cell, at: &mut u64
 /// then.
 #[unsafe(no_mangle)]
 pub extern "C" fn cellplan_cell_punctual(alloc: Global, cell: &mut Cell, punctual: &mut bool) -> u32
-    ensures { Tells cell.old cell.new result punctual.old punctual.new (λ held punctual. punctual ≡ held.punctual) }
+    ensures { Reads cell.old cell.new result punctual.old punctual.new (λ held punctual. punctual ≡ held.punctual) }
 {
     let Some(inner) = cell.take(alloc) else {
         return NO_CELL;
@@ -134,7 +134,7 @@ pub extern "C" fn cellplan_cell_punctual(alloc: Global, cell: &mut Cell, punctua
 /// How many reports are still to come.
 #[unsafe(no_mangle)]
 pub extern "C" fn cellplan_cell_reports_left(alloc: Global, cell: &mut Cell, left: &mut u64) -> u32
-    ensures { Tells cell.old cell.new result left.old left.new AreReportsLeft }
+    ensures { Reads cell.old cell.new result left.old left.new AreReportsLeft }
 {
     let Some(inner) = cell.take(alloc) else {
         return NO_CELL;
@@ -147,7 +147,7 @@ pub extern "C" fn cellplan_cell_reports_left(alloc: Global, cell: &mut Cell, lef
 /// Whether the run has ended: all jobs are gone, and no machine is being cleaned.
 #[unsafe(no_mangle)]
 pub extern "C" fn cellplan_cell_is_done(alloc: Global, cell: &mut Cell, done: &mut bool) -> u32
-    ensures { Tells cell.old cell.new result done.old done.new
+    ensures { Reads cell.old cell.new result done.old done.new
         (λ held done. IsTrue done ↔ HasEnded held.planned held.cell) }
 {
     let Some(inner) = cell.take(alloc) else {
@@ -161,7 +161,7 @@ pub extern "C" fn cellplan_cell_is_done(alloc: Global, cell: &mut Cell, done: &m
 /// How many jobs the shop has.
 #[unsafe(no_mangle)]
 pub extern "C" fn cellplan_cell_jobs(alloc: Global, cell: &mut Cell, count: &mut u32) -> u32
-    ensures { Tells cell.old cell.new result count.old count.new (λ held count. count ≡ jobs held.planned) }
+    ensures { Reads cell.old cell.new result count.old count.new (λ held count. count ≡ jobs held.planned) }
 {
     let Some(inner) = cell.take(alloc) else {
         return NO_CELL;
@@ -174,7 +174,7 @@ pub extern "C" fn cellplan_cell_jobs(alloc: Global, cell: &mut Cell, count: &mut
 /// How many machines the shop has.
 #[unsafe(no_mangle)]
 pub extern "C" fn cellplan_cell_machines(alloc: Global, cell: &mut Cell, count: &mut u32) -> u32
-    ensures { Tells cell.old cell.new result count.old count.new (λ held count. count ≡ machines held.planned) }
+    ensures { Reads cell.old cell.new result count.old count.new (λ held count. count ≡ machines held.planned) }
 {
     let Some(inner) = cell.take(alloc) else {
         return NO_CELL;

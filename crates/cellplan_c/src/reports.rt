@@ -103,7 +103,7 @@ fn report_to(inner: &mut Inner, ended: Ended, late: &mut bool, detail: &mut u64)
     ensures no_detail { result ≡ 0 → detail.new ≡ detail.old }
     ensures never_wrong { GoesAsPromised inner.new.controller }
 {
-    let answered = take(&mut inner.controller, ended);
+    let answered = accept(&mut inner.controller, ended);
     is_as_promised(&inner.controller);
     match answered {
         Ok(ack) => {
@@ -117,8 +117,8 @@ fn report_to(inner: &mut Inner, ended: Ended, late: &mut bool, detail: &mut u64)
     }
 }
 
-/// Takes what has ended, or answers the first reason for which it isn't possible.
-fn take(controller: &mut RestController<TourneyDues>, ended: Ended) -> Result<Ack, ReportFault>
+/// Accepts what has ended, or answers the first reason for which it isn't possible.
+fn accept(controller: &mut RestController<TourneyDues>, ended: Ended) -> Result<Ack, ReportFault>
     ensures possible { IsOk result ↔ CanEnd controller.old ended }
     ensures answered { IfOk result (λ ack. IsAnswered controller.old (ended_by ended) ack controller.new) }
     ensures first_reason { IfErr result (IsFirstFor controller.old ended) }

@@ -56,14 +56,14 @@ module _ (instance : List ℕ) (name : Option (List ℕ)) (text : List ℕ) wher
     only = λ p both. read.only both.description p.shop both.shop;
     fault = read.fault;
     first = read.first;
-    second = λ other tells is. absurd (let memory : Instance why ≡ Memory = read.only tells.0 tells.1 tells.2 in cc memory);
+    second = λ other parses is. absurd (let memory : Instance why ≡ Memory = read.only parses.0 parses.1 parses.2 in cc memory);
   }
   refused_instance Is Memory read = record {
     found = tt;
     only = λ p both. read.only both.description p.shop both.shop;
     fault = tt;
     first = read.first;
-    second = λ other tells is. tt;
+    second = λ other parses is. tt;
   }
   refused_instance Is (Plan why) read = absurd read.fault
   refused_instance Is (Names why) read = absurd read.fault
@@ -81,14 +81,14 @@ module _ (instance : List ℕ) (name : Option (List ℕ)) (text : List ℕ) wher
     only = λ p both. read.only p.plan both.plan;
     fault = ((named.description.items, named.shop, shop.found), read.fault);
     first = λ other is. absurd (shop.first other is);
-    second = λ other tells is. read.first other is;
+    second = λ other parses is. read.first other is;
   }
   refused_plan Is named Memory shop read = record {
     found = tt;
     only = λ p both. read.only p.plan both.plan;
     fault = tt;
     first = λ other is. absurd (shop.first other is);
-    second = λ other tells is. tt;
+    second = λ other parses is. tt;
   }
   refused_plan Is named (Instance why) shop read = absurd read.fault
   refused_plan Is named (Names why) shop read = absurd read.fault
@@ -108,18 +108,18 @@ module _ (instance : List ℕ) (name : Option (List ℕ)) (text : List ℕ) wher
   pub texts_answered : {A : Type 0} (Is : PlannedShop → A → Type 0) (named : Named) (plan : ShopPlan) (outcome : Result A CommandFault) → IsInstanceRead instance name (Ok named) → IsPlanRead text (Ok plan)
       → IsOrMemory (Is (record { shop = named.shop; plan = plan })) outcome → AreTextsAnswered instance name text Is outcome
   texts_answered Is named plan (Ok a) shop read is = record {
-    found = record { planned = record { shop = named.shop; plan = plan }; tell = record { description = named.description.items; shop = shop.found; plan = read.found }; is = is };
+    found = record { planned = record { shop = named.shop; plan = plan }; parsed = record { description = named.description.items; shop = shop.found; plan = read.found }; is = is };
     only = λ p both. subst (λ q. Is q a) (same_planned named plan p (shop.only both.description p.shop both.shop).1 (read.only p.plan both.plan)) is;
     fault = tt;
     first = λ other wrong. absurd (shop.first other wrong);
-    second = λ other tells wrong. absurd (read.first other wrong);
+    second = λ other parses wrong. absurd (read.first other wrong);
   }
   texts_answered Is named plan (Err fault) shop read is = record {
     found = tt;
     only = λ p both. is;
     fault = subst (IsRightOfBoth instance name text) (sym is) tt;
     first = λ other wrong. absurd (shop.first other wrong);
-    second = λ other tells wrong. absurd (read.first other wrong);
+    second = λ other parses wrong. absurd (read.first other wrong);
   }
 
   -- a fault that came is passed on
@@ -139,16 +139,16 @@ module _ (instance : List ℕ) (name : Option (List ℕ)) (text : List ℕ) wher
   pub next_answered : {A B : Type 0} (Is : PlannedShop → A → Type 0) (More : PlannedShop → B → Type 0) (a : A) (outcome : Result B CommandFault) → AreTextsAnswered instance name text Is (Ok a)
       → ((p : PlannedShop) → Is p a → IsOrMemory (More p) outcome) → AreTextsAnswered instance name text More outcome
   next_answered Is More a (Ok b) came next = record {
-    found = record { planned = came.found.planned; tell = came.found.tell; is = next came.found.planned came.found.is };
+    found = record { planned = came.found.planned; parsed = came.found.parsed; is = next came.found.planned came.found.is };
     only = λ p both. next p (came.only p both);
     fault = tt;
     first = λ other wrong. absurd (came.first other wrong);
-    second = λ other tells wrong. absurd (came.second other tells wrong);
+    second = λ other parses wrong. absurd (came.second other parses wrong);
   }
   next_answered Is More a (Err fault) came next = (let memory : fault ≡ Memory = next came.found.planned came.found.is in record {
     found = tt;
     only = λ p both. memory;
     fault = subst (IsRightOfBoth instance name text) (sym memory) tt;
     first = λ other wrong. absurd (came.first other wrong);
-    second = λ other tells wrong. absurd (came.second other tells wrong);
+    second = λ other parses wrong. absurd (came.second other parses wrong);
   })

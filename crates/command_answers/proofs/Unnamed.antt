@@ -3,11 +3,11 @@ use Rattle.std.proofs.Common.{◌≡◌, ℕ, List, Option, None, Result, Ok, Er
 use Rattle.shop_base.specs.Plan.{PlannedShop}
 use Rattle.people_names.specs.NameBooks.{NameBook, no_names}
 use Rattle.command_answers.specs.declared.command_fault.CommandFault.{CommandFault}
-use Rattle.command_answers.specs.Steps.{GoesOn, Then}
+use Rattle.command_answers.specs.Steps.{AndThen, Then}
 use Rattle.command_answers.specs.Naming.{ReadsNames}
 
 module _ {W B : Type 0} (next : NameBook → W → Result B CommandFault → W → Type 0) (before after : W) (outcome : Result B CommandFault) where
-  goes_on : (came : Result NameBook CommandFault) (mid : W) → came ≡ Ok no_names → mid ≡ before → GoesOn next came mid outcome after → next no_names before outcome after
+  goes_on : (came : Result NameBook CommandFault) (mid : W) → came ≡ Ok no_names → mid ≡ before → AndThen next came mid outcome after → next no_names before outcome after
   goes_on (Ok book) mid none same on =
       let is_none : book ≡ no_names = cc none in
       subst (λ (b : NameBook). next b before outcome after) is_none (subst (λ (w : W). next book w outcome after) same on)

@@ -69,7 +69,7 @@ pub record AreBoundLines (names : NameBook) (t : ShopTimes) (budgets : List ℕ)
 pub record IsBadNumbersLine (p : PlannedShop) (answer : Answer) : Type 0 where
   pub fault : ShapeFault
   pub first : IsFirstShapeFault (serially p) fault
-  pub line : IsLineOfFault (codes "bad numbers ") answer
+  pub line : IsLineOfFault (codes "bad numbers ") fault answer
 
 -- what is answered without names, whatever the plan's orders: the lines of the bounds where its numbers are sound, else their first fault
 abbrev pub AreBounds : PlannedShop → Answer → Type 0

@@ -72,5 +72,5 @@ IsLineOfVerdict verdict answer = IsFirstLine verdict answer.text.items × (answe
 
 -- the line of what is said of a plan: the refusal of a plan that isn't well shaped, or the first line of the verdict, with its status
 abbrev pub IsLineOf : Loaded → Answer → Type 0
-IsLineOf (NotShaped fault) answer = IsRefusedLine answer
+IsLineOf (NotShaped fault) answer = IsRefusedLine fault answer
 IsLineOf (Judged verdict) answer = IsLineOfVerdict verdict answer

@@ -61,11 +61,11 @@ module _ {W : Type 0} (gives : W → List ℕ → Result (List ℕ) CommandFault
 
   -- both are read, the instance before the plan is asked for
   abbrev pub ReadsBoth : InputPaths → W → Result PlannedShop CommandFault → W → Type 0
-  ReadsBoth pair = Then (ReadsInstance pair.path pair.name) (λ named. Then (ReadsPlan pair.plan) (λ plan. Concludes (λ read. read ≡ Ok (record { shop = named.shop; plan = plan }))))
+  ReadsBoth inputs = Then (ReadsInstance inputs.path inputs.name) (λ named. Then (ReadsPlan inputs.plan) (λ plan. Concludes (λ read. read ≡ Ok (record { shop = named.shop; plan = plan }))))
 
   -- both are read, and then there is this step
   abbrev pub WithBoth : {B : Type 0} → InputPaths → (PlannedShop → W → Result B CommandFault → W → Type 0) → W → Result B CommandFault → W → Type 0
-  WithBoth pair = Then (ReadsBoth pair)
+  WithBoth inputs = Then (ReadsBoth inputs)
 
   -- `facts`: the file of the instance is asked for, and its facts are answered
   abbrev pub RunsFacts : List ℕ → Option (List ℕ) → W → Result Answer CommandFault → W → Type 0
@@ -73,15 +73,15 @@ module _ {W : Type 0} (gives : W → List ℕ → Result (List ℕ) CommandFault
 
   -- `shape`: both are read, and whether the plan is well shaped is answered
   abbrev pub RunsShape : InputPaths → W → Result Answer CommandFault → W → Type 0
-  RunsShape pair = WithBoth pair (λ p. Concludes (IsOrMemory (IsShapeLine p)))
+  RunsShape inputs = WithBoth inputs (λ p. Concludes (IsOrMemory (IsShapeLine p)))
 
   -- `digest`: both are read, and the digits of a well-shaped plan and its shop are answered
   abbrev pub RunsDigest : InputPaths → W → Result Answer CommandFault → W → Type 0
-  RunsDigest pair = WithBoth pair (λ p. Concludes (IsOrMemory (IsDigestAnswer p)))
+  RunsDigest inputs = WithBoth inputs (λ p. Concludes (IsOrMemory (IsDigestAnswer p)))
 
   -- `check`: both are read, and the verdict is answered
   abbrev pub RunsCheck : InputPaths → W → Result Answer CommandFault → W → Type 0
-  RunsCheck pair = WithBoth pair (λ p. Concludes (IsOrMemory (IsCheckLine p)))
+  RunsCheck inputs = WithBoth inputs (λ p. Concludes (IsOrMemory (IsCheckLine p)))
 
   -- where a plan is well shaped there is this step; else its first fault is answered
   abbrev pub IfShaped : PlannedShop → (W → Result Answer CommandFault → W → Type 0) → W → Result Answer CommandFault → W → Type 0
@@ -102,15 +102,15 @@ module _ {W : Type 0} (gives : W → List ℕ → Result (List ℕ) CommandFault
 
   -- `explain`: both are read, then the names, and the verdict is explained
   abbrev pub RunsExplain : InputPaths → Option (List ℕ) → Option ℕ → W → Result Answer CommandFault → W → Type 0
-  RunsExplain pair names job = WithBoth pair (λ p. IfShaped p (IfThere job p (WithNames names p (λ book. IsOrMemory (IsPlanExplained book job p)))))
+  RunsExplain inputs names job = WithBoth inputs (λ p. IfShaped p (IfThere job p (WithNames names p (λ book. IsOrMemory (IsPlanExplained book job p)))))
 
   -- `schedule`: both are read, then the names, and the plan's schedule is printed
   abbrev pub RunsSchedule : InputPaths → Option (List ℕ) → W → Result Answer CommandFault → W → Type 0
-  RunsSchedule pair names = WithBoth pair (λ p. IfShaped p (WithNames names p (λ book. IsOrMemory (IsPlanScheduled book p))))
+  RunsSchedule inputs names = WithBoth inputs (λ p. IfShaped p (WithNames names p (λ book. IsOrMemory (IsPlanScheduled book p))))
 
   -- `schedule --moves`: both are read, then the names, and the moves of the plan are printed
   abbrev pub RunsMoves : InputPaths → Option (List ℕ) → W → Result Answer CommandFault → W → Type 0
-  RunsMoves pair names = WithBoth pair (λ p. IfShaped p (WithNames names p (λ book. IsOrMemory (AreMovesOfPlan book p))))
+  RunsMoves inputs names = WithBoth inputs (λ p. IfShaped p (WithNames names p (λ book. IsOrMemory (AreMovesOfPlan book p))))
 
   -- where the numbers of a plan are sound, whatever its orders, there is this step; else their first fault is answered
   abbrev pub IfSound : PlannedShop → (W → Result Answer CommandFault → W → Type 0) → W → Result Answer CommandFault → W → Type 0
@@ -122,23 +122,23 @@ module _ {W : Type 0} (gives : W → List ℕ → Result (List ℕ) CommandFault
 
   -- `bounds`: both are read, then the names, and what no plan can do with these numbers is printed
   abbrev pub RunsBounds : InputPaths → Option (List ℕ) → W → Result Answer CommandFault → W → Type 0
-  RunsBounds pair names = WithBoth pair (λ p. WithSoundNames (λ book. IsOrMemory (AreBoundLines book (times_of p) p.plan.budget)) names p)
+  RunsBounds inputs names = WithBoth inputs (λ p. WithSoundNames (λ book. IsOrMemory (AreBoundLines book (times_of p) p.plan.budget)) names p)
 
   -- `margin`: both are read, then the names, and how much longer everything may take is printed
   abbrev pub RunsMargin : InputPaths → Option (List ℕ) → W → Result Answer CommandFault → W → Type 0
-  RunsMargin pair names = WithBoth pair (λ p. IfShaped p (WithNames names p (λ book. IsOrMemory (IsMarginAnswer book p))))
+  RunsMargin inputs names = WithBoth inputs (λ p. IfShaped p (WithNames names p (λ book. IsOrMemory (IsMarginAnswer book p))))
 
   -- both are read, and what is to be said of the plan is found
   abbrev pub Loads : InputPaths → W → Result Loaded CommandFault → W → Type 0
-  Loads pair = WithBoth pair (λ p. Concludes (IsOrMemory (IsLoaded p)))
+  Loads inputs = WithBoth inputs (λ p. Concludes (IsOrMemory (IsLoaded p)))
 
   -- both are read, and it is found whether the plan is well shaped
   abbrev pub Shapes : InputPaths → W → Result (Result PlannedShop ShapeFault) CommandFault → W → Type 0
-  Shapes pair = WithBoth pair (λ p. Concludes (IsOrMemory (IsShapedOrNot p)))
+  Shapes inputs = WithBoth inputs (λ p. Concludes (IsOrMemory (IsShapedOrNot p)))
 
   -- `plan`: both are read, and the search for a plan with these numbers is answered
   abbrev pub RunsPlan : (PlanTask → PlanSearch) → ℕ → InputPaths → W → Result Answer CommandFault → W → Type 0
-  RunsPlan search rounds pair = WithBoth pair (λ p. Concludes (IsSearchAnswer (search (task_in p)) rounds))
+  RunsPlan search rounds inputs = WithBoth inputs (λ p. Concludes (IsSearchAnswer (search (task_in p)) rounds))
 
   -- the same with these proposers, by what each of them may propose
   abbrev pub RunsPlanWith : {B : Type 0} → (B → JobShop → ℕ → Proposal → Type 0) → List B → ℕ → InputPaths → W → Result Answer CommandFault → W → Type 0
@@ -146,11 +146,11 @@ module _ {W : Type 0} (gives : W → List ℕ → Result (List ℕ) CommandFault
 
   -- `improve`: both are read, and what the search from this plan comes to is answered, or from the serial plan where it has no orders at all
   abbrev pub RunsImprove : Asked → ℕ → InputPaths → W → Result Answer CommandFault → W → Type 0
-  RunsImprove made rounds pair = WithBoth pair (λ p. Concludes (IsImproveAnswer made rounds (ordered p)))
+  RunsImprove made rounds inputs = WithBoth inputs (λ p. Concludes (IsImproveAnswer made rounds (ordered p)))
 
   -- `decide`: both are read, then the names, and what is decided of the plan's budgets is answered
   abbrev pub RunsDecide : Aim → InputPaths → Option (List ℕ) → W → Result Answer CommandFault → W → Type 0
-  RunsDecide aim pair names = WithBoth pair (λ p. WithSoundNames (λ book. IsDecisionAnswer book (whole_case p) aim) names p)
+  RunsDecide aim inputs names = WithBoth inputs (λ p. WithSoundNames (λ book. IsDecisionAnswer book (whole_case p) aim) names p)
 
   -- the log of a well-shaped plan is asked for, and then this comes of it; any other plan is answered by its first fault
   abbrev pub WithLogOf : (PlannedShop → List ℕ → Result Answer CommandFault → Type 0) → List ℕ → PlannedShop → W → Result Answer CommandFault → W → Type 0
@@ -158,27 +158,27 @@ module _ {W : Type 0} (gives : W → List ℕ → Result (List ℕ) CommandFault
 
   -- `audit` and `gantt`: both are read, then the names, and then the log
   abbrev pub RunsLog : LogAnswer → InputPaths → Option (List ℕ) → List ℕ → W → Result Answer CommandFault → W → Type 0
-  RunsLog wanted pair names log = WithBoth pair (λ p. IfShaped p (WithNamesAndLog names log p (λ book. IsLogLine book wanted p)))
+  RunsLog wanted inputs names log = WithBoth inputs (λ p. IfShaped p (WithNamesAndLog names log p (λ book. IsLogLine book wanted p)))
 
   -- `check`, `explain` and `schedule` of the rest of a run: both are read, then the names, and then its log
   abbrev pub RunsRest : PlanAnswer → Option ℕ → InputPaths → Option (List ℕ) → List ℕ → W → Result Answer CommandFault → W → Type 0
-  RunsRest wanted at pair names log =
-      WithBoth pair (λ p. IfShaped p (IfThere (job_asked wanted) p (WithNamesAndLog names log p (λ book. IsRestLine book wanted at p))))
+  RunsRest wanted at inputs names log =
+      WithBoth inputs (λ p. IfShaped p (IfThere (job_asked wanted) p (WithNamesAndLog names log p (λ book. IsRestLine book wanted at p))))
 
   -- what is answered of the plan, by names where it isn't its verdict alone
   abbrev pub RunsOfPlan : PlanAnswer → InputPaths → Option (List ℕ) → W → Result Answer CommandFault → W → Type 0
-  RunsOfPlan Verdict pair names = RunsCheck pair
-  RunsOfPlan (Reasons job) pair names = RunsExplain pair names job
-  RunsOfPlan Moments pair names = RunsSchedule pair names
+  RunsOfPlan Verdict inputs names = RunsCheck inputs
+  RunsOfPlan (Reasons job) inputs names = RunsExplain inputs names job
+  RunsOfPlan Moments inputs names = RunsSchedule inputs names
 
   -- what is answered of the plan, or of the rest of the run in a log, if there is one
   abbrev pub RunsPlanAnswer : PlanAnswer → Option ℕ → InputPaths → Option (List ℕ) → Option (List ℕ) → W → Result Answer CommandFault → W → Type 0
-  RunsPlanAnswer wanted at pair names None = RunsOfPlan wanted pair names
-  RunsPlanAnswer wanted at pair names (Some log) = RunsRest wanted at pair names log
+  RunsPlanAnswer wanted at inputs names None = RunsOfPlan wanted inputs names
+  RunsPlanAnswer wanted at inputs names (Some log) = RunsRest wanted at inputs names log
 
   -- `schedule --moves` of the rest of a run: both are read, then the names, and then its log
   abbrev pub RunsRestMoves : Option ℕ → InputPaths → Option (List ℕ) → List ℕ → W → Result Answer CommandFault → W → Type 0
-  RunsRestMoves at pair names log = WithBoth pair (λ p. IfShaped p (WithNamesAndLog names log p (λ book. AreMovesOfLog book at p)))
+  RunsRestMoves at inputs names log = WithBoth inputs (λ p. IfShaped p (WithNamesAndLog names log p (λ book. AreMovesOfLog book at p)))
 
   -- `improve` of the rest of a run: both are read, then its log where the plan is well shaped, and what the search from this plan comes to is answered, or from the serial plan where it has no orders at all
   abbrev pub WithRest : RestAsked → Option ℕ → ℕ → List ℕ → PlannedShop → W → Result Answer CommandFault → W → Type 0
@@ -191,13 +191,13 @@ module _ {W : Type 0} (gives : W → List ℕ → Result (List ℕ) CommandFault
       ⊎ Concludes (IsOrMemory (IsUnfitLine p)) before outcome after
 
   abbrev pub RunsDecideRest : Aim → Option ℕ → InputPaths → Option (List ℕ) → List ℕ → W → Result Answer CommandFault → W → Type 0
-  RunsDecideRest aim at pair names log = WithBoth pair (λ p. WithRestDecision aim at names log (ordered p))
+  RunsDecideRest aim at inputs names log = WithBoth inputs (λ p. WithRestDecision aim at names log (ordered p))
 
   abbrev pub RunsImproveRest : RestAsked → Option ℕ → ℕ → InputPaths → List ℕ → W → Result Answer CommandFault → W → Type 0
-  RunsImproveRest made at rounds pair log = WithBoth pair (λ p. WithRest made at rounds log (ordered p))
+  RunsImproveRest made at rounds inputs log = WithBoth inputs (λ p. WithRest made at rounds log (ordered p))
 
   -- `revise`: both are read, then the log where the plan is well shaped, and what the changes make of them is answered
   abbrev pub RunsRevise : Revised → Option ℕ → List Change → List (List ℕ) → InputPaths → List ℕ → W → Result Answer CommandFault → W → Type 0
-  RunsRevise prints at changes values pair log =
-      Then (ReadsInstance pair.path pair.name) (λ named. Then (ReadsPlan pair.plan)
+  RunsRevise prints at changes values inputs log =
+      Then (ReadsInstance inputs.path inputs.name) (λ named. Then (ReadsPlan inputs.plan)
       (λ plan. WithLogOf (λ p. IsReviseAnswer prints named.description.items at changes values p) log (record { shop = named.shop; plan = plan })))

@@ -34,7 +34,7 @@ pub record IsKeptText (t : Case) (aim : Aim) (answer : Answer) : Type 0 where
   pub text : IsDocumentOf plan.plan 0 answer
 
 -- the line of an objective, and then the text of an accepted plan with that value; no plan has one below what the line says
-pub record IsBestText (t : Case) (aim : Aim) (answer : Answer) : Type 0 where
+pub record IsOptimumText (t : Case) (aim : Aim) (answer : Answer) : Type 0 where
   pub plan : PlannedShop
   pub within : Within
   pub is : IsBest t aim plan within
@@ -70,7 +70,7 @@ decide_command_fault fault = None
 abbrev pub IsDecisionText : NameBook → Case → Aim → Answer → Type 0
 IsDecisionText names t aim answer =
     IsKeptText t aim answer
-    ⊎ (IsBestText t aim answer ⊎ (AreNeverLines names t aim answer ⊎ (IsOpenLine t aim answer ⊎ IsOutOfRangeLine t aim answer)))
+    ⊎ (IsOptimumText t aim answer ⊎ (AreNeverLines names t aim answer ⊎ (IsOpenLine t aim answer ⊎ IsOutOfRangeLine t aim answer)))
 
 -- a plan that was found has a text that isn't read as this plan
 pub record IsFoundUnread (t : Case) (aim : Aim) : Type 0 where

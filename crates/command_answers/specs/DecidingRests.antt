@@ -29,7 +29,7 @@ refusal fault = codes "bad numbers "
 pub record IsUnfitLine (p : PlannedShop) (answer : Answer) : Type 0 where
   pub fault : ShapeFault
   pub first : IsFirstShapeFault p fault
-  pub line : IsLineOfFault (refusal fault) answer
+  pub line : IsLineOfFault (refusal fault) fault answer
 
 module _ (names : NameBook) (at : Option ℕ) (lines : List (List ℕ)) (start : PlannedShop) (aim : Aim) where
   -- what is printed of a plan that is well shaped: what is decided of the rest of the run that the lines record; or the line of a job that isn't of the shop, of the log's first fault, or of a moment that is past

@@ -33,5 +33,5 @@ HasEvidence (Judged verdict) = OnRefused IsReason verdict
 
 -- the explanation of what is said of a plan
 abbrev pub IsExplanationOf : Loaded → Answer → Type 0
-IsExplanationOf (NotShaped fault) answer = IsRefusedLine answer
+IsExplanationOf (NotShaped fault) answer = IsRefusedLine fault answer
 IsExplanationOf (Judged verdict) answer = IsVerdictExplained no_names None verdict answer

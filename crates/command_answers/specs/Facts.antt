@@ -24,5 +24,5 @@ pub record AreFacts (answer : Answer) (shop : JobShop) : Type 0 where
 pub record AreFactsOfText (text : List ℕ) (name : Option (List ℕ)) (answer : Answer) : Type 0 where
   pub description : List ℕ
   pub shop : JobShop
-  pub tells : ParsesAs text name description shop
+  pub parsed : ParsesAs text name description shop
   pub facts : AreFacts answer shop

@@ -74,8 +74,8 @@ module _ (made : RestAsked) (at : Option ℕ) (lines : List (List ℕ)) (start :
     pub unreadable : IsPlanText (plan_lines best.plan) best.plan → ⊥
 
 -- `refused cycle n0 n1 ..`
-abbrev pub IsCycleLine : List Node → Answer → Type 0
-IsCycleLine nodes answer = (answer.text.items ≡ cycle_line nodes) × (answer.status ≡ 1)
+abbrev pub IsLineOfCycle : List Node → Answer → Type 0
+IsLineOfCycle nodes answer = (answer.text.items ≡ cycle_line nodes) × (answer.status ≡ 1)
 
 -- the line of a plan with a cycle, where the lines record a run with an event, and the present moment isn't before the last one
 pub record IsRestCycle (at : Option ℕ) (lines : List (List ℕ)) (start : PlannedShop) (answer : Answer) : Type 0 where
@@ -85,7 +85,7 @@ pub record IsRestCycle (at : Option ℕ) (lines : List (List ℕ)) (start : Plan
   pub none : HasNoRestBegin lines start
   pub nodes : List Node
   pub cycle : IsCycle start nodes
-  pub line : IsCycleLine nodes answer
+  pub line : IsLineOfCycle nodes answer
 
 -- the line of a present moment that is given and is before the last one
 pub record IsRestPast (at : Option ℕ) (lines : List (List ℕ)) (start : PlannedShop) (answer : Answer) : Type 0 where
@@ -109,7 +109,7 @@ IsRestAnswer made at rounds lines start (Err other) = ⊥
 -- what is answered of a plan with the verdict on its rest: its text, or the line of a cycle
 abbrev pub IsJudgedAnswer : PlannedShop → Judged → Result Answer CommandFault → Type 0
 IsJudgedAnswer best (Accepted times) outcome = IsDocumentAnswer best.plan 0 outcome
-IsJudgedAnswer best (Refused (Cycle nodes)) outcome = IsOrMemory (IsCycleLine nodes.items) outcome
+IsJudgedAnswer best (Refused (Cycle nodes)) outcome = IsOrMemory (IsLineOfCycle nodes.items) outcome
 IsJudgedAnswer best (Refused (Late job leaves chain times)) outcome = IsDocumentAnswer best.plan 1 outcome
 
 -- the fault of a command that the search's is, if memory ran out

@@ -136,12 +136,12 @@ IfDrawable p next before outcome after = (IsWellShaped p × next before outcome 
 module _ {W : Type 0} (gives : W → List ℕ → Result (List ℕ) CommandFault → W → Type 0) where
   -- `gantt --svg`: both are read, then the names, and then the log
   abbrev pub DrawsLog : InputPaths → Option (List ℕ) → List ℕ → W → Result Drawn CommandFault → W → Type 0
-  DrawsLog pair names log = WithBoth gives pair (λ p. IfDrawable p (WithNamesAndLog gives names log p (λ book. IsLogDrawn book p)))
+  DrawsLog inputs names log = WithBoth gives inputs (λ p. IfDrawable p (WithNamesAndLog gives names log p (λ book. IsLogDrawn book p)))
 
   -- `schedule --svg`: both are read, then the names, and the plan's exact run is drawn
   abbrev pub DrawsSchedule : InputPaths → Option (List ℕ) → W → Result Drawn CommandFault → W → Type 0
-  DrawsSchedule pair names = WithBoth gives pair (λ p. IfDrawable p (WithNames gives names p (λ book. IsOrMemory (IsPlanDrawn book p))))
+  DrawsSchedule inputs names = WithBoth gives inputs (λ p. IfDrawable p (WithNames gives names p (λ book. IsOrMemory (IsPlanDrawn book p))))
 
   -- `schedule --svg` of the rest of a run: both are read, then the names, and then its log
   abbrev pub DrawsRest : Option ℕ → InputPaths → Option (List ℕ) → List ℕ → W → Result Drawn CommandFault → W → Type 0
-  DrawsRest at pair names log = WithBoth gives pair (λ p. IfDrawable p (WithNamesAndLog gives names log p (λ book. IsRestDrawing at book p)))
+  DrawsRest at inputs names log = WithBoth gives inputs (λ p. IfDrawable p (WithNamesAndLog gives names log p (λ book. IsRestDrawing at book p)))

@@ -47,5 +47,5 @@ IsRightOfBoth instance name text other = ⊥
 -- the answer is one that belongs to the shop and the plan that the two texts give
 pub record IsOfBoth {A : Type 0} (instance : List ℕ) (name : Option (List ℕ)) (text : List ℕ) (Is : PlannedShop → A → Type 0) (answer : A) : Type 0 where
   pub planned : PlannedShop
-  pub tell : BothParse instance name text planned
+  pub parsed : BothParse instance name text planned
   pub is : Is planned answer

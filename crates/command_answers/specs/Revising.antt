@@ -30,7 +30,7 @@ use Rattle.command_answers.specs.declared.command_fault.Unrevised.TheVariants.{R
 use Rattle.command_answers.specs.declared.revises.Revised.{Revised}
 use Rattle.command_answers.specs.declared.revises.Revised.TheVariants.{PlanText, InstanceText}
 use Rattle.command_answers.specs.Documents.{IsDocumentAnswer}
-use Rattle.command_answers.specs.ImprovingRests.{IsCycleLine}
+use Rattle.command_answers.specs.ImprovingRests.{IsLineOfCycle}
 use Rattle.command_answers.specs.LogLines.{IsLogRefused}
 use Rattle.command_answers.specs.Rests.{IsPastLine, present_at}
 use Rattle.command_answers.specs.Steps.{IsOrMemory}
@@ -131,7 +131,7 @@ module _ (prints : Revised) (description : List ℕ) (changes : List Change) (va
   pub record IsCycleAnswer (answer : Answer) : Type 0 where
     pub nodes : List Node
     pub cycle : IsCycle p nodes
-    pub line : IsCycleLine nodes answer
+    pub line : IsLineOfCycle nodes answer
 
   -- what is answered from the cell and the present moment on: a plan with a cycle is refused, else the changes are made
   abbrev pub IsRevisedRest : Result Answer CommandFault → Type 0

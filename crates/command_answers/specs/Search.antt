@@ -34,7 +34,7 @@ search_command_fault fault = None
 
 -- the line that says why there is no plan
 abbrev pub IsNoPlanLine : SeekFault → Answer → Type 0
-IsNoPlanLine (BadNumbers fault) answer = IsLineOfFault (codes "bad numbers ") answer
+IsNoPlanLine (BadNumbers fault) answer = IsLineOfFault (codes "bad numbers ") fault answer
 IsNoPlanLine Exhausted answer = (answer.text.items ≡ codes "exhausted\n") × (answer.status ≡ 1)
 IsNoPlanLine TooManyRounds answer = (answer.text.items ≡ codes "too many rounds\n") × (answer.status ≡ 1)
 IsNoPlanLine OutOfMemory answer = ⊥

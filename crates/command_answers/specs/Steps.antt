@@ -4,9 +4,9 @@ use Rattle.command_answers.specs.declared.command_fault.CommandFault.{CommandFau
 use Rattle.command_answers.specs.declared.command_fault.CommandFault.TheVariants.{Memory}
 
 -- a fault ends all; else the next step follows
-abbrev pub GoesOn : {W A B : Type 0} → (A → W → Result B CommandFault → W → Type 0) → Result A CommandFault → W → Result B CommandFault → W → Type 0
-GoesOn next (Ok a) mid outcome after = next a mid outcome after
-GoesOn next (Err fault) mid outcome after = (outcome ≡ Err fault) × (after ≡ mid)
+abbrev pub AndThen : {W A B : Type 0} → (A → W → Result B CommandFault → W → Type 0) → Result A CommandFault → W → Result B CommandFault → W → Type 0
+AndThen next (Ok a) mid outcome after = next a mid outcome after
+AndThen next (Err fault) mid outcome after = (outcome ≡ Err fault) × (after ≡ mid)
 
 -- one step, and then another one with what it gave
 pub record Then {W A B : Type 0} (first : W → Result A CommandFault → W → Type 0) (next : A → W → Result B CommandFault → W → Type 0)
@@ -14,7 +14,7 @@ pub record Then {W A B : Type 0} (first : W → Result A CommandFault → W → 
   pub came : Result A CommandFault
   pub mid : W
   pub is : first before came mid
-  pub goes_on : GoesOn next came mid outcome after
+  pub goes_on : AndThen next came mid outcome after
 
 -- a step that asks for nothing outside
 abbrev pub Concludes : {W A : Type 0} → (Result A CommandFault → Type 0) → W → Result A CommandFault → W → Type 0

@@ -7,7 +7,7 @@ use Rattle.plan_schedule.specs.Scheduled.{IsScheduled}
 use Rattle.command_answers.specs.declared.answer.Answer.{Answer}
 use Rattle.command_answers.specs.declared.loading.Loaded.{Loaded}
 use Rattle.command_answers.specs.declared.loading.Loaded.TheVariants.{NotShaped, Judged}
-use Rattle.command_answers.specs.Shapes.{IsNotShapedLine, IsRefusedLine}
+use Rattle.command_answers.specs.Shapes.{IsNotShapedLine}
 use Rattle.command_answers.specs.Checks.{IsJudged, verdict_status}
 
 -- the schedule of a verdict, with its status

@@ -3,54 +3,41 @@
 ghost use Rattle.std.specs.Prelude.{IfOk};
 ghost use Rattle.std.specs.Option.{option_copied};
 ghost use Rattle.plan_bounds.specs.Bounds.{times_of};
-ghost use Rattle.command_answers.specs.Readings.{AreTextsAnswered};
-ghost use Rattle.command_answers.specs.BoundLines.{AreBounds, AreBoundLines, IsBoundsStatus};
+ghost use Rattle.command_answers.specs.BoundLines.{AreBoundLines, IsBoundsStatus};
 ghost use Rattle.command_answers.specs.Steps.{IsOrMemory};
 ghost use Rattle.command_answers.specs.Commands.{RunsBounds, WithNames, WithSoundNames};
 
 use crate::answer::{Answer, Answered, GOOD, REFUSED};
 use crate::bound_lines::{push_bound_lines, push_makespan_line};
 use crate::inputs::{Files, ParsedInputs, read_inputs, serially};
-use crate::lines::bad_numbers_answer;
 use crate::naming::names_of;
-use crate::readings::{load_instance, load_plan};
+use crate::shape_faults::bad_numbers_answer;
 use crate::texts::Texts;
 use people_names::Names;
 use plan_bounds::{job_bound, least_makespan};
 use shop_base::Shaped;
 use std::alloc::{AllocError, Global};
 
-/// What no plan can do for an instance with the releases and the cleaning times of a plan, both given as texts: a bound
-/// from below on the makespan, and one on each job's leaving beside its budget. The plan's orders are read and not
-/// used. Without a name the first text is one instance, else a collection with an instance of this name.
-pub fn bounds(alloc: Global, instance: &[u8], name: Option<&[u8]>, plan: &[u8]) -> Answered
-    ensures { AreTextsAnswered instance.now (option_copied name.entry) plan.now AreBounds result }
-{
-    let shop = load_instance(alloc, instance, name)?.shop;
-    let plan = load_plan(alloc, plan)?;
-    both_bounded(alloc, ParsedInputs { shop, plan })
-}
-
 /// What no plan can do for the instance of a file with the releases and the cleaning times of the plan of another, with
 /// the names and the clock of a third, which is read once the numbers are sound.
 pub fn bounds_answer<T: Texts>(alloc: Global, texts: &mut T, files: &Files<'_>) -> Answered
-    ensures { RunsBounds T.gives files.now.pair (option_copied files.now.names) texts.old result texts.new }
+    ensures { RunsBounds T.gives files.now.inputs (option_copied files.now.names) texts.old result texts.new }
 {
-    let both = read_inputs(alloc, texts, &files.pair)?;
-    named_bounded(alloc, texts, both, files.names)
+    let parsed = read_inputs(alloc, texts, &files.inputs)?;
+    named_bounded(alloc, texts, parsed, files.names)
 }
 
 /// The bounds for a shop with the numbers of a plan, if these are sound, else their first fault.
 fn named_bounded<T: Texts>(
     alloc: Global,
     texts: &mut T,
-    both: ParsedInputs,
+    parsed: ParsedInputs,
     names: Option<&str>,
 ) -> Answered
-    ensures { WithSoundNames T.gives (λ book. IsOrMemory (AreBoundLines book (times_of both) both.plan.budget))
-        (option_copied names.entry) both texts.old result texts.new }
+    ensures { WithSoundNames T.gives (λ book. IsOrMemory (AreBoundLines book (times_of parsed) parsed.plan.budget))
+        (option_copied names.entry) parsed texts.old result texts.new }
 {
-    match serially(alloc, both)?.shaped() {
+    match serially(alloc, parsed)?.shaped() {
         Ok(shaped) => {
             let answer = sound_bounded(alloc, texts, names, &shaped);
             drop(shaped);
@@ -74,22 +61,6 @@ fn sound_bounded<T: Texts>(
     let answer = shaped_bounded(alloc, &names, shaped);
     drop(names);
     Ok(answer?)
-}
-
-/// The same without names.
-fn both_bounded(alloc: Global, both: ParsedInputs) -> Answered
-    ensures { IsOrMemory (AreBounds both) result }
-{
-    match serially(alloc, both)?.shaped() {
-        Ok(shaped) => {
-            let names = Names::none(alloc);
-            let answer = shaped_bounded(alloc, &names, &shaped);
-            drop(names);
-            drop(shaped);
-            Ok(answer?)
-        }
-        Err(fault) => Ok(bad_numbers_answer(alloc, fault)?),
-    }
 }
 
 /// The lines of the bounds.

@@ -16,7 +16,7 @@ use crate::texts::Texts;
 use plan_verifier::Verified;
 use std::alloc::{AllocError, Global};
 
-/// What is to be said of several plans.
+/// Several plans that are accepted, or the line of one that isn't.
 #[derive(Drop)]
 pub enum Cells {
     /// All are accepted.

@@ -28,11 +28,11 @@ pub fn check(alloc: Global, instance: &[u8], name: Option<&[u8]>, plan: &[u8]) -
 }
 
 /// The verdict on the plan of a file for the instance of another.
-pub fn check_answer<T: Texts>(alloc: Global, texts: &mut T, pair: &InputPaths<'_>) -> Answered
-    ensures { RunsCheck T.gives pair.now texts.old result texts.new }
+pub fn check_answer<T: Texts>(alloc: Global, texts: &mut T, inputs: &InputPaths<'_>) -> Answered
+    ensures { RunsCheck T.gives inputs.now texts.old result texts.new }
 {
-    let both = read_inputs(alloc, texts, pair)?;
-    let loaded = judged(alloc, both)?;
+    let parsed = read_inputs(alloc, texts, inputs)?;
+    let loaded = judged(alloc, parsed)?;
     let answer = loaded_answer(alloc, &loaded);
     drop(loaded);
     Ok(answer?)

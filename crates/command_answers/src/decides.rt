@@ -15,9 +15,10 @@ use crate::asked_job::no_job_answer;
 use crate::command_fault::Unanswered;
 use crate::decision_lines::{push_never_lines, push_within_line};
 use crate::inputs::{Files, ParsedInputs, read_inputs, serially};
-use crate::lines::{bad_numbers_answer, document_answer, headed_answer, line_answer};
+use crate::lines::{document_answer, headed_answer, line_answer};
 use crate::naming::names_of;
 use crate::rests::run_fault_answer;
+use crate::shape_faults::bad_numbers_answer;
 use crate::texts::Texts;
 use arc_choice::Choose;
 use people_names::Names;
@@ -40,13 +41,13 @@ pub fn decide_answer<T: Texts, C: Choose, W: Watch>(
     chooser: &mut C,
     watch: &mut W,
 ) -> Answered
-    ensures { RunsDecide T.gives aim files.now.pair (option_copied files.now.names) texts.old result texts.new }
+    ensures { RunsDecide T.gives aim files.now.inputs (option_copied files.now.names) texts.old result texts.new }
 {
-    let both = read_inputs(alloc, texts, &files.pair)?;
-    both_decided(
+    let parsed = read_inputs(alloc, texts, &files.inputs)?;
+    parsed_decided(
         alloc,
         texts,
-        both,
+        parsed,
         files.names,
         aim,
         choices,
@@ -56,20 +57,20 @@ pub fn decide_answer<T: Texts, C: Choose, W: Watch>(
 }
 
 /// What is decided for a shop with the numbers of a plan, if these are sound, else their first fault.
-fn both_decided<T: Texts, C: Choose, W: Watch>(
+fn parsed_decided<T: Texts, C: Choose, W: Watch>(
     alloc: Global,
     texts: &mut T,
-    both: ParsedInputs,
+    parsed: ParsedInputs,
     names: Option<&str>,
     aim: Aim,
     choices: u64,
     chooser: &mut C,
     watch: &mut W,
 ) -> Answered
-    ensures { WithSoundNames T.gives (λ book. IsDecisionAnswer book (whole_case both) aim)
-        (option_copied names.entry) both texts.old result texts.new }
+    ensures { WithSoundNames T.gives (λ book. IsDecisionAnswer book (whole_case parsed) aim)
+        (option_copied names.entry) parsed texts.old result texts.new }
 {
-    match serially(alloc, both)?.shaped() {
+    match serially(alloc, parsed)?.shaped() {
         Ok(shaped) => sound_decided(alloc, texts, shaped, names, aim, choices, chooser, watch),
         Err(fault) => Ok(bad_numbers_answer(alloc, fault)?),
     }

@@ -20,10 +20,10 @@ const ROOM: usize = 44;
 
 /// The digits by which a log knows the plan of a file and the shop of another. A plan that isn't well shaped has its
 /// first fault in their place.
-pub fn digest_answer<T: Texts>(alloc: Global, texts: &mut T, pair: &InputPaths<'_>) -> Answered
-    ensures { RunsDigest T.gives pair.now texts.old result texts.new }
+pub fn digest_answer<T: Texts>(alloc: Global, texts: &mut T, inputs: &InputPaths<'_>) -> Answered
+    ensures { RunsDigest T.gives inputs.now texts.old result texts.new }
 {
-    match shape_files(alloc, texts, pair)? {
+    match shape_files(alloc, texts, inputs)? {
         Ok(shaped) => {
             let answer = digits_answer(alloc, &shaped);
             drop(shaped);

@@ -41,9 +41,9 @@ pub fn explain_answer<T: Texts>(
     files: &Files<'_>,
     job: Option<JobNo>,
 ) -> Answered
-    ensures { RunsExplain T.gives files.now.pair (option_copied files.now.names) job texts.old result texts.new }
+    ensures { RunsExplain T.gives files.now.inputs (option_copied files.now.names) job texts.old result texts.new }
 {
-    match shape_files(alloc, texts, &files.pair)? {
+    match shape_files(alloc, texts, &files.inputs)? {
         Ok(shaped) => shaped_explained(alloc, texts, shaped, files.names, job),
         Err(fault) => unshaped_answer(alloc, fault),
     }

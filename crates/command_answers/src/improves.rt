@@ -25,44 +25,44 @@ use std::alloc::Global;
 pub fn improve_answer<T: Texts, W: Watch>(
     alloc: Global,
     texts: &mut T,
-    pair: &InputPaths<'_>,
+    inputs: &InputPaths<'_>,
     improvers: &[Box<dyn Improver>],
     rounds: u32,
     watch: &mut W,
 ) -> Answered
-    ensures { RunsImprove T.gives (RoundsOf rounds (λ b. may b) improvers.now) rounds pair.now
+    ensures { RunsImprove T.gives (RoundsOf rounds (λ b. may b) improvers.now) rounds inputs.now
         texts.old result texts.new }
 {
-    let both = read_inputs(alloc, texts, pair)?;
-    let both = with_orders(alloc, both)?;
-    better_answer(alloc, both, improvers, rounds, watch)
+    let parsed = read_inputs(alloc, texts, inputs)?;
+    let parsed = with_orders(alloc, parsed)?;
+    better_answer(alloc, parsed, improvers, rounds, watch)
 }
 
 /// The answer of the search from a plan, if it is well shaped, else its first fault.
 fn better_answer<W: Watch>(
     alloc: Global,
-    both: ParsedInputs,
+    parsed: ParsedInputs,
     improvers: &[Box<dyn Improver>],
     rounds: u32,
     watch: &mut W,
 ) -> Answered
-    ensures { IsImproveAnswer (RoundsOf rounds (λ b. may b) improvers.now) rounds both result }
+    ensures { IsImproveAnswer (RoundsOf rounds (λ b. may b) improvers.now) rounds parsed result }
 {
-    match both.shaped() {
+    match parsed.shaped() {
         Ok(start) => best_answer(alloc, start, improvers, rounds, watch),
         Err(fault) => Ok(not_shaped_answer(alloc, fault)?),
     }
 }
 
 /// The plan itself or, if it has no orders at all, the serial plan with its numbers.
-pub(crate) fn with_orders(alloc: Global, both: ParsedInputs) -> Outcome<ParsedInputs>
-    ensures { IsOrMemory (λ with. with ≡ ordered both) result }
+pub(crate) fn with_orders(alloc: Global, parsed: ParsedInputs) -> Outcome<ParsedInputs>
+    ensures { IsOrMemory (λ with. with ≡ ordered parsed) result }
 {
-    let read = &both;
+    let read = &parsed;
     if !read.plan.order.is_empty() {
-        return Ok(both);
+        return Ok(parsed);
     }
-    serially(alloc, both)
+    serially(alloc, parsed)
 }
 
 /// The answer of the search from a plan.

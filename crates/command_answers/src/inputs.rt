@@ -36,7 +36,7 @@ impl<'a> Model for InputPaths<'a> {
 /// The files of an instance and of a plan for it, and that of the names for people, if one is given.
 #[derive(Drop)]
 pub struct Files<'a> {
-    pub pair: InputPaths<'a>,
+    pub inputs: InputPaths<'a>,
     pub names: Option<&'a str>,
 }
 
@@ -80,12 +80,12 @@ impl ParsedInputs {
 pub(crate) fn read_inputs<T: Texts>(
     alloc: Global,
     texts: &mut T,
-    pair: &InputPaths<'_>,
+    inputs: &InputPaths<'_>,
 ) -> Outcome<ParsedInputs>
-    ensures { ReadsBoth T.gives pair.now texts.old result texts.new }
+    ensures { ReadsBoth T.gives inputs.now texts.old result texts.new }
 {
-    let shop = instance(alloc, texts, pair.instance, pair.name)?.shop;
-    let plan = plan(alloc, texts, pair.plan)?;
+    let shop = instance(alloc, texts, inputs.instance, inputs.name)?.shop;
+    let plan = plan(alloc, texts, inputs.plan)?;
     Ok(ParsedInputs { shop, plan })
 }
 
@@ -93,19 +93,19 @@ pub(crate) fn read_inputs<T: Texts>(
 pub fn shape_files<T: Texts>(
     alloc: Global,
     texts: &mut T,
-    pair: &InputPaths<'_>,
+    inputs: &InputPaths<'_>,
 ) -> Outcome<Result<Shaped, ShapeFault>>
-    ensures { Shapes T.gives pair.now texts.old result texts.new }
+    ensures { Shapes T.gives inputs.now texts.old result texts.new }
 {
-    let both = read_inputs(alloc, texts, pair)?;
-    Ok(both.shaped())
+    let parsed = read_inputs(alloc, texts, inputs)?;
+    Ok(parsed.shaped())
 }
 
 /// The serial plan with the numbers of this one, whose orders are dropped.
-pub(crate) fn serially(alloc: Global, both: ParsedInputs) -> Outcome<ParsedInputs>
-    ensures { IsOrMemory (λ serial. serial ≡ serially both) result }
+pub(crate) fn serially(alloc: Global, parsed: ParsedInputs) -> Outcome<ParsedInputs>
+    ensures { IsOrMemory (λ serial. serial ≡ serially parsed) result }
 {
-    let ParsedInputs { shop, plan } = both;
+    let ParsedInputs { shop, plan } = parsed;
     let order = serial_orders(alloc, &shop)?;
     let plan = Plan { order, ..plan };
     Ok(ParsedInputs { shop, plan })

@@ -2,12 +2,11 @@
 
 ghost use Rattle.std.specs.Prelude.{◌≡◌, ◌++◌, IfOk, OnOk, codes, decimal};
 ghost use Rattle.command_answers.specs.Documents.{IsDocumentAnswer, IsHeadedAnswer};
-ghost use Rattle.command_answers.specs.Shapes.{IsLineOfFault};
 ghost use Rattle.command_answers.specs.LogLines.{log_refused_line};
 
 use crate::answer::{Answer, Answered, REFUSED};
 use plan_text::plan_document;
-use shop_base::{Plan, ShapeFault};
+use shop_base::Plan;
 use std::alloc::{AllocError, Global};
 
 /// Adds the word, and after it the number in decimal.
@@ -45,29 +44,6 @@ pub(crate) fn line_answer(alloc: Global, line: &[u8], status: u8) -> Result<Answ
     let mut text = Vec::new(alloc);
     text.extend_from_slice(line)?;
     Ok(Answer { text, status })
-}
-
-/// The line of a fault of a plan's shape, after these words.
-pub(crate) fn fault_answer(
-    alloc: Global,
-    what: &[u8],
-    fault: ShapeFault,
-) -> Result<Answer, AllocError>
-    ensures { IfOk result (IsLineOfFault what.now) }
-{
-    let words = fault.to_string(alloc)?;
-    let (mut text, status) = (Vec::new(alloc), REFUSED);
-    text.extend_from_slice(what)?;
-    text.extend_from_slice(words.as_bytes())?;
-    text.push(b'\n')?;
-    Ok(Answer { text, status })
-}
-
-/// The line of numbers that are too few, too many or over a limit, with their first fault.
-pub(crate) fn bad_numbers_answer(alloc: Global, fault: ShapeFault) -> Result<Answer, AllocError>
-    ensures { IfOk result (IsLineOfFault (codes "bad numbers ")) }
-{
-    fault_answer(alloc, b"bad numbers ", fault)
 }
 
 /// The line of a log that is refused: the number of its first bad line, and the name of the fault.

@@ -18,7 +18,7 @@ use plan_verifier::{Verdict, Verified, verify};
 use shop_base::{ShapeFault, Shaped};
 use std::alloc::Global;
 
-/// What is to be said of a plan for an instance.
+/// Whether a plan is well shaped for an instance, and the verdict on it if it is.
 #[derive(Debug, Drop)]
 pub enum Loaded {
     /// It isn't well shaped.
@@ -61,27 +61,31 @@ pub fn load_shaped(
 {
     let named = load_instance(alloc, instance, name)?;
     let read = load_plan(alloc, plan)?;
-    let both = ParsedInputs {
+    let parsed = ParsedInputs {
         shop: named.shop,
         plan: read,
     };
-    Ok(both.shaped())
+    Ok(parsed.shaped())
 }
 
 /// The verdict on the plan of a file for the instance of another.
-pub fn load_files<T: Texts>(alloc: Global, texts: &mut T, pair: &InputPaths<'_>) -> Outcome<Loaded>
-    ensures { Loads T.gives pair.now texts.old result texts.new }
+pub fn load_files<T: Texts>(
+    alloc: Global,
+    texts: &mut T,
+    inputs: &InputPaths<'_>,
+) -> Outcome<Loaded>
+    ensures { Loads T.gives inputs.now texts.old result texts.new }
 {
-    let both = read_inputs(alloc, texts, pair)?;
-    judged(alloc, both)
+    let parsed = read_inputs(alloc, texts, inputs)?;
+    judged(alloc, parsed)
 }
 
 /// The verdict on a plan for a shop.
-pub(crate) fn judged(alloc: Global, both: ParsedInputs) -> Outcome<Loaded>
-    ensures loaded { IsOrMemory (IsLoaded both) result }
-    ensures not_shaped { ¬ (IsWellShaped both) → IsOk result }
+pub(crate) fn judged(alloc: Global, parsed: ParsedInputs) -> Outcome<Loaded>
+    ensures loaded { IsOrMemory (IsLoaded parsed) result }
+    ensures not_shaped { ¬ (IsWellShaped parsed) → IsOk result }
 {
-    match both.shaped() {
+    match parsed.shaped() {
         Ok(shaped) => match verify(alloc, shaped) {
             Ok(verdict) => Ok(Loaded::Judged(verdict)),
             Err((error, back)) => {

@@ -37,9 +37,10 @@ pub fn log_answer<T: Texts>(
     log: &str,
     wanted: LogAnswer,
 ) -> Answered
-    ensures { RunsLog T.gives wanted files.now.pair (option_copied files.now.names) log.now texts.old result texts.new }
+    ensures { RunsLog T.gives wanted files.now.inputs
+        (option_copied files.now.names) log.now texts.old result texts.new }
 {
-    match shape_files(alloc, texts, &files.pair)? {
+    match shape_files(alloc, texts, &files.inputs)? {
         Ok(shaped) => {
             let answer = shaped_log(alloc, texts, &shaped, files.names, log, wanted);
             drop(shaped);

@@ -21,9 +21,9 @@ use std::alloc::{AllocError, Global};
 /// How much longer everything may take by the plan of a file for the instance of another, with the names of a third,
 /// which is read once the plan is shaped. A plan that isn't accepted has the line of `check`.
 pub fn margin_answer<T: Texts>(alloc: Global, texts: &mut T, files: &Files<'_>) -> Answered
-    ensures { RunsMargin T.gives files.now.pair (option_copied files.now.names) texts.old result texts.new }
+    ensures { RunsMargin T.gives files.now.inputs (option_copied files.now.names) texts.old result texts.new }
 {
-    match shape_files(alloc, texts, &files.pair)? {
+    match shape_files(alloc, texts, &files.inputs)? {
         Ok(shaped) => shaped_margin(alloc, texts, shaped, files.names),
         Err(fault) => unshaped_answer(alloc, fault),
     }

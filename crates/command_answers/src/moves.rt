@@ -17,13 +17,13 @@ use crate::command_fault::{CommandFault, Unanswered};
 use crate::inputs::{Ahead, Files, shape_files};
 use crate::logs::log_fault_answer;
 use crate::naming::{names_and_log, names_of};
-use crate::rests::{PlanAnswer, answer_rest, past_answer, present_at};
+use crate::rests::{PlanAnswer, answer_rest, past_answer};
 use crate::shapes::unshaped_answer;
 use crate::texts::Texts;
 use cell_tables::WorkCell;
 use people_names::Names;
 use plan_moves::{moves_from, push_move_lines};
-use run_log::run_of_log;
+use run_log::{present_at, run_of_log};
 use shop_base::{Moment, Shaped};
 use std::alloc::Global;
 
@@ -31,9 +31,9 @@ use std::alloc::Global;
 /// another: below the line of `check` a line for each, with the names and the clock of a third file, which is read once
 /// the plan is shaped. A plan with a cycle has none.
 pub fn moves_answer<T: Texts>(alloc: Global, texts: &mut T, files: &Files<'_>) -> Answered
-    ensures { RunsMoves T.gives files.now.pair (option_copied files.now.names) texts.old result texts.new }
+    ensures { RunsMoves T.gives files.now.inputs (option_copied files.now.names) texts.old result texts.new }
 {
-    match shape_files(alloc, texts, &files.pair)? {
+    match shape_files(alloc, texts, &files.inputs)? {
         Ok(shaped) => shaped_moves(alloc, texts, shaped, files.names),
         Err(fault) => unshaped_answer(alloc, fault),
     }
@@ -65,10 +65,10 @@ fn shaped_moves<T: Texts>(
 /// The moves ahead in the run in the log of a file, from a present moment on, or from the last one of that run.
 pub fn rest_moves_answer<T: Texts>(alloc: Global, texts: &mut T, ahead: &Ahead<'_>) -> Answered
     requires { IfSome ahead.now.at (λ present. present ≤ MAX_MOMENT) }
-    ensures { RunsRestMoves T.gives ahead.now.at ahead.now.files.pair
+    ensures { RunsRestMoves T.gives ahead.now.at ahead.now.files.inputs
         (option_copied ahead.now.files.names) ahead.now.log.now texts.old result texts.new }
 {
-    match shape_files(alloc, texts, &ahead.files.pair)? {
+    match shape_files(alloc, texts, &ahead.files.inputs)? {
         Ok(shaped) => shaped_rest_moves(alloc, texts, shaped, ahead),
         Err(fault) => unshaped_answer(alloc, fault),
     }

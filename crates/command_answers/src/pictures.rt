@@ -23,7 +23,7 @@ use crate::inputs::{Ahead, Files, shape_files};
 use crate::logs::log_fault_answer;
 use crate::naming::{names_and_log, names_of};
 use crate::rest_improves::cycle_answer;
-use crate::rests::{past_answer, present_at};
+use crate::rests::past_answer;
 use crate::shapes::not_shaped_answer;
 use crate::texts::Texts;
 use alt_graph::Times;
@@ -31,7 +31,7 @@ use cell_tables::{Entry, WorkCell};
 use people_names::Names;
 use plan_schedule::{DrawnRun, drawn_run};
 use plan_verifier::{Judged, Why, verify_after};
-use run_log::{Audit, audit, run_of_log};
+use run_log::{Audit, audit, present_at, run_of_log};
 use run_picture::{DrawnVisit, Head, Picture, Sheet, last_moment, late_leavings, lateness, latest};
 use shop_base::{Moment, ShapeFault, Shaped};
 use std::alloc::{AllocError, Global};
@@ -41,7 +41,7 @@ use std::alloc::{AllocError, Global};
 pub enum Drawn {
     /// A picture.
     Picture {
-        /// The picture.
+        /// The drawing.
         picture: Picture,
         /// The status that the program ends with: that of the verdict.
         status: u8,
@@ -58,9 +58,9 @@ pub fn log_picture<T: Texts>(
     files: &Files<'_>,
     log: &str,
 ) -> Outcome<Drawn>
-    ensures { DrawsLog T.gives files.now.pair (option_copied files.now.names) log.now texts.old result texts.new }
+    ensures { DrawsLog T.gives files.now.inputs (option_copied files.now.names) log.now texts.old result texts.new }
 {
-    match shape_files(alloc, texts, &files.pair)? {
+    match shape_files(alloc, texts, &files.inputs)? {
         Ok(shaped) => {
             let drawn = shaped_log(alloc, texts, &shaped, files.names, log);
             drop(shaped);
@@ -72,7 +72,7 @@ pub fn log_picture<T: Texts>(
 
 /// The line of a plan that isn't well shaped, with its first fault.
 fn unshaped_drawn(alloc: Global, fault: ShapeFault) -> Outcome<Drawn>
-    ensures { IsOrMemory (IsLineAlone IsRefusedLine) result }
+    ensures { IsOrMemory (IsLineAlone (IsRefusedLine fault)) result }
 {
     Ok(Drawn::Line(not_shaped_answer(alloc, fault)?))
 }
@@ -141,9 +141,9 @@ fn log_sheet(shaped: &Shaped, run: &Audit) -> Sheet
 /// Draws the exact run of the plan of one file for the instance of another, whether it is in time or late, with the
 /// names of a third if there is one. A plan that isn't well shaped, or has a cycle, has the line of its check instead.
 pub fn schedule_picture<T: Texts>(alloc: Global, texts: &mut T, files: &Files<'_>) -> Outcome<Drawn>
-    ensures { DrawsSchedule T.gives files.now.pair (option_copied files.now.names) texts.old result texts.new }
+    ensures { DrawsSchedule T.gives files.now.inputs (option_copied files.now.names) texts.old result texts.new }
 {
-    match shape_files(alloc, texts, &files.pair)? {
+    match shape_files(alloc, texts, &files.inputs)? {
         Ok(shaped) => shaped_drawn(alloc, texts, shaped, files.names),
         Err(fault) => unshaped_drawn(alloc, fault),
     }
@@ -199,10 +199,10 @@ fn plan_drawn(alloc: Global, names: Names, shaped: Shaped) -> Result<Drawn, Allo
 /// present moment before the last one has a line instead.
 pub fn rest_picture<T: Texts>(alloc: Global, texts: &mut T, ahead: &Ahead<'_>) -> Outcome<Drawn>
     requires { IfSome ahead.now.at (λ present. present ≤ MAX_MOMENT) }
-    ensures { DrawsRest T.gives ahead.now.at ahead.now.files.pair
+    ensures { DrawsRest T.gives ahead.now.at ahead.now.files.inputs
         (option_copied ahead.now.files.names) ahead.now.log.now texts.old result texts.new }
 {
-    match shape_files(alloc, texts, &ahead.files.pair)? {
+    match shape_files(alloc, texts, &ahead.files.inputs)? {
         Ok(shaped) => shaped_rest(alloc, texts, shaped, ahead),
         Err(fault) => unshaped_drawn(alloc, fault),
     }

@@ -19,10 +19,10 @@ pub fn answer_of_plan<T: Texts>(
     files: &Files<'_>,
     wanted: PlanAnswer,
 ) -> Answered
-    ensures { RunsOfPlan T.gives wanted files.now.pair (option_copied files.now.names) texts.old result texts.new }
+    ensures { RunsOfPlan T.gives wanted files.now.inputs (option_copied files.now.names) texts.old result texts.new }
 {
     match wanted {
-        PlanAnswer::Verdict => check_answer(alloc, texts, &files.pair),
+        PlanAnswer::Verdict => check_answer(alloc, texts, &files.inputs),
         PlanAnswer::Reasons(job) => explain_answer(alloc, texts, files, job),
         PlanAnswer::Moments => schedule_answer(alloc, texts, files),
     }

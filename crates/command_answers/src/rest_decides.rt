@@ -15,8 +15,8 @@ use crate::answer::{Answer, Answered};
 use crate::decides::{decided_answer, undecided_answer};
 use crate::improves::with_orders;
 use crate::inputs::{Ahead, ParsedInputs, read_inputs};
-use crate::lines::{bad_numbers_answer, fault_answer};
 use crate::naming::names_and_log;
+use crate::shape_faults::{bad_numbers_answer, fault_answer};
 use crate::texts::Texts;
 use arc_choice::Choose;
 use people_names::Names;
@@ -40,19 +40,19 @@ pub fn decide_rest_answer<T: Texts, C: Choose, W: Watch>(
     watch: &mut W,
 ) -> Answered
     requires { IfSome ahead.now.at (λ present. present ≤ MAX_MOMENT) }
-    ensures { RunsDecideRest T.gives aim ahead.now.at ahead.now.files.pair
+    ensures { RunsDecideRest T.gives aim ahead.now.at ahead.now.files.inputs
         (option_copied ahead.now.files.names) ahead.now.log.now texts.old result texts.new }
 {
-    let both = read_inputs(alloc, texts, &ahead.files.pair)?;
-    let both = with_orders(alloc, both)?;
-    both_rest_decided(alloc, texts, both, ahead, aim, choices, chooser, watch)
+    let parsed = read_inputs(alloc, texts, &ahead.files.inputs)?;
+    let parsed = with_orders(alloc, parsed)?;
+    parsed_rest_decided(alloc, texts, parsed, ahead, aim, choices, chooser, watch)
 }
 
 /// What is decided of the rest of the run in a log by a plan, if it is well shaped, else its first fault.
-fn both_rest_decided<T: Texts, C: Choose, W: Watch>(
+fn parsed_rest_decided<T: Texts, C: Choose, W: Watch>(
     alloc: Global,
     texts: &mut T,
-    both: ParsedInputs,
+    parsed: ParsedInputs,
     ahead: &Ahead<'_>,
     aim: Aim,
     choices: u64,
@@ -61,9 +61,9 @@ fn both_rest_decided<T: Texts, C: Choose, W: Watch>(
 ) -> Answered
     requires { IfSome ahead.now.at (λ present. present ≤ MAX_MOMENT) }
     ensures { WithRestDecision T.gives aim ahead.now.at
-        (option_copied ahead.now.files.names) ahead.now.log.now both texts.old result texts.new }
+        (option_copied ahead.now.files.names) ahead.now.log.now parsed texts.old result texts.new }
 {
-    match both.shaped() {
+    match parsed.shaped() {
         Ok(shaped) => {
             shaped_rest_decided(alloc, texts, shaped, ahead, aim, choices, chooser, watch)
         }
@@ -130,7 +130,7 @@ fn rest_decided<C: Choose, W: Watch>(
 
 /// The line of a plan that isn't well shaped, with its first fault.
 fn unfit_answer(alloc: Global, fault: ShapeFault) -> Result<Answer, AllocError>
-    ensures { IfOk result (IsLineOfFault (refusal fault)) }
+    ensures { IfOk result (IsLineOfFault (refusal fault) fault) }
 {
     match fault {
         ShapeFault::OrderCount

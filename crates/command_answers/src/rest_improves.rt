@@ -4,7 +4,7 @@ ghost use Rattle.std.specs.Prelude.{◌≡◌, ◌≤◌, IfOk, IfSome, None};
 ghost use Rattle.shop_base.specs.declared.limits.TheConstants.{MAX_MOMENT};
 ghost use Rattle.text_lines.specs.Lines.{ended_lines};
 ghost use Rattle.command_answers.specs.ImprovingRests.{RestRoundsOf, IsRestAnswer, IsJudgedAnswer, IsUnfoundAnswer};
-ghost use Rattle.command_answers.specs.ImprovingRests.{HasAnswer, IsCycleLine, improve_command_fault};
+ghost use Rattle.command_answers.specs.ImprovingRests.{HasAnswer, IsLineOfCycle, improve_command_fault};
 ghost use Rattle.command_answers.specs.Commands.{RunsImproveRest, WithRest};
 ghost use Rattle.command_answers.specs.Steps.{Concludes, Then};
 ghost use Rattle.command_answers.specs.Texts.{Asks};
@@ -38,18 +38,18 @@ pub fn improve_rest_answer<T: Texts, W: Watch>(
 ) -> Answered
     requires { IfSome ahead.now.at (λ present. present ≤ MAX_MOMENT) }
     ensures { RunsImproveRest T.gives (RestRoundsOf rounds (λ b. may b) improvers.now) ahead.now.at rounds
-        ahead.now.files.pair ahead.now.log.now texts.old result texts.new }
+        ahead.now.files.inputs ahead.now.log.now texts.old result texts.new }
 {
-    let both = read_inputs(alloc, texts, &ahead.files.pair)?;
-    let both = with_orders(alloc, both)?;
-    better_rest_answer(alloc, texts, both, ahead, improvers, rounds, watch)
+    let parsed = read_inputs(alloc, texts, &ahead.files.inputs)?;
+    let parsed = with_orders(alloc, parsed)?;
+    better_rest_answer(alloc, texts, parsed, ahead, improvers, rounds, watch)
 }
 
 /// The answer of the search from a plan for the rest of the run in a log, if it is well shaped, else its first fault.
 fn better_rest_answer<T: Texts, W: Watch>(
     alloc: Global,
     texts: &mut T,
-    both: ParsedInputs,
+    parsed: ParsedInputs,
     ahead: &Ahead<'_>,
     improvers: &[Box<dyn Improver>],
     rounds: u32,
@@ -57,9 +57,9 @@ fn better_rest_answer<T: Texts, W: Watch>(
 ) -> Answered
     requires { IfSome ahead.now.at (λ present. present ≤ MAX_MOMENT) }
     ensures { WithRest T.gives (RestRoundsOf rounds (λ b. may b) improvers.now) ahead.now.at rounds ahead.now.log.now
-        both texts.old result texts.new }
+        parsed texts.old result texts.new }
 {
-    match both.shaped() {
+    match parsed.shaped() {
         Ok(start) => shaped_rest_answer(alloc, texts, start, ahead, improvers, rounds, watch),
         Err(fault) => Ok(not_shaped_answer(alloc, fault)?),
     }
@@ -130,7 +130,7 @@ fn judged_answer(alloc: Global, found: &Improved) -> Answered
 
 /// The line of a cycle.
 pub(crate) fn cycle_answer(alloc: Global, nodes: &[Node]) -> Result<Answer, AllocError>
-    ensures { IfOk result (IsCycleLine nodes.now) }
+    ensures { IfOk result (IsLineOfCycle nodes.now) }
 {
     let (mut text, status) = (Vec::new(alloc), REFUSED);
     push_cycle_line(&mut text, nodes)?;

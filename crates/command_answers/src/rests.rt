@@ -1,6 +1,6 @@
 //! The commands `check`, `explain` and `schedule` of the rest of a run.
 
-ghost use Rattle.std.specs.Prelude.{◌≡◌, ◌<◌, ◌≤◌, IfOk, IfSome, unwrap_or};
+ghost use Rattle.std.specs.Prelude.{◌≡◌, ◌<◌, ◌≤◌, IfOk, IfSome};
 ghost use Rattle.std.specs.Option.{option_copied};
 ghost use Rattle.shop_base.specs.Plan.{jobs};
 ghost use Rattle.shop_base.specs.declared.limits.TheConstants.{MAX_MOMENT};
@@ -25,7 +25,7 @@ use people_names::Names;
 use plan_explain::{explain_after, first_line_after};
 use plan_schedule::schedule_after;
 use plan_verifier::{Judged, Seen, verify_after};
-use run_log::{RunFault, run_of_log};
+use run_log::{RunFault, present_at, run_of_log};
 use shop_base::{JobNo, Moment, Planned, Shaped};
 use std::alloc::{AllocError, Global};
 
@@ -63,10 +63,10 @@ pub fn rest_answer<T: Texts>(
     wanted: PlanAnswer,
 ) -> Answered
     requires { IfSome ahead.now.at (λ present. present ≤ MAX_MOMENT) }
-    ensures { RunsRest T.gives wanted ahead.now.at ahead.now.files.pair
+    ensures { RunsRest T.gives wanted ahead.now.at ahead.now.files.inputs
         (option_copied ahead.now.files.names) ahead.now.log.now texts.old result texts.new }
 {
-    match shape_files(alloc, texts, &ahead.files.pair)? {
+    match shape_files(alloc, texts, &ahead.files.inputs)? {
         Ok(shaped) => shaped_rest(alloc, texts, shaped, ahead, wanted),
         Err(fault) => unshaped_answer(alloc, fault),
     }
@@ -145,16 +145,6 @@ fn cell_answered(
         return past_answer(alloc, last);
     }
     answer_rest(alloc, names, cell, present, wanted)
-}
-
-/// The present moment: the one that is given, or the last one.
-pub(crate) fn present_at(at: Option<Moment>, last: Moment) -> Moment
-    ensures { result ≡ unwrap_or at last }
-{
-    match at {
-        Some(present) => present,
-        None => last,
-    }
 }
 
 /// The line that says why there is no run up to the present moment: of the log's first fault, or of a moment that is past.

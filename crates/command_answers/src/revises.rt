@@ -18,14 +18,14 @@ use crate::lines::document_answer;
 use crate::logs::log_fault_answer;
 use crate::readings::{instance, plan};
 use crate::rest_improves::cycle_answer;
-use crate::rests::{past_answer, present_at};
+use crate::rests::past_answer;
 use crate::shapes::not_shaped_answer;
 use crate::texts::Texts;
 use cell_tables::WorkCell;
 use orlib_read::{Named, NotWritten, instance_document};
 use plan_revise::{Change, ChangeFault, revise};
 use plan_verifier::{Judged, Why, verify_after};
-use run_log::run_of_log;
+use run_log::{present_at, run_of_log};
 use shop_base::{Moment, Shaped, Shop};
 use std::alloc::{AllocError, Global};
 
@@ -55,18 +55,18 @@ pub struct Revision<'a> {
 pub fn revise_answer<T: Texts>(
     alloc: Global,
     texts: &mut T,
-    pair: &InputPaths<'_>,
+    inputs: &InputPaths<'_>,
     log: &str,
     wanted: Revision<'_>,
 ) -> Answered
     requires { IfSome wanted.at (λ present. present ≤ MAX_MOMENT) }
     ensures { RunsRevise T.gives wanted.entry.prints wanted.entry.at wanted.entry.changes.now
-        (map (λ value. value.now) wanted.entry.values.now) pair.now log.now texts.old result texts.new }
+        (map (λ value. value.now) wanted.entry.values.now) inputs.now log.now texts.old result texts.new }
 {
-    let named = instance(alloc, texts, pair.instance, pair.name)?;
-    let plan = plan(alloc, texts, pair.plan)?;
+    let named = instance(alloc, texts, inputs.instance, inputs.name)?;
+    let plan = plan(alloc, texts, inputs.plan)?;
     let Named { description, shop } = named;
-    both_revised(
+    parsed_revised(
         alloc,
         texts,
         ParsedInputs { shop, plan },
@@ -77,10 +77,10 @@ pub fn revise_answer<T: Texts>(
 }
 
 /// What is answered of a shop and a plan, if it is well shaped, else its first fault.
-fn both_revised<T: Texts>(
+fn parsed_revised<T: Texts>(
     alloc: Global,
     texts: &mut T,
-    both: ParsedInputs,
+    parsed: ParsedInputs,
     description: &[u8],
     log: &str,
     wanted: Revision<'_>,
@@ -88,9 +88,9 @@ fn both_revised<T: Texts>(
     requires { IfSome wanted.at (λ present. present ≤ MAX_MOMENT) }
     ensures { WithLogOf T.gives (IsReviseAnswer wanted.entry.prints description.now wanted.entry.at
         wanted.entry.changes.now (map (λ value. value.now) wanted.entry.values.now))
-        log.now both texts.old result texts.new }
+        log.now parsed texts.old result texts.new }
 {
-    match both.shaped() {
+    match parsed.shaped() {
         Ok(shaped) => shaped_revised(alloc, texts, shaped, description, log, wanted),
         Err(fault) => Ok(not_shaped_answer(alloc, fault)?),
     }

@@ -20,9 +20,9 @@ use std::alloc::{AllocError, Global};
 /// The schedule of the plan of a file for the instance of another, with the names and the clock of a third, which is
 /// read once the plan is shaped.
 pub fn schedule_answer<T: Texts>(alloc: Global, texts: &mut T, files: &Files<'_>) -> Answered
-    ensures { RunsSchedule T.gives files.now.pair (option_copied files.now.names) texts.old result texts.new }
+    ensures { RunsSchedule T.gives files.now.inputs (option_copied files.now.names) texts.old result texts.new }
 {
-    match shape_files(alloc, texts, &files.pair)? {
+    match shape_files(alloc, texts, &files.inputs)? {
         Ok(shaped) => shaped_scheduled(alloc, texts, shaped, files.names),
         Err(fault) => unshaped_answer(alloc, fault),
     }

@@ -8,7 +8,8 @@ ghost use Rattle.command_answers.specs.Commands.{RunsPlanWith};
 use crate::answer::{Answered, GOOD, REFUSED};
 use crate::command_fault::Unanswered;
 use crate::inputs::{InputPaths, ParsedInputs, read_inputs};
-use crate::lines::{bad_numbers_answer, document_answer, line_answer};
+use crate::lines::{document_answer, line_answer};
+use crate::shape_faults::bad_numbers_answer;
 use crate::texts::Texts;
 use plan_seek::{Proposer, SeekFault, seek};
 use std::alloc::Global;
@@ -20,26 +21,26 @@ use std::alloc::Global;
 pub fn plan_answer<T: Texts>(
     alloc: Global,
     texts: &mut T,
-    pair: &InputPaths<'_>,
+    inputs: &InputPaths<'_>,
     proposers: &[Box<dyn Proposer>],
     rounds: u32,
 ) -> Answered
-    ensures { RunsPlanWith T.gives (λ b. may b) proposers.now rounds pair.now texts.old result texts.new }
+    ensures { RunsPlanWith T.gives (λ b. may b) proposers.now rounds inputs.now texts.old result texts.new }
 {
-    let both = read_inputs(alloc, texts, pair)?;
-    search_answer(alloc, both, proposers, rounds)
+    let parsed = read_inputs(alloc, texts, inputs)?;
+    search_answer(alloc, parsed, proposers, rounds)
 }
 
 /// The answer of the search for a plan with the numbers of this one.
 fn search_answer(
     alloc: Global,
-    both: ParsedInputs,
+    parsed: ParsedInputs,
     proposers: &[Box<dyn Proposer>],
     rounds: u32,
 ) -> Answered
-    ensures { IsSearchAnswer (search_by (λ b. may b) proposers.now (task_in both)) rounds result }
+    ensures { IsSearchAnswer (search_by (λ b. may b) proposers.now (task_in parsed)) rounds result }
 {
-    let ParsedInputs { shop, plan } = both;
+    let ParsedInputs { shop, plan } = parsed;
     let (release, budget, clean) = (plan.release, plan.budget, plan.clean);
     match seek(alloc, shop, release, budget, clean, proposers, rounds) {
         Ok(verified) => {

@@ -8,7 +8,7 @@ use Rattle.command_answers.specs.declared.answer.Answer.{Answer}
 use Rattle.command_answers.specs.declared.command_fault.CommandFault.{CommandFault}
 use Rattle.command_run.specs.Streams.{Devices, Streams}
 use Rattle.command_run.specs.Logs.{IsHistoryOfLog, LogEnd, step_of}
-use Rattle.command_run.specs.Program.{IsHistoryOfChosen, IsHistoryOfWords, NoLog, RunsChosen, RunsCommand, RunsLoggedDrive, kept_log_in, protocol_in, pair_in}
+use Rattle.command_run.specs.Program.{IsHistoryOfChosen, IsHistoryOfWords, NoLog, RunsChosen, RunsCommand, RunsLoggedDrive, kept_log_in, protocol_in, inputs_in}
 
 module _ {W : Type 0} (gives : W → List ℕ → Result (List ℕ) CommandFault → W → Type 0) where
   pub unlogged : (chosen : Chosen) (before after : Devices W) (outcome : Result Answer CommandFault) (mid : Streams) → kept_log_in chosen ≡ None
@@ -16,16 +16,16 @@ module _ {W : Type 0} (gives : W → List ℕ → Result (List ℕ) CommandFault
   unlogged chosen before after outcome mid none runs same =
       subst (λ (log : Option (List ℕ)). RunsChosen gives log chosen before outcome mid after None) (sym none) (runs, same)
 
-  pub logged : (chosen : Chosen) (before after : Devices W) (outcome : Result Answer CommandFault) (mid : Streams) (end : Option LogEnd) (path : List ℕ) (pair : InputPaths) (protocol : Protocol) → kept_log_in chosen ≡ Some path
-      → pair ≡ pair_in chosen → protocol ≡ protocol_in chosen → RunsLoggedDrive gives before.folder after.folder path chosen.start protocol chosen.at pair before.texts (step_of before.streams outcome mid end) after.texts
+  pub logged : (chosen : Chosen) (before after : Devices W) (outcome : Result Answer CommandFault) (mid : Streams) (end : Option LogEnd) (path : List ℕ) (inputs : InputPaths) (protocol : Protocol) → kept_log_in chosen ≡ Some path
+      → inputs ≡ inputs_in chosen → protocol ≡ protocol_in chosen → RunsLoggedDrive gives before.folder after.folder path chosen.start protocol chosen.at inputs before.texts (step_of before.streams outcome mid end) after.texts
       → RunsChosen gives (kept_log_in chosen) chosen before outcome mid after end
-  logged chosen before after outcome mid end path pair protocol keeps same_pair same_manner runs =
+  logged chosen before after outcome mid end path inputs protocol keeps same_pair same_manner runs =
       subst (λ (log : Option (List ℕ)). RunsChosen gives log chosen before outcome mid after end) (sym keeps)
-      (subst (λ (m : Protocol). RunsLoggedDrive gives before.folder after.folder path chosen.start m chosen.at (pair_in chosen) before.texts (step_of before.streams outcome mid end) after.texts) same_manner
+      (subst (λ (m : Protocol). RunsLoggedDrive gives before.folder after.folder path chosen.start m chosen.at (inputs_in chosen) before.texts (step_of before.streams outcome mid end) after.texts) same_manner
       (subst (λ (q : InputPaths). RunsLoggedDrive gives before.folder after.folder path chosen.start protocol chosen.at q before.texts (step_of before.streams outcome mid end) after.texts) same_pair runs))
 
   pub history_of_path : (chosen : Chosen) (before : Devices W) (path : List ℕ) (known : Option (List ℕ × List ℕ)) → kept_log_in chosen ≡ Some path → IfSome known (IsHistoryOfChosen gives chosen before)
-      → IfSome known (IsHistoryOfLog gives before.folder (pair_in chosen) path (protocol_in chosen) chosen.at before.texts before.streams.output.written)
+      → IfSome known (IsHistoryOfLog gives before.folder (inputs_in chosen) path (protocol_in chosen) chosen.at before.texts before.streams.output.written)
   history_of_path chosen before path None keeps is = tt
   history_of_path chosen before path (Some t) keeps is = is path keeps
 
@@ -35,17 +35,17 @@ module _ {W : Type 0} (gives : W → List ℕ → Result (List ℕ) CommandFault
   history_of_chosen words chosen before (Some t) choice is = is chosen choice
 
 -- what is answered of the rest of a run, and of a plan, as the words ask for it
-pub ahead_asked : (Is : Option ℕ → InputPaths → Option (List ℕ) → Option (List ℕ) → Type 0) (at present : Option ℕ) (pair files : InputPaths) (names book : Option (List ℕ)) (log path : List ℕ) (kept : Option (List ℕ))
-    → at ≡ present → pair ≡ files → names ≡ book → log ≡ path → Some path ≡ kept → Is at pair names (Some log) → Is present files book kept
-ahead_asked Is at present pair files names book log path kept same_at same_pair same_names same_log asked is =
+pub ahead_asked : (Is : Option ℕ → InputPaths → Option (List ℕ) → Option (List ℕ) → Type 0) (at present : Option ℕ) (inputs files : InputPaths) (names book : Option (List ℕ)) (log path : List ℕ) (kept : Option (List ℕ))
+    → at ≡ present → inputs ≡ files → names ≡ book → log ≡ path → Some path ≡ kept → Is at inputs names (Some log) → Is present files book kept
+ahead_asked Is at present inputs files names book log path kept same_at same_pair same_names same_log asked is =
     subst (λ (l : Option (List ℕ)). Is present files book l) asked
     (subst (λ (l : List ℕ). Is present files book (Some l)) same_log
     (subst (λ (n : Option (List ℕ)). Is present files n (Some log)) same_names
     (subst (λ (q : InputPaths). Is present q names (Some log)) same_pair
-    (subst (λ (a : Option ℕ). Is a pair names (Some log)) same_at is))))
+    (subst (λ (a : Option ℕ). Is a inputs names (Some log)) same_at is))))
 
-pub plan_asked : (Is : InputPaths → Option (List ℕ) → Option (List ℕ) → Type 0) (pair files : InputPaths) (names book kept : Option (List ℕ)) → pair ≡ files → names ≡ book → None ≡ kept → Is pair names None → Is files book kept
-plan_asked Is pair files names book kept same_pair same_names asked is =
+pub plan_asked : (Is : InputPaths → Option (List ℕ) → Option (List ℕ) → Type 0) (inputs files : InputPaths) (names book kept : Option (List ℕ)) → inputs ≡ files → names ≡ book → None ≡ kept → Is inputs names None → Is files book kept
+plan_asked Is inputs files names book kept same_pair same_names asked is =
     subst (λ (l : Option (List ℕ)). Is files book l) asked
     (subst (λ (n : Option (List ℕ)). Is files n None) same_names
     (subst (λ (q : InputPaths). Is q names None) same_pair is))

@@ -48,7 +48,7 @@ use Rattle.command_run.specs.Resumes.{IsRecovery, ResumesRecovered, ResumesText,
 use Rattle.command_run.specs.Hubs.{AreDrivesIn, DrivesAll}
 use Rattle.command_run.specs.Ending.{Ends, EndsBy, EndsAside, IsPrinted, IsFaultPrinted, IsPrintedAfter, IsOfText, IsLineOut, WasPrinted}
 use Rattle.command_run.specs.Logs.{LogEnd, is_driven, step_of}
-use Rattle.command_run.specs.Program.{AreWordsRead, RunsCommand, RunsChosen, Follows, starts_again, status_by, draws_in, file_at, form_in, kept_log_in, log_in, protocol_in, name_in, names_in, pair_in, plans_in}
+use Rattle.command_run.specs.Program.{AreWordsRead, RunsCommand, RunsChosen, Follows, starts_again, status_by, draws_in, file_at, form_in, kept_log_in, log_in, protocol_in, name_in, names_in, inputs_in, plans_in}
 use Rattle.command_run.specs.Laws.{IsOutcomeOfWords, IsFailureOf, PrintsFaultsAlone, HoldsNothing, WereDriven, WereRefused, IsUnanswered, Ran, RanCommand, WroteNoMore}
 use Rattle.command_run.proofs.LowStatuses.{IsLow, low}
 use Rattle.command_run.proofs.Keepers.{keeper}
@@ -146,7 +146,7 @@ module _ {W : Type 0} (gives : W → List ℕ → Result (List ℕ) CommandFault
   kept : (name : CommandName) → after ≡ before → WereDriven gives name chosen texts before after
   kept name same = inl (ap (λ (s : Streams). s.output) same)
 
-  drives_written : (loaded : Result Loaded CommandFault) (later : W) (outcome : Result Answer CommandFault) → Loads gives (pair_in chosen) texts loaded later
+  drives_written : (loaded : Result Loaded CommandFault) (later : W) (outcome : Result Answer CommandFault) → Loads gives (inputs_in chosen) texts loaded later
       → Drives (protocol_in chosen) loaded before after outcome → WereDriven gives Drive chosen texts before after
   drives_written (Err fault) later outcome loads is = kept Drive is.1
   drives_written (Ok (NotShaped fault)) later outcome loads is = kept Drive is.1
@@ -160,7 +160,7 @@ module _ {W : Type 0} (gives : W → List ℕ → Result (List ℕ) CommandFault
   hub_written (Ok (AllAccepted cells)) later outcome loads is =
       inr (inr (inr (inl (refl, record { cells = cells.items; loaded = Ok (AllAccepted cells); later = later; loads = loads; accepted = refl; end = is.end; are = is.are }))))
 
-  module _ (p : PlannedShop) (mid : W) (shapes : Shapes gives (pair_in chosen) texts (Ok (Ok p)) mid) (later : W) (outcome : Result Answer CommandFault) where
+  module _ (p : PlannedShop) (mid : W) (shapes : Shapes gives (inputs_in chosen) texts (Ok (Ok p)) mid) (later : W) (outcome : Result Answer CommandFault) where
     recovered_written : (text : List ℕ) (recovered : Result Recovered ResumeFault) → Asks gives (file_at chosen 2) mid (Ok text) later → IsRecovery p chosen.at text recovered
         → ResumesRecovered (protocol_in chosen) recovered before after outcome → WereDriven gives Resume chosen texts before after
     recovered_written text (Ok t) asks takes is =
@@ -172,33 +172,33 @@ module _ {W : Type 0} (gives : W → List ℕ → Result (List ℕ) CommandFault
     text_written (Ok text) asks is = recovered_written text is.0 asks is.1 is.2
     text_written (Err fault) asks is = kept Resume is.1
 
-  resumes_written : (shaped : Result (Result PlannedShop ShapeFault) CommandFault) (mid later : W) (outcome : Result Answer CommandFault) → Shapes gives (pair_in chosen) texts shaped mid
+  resumes_written : (shaped : Result (Result PlannedShop ShapeFault) CommandFault) (mid later : W) (outcome : Result Answer CommandFault) → Shapes gives (inputs_in chosen) texts shaped mid
       → Resumes gives (protocol_in chosen) chosen.at (file_at chosen 2) shaped mid before outcome later after → WereDriven gives Resume chosen texts before after
   resumes_written (Err fault) mid later outcome shapes is = kept Resume is.1
   resumes_written (Ok (Err fault)) mid later outcome shapes is = kept Resume is.1
   resumes_written (Ok (Ok p)) mid later outcome shapes is = text_written p mid shapes later outcome is.text is.asks is.resumes
 
-  schedule_drawn : (drawn : Result Drawn CommandFault) (later : W) (outcome : Result Answer CommandFault) → DrawsTimetable gives chosen.at (pair_in chosen) (names_in chosen) (log_in chosen) texts drawn later
+  schedule_drawn : (drawn : Result Drawn CommandFault) (later : W) (outcome : Result Answer CommandFault) → DrawsTimetable gives chosen.at (inputs_in chosen) (names_in chosen) (log_in chosen) texts drawn later
       → Draws drawn before after outcome → WereDriven gives Schedule chosen texts before after
   schedule_drawn (Err fault) later outcome came is = kept Schedule is.1
   schedule_drawn (Ok (LineDrawn answer)) later outcome came is = kept Schedule is.1
   schedule_drawn (Ok (Picture picture status)) later outcome came is =
       inr (inr (inr (inr (inl (refl, record { picture = picture; status = status; later = later; came = came; outcome = outcome; out = is.1 })))))
 
-  log_drawn : (drawn : Result Drawn CommandFault) (later : W) (outcome : Result Answer CommandFault) → DrawsLog gives (pair_in chosen) (names_in chosen) (file_at chosen 2) texts drawn later
+  log_drawn : (drawn : Result Drawn CommandFault) (later : W) (outcome : Result Answer CommandFault) → DrawsLog gives (inputs_in chosen) (names_in chosen) (file_at chosen 2) texts drawn later
       → Draws drawn before after outcome → WereDriven gives Gantt chosen texts before after
   log_drawn (Err fault) later outcome came is = kept Gantt is.1
   log_drawn (Ok (LineDrawn answer)) later outcome came is = kept Gantt is.1
   log_drawn (Ok (Picture picture status)) later outcome came is =
       inr (inr (inr (inr (inr (refl, record { picture = picture; status = status; later = later; came = came; outcome = outcome; out = is.1 })))))
 
-  timetable_written : (form : Timetable) (later : W) (outcome : Result Answer CommandFault) → RunsTimetable gives form chosen.at (pair_in chosen) (names_in chosen) (log_in chosen) texts before outcome later after
+  timetable_written : (form : Timetable) (later : W) (outcome : Result Answer CommandFault) → RunsTimetable gives form chosen.at (inputs_in chosen) (names_in chosen) (log_in chosen) texts before outcome later after
       → WereDriven gives Schedule chosen texts before after
   timetable_written Moments later outcome run = kept Schedule run.1
   timetable_written Moves later outcome run = kept Schedule run.1
   timetable_written DrawnForm later outcome run = schedule_drawn run.drawn later outcome run.came run.draws
 
-  drawing_written : (svg : Bool) (later : W) (outcome : Result Answer CommandFault) → RunsDrawing gives svg (pair_in chosen) (names_in chosen) (file_at chosen 2) texts before outcome later after
+  drawing_written : (svg : Bool) (later : W) (outcome : Result Answer CommandFault) → RunsDrawing gives svg (inputs_in chosen) (names_in chosen) (file_at chosen 2) texts before outcome later after
       → WereDriven gives Gantt chosen texts before after
   drawing_written false later outcome run = kept Gantt run.1
   drawing_written true later outcome run = log_drawn run.drawn later outcome run.came run.draws
@@ -260,7 +260,7 @@ picture_shown picture status before after (Err fault) out = inr out.2
 driven_shown : {W : Type 0} (gives : W → List ℕ → Result (List ℕ) CommandFault → W → Type 0) (chosen : Chosen) (texts : W) (before after : Streams) (name : CommandName)
     → WereDriven gives name chosen texts before after → before.output.pending ≡ [] → HoldsNothing after.output
 driven_shown gives chosen texts before after name (inl same) none = inl (ap (λ (o : Output). o.pending) same ∙ none)
-driven_shown gives chosen texts before after name (inr (inl (is, inr drove))) none = logged_shown gives (protocol_in chosen) (pair_in chosen) texts before after drove none
+driven_shown gives chosen texts before after name (inr (inl (is, inr drove))) none = logged_shown gives (protocol_in chosen) (inputs_in chosen) texts before after drove none
 driven_shown gives chosen texts before after name (inr (inl (is, inl drove))) none =
     drive_shown (protocol_in chosen) drove.cell before after drove.end drove.is none
 driven_shown gives chosen texts before after name (inr (inr (inl (is, drove)))) none = resume_shown (protocol_in chosen) drove.recovered before after drove.end drove.is none
@@ -310,7 +310,7 @@ module _ {W : Type 0} (gives : W → List ℕ → Result (List ℕ) CommandFault
   chosen_written : (log : Option (List ℕ)) → kept_log_in chosen ≡ log → RunsChosen gives log chosen before outcome mid after end → WereDriven gives chosen.name chosen before.texts before.streams mid
   chosen_written None none run = written gives chosen before.texts before.streams mid chosen.name after.texts outcome run.0
   chosen_written (Some path) keeps run =
-      elim (logged_written gives (pair_in chosen) (protocol_in chosen) before.texts after.texts before.streams mid outcome end before.folder after.folder path chosen.start chosen.at run.shaped run.shapes run.drives) [
+      elim (logged_written gives (inputs_in chosen) (protocol_in chosen) before.texts after.texts before.streams mid outcome end before.folder after.folder path chosen.start chosen.at run.shaped run.shapes run.drives) [
         | inl same ↦ inl same
         | inr drove ↦ inr (inl (keeper chosen.name (option_map string_bytes chosen.log) path keeps, inr drove))
       ]

@@ -44,10 +44,10 @@ module _ (made more : Asked) (rounds : ℕ) (less : (p q : PlannedShop) → made
 
 -- what improvers do is done by ones that may answer more
 runs_more : {W : Type 0} (gives : W → List ℕ → Result (List ℕ) CommandFault → W → Type 0) (made more : Asked) → ((p q : PlannedShop) → made p q → more p q)
-    → (rounds : ℕ) (pair : InputPaths) (before : W) (outcome : Result Answer CommandFault) (after : W)
-    → RunsImprove gives made rounds pair before outcome after → RunsImprove gives more rounds pair before outcome after
-runs_more gives made more less rounds pair before outcome after =
-    then_more (ReadsBoth gives pair) (λ p. Concludes (IsImproveAnswer made rounds (ordered p))) (λ p. Concludes (IsImproveAnswer more rounds (ordered p))) before outcome after
+    → (rounds : ℕ) (inputs : InputPaths) (before : W) (outcome : Result Answer CommandFault) (after : W)
+    → RunsImprove gives made rounds inputs before outcome after → RunsImprove gives more rounds inputs before outcome after
+runs_more gives made more less rounds inputs before outcome after =
+    then_more (ReadsBoth gives inputs) (λ p. Concludes (IsImproveAnswer made rounds (ordered p))) (λ p. Concludes (IsImproveAnswer more rounds (ordered p))) before outcome after
     (λ p last is. (answer_more made more rounds less (ordered p) outcome is.0, is.1))
 
 pub stands_alone : (who : Unit {0}) (n : ℕ) → n < 1 → slice_get (who ∷ []) n ≡ Some who
@@ -77,8 +77,8 @@ module _ (s : Setting) {B : Type 0} (may : B → PlannedShop → Left → ℕ �
 
 -- a search by one improver
 pub improves : {W B : Type 0} (may : B → PlannedShop → Left → ℕ → Proposal → Type 0) (improvers : List B) → length improvers ≡ 1 → (gives : W → List ℕ → Result (List ℕ) CommandFault → W → Type 0)
-    (rounds : ℕ) (pair : InputPaths) (before : W) (outcome : Result Answer CommandFault) (after : W)
-    → RunsImprove gives (Rounds whole_plan may improvers rounds) rounds pair before outcome after
-    → RunsImprove gives (AsksOne rounds) rounds pair before outcome after
-improves may improvers alone gives rounds pair before outcome after =
-    runs_more gives (Rounds whole_plan may improvers rounds) (AsksOne rounds) (all_more whole_plan may improvers alone rounds) rounds pair before outcome after
+    (rounds : ℕ) (inputs : InputPaths) (before : W) (outcome : Result Answer CommandFault) (after : W)
+    → RunsImprove gives (Rounds whole_plan may improvers rounds) rounds inputs before outcome after
+    → RunsImprove gives (AsksOne rounds) rounds inputs before outcome after
+improves may improvers alone gives rounds inputs before outcome after =
+    runs_more gives (Rounds whole_plan may improvers rounds) (AsksOne rounds) (all_more whole_plan may improvers alone rounds) rounds inputs before outcome after

@@ -68,15 +68,15 @@ module _ (made more : RestAsked) (less : (lines : List (List ℕ)) (t : ℕ) (p 
         )
     with_more log p before outcome after (inr line) = inr line
 
-    runs_more : (pair : InputPaths) (log : List ℕ) (before : W) (outcome : Result Answer CommandFault) (after : W)
-        → RunsImproveRest gives made at rounds pair log before outcome after → RunsImproveRest gives more at rounds pair log before outcome after
-    runs_more pair log before outcome after =
-        then_more (ReadsBoth gives pair) (λ p. WithRest gives made at rounds log (ordered p)) (λ p. WithRest gives more at rounds log (ordered p)) before outcome after
+    runs_more : (inputs : InputPaths) (log : List ℕ) (before : W) (outcome : Result Answer CommandFault) (after : W)
+        → RunsImproveRest gives made at rounds inputs log before outcome after → RunsImproveRest gives more at rounds inputs log before outcome after
+    runs_more inputs log before outcome after =
+        then_more (ReadsBoth gives inputs) (λ p. WithRest gives made at rounds log (ordered p)) (λ p. WithRest gives more at rounds log (ordered p)) before outcome after
         (λ p last is. with_more log (ordered p) last outcome after is)
 
 -- a search by one improver
 pub improves_rest : {W B : Type 0} (gives : W → List ℕ → Result (List ℕ) CommandFault → W → Type 0) (may : B → PlannedShop → Left → ℕ → Proposal → Type 0) (improvers : List B) → length improvers ≡ 1
-    → (at : Option ℕ) (rounds : ℕ) (pair : InputPaths) (log : List ℕ) (before : W) (outcome : Result Answer CommandFault) (after : W)
-    → RunsImproveRest gives (RestRoundsOf rounds may improvers) at rounds pair log before outcome after → RunsImproveRest gives (AsksOneForRest rounds) at rounds pair log before outcome after
-improves_rest gives may improvers alone at rounds pair log before outcome after =
-    runs_more (RestRoundsOf rounds may improvers) (AsksOneForRest rounds) (λ lines t. all_more (rest_after lines t) may improvers alone rounds) at rounds gives pair log before outcome after
+    → (at : Option ℕ) (rounds : ℕ) (inputs : InputPaths) (log : List ℕ) (before : W) (outcome : Result Answer CommandFault) (after : W)
+    → RunsImproveRest gives (RestRoundsOf rounds may improvers) at rounds inputs log before outcome after → RunsImproveRest gives (AsksOneForRest rounds) at rounds inputs log before outcome after
+improves_rest gives may improvers alone at rounds inputs log before outcome after =
+    runs_more (RestRoundsOf rounds may improvers) (AsksOneForRest rounds) (λ lines t. all_more (rest_after lines t) may improvers alone rounds) at rounds gives inputs log before outcome after

@@ -1,7 +1,7 @@
 pub mod Planning
 pub mod Improving
 pub mod ImprovingRests
-pub mod Telling
+pub mod Printing
 pub mod Accepting
 pub mod Refusing
 pub mod Revising

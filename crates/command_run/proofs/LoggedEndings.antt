@@ -80,16 +80,16 @@ module _ (folder folder_after : Folder) (path : List ℕ) (start : LogStart) (pr
 
 -- ---- what is written
 
-module _ {W : Type 0} (gives : W → List ℕ → Result (List ℕ) CommandFault → W → Type 0) (pair : InputPaths) (protocol : Protocol) (texts later : W) (before after : Streams)
+module _ {W : Type 0} (gives : W → List ℕ → Result (List ℕ) CommandFault → W → Type 0) (inputs : InputPaths) (protocol : Protocol) (texts later : W) (before after : Streams)
     (outcome : Result Answer CommandFault) (end : Option LogEnd) where
   -- nothing, or what the cell answered
   abbrev Written : Type 0
-  Written = (after.output ≡ before.output) ⊎ DroveWithLog gives protocol pair texts before after
+  Written = (after.output ≡ before.output) ⊎ DroveWithLog gives protocol inputs texts before after
 
   unwritten : after ≡ before → Written
   unwritten same = inl (ap (λ (s : Streams). s.output) same)
 
-  module _ (p : PlannedShop) (shapes : Shapes gives pair texts (Ok (Ok p)) later) where
+  module _ (p : PlannedShop) (shapes : Shapes gives inputs texts (Ok (Ok p)) later) where
     begun : (folder folder_after : Folder) (path : List ℕ) (there : Bool) (verdict : Verdict) → IsVerdict p verdict
         → BeginsBy folder folder_after path protocol there verdict (step_of before outcome after end) → Written
     begun folder folder_after path there (Refused back why) is by = unwritten by.1.same
@@ -121,7 +121,7 @@ module _ {W : Type 0} (gives : W → List ℕ → Result (List ℕ) CommandFault
     opened_written folder folder_after path start at (Err fault) is = unwritten is.1
     opened_written folder folder_after path start at (Ok there) is = as_asked (handed_if (is_some there) folder) folder_after path at is.misfit there is.drives
 
-  pub logged_written : (folder folder_after : Folder) (path : List ℕ) (start : LogStart) (at : Option ℕ) (shaped : Result (Result PlannedShop ShapeFault) CommandFault) → Shapes gives pair texts shaped later
+  pub logged_written : (folder folder_after : Folder) (path : List ℕ) (start : LogStart) (at : Option ℕ) (shaped : Result (Result PlannedShop ShapeFault) CommandFault) → Shapes gives inputs texts shaped later
       → DrivesShaped folder folder_after path start protocol at shaped (step_of before outcome after end) → Written
   logged_written folder folder_after path start at (Err fault) shapes is = unwritten is.1.same
   logged_written folder folder_after path start at (Ok (Err fault)) shapes is = unwritten is.1.same
@@ -142,9 +142,9 @@ gone_on_shown protocol t mid (Ok done) step parses run = run.shows.shown
 gone_on_shown protocol t mid (Err fault) step parses is =
     subst (λ (s : Streams). HoldsNothing s.output) (sym is.1) (plan_answer_shown protocol t step.before.output mid fault parses)
 
-pub logged_shown : {W : Type 0} (gives : W → List ℕ → Result (List ℕ) CommandFault → W → Type 0) (protocol : Protocol) (pair : InputPaths) (texts : W) (before after : Streams)
-    (drove : DroveWithLog gives protocol pair texts before after) → before.output.pending ≡ [] → HoldsNothing after.output
-logged_shown gives protocol pair texts before after drove none = elim drove.is [
+pub logged_shown : {W : Type 0} (gives : W → List ℕ → Result (List ℕ) CommandFault → W → Type 0) (protocol : Protocol) (inputs : InputPaths) (texts : W) (before after : Streams)
+    (drove : DroveWithLog gives protocol inputs texts before after) → before.output.pending ≡ [] → HoldsNothing after.output
+logged_shown gives protocol inputs texts before after drove none = elim drove.is [
   | inl (v, same, run) ↦ run.shows.shown
   | inr (t, same, on) ↦ gone_on_shown protocol t on.mid on.replay (step_of before drove.outcome after drove.log) on.replays on.goes_on
 ]

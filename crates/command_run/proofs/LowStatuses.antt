@@ -46,7 +46,7 @@ use Rattle.command_answers.specs.declared.cells.Cells.TheVariants.{Accepted as A
 use Rattle.command_answers.specs.declared.command_fault.CommandFault.{CommandFault}
 use Rattle.command_answers.specs.declared.loading.Loaded.{Loaded}
 use Rattle.command_answers.specs.declared.loading.Loaded.TheVariants.{NotShaped, Judged}
-use Rattle.command_answers.specs.Steps.{Then, GoesOn, Concludes, IsOrMemory}
+use Rattle.command_answers.specs.Steps.{Then, AndThen, Concludes, IsOrMemory}
 use Rattle.command_answers.specs.Readings.{AreFactsAnswered}
 use Rattle.command_answers.specs.Shapes.{IsShapeLine, IsNotShapedLine}
 use Rattle.command_answers.specs.Checks.{IsCheckLine, IsLineOf, accepted_in, verdict_status}
@@ -89,7 +89,7 @@ use Rattle.command_answers.specs.ImprovingRests.{RestAsked, IsRestAnswer}
 use Rattle.command_run.specs.Choosers.{Decides}
 use Rattle.command_run.specs.Improvers.{AsksOne, AsksOneForRest, ImprovesPlan, ImprovesRest, Improves}
 use Rattle.command_answers.specs.Commands.{RunsPlanAnswer}
-use Rattle.command_run.specs.Program.{RunsCommand, aim_in, file_at, form_in, log_in, names_in, protocol_in, name_in, pair_in, plans_in}
+use Rattle.command_run.specs.Program.{RunsCommand, aim_in, file_at, form_in, log_in, names_in, protocol_in, name_in, inputs_in, plans_in}
 
 -- the answer's status is 0 or 1
 abbrev pub IsLow : Result Answer CommandFault → Type 0
@@ -99,7 +99,7 @@ IsLow (Err fault) = Unit {0}
 -- ---- what each outcome of a chain of steps is
 
 held_on : {W A B : Type 0} (P : Result B CommandFault → Type 0) (next : A → W → Result B CommandFault → W → Type 0) (came : Result A CommandFault) (mid : W) (outcome : Result B CommandFault) (after : W)
-    → ((fault : CommandFault) → P (Err fault)) → ((a : A) → next a mid outcome after → P outcome) → GoesOn next came mid outcome after → P outcome
+    → ((fault : CommandFault) → P (Err fault)) → ((a : A) → next a mid outcome after → P outcome) → AndThen next came mid outcome after → P outcome
 held_on P next (Ok a) mid outcome after failed each on = each a on
 held_on P next (Err fault) mid outcome after failed each on = subst P (sym on.0) (failed fault)
 
@@ -403,9 +403,9 @@ low_drives_all protocol (Ok (AllAccepted cells)) before after outcome low is = l
 -- ---- the commands
 
 module _ {W : Type 0} (gives : W → List ℕ → Result (List ℕ) CommandFault → W → Type 0) where
-  low_both : (pair : InputPaths) (next : PlannedShop → W → Result Answer CommandFault → W → Type 0) (texts : W) (outcome : Result Answer CommandFault) (after : W)
-      → ((p : PlannedShop) (mid : W) → next p mid outcome after → IsLow outcome) → WithBoth gives pair next texts outcome after → IsLow outcome
-  low_both pair next texts outcome after each run = held IsLow _ next texts outcome after low_failed each run
+  low_both : (inputs : InputPaths) (next : PlannedShop → W → Result Answer CommandFault → W → Type 0) (texts : W) (outcome : Result Answer CommandFault) (after : W)
+      → ((p : PlannedShop) (mid : W) → next p mid outcome after → IsLow outcome) → WithBoth gives inputs next texts outcome after → IsLow outcome
+  low_both inputs next texts outcome after each run = held IsLow _ next texts outcome after low_failed each run
 
   low_with_log_of : (Comes : PlannedShop → List ℕ → Result Answer CommandFault → Type 0) → ((p : PlannedShop) (text : List ℕ) (outcome : Result Answer CommandFault) → Comes p text outcome → IsLow outcome)
       → (log : List ℕ) (p : PlannedShop) (mid : W) (outcome : Result Answer CommandFault) (after : W) → WithLogOf gives Comes log p mid outcome after → IsLow outcome
@@ -439,42 +439,42 @@ module _ {W : Type 0} (gives : W → List ℕ → Result (List ℕ) CommandFault
 
   -- a line for a plan that is well shaped, with names
   low_named : (Is : NameBook → PlannedShop → Answer → Type 0) → ((book : NameBook) (p : PlannedShop) (answer : Answer) → Is book p answer → answer.status ≤ 1)
-      → (pair : InputPaths) (names : Option (List ℕ)) (texts : W) (outcome : Result Answer CommandFault) (after : W)
-      → WithBoth gives pair (λ p. IfShaped gives p (WithNames gives names p (λ book. IsOrMemory (Is book p)))) texts outcome after → IsLow outcome
-  low_named Is each pair names texts outcome after run =
-      low_both pair (λ p. IfShaped gives p (WithNames gives names p (λ book. IsOrMemory (Is book p)))) texts outcome after
+      → (inputs : InputPaths) (names : Option (List ℕ)) (texts : W) (outcome : Result Answer CommandFault) (after : W)
+      → WithBoth gives inputs (λ p. IfShaped gives p (WithNames gives names p (λ book. IsOrMemory (Is book p)))) texts outcome after → IsLow outcome
+  low_named Is each inputs names texts outcome after run =
+      low_both inputs (λ p. IfShaped gives p (WithNames gives names p (λ book. IsOrMemory (Is book p)))) texts outcome after
       (λ p mid on. low_if_shaped (WithNames gives names p (λ book. IsOrMemory (Is book p))) p mid outcome after
       (low_with_names (λ book. IsOrMemory (Is book p)) (λ book answered. low_or (Is book p) answered (each book p)) names p mid outcome after) on) run
 
   -- and with a log
   low_named_and_logged : (Is : NameBook → PlannedShop → List ℕ → Answer → Type 0) → ((book : NameBook) (p : PlannedShop) (text : List ℕ) (answer : Answer) → Is book p text answer → answer.status ≤ 1)
-      → (pair : InputPaths) (names : Option (List ℕ)) (log : List ℕ) (texts : W) (outcome : Result Answer CommandFault) (after : W)
-      → WithBoth gives pair (λ p. IfShaped gives p (WithNamesAndLog gives names log p (λ book. Is book p))) texts outcome after → IsLow outcome
-  low_named_and_logged Is each pair names log texts outcome after run =
-      low_both pair (λ p. IfShaped gives p (WithNamesAndLog gives names log p (λ book. Is book p))) texts outcome after
+      → (inputs : InputPaths) (names : Option (List ℕ)) (log : List ℕ) (texts : W) (outcome : Result Answer CommandFault) (after : W)
+      → WithBoth gives inputs (λ p. IfShaped gives p (WithNamesAndLog gives names log p (λ book. Is book p))) texts outcome after → IsLow outcome
+  low_named_and_logged Is each inputs names log texts outcome after run =
+      low_both inputs (λ p. IfShaped gives p (WithNamesAndLog gives names log p (λ book. Is book p))) texts outcome after
       (λ p mid on. low_if_shaped (WithNamesAndLog gives names log p (λ book. Is book p)) p mid outcome after
       (low_names_and_log (λ book. Is book p) (λ book. each book p) names log p mid outcome after) on) run
 
-  low_answer_by : (wanted : PlanAnswer) (at : Option ℕ) (pair : InputPaths) (names log : Option (List ℕ)) (texts : W) (outcome : Result Answer CommandFault) (after : W)
-      → RunsPlanAnswer gives wanted at pair names log texts outcome after → IsLow outcome
-  low_answer_by wanted at pair names (Some log) texts outcome after run =
-      low_both pair (λ p. IfShaped gives p (IfThere gives (job_asked wanted) p (WithNamesAndLog gives names log p (λ book. IsRestLine book wanted at p)))) texts outcome after
+  low_answer_by : (wanted : PlanAnswer) (at : Option ℕ) (inputs : InputPaths) (names log : Option (List ℕ)) (texts : W) (outcome : Result Answer CommandFault) (after : W)
+      → RunsPlanAnswer gives wanted at inputs names log texts outcome after → IsLow outcome
+  low_answer_by wanted at inputs names (Some log) texts outcome after run =
+      low_both inputs (λ p. IfShaped gives p (IfThere gives (job_asked wanted) p (WithNamesAndLog gives names log p (λ book. IsRestLine book wanted at p)))) texts outcome after
       (λ p mid on. low_if_shaped (IfThere gives (job_asked wanted) p (WithNamesAndLog gives names log p (λ book. IsRestLine book wanted at p))) p mid outcome after
       (low_if_there (job_asked wanted) (WithNamesAndLog gives names log p (λ book. IsRestLine book wanted at p)) p mid outcome after
       (low_names_and_log (λ book. IsRestLine book wanted at p) (λ book. low_rest book wanted at p) names log p mid outcome after)) on) run
-  low_answer_by OfVerdict at pair names None texts outcome after run =
-      low_both pair (λ p. Concludes (IsOrMemory (IsCheckLine p))) texts outcome after (λ p mid on. low_or (IsCheckLine p) outcome (low_check p) on.0) run
-  low_answer_by (Reasons job) at pair names None texts outcome after run =
-      low_both pair (λ p. IfShaped gives p (IfThere gives job p (WithNames gives names p (λ book. IsOrMemory (IsPlanExplained book job p))))) texts outcome after
+  low_answer_by OfVerdict at inputs names None texts outcome after run =
+      low_both inputs (λ p. Concludes (IsOrMemory (IsCheckLine p))) texts outcome after (λ p mid on. low_or (IsCheckLine p) outcome (low_check p) on.0) run
+  low_answer_by (Reasons job) at inputs names None texts outcome after run =
+      low_both inputs (λ p. IfShaped gives p (IfThere gives job p (WithNames gives names p (λ book. IsOrMemory (IsPlanExplained book job p))))) texts outcome after
       (λ p mid on. low_if_shaped (IfThere gives job p (WithNames gives names p (λ book. IsOrMemory (IsPlanExplained book job p)))) p mid outcome after
       (low_if_there job (WithNames gives names p (λ book. IsOrMemory (IsPlanExplained book job p))) p mid outcome after
       (low_with_names (λ book. IsOrMemory (IsPlanExplained book job p)) (λ book said. low_or (IsPlanExplained book job p) said (low_explained book job p)) names p mid outcome after)) on) run
-  low_answer_by Moments at pair names None texts outcome after run = low_named IsPlanScheduled low_scheduled pair names texts outcome after run
+  low_answer_by Moments at inputs names None texts outcome after run = low_named IsPlanScheduled low_scheduled inputs names texts outcome after run
 
-  low_moves_answered : (at : Option ℕ) (pair : InputPaths) (names log : Option (List ℕ)) (texts : W) (outcome : Result Answer CommandFault) (after : W) → AnswersMoves gives at pair names log texts outcome after → IsLow outcome
-  low_moves_answered at pair names None texts outcome after run = low_named AreMovesOfPlan (λ book p. low_moves book p (start p) 0) pair names texts outcome after run
-  low_moves_answered at pair names (Some log) texts outcome after run =
-      low_named_and_logged (λ book p. AreMovesOfLog book at p) (λ book p. low_log_moves book at p) pair names log texts outcome after run
+  low_moves_answered : (at : Option ℕ) (inputs : InputPaths) (names log : Option (List ℕ)) (texts : W) (outcome : Result Answer CommandFault) (after : W) → AnswersMoves gives at inputs names log texts outcome after → IsLow outcome
+  low_moves_answered at inputs names None texts outcome after run = low_named AreMovesOfPlan (λ book p. low_moves book p (start p) 0) inputs names texts outcome after run
+  low_moves_answered at inputs names (Some log) texts outcome after run =
+      low_named_and_logged (λ book p. AreMovesOfLog book at p) (λ book p. low_log_moves book at p) inputs names log texts outcome after run
 
   low_drawable : (next : W → Result Drawn CommandFault → W → Type 0) (p : PlannedShop) (mid : W) (drawn : Result Drawn CommandFault) (after : W)
       → (next mid drawn after → IsLowDrawn drawn) → IfDrawable p next mid drawn after → IsLowDrawn drawn
@@ -487,78 +487,78 @@ module _ {W : Type 0} (gives : W → List ℕ → Result (List ℕ) CommandFault
       held IsLowDrawn _ (λ book. Then (Asks gives log) (λ text. Concludes (IsOrMemory (IsDrawing book text)))) mid drawn after low_drawn_failed
       (λ book later on. held IsLowDrawn _ (λ text. Concludes (IsOrMemory (IsDrawing book text))) later drawn after low_drawn_failed (λ text last said. each book text drawn said.0) on) run
 
-  low_schedule_picture : (pair : InputPaths) (names : Option (List ℕ)) (texts : W) (drawn : Result Drawn CommandFault) (after : W) → DrawsSchedule gives pair names texts drawn after → IsLowDrawn drawn
-  low_schedule_picture pair names texts drawn after came =
+  low_schedule_picture : (inputs : InputPaths) (names : Option (List ℕ)) (texts : W) (drawn : Result Drawn CommandFault) (after : W) → DrawsSchedule gives inputs names texts drawn after → IsLowDrawn drawn
+  low_schedule_picture inputs names texts drawn after came =
       held IsLowDrawn _ (λ p. IfDrawable p (WithNames gives names p (λ book. IsOrMemory (IsPlanDrawn book p)))) texts drawn after low_drawn_failed
       (λ p mid on. low_drawable (WithNames gives names p (λ book. IsOrMemory (IsPlanDrawn book p))) p mid drawn after
       (λ run. held IsLowDrawn _ (λ book. Concludes (IsOrMemory (IsPlanDrawn book p))) mid drawn after low_drawn_failed (λ book later said. low_plan_drawn book p drawn said.0) run) on) came
 
-  low_rest_picture : (at : Option ℕ) (pair : InputPaths) (names : Option (List ℕ)) (log : List ℕ) (texts : W) (drawn : Result Drawn CommandFault) (after : W) → DrawsRest gives at pair names log texts drawn after → IsLowDrawn drawn
-  low_rest_picture at pair names log texts drawn after came =
+  low_rest_picture : (at : Option ℕ) (inputs : InputPaths) (names : Option (List ℕ)) (log : List ℕ) (texts : W) (drawn : Result Drawn CommandFault) (after : W) → DrawsRest gives at inputs names log texts drawn after → IsLowDrawn drawn
+  low_rest_picture at inputs names log texts drawn after came =
       held IsLowDrawn _ (λ p. IfDrawable p (WithNamesAndLog gives names log p (λ book. IsRestDrawing at book p))) texts drawn after low_drawn_failed
       (λ p mid on. low_drawable (WithNamesAndLog gives names log p (λ book. IsRestDrawing at book p)) p mid drawn after
       (low_named_log (λ book. IsRestDrawing at book p) (λ book. low_rest_drawing at book p) names log p mid drawn after) on) came
 
-  low_timetable_picture : (at : Option ℕ) (pair : InputPaths) (names log : Option (List ℕ)) (texts : W) (drawn : Result Drawn CommandFault) (after : W) → DrawsTimetable gives at pair names log texts drawn after → IsLowDrawn drawn
-  low_timetable_picture at pair names None texts drawn after came = low_schedule_picture pair names texts drawn after came
-  low_timetable_picture at pair names (Some log) texts drawn after came = low_rest_picture at pair names log texts drawn after came
+  low_timetable_picture : (at : Option ℕ) (inputs : InputPaths) (names log : Option (List ℕ)) (texts : W) (drawn : Result Drawn CommandFault) (after : W) → DrawsTimetable gives at inputs names log texts drawn after → IsLowDrawn drawn
+  low_timetable_picture at inputs names None texts drawn after came = low_schedule_picture inputs names texts drawn after came
+  low_timetable_picture at inputs names (Some log) texts drawn after came = low_rest_picture at inputs names log texts drawn after came
 
-  low_log_picture : (pair : InputPaths) (names : Option (List ℕ)) (log : List ℕ) (texts : W) (drawn : Result Drawn CommandFault) (after : W) → DrawsLog gives pair names log texts drawn after → IsLowDrawn drawn
-  low_log_picture pair names log texts drawn after came =
+  low_log_picture : (inputs : InputPaths) (names : Option (List ℕ)) (log : List ℕ) (texts : W) (drawn : Result Drawn CommandFault) (after : W) → DrawsLog gives inputs names log texts drawn after → IsLowDrawn drawn
+  low_log_picture inputs names log texts drawn after came =
       held IsLowDrawn _ (λ p. IfDrawable p (WithNamesAndLog gives names log p (λ book. IsLogDrawn book p))) texts drawn after low_drawn_failed
       (λ p mid on. low_drawable (WithNamesAndLog gives names log p (λ book. IsLogDrawn book p)) p mid drawn after
       (low_named_log (λ book. IsLogDrawn book p) (λ book. low_log_drawn book p) names log p mid drawn after) on) came
 
-  low_timetable : (form : Timetable) (at : Option ℕ) (pair : InputPaths) (names log : Option (List ℕ)) (texts : W) (before : Streams) (outcome : Result Answer CommandFault) (texts_after : W) (after : Streams)
-      → RunsTimetable gives form at pair names log texts before outcome texts_after after → IsLow outcome
-  low_timetable ByMoments at pair names log texts before outcome texts_after after run = low_answer_by Moments at pair names log texts outcome texts_after run.0
-  low_timetable ByMoves at pair names log texts before outcome texts_after after run = low_moves_answered at pair names log texts outcome texts_after run.0
-  low_timetable AsPicture at pair names log texts before outcome texts_after after run =
-      low_draws run.drawn before after outcome (low_timetable_picture at pair names log texts run.drawn texts_after run.came) run.draws
+  low_timetable : (form : Timetable) (at : Option ℕ) (inputs : InputPaths) (names log : Option (List ℕ)) (texts : W) (before : Streams) (outcome : Result Answer CommandFault) (texts_after : W) (after : Streams)
+      → RunsTimetable gives form at inputs names log texts before outcome texts_after after → IsLow outcome
+  low_timetable ByMoments at inputs names log texts before outcome texts_after after run = low_answer_by Moments at inputs names log texts outcome texts_after run.0
+  low_timetable ByMoves at inputs names log texts before outcome texts_after after run = low_moves_answered at inputs names log texts outcome texts_after run.0
+  low_timetable AsPicture at inputs names log texts before outcome texts_after after run =
+      low_draws run.drawn before after outcome (low_timetable_picture at inputs names log texts run.drawn texts_after run.came) run.draws
 
-  low_drawing : (svg : Bool) (pair : InputPaths) (names : Option (List ℕ)) (log : List ℕ) (texts : W) (before : Streams) (outcome : Result Answer CommandFault) (texts_after : W) (after : Streams)
-      → RunsDrawing gives svg pair names log texts before outcome texts_after after → IsLow outcome
-  low_drawing false pair names log texts before outcome texts_after after run =
-      low_named_and_logged (λ book. IsLogLine book Drawing) (λ book. low_log book Drawing) pair names log texts outcome texts_after run.0
-  low_drawing true pair names log texts before outcome texts_after after run =
-      low_draws run.drawn before after outcome (low_log_picture pair names log texts run.drawn texts_after run.came) run.draws
+  low_drawing : (svg : Bool) (inputs : InputPaths) (names : Option (List ℕ)) (log : List ℕ) (texts : W) (before : Streams) (outcome : Result Answer CommandFault) (texts_after : W) (after : Streams)
+      → RunsDrawing gives svg inputs names log texts before outcome texts_after after → IsLow outcome
+  low_drawing false inputs names log texts before outcome texts_after after run =
+      low_named_and_logged (λ book. IsLogLine book Drawing) (λ book. low_log book Drawing) inputs names log texts outcome texts_after run.0
+  low_drawing true inputs names log texts before outcome texts_after after run =
+      low_draws run.drawn before after outcome (low_log_picture inputs names log texts run.drawn texts_after run.came) run.draws
 
-  low_seeks : (rounds : ℕ) (pair : InputPaths) (texts : W) (outcome : Result Answer CommandFault) (after : W)
-      → SeeksPlan gives rounds pair texts outcome after → IsLow outcome
-  low_seeks rounds pair texts outcome after (inl run) =
-      low_both pair (λ p. Concludes (IsSearchAnswer (search_by_two (task_in p)) rounds)) texts outcome after (λ p mid on. low_sought (search_by_two (task_in p)) rounds outcome on.0) run
-  low_seeks rounds pair texts outcome after (inr no_memory) = subst IsLow (sym no_memory.0) tt
+  low_seeks : (rounds : ℕ) (inputs : InputPaths) (texts : W) (outcome : Result Answer CommandFault) (after : W)
+      → SeeksPlan gives rounds inputs texts outcome after → IsLow outcome
+  low_seeks rounds inputs texts outcome after (inl run) =
+      low_both inputs (λ p. Concludes (IsSearchAnswer (search_by_two (task_in p)) rounds)) texts outcome after (λ p mid on. low_sought (search_by_two (task_in p)) rounds outcome on.0) run
+  low_seeks rounds inputs texts outcome after (inr no_memory) = subst IsLow (sym no_memory.0) tt
 
-  low_improves : (rounds : ℕ) (pair : InputPaths) (texts : W) (outcome : Result Answer CommandFault) (after : W)
-      → ImprovesPlan gives rounds pair texts outcome after → IsLow outcome
-  low_improves rounds pair texts outcome after (inl run) =
-      low_both pair (λ p. Concludes (IsImproveAnswer (AsksOne rounds) rounds (ordered p))) texts outcome after (λ p mid on. low_improved (AsksOne rounds) rounds (ordered p) outcome on.0) run
-  low_improves rounds pair texts outcome after (inr no_memory) = subst IsLow (sym no_memory.0) tt
+  low_improves : (rounds : ℕ) (inputs : InputPaths) (texts : W) (outcome : Result Answer CommandFault) (after : W)
+      → ImprovesPlan gives rounds inputs texts outcome after → IsLow outcome
+  low_improves rounds inputs texts outcome after (inl run) =
+      low_both inputs (λ p. Concludes (IsImproveAnswer (AsksOne rounds) rounds (ordered p))) texts outcome after (λ p mid on. low_improved (AsksOne rounds) rounds (ordered p) outcome on.0) run
+  low_improves rounds inputs texts outcome after (inr no_memory) = subst IsLow (sym no_memory.0) tt
 
   low_with_rest : (at : Option ℕ) (rounds : ℕ) (log : List ℕ) (p : PlannedShop) (mid : W) (outcome : Result Answer CommandFault) (after : W)
       → WithRest gives (AsksOneForRest rounds) at rounds log p mid outcome after → IsLow outcome
   low_with_rest at rounds =
       low_with_log_of (λ p text. IsRestAnswer (AsksOneForRest rounds) at rounds (ended_lines text) p) (λ p text. low_rest_answer (AsksOneForRest rounds) at rounds (ended_lines text) p)
 
-  low_rest_improves : (at : Option ℕ) (rounds : ℕ) (pair : InputPaths) (log : List ℕ) (texts : W) (outcome : Result Answer CommandFault) (after : W)
-      → ImprovesRest gives at rounds pair log texts outcome after → IsLow outcome
-  low_rest_improves at rounds pair log texts outcome after (inl run) =
-      low_both pair (λ p. WithRest gives (AsksOneForRest rounds) at rounds log (ordered p)) texts outcome after (λ p mid on. low_with_rest at rounds log (ordered p) mid outcome after on) run
-  low_rest_improves at rounds pair log texts outcome after (inr no_memory) = subst IsLow (sym no_memory.0) tt
+  low_rest_improves : (at : Option ℕ) (rounds : ℕ) (inputs : InputPaths) (log : List ℕ) (texts : W) (outcome : Result Answer CommandFault) (after : W)
+      → ImprovesRest gives at rounds inputs log texts outcome after → IsLow outcome
+  low_rest_improves at rounds inputs log texts outcome after (inl run) =
+      low_both inputs (λ p. WithRest gives (AsksOneForRest rounds) at rounds log (ordered p)) texts outcome after (λ p mid on. low_with_rest at rounds log (ordered p) mid outcome after on) run
+  low_rest_improves at rounds inputs log texts outcome after (inr no_memory) = subst IsLow (sym no_memory.0) tt
 
-  low_bettered : (at : Option ℕ) (rounds : ℕ) (pair : InputPaths) (log : Option (List ℕ)) (texts : W) (outcome : Result Answer CommandFault) (after : W)
-      → Improves gives at rounds pair log texts outcome after → IsLow outcome
-  low_bettered at rounds pair None texts outcome after run = low_improves rounds pair texts outcome after run
-  low_bettered at rounds pair (Some log) texts outcome after run = low_rest_improves at rounds pair log texts outcome after run
+  low_bettered : (at : Option ℕ) (rounds : ℕ) (inputs : InputPaths) (log : Option (List ℕ)) (texts : W) (outcome : Result Answer CommandFault) (after : W)
+      → Improves gives at rounds inputs log texts outcome after → IsLow outcome
+  low_bettered at rounds inputs None texts outcome after run = low_improves rounds inputs texts outcome after run
+  low_bettered at rounds inputs (Some log) texts outcome after run = low_rest_improves at rounds inputs log texts outcome after run
 
-  low_revises : (file : Bool) (at : Option ℕ) (asked : List AskedChange) (pair : InputPaths) (log : List ℕ) (texts : W) (outcome : Result Answer CommandFault) (after : W)
-      → Revises gives file at asked pair log texts outcome after → IsLow outcome
-  low_revises file at asked pair log texts outcome after (inl run) =
+  low_revises : (file : Bool) (at : Option ℕ) (asked : List AskedChange) (inputs : InputPaths) (log : List ℕ) (texts : W) (outcome : Result Answer CommandFault) (after : W)
+      → Revises gives file at asked inputs log texts outcome after → IsLow outcome
+  low_revises file at asked inputs log texts outcome after (inl run) =
       held IsLow _ _ texts outcome after low_failed
       (λ named mid on. held IsLow _ _ mid outcome after low_failed
       (λ plan later goes. low_with_log_of (λ p. IsReviseAnswer (printed_for file) named.description.items at run.changes (values_asked asked) p)
       (λ p. low_revised (printed_for file) named.description.items at run.changes (values_asked asked) p) log (record { shop = named.shop; plan = plan }) later outcome after goes) on) run.runs
-  low_revises file at asked pair log texts outcome after (inr no_memory) = subst IsLow (sym no_memory.0) tt
+  low_revises file at asked inputs log texts outcome after (inr no_memory) = subst IsLow (sym no_memory.0) tt
 
   -- what comes of a plan whose numbers are sound, with names
   low_sound : (Comes : NameBook → Result Answer CommandFault → Type 0) (names : Option (List ℕ)) (p : PlannedShop) (mid : W) (outcome : Result Answer CommandFault) (after : W)
@@ -574,13 +574,13 @@ module _ {W : Type 0} (gives : W → List ℕ → Result (List ℕ) CommandFault
       (λ text later goes. low_rest_decided book at (ended_lines text) p aim outcome goes.0) on) is
   low_with_decision aim at names log p mid outcome after (inr answered) = low_or (IsUnfitLine p) outcome (λ answer line. one_low answer.status line.line.refused) answered.0
 
-  low_all_decided : (aim : Aim) (at : Option ℕ) (pair : InputPaths) (names log : Option (List ℕ)) (texts : W) (outcome : Result Answer CommandFault) (after : W)
-      → Decides gives aim at pair names log texts outcome after → IsLow outcome
-  low_all_decided aim at pair names None texts outcome after run =
-      low_both pair (λ p. WithSoundNames gives (λ book. IsDecisionAnswer book (whole_case p) aim) names p) texts outcome after
+  low_all_decided : (aim : Aim) (at : Option ℕ) (inputs : InputPaths) (names log : Option (List ℕ)) (texts : W) (outcome : Result Answer CommandFault) (after : W)
+      → Decides gives aim at inputs names log texts outcome after → IsLow outcome
+  low_all_decided aim at inputs names None texts outcome after run =
+      low_both inputs (λ p. WithSoundNames gives (λ book. IsDecisionAnswer book (whole_case p) aim) names p) texts outcome after
       (λ p mid on. low_sound (λ book. IsDecisionAnswer book (whole_case p) aim) names p mid outcome after (λ book is. low_decided book (whole_case p) aim outcome is) on) run
-  low_all_decided aim at pair names (Some log) texts outcome after run =
-      low_both pair (λ p. WithRestDecision gives aim at names log (ordered p)) texts outcome after (λ p mid on. low_with_decision aim at names log (ordered p) mid outcome after on) run
+  low_all_decided aim at inputs names (Some log) texts outcome after run =
+      low_both inputs (λ p. WithRestDecision gives aim at names log (ordered p)) texts outcome after (λ p mid on. low_with_decision aim at names log (ordered p) mid outcome after on) run
 
   low_resumes : (protocol : Protocol) (at : Option ℕ) (log : List ℕ) (shaped : Result (Result PlannedShop ShapeFault) CommandFault) (texts : W) (before : Streams) (outcome : Result Answer CommandFault) (texts_after : W) (after : Streams)
       → Resumes gives protocol at log shaped texts before outcome texts_after after → IsLow outcome
@@ -597,28 +597,28 @@ module _ {W : Type 0} (gives : W → List ℕ → Result (List ℕ) CommandFault
   low Facts chosen texts before outcome texts_after after run =
       held IsLow _ (λ text. Concludes (AreFactsAnswered text (name_in chosen))) texts outcome texts_after low_failed (λ text mid on. low_facts text (name_in chosen) outcome on.0) run.0
   low Shape chosen texts before outcome texts_after after run =
-      low_both (pair_in chosen) (λ p. Concludes (IsOrMemory (IsShapeLine p))) texts outcome texts_after (λ p mid on. low_or (IsShapeLine p) outcome (low_shape p) on.0) run.0
+      low_both (inputs_in chosen) (λ p. Concludes (IsOrMemory (IsShapeLine p))) texts outcome texts_after (λ p mid on. low_or (IsShapeLine p) outcome (low_shape p) on.0) run.0
   low Check chosen texts before outcome texts_after after run =
-      low_answer_by OfVerdict chosen.at (pair_in chosen) (names_in chosen) (log_in chosen) texts outcome texts_after run.0
+      low_answer_by OfVerdict chosen.at (inputs_in chosen) (names_in chosen) (log_in chosen) texts outcome texts_after run.0
   low Explain chosen texts before outcome texts_after after run =
-      low_answer_by (Reasons chosen.job) chosen.at (pair_in chosen) (names_in chosen) (log_in chosen) texts outcome texts_after run.0
-  low Schedule chosen texts before outcome texts_after after run = low_timetable (form_in chosen) chosen.at (pair_in chosen) (names_in chosen) (log_in chosen) texts before outcome texts_after after run
+      low_answer_by (Reasons chosen.job) chosen.at (inputs_in chosen) (names_in chosen) (log_in chosen) texts outcome texts_after run.0
+  low Schedule chosen texts before outcome texts_after after run = low_timetable (form_in chosen) chosen.at (inputs_in chosen) (names_in chosen) (log_in chosen) texts before outcome texts_after after run
   low Bounds chosen texts before outcome texts_after after run =
-      low_both (pair_in chosen) (λ p. WithSoundNames gives (λ book. IsOrMemory (AreBoundLines book (times_of p) p.plan.budget)) (names_in chosen) p) texts outcome texts_after
+      low_both (inputs_in chosen) (λ p. WithSoundNames gives (λ book. IsOrMemory (AreBoundLines book (times_of p) p.plan.budget)) (names_in chosen) p) texts outcome texts_after
       (λ p mid on. low_sound (λ book. IsOrMemory (AreBoundLines book (times_of p) p.plan.budget)) (names_in chosen) p mid outcome texts_after
       (λ book is. low_or (AreBoundLines book (times_of p) p.plan.budget) outcome (low_bounds book (times_of p) p.plan.budget) is) on) run.0
-  low Margin chosen texts before outcome texts_after after run = low_named IsMarginAnswer low_margin (pair_in chosen) (names_in chosen) texts outcome texts_after run.0
+  low Margin chosen texts before outcome texts_after after run = low_named IsMarginAnswer low_margin (inputs_in chosen) (names_in chosen) texts outcome texts_after run.0
   low Plan chosen texts before outcome texts_after after run = low_seeks chosen.rounds _ texts outcome texts_after run.0
-  low Decide chosen texts before outcome texts_after after run = low_all_decided (aim_in chosen) chosen.at (pair_in chosen) (names_in chosen) (log_in chosen) texts outcome texts_after run.0
-  low Improve chosen texts before outcome texts_after after run = low_bettered chosen.at chosen.rounds (pair_in chosen) (log_in chosen) texts outcome texts_after run.0
-  low Revise chosen texts before outcome texts_after after run = low_revises chosen.file chosen.at chosen.changes.items (pair_in chosen) (file_at chosen 2) texts outcome texts_after run.0
+  low Decide chosen texts before outcome texts_after after run = low_all_decided (aim_in chosen) chosen.at (inputs_in chosen) (names_in chosen) (log_in chosen) texts outcome texts_after run.0
+  low Improve chosen texts before outcome texts_after after run = low_bettered chosen.at chosen.rounds (inputs_in chosen) (log_in chosen) texts outcome texts_after run.0
+  low Revise chosen texts before outcome texts_after after run = low_revises chosen.file chosen.at chosen.changes.items (inputs_in chosen) (file_at chosen 2) texts outcome texts_after run.0
   low Drive chosen texts before outcome texts_after after run = low_drives (protocol_in chosen) run.loaded before after outcome run.drives
   low Resume chosen texts before outcome texts_after after run = low_resumes (protocol_in chosen) chosen.at _ run.shaped run.texts_mid before outcome texts_after after run.resumes
   low Hub chosen texts before outcome texts_after after run =
       low_drives_all (protocol_in chosen) run.loaded before after outcome
       (held IsLowLine _ (λ text. LoadsEach gives text (name_in chosen) [] (plans_in chosen)) texts run.loaded texts_after low_line_failed (λ text mid on. low_loaded gives text (name_in chosen) [] (plans_in chosen) mid run.loaded texts_after on) run.loads) run.drives
   low Digest chosen texts before outcome texts_after after run =
-      low_both (pair_in chosen) (λ p. Concludes (IsOrMemory (IsDigestAnswer p))) texts outcome texts_after (λ p mid on. low_or (IsDigestAnswer p) outcome (low_digest p) on.0) run.0
+      low_both (inputs_in chosen) (λ p. Concludes (IsOrMemory (IsDigestAnswer p))) texts outcome texts_after (λ p mid on. low_or (IsDigestAnswer p) outcome (low_digest p) on.0) run.0
   low Audit chosen texts before outcome texts_after after run =
-      low_named_and_logged (λ book. IsLogLine book Numbers) (λ book. low_log book Numbers) (pair_in chosen) None (file_at chosen 2) texts outcome texts_after run.0
-  low Gantt chosen texts before outcome texts_after after run = low_drawing chosen.svg (pair_in chosen) (names_in chosen) (file_at chosen 2) texts before outcome texts_after after run
+      low_named_and_logged (λ book. IsLogLine book Numbers) (λ book. low_log book Numbers) (inputs_in chosen) None (file_at chosen 2) texts outcome texts_after run.0
+  low Gantt chosen texts before outcome texts_after after run = low_drawing chosen.svg (inputs_in chosen) (names_in chosen) (file_at chosen 2) texts before outcome texts_after after run

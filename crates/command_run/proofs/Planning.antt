@@ -13,7 +13,7 @@ use Rattle.command_answers.specs.declared.answer.Answer.{Answer}
 use Rattle.command_answers.specs.declared.command_fault.CommandFault.{CommandFault}
 use Rattle.command_answers.specs.declared.command_fault.CommandFault.TheVariants.{Instance, Plan, Names, Read, Write, InputTooLong, Log, LogInUse, Memory}
 use Rattle.command_answers.specs.Search.{IsFound, IsSearchLine, IsSearchAnswer}
-use Rattle.command_answers.specs.Steps.{Then, GoesOn, Concludes}
+use Rattle.command_answers.specs.Steps.{Then, AndThen, Concludes}
 use Rattle.command_answers.specs.Commands.{InputPaths, ReadsBoth, RunsPlan}
 use Rattle.command_run.specs.Planners.{MayPlanAt, search_by_two}
 
@@ -64,7 +64,7 @@ module _ (t : PlanTask) (proposers : ℕ) (may wide : Proposals) (within : (turn
 
 -- a step behind another one, where what follows says less
 step_more : {W A B : Type 0} (next more : A → W → Result B CommandFault → W → Type 0) (came : Result A CommandFault) (mid : W) (outcome : Result B CommandFault) (after : W)
-    → ((a : A) → next a mid outcome after → more a mid outcome after) → GoesOn next came mid outcome after → GoesOn more came mid outcome after
+    → ((a : A) → next a mid outcome after → more a mid outcome after) → AndThen next came mid outcome after → AndThen more came mid outcome after
 step_more next more (Ok a) mid outcome after less on = less a on
 step_more next more (Err fault) mid outcome after less on = on
 
@@ -80,10 +80,10 @@ search_with may proposers t = record { task = t; proposers = proposers; may = ma
 -- what planners do is done by ones that may propose more
 pub runs_more : {W : Type 0} (gives : W → List ℕ → Result (List ℕ) CommandFault → W → Type 0) (may wide : JobShop → Proposals)
     → ((shop : JobShop) (turn : Turn) (proposal : Proposal) → may shop turn proposal → wide shop turn proposal)
-    → (proposers rounds : ℕ) (pair : InputPaths) (before : W) (outcome : Result Answer CommandFault) (after : W)
-    → RunsPlan gives (search_with may proposers) rounds pair before outcome after → RunsPlan gives (search_with wide proposers) rounds pair before outcome after
-runs_more gives may wide within proposers rounds pair before outcome after =
-    then_more (ReadsBoth gives pair) (λ p. Concludes (IsSearchAnswer (search_with may proposers (task_in p)) rounds)) (λ p. Concludes (IsSearchAnswer (search_with wide proposers (task_in p)) rounds)) before outcome after
+    → (proposers rounds : ℕ) (inputs : InputPaths) (before : W) (outcome : Result Answer CommandFault) (after : W)
+    → RunsPlan gives (search_with may proposers) rounds inputs before outcome after → RunsPlan gives (search_with wide proposers) rounds inputs before outcome after
+runs_more gives may wide within proposers rounds inputs before outcome after =
+    then_more (ReadsBoth gives inputs) (λ p. Concludes (IsSearchAnswer (search_with may proposers (task_in p)) rounds)) (λ p. Concludes (IsSearchAnswer (search_with wide proposers (task_in p)) rounds)) before outcome after
     (λ p last is. (answer_more (task_in p) proposers (may p.shop) (wide p.shop) (within p.shop) rounds outcome is.0, is.1))
 
 module _ {B : Type 0} (may : B → JobShop → ℕ → Proposal → Type 0) (one two : B)
@@ -107,12 +107,12 @@ AreTheTwo may other = ⊥
 
 -- a search by the two planners
 pub seeks : {W B : Type 0} (gives : W → List ℕ → Result (List ℕ) CommandFault → W → Type 0) (may : B → JobShop → ℕ → Proposal → Type 0) (planners : List B)
-    (rounds : ℕ) (pair : InputPaths) (before : W) (outcome : Result Answer CommandFault) (after : W)
-    → AreTheTwo may planners → RunsPlan gives (search_by may planners) rounds pair before outcome after
-    → RunsPlan gives search_by_two rounds pair before outcome after
-seeks gives may [] rounds pair before outcome after are run = absurd are
-seeks gives may (one ∷ []) rounds pair before outcome after are run = absurd are
-seeks gives may (one ∷ two ∷ []) rounds pair before outcome after are run =
+    (rounds : ℕ) (inputs : InputPaths) (before : W) (outcome : Result Answer CommandFault) (after : W)
+    → AreTheTwo may planners → RunsPlan gives (search_by may planners) rounds inputs before outcome after
+    → RunsPlan gives search_by_two rounds inputs before outcome after
+seeks gives may [] rounds inputs before outcome after are run = absurd are
+seeks gives may (one ∷ []) rounds inputs before outcome after are run = absurd are
+seeks gives may (one ∷ two ∷ []) rounds inputs before outcome after are run =
     runs_more gives (λ shop. MayPropose (λ b. may b shop) (one ∷ two ∷ [])) (λ shop turn. MayPlanAt turn.proposer shop turn.round)
-    (both_may may one two (λ shop round proposal. (are.1 shop round proposal).0)) 2 rounds pair before outcome after run
-seeks gives may (one ∷ two ∷ three ∷ planners) rounds pair before outcome after are run = absurd are
+    (both_may may one two (λ shop round proposal. (are.1 shop round proposal).0)) 2 rounds inputs before outcome after run
+seeks gives may (one ∷ two ∷ three ∷ planners) rounds inputs before outcome after are run = absurd are

@@ -7,5 +7,5 @@ use Rattle.command_answers.specs.Commands.{InputPaths, RunsDecide, RunsDecideRes
 
 -- it is decided of whole plans or, where a log is given, for the rest of its run
 abbrev pub Decides : {W : Type 0} → (W → List ℕ → Result (List ℕ) CommandFault → W → Type 0) → Aim → Option ℕ → InputPaths → Option (List ℕ) → Option (List ℕ) → W → Result Answer CommandFault → W → Type 0
-Decides gives aim at pair names None = RunsDecide gives aim pair names
-Decides gives aim at pair names (Some log) = RunsDecideRest gives aim at pair names log
+Decides gives aim at inputs names None = RunsDecide gives aim inputs names
+Decides gives aim at inputs names (Some log) = RunsDecideRest gives aim at inputs names log

@@ -20,8 +20,8 @@ AsksOne rounds = Rounds whole_plan MayImprove (tt ∷ []) rounds
 
 -- a better plan is sought by the one improver, unless memory runs out before any file is asked for
 abbrev pub ImprovesPlan : {W : Type 0} → (W → List ℕ → Result (List ℕ) CommandFault → W → Type 0) → ℕ → InputPaths → W → Result Answer CommandFault → W → Type 0
-ImprovesPlan gives rounds pair before outcome after =
-    RunsImprove gives (AsksOne rounds) rounds pair before outcome after ⊎ ((outcome ≡ Err Memory) × (after ≡ before))
+ImprovesPlan gives rounds inputs before outcome after =
+    RunsImprove gives (AsksOne rounds) rounds inputs before outcome after ⊎ ((outcome ≡ Err Memory) × (after ≡ before))
 
 -- the same for the rest of a run
 abbrev pub AsksOneForRest : ℕ → RestAsked
@@ -29,10 +29,10 @@ AsksOneForRest rounds lines t = Rounds (rest_after lines t) MayImprove (tt ∷ [
 
 -- a better plan for the rest of the run in a log is sought by the one improver, unless memory runs out before any file is asked for
 abbrev pub ImprovesRest : {W : Type 0} → (W → List ℕ → Result (List ℕ) CommandFault → W → Type 0) → Option ℕ → ℕ → InputPaths → List ℕ → W → Result Answer CommandFault → W → Type 0
-ImprovesRest gives at rounds pair log before outcome after =
-    RunsImproveRest gives (AsksOneForRest rounds) at rounds pair log before outcome after ⊎ ((outcome ≡ Err Memory) × (after ≡ before))
+ImprovesRest gives at rounds inputs log before outcome after =
+    RunsImproveRest gives (AsksOneForRest rounds) at rounds inputs log before outcome after ⊎ ((outcome ≡ Err Memory) × (after ≡ before))
 
 -- a better plan is sought or, where a log is given, one for the rest of its run
 abbrev pub Improves : {W : Type 0} → (W → List ℕ → Result (List ℕ) CommandFault → W → Type 0) → Option ℕ → ℕ → InputPaths → Option (List ℕ) → W → Result Answer CommandFault → W → Type 0
-Improves gives at rounds pair None = ImprovesPlan gives rounds pair
-Improves gives at rounds pair (Some log) = ImprovesRest gives at rounds pair log
+Improves gives at rounds inputs None = ImprovesPlan gives rounds inputs
+Improves gives at rounds inputs (Some log) = ImprovesRest gives at rounds inputs log

@@ -68,7 +68,7 @@ use Rattle.command_run.specs.Logs.{DrivesWithLog, GoesOnWithLog, LogEnd, step_of
 use Rattle.command_run.specs.Resumes.{ResumesText, IsRecovery}
 use Rattle.command_run.specs.Hubs.{AreDrivesIn, DrivesCells}
 use Rattle.command_run.specs.Ending.{WasPrinted, IsLineOut, IsOfText}
-use Rattle.command_run.specs.Program.{RunsDrive, RunsResume, RunsHub, RunsChosen, RunsProgram, draws_in, file_at, kept_log_in, log_in, protocol_in, name_in, names_in, pair_in, plans_in}
+use Rattle.command_run.specs.Program.{RunsDrive, RunsResume, RunsHub, RunsChosen, RunsProgram, draws_in, file_at, kept_log_in, log_in, protocol_in, name_in, names_in, inputs_in, plans_in}
 
 -- ---- what is printed first where the files don't change
 
@@ -83,100 +83,100 @@ IsInstanceRefused path fault outcome asked = (asked ≡ path ∷ []) × ((outcom
 -- where the text of the instance is refused, its first fault is printed and no other file is asked for, when this runs
 abbrev pub ReadsInstanceFirst : ((List (List ℕ) → List ℕ → Result (List ℕ) CommandFault → List (List ℕ) → Type 0) → InputPaths
     → List (List ℕ) → Result Answer CommandFault → List (List ℕ) → Type 0) → Type 0
-ReadsInstanceFirst runs = (content : List ℕ → Result (List ℕ) CommandFault) (pair : InputPaths) (text : List ℕ) (fault : OrFault) (outcome : Result Answer CommandFault) (asked : List (List ℕ))
-    → content pair.path ≡ Ok text → IsFirstInstanceFault text pair.name fault → runs (Shelf content) pair [] outcome asked → IsInstanceRefused pair.path fault outcome asked
+ReadsInstanceFirst runs = (content : List ℕ → Result (List ℕ) CommandFault) (inputs : InputPaths) (text : List ℕ) (fault : OrFault) (outcome : Result Answer CommandFault) (asked : List (List ℕ))
+    → content inputs.path ≡ Ok text → IsFirstInstanceFault text inputs.name fault → runs (Shelf content) inputs [] outcome asked → IsInstanceRefused inputs.path fault outcome asked
 
 abbrev pub FactsReadsInstanceFirst : Type 0
-FactsReadsInstanceFirst = ReadsInstanceFirst (λ gives pair. RunsFacts gives pair.path pair.name)
+FactsReadsInstanceFirst = ReadsInstanceFirst (λ gives inputs. RunsFacts gives inputs.path inputs.name)
 
 abbrev pub ShapeReadsInstanceFirst : Type 0
-ShapeReadsInstanceFirst = ReadsInstanceFirst (λ gives pair. RunsShape gives pair)
+ShapeReadsInstanceFirst = ReadsInstanceFirst (λ gives inputs. RunsShape gives inputs)
 
 abbrev pub DigestReadsInstanceFirst : Type 0
-DigestReadsInstanceFirst = ReadsInstanceFirst (λ gives pair. RunsDigest gives pair)
+DigestReadsInstanceFirst = ReadsInstanceFirst (λ gives inputs. RunsDigest gives inputs)
 
 abbrev pub CheckReadsInstanceFirst : Type 0
-CheckReadsInstanceFirst = ReadsInstanceFirst (λ gives pair. RunsCheck gives pair)
+CheckReadsInstanceFirst = ReadsInstanceFirst (λ gives inputs. RunsCheck gives inputs)
 
 abbrev pub ExplainReadsInstanceFirst : Type 0
-ExplainReadsInstanceFirst = (names : Option (List ℕ)) (job : Option ℕ) → ReadsInstanceFirst (λ gives pair. RunsExplain gives pair names job)
+ExplainReadsInstanceFirst = (names : Option (List ℕ)) (job : Option ℕ) → ReadsInstanceFirst (λ gives inputs. RunsExplain gives inputs names job)
 
 abbrev pub ScheduleReadsInstanceFirst : Type 0
-ScheduleReadsInstanceFirst = (names : Option (List ℕ)) → ReadsInstanceFirst (λ gives pair. RunsSchedule gives pair names)
+ScheduleReadsInstanceFirst = (names : Option (List ℕ)) → ReadsInstanceFirst (λ gives inputs. RunsSchedule gives inputs names)
 
 abbrev pub BoundsReadsInstanceFirst : Type 0
-BoundsReadsInstanceFirst = (names : Option (List ℕ)) → ReadsInstanceFirst (λ gives pair. RunsBounds gives pair names)
+BoundsReadsInstanceFirst = (names : Option (List ℕ)) → ReadsInstanceFirst (λ gives inputs. RunsBounds gives inputs names)
 
 abbrev pub MarginReadsInstanceFirst : Type 0
-MarginReadsInstanceFirst = (names : Option (List ℕ)) → ReadsInstanceFirst (λ gives pair. RunsMargin gives pair names)
+MarginReadsInstanceFirst = (names : Option (List ℕ)) → ReadsInstanceFirst (λ gives inputs. RunsMargin gives inputs names)
 
 abbrev pub MovesReadsInstanceFirst : Type 0
-MovesReadsInstanceFirst = (names : Option (List ℕ)) → ReadsInstanceFirst (λ gives pair. RunsMoves gives pair names)
+MovesReadsInstanceFirst = (names : Option (List ℕ)) → ReadsInstanceFirst (λ gives inputs. RunsMoves gives inputs names)
 
 -- so it is for `audit` and for `gantt`
 abbrev pub LogReadsInstanceFirst : Type 0
-LogReadsInstanceFirst = (wanted : LogAnswer) (names : Option (List ℕ)) (log : List ℕ) → ReadsInstanceFirst (λ gives pair. RunsLog gives wanted pair names log)
+LogReadsInstanceFirst = (wanted : LogAnswer) (names : Option (List ℕ)) (log : List ℕ) → ReadsInstanceFirst (λ gives inputs. RunsLog gives wanted inputs names log)
 
 -- so it is for `check`, `explain` and `schedule` of the rest of a run
 abbrev pub RestReadsInstanceFirst : Type 0
-RestReadsInstanceFirst = (wanted : PlanAnswer) (at : Option ℕ) (names : Option (List ℕ)) (log : List ℕ) → ReadsInstanceFirst (λ gives pair. RunsRest gives wanted at pair names log)
+RestReadsInstanceFirst = (wanted : PlanAnswer) (at : Option ℕ) (names : Option (List ℕ)) (log : List ℕ) → ReadsInstanceFirst (λ gives inputs. RunsRest gives wanted at inputs names log)
 
 abbrev pub RestMovesReadsInstanceFirst : Type 0
-RestMovesReadsInstanceFirst = (at : Option ℕ) (names : Option (List ℕ)) (log : List ℕ) → ReadsInstanceFirst (λ gives pair. RunsRestMoves gives at pair names log)
+RestMovesReadsInstanceFirst = (at : Option ℕ) (names : Option (List ℕ)) (log : List ℕ) → ReadsInstanceFirst (λ gives inputs. RunsRestMoves gives at inputs names log)
 
 -- so it is, unless memory runs out for planners or improvers before any file is asked for
 abbrev pub ReadsInstanceFirstOrNothing : ((List (List ℕ) → List ℕ → Result (List ℕ) CommandFault → List (List ℕ) → Type 0) → InputPaths
     → List (List ℕ) → Result Answer CommandFault → List (List ℕ) → Type 0) → Type 0
-ReadsInstanceFirstOrNothing runs = (content : List ℕ → Result (List ℕ) CommandFault) (pair : InputPaths) (text : List ℕ) (fault : OrFault) (outcome : Result Answer CommandFault) (asked : List (List ℕ))
-    → content pair.path ≡ Ok text → IsFirstInstanceFault text pair.name fault → runs (Shelf content) pair [] outcome asked
-    → IsInstanceRefused pair.path fault outcome asked ⊎ ((outcome ≡ Err Memory) × (asked ≡ []))
+ReadsInstanceFirstOrNothing runs = (content : List ℕ → Result (List ℕ) CommandFault) (inputs : InputPaths) (text : List ℕ) (fault : OrFault) (outcome : Result Answer CommandFault) (asked : List (List ℕ))
+    → content inputs.path ≡ Ok text → IsFirstInstanceFault text inputs.name fault → runs (Shelf content) inputs [] outcome asked
+    → IsInstanceRefused inputs.path fault outcome asked ⊎ ((outcome ≡ Err Memory) × (asked ≡ []))
 
 abbrev pub PlanReadsInstanceFirst : Type 0
-PlanReadsInstanceFirst = (rounds : ℕ) → ReadsInstanceFirstOrNothing (λ gives pair. SeeksPlan gives rounds pair)
+PlanReadsInstanceFirst = (rounds : ℕ) → ReadsInstanceFirstOrNothing (λ gives inputs. SeeksPlan gives rounds inputs)
 
 abbrev pub ImproveReadsInstanceFirst : Type 0
-ImproveReadsInstanceFirst = (rounds : ℕ) → ReadsInstanceFirstOrNothing (λ gives pair. ImprovesPlan gives rounds pair)
+ImproveReadsInstanceFirst = (rounds : ℕ) → ReadsInstanceFirstOrNothing (λ gives inputs. ImprovesPlan gives rounds inputs)
 
 -- for the rest of a run too
 abbrev pub ImproveRestReadsInstanceFirst : Type 0
-ImproveRestReadsInstanceFirst = (at : Option ℕ) (rounds : ℕ) (log : List ℕ) → ReadsInstanceFirstOrNothing (λ gives pair. ImprovesRest gives at rounds pair log)
+ImproveRestReadsInstanceFirst = (at : Option ℕ) (rounds : ℕ) (log : List ℕ) → ReadsInstanceFirstOrNothing (λ gives inputs. ImprovesRest gives at rounds inputs log)
 
 -- so it is, with no byte read or written
 abbrev pub ReadsInstanceFirstAlone : ((List (List ℕ) → List ℕ → Result (List ℕ) CommandFault → List (List ℕ) → Type 0) → InputPaths
     → List (List ℕ) → Streams → Result Answer CommandFault → List (List ℕ) → Streams → Type 0) → Type 0
-ReadsInstanceFirstAlone runs = (before after : Streams) (content : List ℕ → Result (List ℕ) CommandFault) (pair : InputPaths) (text : List ℕ) (fault : OrFault) (outcome : Result Answer CommandFault) (asked : List (List ℕ))
-    → content pair.path ≡ Ok text → IsFirstInstanceFault text pair.name fault → runs (Shelf content) pair [] before outcome asked after
-    → IsInstanceRefused pair.path fault outcome asked × (after ≡ before)
+ReadsInstanceFirstAlone runs = (before after : Streams) (content : List ℕ → Result (List ℕ) CommandFault) (inputs : InputPaths) (text : List ℕ) (fault : OrFault) (outcome : Result Answer CommandFault) (asked : List (List ℕ))
+    → content inputs.path ≡ Ok text → IsFirstInstanceFault text inputs.name fault → runs (Shelf content) inputs [] before outcome asked after
+    → IsInstanceRefused inputs.path fault outcome asked × (after ≡ before)
 
 abbrev pub DriveReadsInstanceFirst : Type 0
-DriveReadsInstanceFirst = (protocol : Protocol) → ReadsInstanceFirstAlone (λ gives pair. RunsDrive gives protocol pair)
+DriveReadsInstanceFirst = (protocol : Protocol) → ReadsInstanceFirstAlone (λ gives inputs. RunsDrive gives protocol inputs)
 
 abbrev pub ResumeReadsInstanceFirst : Type 0
-ResumeReadsInstanceFirst = (protocol : Protocol) (at : Option ℕ) (log : List ℕ) → ReadsInstanceFirstAlone (λ gives pair. RunsResume gives protocol at pair log)
+ResumeReadsInstanceFirst = (protocol : Protocol) (at : Option ℕ) (log : List ℕ) → ReadsInstanceFirstAlone (λ gives inputs. RunsResume gives protocol at inputs log)
 
 -- so it is where pictures are asked for
 abbrev pub ScheduleDrawsInstanceFirst : Type 0
-ScheduleDrawsInstanceFirst = (names : Option (List ℕ)) → ReadsInstanceFirstAlone (λ gives pair. RunsPicture (DrawsSchedule gives pair names))
+ScheduleDrawsInstanceFirst = (names : Option (List ℕ)) → ReadsInstanceFirstAlone (λ gives inputs. RunsPicture (DrawsSchedule gives inputs names))
 
 abbrev pub RestDrawsInstanceFirst : Type 0
-RestDrawsInstanceFirst = (at : Option ℕ) (names : Option (List ℕ)) (log : List ℕ) → ReadsInstanceFirstAlone (λ gives pair. RunsPicture (DrawsRest gives at pair names log))
+RestDrawsInstanceFirst = (at : Option ℕ) (names : Option (List ℕ)) (log : List ℕ) → ReadsInstanceFirstAlone (λ gives inputs. RunsPicture (DrawsRest gives at inputs names log))
 
 abbrev pub LogDrawsInstanceFirst : Type 0
-LogDrawsInstanceFirst = (names : Option (List ℕ)) (log : List ℕ) → ReadsInstanceFirstAlone (λ gives pair. RunsPicture (DrawsLog gives pair names log))
+LogDrawsInstanceFirst = (names : Option (List ℕ)) (log : List ℕ) → ReadsInstanceFirstAlone (λ gives inputs. RunsPicture (DrawsLog gives inputs names log))
 
 -- of any number of plans
 abbrev pub HubReadsInstanceFirst : Type 0
-HubReadsInstanceFirst = (protocol : Protocol) (plans : List (List ℕ)) → ReadsInstanceFirstAlone (λ gives pair. RunsHub gives protocol pair.path pair.name (pair.plan ∷ plans))
+HubReadsInstanceFirst = (protocol : Protocol) (plans : List (List ℕ)) → ReadsInstanceFirstAlone (λ gives inputs. RunsHub gives protocol inputs.path inputs.name (inputs.plan ∷ plans))
 
 -- ---- what good files are answered by, where they don't change
 
--- the files of a pair give this shop and this plan
-pub record ParseAsPlan (content : List ℕ → Result (List ℕ) CommandFault) (pair : InputPaths) (p : PlannedShop) : Type 0 where
+-- the files of these paths give this shop and this plan
+pub record ParseAsPlan (content : List ℕ → Result (List ℕ) CommandFault) (inputs : InputPaths) (p : PlannedShop) : Type 0 where
   pub instance : List ℕ
-  pub instance_is : content pair.path ≡ Ok instance
+  pub instance_is : content inputs.path ≡ Ok instance
   pub plan : List ℕ
-  pub plan_is : content pair.plan ≡ Ok plan
-  pub tell : BothParse instance pair.name plan p
+  pub plan_is : content inputs.plan ≡ Ok plan
+  pub parsed : BothParse instance inputs.name plan p
 
 -- an answer is one of these, for which these files were asked for, in this order; none is given only where memory ran out
 abbrev pub IsAnswered : {A : Type 0} → (A → Type 0) → List (List ℕ) → Result A CommandFault → List (List ℕ) → Type 0
@@ -186,8 +186,8 @@ IsAnswered Is files (Err fault) asked = fault ≡ Memory
 -- files that give a shop and a plan are answered by a line of this kind, when this runs
 abbrev pub AnswersPlan : ((List (List ℕ) → List ℕ → Result (List ℕ) CommandFault → List (List ℕ) → Type 0) → InputPaths
     → List (List ℕ) → Result Answer CommandFault → List (List ℕ) → Type 0) → (PlannedShop → Answer → Type 0) → Type 0
-AnswersPlan runs Is = (content : List ℕ → Result (List ℕ) CommandFault) (pair : InputPaths) (p : PlannedShop) (outcome : Result Answer CommandFault) (asked : List (List ℕ))
-    → ParseAsPlan content pair p → runs (Shelf content) pair [] outcome asked → IsAnswered (Is p) (pair.path ∷ pair.plan ∷ []) outcome asked
+AnswersPlan runs Is = (content : List ℕ → Result (List ℕ) CommandFault) (inputs : InputPaths) (p : PlannedShop) (outcome : Result Answer CommandFault) (asked : List (List ℕ))
+    → ParseAsPlan content inputs p → runs (Shelf content) inputs [] outcome asked → IsAnswered (Is p) (inputs.path ∷ inputs.plan ∷ []) outcome asked
 
 -- `facts`: the line of the facts of the shop that the file gives
 abbrev pub FactsAnswerShop : Type 0
@@ -195,47 +195,47 @@ FactsAnswerShop = (content : List ℕ → Result (List ℕ) CommandFault) (path 
     → content path ≡ Ok text → ParsesAs text name description shop → RunsFacts (Shelf content) path name [] outcome asked → IsAnswered (λ answer. AreFacts answer shop) (path ∷ []) outcome asked
 
 abbrev pub ShapeAnswersPlan : Type 0
-ShapeAnswersPlan = AnswersPlan (λ gives pair. RunsShape gives pair) IsShapeLine
+ShapeAnswersPlan = AnswersPlan (λ gives inputs. RunsShape gives inputs) IsShapeLine
 
 abbrev pub DigestAnswersPlan : Type 0
-DigestAnswersPlan = AnswersPlan (λ gives pair. RunsDigest gives pair) IsDigestAnswer
+DigestAnswersPlan = AnswersPlan (λ gives inputs. RunsDigest gives inputs) IsDigestAnswer
 
 abbrev pub CheckAnswersPlan : Type 0
-CheckAnswersPlan = AnswersPlan (λ gives pair. RunsCheck gives pair) IsCheckLine
+CheckAnswersPlan = AnswersPlan (λ gives inputs. RunsCheck gives inputs) IsCheckLine
 
 -- without names, and with no job asked for
 abbrev pub ExplainAnswersPlan : Type 0
-ExplainAnswersPlan = AnswersPlan (λ gives pair. RunsExplain gives pair None None) IsExplanation
+ExplainAnswersPlan = AnswersPlan (λ gives inputs. RunsExplain gives inputs None None) IsExplanation
 
 abbrev pub ScheduleAnswersPlan : Type 0
-ScheduleAnswersPlan = AnswersPlan (λ gives pair. RunsSchedule gives pair None) IsTimetable
+ScheduleAnswersPlan = AnswersPlan (λ gives inputs. RunsSchedule gives inputs None) IsTimetable
 
 abbrev pub BoundsAnswerPlan : Type 0
-BoundsAnswerPlan = AnswersPlan (λ gives pair. RunsBounds gives pair None) AreBounds
+BoundsAnswerPlan = AnswersPlan (λ gives inputs. RunsBounds gives inputs None) AreBounds
 
 abbrev pub MarginAnswersPlan : Type 0
-MarginAnswersPlan = AnswersPlan (λ gives pair. RunsMargin gives pair None) (λ p answer. IsNotShapedLine p answer ⊎ IsMarginAnswer no_names p answer)
+MarginAnswersPlan = AnswersPlan (λ gives inputs. RunsMargin gives inputs None) (λ p answer. IsNotShapedLine p answer ⊎ IsMarginAnswer no_names p answer)
 
 abbrev pub MovesAnswerPlan : Type 0
-MovesAnswerPlan = AnswersPlan (λ gives pair. RunsMoves gives pair None) (λ p answer. IsNotShapedLine p answer ⊎ AreMovesOfPlan no_names p answer)
+MovesAnswerPlan = AnswersPlan (λ gives inputs. RunsMoves gives inputs None) (λ p answer. IsNotShapedLine p answer ⊎ AreMovesOfPlan no_names p answer)
 
 -- `audit` and `gantt`: where the plan is well shaped, what is answered of the log
 abbrev pub LogIsAnswered : Type 0
-LogIsAnswered = (wanted : LogAnswer) (content : List ℕ → Result (List ℕ) CommandFault) (pair : InputPaths) (log text : List ℕ) (p : PlannedShop) (outcome : Result Answer CommandFault) (asked : List (List ℕ))
-    → ParseAsPlan content pair p → content log ≡ Ok text → IsWellShaped p → RunsLog (Shelf content) wanted pair None log [] outcome asked
-    → IsAnswered (IsLogLine no_names wanted p text) (pair.path ∷ pair.plan ∷ log ∷ []) outcome asked
+LogIsAnswered = (wanted : LogAnswer) (content : List ℕ → Result (List ℕ) CommandFault) (inputs : InputPaths) (log text : List ℕ) (p : PlannedShop) (outcome : Result Answer CommandFault) (asked : List (List ℕ))
+    → ParseAsPlan content inputs p → content log ≡ Ok text → IsWellShaped p → RunsLog (Shelf content) wanted inputs None log [] outcome asked
+    → IsAnswered (IsLogLine no_names wanted p text) (inputs.path ∷ inputs.plan ∷ log ∷ []) outcome asked
 
 -- `check`, `explain` and `schedule` of the rest of a run: where the plan is well shaped, and no job asked for, what is answered of its log
 abbrev pub RestIsAnswered : Type 0
-RestIsAnswered = (wanted : PlanAnswer) (at : Option ℕ) (content : List ℕ → Result (List ℕ) CommandFault) (pair : InputPaths) (log text : List ℕ) (p : PlannedShop) (outcome : Result Answer CommandFault) (asked : List (List ℕ))
-    → ParseAsPlan content pair p → content log ≡ Ok text → IsWellShaped p → job_asked wanted ≡ None → RunsRest (Shelf content) wanted at pair None log [] outcome asked
-    → IsAnswered (IsRestLine no_names wanted at p text) (pair.path ∷ pair.plan ∷ log ∷ []) outcome asked
+RestIsAnswered = (wanted : PlanAnswer) (at : Option ℕ) (content : List ℕ → Result (List ℕ) CommandFault) (inputs : InputPaths) (log text : List ℕ) (p : PlannedShop) (outcome : Result Answer CommandFault) (asked : List (List ℕ))
+    → ParseAsPlan content inputs p → content log ≡ Ok text → IsWellShaped p → job_asked wanted ≡ None → RunsRest (Shelf content) wanted at inputs None log [] outcome asked
+    → IsAnswered (IsRestLine no_names wanted at p text) (inputs.path ∷ inputs.plan ∷ log ∷ []) outcome asked
 
 -- `schedule --moves` of the rest of a run: where the plan is well shaped, the moves ahead by its log
 abbrev pub RestMovesAreAnswered : Type 0
-RestMovesAreAnswered = (at : Option ℕ) (content : List ℕ → Result (List ℕ) CommandFault) (pair : InputPaths) (log text : List ℕ) (p : PlannedShop) (outcome : Result Answer CommandFault) (asked : List (List ℕ))
-    → ParseAsPlan content pair p → content log ≡ Ok text → IsWellShaped p → RunsRestMoves (Shelf content) at pair None log [] outcome asked
-    → IsAnswered (AreMovesOfLog no_names at p text) (pair.path ∷ pair.plan ∷ log ∷ []) outcome asked
+RestMovesAreAnswered = (at : Option ℕ) (content : List ℕ → Result (List ℕ) CommandFault) (inputs : InputPaths) (log text : List ℕ) (p : PlannedShop) (outcome : Result Answer CommandFault) (asked : List (List ℕ))
+    → ParseAsPlan content inputs p → content log ≡ Ok text → IsWellShaped p → RunsRestMoves (Shelf content) at inputs None log [] outcome asked
+    → IsAnswered (AreMovesOfLog no_names at p text) (inputs.path ∷ inputs.plan ∷ log ∷ []) outcome asked
 
 -- one of these was drawn, for which these files were asked for; nothing is only where memory ran out, with no byte read or written
 abbrev pub IsDrawn : (Drawn → Type 0) → List (List ℕ) → Streams → Result Answer CommandFault → List (List ℕ) → Streams → Type 0
@@ -244,57 +244,57 @@ IsDrawn Is files before outcome asked after =
 
 -- `schedule --svg`: what comes of the plan is drawn
 abbrev pub ScheduleIsDrawn : Type 0
-ScheduleIsDrawn = (before after : Streams) (content : List ℕ → Result (List ℕ) CommandFault) (pair : InputPaths) (p : PlannedShop) (outcome : Result Answer CommandFault) (asked : List (List ℕ))
-    → ParseAsPlan content pair p → RunsPicture (DrawsSchedule (Shelf content) pair None) [] before outcome asked after
-    → IsDrawn (IsAnyPlanDrawn p) (pair.path ∷ pair.plan ∷ []) before outcome asked after
+ScheduleIsDrawn = (before after : Streams) (content : List ℕ → Result (List ℕ) CommandFault) (inputs : InputPaths) (p : PlannedShop) (outcome : Result Answer CommandFault) (asked : List (List ℕ))
+    → ParseAsPlan content inputs p → RunsPicture (DrawsSchedule (Shelf content) inputs None) [] before outcome asked after
+    → IsDrawn (IsAnyPlanDrawn p) (inputs.path ∷ inputs.plan ∷ []) before outcome asked after
 
 -- `schedule --svg` of the rest of a run: where the plan is well shaped, what comes of the log is drawn
 abbrev pub RestIsDrawn : Type 0
-RestIsDrawn = (at : Option ℕ) (before after : Streams) (content : List ℕ → Result (List ℕ) CommandFault) (pair : InputPaths) (log text : List ℕ) (p : PlannedShop) (outcome : Result Answer CommandFault) (asked : List (List ℕ))
-    → ParseAsPlan content pair p → content log ≡ Ok text → IsWellShaped p → RunsPicture (DrawsRest (Shelf content) at pair None log) [] before outcome asked after
-    → IsDrawn (IsRestDrawing at no_names p text) (pair.path ∷ pair.plan ∷ log ∷ []) before outcome asked after
+RestIsDrawn = (at : Option ℕ) (before after : Streams) (content : List ℕ → Result (List ℕ) CommandFault) (inputs : InputPaths) (log text : List ℕ) (p : PlannedShop) (outcome : Result Answer CommandFault) (asked : List (List ℕ))
+    → ParseAsPlan content inputs p → content log ≡ Ok text → IsWellShaped p → RunsPicture (DrawsRest (Shelf content) at inputs None log) [] before outcome asked after
+    → IsDrawn (IsRestDrawing at no_names p text) (inputs.path ∷ inputs.plan ∷ log ∷ []) before outcome asked after
 
 -- `gantt --svg`: where the plan is well shaped, what comes of the log is drawn
 abbrev pub LogIsDrawn : Type 0
-LogIsDrawn = (before after : Streams) (content : List ℕ → Result (List ℕ) CommandFault) (pair : InputPaths) (log text : List ℕ) (p : PlannedShop) (outcome : Result Answer CommandFault) (asked : List (List ℕ))
-    → ParseAsPlan content pair p → content log ≡ Ok text → IsWellShaped p → RunsPicture (DrawsLog (Shelf content) pair None log) [] before outcome asked after
-    → IsDrawn (IsLogDrawn no_names p text) (pair.path ∷ pair.plan ∷ log ∷ []) before outcome asked after
+LogIsDrawn = (before after : Streams) (content : List ℕ → Result (List ℕ) CommandFault) (inputs : InputPaths) (log text : List ℕ) (p : PlannedShop) (outcome : Result Answer CommandFault) (asked : List (List ℕ))
+    → ParseAsPlan content inputs p → content log ≡ Ok text → IsWellShaped p → RunsPicture (DrawsLog (Shelf content) inputs None log) [] before outcome asked after
+    → IsDrawn (IsLogDrawn no_names p text) (inputs.path ∷ inputs.plan ∷ log ∷ []) before outcome asked after
 
 -- `plan`: what the search allows for the numbers of this plan, with exactly these files asked for, unless memory runs out before
 abbrev pub PlanAnswersPlan : Type 0
-PlanAnswersPlan = (rounds : ℕ) (content : List ℕ → Result (List ℕ) CommandFault) (pair : InputPaths) (p : PlannedShop) (outcome : Result Answer CommandFault) (asked : List (List ℕ))
-    → ParseAsPlan content pair p → SeeksPlan (Shelf content) rounds pair [] outcome asked
-    → (IsSearchAnswer (search_by_two (task_in p)) rounds outcome × (asked ≡ pair.path ∷ pair.plan ∷ [])) ⊎ (outcome ≡ Err Memory)
+PlanAnswersPlan = (rounds : ℕ) (content : List ℕ → Result (List ℕ) CommandFault) (inputs : InputPaths) (p : PlannedShop) (outcome : Result Answer CommandFault) (asked : List (List ℕ))
+    → ParseAsPlan content inputs p → SeeksPlan (Shelf content) rounds inputs [] outcome asked
+    → (IsSearchAnswer (search_by_two (task_in p)) rounds outcome × (asked ≡ inputs.path ∷ inputs.plan ∷ [])) ⊎ (outcome ≡ Err Memory)
 
 -- `improve`: what the search from this plan comes to, with exactly these files asked for, unless memory runs out before
 abbrev pub ImproveAnswersPlan : Type 0
-ImproveAnswersPlan = (rounds : ℕ) (content : List ℕ → Result (List ℕ) CommandFault) (pair : InputPaths) (p : PlannedShop) (outcome : Result Answer CommandFault) (asked : List (List ℕ))
-    → ParseAsPlan content pair p → ImprovesPlan (Shelf content) rounds pair [] outcome asked
-    → (IsImproveAnswer (AsksOne rounds) rounds (ordered p) outcome × (asked ≡ pair.path ∷ pair.plan ∷ [])) ⊎ (outcome ≡ Err Memory)
+ImproveAnswersPlan = (rounds : ℕ) (content : List ℕ → Result (List ℕ) CommandFault) (inputs : InputPaths) (p : PlannedShop) (outcome : Result Answer CommandFault) (asked : List (List ℕ))
+    → ParseAsPlan content inputs p → ImprovesPlan (Shelf content) rounds inputs [] outcome asked
+    → (IsImproveAnswer (AsksOne rounds) rounds (ordered p) outcome × (asked ≡ inputs.path ∷ inputs.plan ∷ [])) ⊎ (outcome ≡ Err Memory)
 
 -- `improve` of the rest of a run: where the plan is well shaped, what the search from it comes to for the rest of this log, with exactly these files asked for, unless memory runs out before
 abbrev pub ImproveAnswersRest : Type 0
-ImproveAnswersRest = (at : Option ℕ) (rounds : ℕ) (content : List ℕ → Result (List ℕ) CommandFault) (pair : InputPaths) (log text : List ℕ) (p : PlannedShop) (outcome : Result Answer CommandFault) (asked : List (List ℕ))
-    → ParseAsPlan content pair p → content log ≡ Ok text → IsWellShaped (ordered p) → ImprovesRest (Shelf content) at rounds pair log [] outcome asked
-    → (IsRestAnswer (AsksOneForRest rounds) at rounds (ended_lines text) (ordered p) outcome × (asked ≡ pair.path ∷ pair.plan ∷ log ∷ [])) ⊎ (outcome ≡ Err Memory)
+ImproveAnswersRest = (at : Option ℕ) (rounds : ℕ) (content : List ℕ → Result (List ℕ) CommandFault) (inputs : InputPaths) (log text : List ℕ) (p : PlannedShop) (outcome : Result Answer CommandFault) (asked : List (List ℕ))
+    → ParseAsPlan content inputs p → content log ≡ Ok text → IsWellShaped (ordered p) → ImprovesRest (Shelf content) at rounds inputs log [] outcome asked
+    → (IsRestAnswer (AsksOneForRest rounds) at rounds (ended_lines text) (ordered p) outcome × (asked ≡ inputs.path ∷ inputs.plan ∷ log ∷ [])) ⊎ (outcome ≡ Err Memory)
 
 -- `drive`: where the plan is accepted, its cell is driven, with exactly these files asked for, unless memory runs out before, with no byte read or written
 abbrev pub DriveDrivesPlan : Type 0
-DriveDrivesPlan = (protocol : Protocol) (before after : Streams) (content : List ℕ → Result (List ℕ) CommandFault) (pair : InputPaths) (p : PlannedShop) (outcome : Result Answer CommandFault) (asked : List (List ℕ))
-    → ParseAsPlan content pair p → IsWellShaped p → IsAcceptable p → RunsDrive (Shelf content) protocol pair [] before outcome asked after
-    → ((asked ≡ pair.path ∷ pair.plan ∷ []) × ((v : VerifiedPlan) × (v.planned ≡ p) × DrivesCell protocol v before after outcome)) ⊎ ((outcome ≡ Err Memory) × (after ≡ before))
+DriveDrivesPlan = (protocol : Protocol) (before after : Streams) (content : List ℕ → Result (List ℕ) CommandFault) (inputs : InputPaths) (p : PlannedShop) (outcome : Result Answer CommandFault) (asked : List (List ℕ))
+    → ParseAsPlan content inputs p → IsWellShaped p → IsAcceptable p → RunsDrive (Shelf content) protocol inputs [] before outcome asked after
+    → ((asked ≡ inputs.path ∷ inputs.plan ∷ []) × ((v : VerifiedPlan) × (v.planned ≡ p) × DrivesCell protocol v before after outcome)) ⊎ ((outcome ≡ Err Memory) × (after ≡ before))
 
 -- `resume`: where the plan is well shaped, its log is asked for and recovered, and driven on if it can be, unless memory runs out before, with no byte read or written
 abbrev pub ResumeGoesOn : Type 0
-ResumeGoesOn = (protocol : Protocol) (at : Option ℕ) (before after : Streams) (content : List ℕ → Result (List ℕ) CommandFault) (pair : InputPaths) (log text : List ℕ) (p : PlannedShop) (outcome : Result Answer CommandFault) (asked : List (List ℕ))
-    → ParseAsPlan content pair p → IsWellShaped p → content log ≡ Ok text → RunsResume (Shelf content) protocol at pair log [] before outcome asked after
-    → ((asked ≡ pair.path ∷ pair.plan ∷ log ∷ []) × ResumesText protocol at p (Ok text) before after outcome) ⊎ ((outcome ≡ Err Memory) × (after ≡ before))
+ResumeGoesOn = (protocol : Protocol) (at : Option ℕ) (before after : Streams) (content : List ℕ → Result (List ℕ) CommandFault) (inputs : InputPaths) (log text : List ℕ) (p : PlannedShop) (outcome : Result Answer CommandFault) (asked : List (List ℕ))
+    → ParseAsPlan content inputs p → IsWellShaped p → content log ≡ Ok text → RunsResume (Shelf content) protocol at inputs log [] before outcome asked after
+    → ((asked ≡ inputs.path ∷ inputs.plan ∷ log ∷ []) × ResumesText protocol at p (Ok text) before after outcome) ⊎ ((outcome ≡ Err Memory) × (after ≡ before))
 
 -- the file of this path gives this plan for the instance of this text
 pub record ParsesAsPlanOf (content : List ℕ → Result (List ℕ) CommandFault) (instance : List ℕ) (name : Option (List ℕ)) (path : List ℕ) (p : PlannedShop) : Type 0 where
   pub plan : List ℕ
   pub plan_is : content path ≡ Ok plan
-  pub tell : BothParse instance name plan p
+  pub parsed : BothParse instance name plan p
 
 -- and the plan is accepted
 pub record ParsesAsAcceptedPlan (content : List ℕ → Result (List ℕ) CommandFault) (instance : List ℕ) (name : Option (List ℕ)) (path : List ℕ) (p : PlannedShop) : Type 0 where
@@ -335,18 +335,18 @@ InputAnswersShop = (before after : Input) (text description : List ℕ) (shop : 
 -- where the plan isn't accepted, it is answered by the line of `check`, with no further file asked for and no byte read or written, when this runs
 abbrev pub AnswersByCheck : ((List (List ℕ) → List ℕ → Result (List ℕ) CommandFault → List (List ℕ) → Type 0) → InputPaths
     → List (List ℕ) → Streams → Result Answer CommandFault → List (List ℕ) → Streams → Type 0) → Type 0
-AnswersByCheck runs = (before after : Streams) (content : List ℕ → Result (List ℕ) CommandFault) (pair : InputPaths) (p : PlannedShop) (outcome : Result Answer CommandFault) (asked : List (List ℕ))
-    → ParseAsPlan content pair p → (IsWellShaped p → IsAcceptable p → ⊥) → runs (Shelf content) pair [] before outcome asked after
-    → IsAnswered (IsCheckLine p) (pair.path ∷ pair.plan ∷ []) outcome asked × (after ≡ before)
+AnswersByCheck runs = (before after : Streams) (content : List ℕ → Result (List ℕ) CommandFault) (inputs : InputPaths) (p : PlannedShop) (outcome : Result Answer CommandFault) (asked : List (List ℕ))
+    → ParseAsPlan content inputs p → (IsWellShaped p → IsAcceptable p → ⊥) → runs (Shelf content) inputs [] before outcome asked after
+    → IsAnswered (IsCheckLine p) (inputs.path ∷ inputs.plan ∷ []) outcome asked × (after ≡ before)
 
 abbrev pub DriveAnswersByCheck : Type 0
-DriveAnswersByCheck = (protocol : Protocol) → AnswersByCheck (λ gives pair. RunsDrive gives protocol pair)
+DriveAnswersByCheck = (protocol : Protocol) → AnswersByCheck (λ gives inputs. RunsDrive gives protocol inputs)
 
 -- a plan that isn't well shaped is answered so by `resume`
 abbrev pub ResumeAnswersUnshaped : Type 0
-ResumeAnswersUnshaped = (protocol : Protocol) (at : Option ℕ) (log : List ℕ) (before after : Streams) (content : List ℕ → Result (List ℕ) CommandFault) (pair : InputPaths) (p : PlannedShop) (outcome : Result Answer CommandFault) (asked : List (List ℕ))
-    → ParseAsPlan content pair p → (IsWellShaped p → ⊥) → RunsResume (Shelf content) protocol at pair log [] before outcome asked after
-    → IsAnswered (IsCheckLine p) (pair.path ∷ pair.plan ∷ []) outcome asked × (after ≡ before)
+ResumeAnswersUnshaped = (protocol : Protocol) (at : Option ℕ) (log : List ℕ) (before after : Streams) (content : List ℕ → Result (List ℕ) CommandFault) (inputs : InputPaths) (p : PlannedShop) (outcome : Result Answer CommandFault) (asked : List (List ℕ))
+    → ParseAsPlan content inputs p → (IsWellShaped p → ⊥) → RunsResume (Shelf content) protocol at inputs log [] before outcome asked after
+    → IsAnswered (IsCheckLine p) (inputs.path ∷ inputs.plan ∷ []) outcome asked × (after ≡ before)
 
 -- by it the run of these lines can't go on: the plan has a cycle; or they record no event, and it isn't accepted
 abbrev pub IsNoPlanFor : PlannedShop → List Entry → Type 0
@@ -354,10 +354,10 @@ IsNoPlanFor p recorded = (HasNoCycle p → ⊥) ⊎ ((recorded ≡ []) × (IsAcc
 
 -- and such a plan is answered by the line of `check`, once its log has been asked for, where that records a run, with no byte read or written
 abbrev pub ResumeAnswersByCheck : Type 0
-ResumeAnswersByCheck = (protocol : Protocol) (at : Option ℕ) (before after : Streams) (content : List ℕ → Result (List ℕ) CommandFault) (pair : InputPaths) (log text : List ℕ) (p : PlannedShop) (recorded : List Entry) (outcome : Result Answer CommandFault) (asked : List (List ℕ))
-    → ParseAsPlan content pair p → IsWellShaped p → content log ≡ Ok text → LinesParse p (ended_lines text) recorded → IsRun p (events_of recorded) → (cell_after p recorded).last ≤ unwrap_or at (cell_after p recorded).last
-    → IsNoPlanFor p recorded → RunsResume (Shelf content) protocol at pair log [] before outcome asked after
-    → IsAnswered (IsCheckLine p) (pair.path ∷ pair.plan ∷ log ∷ []) outcome asked × (after ≡ before)
+ResumeAnswersByCheck = (protocol : Protocol) (at : Option ℕ) (before after : Streams) (content : List ℕ → Result (List ℕ) CommandFault) (inputs : InputPaths) (log text : List ℕ) (p : PlannedShop) (recorded : List Entry) (outcome : Result Answer CommandFault) (asked : List (List ℕ))
+    → ParseAsPlan content inputs p → IsWellShaped p → content log ≡ Ok text → LinesParse p (ended_lines text) recorded → IsRun p (events_of recorded) → (cell_after p recorded).last ≤ unwrap_or at (cell_after p recorded).last
+    → IsNoPlanFor p recorded → RunsResume (Shelf content) protocol at inputs log [] before outcome asked after
+    → IsAnswered (IsCheckLine p) (inputs.path ∷ inputs.plan ∷ log ∷ []) outcome asked × (after ≡ before)
 
 -- the line of `check` for a plan, behind the plan's number
 pub record IsNumberedLine (number : ℕ) (p : PlannedShop) (answer : Answer) : Type 0 where
@@ -377,13 +377,13 @@ HubAnswersByCheck = (protocol : Protocol) (before after : Streams) (content : Li
 -- ---- that a driven cell writes the same
 
 -- the words ask for `drive` with these files, and for no log of its own
-pub record AskForDrive (words : List (List ℕ)) (pair : InputPaths) : Type 0 where
+pub record AskForDrive (words : List (List ℕ)) (inputs : InputPaths) : Type 0 where
   pub accepted : reasons_in words ≡ []
   pub drive : word_found (found_in words) ≡ word_of Drive
   pub log : kept_in (rows_found (found_in words)) ≡ None
-  pub path : pair.path ≡ get_or (files_in (rows_found (found_in words))) 0 []
-  pub name : pair.name ≡ instance_in (rows_found (found_in words))
-  pub plan : pair.plan ≡ get_or (files_in (rows_found (found_in words))) 1 []
+  pub path : inputs.path ≡ get_or (files_in (rows_found (found_in words))) 0 []
+  pub name : inputs.name ≡ instance_in (rows_found (found_in words))
+  pub plan : inputs.plan ≡ get_or (files_in (rows_found (found_in words))) 1 []
 
 -- a run of the program on these words, over files that don't change: it read all of this input and wrote this, no device has failed, and memory didn't run out
 pub record RunsWell (content : List ℕ → Result (List ℕ) CommandFault) (words : List (List ℕ)) (input : List ℕ) (status : ℕ) (written : List ℕ) : Type 0 where
@@ -402,8 +402,8 @@ pub record RunsWell (content : List ℕ → Result (List ℕ) CommandFault) (wor
 
 -- `drive` with an accepted plan writes the same, and ends with the same status, whenever it is run on the same words, files and input, of no more bytes than the limit
 abbrev pub DriveWritesTheSame : Type 0
-DriveWritesTheSame = (content : List ℕ → Result (List ℕ) CommandFault) (words : List (List ℕ)) (pair : InputPaths) (p : PlannedShop) (input : List ℕ) (status other_status : ℕ) (written other : List ℕ)
-    → AskForDrive words pair → ParseAsPlan content pair p → IsWellShaped p → IsAcceptable p → length input ≤ MAX_INPUT
+DriveWritesTheSame = (content : List ℕ → Result (List ℕ) CommandFault) (words : List (List ℕ)) (inputs : InputPaths) (p : PlannedShop) (input : List ℕ) (status other_status : ℕ) (written other : List ℕ)
+    → AskForDrive words inputs → ParseAsPlan content inputs p → IsWellShaped p → IsAcceptable p → length input ≤ MAX_INPUT
     → RunsWell content words input status written → RunsWell content words input other_status other → (other_status ≡ status) × (other ≡ written)
 
 -- ---- how the program ends
@@ -450,28 +450,28 @@ pub record WereRefused {W : Type 0} (words : List (List ℕ)) (before : Devices 
 
 module _ {W : Type 0} (gives : W → List ℕ → Result (List ℕ) CommandFault → W → Type 0) where
   -- the plan is accepted, and its cell was driven to this end or up to this fault
-  pub record DroveCell (protocol : Protocol) (pair : InputPaths) (texts : W) (before after : Streams) : Type 0 where
+  pub record DroveCell (protocol : Protocol) (inputs : InputPaths) (texts : W) (before after : Streams) : Type 0 where
     pub cell : VerifiedPlan
     pub later : W
-    pub loads : Loads gives pair texts (Ok (Judged (Accepted cell))) later
+    pub loads : Loads gives inputs texts (Ok (Judged (Accepted cell))) later
     pub end : Result DriveEnd DriveFault
     pub is : IsDriveIn protocol cell before after end
 
   -- the plan is well shaped, and its cell was driven with a log: from its start, as it is accepted, or from where the log leads
-  pub record DroveWithLog (protocol : Protocol) (pair : InputPaths) (texts : W) (before after : Streams) : Type 0 where
+  pub record DroveWithLog (protocol : Protocol) (inputs : InputPaths) (texts : W) (before after : Streams) : Type 0 where
     pub plan : PlannedShop
     pub later : W
-    pub shapes : Shapes gives pair texts (Ok (Ok plan)) later
+    pub shapes : Shapes gives inputs texts (Ok (Ok plan)) later
     pub outcome : Result Answer CommandFault
     pub log : Option LogEnd
     pub is : ((v : VerifiedPlan) × (v.planned ≡ plan) × DrivesWithLog v.planned [] (IsDriveIn protocol v) end_of_drive (step_of before outcome after log))
         ⊎ ((t : Recovered) × (plan_of t ≡ plan) × GoesOnWithLog protocol t (step_of before outcome after log))
 
   -- the plan is well shaped, its run was recovered from the log, and driven on by this protocol to this end or up to this fault
-  pub record DroveOn (protocol : Protocol) (at : Option ℕ) (pair : InputPaths) (log : List ℕ) (texts : W) (before after : Streams) : Type 0 where
+  pub record DroveOn (protocol : Protocol) (at : Option ℕ) (inputs : InputPaths) (log : List ℕ) (texts : W) (before after : Streams) : Type 0 where
     pub plan : PlannedShop
     pub mid : W
-    pub shapes : Shapes gives pair texts (Ok (Ok plan)) mid
+    pub shapes : Shapes gives inputs texts (Ok (Ok plan)) mid
     pub text : List ℕ
     pub later : W
     pub asks : Asks gives log mid (Ok text) later
@@ -502,11 +502,11 @@ module _ {W : Type 0} (gives : W → List ℕ → Result (List ℕ) CommandFault
   -- nothing was written; or the command drives cells, and those of its files were driven; or its files were drawn
   abbrev pub WereDriven : CommandName → Chosen → W → Streams → Streams → Type 0
   WereDriven name chosen texts before after = (after.output ≡ before.output)
-      ⊎ (((name ≡ Drive) × (DroveCell (protocol_in chosen) (pair_in chosen) texts before after ⊎ DroveWithLog (protocol_in chosen) (pair_in chosen) texts before after))
-      ⊎ (((name ≡ Resume) × DroveOn (protocol_in chosen) chosen.at (pair_in chosen) (file_at chosen 2) texts before after)
+      ⊎ (((name ≡ Drive) × (DroveCell (protocol_in chosen) (inputs_in chosen) texts before after ⊎ DroveWithLog (protocol_in chosen) (inputs_in chosen) texts before after))
+      ⊎ (((name ≡ Resume) × DroveOn (protocol_in chosen) chosen.at (inputs_in chosen) (file_at chosen 2) texts before after)
       ⊎ (((name ≡ Hub) × DroveCells (protocol_in chosen) (file_at chosen 0) (name_in chosen) (plans_in chosen) texts before after)
-      ⊎ (((name ≡ Schedule) × DrewPicture (DrawsTimetable gives chosen.at (pair_in chosen) (names_in chosen) (log_in chosen)) texts before after)
-      ⊎ ((name ≡ Gantt) × DrewPicture (DrawsLog gives (pair_in chosen) (names_in chosen) (file_at chosen 2)) texts before after)))))
+      ⊎ (((name ≡ Schedule) × DrewPicture (DrawsTimetable gives chosen.at (inputs_in chosen) (names_in chosen) (log_in chosen)) texts before after)
+      ⊎ ((name ≡ Gantt) × DrewPicture (DrawsLog gives (inputs_in chosen) (names_in chosen) (file_at chosen 2)) texts before after)))))
 
   -- the command that the words choose was run to an outcome
   pub record RanCommand (words : List (List ℕ)) (before : Devices W) (outcome : Result Answer CommandFault) (mid : Streams) (after : Devices W) (log : Option LogEnd) : Type 0 where

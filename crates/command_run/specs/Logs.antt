@@ -407,4 +407,4 @@ pub record IsHistoryOfPath (folder : Folder) (path : List ℕ) (p : PlannedShop)
 -- by each plan that the files give
 abbrev pub IsHistoryOfLog : {W : Type 0} → (W → List ℕ → Result (List ℕ) CommandFault → W → Type 0) → Folder → InputPaths → List ℕ → Protocol → Option ℕ
     → W → Option (List ℕ) → List ℕ × List ℕ → Type 0
-IsHistoryOfLog {W} gives folder pair path protocol at texts printed known = (p : PlannedShop) (mid : W) → Shapes gives pair texts (Ok (Ok p)) mid → IsHistoryOfPath folder path p protocol at printed known
+IsHistoryOfLog {W} gives folder inputs path protocol at texts printed known = (p : PlannedShop) (mid : W) → Shapes gives inputs texts (Ok (Ok p)) mid → IsHistoryOfPath folder path p protocol at printed known

@@ -13,8 +13,8 @@ use Rattle.command_run.specs.declared.misfits.Misfit.{Misfit}
 use Rattle.command_run.specs.declared.misfits.Misfit.TheVariants.{NotNew, NotBegun, OtherPlan}
 
 -- the log has to have begun
-abbrev pub GoesOn : LogStart → Type 0
-GoesOn start = (start ≡ Continue) ⊎ (start ≡ HandOver)
+abbrev pub NeedsBegun : LogStart → Type 0
+NeedsBegun start = (start ≡ Continue) ⊎ (start ≡ HandOver)
 
 -- the plan that it names has to be this one
 abbrev pub KeepsPlan : LogStart → Type 0
@@ -23,7 +23,7 @@ KeepsPlan start = (start ≡ Any) ⊎ (start ≡ Continue)
 -- why a log whose lines say this of its run isn't driven by a plan with these digits: it has begun, and should be new; it hasn't begun, and should have; or its last line of a plan is another one's
 abbrev pub IsMisfit : LogStart → LogRun → RunDigits → Misfit → Type 0
 IsMisfit start run digits NotNew = (start ≡ New) × (run ≢ Unbegun)
-IsMisfit start run digits NotBegun = GoesOn start × (run ≡ Unbegun)
+IsMisfit start run digits NotBegun = NeedsBegun start × (run ≡ Unbegun)
 IsMisfit start run digits (OtherPlan other) = KeepsPlan start × (run ≡ Named other) × (other ≢ digits)
 
 -- the line that says so

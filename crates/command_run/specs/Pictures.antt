@@ -37,21 +37,21 @@ pub record RunsPicture {W : Type 0} (comes : W → Result Drawn CommandFault →
 module _ {W : Type 0} (gives : W → List ℕ → Result (List ℕ) CommandFault → W → Type 0) where
   -- the exact run of the plan comes to be drawn, or the run in a log and its rest, if there is one
   abbrev pub DrawsTimetable : Option ℕ → InputPaths → Option (List ℕ) → Option (List ℕ) → W → Result Drawn CommandFault → W → Type 0
-  DrawsTimetable at pair names None = DrawsSchedule gives pair names
-  DrawsTimetable at pair names (Some log) = DrawsRest gives at pair names log
+  DrawsTimetable at inputs names None = DrawsSchedule gives inputs names
+  DrawsTimetable at inputs names (Some log) = DrawsRest gives at inputs names log
 
   -- the moves of the plan are printed, or those ahead in the run in a log, if there is one
   abbrev pub AnswersMoves : Option ℕ → InputPaths → Option (List ℕ) → Option (List ℕ) → W → Result Answer CommandFault → W → Type 0
-  AnswersMoves at pair names None = RunsMoves gives pair names
-  AnswersMoves at pair names (Some log) = RunsRestMoves gives at pair names log
+  AnswersMoves at inputs names None = RunsMoves gives inputs names
+  AnswersMoves at inputs names (Some log) = RunsRestMoves gives at inputs names log
 
   -- `schedule`: the schedule of the plan is printed, or that of the rest of the run in a log; or with `--moves` the moves are, or with `--svg` it is drawn
   abbrev pub RunsTimetable : Timetable → Option ℕ → InputPaths → Option (List ℕ) → Option (List ℕ) → W → Streams → Result Answer CommandFault → W → Streams → Type 0
-  RunsTimetable ByMoments at pair names log texts before outcome texts_after after = RunsPlanAnswer gives Moments at pair names log texts outcome texts_after × (after ≡ before)
-  RunsTimetable ByMoves at pair names log texts before outcome texts_after after = AnswersMoves at pair names log texts outcome texts_after × (after ≡ before)
-  RunsTimetable AsPicture at pair names log texts before outcome texts_after after = RunsPicture (DrawsTimetable at pair names log) texts before outcome texts_after after
+  RunsTimetable ByMoments at inputs names log texts before outcome texts_after after = RunsPlanAnswer gives Moments at inputs names log texts outcome texts_after × (after ≡ before)
+  RunsTimetable ByMoves at inputs names log texts before outcome texts_after after = AnswersMoves at inputs names log texts outcome texts_after × (after ≡ before)
+  RunsTimetable AsPicture at inputs names log texts before outcome texts_after after = RunsPicture (DrawsTimetable at inputs names log) texts before outcome texts_after after
 
   -- `gantt`: the log is drawn in text, or with `--svg` as a picture
   abbrev pub RunsDrawing : Bool → InputPaths → Option (List ℕ) → List ℕ → W → Streams → Result Answer CommandFault → W → Streams → Type 0
-  RunsDrawing false pair names log texts before outcome texts_after after = RunsLog gives Drawing pair names log texts outcome texts_after × (after ≡ before)
-  RunsDrawing true pair names log texts before outcome texts_after after = RunsPicture (DrawsLog gives pair names log) texts before outcome texts_after after
+  RunsDrawing false inputs names log texts before outcome texts_after after = RunsLog gives Drawing inputs names log texts outcome texts_after × (after ≡ before)
+  RunsDrawing true inputs names log texts before outcome texts_after after = RunsPicture (DrawsLog gives inputs names log) texts before outcome texts_after after

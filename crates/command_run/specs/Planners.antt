@@ -21,5 +21,5 @@ search_by_two t = record { task = t; proposers = 2; may = λ turn. MayPlanAt tur
 
 -- a plan is sought by the two planners, unless memory runs out before any file is asked for
 abbrev pub SeeksPlan : {W : Type 0} → (W → List ℕ → Result (List ℕ) CommandFault → W → Type 0) → ℕ → InputPaths → W → Result Answer CommandFault → W → Type 0
-SeeksPlan gives rounds pair before outcome after =
-    RunsPlan gives search_by_two rounds pair before outcome after ⊎ ((outcome ≡ Err Memory) × (after ≡ before))
+SeeksPlan gives rounds inputs before outcome after =
+    RunsPlan gives search_by_two rounds inputs before outcome after ⊎ ((outcome ≡ Err Memory) × (after ≡ before))

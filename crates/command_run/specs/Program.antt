@@ -124,8 +124,8 @@ abbrev pub protocol_in : Chosen → Protocol
 protocol_in chosen = record { version_2 = is_second chosen.lines; max_gap = chosen.leap; from = unwrap_or chosen.at 0 }
 
 -- the files of the instance and of the first plan
-abbrev pub pair_in : Chosen → InputPaths
-pair_in chosen = record { path = file_at chosen 0; name = name_in chosen; plan = file_at chosen 1 }
+abbrev pub inputs_in : Chosen → InputPaths
+inputs_in chosen = record { path = file_at chosen 0; name = name_in chosen; plan = file_at chosen 1 }
 
 -- where starting again is right: the output couldn't be written, another process has the log, or the input couldn't be read to its end
 abbrev pub starts_again : Bool → Result Answer CommandFault → Bool
@@ -147,22 +147,22 @@ NoLog before after log = (after.folder ≡ before.folder) × (log ≡ None)
 
 module _ {W : Type 0} (gives : W → List ℕ → Result (List ℕ) CommandFault → W → Type 0) where
   -- the plan is loaded, and then the input is read
-  pub record RunsDrive (protocol : Protocol) (pair : InputPaths) (texts : W) (before : Streams) (outcome : Result Answer CommandFault) (texts_after : W) (after : Streams) : Type 0 where
+  pub record RunsDrive (protocol : Protocol) (inputs : InputPaths) (texts : W) (before : Streams) (outcome : Result Answer CommandFault) (texts_after : W) (after : Streams) : Type 0 where
     pub loaded : Result Loaded CommandFault
-    pub loads : Loads gives pair texts loaded texts_after
+    pub loads : Loads gives inputs texts loaded texts_after
     pub drives : Drives protocol loaded before after outcome
 
   -- the plan is read, its log opened, and then the cell is driven with that
-  pub record RunsLoggedDrive (folder folder_after : Folder) (path : List ℕ) (start : LogStart) (protocol : Protocol) (at : Option ℕ) (pair : InputPaths) (texts : W) (step : Step) (texts_after : W) : Type 0 where
+  pub record RunsLoggedDrive (folder folder_after : Folder) (path : List ℕ) (start : LogStart) (protocol : Protocol) (at : Option ℕ) (inputs : InputPaths) (texts : W) (step : Step) (texts_after : W) : Type 0 where
     pub shaped : Result (Result PlannedShop ShapeFault) CommandFault
-    pub shapes : Shapes gives pair texts shaped texts_after
+    pub shapes : Shapes gives inputs texts shaped texts_after
     pub drives : DrivesShaped folder folder_after path start protocol at shaped step
 
   -- the plan is read, then its run recovered at a moment, and then the input is read
-  pub record RunsResume (protocol : Protocol) (at : Option ℕ) (pair : InputPaths) (log : List ℕ) (texts : W) (before : Streams) (outcome : Result Answer CommandFault) (texts_after : W) (after : Streams) : Type 0 where
+  pub record RunsResume (protocol : Protocol) (at : Option ℕ) (inputs : InputPaths) (log : List ℕ) (texts : W) (before : Streams) (outcome : Result Answer CommandFault) (texts_after : W) (after : Streams) : Type 0 where
     pub shaped : Result (Result PlannedShop ShapeFault) CommandFault
     pub texts_mid : W
-    pub shapes : Shapes gives pair texts shaped texts_mid
+    pub shapes : Shapes gives inputs texts shaped texts_mid
     pub resumes : Resumes gives protocol at log shaped texts_mid before outcome texts_after after
 
   -- all plans are loaded, and then the input is read
@@ -178,44 +178,44 @@ module _ {W : Type 0} (gives : W → List ℕ → Result (List ℕ) CommandFault
   RunsCommand Facts chosen texts before outcome texts_after after =
       RunsFacts gives (file_at chosen 0) (name_in chosen) texts outcome texts_after × (after ≡ before)
   RunsCommand Shape chosen texts before outcome texts_after after =
-      RunsShape gives (pair_in chosen) texts outcome texts_after × (after ≡ before)
+      RunsShape gives (inputs_in chosen) texts outcome texts_after × (after ≡ before)
   RunsCommand Check chosen texts before outcome texts_after after =
-      RunsPlanAnswer gives Verdict chosen.at (pair_in chosen) (names_in chosen) (log_in chosen) texts outcome texts_after × (after ≡ before)
+      RunsPlanAnswer gives Verdict chosen.at (inputs_in chosen) (names_in chosen) (log_in chosen) texts outcome texts_after × (after ≡ before)
   RunsCommand Explain chosen texts before outcome texts_after after =
-      RunsPlanAnswer gives (Reasons chosen.job) chosen.at (pair_in chosen) (names_in chosen) (log_in chosen) texts outcome texts_after × (after ≡ before)
+      RunsPlanAnswer gives (Reasons chosen.job) chosen.at (inputs_in chosen) (names_in chosen) (log_in chosen) texts outcome texts_after × (after ≡ before)
   RunsCommand Schedule chosen texts before outcome texts_after after =
-      RunsTimetable gives (form_in chosen) chosen.at (pair_in chosen) (names_in chosen) (log_in chosen) texts before outcome texts_after after
+      RunsTimetable gives (form_in chosen) chosen.at (inputs_in chosen) (names_in chosen) (log_in chosen) texts before outcome texts_after after
   RunsCommand Bounds chosen texts before outcome texts_after after =
-      RunsBounds gives (pair_in chosen) (names_in chosen) texts outcome texts_after × (after ≡ before)
+      RunsBounds gives (inputs_in chosen) (names_in chosen) texts outcome texts_after × (after ≡ before)
   RunsCommand Margin chosen texts before outcome texts_after after =
-      RunsMargin gives (pair_in chosen) (names_in chosen) texts outcome texts_after × (after ≡ before)
+      RunsMargin gives (inputs_in chosen) (names_in chosen) texts outcome texts_after × (after ≡ before)
   RunsCommand Plan chosen texts before outcome texts_after after =
-      SeeksPlan gives chosen.rounds (pair_in chosen) texts outcome texts_after × (after ≡ before)
+      SeeksPlan gives chosen.rounds (inputs_in chosen) texts outcome texts_after × (after ≡ before)
   RunsCommand Improve chosen texts before outcome texts_after after =
-      Improves gives chosen.at chosen.rounds (pair_in chosen) (log_in chosen) texts outcome texts_after × (after ≡ before)
+      Improves gives chosen.at chosen.rounds (inputs_in chosen) (log_in chosen) texts outcome texts_after × (after ≡ before)
   RunsCommand Decide chosen texts before outcome texts_after after =
-      Decides gives (aim_in chosen) chosen.at (pair_in chosen) (names_in chosen) (log_in chosen) texts outcome texts_after × (after ≡ before)
+      Decides gives (aim_in chosen) chosen.at (inputs_in chosen) (names_in chosen) (log_in chosen) texts outcome texts_after × (after ≡ before)
   RunsCommand Revise chosen texts before outcome texts_after after =
-      Revises gives chosen.file chosen.at chosen.changes.items (pair_in chosen) (file_at chosen 2) texts outcome texts_after × (after ≡ before)
+      Revises gives chosen.file chosen.at chosen.changes.items (inputs_in chosen) (file_at chosen 2) texts outcome texts_after × (after ≡ before)
   RunsCommand Drive chosen texts before outcome texts_after after =
-      RunsDrive (protocol_in chosen) (pair_in chosen) texts before outcome texts_after after
+      RunsDrive (protocol_in chosen) (inputs_in chosen) texts before outcome texts_after after
   RunsCommand Resume chosen texts before outcome texts_after after =
-      RunsResume (protocol_in chosen) chosen.at (pair_in chosen) (file_at chosen 2) texts before outcome texts_after after
+      RunsResume (protocol_in chosen) chosen.at (inputs_in chosen) (file_at chosen 2) texts before outcome texts_after after
   RunsCommand Hub chosen texts before outcome texts_after after =
       RunsHub (protocol_in chosen) (file_at chosen 0) (name_in chosen) (plans_in chosen) texts before outcome texts_after after
   RunsCommand Digest chosen texts before outcome texts_after after =
-      RunsDigest gives (pair_in chosen) texts outcome texts_after × (after ≡ before)
+      RunsDigest gives (inputs_in chosen) texts outcome texts_after × (after ≡ before)
   RunsCommand Audit chosen texts before outcome texts_after after =
-      RunsLog gives Numbers (pair_in chosen) None (file_at chosen 2) texts outcome texts_after × (after ≡ before)
+      RunsLog gives Numbers (inputs_in chosen) None (file_at chosen 2) texts outcome texts_after × (after ≡ before)
   RunsCommand Gantt chosen texts before outcome texts_after after =
-      RunsDrawing gives chosen.svg (pair_in chosen) (names_in chosen) (file_at chosen 2) texts before outcome texts_after after
+      RunsDrawing gives chosen.svg (inputs_in chosen) (names_in chosen) (file_at chosen 2) texts before outcome texts_after after
 
   -- the command that was chosen, with the log that it keeps, if it keeps one; else no log is touched
   abbrev pub RunsChosen : Option (List ℕ) → Chosen → Devices W → Result Answer CommandFault → Streams → Devices W → Option LogEnd → Type 0
   RunsChosen None chosen before outcome mid after log =
       RunsCommand chosen.name chosen before.texts before.streams outcome after.texts mid × NoLog before after log
   RunsChosen (Some path) chosen before outcome mid after log =
-      RunsLoggedDrive before.folder after.folder path chosen.start (protocol_in chosen) chosen.at (pair_in chosen) before.texts (step_of before.streams outcome mid log) after.texts
+      RunsLoggedDrive before.folder after.folder path chosen.start (protocol_in chosen) chosen.at (inputs_in chosen) before.texts (step_of before.streams outcome mid log) after.texts
 
   -- the command is run, and then its answer printed, or its fault printed, with its own status; what is answered in place of a picture is printed too
   pub record Commands (chosen : Chosen) (before : Devices W) (status : ℕ) (after : Devices W) (log : Option LogEnd) : Type 0 where
@@ -254,7 +254,7 @@ module _ {W : Type 0} (gives : W → List ℕ → Result (List ℕ) CommandFault
 -- what is known of the log that the command keeps, if it keeps one, and of what the output has written once the events in that are replayed
 abbrev pub IsHistoryOfChosen : {W : Type 0} → (W → List ℕ → Result (List ℕ) CommandFault → W → Type 0) → Chosen → Devices W → List ℕ × List ℕ → Type 0
 IsHistoryOfChosen gives chosen before known = (path : List ℕ) → kept_log_in chosen ≡ Some path
-    → IsHistoryOfLog gives before.folder (pair_in chosen) path (protocol_in chosen) chosen.at before.texts before.streams.output.written known
+    → IsHistoryOfLog gives before.folder (inputs_in chosen) path (protocol_in chosen) chosen.at before.texts before.streams.output.written known
 
 -- what is known of the log that the words ask for, and of what the output has written once the events in that are replayed
 abbrev pub IsHistoryOfWords : {W : Type 0} → (W → List ℕ → Result (List ℕ) CommandFault → W → Type 0) → List (List ℕ) → Devices W → List ℕ × List ℕ → Type 0

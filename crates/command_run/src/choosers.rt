@@ -5,7 +5,7 @@ ghost use Rattle.std.specs.Option.{option_copied};
 ghost use Rattle.shop_base.specs.declared.limits.TheConstants.{MAX_MOMENT};
 ghost use Rattle.command_answers.specs.Commands.{RunsDecide, RunsDecideRest};
 ghost use Rattle.command_run.specs.Choosers.{Decides};
-ghost use Rattle.command_run.specs.Program.{log_in, names_in, pair_in};
+ghost use Rattle.command_run.specs.Program.{log_in, names_in, inputs_in};
 
 use crate::choice_progress::ChoiceProgress;
 use crate::command::{ahead, files, rest_log};
@@ -26,7 +26,7 @@ pub(crate) fn decided_answer<T: Texts, S: Screen>(
 ) -> Answered
     requires files { 1 < length chosen.now.files.items }
     requires at { IfSome chosen.now.at (λ present. present ≤ MAX_MOMENT) }
-    ensures { Decides T.gives aim chosen.now.at (pair_in chosen.now) (names_in chosen.now) (log_in chosen.now)
+    ensures { Decides T.gives aim chosen.now.at (inputs_in chosen.now) (names_in chosen.now) (log_in chosen.now)
         texts.old result texts.new }
 {
     let choices = u64::from(chosen.choices);
@@ -46,7 +46,7 @@ fn decision_answer<T: Texts, S: Screen>(
     choices: u64,
     screen: &mut S,
 ) -> Answered
-    ensures { RunsDecide T.gives aim files.now.pair (option_copied files.now.names) texts.old result texts.new }
+    ensures { RunsDecide T.gives aim files.now.inputs (option_copied files.now.names) texts.old result texts.new }
 {
     let mut chooser = LeastSlack::new(alloc);
     let mut progress = ChoiceProgress { screen };
@@ -73,7 +73,7 @@ fn rest_decision_answer<T: Texts, S: Screen>(
     screen: &mut S,
 ) -> Answered
     requires { IfSome ahead.now.at (λ present. present ≤ MAX_MOMENT) }
-    ensures { RunsDecideRest T.gives aim ahead.now.at ahead.now.files.pair (option_copied ahead.now.files.names)
+    ensures { RunsDecideRest T.gives aim ahead.now.at ahead.now.files.inputs (option_copied ahead.now.files.names)
         ahead.now.log.now texts.old result texts.new }
 {
     let mut chooser = LeastSlack::new(alloc);

@@ -1,6 +1,6 @@
 //! The command that was chosen.
 
-ghost use Rattle.std.specs.Prelude.{◌≡◌, ◌<◌, ◌≤◌, [], length, option_map, unwrap_or, IfSome};
+ghost use Rattle.std.specs.Prelude.{◌≡◌, ◌<◌, ◌≤◌, [], length, option_map, IfSome};
 ghost use Rattle.std.specs.Option.{option_copied};
 ghost use Rattle.std.specs.String.{string_bytes};
 ghost use Rattle.shop_base.specs.declared.limits.TheConstants.{MAX_MOMENT};
@@ -8,7 +8,7 @@ ghost use Rattle.command_words.specs.Choice.{IsWithin};
 ghost use Rattle.command_answers.specs.Commands.{RunsPlanAnswer};
 ghost use Rattle.command_run.specs.Improvers.{Improves};
 ghost use Rattle.command_run.specs.Program.{RunsCommand, aim_in, file_at, is_second, kept_log_in, form_in, log_in};
-ghost use Rattle.command_run.specs.Program.{names_in, protocol_in, name_in, overall_aim, pair_in};
+ghost use Rattle.command_run.specs.Program.{names_in, protocol_in, name_in, overall_aim, inputs_in};
 
 use crate::choosers::decided_answer;
 use crate::devices::{Screen, Streams};
@@ -28,7 +28,7 @@ use command_answers::{
 };
 use command_words::{Chosen, CommandName, Lines};
 use plan_decide::{Aim, Objective};
-use shop_base::Moment;
+use run_log::present_at;
 use std::alloc::Global;
 
 /// The file at a place of the command line.
@@ -74,9 +74,9 @@ fn names(chosen: &Chosen) -> Option<&str>
 }
 
 /// The files of the instance and of the first plan.
-pub(crate) fn pair(chosen: &Chosen) -> InputPaths<'_>
+pub(crate) fn inputs(chosen: &Chosen) -> InputPaths<'_>
     requires { 1 < length chosen.now.files.items }
-    ensures { result ≡ pair_in chosen.now }
+    ensures { result ≡ inputs_in chosen.now }
 {
     InputPaths {
         instance: file(chosen, 0),
@@ -88,11 +88,11 @@ pub(crate) fn pair(chosen: &Chosen) -> InputPaths<'_>
 /// The files of the plan and of names.
 pub(crate) fn files(chosen: &Chosen) -> Files<'_>
     requires { 1 < length chosen.now.files.items }
-    ensures pair { result.pair ≡ pair_in chosen.now }
+    ensures inputs { result.inputs ≡ inputs_in chosen.now }
     ensures names { option_copied result.names ≡ names_in chosen.now }
 {
     Files {
-        pair: pair(chosen),
+        inputs: inputs(chosen),
         names: names(chosen),
     }
 }
@@ -100,7 +100,7 @@ pub(crate) fn files(chosen: &Chosen) -> Files<'_>
 /// What is ahead of the run in this log.
 pub(crate) fn ahead<'a>(chosen: &'a Chosen, log: &'a str) -> Ahead<'a>
     requires { 1 < length chosen.now.files.items }
-    ensures pair { result.files.pair ≡ pair_in chosen.now }
+    ensures inputs { result.files.inputs ≡ inputs_in chosen.now }
     ensures names { option_copied result.files.names ≡ names_in chosen.now }
     ensures log { result.log.now ≡ log.now }
     ensures at { result.at ≡ chosen.now.at }
@@ -121,7 +121,7 @@ pub(crate) fn answered<T: Texts>(
 ) -> Answered
     requires files { 1 < length chosen.now.files.items }
     requires at { IfSome chosen.now.at (λ present. present ≤ MAX_MOMENT) }
-    ensures { RunsPlanAnswer T.gives wanted chosen.now.at (pair_in chosen.now) (names_in chosen.now)
+    ensures { RunsPlanAnswer T.gives wanted chosen.now.at (inputs_in chosen.now) (names_in chosen.now)
         (log_in chosen.now) texts.old result texts.new }
 {
     match rest_log(chosen) {
@@ -140,16 +140,6 @@ fn is_second(version: Option<Lines>) -> bool
     }
 }
 
-/// The present moment, 0 if none is given.
-fn present(at: Option<Moment>) -> Moment
-    ensures { result ≡ unwrap_or at 0 }
-{
-    match at {
-        Some(present) => present,
-        None => 0,
-    }
-}
-
 /// The protocol by which cells are driven. A leap counts from the present moment at the earliest, if one is given.
 pub(crate) fn protocol(chosen: &Chosen) -> Protocol
     ensures { result ≡ protocol_in chosen.now }
@@ -157,7 +147,7 @@ pub(crate) fn protocol(chosen: &Chosen) -> Protocol
     Protocol {
         version_2: is_second(chosen.lines),
         max_gap: chosen.leap,
-        from: present(chosen.at),
+        from: present_at(chosen.at, 0),
     }
 }
 
@@ -170,13 +160,13 @@ fn bettered<T: Texts, S: Screen>(
 ) -> Answered
     requires files { 1 < length chosen.now.files.items }
     requires at { IfSome chosen.now.at (λ present. present ≤ MAX_MOMENT) }
-    ensures { Improves T.gives chosen.now.at chosen.now.rounds (pair_in chosen.now)
+    ensures { Improves T.gives chosen.now.at chosen.now.rounds (inputs_in chosen.now)
         (log_in chosen.now) texts.old result texts.new }
 {
     let (rounds, seed) = (chosen.rounds, chosen.seed);
     match rest_log(chosen) {
         Some(log) => { better_rest_answer(alloc, texts, &ahead(chosen, log), rounds, seed, screen) }
-        None => better_answer(alloc, texts, &pair(chosen), rounds, seed, screen),
+        None => better_answer(alloc, texts, &inputs(chosen), rounds, seed, screen),
     }
 }
 
@@ -237,22 +227,22 @@ pub(crate) fn command<T: Texts, R: Source, W: BufferedSink, S: Screen>(
     match chosen.name {
         CommandName::Input => input_answer(alloc, streams),
         CommandName::Facts => facts_answer(alloc, texts, file(chosen, 0), name(chosen)),
-        CommandName::Shape => shape_answer(alloc, texts, &pair(chosen)),
+        CommandName::Shape => shape_answer(alloc, texts, &inputs(chosen)),
         CommandName::Check => answered(alloc, chosen, texts, PlanAnswer::Verdict),
         CommandName::Explain => answered(alloc, chosen, texts, PlanAnswer::Reasons(chosen.job)),
         CommandName::Schedule => timetable_answer(alloc, chosen, form(chosen), texts, streams),
         CommandName::Bounds => bounds_answer(alloc, texts, &files(chosen)),
         CommandName::Margin => margin_answer(alloc, texts, &files(chosen)),
-        CommandName::Plan => seek_answer(alloc, texts, &pair(chosen), chosen.rounds),
+        CommandName::Plan => seek_answer(alloc, texts, &inputs(chosen), chosen.rounds),
         CommandName::Improve => bettered(alloc, chosen, texts, screen),
         CommandName::Decide => decided_answer(alloc, chosen, aim(chosen), texts, screen),
         CommandName::Revise => {
-            let (pair, log) = (pair(chosen), file(chosen, 2));
+            let (inputs, log) = (inputs(chosen), file(chosen, 2));
             let changes = chosen.changes.as_slice();
-            revision_answer(alloc, texts, &pair, log, chosen.at, changes, chosen.file)
+            revision_answer(alloc, texts, &inputs, log, chosen.at, changes, chosen.file)
         }
         CommandName::Drive => {
-            drive_answer(alloc, texts, &pair(chosen), protocol(chosen), streams)
+            drive_answer(alloc, texts, &inputs(chosen), protocol(chosen), streams)
         }
         CommandName::Resume => {
             let log = file(chosen, 2);
@@ -260,7 +250,7 @@ pub(crate) fn command<T: Texts, R: Source, W: BufferedSink, S: Screen>(
             resume_answer(
                 alloc,
                 texts,
-                &pair(chosen),
+                &inputs(chosen),
                 log,
                 chosen.at,
                 protocol,
@@ -279,11 +269,11 @@ pub(crate) fn command<T: Texts, R: Source, W: BufferedSink, S: Screen>(
                 streams,
             )
         }
-        CommandName::Digest => digest_answer(alloc, texts, &pair(chosen)),
+        CommandName::Digest => digest_answer(alloc, texts, &inputs(chosen)),
         CommandName::Audit => {
             let log = file(chosen, 2);
             let files = Files {
-                pair: pair(chosen),
+                inputs: inputs(chosen),
                 names: None,
             };
             log_answer(alloc, texts, &files, log, LogAnswer::Numbers)

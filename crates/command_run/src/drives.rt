@@ -33,13 +33,13 @@ impl From<DriveFault> for CommandFaultOf {
 pub(crate) fn drive_answer<T: Texts, R: Source, W: BufferedSink>(
     alloc: Global,
     texts: &mut T,
-    pair: &InputPaths<'_>,
+    inputs: &InputPaths<'_>,
     protocol: Protocol,
     streams: &mut Streams<R, W>,
 ) -> Answered
-    ensures { RunsDrive T.gives protocol pair.now texts.old streams.old result texts.new streams.new }
+    ensures { RunsDrive T.gives protocol inputs.now texts.old streams.old result texts.new streams.new }
 {
-    match load_files(alloc, texts, pair)?.accepted() {
+    match load_files(alloc, texts, inputs)?.accepted() {
         Ok(verified) => {
             let end = drive_in(
                 alloc,

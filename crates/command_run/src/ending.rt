@@ -28,10 +28,10 @@ pub(crate) fn end<R: Source, W: BufferedSink, E: Sink>(
             drop(answer);
             match printed {
                 Ok(status) => status,
-                Err(fault) => tell(alloc, &fault, errors),
+                Err(fault) => print_fault(alloc, &fault, errors),
             }
         }
-        Err(fault) => tell(alloc, &fault, errors),
+        Err(fault) => print_fault(alloc, &fault, errors),
     }
 }
 
@@ -42,7 +42,7 @@ pub(crate) fn end_aside<E: Sink>(alloc: Global, outcome: Answered, errors: &mut 
 {
     match outcome {
         Ok(answer) => print_line(errors, &answer.text, answer.status),
-        Err(fault) => tell(alloc, &fault, errors),
+        Err(fault) => print_fault(alloc, &fault, errors),
     }
 }
 
@@ -62,7 +62,7 @@ fn print<W: BufferedSink>(answer: &Answer, output: &mut W) -> Outcome<u8>
 
 /// Says on the standard error why there is no answer, and returns the status that the program ends with. If that can't
 /// be written, nothing is left to do. If memory runs out for the line of a refused text, it says that instead.
-pub fn tell<E: Sink>(alloc: Global, fault: &CommandFault, errors: &mut E) -> u8
+pub fn print_fault<E: Sink>(alloc: Global, fault: &CommandFault, errors: &mut E) -> u8
     ensures { IsFaultPrinted fault.now (errors_of E.Sink errors.old) (errors_of E.Sink errors.new) result }
 {
     match text_line(alloc, fault) {

@@ -14,18 +14,18 @@ use std::alloc::{AllocError, Global};
 pub(crate) fn better_answer<T: Texts, S: Screen>(
     alloc: Global,
     texts: &mut T,
-    pair: &InputPaths<'_>,
+    inputs: &InputPaths<'_>,
     rounds: u32,
     seed: u32,
     screen: &mut S,
 ) -> Answered
-    ensures { ImprovesPlan T.gives rounds pair.now texts.old result texts.new }
+    ensures { ImprovesPlan T.gives rounds inputs.now texts.old result texts.new }
 {
     let annealing = Box::new(alloc, AnnealingImprover::new(seed)).map_err(AllocError::from)?;
     let mut improvers: Vec<Box<dyn Improver>> = Vec::new(alloc);
     improvers.push(annealing).map_err(AllocError::from)?;
     let mut progress = Progress { screen, rounds };
-    let answer = improve_answer(alloc, texts, pair, &improvers, rounds, &mut progress);
+    let answer = improve_answer(alloc, texts, inputs, &improvers, rounds, &mut progress);
     progress.screen.show(b"");
     answer
 }
@@ -40,7 +40,7 @@ pub(crate) fn better_rest_answer<T: Texts, S: Screen>(
     screen: &mut S,
 ) -> Answered
     requires { IfSome ahead.now.at (λ present. present ≤ MAX_MOMENT) }
-    ensures { ImprovesRest T.gives ahead.now.at rounds ahead.now.files.pair ahead.now.log.now
+    ensures { ImprovesRest T.gives ahead.now.at rounds ahead.now.files.inputs ahead.now.log.now
         texts.old result texts.new }
 {
     let annealing = Box::new(alloc, AnnealingImprover::new(seed)).map_err(AllocError::from)?;

@@ -23,6 +23,6 @@ mod revisions;
 mod unchosen;
 
 pub use devices::{Devices, Screen, Streams};
-pub use ending::tell;
+pub use ending::print_fault;
 pub use misfits::Misfit;
 pub use program::run;

@@ -30,7 +30,7 @@ use std::alloc::Global;
 
 /// What `drive` with a log has come to.
 #[derive(Drop)]
-pub(crate) struct LoggedRun<R: Source, W: BufferedSink, D: Drop> {
+pub(crate) struct LoggedOutcome<R: Source, W: BufferedSink, D: Drop> {
     pub outcome: Answered,
     pub streams: Streams<R, W>,
     /// Whether a cell was driven, so that what couldn't be read is the input.
@@ -77,7 +77,7 @@ fn drive_with<R: Source, W: BufferedSink + Drop, D: LogFile + Drop, B: InitialSt
     log: D,
     streams: Streams<R, W>,
     before: B,
-) -> LoggedRun<R, W, D>
+) -> LoggedOutcome<R, W, D>
     requires ready { IsReady (D.seen log) (D.crash_states log) (D.fault log) }
     requires before { AreInitial B.before (D.seen log) streams.output.written }
     requires line { IfSome B.before (λ known. known.0 ≡ plan_line (digits_in begun.verified.planned)) }
@@ -94,7 +94,7 @@ fn drive_with<R: Source, W: BufferedSink + Drop, D: LogFile + Drop, B: InitialSt
         output,
     } = drive_logged(begun, room, &mut input, log, output, before);
     let outcome = logged_end(alloc, is_done(end), log_failed);
-    LoggedRun {
+    LoggedOutcome {
         outcome,
         streams: Streams { input, output },
         driven: true,
@@ -111,7 +111,7 @@ fn continue_with<R: Source, W: BufferedSink + Drop, D: LogFile + Drop, B: Initia
     log: D,
     streams: Streams<R, W>,
     before: B,
-) -> LoggedRun<R, W, D>
+) -> LoggedOutcome<R, W, D>
     requires ready { IsReady (D.seen log) (D.crash_states log) (D.fault log) }
     requires before { AreInitial B.before (D.seen log) streams.output.written }
     requires recoverable { IfSome B.before (λ known. IsRecoveredFromLog run known.0) }
@@ -128,7 +128,7 @@ fn continue_with<R: Source, W: BufferedSink + Drop, D: LogFile + Drop, B: Initia
         output,
     } = continue_logged(run, room, protocol, &mut input, log, output, before);
     let outcome = logged_end(alloc, is_rest_done(end), log_failed);
-    LoggedRun {
+    LoggedOutcome {
         outcome,
         streams: Streams { input, output },
         driven: true,
@@ -165,7 +165,7 @@ fn replay_and_continue<R: Source, W: BufferedSink + Drop, D: LogFile + Drop, B: 
     log: D,
     streams: Streams<R, W>,
     before: B,
-) -> LoggedRun<R, W, D>
+) -> LoggedOutcome<R, W, D>
     requires ready { IsReady (D.seen log) (D.crash_states log) (D.fault log) }
     requires seen { IfSome B.before (λ known. D.seen log ≡ Some known.0) }
     requires recoverable { IfSome B.before (λ known. IsRecoveredFromLog recovered.recovered known.0) }
@@ -189,7 +189,7 @@ fn replay_and_continue<R: Source, W: BufferedSink + Drop, D: LogFile + Drop, B: 
             Streams { input, output },
             before,
         ),
-        Err(fault) => LoggedRun {
+        Err(fault) => LoggedOutcome {
             outcome: Err(CommandFaultOf::from(fault).0),
             streams: Streams { input, output },
             driven: false,
@@ -204,7 +204,7 @@ fn drive_ready<R: Source, W: BufferedSink + Drop, D: LogFile + Drop, B: InitialS
     ready: Ready<D>,
     streams: Streams<R, W>,
     before: B,
-) -> LoggedRun<R, W, D>
+) -> LoggedOutcome<R, W, D>
     requires ready { IsReady (D.seen (log_of ready)) (D.crash_states (log_of ready)) (D.fault (log_of ready)) }
     requires before { IfSome B.before (HoldsBefore D.seen ready streams.output.written) }
     requires shown { streams.output.pending ≡ [] }
@@ -226,23 +226,24 @@ fn drive_ready<R: Source, W: BufferedSink + Drop, D: LogFile + Drop, B: InitialS
 pub(crate) fn logged_answer<T: Texts, R: Source, W: BufferedSink + Drop, L: Logs, B: InitialState>(
     alloc: Global,
     texts: &mut T,
-    pair: &InputPaths<'_>,
+    inputs: &InputPaths<'_>,
     asked: LogAsked<'_>,
     streams: Streams<R, W>,
     logs: &mut L,
     before: B,
-) -> LoggedRun<R, W, L::Log>
+) -> LoggedOutcome<R, W, L::Log>
     requires at_most { IfSome asked.at (λ present. present ≤ MAX_MOMENT) }
     requires shown { streams.output.pending ≡ [] }
     requires history { IfSome B.before (IsHistoryOfLog T.gives
-        (L.folder logs.old) pair.now asked.path.now asked.protocol asked.at texts.old streams.output.written) }
+        (L.folder logs.old) inputs.now asked.path.now asked.protocol asked.at texts.old streams.output.written) }
     ensures runs { StepsWith L.Log.seen L.Log.crash_states L.Log.fault L.Log.written B.before streams result.outcome
-        result.streams result.driven result.log (λ step. RunsLoggedDrive T.gives (L.folder logs.old) (L.folder logs.new)
-        asked.entry.path.now asked.entry.start asked.entry.protocol asked.entry.at pair.now texts.old step texts.new) }
+        result.streams result.driven result.log (λ step. RunsLoggedDrive T.gives
+        (L.folder logs.old) (L.folder logs.new) asked.entry.path.now asked.entry.start asked.entry.protocol
+        asked.entry.at inputs.now texts.old step texts.new) }
 {
-    match ready_run(alloc, texts, pair, asked, logs) {
+    match ready_run(alloc, texts, inputs, asked, logs) {
         Ok(ready) => drive_ready(alloc, ready, streams, before),
-        Err(left) => LoggedRun {
+        Err(left) => LoggedOutcome {
             outcome: left.outcome,
             streams,
             driven: false,

@@ -3,7 +3,7 @@
 ghost use Rattle.std.specs.Prelude.{◌≡◌, ◌↔◌, IfOk, IsTrue};
 ghost use Rattle.text_lines.specs.Searches.{SomeIfAny};
 ghost use Rattle.run_journal.specs.declared.log_run.LogRun.{LogRun};
-ghost use Rattle.command_run.specs.Misfits.{GoesOn, IsMisfit, IsMisfitLine, IsMisfitAnswer, KeepsPlan};
+ghost use Rattle.command_run.specs.Misfits.{NeedsBegun, IsMisfit, IsMisfitLine, IsMisfitAnswer, KeepsPlan};
 
 use command_answers::{Answer, Answered, REFUSED};
 use command_words::LogStart;
@@ -73,7 +73,7 @@ fn is_new(start: LogStart) -> bool
 
 /// Whether it has to have begun.
 fn goes_on(start: LogStart) -> bool
-    ensures { IsTrue result ↔ GoesOn start }
+    ensures { IsTrue result ↔ NeedsBegun start }
 {
     matches!(start, LogStart::Continue | LogStart::HandOver)
 }

@@ -6,7 +6,7 @@ ghost use Rattle.shop_base.specs.declared.limits.TheConstants.{MAX_MOMENT};
 ghost use Rattle.command_run.specs.Streams.{output_of};
 ghost use Rattle.command_run.specs.Pictures.{Draws, DrawsTimetable, IsPictureOut, RunsDrawing};
 ghost use Rattle.command_run.specs.Pictures.{RunsTimetable, AnswersMoves};
-ghost use Rattle.command_run.specs.Program.{log_in, names_in, pair_in};
+ghost use Rattle.command_run.specs.Program.{log_in, names_in, inputs_in};
 
 use crate::command::{ahead, answered, files, rest_log};
 use crate::devices::Streams;
@@ -40,7 +40,7 @@ pub(crate) fn timetable_answer<T: Texts, R: Source, W: BufferedSink>(
 ) -> Answered
     requires files { 1 < length chosen.now.files.items }
     requires at { IfSome chosen.now.at (λ present. present ≤ MAX_MOMENT) }
-    ensures { RunsTimetable T.gives form chosen.now.at (pair_in chosen.now) (names_in chosen.now) (log_in chosen.now)
+    ensures { RunsTimetable T.gives form chosen.now.at (inputs_in chosen.now) (names_in chosen.now) (log_in chosen.now)
         texts.old streams.old result texts.new streams.new }
 {
     match form {
@@ -57,7 +57,7 @@ pub(crate) fn timetable_answer<T: Texts, R: Source, W: BufferedSink>(
 fn answer_moves<T: Texts>(alloc: Global, chosen: &Chosen, texts: &mut T) -> Answered
     requires files { 1 < length chosen.now.files.items }
     requires at { IfSome chosen.now.at (λ present. present ≤ MAX_MOMENT) }
-    ensures { AnswersMoves T.gives chosen.now.at (pair_in chosen.now) (names_in chosen.now) (log_in chosen.now)
+    ensures { AnswersMoves T.gives chosen.now.at (inputs_in chosen.now) (names_in chosen.now) (log_in chosen.now)
         texts.old result texts.new }
 {
     match rest_log(chosen) {
@@ -70,7 +70,7 @@ fn answer_moves<T: Texts>(alloc: Global, chosen: &Chosen, texts: &mut T) -> Answ
 fn timetable_drawn<T: Texts>(alloc: Global, chosen: &Chosen, texts: &mut T) -> Outcome<Drawn>
     requires files { 1 < length chosen.now.files.items }
     requires at { IfSome chosen.now.at (λ present. present ≤ MAX_MOMENT) }
-    ensures { DrawsTimetable T.gives chosen.now.at (pair_in chosen.now) (names_in chosen.now) (log_in chosen.now)
+    ensures { DrawsTimetable T.gives chosen.now.at (inputs_in chosen.now) (names_in chosen.now) (log_in chosen.now)
         texts.old result texts.new }
 {
     match rest_log(chosen) {
@@ -88,7 +88,7 @@ pub(crate) fn drawing_answer<T: Texts, R: Source, W: BufferedSink>(
     svg: bool,
     streams: &mut Streams<R, W>,
 ) -> Answered
-    ensures { RunsDrawing T.gives svg files.now.pair
+    ensures { RunsDrawing T.gives svg files.now.inputs
         (option_copied files.now.names) log.now texts.old streams.old result texts.new streams.new }
 {
     if svg {

@@ -10,15 +10,15 @@ use std::alloc::{AllocError, Global};
 pub(crate) fn seek_answer<T: Texts>(
     alloc: Global,
     texts: &mut T,
-    pair: &InputPaths<'_>,
+    inputs: &InputPaths<'_>,
     rounds: u32,
 ) -> Answered
-    ensures { SeeksPlan T.gives rounds pair.now texts.old result texts.new }
+    ensures { SeeksPlan T.gives rounds inputs.now texts.old result texts.new }
 {
     let greedy = Box::new(alloc, GreedyProposer::new()).map_err(AllocError::from)?;
     let shift = Box::new(alloc, ShiftProposer::new()).map_err(AllocError::from)?;
     let mut planners: Vec<Box<dyn Proposer>> = Vec::new(alloc);
     planners.push(greedy).map_err(AllocError::from)?;
     planners.push(shift).map_err(AllocError::from)?;
-    plan_answer(alloc, texts, pair, &planners, rounds)
+    plan_answer(alloc, texts, inputs, &planners, rounds)
 }

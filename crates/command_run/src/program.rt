@@ -8,10 +8,10 @@ ghost use Rattle.command_run.specs.Ending.{EndsBy};
 ghost use Rattle.command_run.specs.Program.{Commands, Follows, IsHistoryOfChosen, IsHistoryOfWords};
 ghost use Rattle.command_run.specs.Program.{RunsProgram, draws_in, kept_log_in, starts_again};
 
-use crate::command::{command, kept_log, pair, protocol};
+use crate::command::{command, inputs, kept_log, protocol};
 use crate::devices::{Devices, Screen, Streams};
 use crate::ending::{end, end_aside, print_line};
-use crate::logs::{LoggedRun, logged_answer};
+use crate::logs::{LoggedOutcome, logged_answer};
 use crate::readiness::LogAsked;
 use crate::unchosen::Unchosen;
 use cell_drive::{BufferedSink, Source};
@@ -124,19 +124,21 @@ fn drive_logged<T: Texts, R: Source, W: BufferedSink + Drop, E: Sink, S, L: Logs
         screen,
         mut logs,
     } = devices;
-    let (pair, protocol) = (pair(chosen), protocol(chosen));
+    let (inputs, protocol) = (inputs(chosen), protocol(chosen));
     let asked = LogAsked {
         path,
         start: chosen.start,
         protocol,
         at: chosen.at,
     };
-    let LoggedRun {
+    let LoggedOutcome {
         outcome,
         mut streams,
         driven,
         log,
-    } = logged_answer(alloc, &mut texts, &pair, asked, streams, &mut logs, before);
+    } = logged_answer(
+        alloc, &mut texts, &inputs, asked, streams, &mut logs, before,
+    );
     let again = starts_again(&outcome, driven);
     let own = end(alloc, outcome, &mut streams, &mut errors);
     let status = status_with_log(own, again);

@@ -407,17 +407,17 @@ fn ready_shaped<L: Logs>(
 pub(crate) fn ready_run<T: Texts, L: Logs>(
     alloc: Global,
     texts: &mut T,
-    pair: &InputPaths<'_>,
+    inputs: &InputPaths<'_>,
     asked: LogAsked<'_>,
     logs: &mut L,
 ) -> Readied<L::Log>
     requires at_most { IfSome asked.at (λ present. present ≤ MAX_MOMENT) }
     ensures { IsReadied L.Log.seen L.Log.crash_states L.Log.fault L.Log.written (IsHistoryOfLog T.gives
-        (L.folder logs.old) pair.now asked.entry.path.now asked.entry.protocol asked.entry.at texts.old)
+        (L.folder logs.old) inputs.now asked.entry.path.now asked.entry.protocol asked.entry.at texts.old)
         (λ step. RunsLoggedDrive T.gives (L.folder logs.old) (L.folder logs.new) asked.entry.path.now asked.entry.start
-        asked.entry.protocol asked.entry.at pair.now texts.old step texts.new) result }
+        asked.entry.protocol asked.entry.at inputs.now texts.old step texts.new) result }
 {
-    match shape_files(alloc, texts, pair) {
+    match shape_files(alloc, texts, inputs) {
         Ok(Ok(shaped)) => ready_shaped(alloc, shaped, asked, logs),
         Ok(Err(fault)) => Err(Undriven {
             outcome: line_answer(alloc, Loaded::NotShaped(fault)),

@@ -25,16 +25,16 @@ use std::marker::Model;
 pub(crate) fn resume_answer<T: Texts, R: Source, W: BufferedSink>(
     alloc: Global,
     texts: &mut T,
-    pair: &InputPaths<'_>,
+    inputs: &InputPaths<'_>,
     log: &str,
     at: Option<Moment>,
     protocol: Protocol,
     streams: &mut Streams<R, W>,
 ) -> Answered
     requires { IfSome at (λ present. present ≤ MAX_MOMENT) }
-    ensures { RunsResume T.gives protocol at pair.now log.now texts.old streams.old result texts.new streams.new }
+    ensures { RunsResume T.gives protocol at inputs.now log.now texts.old streams.old result texts.new streams.new }
 {
-    match shape_files(alloc, texts, pair)? {
+    match shape_files(alloc, texts, inputs)? {
         Ok(shaped) => resume_log(alloc, texts, shaped, log, at, protocol, streams),
         Err(fault) => line_answer(alloc, Loaded::NotShaped(fault)),
     }

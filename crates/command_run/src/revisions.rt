@@ -15,14 +15,14 @@ use std::alloc::{AllocError, Global};
 pub(crate) fn revision_answer<T: Texts>(
     alloc: Global,
     texts: &mut T,
-    pair: &InputPaths<'_>,
+    inputs: &InputPaths<'_>,
     log: &str,
     at: Option<Moment>,
     asked: &[AskedChange],
     file: bool,
 ) -> Answered
     requires { IfSome at (λ present. present ≤ MAX_MOMENT) }
-    ensures { Revises T.gives file at asked.now pair.now log.now texts.old result texts.new }
+    ensures { Revises T.gives file at asked.now inputs.now log.now texts.old result texts.new }
 {
     let (mut changes, mut values) = (Vec::new(alloc), Vec::new(alloc));
     add_changes(&mut changes, &mut values, asked)?;
@@ -34,7 +34,7 @@ pub(crate) fn revision_answer<T: Texts>(
         values,
         prints,
     };
-    revise_answer(alloc, texts, pair, log, wanted)
+    revise_answer(alloc, texts, inputs, log, wanted)
 }
 
 /// What is printed: the instance's text if that is asked for, else the plan's.

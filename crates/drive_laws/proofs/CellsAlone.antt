@@ -17,7 +17,7 @@ use Rattle.event_lines.specs.{declared.requests.Claim.TheVariants.{Report, Clean
 use Rattle.event_lines.specs.{AnswerLines.late_line, EventLines.{report_line, order_line}}
 use Rattle.cell_drive.specs.declared.{protocol.Protocol.Protocol, refusals.Refusal.TheVariants.Reason}
 use Rattle.cell_drive.specs.{LineAnswers.ReportAnswer, ProtocolText.RequestAnswer, Protocols.plain_from}
-use Rattle.cell_drive.specs.ManyCells.{CellsReport, CellsAnswer, PlannedCell, AreVerified, hub_start, cell_start, OnCell, IsOnCell, IsAnsweredIn}
+use Rattle.cell_drive.specs.ManyCells.{CellsReport, CellsAnswer, HubCell, AreVerified, hub_start, cell_start, OnCell, IsOnCell, IsAnsweredIn}
 use Rattle.cell_drive.specs.ProtocolCellsLaw.{EachProtocolCellIsAlone, AsksNotOf, SeesLines, none_left, asked, passed_over}
 use Rattle.cell_drive.specs.ProtocolCells.{AsksCell, AsksOf, OfCell, IsReplyIn, CellsReply, ProtocolCellsAnswer}
 use Rattle.cell_drive.specs.Refusals.{is_before_leap}
@@ -56,12 +56,12 @@ module _ (version_2 : Bool) (k : ℕ) where
 
 -- ---- the cell of a number
 
-set_same : (cells : List PlannedCell) (k : ℕ) (c next : PlannedCell) → slice_get cells k ≡ Some c → slice_get (set cells k next) k ≡ Some next
+set_same : (cells : List HubCell) (k : ℕ) (c next : HubCell) → slice_get cells k ≡ Some c → slice_get (set cells k next) k ≡ Some next
 set_same [] k c next found = absurd (cc)
 set_same (d ∷ cells) zero c next found = refl
 set_same (d ∷ cells) (suc k) c next found = set_same cells k c next found
 
-set_other : (cells : List PlannedCell) (cell k : ℕ) (next : PlannedCell) → (cell ≡ k → ⊥) → slice_get (set cells cell next) k ≡ slice_get cells k
+set_other : (cells : List HubCell) (cell k : ℕ) (next : HubCell) → (cell ≡ k → ⊥) → slice_get (set cells cell next) k ≡ slice_get cells k
 set_other [] cell k next differ = refl
 set_other (d ∷ cells) zero zero next differ = absurd (differ refl)
 set_other (d ∷ cells) zero (suc k) next differ = refl
@@ -81,7 +81,7 @@ verified_at (w ∷ plans) (suc k) v verified found = verified_at plans k v verif
 -- ---- one line
 
 -- the line asks something of the cell, which answers alone
-record IsAskedOf (protocol : Protocol) (k : ℕ) (c : PlannedCell) (number : ℕ) (line : Option (List ℕ)) (next : List PlannedCell) : Type 0 where
+record IsAskedOf (protocol : Protocol) (k : ℕ) (c : HubCell) (number : ℕ) (line : Option (List ℕ)) (next : List HubCell) : Type 0 where
   words : List ℕ
   is_it : Some words ≡ line
   request : Request
@@ -93,18 +93,18 @@ record IsAskedOf (protocol : Protocol) (k : ℕ) (c : PlannedCell) (number : ℕ
   there : slice_get next k ≡ Some (record { plan = c.plan; cell = cell })
 
 -- it asks nothing of it, and the cell stays
-record IsPassed (protocol : Protocol) (k : ℕ) (c : PlannedCell) (line : Option (List ℕ)) (next : List PlannedCell) : Type 0 where
+record IsPassed (protocol : Protocol) (k : ℕ) (c : HubCell) (line : Option (List ℕ)) (next : List HubCell) : Type 0 where
   not_of : AsksNotOf protocol.version_2 k line
   there : slice_get next k ≡ Some c
 
-module _ (protocol : Protocol) (cells : List PlannedCell) (number k : ℕ) (c : PlannedCell) (found : slice_get cells k ≡ Some c) where
-  abbrev Goes : Option (List ℕ) → List PlannedCell → Type 0
+module _ (protocol : Protocol) (cells : List HubCell) (number k : ℕ) (c : HubCell) (found : slice_get cells k ≡ Some c) where
+  abbrev Goes : Option (List ℕ) → List HubCell → Type 0
   Goes line next = IsAskedOf protocol k c number line next ⊎ IsPassed protocol k c line next
 
-  same_cells : (line : Option (List ℕ)) (next : List PlannedCell) → AsksNotOf protocol.version_2 k line → next ≡ cells → Goes line next
-  same_cells line next not_of same = inr (record { not_of = not_of; there = ap (λ (cs : List PlannedCell). slice_get cs k) same ∙ found })
+  same_cells : (line : Option (List ℕ)) (next : List HubCell) → AsksNotOf protocol.version_2 k line → next ≡ cells → Goes line next
+  same_cells line next not_of same = inr (record { not_of = not_of; there = ap (λ (cs : List HubCell). slice_get cs k) same ∙ found })
 
-  asked_by : (line : List ℕ) (request : Request) (text : List ℕ) (events : List Entry) (cell : Cell) (next : List PlannedCell) → AsksCell protocol.version_2 line k request
+  asked_by : (line : List ℕ) (request : Request) (text : List ℕ) (events : List Entry) (cell : Cell) (next : List HubCell) → AsksCell protocol.version_2 line k request
       → RequestAnswer c.plan.planned protocol (cell_prefix k) c.cell number request text events cell → next ≡ set cells k (record { plan = c.plan; cell = cell }) → IsAskedOf protocol k c number (Some line) next
   asked_by line request text events cell next asks answer end_is = record {
     words = line;
@@ -115,30 +115,30 @@ module _ (protocol : Protocol) (cells : List PlannedCell) (number k : ℕ) (c : 
     events = events;
     cell = cell;
     answer = answer;
-    there = ap (λ (cs : List PlannedCell). slice_get cs k) end_is ∙ set_same cells k c (record { plan = c.plan; cell = cell }) found;
+    there = ap (λ (cs : List HubCell). slice_get cs k) end_is ∙ set_same cells k c (record { plan = c.plan; cell = cell }) found;
   }
 
-  passed_by : (o : Option PlannedCell) (line : List ℕ) (of : OfCell) (text : List ℕ) (next : List PlannedCell) → (of.cell ≡ k → ⊥) → AsksOf protocol.version_2 line of → IsReplyIn protocol o cells number of text next → Goes (Some line) next
+  passed_by : (o : Option HubCell) (line : List ℕ) (of : OfCell) (text : List ℕ) (next : List HubCell) → (of.cell ≡ k → ⊥) → AsksOf protocol.version_2 line of → IsReplyIn protocol o cells number of text next → Goes (Some line) next
   passed_by None line of text next differ is_line is = same_cells (Some line) next (other_not_of protocol.version_2 k line of is_line differ) is.end_is
   passed_by (Some other) line of text next differ is_line is =
       inr (record {
         not_of = other_not_of protocol.version_2 k line of is_line differ;
-        there = ap (λ (cs : List PlannedCell). slice_get cs k) is.end_is ∙ set_other cells of.cell k (record { plan = other.plan; cell = is.next }) differ ∙ found;
+        there = ap (λ (cs : List HubCell). slice_get cs k) is.end_is ∙ set_other cells of.cell k (record { plan = other.plan; cell = is.next }) differ ∙ found;
       })
 
-  goes_on : (line : List ℕ) (of : OfCell) (text : List ℕ) (next : List PlannedCell) → AsksOf protocol.version_2 line of → CellsReply protocol cells number of text next → Goes (Some line) next
+  goes_on : (line : List ℕ) (of : OfCell) (text : List ℕ) (next : List HubCell) → AsksOf protocol.version_2 line of → CellsReply protocol cells number of text next → Goes (Some line) next
   goes_on line of text next is_line is = elim (cases_Bool (of.cell == k)) [
     | inl is_it ↦
         let same : of.cell ≡ k = eqb-true of.cell k is_it in
         let answered : CellsReply protocol cells number (record { cell = k; request = of.request }) text next =
         subst (λ (n : ℕ). CellsReply protocol cells number (record { cell = n; request = of.request }) text next) same is in
         let by : IsReplyIn protocol (Some c) cells number (record { cell = k; request = of.request }) text next =
-        subst (λ (o : Option PlannedCell). IsReplyIn protocol o cells number (record { cell = k; request = of.request }) text next) found answered in
+        subst (λ (o : Option HubCell). IsReplyIn protocol o cells number (record { cell = k; request = of.request }) text next) found answered in
         inl (asked_by line of.request text by.events by.next next (subst (λ (n : ℕ). AsksCell protocol.version_2 line n of.request) same is_line) by.answer by.end_is)
     | inr other ↦ passed_by (slice_get cells of.cell) line of text next (eqb-false of.cell k other) is_line is
   ]
 
-  goes : (line : Option (List ℕ)) (text : List ℕ) (next : List PlannedCell) → ProtocolCellsAnswer protocol cells number line text next → Goes line next
+  goes : (line : Option (List ℕ)) (text : List ℕ) (next : List HubCell) → ProtocolCellsAnswer protocol cells number line text next → Goes line next
   goes None text next is = same_cells None next (long_not_of protocol.version_2 k) is.end_is
   goes (Some []) text next is = same_cells (Some []) next (empty_not_of protocol.version_2 k) is.end_is
   goes (Some (b ∷ line)) text next (inl is) = same_cells (Some (b ∷ line)) next (none_not_of protocol.version_2 k (b ∷ line) is.0) is.1.end_is
@@ -146,20 +146,20 @@ module _ (protocol : Protocol) (cells : List PlannedCell) (number k : ℕ) (c : 
 
 -- ---- all lines
 
-record SeesAll (protocol : Protocol) (k : ℕ) (c : PlannedCell) (number : ℕ) (lines : List (Option (List ℕ))) (end : List PlannedCell) : Type 0 where
+record SeesAll (protocol : Protocol) (k : ℕ) (c : HubCell) (number : ℕ) (lines : List (Option (List ℕ))) (end : List HubCell) : Type 0 where
   events : List Entry
   last : Cell
   sees : SeesLines c.plan.planned protocol k number c.cell lines events last
   there : slice_get end k ≡ Some (record { plan = c.plan; cell = last })
 
-sees_all : (protocol : Protocol) (k : ℕ) (lines : List (Option (List ℕ))) (cells end : List PlannedCell) (number : ℕ) (text : List ℕ) (c : PlannedCell) → slice_get cells k ≡ Some c
+sees_all : (protocol : Protocol) (k : ℕ) (lines : List (Option (List ℕ))) (cells end : List HubCell) (number : ℕ) (text : List ℕ) (c : HubCell) → slice_get cells k ≡ Some c
     → AnswerAll (ProtocolCellsAnswer protocol) cells number lines text end → SeesAll protocol k c number lines end
 sees_all protocol k [] cells end number text c found all =
-    record { events = []; last = c.cell; sees = none_left number c.cell; there = ap (λ (cs : List PlannedCell). slice_get cs k) all.1 ∙ found }
+    record { events = []; last = c.cell; sees = none_left number c.cell; there = ap (λ (cs : List HubCell). slice_get cs k) all.1 ∙ found }
 sees_all protocol k (line ∷ lines) cells end number text c found all =
     elim (goes protocol cells number k c found line all.0 all.2 all.3) [
       | inl call ↦
-          let next : PlannedCell = record { plan = c.plan; cell = call.cell } in
+          let next : HubCell = record { plan = c.plan; cell = call.cell } in
           let rest = sees_all protocol k lines all.2 end (number + 1) all.1 next call.there all.4 in
           record {
             events = call.events ++ rest.events;
@@ -185,7 +185,7 @@ module _ (p : PlannedShop) (protocol : Protocol) (k : ℕ) where
 pub protocol_alone : EachProtocolCellIsAlone
 protocol_alone plans protocol lines text end k v verified all found =
     let is_verified = verified_at plans k v verified found in
-    let c : PlannedCell = record { plan = v; cell = start v.planned } in
+    let c : HubCell = record { plan = v; cell = start v.planned } in
     let seen = sees_all protocol k lines (hub_start plans) end 1 text c (starts_at plans k v found) all in
     let led = sees_leads v.planned protocol k 1 (start v.planned) lines seen.events seen.last seen.sees in (
       record { plan = v; cell = seen.last },
@@ -217,7 +217,7 @@ answers_plainly p prefix c number report text events next (inr is) =
     let text_is = is.text_is ∙ ap (λ (rest : List ℕ). lines ++ (late ++ rest)) (sym (append-nil (flat_map (λ o. prefix ++ order_line o) (step_orders p c report is.movers)))) in
     inr (record { accepted = (is.step.can, refl); movers = is.movers; step = is.step; late = is.late; late_is = is.late_is; text_is = text_is; events_are = is.events_are; next_is = is.next_is })
 
-replies_plainly : (o : Option PlannedCell) (cells : List PlannedCell) (number : ℕ) (on : OnCell) (text : List ℕ) (end : List PlannedCell) → IsAnsweredIn o cells number on text end
+replies_plainly : (o : Option HubCell) (cells : List HubCell) (number : ℕ) (on : OnCell) (text : List ℕ) (end : List HubCell) → IsAnsweredIn o cells number on text end
     → IsReplyIn plain o cells number (record { cell = on.cell; request = ClaimRequest (Report on.report) }) text end
 replies_plainly None cells number on text end is = is
 replies_plainly (Some c) cells number on text end is =
@@ -228,7 +228,7 @@ asks_nothing line none cell (ClaimRequest (Report report)) is = none (record { c
 asks_nothing line none cell (ClaimRequest (CleanAfter machine job moment)) is = is
 asks_nothing line none cell Status is = is
 
-hub_plainly : (lines : List (Option (List ℕ))) (text : List ℕ) (start end : List PlannedCell) → AnswerAll CellsAnswer start 1 lines text end → AnswerAll (ProtocolCellsAnswer plain) start 1 lines text end
+hub_plainly : (lines : List (Option (List ℕ))) (text : List ℕ) (start end : List HubCell) → AnswerAll CellsAnswer start 1 lines text end → AnswerAll (ProtocolCellsAnswer plain) start 1 lines text end
 hub_plainly = lines_so IsOnCell (AsksOf false) CellsReport (CellsReply plain) (λ line none of. asks_nothing line none of.cell of.request) (λ start number line on text end so is.
     record { what = record { cell = on.cell; request = ClaimRequest (Report on.report) }; asked = so; answer = replies_plainly (slice_get start on.cell) start number on text end is }) 1
 
@@ -310,7 +310,7 @@ module _ (v : VerifiedPlan) (k : ℕ) where
 pub as_alone : EachCellIsAsAlone
 as_alone plans lines text end verified all k v found =
     let is_verified = verified_at plans k v verified found in
-    let c : PlannedCell = cell_start v in
+    let c : HubCell = cell_start v in
     let seen = sees_all plain k lines (hub_start plans) end 1 text c (starts_at plans k v found) (hub_plainly lines text (hub_start plans) end all) in
     let made = calls v k 1 (start v.planned) lines seen.events seen.last [] true (start_on_course v.planned is_verified.schedule.shaped) seen.sees in
     let last : Control = now v k seen.last made.orders_last made.still in

@@ -12,7 +12,7 @@ use Rattle.event_lines.specs.{StandingLines.refused_detail_line, EventLines.{rep
 use Rattle.cell_drive.specs.{declared.refusals.Refusal.{TheVariants.Reason, Refusal}, ProtocolLaw.PlainlyAsEver}
 use Rattle.cell_drive.specs.{AnswerText.{DrivenCell, CellReports}, ProtocolText.{AsksFor, CellRequests, RequestAnswer}}
 use Rattle.cell_drive.specs.{LineAnswers.{IsAsked, ReportAnswer, AsksNothing, LineAnswer}, Protocols.plain_from}
-use Rattle.cell_drive.specs.ManyCells.{PlannedCell, IsOnCell, IsAnsweredIn, CellsReport}
+use Rattle.cell_drive.specs.ManyCells.{HubCell, IsOnCell, IsAnsweredIn, CellsReport}
 use Rattle.cell_drive.specs.{Refusals.{IsRefusal, refusal_word, is_before_leap}, ProtocolCellsLaw.PlainlyAsEverForCells}
 use Rattle.cell_drive.specs.ProtocolCells.{AsksCell, AsksOf, IsReplyIn, CellsReply}
 use Rattle.shop_base.specs.declared.report.Report as reports
@@ -78,13 +78,13 @@ module _ (from : ℕ) where
   plain_request p before number line (ClaimRequest (CleanAfter machine job at)) text end asked is = absurd asked
   plain_request p before number line Status text end asked is = absurd asked
 
-  plain_reply : (o : Option PlannedCell) (cells : List PlannedCell) (number cell : ℕ) (report : reports.Report) (text : List ℕ) (end : List PlannedCell)
+  plain_reply : (o : Option HubCell) (cells : List HubCell) (number cell : ℕ) (report : reports.Report) (text : List ℕ) (end : List HubCell)
       → IsReplyIn (plain_from from) o cells number (record { cell = cell; request = ClaimRequest (Report report) }) text end → IsAnsweredIn o cells number (record { cell = cell; report = report }) text end
   plain_reply None cells number cell report text end is = is
   plain_reply (Some c) cells number cell report text end is =
       record { events = is.events; next = is.next; answer = plain_report c.plan.planned from (cell_prefix cell) c.cell number report text is.events is.next is.answer; end_is = is.end_is }
 
-  plain_asked : (start : List PlannedCell) (number : ℕ) (line : List ℕ) (cell : ℕ) (request : Request) (text : List ℕ) (end : List PlannedCell) → AsksCell false line cell request
+  plain_asked : (start : List HubCell) (number : ℕ) (line : List ℕ) (cell : ℕ) (request : Request) (text : List ℕ) (end : List HubCell) → AsksCell false line cell request
       → CellsReply (plain_from from) start number (record { cell = cell; request = request }) text end → IsAsked IsOnCell CellsReport line start number text end
   plain_asked start number line cell (ClaimRequest (Report report)) text end asked is =
       record { what = record { cell = cell; report = report }; asked = asked; answer = plain_reply (slice_get start cell) start number cell report text end is }

@@ -7,7 +7,7 @@ use Rattle.cell_tables.specs.declared.entry.Entry.{Entry, TheVariants.{Report as
 use Rattle.cell_tables.specs.Events.{events_of}
 use Rattle.event_lines.specs.{Words.{Text, words_before}, EventLines.end_name, LogLines.IsEntryOf, ReadBack.AreFitting}
 use Rattle.event_lines.specs.SentLines.{sent_numbers, sent_words, IsReportLine}
-use Rattle.event_lines.proofs.{Telling.{job_fits, machine_fits, moment_fits}, WrittenWords.read_back}
+use Rattle.event_lines.proofs.{EntryParses.{job_fits, machine_fits, moment_fits}, WrittenWords.read_back}
 use Rattle.cell_drive.proofs.ShopEntries.{report_of_shop}
 use Rattle.drive_laws.specs.{AnswerLaw.AreReportLines, SameReportsLaw.EachReportHasALine}
 

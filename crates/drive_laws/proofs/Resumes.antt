@@ -13,7 +13,7 @@ use Rattle.cell_tables.specs.declared.entry.Entry.{Entry, TheVariants.{Report as
 use Rattle.cell_tables.specs.Events.{events_of}
 use Rattle.event_lines.specs.{EventLines.{entry_line, entry_lines}, LogLines.{IsEntryOf, LinesParse}}
 use Rattle.event_lines.specs.ReadBack.{ParsesFirst}
-use Rattle.event_lines.proofs.Telling.{parses_none, parses_both, parses_entry}
+use Rattle.event_lines.proofs.EntryParses.{parses_none, parses_both, parses_entry}
 use Rattle.run_log.{specs.Log.Noted, proofs.Audits.events-join}
 use Rattle.byte_streams.specs.{Lines.input_lines, Answering.AnswerAll}
 use Rattle.cell_drive.specs.{declared.{protocol.Protocol.Protocol, resume.RestEnd.RestEnd}, OneRun.cell_after}
@@ -21,7 +21,7 @@ use Rattle.cell_drive.specs.{AnswerText.{DrivenCell, undriven, CellCloses}, Audi
 use Rattle.cell_drive.specs.Recovered.{replayed_cell, Recovered, IsRecoverable, IsRecoveredRun, IsRecovered, plan_of, replayed_events}
 use Rattle.cell_drive.specs.ProtocolText.{AreProtocolAnswers, ProtocolAnswers, lateness_part, printed_overdue}
 use Rattle.cell_drive.specs.{Session.{SessionState, IsRestEndOf, seen}, Replay.{replay_line, replay_lines}}
-use Rattle.cell_drive.specs.Resuming.{again_text, again_of, driven_so_far, session_from, GoesOnFrom, IsRunToRest, AResumedTextIsALog, OneResumedText, WhatWasResumedIsSuchAText, AnAuditKeepsWhatWasResumed, WhatWasResumedGoesOn}
+use Rattle.cell_drive.specs.Resuming.{again_text, again_of, driven_so_far, session_from, ContinuesFrom, IsRunToRest, AResumedTextIsALog, OneResumedText, WhatWasResumedIsSuchAText, AnAuditKeepsWhatWasResumed, WhatWasResumedGoesOn}
 use Rattle.cell_drive.specs.CutLaw.{IsRunPrefix, WhatWasDrivenIsRecovered, WhatWasDrivenHasItsOrders, WhatWasResumedIsRecovered, WhatWasResumedIsRecoverable}
 use Rattle.cell_drive.proofs.{Parts.events-orders, ShopEntries.{report_of_shop, order_of_shop}, ReadBack.AreParsed}
 use Rattle.cell_drive.proofs.{OneText.{IsOnCourse, one_closed, one_lines_text}, ProtocolParses.lateness_parses}
@@ -208,7 +208,7 @@ what_was_resumed_is_recoverable p protocol log at recovered lines answers closin
     (what_was_resumed_is_recovered p protocol recovered.log.entries recovered.late lines answers closing cut lost end to.0 to.1 up.recovered_from.run.within are closes whole) which
 
 -- where steps of the controlled run lead on from the cell that was recovered, it goes on from the cell of its log
-pub goes_on_from : (recovered : Recovered) (s : SessionState) (end : RestEnd) → IsRecoveredRun recovered → AreLed (plan_of recovered) (record { cell = recovered.control.cell; entries = recovered.log.entries }) (seen s) → IsRestEndOf (plan_of recovered) s end → GoesOnFrom recovered end
+pub goes_on_from : (recovered : Recovered) (s : SessionState) (end : RestEnd) → IsRecoveredRun recovered → AreLed (plan_of recovered) (record { cell = recovered.control.cell; entries = recovered.log.entries }) (seen s) → IsRestEndOf (plan_of recovered) s end → ContinuesFrom recovered end
 goes_on_from recovered s end from led came_to =
     let p = plan_of recovered in
     let control = recovered.control in

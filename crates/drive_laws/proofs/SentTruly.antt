@@ -21,7 +21,7 @@ module _ (floor : Floor) (p : PlannedShop) where
   -- events that lead from one cell to another, and whose reports say what has ended
   record GoTruly (c : Cell) (es : List Event) (end : Cell) : Type 0 where
     happen : AreEvents p c es
-    tell : AreTrue floor p c es
+    are_true : AreTrue floor p c es
     leads : end ≡ after_all p c es
 
   join_true : (c : Cell) (es fs : List Event) → AreTrue floor p c es → AreTrue floor p (after_all p c es) fs → AreTrue floor p c (es ++ fs)
@@ -34,17 +34,17 @@ module _ (floor : Floor) (p : PlannedShop) where
   moves_are_true c (o ∷ os) = moves_are_true (after p c (Moved o)) os
 
   nothing_goes : (c end : Cell) (events : List Entry) → events ≡ [] → end ≡ c → GoTruly c (events_of events) end
-  nothing_goes c end events none same = subst (λ (es : List Entry). GoTruly c (events_of es) end) (sym none) (record { happen = tt; tell = tt; leads = same })
+  nothing_goes c end events none same = subst (λ (es : List Entry). GoTruly c (events_of es) end) (sym none) (record { happen = tt; are_true = tt; leads = same })
 
   go_join : (c next end : Cell) (events more : List Entry) → GoTruly c (events_of events) next → GoTruly next (events_of more) end → GoTruly c (events_of (events ++ more)) end
   go_join c next end events more first then_go =
       let es = events_of events in
       let fs = events_of more in
       let happen : AreEvents p (after_all p c es) fs = subst (λ (d : Cell). AreEvents p d fs) first.leads then_go.happen in
-      let tell : AreTrue floor p (after_all p c es) fs = subst (λ (d : Cell). AreTrue floor p d fs) first.leads then_go.tell in
+      let are_true : AreTrue floor p (after_all p c es) fs = subst (λ (d : Cell). AreTrue floor p d fs) first.leads then_go.are_true in
       subst (λ (all : List Event). GoTruly c all end) (sym (events-join events more)) (record {
         happen = events_join p c es fs first.happen happen;
-        tell = join_true c es fs first.tell tell;
+        are_true = join_true c es fs first.are_true are_true;
         leads = then_go.leads ∙ ap (λ (d : Cell). after_all p d fs) first.leads ∙ sym (after_all_join p c es fs);
       })
 
@@ -57,7 +57,7 @@ module _ (floor : Floor) (p : PlannedShop) where
         let whole : events_of events ≡ Reported r ∷ moved os = ap events_of is.events_are ∙ ap (λ (es : List Event). Reported r ∷ es) (events-orders os) in
         subst (λ (es : List Event). GoTruly c es next) (sym whole) (record {
           happen = (is.step.can, moves-events p (after_report c r) (at r) is.movers is.step.moves);
-          tell = ((truthful.0, ends_named p c claim truthful.0 truthful.1 is.accepted.0, truthful.2), moves_are_true (after p c (Reported r)) os);
+          are_true = ((truthful.0, ends_named p c claim truthful.0 truthful.1 is.accepted.0, truthful.2), moves_are_true (after p c (Reported r)) os);
           leads = is.next_is ∙ sym (after_all-moves p (after_report c r) (at r) is.movers);
         })
 
@@ -116,7 +116,7 @@ module _ (floor : Floor) (p : PlannedShop) where
     sees_go cell _ _ _ events end (passed_over number line lines c last more not_of rest) say = sees_go cell (number + 1) c lines events end rest say.1
 
   right : (events : List Entry) (end : Cell) → IsWellShaped p → GoTruly (start p) (events_of events) end → AreRight floor p (events_of events)
-  right events end shaped go = nothing_is_ordered_wrongly floor p (events_of events) shaped go.happen go.tell
+  right events end shaped go = nothing_is_ordered_wrongly floor p (events_of events) shaped go.happen go.are_true
 
 pub a_driven_cell_orders_rightly : ADrivenCellOrdersRightly
 a_driven_cell_orders_rightly floor p protocol lines text end shaped answered say =
@@ -125,7 +125,7 @@ a_driven_cell_orders_rightly floor p protocol lines text end shaped answered say
 
 pub a_run_that_goes_on_orders_rightly : ARunThatGoesOnOrdersRightly
 a_run_that_goes_on_orders_rightly floor p protocol entries lines number text end shaped run truth answered say =
-    let so_far : GoTruly floor p (start p) (events_of entries) (cell_after p entries) = record { happen = run; tell = truth; leads = refl } in
+    let so_far : GoTruly floor p (start p) (events_of entries) (cell_after p entries) = record { happen = run; are_true = truth; leads = refl } in
     let goes = lines_go floor p protocol lines (driven_so_far p entries) end number text answered say in
     subst (λ (es : List Entry). AreRight floor p (events_of es)) (sym goes.entries)
     (right floor p (entries ++ goes.more) end.cell shaped (go_join floor p (start p) (cell_after p entries) end.cell entries goes.more so_far goes.go))

@@ -9,7 +9,7 @@ use Rattle.event_lines.specs.declared.details.{Detail.{Detail, TheVariants.Nothi
 use Rattle.event_lines.specs.declared.requests.{Request.Request, Claim.TheVariants.{Report, CleanAfter}}
 use Rattle.event_lines.specs.declared.requests.Request.TheVariants.{Claim as ClaimRequest, Status}
 use Rattle.event_lines.specs.{AnswerLines.refused_line, StandingLines.refused_detail_line, SentLines.cell_prefix}
-use Rattle.cell_drive.specs.{Refusals.{refusal_word, refusal_detail}, AnswerText.DrivenCell, ManyCells.PlannedCell}
+use Rattle.cell_drive.specs.{Refusals.{refusal_word, refusal_detail}, AnswerText.DrivenCell, ManyCells.HubCell}
 use Rattle.cell_drive.specs.{LineAnswers.{IsAsked, LineAnswer}, ProtocolCells.{AsksCell, AsksOf, CellsReply, IsReplyIn}}
 use Rattle.cell_drive.specs.ProtocolText.{AsksFor, CellRequests, RequestAnswer, acceptance_lines, prints_end, printed_overdue}
 use Rattle.drive_laws.specs.VersionsLaw.{IsOfVersion1, AreOfVersion1, IsPlainText, nothing_more, refused, accepted, in_version, Version2OnlyAdds}
@@ -105,7 +105,7 @@ version_2_only_adds p max_gap from number lines text start end of all =
 -- ---- the cells of a hub
 
 module _ (max_gap : Option ℕ) (from : ℕ) where
-  answered_in_place : (o : Option PlannedCell) (cells : List PlannedCell) (number cell : ℕ) (report : reports.Report) (text : List ℕ) (end : List PlannedCell)
+  answered_in_place : (o : Option HubCell) (cells : List HubCell) (number cell : ℕ) (report : reports.Report) (text : List ℕ) (end : List HubCell)
       → IsReplyIn (in_version true max_gap from) o cells number (record { cell = cell; request = ClaimRequest (Report report) }) text end
       → InPlace IsPlainCellsText (λ other. IsReplyIn (in_version false max_gap from) o cells number (record { cell = cell; request = ClaimRequest (Report report) }) other end) text
   answered_in_place None cells number cell report text end is =
@@ -116,7 +116,7 @@ module _ (max_gap : Option ℕ) (from : ℕ) where
       let one = report_in_place c.plan.planned max_gap from (cell_prefix cell) IsPlainCellsText (refused_by cell) (accepted_by cell) c.cell number report text is.events is.next is.answer in
       record { other = one.other; answer = record { events = is.events; next = is.next; answer = one.answer; end_is = is.end_is }; plain = one.plain }
 
-  request_in_place : (start : List PlannedCell) (number : ℕ) (line : List ℕ) (cell : ℕ) (request : Request) (text : List ℕ) (end : List PlannedCell) → AsksInVersion1 (Some line) → AsksCell true line cell request
+  request_in_place : (start : List HubCell) (number : ℕ) (line : List ℕ) (cell : ℕ) (request : Request) (text : List ℕ) (end : List HubCell) → AsksInVersion1 (Some line) → AsksCell true line cell request
       → CellsReply (in_version true max_gap from) start number (record { cell = cell; request = request }) text end
       → InPlace IsPlainCellsText (λ other. IsAsked (AsksOf false) (CellsReply (in_version false max_gap from)) line start number other end) text
   request_in_place start number line cell (ClaimRequest (Report report)) text end of asked is =

@@ -6,7 +6,7 @@ use Rattle.plan_verifier.specs.Accepted.{VerifiedPlan}
 use Rattle.cell_control.specs.{Control.Control, Control.verified_in, Promises.IsControllerAfter}
 use Rattle.event_lines.specs.SentLines.{IsCellReport}
 use Rattle.byte_streams.specs.Answering.{AnswerAll}
-use Rattle.cell_drive.specs.ManyCells.{PlannedCell, AreVerified, CellsAnswer, hub_start}
+use Rattle.cell_drive.specs.ManyCells.{HubCell, AreVerified, CellsAnswer, hub_start}
 use Rattle.cell_drive.specs.OneRun.{StaysAsPromised}
 
 -- the line is no report on the cell of this number
@@ -22,7 +22,7 @@ pub data HaveReports (cell : ℕ) : List (Option (List ℕ)) → List Report →
       → HaveReports cell lines reports → HaveReports cell (line ∷ lines) reports
 
 -- the cell of this number, by this plan, is as with a controller alone that was given the reports on it that these lines have: these events are their controlled run, which has ended exactly where as many reports were accepted as the stated number, and in which all stayed as the plan promises
-pub record IsAsAlone (v : VerifiedPlan) (cell : ℕ) (lines : List (Option (List ℕ))) (end : PlannedCell) : Type 0 where
+pub record IsAsAlone (v : VerifiedPlan) (cell : ℕ) (lines : List (Option (List ℕ))) (end : HubCell) : Type 0 where
   pub reports : List Report
   pub have : HaveReports cell lines reports
   pub events : List Event
@@ -33,14 +33,14 @@ pub record IsAsAlone (v : VerifiedPlan) (cell : ℕ) (lines : List (Option (List
   pub promised : StaysAsPromised v events
 
 -- the first lines of an input of cells by these plans are answered by this text, in version 1 of the lines
-abbrev pub AreCellsAnswersTo : List VerifiedPlan → List (Option (List ℕ)) → List ℕ → List PlannedCell → Type 0
+abbrev pub AreCellsAnswersTo : List VerifiedPlan → List (Option (List ℕ)) → List ℕ → List HubCell → Type 0
 AreCellsAnswersTo plans lines text end = AnswerAll CellsAnswer (hub_start plans) 1 lines text end
 
 -- so is the cell of each of these plans
-abbrev pub AreAsAlone : List VerifiedPlan → List (Option (List ℕ)) → List PlannedCell → Type 0
-AreAsAlone plans lines end = (cell : ℕ) (v : VerifiedPlan) → slice_get plans cell ≡ Some v → (content : PlannedCell) × (slice_get end cell ≡ Some content) × IsAsAlone v cell lines content
+abbrev pub AreAsAlone : List VerifiedPlan → List (Option (List ℕ)) → List HubCell → Type 0
+AreAsAlone plans lines end = (cell : ℕ) (v : VerifiedPlan) → slice_get plans cell ≡ Some v → (content : HubCell) × (slice_get end cell ≡ Some content) × IsAsAlone v cell lines content
 
 -- whatever lines were answered, each cell is so
 abbrev pub EachCellIsAsAlone : Type 0
-EachCellIsAsAlone = (plans : List VerifiedPlan) (lines : List (Option (List ℕ))) (text : List ℕ) (end : List PlannedCell) → AreVerified plans → AreCellsAnswersTo plans lines text end
+EachCellIsAsAlone = (plans : List VerifiedPlan) (lines : List (Option (List ℕ))) (text : List ℕ) (end : List HubCell) → AreVerified plans → AreCellsAnswersTo plans lines text end
     → AreAsAlone plans lines end

@@ -6,7 +6,7 @@ use Rattle.event_lines.specs.{declared.details.Detail.Detail, declared.details.O
 use Rattle.event_lines.specs.{declared.requests.Claim.TheVariants.Report, declared.requests.Request.Request}
 use Rattle.event_lines.specs.{declared.requests.Request.TheVariants.Claim as ClaimRequest, AnswerLines.refused_line}
 use Rattle.event_lines.specs.{StandingLines.refused_detail_line, Requests.IsCellRequest}
-use Rattle.cell_drive.specs.{ManyCells.PlannedCell, ProtocolText.acceptance_lines, ProtocolCells.ProtocolCellsAnswer}
+use Rattle.cell_drive.specs.{ManyCells.HubCell, ProtocolText.acceptance_lines, ProtocolCells.ProtocolCellsAnswer}
 use Rattle.drive_laws.specs.VersionsLaw.{in_version}
 use Rattle.shop_base.specs.declared.report.Report as reports
 
@@ -29,6 +29,6 @@ pub data IsPlainCellsText : List ℕ → List ℕ → Type 0 where
 
 -- lines that version 1 has are answered in both versions, with the same reports and orders, and the answers of version 1 are those of version 2 without what it adds
 abbrev pub Version2OnlyAddsForCells : Type 0
-Version2OnlyAddsForCells = (max_gap : Option ℕ) (from number : ℕ) (lines : List (Option (List ℕ))) (text : List ℕ) (start end : List PlannedCell) → AskInVersion1 lines
+Version2OnlyAddsForCells = (max_gap : Option ℕ) (from number : ℕ) (lines : List (Option (List ℕ))) (text : List ℕ) (start end : List HubCell) → AskInVersion1 lines
     → AnswerAll (ProtocolCellsAnswer (in_version true max_gap from)) start number lines text end
     → (other : List ℕ) × AnswerAll (ProtocolCellsAnswer (in_version false max_gap from)) start number lines other end × IsPlainCellsText text other

@@ -7,7 +7,7 @@ use Rattle.byte_streams.specs.Answering.{AnswerAll}
 use Rattle.cell_drive.specs.{declared.protocol.Protocol.Protocol, declared.resume.RestEnd.RestEnd, CutLogs.IsCutLog}
 use Rattle.cell_drive.specs.{AnswerText.DrivenCell, AnswerText.CellCloses, OneRun.IsRunOf, OneRun.NeverWentWrong}
 use Rattle.cell_drive.specs.{CutLaw.IsRunPrefix, CutLaw.IsCutFrom, Recovered.Recovered, Recovered.IsRecovered}
-use Rattle.cell_drive.specs.Resuming.{again_text, driven_so_far, GoesOnFrom}
+use Rattle.cell_drive.specs.Resuming.{again_text, driven_so_far, ContinuesFrom}
 use Rattle.cell_drive.specs.ProtocolText.{ProtocolAnswers}
 
 -- a run was recovered by its own plan: from the log of a controlled run of that, which may be cut, and without a moment
@@ -31,11 +31,11 @@ ItIsOneSoFar = (p : PlannedShop) (protocol : Protocol) (entries : List Entry) (n
 
 -- so where driving on succeeded, all events of the log are one controlled run: those from before, the orders that were due, and those that came since
 abbrev pub ADrivenRunGoesOnAsOne : Type 0
-ADrivenRunGoesOnAsOne = (p : PlannedShop) (recovered : Recovered) (end : RestEnd) → IsRecoveredByItsPlan p recovered → GoesOnFrom recovered end → IsRunOf p end.log.entries
+ADrivenRunGoesOnAsOne = (p : PlannedShop) (recovered : Recovered) (end : RestEnd) → IsRecoveredByItsPlan p recovered → ContinuesFrom recovered end → IsRunOf p end.log.entries
 
 -- and by an accepted plan all stayed as that promises, as if the run had never been cut
 abbrev pub ItStaysAsPromised : Type 0
-ItStaysAsPromised = (v : VerifiedPlan) (recovered : Recovered) (end : RestEnd) → IsVerified v → IsRecoveredByItsPlan v.planned recovered → GoesOnFrom recovered end → NeverWentWrong v end.log.entries
+ItStaysAsPromised = (v : VerifiedPlan) (recovered : Recovered) (end : RestEnd) → IsVerified v → IsRecoveredByItsPlan v.planned recovered → ContinuesFrom recovered end → NeverWentWrong v end.log.entries
 
 -- ---- its log, cut again
 

@@ -2,5 +2,5 @@ pub mod WordByWord
 pub mod Ends
 pub mod Readings
 pub mod WrittenWords
-pub mod Telling
+pub mod EntryParses
 pub mod PlanLines

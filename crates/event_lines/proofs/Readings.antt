@@ -183,14 +183,14 @@ one_reading p (line ∷ lines) a b h k =
 -- one more line behind others
 pub parse-more : (p : PlannedShop) (lines : List (List ℕ)) (line : List ℕ) (all own : List Entry) → LinesParse p lines all → LineParses p line own
     → LinesParse p (lines ++ line ∷ []) (all ++ own)
-parse-more p [] line all own tells more = (own, [], more, refl, ap (λ es. es ++ own) tells ∙ sym (append-nil own))
-parse-more p (first ∷ lines) line all own tells more =
-    (tells.0, tells.1 ++ own, tells.2, parse-more p lines line tells.1 own tells.3 more, ap (λ es. es ++ own) tells.4 ∙ append_assoc tells.0 tells.1 own)
+parse-more p [] line all own parses more = (own, [], more, refl, ap (λ es. es ++ own) parses ∙ sym (append-nil own))
+parse-more p (first ∷ lines) line all own parses more =
+    (parses.0, parses.1 ++ own, parses.2, parse-more p lines line parses.1 own parses.3 more, ap (λ es. es ++ own) parses.4 ∙ append_assoc parses.0 parses.1 own)
 
 -- what lines record, in two parts
 pub parse-parts : (p : PlannedShop) (before after : List (List ℕ)) (all : List Entry) → LinesParse p (before ++ after) all
     → (a : List Entry) × (b : List Entry) × LinesParse p before a × LinesParse p after b × (all ≡ a ++ b)
-parse-parts p [] after all tells = ([], all, refl, tells, refl)
-parse-parts p (line ∷ before) after all tells =
-    let (a, b, first, second, split) = parse-parts p before after tells.1 tells.3 in
-    (tells.0 ++ a, b, (tells.0, a, tells.2, first, refl), second, tells.4 ∙ ap (λ es. tells.0 ++ es) split ∙ sym (append_assoc tells.0 a b))
+parse-parts p [] after all parses = ([], all, refl, parses, refl)
+parse-parts p (line ∷ before) after all parses =
+    let (a, b, first, second, split) = parse-parts p before after parses.1 parses.3 in
+    (parses.0 ++ a, b, (parses.0, a, parses.2, first, refl), second, parses.4 ∙ ap (λ es. parses.0 ++ es) split ∙ sym (append_assoc parses.0 a b))

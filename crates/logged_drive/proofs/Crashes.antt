@@ -10,7 +10,7 @@ use Rattle.cell_tables.specs.{declared.entry.Entry.{Entry, TheVariants.Order as 
 use Rattle.run_log.proofs.Audits.{events-join}
 use Rattle.event_lines.specs.{EventLines.{entry_line, entry_lines, order_lines}, LogLines.LinesParse}
 use Rattle.event_lines.specs.ReadBack.{ParsesFirst}
-use Rattle.event_lines.proofs.{Readings.parse-parts, Telling.parses_both}
+use Rattle.event_lines.proofs.{Readings.parse-parts, EntryParses.parses_both}
 use Rattle.cell_drive.specs.{declared.protocol.Protocol.Protocol, AnswerText.{DrivenCell, undriven}}
 use Rattle.cell_drive.specs.{ProtocolText.ProtocolAnswers, Resuming.{due_text, driven_so_far}}
 use Rattle.cell_drive.specs.Recovered.{Recovered, IsRecoveredRun, IsRecovered, plan_of, replayed_events, replayed_cell}

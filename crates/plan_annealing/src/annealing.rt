@@ -187,7 +187,7 @@ fn try_neighbour(
         limit,
     };
     if pass.run(&net.spots, part) {
-        pass.go_on(&net.spots);
+        pass.continue_pass(&net.spots);
         let price = Price::of(&net.spans, &pass.rows);
         if price.weight(walk.aim) <= limit {
             pass.keep();

@@ -105,7 +105,7 @@ impl Pass {
     }
 
     /// Finds the moments after that part.
-    pub fn go_on(&mut self, spots: &[Spot]) {
+    pub fn continue_pass(&mut self, spots: &[Spot]) {
         self.timed = time_from(
             spots,
             &self.order,

@@ -31,7 +31,7 @@ use Rattle.plan_improve.proofs.OneCell.{one_cell}
 use Rattle.plan_decide.specs.declared.aim.Objective.{Objective}
 use Rattle.plan_decide.specs.declared.aim.Objective.TheVariants.{Makespan, Leaving}
 use Rattle.plan_decide.specs.Cases.{Past, nothing, run_to, Case, KeepsPast, IsOutWithin, IsGood, HasValue, IsPlanOf, IsAccepted, is_waiting, bound_in, job_count, times_in}
-use Rattle.plan_decide.specs.Objectives.{IsLeast}
+use Rattle.plan_decide.specs.Objectives.{IsLeastValue}
 use Rattle.plan_decide.proofs.Budgets.{rebudgeted, cell_again}
 
 -- what has happened leads to its cell by some plan with these times
@@ -167,14 +167,14 @@ accepted_plan t order accepted = record { shaped = accepted.shaped; same = refl;
 -- ---- the least values
 
 -- no whole plan has a makespan below the greatest bound
-pub least_makespan_least : (t : Case) (least : LeastMakespan) → t.past ≡ nothing → IsLeastMakespan (times_in t) least → IsLeast t Makespan least.at_least
+pub least_makespan_least : (t : Case) (least : LeastMakespan) → t.past ≡ nothing → IsLeastMakespan (times_in t) least → IsLeastValue t Makespan least.at_least
 least_makespan_least t least none is = λ order value accepted reached.
     let found = (no_plan_is_sooner-holds (with_order t.task order) accepted.shaped).1 least is in
     let out = subst (λ (past : Past). IsOutWithin past (with_order t.task order) found.0 value) none (makespan_out t.past (with_order t.task order) found.0 value found.1 reached) in
     omega (arith, found.2.long, out found.2.nodes found.2.size found.2.path)
 
 -- none has a job that isn't gone out before its bound
-pub bound_least : (t : Case) (objective : Objective) (j : ℕ) → IsRooted t → j < job_count t → is_waiting (times_in t) t.past j ≡ true → (objective ≡ Makespan) ⊎ (objective ≡ Leaving j) → IsLeast t objective (bound_in (times_in t) t.past j)
+pub bound_least : (t : Case) (objective : Objective) (j : ℕ) → IsRooted t → j < job_count t → is_waiting (times_in t) t.past j ≡ true → (objective ≡ Makespan) ⊎ (objective ≡ Leaving j) → IsLeastValue t objective (bound_in (times_in t) t.past j)
 bound_least t objective j rooted inside waits which = λ order value accepted reached. bound_le t (with_order t.task order) j value rooted (accepted_plan t order accepted) inside waits (go (with_order t.task order) value inside waits reached which)
   where
     go : (p : PlannedShop) (value : ℕ) → j < jobs p → is_waiting (times_of p) t.past j ≡ true → HasValue t.past objective p value → (objective ≡ Makespan) ⊎ (objective ≡ Leaving j) → IsOutWithin t.past p j value
@@ -183,7 +183,7 @@ bound_least t objective j rooted inside waits which = λ order value accepted re
 
 -- and one that is gone left when it did
 pub gone_least : (t : Case) (lines : List (List ℕ)) (c : Cell) (present : ℕ) (objective : Objective) (j : ℕ) → t.past ≡ run_to lines c present → j < job_count t → is_waiting (times_in t) (run_to lines c present) j ≡ false
-    → (objective ≡ Makespan) ⊎ (objective ≡ Leaving j) → IsLeast t objective (since c j)
+    → (objective ≡ Makespan) ⊎ (objective ≡ Leaving j) → IsLeastValue t objective (since c j)
 gone_least t lines c present objective j past inside not which = λ order value accepted reached. go (with_order t.task order) value inside (gone_unless (with_order t.task order) lines c present j not) (subst (λ (x : Past). HasValue x objective (with_order t.task order) value) past reached) which
   where
     go : (p : PlannedShop) (value : ℕ) → j < jobs p → IsGone p c j → HasValue (run_to lines c present) objective p value → (objective ≡ Makespan) ⊎ (objective ≡ Leaving j) → since c j ≤ value
@@ -191,9 +191,9 @@ gone_least t lines c present objective j past inside not which = λ order value 
     go p value here gone reached (inr is) = (let at = (subst (λ (o : Objective). HasValue (run_to lines c present) o p value) is reached).left gone in omega (arith, at))
 
 -- the later of two moments below which none is
-pub later_least : (t : Case) (objective : Objective) (m n k : ℕ) → k ≡ max m n → IsLeast t objective m → IsLeast t objective n → IsLeast t objective k
+pub later_least : (t : Case) (objective : Objective) (m n k : ℕ) → k ≡ max m n → IsLeastValue t objective m → IsLeastValue t objective n → IsLeastValue t objective k
 later_least t objective m n k is one other = λ order value accepted reached. omega (arith, is, one order value accepted reached, other order value accepted reached)
 
 -- none is below 0
-pub none_below : (t : Case) (objective : Objective) → IsLeast t objective 0
+pub none_below : (t : Case) (objective : Objective) → IsLeastValue t objective 0
 none_below t objective = λ order value accepted reached. omega arith

@@ -38,7 +38,7 @@ use Rattle.plan_decide.specs.declared.setting.Past.{Past as Happened}
 use Rattle.plan_decide.specs.declared.setting.Past.TheVariants.{Nothing, Run}
 use Rattle.plan_decide.specs.Cases.{Past, nothing, run_to, Case, HasValue, is_waiting, times_in, job_count}
 use Rattle.plan_decide.specs.Pasts.{IsPastOf, unbegun, begun}
-use Rattle.plan_decide.specs.Objectives.{IsLeast}
+use Rattle.plan_decide.specs.Objectives.{IsLeastValue}
 use Rattle.plan_decide.specs.declared.setting.Setting.{Setting}
 use Rattle.plan_decide.specs.Asking.{NoPlanKeeps}
 use Rattle.plan_decide.specs.Settings.{past_in, present_in, case_in, IsSet, HasLed, FitsPast, IsKeptAs, IsKeptAfter, IsTimely, IsPastBy, freed}
@@ -145,7 +145,7 @@ past_set (Run text moment) log at p c entries present events (same, is_present) 
 
 -- a job that is gone left when it did
 pub gone_setting : (happened : Happened) (t : Case) (p : PlannedShop) (c : Cell) (objective : Objective) (j : ℕ) → t.past ≡ past_in happened c → times_in t ≡ times_of p → j < job_count t → is_waiting (times_of p) (past_in happened c) j ≡ false
-    → (objective ≡ Makespan) ⊎ (objective ≡ Leaving j) → IsLeast t objective (since c j)
+    → (objective ≡ Makespan) ⊎ (objective ≡ Leaving j) → IsLeastValue t objective (since c j)
 gone_setting Nothing t p c objective j past times inside not which = absurd (true≢false not)
 gone_setting (Run log present) t p c objective j past times inside not which =
     gone_least t (ended_lines log.now) c present objective j past inside (ap (λ (s : ShopTimes). is_waiting s (run_to (ended_lines log.now) c present) j) times ∙ not) which

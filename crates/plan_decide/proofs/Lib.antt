@@ -2,7 +2,7 @@ mod Lawful
 mod Budgets
 mod Bounded
 mod Limits
-mod Telling
+mod Collecting
 mod Leaving
 mod Values
 mod Kepts

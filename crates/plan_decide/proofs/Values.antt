@@ -11,7 +11,7 @@ use Rattle.plan_decide.specs.declared.decided.Within.{Within}
 use Rattle.plan_decide.specs.declared.halving.Best.{Best}
 use Rattle.plan_decide.specs.declared.halving.Halfway.{Halfway}
 use Rattle.plan_decide.specs.Cases.{Case, HasValue, IsAccepted, with_budget}
-use Rattle.plan_decide.specs.Objectives.{IsLeast}
+use Rattle.plan_decide.specs.Objectives.{IsLeastValue}
 use Rattle.plan_decide.specs.Decisions.{IsAcceptedWith, given_with}
 use Rattle.plan_decide.specs.Settings.{plan_of}
 use Rattle.plan_decide.specs.Halves.{IsFree, IsFoundWith, IsHalfway, IsHalved}
@@ -54,7 +54,7 @@ loosened t j n order free accepted = record {
     ]
 
 -- the best plan isn't below the moment below which none is
-found_apart : (t : Case) (objective : Objective) (best : Best) (n : ℕ) → IsFree t objective → IsFoundWith t objective best → IsLeast t objective n → n ≤ best.value
+found_apart : (t : Case) (objective : Objective) (best : Best) (n : ℕ) → IsFree t objective → IsFoundWith t objective best → IsLeastValue t objective n → n ≤ best.value
 found_apart t Makespan best n free found least =
     least (plan_of best.plan).plan.order best.value (subst (IsAccepted t.past) found.plan.same found.plan.accepted) (subst (λ p. HasValue t.past Makespan p best.value) found.plan.same found.value)
 found_apart t (Leaving j) best n free found least =
@@ -71,7 +71,7 @@ halved t objective halfway within free lower upper opened end known =
       plan = subst (λ n. IsAcceptedWith (given_with t objective n) (plan_of halfway.best.plan)) (sym upper) known.found.plan;
       fits = known.found.fits;
       value = subst (HasValue t.past objective (plan_of halfway.best.plan)) (sym upper) known.found.value;
-      least = subst (IsLeast t objective) (sym lower) known.least;
+      least = subst (IsLeastValue t objective) (sym lower) known.least;
       apart = omega (arith, apart, lower, upper);
       exact = λ closed. (let same = known.same (sym opened ∙ closed) in omega (arith, same, apart, end, lower, upper));
     }

@@ -14,7 +14,7 @@ use Rattle.plan_decide.specs.declared.decided.Within.{Within}
 use Rattle.plan_decide.specs.declared.decided.Excluded.{Excluded}
 use Rattle.plan_decide.specs.Cases.{Case, IsAccepted, HasValue, with_budget}
 use Rattle.plan_decide.specs.Promises.{asked_for, IsInRange}
-use Rattle.plan_decide.specs.Objectives.{IsLeast}
+use Rattle.plan_decide.specs.Objectives.{IsLeastValue}
 
 -- where all promises can be kept
 abbrev pub OnKept : {K : Type 0} → (K → Type 0) → Decided K → Type 0
@@ -65,7 +65,7 @@ pub record IsBest (t : Case) (aim : Aim) (p : PlannedShop) (within : Within) : T
   pub asked : aim ≡ Least objective
   pub plan : IsAcceptedWith (given_with t objective within.at_most) p
   pub value : HasValue t.past objective p within.at_most
-  pub least : IsLeast (asked_for t aim) objective within.at_least
+  pub least : IsLeastValue (asked_for t aim) objective within.at_least
   pub apart : within.at_least ≤ within.at_most
   pub exact : within.ended_open ≡ false → within.at_least ≡ within.at_most
 

@@ -10,7 +10,7 @@ use Rattle.plan_decide.specs.declared.halving.Halfway.{Halfway}
 use Rattle.plan_decide.specs.declared.halving.Looked.{Looked}
 use Rattle.plan_decide.specs.declared.halving.Looked.TheVariants.{Better, Never, Open}
 use Rattle.plan_decide.specs.Cases.{Case, HasValue, job_count, budget_in, with_budget}
-use Rattle.plan_decide.specs.Objectives.{IsLeast}
+use Rattle.plan_decide.specs.Objectives.{IsLeastValue}
 use Rattle.plan_decide.specs.declared.kept.Kept.{Kept}
 use Rattle.plan_decide.specs.Settings.{plan_of, FitsPast}
 use Rattle.plan_decide.specs.Decisions.{IsAcceptedWith, given_with}
@@ -37,13 +37,13 @@ module _ (t : Case) (objective : Objective) where
   -- what comes of looking for a plan with a value of at most the limit, below this value
   abbrev pub IsLooked : ℕ → ℕ → Looked → Type 0
   IsLooked limit value (Better found) = IsFoundWith found × (found.value < value)
-  IsLooked limit value Never = IsLeast t objective (limit + 1)
+  IsLooked limit value Never = IsLeastValue t objective (limit + 1)
   IsLooked limit value Open = Unit {0}
 
   -- so far no plan is below at_least, and the best one is found; what is still to be asked for begins at low, which is at_least where no search ended open
   pub record IsHalfway (halfway : Halfway) : Type 0 where
     pub found : IsFoundWith halfway.best
-    pub least : IsLeast t objective halfway.at_least
+    pub least : IsLeastValue t objective halfway.at_least
     pub same : halfway.ended_open ≡ false → halfway.low ≡ halfway.at_least
 
   -- what is found in the end
@@ -51,7 +51,7 @@ module _ (t : Case) (objective : Objective) where
     pub plan : IsAcceptedWith (given_with t objective found.1.at_most) (plan_of found.0)
     pub fits : FitsPast t.past found.0
     pub value : HasValue t.past objective (plan_of found.0) found.1.at_most
-    pub least : IsLeast t objective found.1.at_least
+    pub least : IsLeastValue t objective found.1.at_least
     pub apart : found.1.at_least ≤ found.1.at_most
     pub exact : found.1.ended_open ≡ false → found.1.at_least ≡ found.1.at_most
 

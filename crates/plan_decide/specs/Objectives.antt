@@ -5,5 +5,5 @@ use Rattle.plan_decide.specs.declared.aim.Objective.{Objective}
 use Rattle.plan_decide.specs.Cases.{Case, IsAccepted, HasValue}
 
 -- no plan that is accepted with these numbers, whatever its orders, has a value below n
-abbrev pub IsLeast : Case → Objective → ℕ → Type 0
-IsLeast t objective n = (order : List (List ℕ)) (value : ℕ) → IsAccepted t.past (with_order t.task order) → HasValue t.past objective (with_order t.task order) value → n ≤ value
+abbrev pub IsLeastValue : Case → Objective → ℕ → Type 0
+IsLeastValue t objective n = (order : List (List ℕ)) (value : ℕ) → IsAccepted t.past (with_order t.task order) → HasValue t.past objective (with_order t.task order) value → n ≤ value

@@ -3,7 +3,7 @@
 ghost use Rattle.std.specs.Prelude.{◌≡◌, ◌-◌, ◌<◌, ◌≤◌, IfOk, IfSome};
 ghost use Rattle.shop_base.specs.{Plan.jobs, Vectors.lists_of};
 ghost use Rattle.plan_decide.specs.declared.aim.Objective.TheVariants.{Makespan, Leaving};
-ghost use Rattle.plan_decide.specs.Objectives.{IsLeast};
+ghost use Rattle.plan_decide.specs.Objectives.{IsLeastValue};
 ghost use Rattle.plan_decide.specs.Settings.{IsSet, case_in};
 ghost use Rattle.plan_decide.specs.Halves.{IsFree, IsFoundWith, IsLeavingBy, IsLooked, IsHalfway, IsNarrowed, IsHalved};
 
@@ -43,7 +43,7 @@ pub(crate) enum Looked {
 fn bound_of(setting: &Setting<'_>, objective: Objective) -> Moment
     requires set { IsSet setting.now }
     requires free { IsFree (case_in setting.now) objective }
-    ensures { IsLeast (case_in setting.now) objective result }
+    ensures { IsLeastValue (case_in setting.now) objective result }
 {
     match objective {
         Objective::Makespan => match setting.past {
@@ -57,7 +57,7 @@ fn bound_of(setting: &Setting<'_>, objective: Objective) -> Moment
 /// The latest of the moments before which the jobs aren't out.
 fn latest_bound(setting: &Setting<'_>) -> Moment
     requires { IsSet setting.now }
-    ensures { IsLeast (case_in setting.now) Makespan result }
+    ensures { IsLeastValue (case_in setting.now) Makespan result }
 {
     let mut bound = 0;
     for job in 0..setting.cell.job_count() {
@@ -70,8 +70,8 @@ fn latest_bound(setting: &Setting<'_>) -> Moment
 fn earliest_out(setting: &Setting<'_>, job: JobNo) -> Moment
     requires job { job < jobs setting.now.cell.plan }
     requires set { IsSet setting.now }
-    ensures leaving { IsLeast (case_in setting.now) (Leaving job) result }
-    ensures makespan { IsLeast (case_in setting.now) Makespan result }
+    ensures leaving { IsLeastValue (case_in setting.now) (Leaving job) result }
+    ensures makespan { IsLeastValue (case_in setting.now) Makespan result }
 {
     if is_waiting(setting, job) {
         bound_of_job(setting, job)

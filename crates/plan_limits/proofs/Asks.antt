@@ -6,7 +6,7 @@ use Rattle.shop_base.specs.Cell.{Cell}
 use Rattle.arc_choice.specs.declared.question.Question.{Question}
 use Rattle.arc_choice.specs.declared.exploring.Outcome.{Outcome}
 use Rattle.arc_choice.specs.declared.exploring.Outcome.TheVariants.{Never, Chosen, Open}
-use Rattle.arc_choice.specs.Choices.{IsArc, IsSound, IsImpossible, arc_at, pair_at}
+use Rattle.arc_choice.specs.Choices.{IsArc, IsSoundQuestion, IsImpossible, arc_at, pair_at}
 use Rattle.arc_choice.specs.Outcomes.{OnNever}
 use Rattle.plan_bounds.specs.Bounds.{times_of}
 use Rattle.plan_limits.specs.declared.questions.TheConstants.{MAX_NODES}
@@ -26,7 +26,7 @@ module _ (p : PlannedShop) (c : Cell) (t : ℕ) (shaped : IsWellShaped p) (nodes
   abbrev pair : (a : ℕ) → a < length q.pairs.items → IsKeptPair (stage_of p c t) nodes (pair_at q a)
   pair a within = machine_pair p c t nodes (pair_at q a) shaped numbered (pairs a within)
 
-  pub question_sound : IsSound q
+  pub question_sound : IsSoundQuestion q
   question_sound = record {
     few = omega (arith, count, few);
     lasts = counts ∙ sym count;

@@ -2,7 +2,7 @@
 
 ghost use Rattle.std.specs.Prelude.{◌≡◌, ◌≤◌, IfOk, length};
 ghost use Rattle.shop_base.specs.{declared.limits.TheConstants.MAX_MOMENT, Plan.jobs};
-ghost use Rattle.arc_choice.specs.Choices.{IsSound};
+ghost use Rattle.arc_choice.specs.Choices.{IsSoundQuestion};
 ghost use Rattle.plan_bounds.specs.Bounds.{times_of};
 ghost use Rattle.plan_limits.specs.{Stages.stage_of, Asked.AreNumbered, Asked.Asks};
 
@@ -33,7 +33,7 @@ pub(crate) fn question_of<P: Planned>(
     requires numbered { AreNumbered (times_of cell.now.plan) cell.now.cell nodes.now }
     requires few { length nodes.now ≤ MAX_NODES }
     requires in_range { present ≤ MAX_MOMENT }
-    ensures sound { IfOk result IsSound }
+    ensures sound { IfOk result IsSoundQuestion }
     ensures asks { IfOk result (Asks (stage_of cell.now.plan cell.now.cell present) nodes.now limits.now) }
 {
     let first = first_moments(alloc, cell, present, nodes)?;

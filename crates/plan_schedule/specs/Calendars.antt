@@ -6,7 +6,7 @@ use Rattle.shop_base.specs.{Plan.PlannedShop, Cell.Cell, Graph.IsNode, Ahead.IsA
 use Rattle.alt_graph.specs.{Bounds.MAX_BOUND, Times.NodeTimes, Times.earliest_of, Times.AreRanks}
 use Rattle.alt_graph.specs.Latest.{NodeMoments, HasMoment, moment_of}
 use Rattle.people_names.specs.NameBooks.{NameBook}
-use Rattle.plan_schedule.specs.{declared.lines.Visit.Visit, Schedules.IsVisitText, RestSchedules.IsRestJobText, RestSchedules.IsCleanedText}
+use Rattle.plan_schedule.specs.{declared.lines.ScheduledVisit.ScheduledVisit, Schedules.IsVisitText, RestSchedules.IsRestJobText, RestSchedules.IsCleanedText}
 
 -- the moments of the rest of a run, and its deadlines, if it has any
 pub record PlanCalendar : Type 0 where
@@ -54,7 +54,7 @@ pub record IsCalendar (k : PlanCalendar) : Type 0 where
 
 -- the lines of a visit, of a job and of the cleaning of a machine, by a calendar
 module _ (names : NameBook) (k : PlanCalendar) where
-  abbrev pub IsVisitTextBy : List ℕ → Visit → ℕ → List ℕ → Type 0
+  abbrev pub IsVisitTextBy : List ℕ → ScheduledVisit → ℕ → List ℕ → Type 0
   IsVisitTextBy = IsVisitText names k.plan (at_of k) (due_at k)
 
   abbrev pub IsJobTextBy : ℕ → List ℕ → Type 0

@@ -2,7 +2,7 @@
 use Rattle.std.specs.Prelude.{ℕ, if◌then◌else◌, List, [], ◌∷◌, ◌++◌, codes, Option, None, Some}
 use Rattle.people_names.specs.{NameBooks.NameBook, Words.job_word, Words.machine_word, Words.moment_word, Words.is_deadline_printed}
 use Rattle.plan_explain.specs.Arcs.{before}
-use Rattle.plan_schedule.specs.{declared.lines.Visit.Visit, declared.lines.Cleaning.Cleaning}
+use Rattle.plan_schedule.specs.{declared.lines.ScheduledVisit.ScheduledVisit, declared.lines.Cleaning.Cleaning}
 
 module _ (names : NameBook) where
   -- ` by D`, where there is a deadline and it is printed
@@ -15,11 +15,11 @@ module _ (names : NameBook) where
   arrival_line job release due = before (codes "job " ∷ job_word names job ∷ codes " arrives " ∷ moment_word names release ∷ []) (before (due_words due) (codes "\n"))
 
   -- ` to F by D`, or ` done` of an operation that is done
-  abbrev pub ending_words : Visit → List ℕ → List ℕ
+  abbrev pub ending_words : ScheduledVisit → List ℕ → List ℕ
   ending_words visit behind = if visit.done then codes " done" ++ behind else before (codes " to " ∷ moment_word names visit.to ∷ []) (before (due_words visit.due) behind)
 
   -- `job J on machine M from E to F by D leaves L`, where these words say when the operation begins
-  abbrev pub visit_line : List ℕ → Visit → List ℕ
+  abbrev pub visit_line : List ℕ → ScheduledVisit → List ℕ
   visit_line begins visit =
       before (codes "job " ∷ job_word names visit.job ∷ codes " on machine " ∷ machine_word names visit.machine ∷ begins ∷ moment_word names visit.from ∷ []) (
       ending_words visit (before (codes " leaves " ∷ moment_word names visit.leaves ∷ []) (codes "\n"))

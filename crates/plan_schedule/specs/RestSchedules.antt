@@ -6,7 +6,7 @@ use Rattle.shop_base.specs.{Cell.Cell, Cell.made, Cell.ready, Cell.since, Cell.e
 use Rattle.people_names.specs.NameBooks.{NameBook}
 use Rattle.plan_explain.specs.Parts.{AreBoth, AreTextsFrom}
 use Rattle.plan_schedule.specs.Lines.{arrival_line, cleaning_line, left_line, arrived_line}
-use Rattle.plan_schedule.specs.{Schedules.IsVisitText, Schedules.AreVisitsFrom, declared.lines.Visit.Visit}
+use Rattle.plan_schedule.specs.{Schedules.IsVisitText, Schedules.AreVisitsFrom, declared.lines.ScheduledVisit.ScheduledVisit}
 use Rattle.plan_schedule.specs.declared.lines.Cleaning.{Cleaning}
 
 module _ (p : PlannedShop) (c : Cell) (due : Node → Option ℕ) where
@@ -25,7 +25,7 @@ module _ (p : PlannedShop) (c : Cell) (t : ℕ) where
   cleaned_by m from = max (from + clean p m) t
 
   -- the visit that job j is in, by its step k
-  abbrev pub entered_of : (Node → ℕ) → (Node → Option ℕ) → ℕ → ℕ → Visit
+  abbrev pub entered_of : (Node → ℕ) → (Node → Option ℕ) → ℕ → ℕ → ScheduledVisit
   entered_of at due j k = record {
     job = j;
     machine = machine_of p j k;

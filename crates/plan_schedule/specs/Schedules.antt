@@ -5,7 +5,7 @@ use Rattle.shop_base.specs.{Plan.PlannedShop, Plan.jobs, Plan.steps, Plan.machin
 use Rattle.people_names.specs.NameBooks.{NameBook}
 use Rattle.alt_graph.specs.Sources.{IsBlockingArc, IsTarget}
 use Rattle.plan_explain.specs.Parts.{AreBoth, AreTextsFrom}
-use Rattle.plan_schedule.specs.{declared.lines.Visit.Visit, declared.lines.Cleaning.Cleaning}
+use Rattle.plan_schedule.specs.{declared.lines.ScheduledVisit.ScheduledVisit, declared.lines.Cleaning.Cleaning}
 use Rattle.plan_schedule.specs.Lines.{arrival_line, visit_line, cleaning_line}
 
 -- the deadline of a node, if there is a node
@@ -23,7 +23,7 @@ IsCleaningDue p due u deadline = (next : Option Node) × IsTarget (IsBlockingArc
 
 module _ (p : PlannedShop) (at : Node → ℕ) (due : Node → Option ℕ) where
   -- the visit of job j by its step k: it begins as the job enters, takes its nominal time, and has the deadline of the job's next move
-  abbrev pub visit_of : ℕ → ℕ → Visit
+  abbrev pub visit_of : ℕ → ℕ → ScheduledVisit
   visit_of j k = record {
     job = j;
     machine = machine_of p j k;
@@ -52,7 +52,7 @@ module _ (names : NameBook) (p : PlannedShop) (at : Node → ℕ) (due : Node �
   IsCleaningText j k text = (cleaning : Option Cleaning) × IsCleaningBehind p at due j k cleaning × (text ≡ cleaning_line names (codes " cleaned from ") cleaning)
 
   -- the lines of a visit by its job's step k, where these words say when it begins: its own, and that of the cleaning behind it
-  abbrev pub IsVisitText : List ℕ → Visit → ℕ → List ℕ → Type 0
+  abbrev pub IsVisitText : List ℕ → ScheduledVisit → ℕ → List ℕ → Type 0
   IsVisitText begins visit k = AreBoth (λ line. line ≡ visit_line names begins visit) (IsCleaningText visit.job k)
 
   -- the lines of job j's visits from one place of its route up to another

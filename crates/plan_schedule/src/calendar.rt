@@ -10,7 +10,7 @@ ghost use Rattle.plan_schedule.specs.Schedules.{visit_of, IsCleaningDue, IsClean
 ghost use Rattle.plan_schedule.specs.RestSchedules.{operation_end, cleaned_by, entered_of, IsNextDue, IsCleaningOn};
 ghost use Rattle.plan_schedule.specs.Calendars.{IsCalendar, calendar_of, seen, at_of, due_at, HasDeadlines};
 
-use crate::lines::{Cleaning, Visit};
+use crate::lines::{Cleaning, ScheduledVisit};
 use alt_graph::{Deadlines, Graph, Times};
 use cell_tables::WorkCell;
 use plan_verifier::cleanings_in_range;
@@ -126,7 +126,7 @@ impl<'a, P: Planned> Calendar<'a, P> {
 
     /// The job's visit ahead by the step at a place of its route.
     #[inline(always)]
-    pub(crate) fn visit(&self, job: JobNo, place: u32) -> Visit
+    pub(crate) fn visit(&self, job: JobNo, place: u32) -> ScheduledVisit
         requires job { job < jobs self.now.plan }
         requires place { place < steps self.now.plan job }
         requires ahead { made self.now.cell job ≤ place }
@@ -138,7 +138,7 @@ impl<'a, P: Planned> Calendar<'a, P> {
             job,
             place: place + 1,
         };
-        Visit {
+        ScheduledVisit {
             job,
             machine: step.machine,
             from,
@@ -150,7 +150,7 @@ impl<'a, P: Planned> Calendar<'a, P> {
     }
 
     /// The visit that the job is in, by the step at a place of its route.
-    pub(crate) fn entered(&self, job: JobNo, place: u32) -> Visit
+    pub(crate) fn entered(&self, job: JobNo, place: u32) -> ScheduledVisit
         requires job { job < jobs self.now.plan }
         requires place { place < steps self.now.plan job }
         ensures { let k = self.now in result ≡ entered_of k.plan k.cell k.present (at_of k) (due_at k) job place }
@@ -161,7 +161,7 @@ impl<'a, P: Planned> Calendar<'a, P> {
             job,
             place: place + 1,
         };
-        Visit {
+        ScheduledVisit {
             job,
             machine: step.machine,
             from: state.since,

@@ -13,7 +13,7 @@ use std::alloc::AllocError;
 /// A visit of a job to a machine: when its operation begins and ends, its deadline, whether it is done, and when the
 /// job leaves.
 #[derive(Clone, Copy)]
-pub(crate) struct Visit {
+pub(crate) struct ScheduledVisit {
     pub job: JobNo,
     pub machine: MachineNo,
     pub from: Moment,
@@ -54,7 +54,7 @@ pub(crate) fn push_visit_line(
     text: &mut Vec<u8>,
     names: &Names,
     begins: &[u8],
-    visit: Visit,
+    visit: ScheduledVisit,
 ) -> Result<(), AllocError>
     requires { length begins.now ≤ 20 }
     ensures { OnOk result (text.new.items ≡ text.old.items ++ visit_line names.now begins.now visit) }
@@ -72,7 +72,7 @@ pub(crate) fn push_visit_line(
 
 /// Writes when the operation ends, or that it is done.
 #[inline(always)]
-fn put_ending(line: &mut Line, names: &Names, visit: Visit)
+fn put_ending(line: &mut Line, names: &Names, visit: ScheduledVisit)
     requires { length line.old ≤ 60 }
     ensures written { line.new ≡ ending_words names.now visit line.old }
     ensures length { length line.new ≤ 66 + length line.old }

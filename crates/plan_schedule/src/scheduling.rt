@@ -8,7 +8,7 @@ ghost use Rattle.plan_schedule.specs.Calendars.{at_of, due_at, IsVisitTextBy, Is
 
 use crate::calendar::Calendar;
 use crate::lines::{
-    Visit, push_arrival_line, push_arrived_line, push_cleaning_line, push_left_line,
+    ScheduledVisit, push_arrival_line, push_arrived_line, push_cleaning_line, push_left_line,
     push_visit_line,
 };
 use people_names::Names;
@@ -132,7 +132,7 @@ fn push_visit<P: Planned>(
     names: &Names,
     calendar: &Calendar<'_, P>,
     begins: &[u8],
-    visit: Visit,
+    visit: ScheduledVisit,
     place: u32,
 ) -> Result<(), AllocError>
     requires begins { length begins.now ≤ 20 }

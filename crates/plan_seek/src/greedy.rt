@@ -10,10 +10,10 @@ const MAX_CHOICES: u32 = 100_000;
 
 /// A planner that simulates the cell at nominal times, as if all releases were 0 and no machine had to be cleaned. At
 /// each choice the first job that can move does so, and if none can, it waits for the next operation to end. No move is
-/// made after which it finds no way out for all jobs in the cell. In round `r` the choice begins at job `r`, with job 0
+/// made after which it finds no safe sequence of moves for all jobs in the cell. In round `r` the choice begins at job `r`, with job 0
 /// after the last, and in odd rounds no more jobs are let in once more than half of the machines hold one.
-/// Looking ahead makes 100,000 choices at most; once they are spent, only moves on the way out that is known are
-/// made: no more jobs are let in, and nothing is proposed unless all are in. By its clause it may propose anything:
+/// Looking ahead makes 100,000 choices at most. At the limit it only empties the cell by the known moves; if jobs are
+/// then still outside, it proposes no plan. By its clause it may propose anything:
 /// it is only proved that it is safe and ends.
 #[derive(Clone, Copy, Debug, Default)]
 pub struct GreedyProposer;
@@ -80,7 +80,7 @@ impl Simulation {
         })
     }
 
-    /// The first job, counted round from the round's number on, that can move so that a way out is known
+    /// The first job, counted round from the round's number on, that can move so that a safe sequence is known
     /// afterwards.
     fn next_mover(
         &mut self,
@@ -108,14 +108,14 @@ impl Simulation {
         self.cell.is_inside(job) || !many
     }
 
-    /// Whether a way out is known after the job's move. It is then the one that is kept.
+    /// Whether a safe sequence is known after the job's move. It is then the one that is kept.
     fn keeps_way(&mut self, alloc: Global, shop: &Shop, job: JobNo) -> Result<bool, AllocError> {
         let target = self.cell.next_step(shop, job).map(|step| step.machine);
         if let Some(place) = place_in(&self.way, job, target) {
             let _ = self.way.remove(place);
             return Ok(true);
         }
-        if self.choices == 0 || self.cell.closes_circle(shop, job) {
+        if self.choices == 0 || self.cell.closes_cycle(shop, job) {
             return Ok(false);
         }
         self.choices -= 1;

@@ -14,7 +14,7 @@ pub(crate) struct Transfer {
 }
 
 /// Moves by which all jobs of the cell leave it, if they are found: each is the move of the least job that
-/// can move without closing a circle. Each costs a choice.
+/// can move without closing a cycle. Each costs a choice.
 pub(crate) fn safe_sequence(
     alloc: Global,
     shop: &Shop,
@@ -37,17 +37,17 @@ pub(crate) fn safe_sequence(
     Ok(Some(way))
 }
 
-/// The least job in the cell that can move without closing a circle.
+/// The least job in the cell that can move without closing a cycle.
 fn least_mover(shop: &Shop, cell: &SimulatedCell) -> Option<JobNo> {
     for job in 0..shop.jobs() {
-        if cell.is_inside(job) && cell.can_move(shop, job) && !cell.closes_circle(shop, job) {
+        if cell.is_inside(job) && cell.can_move(shop, job) && !cell.closes_cycle(shop, job) {
             return Some(job);
         }
     }
     None
 }
 
-/// The place of the job's next move in the way out, if it can come before all the others: none of those
+/// The place of the job's next move in the safe sequence, if it can come before all the others: none of those
 /// before it enters the same machine.
 pub(crate) fn place_in(way: &[Transfer], job: JobNo, target: Option<MachineNo>) -> Option<usize>
     ensures { IfSome result (λ place. place < length way.now) }

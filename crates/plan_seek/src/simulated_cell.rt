@@ -150,9 +150,9 @@ impl SimulatedCell {
         }
     }
 
-    /// Whether the job, once it has moved on, would be in a circle of jobs that each wait for the machine of
+    /// Whether the job, once it has moved on, would be in a cycle of jobs that each wait for the machine of
     /// the next one.
-    pub fn closes_circle(&self, shop: &Shop, job: JobNo) -> bool {
+    pub fn closes_cycle(&self, shop: &Shop, job: JobNo) -> bool {
         let Some(target) = self.next_step(shop, job) else {
             return false;
         };

@@ -10,7 +10,7 @@ use Rattle.shop_base.specs.Punctual.{ArePunctual, AreExact}
 use Rattle.shop_base.specs.Graph.{leaving, IsSimpleCycle, Path, IsSchedule, MeetBudgets}
 use Rattle.alt_graph.specs.Times.{NodeTimes, rank_of, earliest_of, IsPathInTime, AreOrdered}
 
--- no arcs lead in a circle
+-- no arcs make a cycle
 abbrev pub HasNoCycle : PlannedShop → Type 0
 HasNoCycle p = (nodes : List Node) → IsSimpleCycle p nodes → ⊥
 

@@ -5,10 +5,10 @@ use crate::verified::Verified;
 use alt_graph::Times;
 use shop_base::{JobNo, Moment, Node, Shaped};
 
-/// What is to be said of a plan.
+/// The verdict on a plan.
 #[derive(Debug, Drop)]
 pub enum Verdict {
-    /// No arcs lead in a circle, and no path to a job's leaving is longer than its budget. So a controlled run never
+    /// There is no cycle, and no path to a job's leaving is longer than its budget. So a controlled run never
     /// gets stuck, and while no report of it is late, each job is out by its budget, or its budget isn't past yet.
     Accepted(Verified),
     /// No run brings all jobs out, or a job can't be out by its budget where each activity takes its nominal time.
@@ -16,14 +16,14 @@ pub enum Verdict {
     Refused(Shaped, Why),
 }
 
-/// What is to be said of what is ahead of a cell, by a plan that stays where it is: of the rest of a run, from a
-/// present moment on, or of a whole plan.
+/// The verdict on what is ahead of a cell, by a plan that is borrowed: on the rest of a run, from a present moment on,
+/// or on a whole plan.
 #[derive(Debug, Drop)]
 pub enum Judged {
-    /// No arcs lead in a circle, and no path ahead to the leaving of a job that isn't gone is longer than its budget:
+    /// There is no cycle, and no path ahead to the leaving of a job that isn't gone is longer than its budget:
     /// the ranks of all nodes, and the earliest moments of those ahead.
     Accepted(Times),
-    /// There is such a circle, which lies ahead, or such a path.
+    /// There is such a cycle, which lies ahead, or such a path.
     Refused(Why),
 }
 

@@ -39,7 +39,7 @@ use Rattle.command_answers.specs.declared.pictures.Drawn.{Drawn}
 use Rattle.command_answers.specs.declared.pictures.Drawn.TheVariants.{Picture, Line}
 use Rattle.command_answers.specs.Instances.{ParsesAs}
 use Rattle.command_answers.specs.Facts.{AreFacts}
-use Rattle.command_answers.specs.Steps.{Then, GoesOn, Concludes, IsOrMemory}
+use Rattle.command_answers.specs.Steps.{Then, AndThen, Concludes, IsOrMemory}
 use Rattle.command_answers.specs.Texts.{Asks}
 use Rattle.command_answers.specs.Readings.{IsInstanceRead, IsPlanRead, AreFactsAnswered}
 use Rattle.command_answers.specs.Shapes.{IsNotShapedLine, IsShapedOrNot}
@@ -81,7 +81,7 @@ came_drawn Is files (Err fault) before after outcome asked is draws = inr (draws
 module _ (content : List ℕ → Result (List ℕ) CommandFault) where
   -- a file that is there was asked for, and what it gives was read
   pub asked_and_read : {A : Type 0} (Is : List ℕ → Result A CommandFault → Type 0) (path text : List ℕ) → content path ≡ Ok text → (before : List (List ℕ)) (came : Result (List ℕ) CommandFault) (mid : List (List ℕ))
-      (read : Result A CommandFault) (after : List (List ℕ)) → Asks (Shelf content) path before came mid → GoesOn (λ t. Concludes (Is t)) came mid read after → Is text read × (after ≡ before ++ path ∷ [])
+      (read : Result A CommandFault) (after : List (List ℕ)) → Asks (Shelf content) path before came mid → AndThen (λ t. Concludes (Is t)) came mid read after → Is text read × (after ≡ before ++ path ∷ [])
   asked_and_read Is path text is before (Ok t) mid read after given on =
       let same : t ≡ text = (let both : Ok t ≡ Ok text = given.0 ∙ is in cc both) in
       (subst (λ x. Is x read) same on.0, on.1 ∙ given.1)
@@ -98,50 +98,50 @@ module _ (content : List ℕ → Result (List ℕ) CommandFault) where
       let read = asked_and_read (λ t. AreFactsAnswered t name) path text is [] run.came run.mid outcome asked run.is run.goes_on in
       facts_answered path text description name shop outcome asked parses read.0 read.1
 
-module _ (content : List ℕ → Result (List ℕ) CommandFault) (pair : InputPaths) (p : PlannedShop) (good : ParseAsPlan content pair p) where
+module _ (content : List ℕ → Result (List ℕ) CommandFault) (inputs : InputPaths) (p : PlannedShop) (good : ParseAsPlan content inputs p) where
   -- the plan's text gives its plan
   plan_came : (shop : JobShop) (came : Result ShopPlan CommandFault) (mid : List (List ℕ)) (read : Result PlannedShop CommandFault) (asked : List (List ℕ)) → shop ≡ p.shop → IsPlanRead good.plan came
-      → mid ≡ pair.path ∷ pair.plan ∷ [] → GoesOn (λ plan. Concludes (λ r. r ≡ Ok (record { shop = shop; plan = plan }))) came mid read asked → IsAnswered (λ q. q ≡ p) (pair.path ∷ pair.plan ∷ []) read asked
+      → mid ≡ inputs.path ∷ inputs.plan ∷ [] → AndThen (λ plan. Concludes (λ r. r ≡ Ok (record { shop = shop; plan = plan }))) came mid read asked → IsAnswered (λ q. q ≡ p) (inputs.path ∷ inputs.plan ∷ []) read asked
   plan_came shop (Ok plan) mid read asked same_shop is files on =
-      let same_plan : plan ≡ p.plan = is.only p.plan good.tell.plan in
+      let same_plan : plan ≡ p.plan = is.only p.plan good.parsed.plan in
       let of_shop : JobShop → PlannedShop = λ s. record { shop = s; plan = plan } in
       let of_plan : ShopPlan → PlannedShop = λ q. record { shop = p.shop; plan = q } in
       let same : of_shop shop ≡ p = ap of_shop same_shop ∙ ap of_plan same_plan in
-      subst (λ r. IsAnswered (λ q. q ≡ p) (pair.path ∷ pair.plan ∷ []) r asked) (sym on.0) (same, on.1 ∙ files)
-  plan_came shop (Err f) mid read asked same_shop is files on = no_memory _ _ read asked (on.0 ∙ ap Err (is.only p.plan good.tell.plan))
+      subst (λ r. IsAnswered (λ q. q ≡ p) (inputs.path ∷ inputs.plan ∷ []) r asked) (sym on.0) (same, on.1 ∙ files)
+  plan_came shop (Err f) mid read asked same_shop is files on = no_memory _ _ read asked (on.0 ∙ ap Err (is.only p.plan good.parsed.plan))
 
   -- so does the instance's text give its shop
-  instance_came : (came : Result Named CommandFault) (mid : List (List ℕ)) (read : Result PlannedShop CommandFault) (asked : List (List ℕ)) → IsInstanceRead good.instance pair.name came → mid ≡ pair.path ∷ []
-      → GoesOn (λ named. Then (ReadsPlan (Shelf content) pair.plan) (λ plan. Concludes (λ r. r ≡ Ok (record { shop = named.shop; plan = plan })))) came mid read asked
-      → IsAnswered (λ q. q ≡ p) (pair.path ∷ pair.plan ∷ []) read asked
+  instance_came : (came : Result Named CommandFault) (mid : List (List ℕ)) (read : Result PlannedShop CommandFault) (asked : List (List ℕ)) → IsInstanceRead good.instance inputs.name came → mid ≡ inputs.path ∷ []
+      → AndThen (λ named. Then (ReadsPlan (Shelf content) inputs.plan) (λ plan. Concludes (λ r. r ≡ Ok (record { shop = named.shop; plan = plan })))) came mid read asked
+      → IsAnswered (λ q. q ≡ p) (inputs.path ∷ inputs.plan ∷ []) read asked
   instance_came (Ok named) mid read asked is files on =
-      let same_shop = (is.only good.tell.description p.shop good.tell.shop).1 in
-      let plan = asked_and_read content (λ t. IsPlanRead t) pair.plan good.plan good.plan_is mid on.is.came on.is.mid on.came on.mid on.is.is on.is.goes_on in
-      plan_came named.shop on.came on.mid read asked same_shop plan.0 (plan.1 ∙ ap (λ ps. ps ++ pair.plan ∷ []) files) on.goes_on
-  instance_came (Err f) mid read asked is files on = no_memory _ _ read asked (on.0 ∙ ap Err (is.only good.tell.description p.shop good.tell.shop))
+      let same_shop = (is.only good.parsed.description p.shop good.parsed.shop).1 in
+      let plan = asked_and_read content (λ t. IsPlanRead t) inputs.plan good.plan good.plan_is mid on.is.came on.is.mid on.came on.mid on.is.is on.is.goes_on in
+      plan_came named.shop on.came on.mid read asked same_shop plan.0 (plan.1 ∙ ap (λ ps. ps ++ inputs.plan ∷ []) files) on.goes_on
+  instance_came (Err f) mid read asked is files on = no_memory _ _ read asked (on.0 ∙ ap Err (is.only good.parsed.description p.shop good.parsed.shop))
 
-  both_come : (read : Result PlannedShop CommandFault) (asked : List (List ℕ)) → ReadsBoth (Shelf content) pair [] read asked → IsAnswered (λ q. q ≡ p) (pair.path ∷ pair.plan ∷ []) read asked
+  both_come : (read : Result PlannedShop CommandFault) (asked : List (List ℕ)) → ReadsBoth (Shelf content) inputs [] read asked → IsAnswered (λ q. q ≡ p) (inputs.path ∷ inputs.plan ∷ []) read asked
   both_come read asked run =
-      let instance = asked_and_read content (λ t. IsInstanceRead t pair.name) pair.path good.instance good.instance_is [] run.is.came run.is.mid run.came run.mid run.is.is run.is.goes_on in
+      let instance = asked_and_read content (λ t. IsInstanceRead t inputs.name) inputs.path good.instance good.instance_is [] run.is.came run.is.mid run.came run.mid run.is.is run.is.goes_on in
       instance_came run.came run.mid read asked instance.0 instance.1 run.goes_on
 
   goes_with : {A : Type 0} (next : PlannedShop → List (List ℕ) → Result A CommandFault → List (List ℕ) → Type 0) (came : Result PlannedShop CommandFault) (mid : List (List ℕ)) (outcome : Result A CommandFault) (asked : List (List ℕ))
-      → IsAnswered (λ q. q ≡ p) (pair.path ∷ pair.plan ∷ []) came mid → GoesOn next came mid outcome asked → next p (pair.path ∷ pair.plan ∷ []) outcome asked ⊎ (outcome ≡ Err Memory)
-  goes_with next (Ok q) mid outcome asked is on = inl (subst (λ x. next x (pair.path ∷ pair.plan ∷ []) outcome asked) is.0 (subst (λ files. next q files outcome asked) is.1 on))
+      → IsAnswered (λ q. q ≡ p) (inputs.path ∷ inputs.plan ∷ []) came mid → AndThen next came mid outcome asked → next p (inputs.path ∷ inputs.plan ∷ []) outcome asked ⊎ (outcome ≡ Err Memory)
+  goes_with next (Ok q) mid outcome asked is on = inl (subst (λ x. next x (inputs.path ∷ inputs.plan ∷ []) outcome asked) is.0 (subst (λ files. next q files outcome asked) is.1 on))
   goes_with next (Err f) mid outcome asked is on = inr (on.0 ∙ ap Err is)
 
   -- after both files comes the next step with this plan
-  pub with_both : {A : Type 0} (next : PlannedShop → List (List ℕ) → Result A CommandFault → List (List ℕ) → Type 0) (outcome : Result A CommandFault) (asked : List (List ℕ)) → WithBoth (Shelf content) pair next [] outcome asked
-      → next p (pair.path ∷ pair.plan ∷ []) outcome asked ⊎ (outcome ≡ Err Memory)
+  pub with_both : {A : Type 0} (next : PlannedShop → List (List ℕ) → Result A CommandFault → List (List ℕ) → Type 0) (outcome : Result A CommandFault) (asked : List (List ℕ)) → WithBoth (Shelf content) inputs next [] outcome asked
+      → next p (inputs.path ∷ inputs.plan ∷ []) outcome asked ⊎ (outcome ≡ Err Memory)
   with_both next outcome asked run = goes_with next run.came run.mid outcome asked (both_come run.came run.mid run.is) run.goes_on
 
-  parsed_answered : {A : Type 0} (Is : A → Type 0) (outcome : Result A CommandFault) (asked : List (List ℕ)) → Concludes (IsOrMemory Is) (pair.path ∷ pair.plan ∷ []) outcome asked ⊎ (outcome ≡ Err Memory)
-      → IsAnswered Is (pair.path ∷ pair.plan ∷ []) outcome asked
+  parsed_answered : {A : Type 0} (Is : A → Type 0) (outcome : Result A CommandFault) (asked : List (List ℕ)) → Concludes (IsOrMemory Is) (inputs.path ∷ inputs.plan ∷ []) outcome asked ⊎ (outcome ≡ Err Memory)
+      → IsAnswered Is (inputs.path ∷ inputs.plan ∷ []) outcome asked
   parsed_answered Is outcome asked (inl concluded) = answered Is _ outcome asked concluded.0 concluded.1
   parsed_answered Is outcome asked (inr none) = no_memory Is _ outcome asked none
 
-  pub good_plan : {A : Type 0} (Is : PlannedShop → A → Type 0) (outcome : Result A CommandFault) (asked : List (List ℕ)) → WithBoth (Shelf content) pair (λ q. Concludes (IsOrMemory (Is q))) [] outcome asked
-      → IsAnswered (Is p) (pair.path ∷ pair.plan ∷ []) outcome asked
+  pub good_plan : {A : Type 0} (Is : PlannedShop → A → Type 0) (outcome : Result A CommandFault) (asked : List (List ℕ)) → WithBoth (Shelf content) inputs (λ q. Concludes (IsOrMemory (Is q))) [] outcome asked
+      → IsAnswered (Is p) (inputs.path ∷ inputs.plan ∷ []) outcome asked
   good_plan Is outcome asked run = parsed_answered (Is p) outcome asked (with_both (λ q. Concludes (IsOrMemory (Is q))) outcome asked run)
 
   -- `bounds` without names
@@ -153,12 +153,12 @@ module _ (content : List ℕ → Result (List ℕ) CommandFault) (pair : InputPa
   unnamed_bounds (Ok answer) before asked (inr concluded) = (inr concluded.0, concluded.1)
   unnamed_bounds (Err fault) before asked (inr concluded) = concluded
 
-  bounds_answered : (outcome : Result Answer CommandFault) (asked : List (List ℕ)) → WithSoundNames (Shelf content) (λ book. IsOrMemory (AreBoundLines book (times_of p) p.plan.budget)) None p (pair.path ∷ pair.plan ∷ []) outcome asked ⊎ (outcome ≡ Err Memory)
-      → IsAnswered (AreBounds p) (pair.path ∷ pair.plan ∷ []) outcome asked
-  bounds_answered outcome asked (inl run) = parsed_answered (AreBounds p) outcome asked (inl (unnamed_bounds outcome (pair.path ∷ pair.plan ∷ []) asked run))
+  bounds_answered : (outcome : Result Answer CommandFault) (asked : List (List ℕ)) → WithSoundNames (Shelf content) (λ book. IsOrMemory (AreBoundLines book (times_of p) p.plan.budget)) None p (inputs.path ∷ inputs.plan ∷ []) outcome asked ⊎ (outcome ≡ Err Memory)
+      → IsAnswered (AreBounds p) (inputs.path ∷ inputs.plan ∷ []) outcome asked
+  bounds_answered outcome asked (inl run) = parsed_answered (AreBounds p) outcome asked (inl (unnamed_bounds outcome (inputs.path ∷ inputs.plan ∷ []) asked run))
   bounds_answered outcome asked (inr none) = parsed_answered (AreBounds p) outcome asked (inr none)
 
-  pub good_bounds : (outcome : Result Answer CommandFault) (asked : List (List ℕ)) → RunsBounds (Shelf content) pair None [] outcome asked → IsAnswered (AreBounds p) (pair.path ∷ pair.plan ∷ []) outcome asked
+  pub good_bounds : (outcome : Result Answer CommandFault) (asked : List (List ℕ)) → RunsBounds (Shelf content) inputs None [] outcome asked → IsAnswered (AreBounds p) (inputs.path ∷ inputs.plan ∷ []) outcome asked
   good_bounds outcome asked run =
       bounds_answered outcome asked (with_both (λ q. WithSoundNames (Shelf content) (λ book. IsOrMemory (AreBoundLines book (times_of q) q.plan.budget)) None q) outcome asked run)
 
@@ -176,41 +176,41 @@ module _ (content : List ℕ → Result (List ℕ) CommandFault) (pair : InputPa
   named_answered Is (Err fault) before asked (inr concluded) = concluded
 
   named_came : (Is : NameBook → PlannedShop → Answer → Type 0) (outcome : Result Answer CommandFault) (asked : List (List ℕ))
-      → IfShaped (Shelf content) p (WithNames (Shelf content) None p (λ book. IsOrMemory (Is book p))) (pair.path ∷ pair.plan ∷ []) outcome asked ⊎ (outcome ≡ Err Memory)
-      → IsAnswered (λ answer. IsNotShapedLine p answer ⊎ Is no_names p answer) (pair.path ∷ pair.plan ∷ []) outcome asked
-  named_came Is outcome asked (inl run) = parsed_answered (λ answer. IsNotShapedLine p answer ⊎ Is no_names p answer) outcome asked (inl (named_answered Is outcome (pair.path ∷ pair.plan ∷ []) asked run))
+      → IfShaped (Shelf content) p (WithNames (Shelf content) None p (λ book. IsOrMemory (Is book p))) (inputs.path ∷ inputs.plan ∷ []) outcome asked ⊎ (outcome ≡ Err Memory)
+      → IsAnswered (λ answer. IsNotShapedLine p answer ⊎ Is no_names p answer) (inputs.path ∷ inputs.plan ∷ []) outcome asked
+  named_came Is outcome asked (inl run) = parsed_answered (λ answer. IsNotShapedLine p answer ⊎ Is no_names p answer) outcome asked (inl (named_answered Is outcome (inputs.path ∷ inputs.plan ∷ []) asked run))
   named_came Is outcome asked (inr none) = parsed_answered (λ answer. IsNotShapedLine p answer ⊎ Is no_names p answer) outcome asked (inr none)
 
   pub good_named : (Is : NameBook → PlannedShop → Answer → Type 0) (outcome : Result Answer CommandFault) (asked : List (List ℕ))
-      → WithBoth (Shelf content) pair (λ q. IfShaped (Shelf content) q (WithNames (Shelf content) None q (λ book. IsOrMemory (Is book q)))) [] outcome asked
-      → IsAnswered (λ answer. IsNotShapedLine p answer ⊎ Is no_names p answer) (pair.path ∷ pair.plan ∷ []) outcome asked
+      → WithBoth (Shelf content) inputs (λ q. IfShaped (Shelf content) q (WithNames (Shelf content) None q (λ book. IsOrMemory (Is book q)))) [] outcome asked
+      → IsAnswered (λ answer. IsNotShapedLine p answer ⊎ Is no_names p answer) (inputs.path ∷ inputs.plan ∷ []) outcome asked
   good_named Is outcome asked run = named_came Is outcome asked (with_both (λ q. IfShaped (Shelf content) q (WithNames (Shelf content) None q (λ book. IsOrMemory (Is book q)))) outcome asked run)
 
   named_log_came : (IsLine : NameBook → PlannedShop → List ℕ → Answer → Type 0) (log text : List ℕ) (outcome : Result Answer CommandFault) (asked : List (List ℕ)) → content log ≡ Ok text → IsWellShaped p
-      → IfShaped (Shelf content) p (WithNamesAndLog (Shelf content) None log p (λ book. IsLine book p)) (pair.path ∷ pair.plan ∷ []) outcome asked ⊎ (outcome ≡ Err Memory)
-      → IsAnswered (IsLine no_names p text) (pair.path ∷ pair.plan ∷ log ∷ []) outcome asked
+      → IfShaped (Shelf content) p (WithNamesAndLog (Shelf content) None log p (λ book. IsLine book p)) (inputs.path ∷ inputs.plan ∷ []) outcome asked ⊎ (outcome ≡ Err Memory)
+      → IsAnswered (IsLine no_names p text) (inputs.path ∷ inputs.plan ∷ log ∷ []) outcome asked
   named_log_came IsLine log text outcome asked is shaped (inl (inl (also, run))) =
-      let later = unnamed (λ book. Then (Asks (Shelf content) log) (λ t. Concludes (IsOrMemory (IsLine book p t)))) (pair.path ∷ pair.plan ∷ []) asked outcome (Shelf content) p run in
-      let read = asked_and_read content (λ t. IsOrMemory (IsLine no_names p t)) log text is (pair.path ∷ pair.plan ∷ []) later.came later.mid outcome asked later.is later.goes_on in
+      let later = unnamed (λ book. Then (Asks (Shelf content) log) (λ t. Concludes (IsOrMemory (IsLine book p t)))) (inputs.path ∷ inputs.plan ∷ []) asked outcome (Shelf content) p run in
+      let read = asked_and_read content (λ t. IsOrMemory (IsLine no_names p t)) log text is (inputs.path ∷ inputs.plan ∷ []) later.came later.mid outcome asked later.is later.goes_on in
       answered _ _ outcome asked read.0 read.1
   named_log_came IsLine log text outcome asked is shaped (inl (inr unshaped)) = no_memory _ _ outcome asked (shaped_after_all p outcome shaped unshaped.0)
   named_log_came IsLine log text outcome asked is shaped (inr none) = no_memory _ _ outcome asked none
 
   pub good_named_log : (IsLine : NameBook → PlannedShop → List ℕ → Answer → Type 0) (log text : List ℕ) (outcome : Result Answer CommandFault) (asked : List (List ℕ)) → content log ≡ Ok text → IsWellShaped p
-      → WithBoth (Shelf content) pair (λ q. IfShaped (Shelf content) q (WithNamesAndLog (Shelf content) None log q (λ book. IsLine book q))) [] outcome asked
-      → IsAnswered (IsLine no_names p text) (pair.path ∷ pair.plan ∷ log ∷ []) outcome asked
+      → WithBoth (Shelf content) inputs (λ q. IfShaped (Shelf content) q (WithNamesAndLog (Shelf content) None log q (λ book. IsLine book q))) [] outcome asked
+      → IsAnswered (IsLine no_names p text) (inputs.path ∷ inputs.plan ∷ log ∷ []) outcome asked
   good_named_log IsLine log text outcome asked is shaped run =
       named_log_came IsLine log text outcome asked is shaped (with_both (λ q. IfShaped (Shelf content) q (WithNamesAndLog (Shelf content) None log q (λ book. IsLine book q))) outcome asked run)
 
   -- of the rest of a run, with no job asked for
   rest_came : (wanted : PlanAnswer) (at : Option ℕ) (job : Option ℕ) (log text : List ℕ) (outcome : Result Answer CommandFault) (asked : List (List ℕ)) → content log ≡ Ok text → IsWellShaped p → job ≡ None
-      → WithBoth (Shelf content) pair (λ q. IfShaped (Shelf content) q (IfThere (Shelf content) job q (WithNamesAndLog (Shelf content) None log q (λ book. IsRestLine book wanted at q)))) [] outcome asked
-      → IsAnswered (IsRestLine no_names wanted at p text) (pair.path ∷ pair.plan ∷ log ∷ []) outcome asked
+      → WithBoth (Shelf content) inputs (λ q. IfShaped (Shelf content) q (IfThere (Shelf content) job q (WithNamesAndLog (Shelf content) None log q (λ book. IsRestLine book wanted at q)))) [] outcome asked
+      → IsAnswered (IsRestLine no_names wanted at p text) (inputs.path ∷ inputs.plan ∷ log ∷ []) outcome asked
   rest_came wanted at None log text outcome asked is shaped none run = good_named_log (λ book. IsRestLine book wanted at) log text outcome asked is shaped run
   rest_came wanted at (Some j) log text outcome asked is shaped none run = absurd (cc none)
 
   pub good_rest : (wanted : PlanAnswer) (at : Option ℕ) (log text : List ℕ) (outcome : Result Answer CommandFault) (asked : List (List ℕ)) → content log ≡ Ok text → IsWellShaped p → job_asked wanted ≡ None
-      → RunsRest (Shelf content) wanted at pair None log [] outcome asked → IsAnswered (IsRestLine no_names wanted at p text) (pair.path ∷ pair.plan ∷ log ∷ []) outcome asked
+      → RunsRest (Shelf content) wanted at inputs None log [] outcome asked → IsAnswered (IsRestLine no_names wanted at p text) (inputs.path ∷ inputs.plan ∷ log ∷ []) outcome asked
   good_rest wanted at log text outcome asked is shaped none run = rest_came wanted at (job_asked wanted) log text outcome asked is shaped none run
 
   any_drawn : (drawn : Result Drawn CommandFault) (before asked : List (List ℕ)) → IfDrawable p (WithNames (Shelf content) None p (λ book. IsOrMemory (IsPlanDrawn book p))) before drawn asked
@@ -221,13 +221,13 @@ module _ (content : List ℕ → Result (List ℕ) CommandFault) (pair : InputPa
   any_drawn (Err fault) before asked (inr concluded) = concluded
 
   plan_came_drawn : (drawn : Result Drawn CommandFault) (asked : List (List ℕ))
-      → IfDrawable p (WithNames (Shelf content) None p (λ book. IsOrMemory (IsPlanDrawn book p))) (pair.path ∷ pair.plan ∷ []) drawn asked ⊎ (drawn ≡ Err Memory)
-      → IsAnswered (IsAnyPlanDrawn p) (pair.path ∷ pair.plan ∷ []) drawn asked
-  plan_came_drawn drawn asked (inl run) = parsed_answered (IsAnyPlanDrawn p) drawn asked (inl (any_drawn drawn (pair.path ∷ pair.plan ∷ []) asked run))
+      → IfDrawable p (WithNames (Shelf content) None p (λ book. IsOrMemory (IsPlanDrawn book p))) (inputs.path ∷ inputs.plan ∷ []) drawn asked ⊎ (drawn ≡ Err Memory)
+      → IsAnswered (IsAnyPlanDrawn p) (inputs.path ∷ inputs.plan ∷ []) drawn asked
+  plan_came_drawn drawn asked (inl run) = parsed_answered (IsAnyPlanDrawn p) drawn asked (inl (any_drawn drawn (inputs.path ∷ inputs.plan ∷ []) asked run))
   plan_came_drawn drawn asked (inr none) = parsed_answered (IsAnyPlanDrawn p) drawn asked (inr none)
 
-  pub good_schedule_picture : (before after : Streams) (outcome : Result Answer CommandFault) (asked : List (List ℕ)) → RunsPicture (DrawsSchedule (Shelf content) pair None) [] before outcome asked after
-      → IsDrawn (IsAnyPlanDrawn p) (pair.path ∷ pair.plan ∷ []) before outcome asked after
+  pub good_schedule_picture : (before after : Streams) (outcome : Result Answer CommandFault) (asked : List (List ℕ)) → RunsPicture (DrawsSchedule (Shelf content) inputs None) [] before outcome asked after
+      → IsDrawn (IsAnyPlanDrawn p) (inputs.path ∷ inputs.plan ∷ []) before outcome asked after
   good_schedule_picture before after outcome asked run =
       came_drawn (IsAnyPlanDrawn p) _ run.drawn before after outcome asked
       (plan_came_drawn run.drawn asked (with_both (λ q. IfDrawable q (WithNames (Shelf content) None q (λ book. IsOrMemory (IsPlanDrawn book q)))) run.drawn asked run.came)) run.draws
@@ -238,46 +238,46 @@ module _ (content : List ℕ → Result (List ℕ) CommandFault) (pair : InputPa
   drawn_after_all (Err fault) shaped is = ap Err is
 
   drawn_log_came : (IsDrawing : NameBook → PlannedShop → List ℕ → Drawn → Type 0) (log text : List ℕ) (drawn : Result Drawn CommandFault) (asked : List (List ℕ)) → content log ≡ Ok text → IsWellShaped p
-      → IfDrawable p (WithNamesAndLog (Shelf content) None log p (λ book. IsDrawing book p)) (pair.path ∷ pair.plan ∷ []) drawn asked ⊎ (drawn ≡ Err Memory) → IsAnswered (IsDrawing no_names p text) (pair.path ∷ pair.plan ∷ log ∷ []) drawn asked
+      → IfDrawable p (WithNamesAndLog (Shelf content) None log p (λ book. IsDrawing book p)) (inputs.path ∷ inputs.plan ∷ []) drawn asked ⊎ (drawn ≡ Err Memory) → IsAnswered (IsDrawing no_names p text) (inputs.path ∷ inputs.plan ∷ log ∷ []) drawn asked
   drawn_log_came IsDrawing log text drawn asked is shaped (inl (inl (also, run))) =
-      let later = unnamed (λ book. Then (Asks (Shelf content) log) (λ t. Concludes (IsOrMemory (IsDrawing book p t)))) (pair.path ∷ pair.plan ∷ []) asked drawn (Shelf content) p run in
-      let read = asked_and_read content (λ t. IsOrMemory (IsDrawing no_names p t)) log text is (pair.path ∷ pair.plan ∷ []) later.came later.mid drawn asked later.is later.goes_on in
+      let later = unnamed (λ book. Then (Asks (Shelf content) log) (λ t. Concludes (IsOrMemory (IsDrawing book p t)))) (inputs.path ∷ inputs.plan ∷ []) asked drawn (Shelf content) p run in
+      let read = asked_and_read content (λ t. IsOrMemory (IsDrawing no_names p t)) log text is (inputs.path ∷ inputs.plan ∷ []) later.came later.mid drawn asked later.is later.goes_on in
       answered _ _ drawn asked read.0 read.1
   drawn_log_came IsDrawing log text drawn asked is shaped (inl (inr unshaped)) = no_memory _ _ drawn asked (drawn_after_all drawn shaped unshaped.0)
   drawn_log_came IsDrawing log text drawn asked is shaped (inr none) = no_memory _ _ drawn asked none
 
   pub good_rest_picture : (at : Option ℕ) (before after : Streams) (log text : List ℕ) (outcome : Result Answer CommandFault) (asked : List (List ℕ)) → content log ≡ Ok text → IsWellShaped p
-      → RunsPicture (DrawsRest (Shelf content) at pair None log) [] before outcome asked after → IsDrawn (IsRestDrawing at no_names p text) (pair.path ∷ pair.plan ∷ log ∷ []) before outcome asked after
+      → RunsPicture (DrawsRest (Shelf content) at inputs None log) [] before outcome asked after → IsDrawn (IsRestDrawing at no_names p text) (inputs.path ∷ inputs.plan ∷ log ∷ []) before outcome asked after
   good_rest_picture at before after log text outcome asked is shaped run =
       came_drawn (IsRestDrawing at no_names p text) _ run.drawn before after outcome asked
       (drawn_log_came (IsRestDrawing at) log text run.drawn asked is shaped (with_both (λ q. IfDrawable q (WithNamesAndLog (Shelf content) None log q (λ book. IsRestDrawing at book q))) run.drawn asked run.came)) run.draws
 
   pub good_log_picture : (before after : Streams) (log text : List ℕ) (outcome : Result Answer CommandFault) (asked : List (List ℕ)) → content log ≡ Ok text → IsWellShaped p
-      → RunsPicture (DrawsLog (Shelf content) pair None log) [] before outcome asked after → IsDrawn (IsLogDrawn no_names p text) (pair.path ∷ pair.plan ∷ log ∷ []) before outcome asked after
+      → RunsPicture (DrawsLog (Shelf content) inputs None log) [] before outcome asked after → IsDrawn (IsLogDrawn no_names p text) (inputs.path ∷ inputs.plan ∷ log ∷ []) before outcome asked after
   good_log_picture before after log text outcome asked is shaped run =
       came_drawn (IsLogDrawn no_names p text) _ run.drawn before after outcome asked (drawn_log_came IsLogDrawn log text run.drawn asked is shaped (with_both (λ q. IfDrawable q (WithNamesAndLog (Shelf content) None log q (λ book. IsLogDrawn book q))) run.drawn asked run.came)) run.draws
 
-  pub good_search : (rounds : ℕ) (outcome : Result Answer CommandFault) (asked : List (List ℕ)) → SeeksPlan (Shelf content) rounds pair [] outcome asked
-      → (IsSearchAnswer (search_by_two (task_in p)) rounds outcome × (asked ≡ pair.path ∷ pair.plan ∷ [])) ⊎ (outcome ≡ Err Memory)
+  pub good_search : (rounds : ℕ) (outcome : Result Answer CommandFault) (asked : List (List ℕ)) → SeeksPlan (Shelf content) rounds inputs [] outcome asked
+      → (IsSearchAnswer (search_by_two (task_in p)) rounds outcome × (asked ≡ inputs.path ∷ inputs.plan ∷ [])) ⊎ (outcome ≡ Err Memory)
   good_search rounds outcome asked (inl run) = with_both (λ q. Concludes (IsSearchAnswer (search_by_two (task_in q)) rounds)) outcome asked run
   good_search rounds outcome asked (inr none) = inr none.0
 
-  pub good_improvement : (rounds : ℕ) (outcome : Result Answer CommandFault) (asked : List (List ℕ)) → ImprovesPlan (Shelf content) rounds pair [] outcome asked
-      → (IsImproveAnswer (AsksOne rounds) rounds (ordered p) outcome × (asked ≡ pair.path ∷ pair.plan ∷ [])) ⊎ (outcome ≡ Err Memory)
+  pub good_improvement : (rounds : ℕ) (outcome : Result Answer CommandFault) (asked : List (List ℕ)) → ImprovesPlan (Shelf content) rounds inputs [] outcome asked
+      → (IsImproveAnswer (AsksOne rounds) rounds (ordered p) outcome × (asked ≡ inputs.path ∷ inputs.plan ∷ [])) ⊎ (outcome ≡ Err Memory)
   good_improvement rounds outcome asked (inl run) = with_both (λ q. Concludes (IsImproveAnswer (AsksOne rounds) rounds (ordered q))) outcome asked run
   good_improvement rounds outcome asked (inr none) = inr none.0
 
   improvement_came : (at : Option ℕ) (rounds : ℕ) (log text : List ℕ) (outcome : Result Answer CommandFault) (asked : List (List ℕ)) → content log ≡ Ok text → IsWellShaped (ordered p)
-      → WithRest (Shelf content) (AsksOneForRest rounds) at rounds log (ordered p) (pair.path ∷ pair.plan ∷ []) outcome asked ⊎ (outcome ≡ Err Memory)
-      → (IsRestAnswer (AsksOneForRest rounds) at rounds (ended_lines text) (ordered p) outcome × (asked ≡ pair.path ∷ pair.plan ∷ log ∷ [])) ⊎ (outcome ≡ Err Memory)
+      → WithRest (Shelf content) (AsksOneForRest rounds) at rounds log (ordered p) (inputs.path ∷ inputs.plan ∷ []) outcome asked ⊎ (outcome ≡ Err Memory)
+      → (IsRestAnswer (AsksOneForRest rounds) at rounds (ended_lines text) (ordered p) outcome × (asked ≡ inputs.path ∷ inputs.plan ∷ log ∷ [])) ⊎ (outcome ≡ Err Memory)
   improvement_came at rounds log text outcome asked is shaped (inl (inl (also, run))) =
-      inl (asked_and_read content (λ t. IsRestAnswer (AsksOneForRest rounds) at rounds (ended_lines t) (ordered p)) log text is (pair.path ∷ pair.plan ∷ []) run.came run.mid outcome asked run.is run.goes_on)
+      inl (asked_and_read content (λ t. IsRestAnswer (AsksOneForRest rounds) at rounds (ended_lines t) (ordered p)) log text is (inputs.path ∷ inputs.plan ∷ []) run.came run.mid outcome asked run.is run.goes_on)
   improvement_came at rounds log text outcome asked is shaped (inl (inr unshaped)) = inr (shaped_after_all (ordered p) outcome shaped unshaped.0)
   improvement_came at rounds log text outcome asked is shaped (inr none) = inr none
 
   pub good_rest_improvement : (at : Option ℕ) (rounds : ℕ) (log text : List ℕ) (outcome : Result Answer CommandFault) (asked : List (List ℕ)) → content log ≡ Ok text → IsWellShaped (ordered p)
-      → ImprovesRest (Shelf content) at rounds pair log [] outcome asked
-      → (IsRestAnswer (AsksOneForRest rounds) at rounds (ended_lines text) (ordered p) outcome × (asked ≡ pair.path ∷ pair.plan ∷ log ∷ [])) ⊎ (outcome ≡ Err Memory)
+      → ImprovesRest (Shelf content) at rounds inputs log [] outcome asked
+      → (IsRestAnswer (AsksOneForRest rounds) at rounds (ended_lines text) (ordered p) outcome × (asked ≡ inputs.path ∷ inputs.plan ∷ log ∷ [])) ⊎ (outcome ≡ Err Memory)
   good_rest_improvement at rounds log text outcome asked is shaped (inl run) =
       improvement_came at rounds log text outcome asked is shaped (with_both (λ q. WithRest (Shelf content) (AsksOneForRest rounds) at rounds log (ordered q)) outcome asked run)
   good_rest_improvement at rounds log text outcome asked is shaped (inr none) = inr none.0
@@ -286,22 +286,22 @@ module _ (content : List ℕ → Result (List ℕ) CommandFault) (pair : InputPa
 
   -- an accepted plan drives its cell
   loaded_drives : (protocol : Protocol) (loaded : Result Loaded CommandFault) (asked : List (List ℕ)) (before after : Streams) (outcome : Result Answer CommandFault) → IsWellShaped p → IsAcceptable p
-      → IsAnswered (IsLoaded p) (pair.path ∷ pair.plan ∷ []) loaded asked → Drives protocol loaded before after outcome
-      → ((asked ≡ pair.path ∷ pair.plan ∷ []) × ((v : VerifiedPlan) × (v.planned ≡ p) × DrivesCell protocol v before after outcome)) ⊎ ((outcome ≡ Err Memory) × (after ≡ before))
+      → IsAnswered (IsLoaded p) (inputs.path ∷ inputs.plan ∷ []) loaded asked → Drives protocol loaded before after outcome
+      → ((asked ≡ inputs.path ∷ inputs.plan ∷ []) × ((v : VerifiedPlan) × (v.planned ≡ p) × DrivesCell protocol v before after outcome)) ⊎ ((outcome ≡ Err Memory) × (after ≡ before))
   loaded_drives protocol (Err fault) asked before after outcome shaped acceptable is drives = inr (drives.0 ∙ ap Err is, drives.1)
   loaded_drives protocol (Ok (NotShaped fault)) asked before after outcome shaped acceptable is drives = absurd (shape_fault_refutes p fault is.0 shaped)
   loaded_drives protocol (Ok (Judged (Refused back why))) asked before after outcome shaped acceptable is drives = absurd (reason_refutes p why is.0.refused.1 acceptable)
   loaded_drives protocol (Ok (Judged (Accepted v))) asked before after outcome shaped acceptable is drives = inl (is.1, (v, is.0.accepted.0, drives))
 
-  pub good_drive : (protocol : Protocol) (before after : Streams) (outcome : Result Answer CommandFault) (asked : List (List ℕ)) → IsWellShaped p → IsAcceptable p → RunsDrive (Shelf content) protocol pair [] before outcome asked after
-      → ((asked ≡ pair.path ∷ pair.plan ∷ []) × ((v : VerifiedPlan) × (v.planned ≡ p) × DrivesCell protocol v before after outcome)) ⊎ ((outcome ≡ Err Memory) × (after ≡ before))
+  pub good_drive : (protocol : Protocol) (before after : Streams) (outcome : Result Answer CommandFault) (asked : List (List ℕ)) → IsWellShaped p → IsAcceptable p → RunsDrive (Shelf content) protocol inputs [] before outcome asked after
+      → ((asked ≡ inputs.path ∷ inputs.plan ∷ []) × ((v : VerifiedPlan) × (v.planned ≡ p) × DrivesCell protocol v before after outcome)) ⊎ ((outcome ≡ Err Memory) × (after ≡ before))
   good_drive protocol before after outcome asked shaped acceptable run =
       loaded_drives protocol run.loaded asked before after outcome shaped acceptable (good_plan IsLoaded run.loaded asked run.loads) run.drives
 
   -- the text of the log that came is recovered
   log_resumes : (protocol : Protocol) (at : Option ℕ) (log text : List ℕ) (came : Result (List ℕ) CommandFault) (mid asked : List (List ℕ)) (before after : Streams) (outcome : Result Answer CommandFault) → content log ≡ Ok text
-      → mid ≡ pair.path ∷ pair.plan ∷ [] → Asks (Shelf content) log mid came asked → ResumesText protocol at p came before after outcome
-      → (asked ≡ pair.path ∷ pair.plan ∷ log ∷ []) × ResumesText protocol at p (Ok text) before after outcome
+      → mid ≡ inputs.path ∷ inputs.plan ∷ [] → Asks (Shelf content) log mid came asked → ResumesText protocol at p came before after outcome
+      → (asked ≡ inputs.path ∷ inputs.plan ∷ log ∷ []) × ResumesText protocol at p (Ok text) before after outcome
   log_resumes protocol at log text (Ok t) mid asked before after outcome is files given resumes =
       let same : t ≡ text = (let both : Ok t ≡ Ok text = given.0 ∙ is in cc both) in
       (given.1 ∙ ap (λ (paths : List (List ℕ)). paths ++ log ∷ []) files, subst (λ (x : List ℕ). ResumesText protocol at p (Ok x) before after outcome) same resumes)
@@ -309,8 +309,8 @@ module _ (content : List ℕ → Result (List ℕ) CommandFault) (pair : InputPa
 
   -- a well-shaped plan has its log asked for
   shaped_resumes : (protocol : Protocol) (at : Option ℕ) (log text : List ℕ) (shaped : Result (Result PlannedShop ShapeFault) CommandFault) (mid asked : List (List ℕ)) (before after : Streams) (outcome : Result Answer CommandFault) → content log ≡ Ok text → IsWellShaped p
-      → IsAnswered (IsShapedOrNot p) (pair.path ∷ pair.plan ∷ []) shaped mid → Resumes (Shelf content) protocol at log shaped mid before outcome asked after
-      → ((asked ≡ pair.path ∷ pair.plan ∷ log ∷ []) × ResumesText protocol at p (Ok text) before after outcome) ⊎ ((outcome ≡ Err Memory) × (after ≡ before))
+      → IsAnswered (IsShapedOrNot p) (inputs.path ∷ inputs.plan ∷ []) shaped mid → Resumes (Shelf content) protocol at log shaped mid before outcome asked after
+      → ((asked ≡ inputs.path ∷ inputs.plan ∷ log ∷ []) × ResumesText protocol at p (Ok text) before after outcome) ⊎ ((outcome ≡ Err Memory) × (after ≡ before))
   shaped_resumes protocol at log text (Err fault) mid asked before after outcome came well is resumes = inr (resumes.0 ∙ ap Err is, resumes.1)
   shaped_resumes protocol at log text (Ok (Err fault)) mid asked before after outcome came well is resumes = absurd (shape_fault_refutes p fault is.0 well)
   shaped_resumes protocol at log text (Ok (Ok q)) mid asked before after outcome came well is resumes =
@@ -318,40 +318,40 @@ module _ (content : List ℕ → Result (List ℕ) CommandFault) (pair : InputPa
       inl (log_resumes protocol at log text resumes.text mid asked before after outcome came is.1 resumes.asks of_plan)
 
   pub good_resume : (protocol : Protocol) (at : Option ℕ) (before after : Streams) (log text : List ℕ) (outcome : Result Answer CommandFault) (asked : List (List ℕ)) → IsWellShaped p → content log ≡ Ok text
-      → RunsResume (Shelf content) protocol at pair log [] before outcome asked after
-      → ((asked ≡ pair.path ∷ pair.plan ∷ log ∷ []) × ResumesText protocol at p (Ok text) before after outcome) ⊎ ((outcome ≡ Err Memory) × (after ≡ before))
+      → RunsResume (Shelf content) protocol at inputs log [] before outcome asked after
+      → ((asked ≡ inputs.path ∷ inputs.plan ∷ log ∷ []) × ResumesText protocol at p (Ok text) before after outcome) ⊎ ((outcome ≡ Err Memory) × (after ≡ before))
   good_resume protocol at before after log text outcome asked well is run =
       shaped_resumes protocol at log text run.shaped run.texts_mid asked before after outcome is well (good_plan IsShapedOrNot run.shaped run.texts_mid run.shapes) run.resumes
 
   -- ---- plans that aren't accepted
 
   -- the line of such a plan is that of `check`
-  line_answered : (loaded : Loaded) (outcome : Result Answer CommandFault) (asked : List (List ℕ)) → IsLoaded p loaded → asked ≡ pair.path ∷ pair.plan ∷ [] → IsLineAnswer loaded outcome
-      → IsAnswered (IsCheckLine p) (pair.path ∷ pair.plan ∷ []) outcome asked
+  line_answered : (loaded : Loaded) (outcome : Result Answer CommandFault) (asked : List (List ℕ)) → IsLoaded p loaded → asked ≡ inputs.path ∷ inputs.plan ∷ [] → IsLineAnswer loaded outcome
+      → IsAnswered (IsCheckLine p) (inputs.path ∷ inputs.plan ∷ []) outcome asked
   line_answered loaded (Ok answer) asked is files line = (line_of_loaded p loaded answer is line, files)
   line_answered loaded (Err fault) asked is files line = line
 
   drives_no_cell : (protocol : Protocol) (loaded : Result Loaded CommandFault) (asked : List (List ℕ)) (before after : Streams) (outcome : Result Answer CommandFault) → (IsWellShaped p → IsAcceptable p → ⊥)
-      → IsAnswered (IsLoaded p) (pair.path ∷ pair.plan ∷ []) loaded asked → Drives protocol loaded before after outcome → IsAnswered (IsCheckLine p) (pair.path ∷ pair.plan ∷ []) outcome asked × (after ≡ before)
+      → IsAnswered (IsLoaded p) (inputs.path ∷ inputs.plan ∷ []) loaded asked → Drives protocol loaded before after outcome → IsAnswered (IsCheckLine p) (inputs.path ∷ inputs.plan ∷ []) outcome asked × (after ≡ before)
   drives_no_cell protocol (Err fault) asked before after outcome never is drives = (no_memory (IsCheckLine p) _ outcome asked (drives.0 ∙ ap Err is), drives.1)
   drives_no_cell protocol (Ok (NotShaped fault)) asked before after outcome never is drives = (line_answered (NotShaped fault) outcome asked is.0 is.1 drives.0, drives.1)
   drives_no_cell protocol (Ok (Judged (Refused back why))) asked before after outcome never is drives = (line_answered (Judged (Refused back why)) outcome asked is.0 is.1 drives.0, drives.1)
   drives_no_cell protocol (Ok (Judged (Accepted v))) asked before after outcome never is drives = absurd (never is.0.well_shaped is.0.accepted.1)
 
-  pub no_drive : (protocol : Protocol) (before after : Streams) (outcome : Result Answer CommandFault) (asked : List (List ℕ)) → (IsWellShaped p → IsAcceptable p → ⊥) → RunsDrive (Shelf content) protocol pair [] before outcome asked after
-      → IsAnswered (IsCheckLine p) (pair.path ∷ pair.plan ∷ []) outcome asked × (after ≡ before)
+  pub no_drive : (protocol : Protocol) (before after : Streams) (outcome : Result Answer CommandFault) (asked : List (List ℕ)) → (IsWellShaped p → IsAcceptable p → ⊥) → RunsDrive (Shelf content) protocol inputs [] before outcome asked after
+      → IsAnswered (IsCheckLine p) (inputs.path ∷ inputs.plan ∷ []) outcome asked × (after ≡ before)
   no_drive protocol before after outcome asked never run = drives_no_cell protocol run.loaded asked before after outcome never (good_plan IsLoaded run.loaded asked run.loads) run.drives
 
   -- a plan that isn't well shaped
   resumes_unshaped : (protocol : Protocol) (at : Option ℕ) (log : List ℕ) (shaped : Result (Result PlannedShop ShapeFault) CommandFault) (mid asked : List (List ℕ)) (before after : Streams) (outcome : Result Answer CommandFault) → (IsWellShaped p → ⊥)
-      → IsAnswered (IsShapedOrNot p) (pair.path ∷ pair.plan ∷ []) shaped mid → Resumes (Shelf content) protocol at log shaped mid before outcome asked after
-      → IsAnswered (IsCheckLine p) (pair.path ∷ pair.plan ∷ []) outcome asked × (after ≡ before)
+      → IsAnswered (IsShapedOrNot p) (inputs.path ∷ inputs.plan ∷ []) shaped mid → Resumes (Shelf content) protocol at log shaped mid before outcome asked after
+      → IsAnswered (IsCheckLine p) (inputs.path ∷ inputs.plan ∷ []) outcome asked × (after ≡ before)
   resumes_unshaped protocol at log (Err fault) mid asked before after outcome never is resumes = (no_memory (IsCheckLine p) _ outcome asked (resumes.0 ∙ ap Err is), resumes.1)
   resumes_unshaped protocol at log (Ok (Err fault)) mid asked before after outcome never is resumes = (line_answered (NotShaped fault) outcome asked is.0 (resumes.2 ∙ is.1) resumes.0, resumes.1)
   resumes_unshaped protocol at log (Ok (Ok q)) mid asked before after outcome never is resumes = absurd (never is.0.1)
 
-  pub no_unshaped_resume : (protocol : Protocol) (at : Option ℕ) (log : List ℕ) (before after : Streams) (outcome : Result Answer CommandFault) (asked : List (List ℕ)) → (IsWellShaped p → ⊥) → RunsResume (Shelf content) protocol at pair log [] before outcome asked after
-      → IsAnswered (IsCheckLine p) (pair.path ∷ pair.plan ∷ []) outcome asked × (after ≡ before)
+  pub no_unshaped_resume : (protocol : Protocol) (at : Option ℕ) (log : List ℕ) (before after : Streams) (outcome : Result Answer CommandFault) (asked : List (List ℕ)) → (IsWellShaped p → ⊥) → RunsResume (Shelf content) protocol at inputs log [] before outcome asked after
+      → IsAnswered (IsCheckLine p) (inputs.path ∷ inputs.plan ∷ []) outcome asked × (after ≡ before)
   no_unshaped_resume protocol at log before after outcome asked never run =
       resumes_unshaped protocol at log run.shaped run.texts_mid asked before after outcome never (good_plan IsShapedOrNot run.shaped run.texts_mid run.shapes) run.resumes
 
@@ -400,9 +400,9 @@ module _ (content : List ℕ → Result (List ℕ) CommandFault) (pair : InputPa
     text_resumes files asked before after outcome same (Ok t, taking, on) = absurd (not_recovered t taking.is)
     text_resumes files asked before after outcome same (Err fault, taking, on) = (unrecovered_answered fault files asked outcome same taking.fault on.0, on.1)
 
-    pub no_resume : (log : List ℕ) (before after : Streams) (outcome : Result Answer CommandFault) (asked : List (List ℕ)) → content log ≡ Ok text → RunsResume (Shelf content) protocol at pair log [] before outcome asked after
-        → IsAnswered (IsCheckLine p) (pair.path ∷ pair.plan ∷ log ∷ []) outcome asked × (after ≡ before)
+    pub no_resume : (log : List ℕ) (before after : Streams) (outcome : Result Answer CommandFault) (asked : List (List ℕ)) → content log ≡ Ok text → RunsResume (Shelf content) protocol at inputs log [] before outcome asked after
+        → IsAnswered (IsCheckLine p) (inputs.path ∷ inputs.plan ∷ log ∷ []) outcome asked × (after ≡ before)
     no_resume log before after outcome asked is runs = elim (good_resume protocol at before after log text outcome asked well is runs) [
-      | inl (files, resumes) ↦ text_resumes (pair.path ∷ pair.plan ∷ log ∷ []) asked before after outcome files resumes
-      | inr (none, unread) ↦ (no_memory (IsCheckLine p) (pair.path ∷ pair.plan ∷ log ∷ []) outcome asked none, unread)
+      | inl (files, resumes) ↦ text_resumes (inputs.path ∷ inputs.plan ∷ log ∷ []) asked before after outcome files resumes
+      | inr (none, unread) ↦ (no_memory (IsCheckLine p) (inputs.path ∷ inputs.plan ∷ log ∷ []) outcome asked none, unread)
     ]

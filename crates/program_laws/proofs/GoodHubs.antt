@@ -14,7 +14,7 @@ use Rattle.command_answers.specs.declared.command_fault.CommandFault.{CommandFau
 use Rattle.command_answers.specs.declared.command_fault.CommandFault.TheVariants.{Memory}
 use Rattle.command_answers.specs.declared.loading.Loaded.{Loaded}
 use Rattle.command_answers.specs.declared.loading.Loaded.TheVariants.{NotShaped, Judged}
-use Rattle.command_answers.specs.Steps.{Then, GoesOn, Concludes, IsOrMemory}
+use Rattle.command_answers.specs.Steps.{Then, AndThen, Concludes, IsOrMemory}
 use Rattle.command_answers.specs.Texts.{Asks}
 use Rattle.command_answers.specs.Readings.{IsInstanceRead, IsPlanRead}
 use Rattle.command_answers.specs.Checks.{IsLoaded, accepted_in}
@@ -49,31 +49,31 @@ module _ (content : List ℕ → Result (List ℕ) CommandFault) (instance : Lis
   -- a plan's text gives its plan
   plan_came : (path : List ℕ) (p : PlannedShop) (good : ParsesAsPlanOf content instance name path p) (shop : JobShop) (came : Result ShopPlan CommandFault) (before mid : List (List ℕ))
       (loaded : Result Loaded CommandFault) (asked : List (List ℕ)) → shop ≡ p.shop → IsPlanRead good.plan came → mid ≡ before ++ path ∷ []
-      → GoesOn (λ plan. Concludes (IsOrMemory (IsLoaded (record { shop = shop; plan = plan })))) came mid loaded asked → IsAnswered (IsLoaded p) (before ++ path ∷ []) loaded asked
+      → AndThen (λ plan. Concludes (IsOrMemory (IsLoaded (record { shop = shop; plan = plan })))) came mid loaded asked → IsAnswered (IsLoaded p) (before ++ path ∷ []) loaded asked
   plan_came path p good shop (Ok plan) before mid loaded asked same_shop is files on =
       let of_shop : JobShop → PlannedShop = λ s. record { shop = s; plan = plan } in
       let of_plan : ShopPlan → PlannedShop = λ q. record { shop = p.shop; plan = q } in
-      let same : of_shop shop ≡ p = ap of_shop same_shop ∙ ap of_plan (is.only p.plan good.tell.plan) in
+      let same : of_shop shop ≡ p = ap of_shop same_shop ∙ ap of_plan (is.only p.plan good.parsed.plan) in
       answered (IsLoaded p) _ loaded asked (subst (λ q. IsOrMemory (IsLoaded q) loaded) same on.0) (on.1 ∙ files)
-  plan_came path p good shop (Err f) before mid loaded asked same_shop is files on = no_memory _ _ loaded asked (on.0 ∙ ap Err (is.only p.plan good.tell.plan))
+  plan_came path p good shop (Err f) before mid loaded asked same_shop is files on = no_memory _ _ loaded asked (on.0 ∙ ap Err (is.only p.plan good.parsed.plan))
 
   -- the plan of a file is accepted
   one_came : (path : List ℕ) (p : PlannedShop) → ParsesAsPlanOf content instance name path p → (came : Result Named CommandFault) (before mid : List (List ℕ))
       (loaded : Result Loaded CommandFault) (asked : List (List ℕ)) → IsInstanceRead instance name came → mid ≡ before
-      → GoesOn (λ named. Then (ReadsPlan (Shelf content) path) (λ plan. Concludes (IsOrMemory (IsLoaded (record { shop = named.shop; plan = plan }))))) came mid loaded asked
+      → AndThen (λ named. Then (ReadsPlan (Shelf content) path) (λ plan. Concludes (IsOrMemory (IsLoaded (record { shop = named.shop; plan = plan }))))) came mid loaded asked
       → IsAnswered (IsLoaded p) (before ++ path ∷ []) loaded asked
   one_came path p good (Ok named) before mid loaded asked is same on =
-      let same_shop = (is.only good.tell.description p.shop good.tell.shop).1 in
+      let same_shop = (is.only good.parsed.description p.shop good.parsed.shop).1 in
       let read = asked_and_read content (λ t. IsPlanRead t) path good.plan good.plan_is mid on.is.came on.is.mid on.came on.mid on.is.is on.is.goes_on in
       plan_came path p good named.shop on.came before on.mid loaded asked same_shop read.0 (read.1 ∙ ap (λ (files : List (List ℕ)). files ++ path ∷ []) same) on.goes_on
-  one_came path p good (Err f) before mid loaded asked is same on = no_memory _ _ loaded asked (on.0 ∙ ap Err (is.only good.tell.description p.shop good.tell.shop))
+  one_came path p good (Err f) before mid loaded asked is same on = no_memory _ _ loaded asked (on.0 ∙ ap Err (is.only good.parsed.description p.shop good.parsed.shop))
 
   -- behind it come the others
   others_come : (path : List ℕ) (p : PlannedShop) → ParsesAsAcceptedPlan content instance name path p → (paths : List (List ℕ)) (plans : List PlannedShop) (cells : List VerifiedPlan) (before mid : List (List ℕ))
       → ((more : List VerifiedPlan) (here : List (List ℕ)) (loaded : Result Cells CommandFault) (asked : List (List ℕ)) → LoadsEach (Shelf content) instance name more paths here loaded asked
       → IsAnswered (AreCellsOf (plans_of more ++ plans)) (here ++ paths) loaded asked)
       → (one : Result Loaded CommandFault) (loaded : Result Cells CommandFault) (asked : List (List ℕ)) → IsAnswered (IsLoaded p) (before ++ path ∷ []) one mid
-      → GoesOn (λ l. AfterPlan cells (λ more. LoadsEach (Shelf content) instance name more paths) (accepted_in l)) one mid loaded asked
+      → AndThen (λ l. AfterPlan cells (λ more. LoadsEach (Shelf content) instance name more paths) (accepted_in l)) one mid loaded asked
       → IsAnswered (AreCellsOf (plans_of cells ++ p ∷ plans)) (before ++ path ∷ paths) loaded asked
   others_come path p good paths plans cells before mid rest (Err f) loaded asked is on = no_memory _ _ loaded asked (on.0 ∙ ap Err is)
   others_come path p good paths plans cells before mid rest (Ok (NotShaped fault)) loaded asked is on = absurd (shape_fault_refutes p fault is.0 good.well_shaped)
@@ -100,7 +100,7 @@ module _ (content : List ℕ → Result (List ℕ) CommandFault) (instance : Lis
       others_come path p good.0 paths plans cells here loads.mid (λ more now those files each. each_come paths plans good.1 more now those files each) loads.came loaded asked one loads.goes_on
 
   cells_come : (path : List ℕ) (files : List (List ℕ)) (plans : List PlannedShop) → content path ≡ Ok instance → ParseAsAcceptedPlans content instance name files plans → (came : Result (List ℕ) CommandFault)
-      (mid : List (List ℕ)) (loaded : Result Cells CommandFault) (asked : List (List ℕ)) → Asks (Shelf content) path [] came mid → GoesOn (λ t. LoadsEach (Shelf content) t name [] files) came mid loaded asked
+      (mid : List (List ℕ)) (loaded : Result Cells CommandFault) (asked : List (List ℕ)) → Asks (Shelf content) path [] came mid → AndThen (λ t. LoadsEach (Shelf content) t name [] files) came mid loaded asked
       → IsAnswered (AreCellsOf plans) (path ∷ files) loaded asked
   cells_come path files plans is good (Ok t) mid loaded asked given on =
       let same : t ≡ instance = (let both : Ok t ≡ Ok instance = given.0 ∙ is in cc both) in
@@ -136,7 +136,7 @@ module _ (content : List ℕ → Result (List ℕ) CommandFault) (instance : Lis
     (parses : ParsesAsPlanOf content instance name file p) (never : IsWellShaped p → IsAcceptable p → ⊥) where
   -- the plan that isn't accepted ends it
   ends_there : (cells : List VerifiedPlan) (rest : List VerifiedPlan → List (List ℕ) → Result Cells CommandFault → List (List ℕ) → Type 0) (one : Result Loaded CommandFault) (mid files : List (List ℕ))
-      (loaded : Result Cells CommandFault) (asked : List (List ℕ)) → IsAnswered (IsLoaded p) files one mid → GoesOn (λ l. AfterPlan cells rest (accepted_in l)) one mid loaded asked
+      (loaded : Result Cells CommandFault) (asked : List (List ℕ)) → IsAnswered (IsLoaded p) files one mid → AndThen (λ l. AfterPlan cells rest (accepted_in l)) one mid loaded asked
       → IsAnswered (IsCellsLine (length cells) p) files loaded asked
   ends_there cells rest (Err f) mid files loaded asked is on = no_memory _ _ loaded asked (on.0 ∙ ap Err is)
   ends_there cells rest (Ok (NotShaped fault)) mid files loaded asked is on = cell_answered (length cells) p files (NotShaped fault) loaded asked is.0 on.0 (on.1 ∙ is.1)
@@ -148,7 +148,7 @@ module _ (content : List ℕ → Result (List ℕ) CommandFault) (instance : Lis
       → ((more : List VerifiedPlan) (here : List (List ℕ)) (loaded : Result Cells CommandFault) (asked : List (List ℕ)) → LoadsEach (Shelf content) instance name more (paths ++ file ∷ others) here loaded asked
       → IsAnswered (IsCellsLine (length more + length paths) p) (here ++ (paths ++ file ∷ [])) loaded asked)
       → (one : Result Loaded CommandFault) (loaded : Result Cells CommandFault) (asked : List (List ℕ)) → IsAnswered (IsLoaded q) (before ++ path ∷ []) one mid
-      → GoesOn (λ l. AfterPlan cells (λ more. LoadsEach (Shelf content) instance name more (paths ++ file ∷ others)) (accepted_in l)) one mid loaded asked
+      → AndThen (λ l. AfterPlan cells (λ more. LoadsEach (Shelf content) instance name more (paths ++ file ∷ others)) (accepted_in l)) one mid loaded asked
       → IsAnswered (IsCellsLine (length cells + length (path ∷ paths)) p) (before ++ path ∷ (paths ++ file ∷ [])) loaded asked
   passes path q good paths cells before mid rest (Err f) loaded asked is on = no_memory _ _ loaded asked (on.0 ∙ ap Err is)
   passes path q good paths cells before mid rest (Ok (NotShaped fault)) loaded asked is on = absurd (shape_fault_refutes q fault is.0 good.well_shaped)
@@ -175,7 +175,7 @@ module _ (content : List ℕ → Result (List ℕ) CommandFault) (instance : Lis
       passes path q good.0 paths cells here loads.mid (λ more now those files each. line_comes paths plans good.1 more now those files each) loads.came loaded asked one loads.goes_on
 
   line_of_cells : (path : List ℕ) (files : List (List ℕ)) (plans : List PlannedShop) → content path ≡ Ok instance → ParseAsAcceptedPlans content instance name files plans → (came : Result (List ℕ) CommandFault)
-      (mid : List (List ℕ)) (loaded : Result Cells CommandFault) (asked : List (List ℕ)) → Asks (Shelf content) path [] came mid → GoesOn (λ t. LoadsEach (Shelf content) t name [] (files ++ file ∷ others)) came mid loaded asked
+      (mid : List (List ℕ)) (loaded : Result Cells CommandFault) (asked : List (List ℕ)) → Asks (Shelf content) path [] came mid → AndThen (λ t. LoadsEach (Shelf content) t name [] (files ++ file ∷ others)) came mid loaded asked
       → IsAnswered (IsCellsLine (length files) p) (path ∷ (files ++ file ∷ [])) loaded asked
   line_of_cells path files plans is good (Ok t) mid loaded asked given on =
       let same : t ≡ instance = (let both : Ok t ≡ Ok instance = given.0 ∙ is in cc both) in

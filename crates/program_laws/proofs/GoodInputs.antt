@@ -8,7 +8,7 @@ use Rattle.command_answers.specs.declared.command_fault.CommandFault.{CommandFau
 use Rattle.command_answers.specs.declared.command_fault.CommandFault.TheVariants.{Instance, Plan, Names, Read, Write, InputTooLong, Log, LogInUse, Memory}
 use Rattle.command_answers.specs.Instances.{ParsesAs}
 use Rattle.command_answers.specs.Readings.{AreFactsAnswered}
-use Rattle.command_answers.specs.Steps.{GoesOn, Concludes}
+use Rattle.command_answers.specs.Steps.{AndThen, Concludes}
 use Rattle.command_run.specs.Streams.{Input}
 use Rattle.command_run.specs.Inputs.{IsInputRead, RunsInput}
 use Rattle.command_run.specs.Laws.{IsInputAnswered}
@@ -30,7 +30,7 @@ module _ (text description : List ℕ) (shop : JobShop) (parses : ParsesAs text 
 
   -- what came of the reading is answered
   input_read : (before mid after : Input) (came : Result (List ℕ) CommandFault) (outcome : Result Answer CommandFault) → before.left ≡ Some text → length text ≤ MAX_INPUT
-      → IsInputRead before came mid → GoesOn (λ t. Concludes (AreFactsAnswered t None)) came mid outcome after → IsInputAnswered shop outcome after
+      → IsInputRead before came mid → AndThen (λ t. Concludes (AreFactsAnswered t None)) came mid outcome after → IsInputAnswered shop outcome after
   input_read before mid after (Ok t) outcome given few is on =
       let all = all_given mid.left text t (subst (λ o. Consumes o mid.left t) given is.0) is.1 in
       facts_answered_first outcome after (subst (λ x. AreFactsAnswered x None outcome) all.0 on.0) (ap (λ (i : Input). i.left) on.1 ∙ all.1)

@@ -1,4 +1,4 @@
--- What `run` asks of the telling of a log can be met.
+-- What `run` asks of the history of a log can be met.
 use Rattle.std.proofs.Common.{◌≡◌, ℕ, List, [], ◌∷◌, ◌++◌, length, take, get_or, map, Bool, true, false, Option, None, Some, IfSome, Result, Ok, option_map, ap, ap₂, sym, ◌∙◌, subst, refl}
 use Rattle.std.specs.String.{string_bytes}
 use Rattle.shop_base.specs.Plan.{PlannedShop}
@@ -19,7 +19,7 @@ use Rattle.command_answers.specs.declared.command_fault.CommandFault.{CommandFau
 use Rattle.command_answers.specs.Commands.{InputPaths, Shapes}
 use Rattle.command_answers.specs.Shapes.{IsShapedOrNot}
 use Rattle.command_run.specs.Logs.{IsHistoryOf, IsHistoryOfOld, digits_in}
-use Rattle.command_run.specs.Program.{keeps_log, kept_log_in, log_kept_by, protocol_in, pair_in}
+use Rattle.command_run.specs.Program.{keeps_log, kept_log_in, log_kept_by, protocol_in, inputs_in}
 use Rattle.command_run.specs.Laws.{Shelf}
 use Rattle.program_laws.specs.ResumeLaw.{moment_given}
 use Rattle.program_laws.specs.HistoryLaw.{AskForLog, NewLogHasHistory, OldLogHasHistory, protocol_of}
@@ -35,12 +35,12 @@ kept_some false log path is = absurd (cc is)
 pub asked_path : (words : List (List ℕ)) (chosen : Chosen) (path : List ℕ) → IsChoiceOf words (found_in words) chosen → kept_log_in chosen ≡ Some path → kept_in (rows_found (found_in words)) ≡ Some path
 asked_path words chosen path choice kept = sym choice.log ∙ kept_some (keeps_log chosen.name) (option_map string_bytes chosen.log) path kept
 
-asked_pair : (words : List (List ℕ)) (pair : InputPaths) (log : List ℕ) (chosen : Chosen) → AskForLog words pair log → IsChoiceOf words (found_in words) chosen → pair_in chosen ≡ pair
-asked_pair words pair log chosen ask is =
+asked_pair : (words : List (List ℕ)) (inputs : InputPaths) (log : List ℕ) (chosen : Chosen) → AskForLog words inputs log → IsChoiceOf words (found_in words) chosen → inputs_in chosen ≡ inputs
+asked_pair words inputs log chosen ask is =
     let of : List ℕ → Option (List ℕ) → List ℕ → InputPaths = λ a b c. record { path = a; name = b; plan = c } in
     let files : List (List ℕ) = map string_bytes chosen.files.items in
     ap (λ a. of a (option_map string_bytes chosen.instance) (get_or files 1 [])) (ap (λ (fs : List (List ℕ)). get_or fs 0 []) is.files ∙ sym ask.path)
-    ∙ ap (λ b. of pair.path b (get_or files 1 [])) (is.instance ∙ sym ask.name) ∙ ap (λ c. of pair.path pair.name c) (ap (λ (fs : List (List ℕ)). get_or fs 1 []) is.files ∙ sym ask.plan)
+    ∙ ap (λ b. of inputs.path b (get_or files 1 [])) (is.instance ∙ sym ask.name) ∙ ap (λ c. of inputs.path inputs.name c) (ap (λ (fs : List (List ℕ)). get_or fs 1 []) is.files ∙ sym ask.plan)
 
 -- ---- a new log
 
@@ -69,16 +69,16 @@ same_replay protocol p lines at recovered other up also =
     ∙ ap (λ (q : PlannedShop). of q recovered.log.entries recovered.late) (also.recovered_from.planned ∙ sym up.recovered_from.planned)
 
 pub old_log_has_history : OldLogHasHistory
-old_log_has_history content words pair log byte bytes named p recovered before logs start ask tell unasked there output has up is_named chosen choice path kept q mid shapes =
+old_log_has_history content words inputs log byte bytes named p recovered before logs start ask parse unasked there output has up is_named chosen choice path kept q mid shapes =
     let base : List ℕ = byte ∷ bytes in
     let protocol : Protocol = protocol_of words in
     let at : Option ℕ = moment_given words in
     let known : List ℕ × List ℕ = (named, start ++ replay_text protocol recovered) in
     let here : path ≡ log = (let both : Some path ≡ Some log = sym (asked_path words chosen path choice kept) ∙ ask.kept in cc both) in
-    let shapes_pair : Shapes (Shelf content) pair [] (Ok (Ok q)) mid =
-    subst (λ (r : InputPaths). Shapes (Shelf content) r [] (Ok (Ok q)) mid) (asked_pair words pair log chosen ask choice)
-    (subst (λ (asked : List (List ℕ)). Shapes (Shelf content) (pair_in chosen) asked (Ok (Ok q)) mid) unasked shapes) in
-    let same : q ≡ p = (good_plan content pair p tell IsShapedOrNot (Ok (Ok q)) mid shapes_pair).0.0 in
+    let shapes_pair : Shapes (Shelf content) inputs [] (Ok (Ok q)) mid =
+    subst (λ (r : InputPaths). Shapes (Shelf content) r [] (Ok (Ok q)) mid) (asked_pair words inputs log chosen ask choice)
+    (subst (λ (asked : List (List ℕ)). Shapes (Shelf content) (inputs_in chosen) asked (Ok (Ok q)) mid) unasked shapes) in
+    let same : q ≡ p = (good_plan content inputs p parse IsShapedOrNot (Ok (Ok q)) mid shapes_pair).0.0 in
     let old : IsHistoryOfOld p protocol at base before.streams.output.written known = record {
       log = is_named;
       output = λ other also. record { start = start; was = output; is = ap (λ (text : List ℕ). start ++ text) (sym (same_replay protocol p (ended_lines (whole_lines base)) at recovered other up also)) };

@@ -12,7 +12,7 @@ use Rattle.command_answers.specs.declared.pictures.Drawn.{Drawn}
 use Rattle.command_answers.specs.declared.command_fault.CommandFault.{CommandFault}
 use Rattle.command_answers.specs.declared.command_fault.CommandFault.TheVariants.{Instance, Plan, Names, Read, Write, InputTooLong, Log, LogInUse, Memory}
 use Rattle.command_answers.specs.Instances.{IsFirstInstanceFault, IsInstanceRefusal}
-use Rattle.command_answers.specs.Steps.{GoesOn, Concludes}
+use Rattle.command_answers.specs.Steps.{AndThen, Concludes}
 use Rattle.command_answers.specs.Texts.{Asks}
 use Rattle.command_answers.specs.Readings.{IsInstanceRead, AreFactsAnswered}
 use Rattle.command_answers.specs.Commands.{InputPaths, ReadsInstance, ReadsBoth, WithBoth, RunsFacts}
@@ -45,7 +45,7 @@ recovered_by fault (Err Memory) refusal = inr refl
 
 -- such a fault ends the steps
 stopped : {W A B : Type 0} (fault : OrFault) (came : Result A CommandFault) (next : A → W → Result B CommandFault → W → Type 0) (mid after : W) (outcome : Result B CommandFault)
-    → IsRefusalOf fault came → GoesOn next came mid outcome after → (after ≡ mid) × IsRefusalOf fault outcome
+    → IsRefusalOf fault came → AndThen next came mid outcome after → (after ≡ mid) × IsRefusalOf fault outcome
 stopped fault (Ok a) next mid after outcome (inl came) on = absurd (cc came)
 stopped fault (Ok a) next mid after outcome (inr came) on = absurd (cc came)
 stopped fault (Err f) next mid after outcome (inl came) on = (on.1, inl ((let one : f ≡ (Instance fault) = cc came in on.0 ∙ ap (λ x. Err x) one)))
@@ -92,7 +92,7 @@ module _ (content : List ℕ → Result (List ℕ) CommandFault) (path text : Li
   -- the instance's file was asked for alone, and is refused
   came_refused : {A : Type 0} (Is : List ℕ → Result A CommandFault → Type 0) (came : Result (List ℕ) CommandFault) (read : Result A CommandFault) (mid asked : List (List ℕ))
       → ((t : List ℕ) → Is t read → IsFirstInstanceFault t name fault → IsInstanceRefusal read fault)
-      → Asks (Shelf content) path [] came mid → GoesOn (λ t. Concludes (Is t)) came mid read asked → IsInstanceRefused path fault read asked
+      → Asks (Shelf content) path [] came mid → AndThen (λ t. Concludes (Is t)) came mid read asked → IsInstanceRefused path fault read asked
   came_refused Is (Ok t) read mid asked refuses given on = (on.1 ∙ given.1, recovered_by fault read (refuses t on.0 (same_text t given.0)))
   came_refused Is (Err f) read mid asked refuses given on = absurd (let both : Err f ≡ Ok text = given.1.0 ∙ is in cc both)
 
@@ -111,7 +111,7 @@ module _ (content : List ℕ → Result (List ℕ) CommandFault) (path text : Li
 
   -- the first plan isn't asked for
   cells_refused : (plan : List ℕ) (plans : List (List ℕ)) (came : Result (List ℕ) CommandFault) (mid : List (List ℕ)) (outcome : Result Cells CommandFault) (asked : List (List ℕ))
-      → Asks (Shelf content) path [] came mid → GoesOn (λ t. LoadsEach (Shelf content) t name [] (plan ∷ plans)) came mid outcome asked → IsInstanceRefused path fault outcome asked
+      → Asks (Shelf content) path [] came mid → AndThen (λ t. LoadsEach (Shelf content) t name [] (plan ∷ plans)) came mid outcome asked → IsInstanceRefused path fault outcome asked
   cells_refused plan plans (Ok t) mid outcome asked given on =
       let refusal = recovered_by fault on.is.came (on.is.is.0.first fault (same_text t given.0)) in
       let one = stopped fault on.is.came _ on.is.mid on.mid on.came refusal on.is.goes_on in
@@ -126,46 +126,46 @@ module _ (content : List ℕ → Result (List ℕ) CommandFault) (path text : Li
       let end = hub_stopped protocol fault run.loaded before after outcome loaded.1 run.drives in
       ((loaded.0, end.0), end.1)
 
-module _ (content : List ℕ → Result (List ℕ) CommandFault) (pair : InputPaths) (text : List ℕ) (fault : OrFault)
-    (is : content pair.path ≡ Ok text) (first : IsFirstInstanceFault text pair.name fault) where
+module _ (content : List ℕ → Result (List ℕ) CommandFault) (inputs : InputPaths) (text : List ℕ) (fault : OrFault)
+    (is : content inputs.path ≡ Ok text) (first : IsFirstInstanceFault text inputs.name fault) where
   pub instance_first_of : {A : Type 0} (next : PlannedShop → List (List ℕ) → Result A CommandFault → List (List ℕ) → Type 0) (outcome : Result A CommandFault) (asked : List (List ℕ))
-      → WithBoth (Shelf content) pair next [] outcome asked → IsInstanceRefused pair.path fault outcome asked
+      → WithBoth (Shelf content) inputs next [] outcome asked → IsInstanceRefused inputs.path fault outcome asked
   instance_first_of next outcome asked run =
-      let read = both_refused content pair.path text pair.name fault is first pair.plan run.came run.mid run.is in
+      let read = both_refused content inputs.path text inputs.name fault is first inputs.plan run.came run.mid run.is in
       let end = stopped fault run.came next run.mid asked outcome read.1 run.goes_on in
       (end.0 ∙ read.0, end.1)
 
-  pub plan_first : (rounds : ℕ) (outcome : Result Answer CommandFault) (asked : List (List ℕ)) → SeeksPlan (Shelf content) rounds pair [] outcome asked
-      → IsInstanceRefused pair.path fault outcome asked ⊎ ((outcome ≡ Err Memory) × (asked ≡ []))
+  pub plan_first : (rounds : ℕ) (outcome : Result Answer CommandFault) (asked : List (List ℕ)) → SeeksPlan (Shelf content) rounds inputs [] outcome asked
+      → IsInstanceRefused inputs.path fault outcome asked ⊎ ((outcome ≡ Err Memory) × (asked ≡ []))
   plan_first rounds outcome asked (inl run) = inl (instance_first_of _ outcome asked run)
   plan_first rounds outcome asked (inr no_memory) = inr no_memory
 
-  pub improve_first : (rounds : ℕ) (outcome : Result Answer CommandFault) (asked : List (List ℕ)) → ImprovesPlan (Shelf content) rounds pair [] outcome asked
-      → IsInstanceRefused pair.path fault outcome asked ⊎ ((outcome ≡ Err Memory) × (asked ≡ []))
+  pub improve_first : (rounds : ℕ) (outcome : Result Answer CommandFault) (asked : List (List ℕ)) → ImprovesPlan (Shelf content) rounds inputs [] outcome asked
+      → IsInstanceRefused inputs.path fault outcome asked ⊎ ((outcome ≡ Err Memory) × (asked ≡ []))
   improve_first rounds outcome asked (inl run) = inl (instance_first_of _ outcome asked run)
   improve_first rounds outcome asked (inr no_memory) = inr no_memory
 
-  pub improve_rest_first : (at : Option ℕ) (rounds : ℕ) (log : List ℕ) (outcome : Result Answer CommandFault) (asked : List (List ℕ)) → ImprovesRest (Shelf content) at rounds pair log [] outcome asked
-      → IsInstanceRefused pair.path fault outcome asked ⊎ ((outcome ≡ Err Memory) × (asked ≡ []))
+  pub improve_rest_first : (at : Option ℕ) (rounds : ℕ) (log : List ℕ) (outcome : Result Answer CommandFault) (asked : List (List ℕ)) → ImprovesRest (Shelf content) at rounds inputs log [] outcome asked
+      → IsInstanceRefused inputs.path fault outcome asked ⊎ ((outcome ≡ Err Memory) × (asked ≡ []))
   improve_rest_first at rounds log outcome asked (inl run) = inl (instance_first_of _ outcome asked run)
   improve_rest_first at rounds log outcome asked (inr no_memory) = inr no_memory
 
-  pub drive_first : (protocol : Protocol) (before after : Streams) (outcome : Result Answer CommandFault) (asked : List (List ℕ)) → RunsDrive (Shelf content) protocol pair [] before outcome asked after
-      → IsInstanceRefused pair.path fault outcome asked × (after ≡ before)
+  pub drive_first : (protocol : Protocol) (before after : Streams) (outcome : Result Answer CommandFault) (asked : List (List ℕ)) → RunsDrive (Shelf content) protocol inputs [] before outcome asked after
+      → IsInstanceRefused inputs.path fault outcome asked × (after ≡ before)
   drive_first protocol before after outcome asked run =
       let loaded = instance_first_of _ run.loaded asked run.loads in
       let end = drives_stopped protocol fault run.loaded before after outcome loaded.1 run.drives in
       ((loaded.0, end.0), end.1)
 
   pub picture_first : (next : PlannedShop → List (List ℕ) → Result Drawn CommandFault → List (List ℕ) → Type 0) (before after : Streams) (outcome : Result Answer CommandFault) (asked : List (List ℕ))
-      → RunsPicture (WithBoth (Shelf content) pair next) [] before outcome asked after → IsInstanceRefused pair.path fault outcome asked × (after ≡ before)
+      → RunsPicture (WithBoth (Shelf content) inputs next) [] before outcome asked after → IsInstanceRefused inputs.path fault outcome asked × (after ≡ before)
   picture_first next before after outcome asked run =
       let came = instance_first_of next run.drawn asked run.came in
       let end = draws_stopped fault run.drawn before after outcome came.1 run.draws in
       ((came.0, end.0), end.1)
 
   pub resume_first : (protocol : Protocol) (at : Option ℕ) (log : List ℕ) (before after : Streams) (outcome : Result Answer CommandFault) (asked : List (List ℕ))
-      → RunsResume (Shelf content) protocol at pair log [] before outcome asked after → IsInstanceRefused pair.path fault outcome asked × (after ≡ before)
+      → RunsResume (Shelf content) protocol at inputs log [] before outcome asked after → IsInstanceRefused inputs.path fault outcome asked × (after ≡ before)
   resume_first protocol at log before after outcome asked run =
       let loaded = instance_first_of _ run.shaped run.texts_mid run.shapes in
       let end = resumes_stopped (Shelf content) protocol at log fault run.shaped run.texts_mid asked before after outcome loaded.1 run.resumes in

@@ -39,7 +39,7 @@ use Rattle.command_run.specs.Streams.{Streams, Output}
 use Rattle.command_run.specs.Drives.{IsEndAnswer, status_at}
 use Rattle.command_run.specs.Resumes.{IsRecovery, IsUnrecoveredAnswer, ResumesRecovered, end_of_rest}
 use Rattle.command_run.specs.Ending.{Ends, EndsBy}
-use Rattle.command_run.specs.Program.{AreWordsRead, RunsResume, RunsCommand, RunsChosen, Follows, draws, file_at, is_second, keeps_log, kept_log_in, log_kept_by, protocol_in, pair_in}
+use Rattle.command_run.specs.Program.{AreWordsRead, RunsResume, RunsCommand, RunsChosen, Follows, draws, file_at, is_second, keeps_log, kept_log_in, log_kept_by, protocol_in, inputs_in}
 use Rattle.command_run.specs.Laws.{Shelf, ParseAsPlan, RunsWell}
 use Rattle.program_laws.specs.ResumeLaw.{AskForResume, AskForOneManner, moment_given, ResumeWritesTheSame, ResumeWritesAsDrive}
 use Rattle.program_laws.specs.HistoryLaw.{protocol_of}
@@ -72,15 +72,15 @@ is_resume Digest word = (let differ : 100 ≡ 114 = ap first word in absurd (ome
 is_resume Audit word = (let differ : 97 ≡ 114 = ap first word in absurd (omega (arith, differ)))
 is_resume Gantt word = (let differ : 103 ≡ 114 = ap first word in absurd (omega (arith, differ)))
 
-asked_pair : (words : List (List ℕ)) (pair : InputPaths) (log : List ℕ) (chosen : Chosen) → AskForResume words pair log → IsChoiceOf words (found_in words) chosen → pair_in chosen ≡ pair
-asked_pair words pair log chosen ask is =
+asked_pair : (words : List (List ℕ)) (inputs : InputPaths) (log : List ℕ) (chosen : Chosen) → AskForResume words inputs log → IsChoiceOf words (found_in words) chosen → inputs_in chosen ≡ inputs
+asked_pair words inputs log chosen ask is =
     let of : List ℕ → Option (List ℕ) → List ℕ → InputPaths = λ a b c. record { path = a; name = b; plan = c } in
     let files : List (List ℕ) = map string_bytes chosen.files.items in
     ap (λ a. of a (option_map string_bytes chosen.instance) (get_or files 1 [])) (ap (λ (fs : List (List ℕ)). get_or fs 0 []) is.files ∙ sym ask.path)
-    ∙ ap (λ b. of pair.path b (get_or files 1 [])) (is.instance ∙ sym ask.name) ∙ ap (λ c. of pair.path pair.name c) (ap (λ (fs : List (List ℕ)). get_or fs 1 []) is.files ∙ sym ask.plan)
+    ∙ ap (λ b. of inputs.path b (get_or files 1 [])) (is.instance ∙ sym ask.name) ∙ ap (λ c. of inputs.path inputs.name c) (ap (λ (fs : List (List ℕ)). get_or fs 1 []) is.files ∙ sym ask.plan)
 
-asked_log : (words : List (List ℕ)) (pair : InputPaths) (log : List ℕ) (chosen : Chosen) → AskForResume words pair log → IsChoiceOf words (found_in words) chosen → file_at chosen 2 ≡ log
-asked_log words pair log chosen ask is = ap (λ (fs : List (List ℕ)). get_or fs 2 []) is.files ∙ sym ask.log_is
+asked_log : (words : List (List ℕ)) (inputs : InputPaths) (log : List ℕ) (chosen : Chosen) → AskForResume words inputs log → IsChoiceOf words (found_in words) chosen → file_at chosen 2 ≡ log
+asked_log words inputs log chosen ask is = ap (λ (fs : List (List ℕ)). get_or fs 2 []) is.files ∙ sym ask.log_is
 
 -- ---- what a good run wrote
 
@@ -171,40 +171,40 @@ module _ (content : List ℕ → Result (List ℕ) CommandFault) (words : List (
     log_resumed protocol at text can (Err fault) is on =
         absurd (never_out (subst (λ (f : ResumeFault). IsUnrecoveredAnswer f outcome) (is.can can) on.0))
 
-  follows_resumed : (pair : InputPaths) (log text : List ℕ) (read : Result Chosen WordsFault) → AskForResume words pair log → ParseAsPlan content pair p → IsWellShaped p → content log ≡ Ok text
+  follows_resumed : (inputs : InputPaths) (log text : List ℕ) (read : Result Chosen WordsFault) → AskForResume words inputs log → ParseAsPlan content inputs p → IsWellShaped p → content log ≡ Ok text
       → IsRecoverable p (ended_lines text) (moment_given words) → AreWordsRead words read → Follows (Shelf content) read well.before status well.after well.log
       → Resumed p (protocol_of words) (ended_lines text) (moment_given words) input status written
-  follows_resumed pair log text (Ok chosen) ask good shaped came can are follows =
+  follows_resumed inputs log text (Ok chosen) ask good shaped came can are follows =
       let name : chosen.name ≡ Resume = is_resume chosen.name (are.chosen.name ∙ ask.resume) in
       let no_log : kept_log_in chosen ≡ None = ap (λ (n : CommandName). log_kept_by (keeps_log n) (option_map string_bytes chosen.log)) name in
       let unlogged : RunsCommand (Shelf content) chosen.name chosen well.before.texts well.before.streams follows.outcome well.after.texts follows.mid =
       (subst (λ (l : Option (List ℕ)). RunsChosen (Shelf content) l chosen well.before follows.outcome follows.mid well.after well.log) no_log follows.runs).0 in
-      let runs : RunsResume (Shelf content) (protocol_in chosen) chosen.at (pair_in chosen) (file_at chosen 2) well.before.texts well.before.streams follows.outcome well.after.texts follows.mid =
+      let runs : RunsResume (Shelf content) (protocol_in chosen) chosen.at (inputs_in chosen) (file_at chosen 2) well.before.texts well.before.streams follows.outcome well.after.texts follows.mid =
       subst (λ n. RunsCommand (Shelf content) n chosen well.before.texts well.before.streams follows.outcome well.after.texts follows.mid) name unlogged in
-      let resume : RunsResume (Shelf content) (protocol_of words) (moment_given words) pair log [] well.before.streams follows.outcome well.after.texts follows.mid =
-      subst (λ (l : List ℕ). RunsResume (Shelf content) (protocol_of words) (moment_given words) pair l [] well.before.streams follows.outcome well.after.texts follows.mid) (asked_log words pair log chosen ask are.chosen)
-      (subst (λ (q : InputPaths). RunsResume (Shelf content) (protocol_of words) (moment_given words) q (file_at chosen 2) [] well.before.streams follows.outcome well.after.texts follows.mid) (asked_pair words pair log chosen ask are.chosen)
-      (subst (λ (a : Option ℕ). RunsResume (Shelf content) (protocol_of words) a (pair_in chosen) (file_at chosen 2) [] well.before.streams follows.outcome well.after.texts follows.mid) are.chosen.at
-      (subst (λ (m : Protocol). RunsResume (Shelf content) m chosen.at (pair_in chosen) (file_at chosen 2) [] well.before.streams follows.outcome well.after.texts follows.mid) (same_manner words chosen are.chosen)
-      (subst (λ (asked : List (List ℕ)). RunsResume (Shelf content) (protocol_in chosen) chosen.at (pair_in chosen) (file_at chosen 2) asked well.before.streams follows.outcome well.after.texts follows.mid) well.unasked runs)))) in
+      let resume : RunsResume (Shelf content) (protocol_of words) (moment_given words) inputs log [] well.before.streams follows.outcome well.after.texts follows.mid =
+      subst (λ (l : List ℕ). RunsResume (Shelf content) (protocol_of words) (moment_given words) inputs l [] well.before.streams follows.outcome well.after.texts follows.mid) (asked_log words inputs log chosen ask are.chosen)
+      (subst (λ (q : InputPaths). RunsResume (Shelf content) (protocol_of words) (moment_given words) q (file_at chosen 2) [] well.before.streams follows.outcome well.after.texts follows.mid) (asked_pair words inputs log chosen ask are.chosen)
+      (subst (λ (a : Option ℕ). RunsResume (Shelf content) (protocol_of words) a (inputs_in chosen) (file_at chosen 2) [] well.before.streams follows.outcome well.after.texts follows.mid) are.chosen.at
+      (subst (λ (m : Protocol). RunsResume (Shelf content) m chosen.at (inputs_in chosen) (file_at chosen 2) [] well.before.streams follows.outcome well.after.texts follows.mid) (same_manner words chosen are.chosen)
+      (subst (λ (asked : List (List ℕ)). RunsResume (Shelf content) (protocol_in chosen) chosen.at (inputs_in chosen) (file_at chosen 2) asked well.before.streams follows.outcome well.after.texts follows.mid) well.unasked runs)))) in
       let ends : Ends follows.outcome follows.mid.output well.after.streams.output well.before.errors well.after.errors status =
       subst (λ (n : CommandName). EndsBy (draws n chosen.svg) follows.outcome follows.mid.output well.after.streams.output well.before.errors well.after.errors status) name
       (own_ends chosen follows.outcome _ _ _ _ follows.own status well.log no_log follows.status_is follows.ends) in
-      elim (good_resume content pair p good (protocol_of words) (moment_given words) well.before.streams follows.mid log text follows.outcome well.after.texts shaped came resume) [
+      elim (good_resume content inputs p good (protocol_of words) (moment_given words) well.before.streams follows.mid log text follows.outcome well.after.texts shaped came resume) [
         | inl resumes ↦ log_resumed follows.mid follows.outcome follows.input ends (protocol_of words) (moment_given words) text can resumes.1.0 resumes.1.1 resumes.1.2
         | inr none ↦ absurd (never_out follows.mid follows.outcome follows.input ends none.0)
       ]
-  follows_resumed pair log text (Err (Usage help message)) ask good shaped came can are follows =
+  follows_resumed inputs log text (Err (Usage help message)) ask good shaped came can are follows =
       absurd (let named = subst (λ kinds. NamesOneOf kinds (Usage help message)) ask.accepted are.refused in named.1)
-  follows_resumed pair log text (Err NoWordsMemory) ask good shaped came can are follows = absurd (well.not_out_of_memory (memory_status well.before.errors well.after.errors status follows.0.1))
+  follows_resumed inputs log text (Err NoWordsMemory) ask good shaped came can are follows = absurd (well.not_out_of_memory (memory_status well.before.errors well.after.errors status follows.0.1))
 
 -- ---- two runs
 
 pub resume_writes_the_same : ResumeWritesTheSame
-resume_writes_the_same content words pair log text p input status other_status written other ask good shaped came can few well also =
+resume_writes_the_same content words inputs log text p input status other_status written other ask good shaped came can few well also =
     let protocol = protocol_of words in
-    let one = follows_resumed content words p input few status written well pair log text well.run.read ask good shaped came can well.run.is well.run.follows in
-    let two = follows_resumed content words p input few other_status other also pair log text also.run.read ask good shaped came can also.run.is also.run.follows in
+    let one = follows_resumed content words p input few status written well inputs log text well.run.read ask good shaped came can well.run.is well.run.follows in
+    let two = follows_resumed content words p input few other_status other also inputs log text also.run.read ask good shaped came can also.run.is also.run.follows in
     let same = one_text_from_a_log p protocol (ended_lines text) (moment_given words) one.recovered two.recovered input written other one.state two.state one.up two.up one.is_text two.is_text in
     let done : two.done ≡ one.done = same_done p one.state two.state one.done two.done one.last two.last one.left two.left one.so_far two.so_far same.1 in
     (two.own ∙ ap status_at done ∙ sym one.own, same.0)
@@ -217,7 +217,7 @@ one_manner words others one =
     ∙ ap (λ a. of (lines_in (rows_found (found_in others))) (leap_in (rows_found (found_in others))) a) (one.none_given ∙ sym one.none_there)
 
 pub resume_writes_as_drive : ResumeWritesAsDrive
-resume_writes_as_drive content words others pair log text p input status other_status written other ask ask_drive one_of good shaped acceptable came none few well also =
+resume_writes_as_drive content words others inputs log text p input status other_status written other ask ask_drive one_of good shaped acceptable came none few well also =
     let protocol = protocol_of words in
     let can : IsRecoverable p (ended_lines text) (moment_given words) = record {
       recorded = [];
@@ -227,12 +227,12 @@ resume_writes_as_drive content words others pair log text p input status other_s
       acyclic = acceptable.acyclic;
       accepted = λ nothing. acceptable;
     } in
-    let one = follows_resumed content words p input few status written well pair log text well.run.read ask good shaped came can well.run.is well.run.follows in
+    let one = follows_resumed content words p input few status written well inputs log text well.run.read ask good shaped came can well.run.is well.run.follows in
     let up : IsRecovered p (ended_lines text) None one.recovered = subst (λ (a : Option ℕ). IsRecovered p (ended_lines text) a one.recovered) one_of.none_given one.up in
     let (answer, is_text, whole) = a_log_without_events_is_driven p protocol (ended_lines text) one.recovered input written one.state none up one.is_text in
     let two : Wrote p protocol input other_status other =
     subst (λ (m : Protocol). Wrote p m input other_status other) (sym (one_manner words others one_of))
-    (follows_wrote content others p input few other_status other also pair also.run.read ask_drive good shaped acceptable also.run.is also.run.follows) in
+    (follows_wrote content others p input few other_status other also inputs also.run.read ask_drive good shaped acceptable also.run.is also.run.follows) in
     let same = one_answer_text p protocol input other answer two.state one.state shaped two.is_text is_text in
     let done : one.done ≡ two.done = same_done p two.state one.state two.done one.done two.last one.last two.left one.left two.so_far one.so_far same.1 in
     (one.own ∙ ap status_at done ∙ sym two.own, whole ∙ ap (λ xs. 10 ∷ xs) same.0)

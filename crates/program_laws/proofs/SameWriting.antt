@@ -39,7 +39,7 @@ use Rattle.command_run.specs.Streams.{Streams, Output, Errors}
 use Rattle.command_run.specs.Drives.{IsEnded, IsEndAnswer, IsDriveIn, DrivesCell, status_at, end_of_drive}
 use Rattle.command_run.specs.Ending.{IsFaultPrinted, IsPrinted, IsPrintedAfter, Ends, EndsBy}
 use Rattle.command_run.specs.Logs.{LogEnd}
-use Rattle.command_run.specs.Program.{AreWordsRead, RunsDrive, RunsCommand, RunsChosen, Follows, draws, draws_in, is_second, keeps_log, kept_log_in, log_kept_by, protocol_in, pair_in, status_by}
+use Rattle.command_run.specs.Program.{AreWordsRead, RunsDrive, RunsCommand, RunsChosen, Follows, draws, draws_in, is_second, keeps_log, kept_log_in, log_kept_by, protocol_in, inputs_in, status_by}
 use Rattle.command_run.specs.Laws.{Shelf, ParseAsPlan, AskForDrive, RunsWell}
 use Rattle.program_laws.specs.HistoryLaw.{protocol_of}
 use Rattle.program_laws.proofs.GoodFiles.{good_drive}
@@ -78,14 +78,14 @@ is_drive Digest word = (let differ : 105 ≡ 114 = ap second word in absurd (ome
 is_drive Audit word = (let differ : 97 ≡ 100 = ap first word in absurd (omega (arith, differ)))
 is_drive Gantt word = (let differ : 103 ≡ 100 = ap first word in absurd (omega (arith, differ)))
 
-same_pair : (words : List (List ℕ)) (pair : InputPaths) (chosen : Chosen) → AskForDrive words pair → IsChoiceOf words (found_in words) chosen → pair_in chosen ≡ pair
-same_pair words pair chosen ask is =
-    let path : get_or (map string_bytes chosen.files.items) 0 [] ≡ pair.path = ap (λ (fs : List (List ℕ)). get_or fs 0 []) is.files ∙ sym ask.path in
-    let plan : get_or (map string_bytes chosen.files.items) 1 [] ≡ pair.plan = ap (λ (fs : List (List ℕ)). get_or fs 1 []) is.files ∙ sym ask.plan in
-    let name : option_map string_bytes chosen.instance ≡ pair.name = is.instance ∙ sym ask.name in
+same_pair : (words : List (List ℕ)) (inputs : InputPaths) (chosen : Chosen) → AskForDrive words inputs → IsChoiceOf words (found_in words) chosen → inputs_in chosen ≡ inputs
+same_pair words inputs chosen ask is =
+    let path : get_or (map string_bytes chosen.files.items) 0 [] ≡ inputs.path = ap (λ (fs : List (List ℕ)). get_or fs 0 []) is.files ∙ sym ask.path in
+    let plan : get_or (map string_bytes chosen.files.items) 1 [] ≡ inputs.plan = ap (λ (fs : List (List ℕ)). get_or fs 1 []) is.files ∙ sym ask.plan in
+    let name : option_map string_bytes chosen.instance ≡ inputs.name = is.instance ∙ sym ask.name in
     let of : List ℕ → Option (List ℕ) → List ℕ → InputPaths = λ a b c. record { path = a; name = b; plan = c } in
     ap (λ a. of a (option_map string_bytes chosen.instance) (get_or (map string_bytes chosen.files.items) 1 [])) path
-    ∙ ap (λ b. of pair.path b (get_or (map string_bytes chosen.files.items) 1 [])) name ∙ ap (λ c. of pair.path pair.name c) plan
+    ∙ ap (λ b. of inputs.path b (get_or (map string_bytes chosen.files.items) 1 [])) name ∙ ap (λ c. of inputs.path inputs.name c) plan
 
 pub same_manner : (words : List (List ℕ)) (chosen : Chosen) → IsChoiceOf words (found_in words) chosen → protocol_in chosen ≡ protocol_of words
 same_manner words chosen is =
@@ -98,8 +98,8 @@ none_kept : (keeps : Bool) (log : Option (List ℕ)) → log ≡ None → log_ke
 none_kept true log none = none
 none_kept false log none = refl
 
-no_log : (words : List (List ℕ)) (pair : InputPaths) (chosen : Chosen) → AskForDrive words pair → IsChoiceOf words (found_in words) chosen → kept_log_in chosen ≡ None
-no_log words pair chosen ask is = none_kept (keeps_log chosen.name) (option_map string_bytes chosen.log) (is.log ∙ ask.log)
+no_log : (words : List (List ℕ)) (inputs : InputPaths) (chosen : Chosen) → AskForDrive words inputs → IsChoiceOf words (found_in words) chosen → kept_log_in chosen ≡ None
+no_log words inputs chosen ask is = none_kept (keeps_log chosen.name) (option_map string_bytes chosen.log) (is.log ∙ ask.log)
 
 -- ---- the bytes
 
@@ -220,25 +220,25 @@ module _ (content : List ℕ → Result (List ℕ) CommandFault) (words : List (
   cell_wrote protocol mid outcome (inr none) same_input ends =
       absurd (well.not_out_of_memory (memory_ends outcome mid.output well.after.streams.output well.before.errors well.after.errors status none ends))
 
-  pub follows_wrote : (pair : InputPaths) (read : Result Chosen WordsFault) → AskForDrive words pair → ParseAsPlan content pair p → IsWellShaped p → IsAcceptable p → AreWordsRead words read
+  pub follows_wrote : (inputs : InputPaths) (read : Result Chosen WordsFault) → AskForDrive words inputs → ParseAsPlan content inputs p → IsWellShaped p → IsAcceptable p → AreWordsRead words read
       → Follows (Shelf content) read well.before status well.after well.log → Wrote p (protocol_of words) input status written
-  follows_wrote pair (Ok chosen) ask good shaped acceptable are follows =
+  follows_wrote inputs (Ok chosen) ask good shaped acceptable are follows =
       let name = is_drive chosen.name (are.chosen.name ∙ ask.drive) in
       let protocol = protocol_of words in
       let unlogged : RunsCommand (Shelf content) chosen.name chosen well.before.texts well.before.streams follows.outcome well.after.texts follows.mid =
-      (subst (λ (l : Option (List ℕ)). RunsChosen (Shelf content) l chosen well.before follows.outcome follows.mid well.after well.log) (no_log words pair chosen ask are.chosen) follows.runs).0 in
-      let runs : RunsDrive (Shelf content) (protocol_in chosen) (pair_in chosen) well.before.texts well.before.streams follows.outcome well.after.texts follows.mid =
+      (subst (λ (l : Option (List ℕ)). RunsChosen (Shelf content) l chosen well.before follows.outcome follows.mid well.after well.log) (no_log words inputs chosen ask are.chosen) follows.runs).0 in
+      let runs : RunsDrive (Shelf content) (protocol_in chosen) (inputs_in chosen) well.before.texts well.before.streams follows.outcome well.after.texts follows.mid =
       subst (λ n. RunsCommand (Shelf content) n chosen well.before.texts well.before.streams follows.outcome well.after.texts follows.mid) name unlogged in
-      let drive : RunsDrive (Shelf content) protocol pair [] well.before.streams follows.outcome well.after.texts follows.mid =
-      subst (λ (q : InputPaths). RunsDrive (Shelf content) protocol q [] well.before.streams follows.outcome well.after.texts follows.mid) (same_pair words pair chosen ask are.chosen)
-      (subst (λ (m : Protocol). RunsDrive (Shelf content) m (pair_in chosen) [] well.before.streams follows.outcome well.after.texts follows.mid) (same_manner words chosen are.chosen)
-      (subst (λ (asked : List (List ℕ)). RunsDrive (Shelf content) (protocol_in chosen) (pair_in chosen) asked well.before.streams follows.outcome well.after.texts follows.mid) well.unasked runs)) in
-      cell_wrote protocol follows.mid follows.outcome (driven_or_not (good_drive content pair p good protocol well.before.streams follows.mid follows.outcome well.after.texts shaped acceptable drive)) follows.input
+      let drive : RunsDrive (Shelf content) protocol inputs [] well.before.streams follows.outcome well.after.texts follows.mid =
+      subst (λ (q : InputPaths). RunsDrive (Shelf content) protocol q [] well.before.streams follows.outcome well.after.texts follows.mid) (same_pair words inputs chosen ask are.chosen)
+      (subst (λ (m : Protocol). RunsDrive (Shelf content) m (inputs_in chosen) [] well.before.streams follows.outcome well.after.texts follows.mid) (same_manner words chosen are.chosen)
+      (subst (λ (asked : List (List ℕ)). RunsDrive (Shelf content) (protocol_in chosen) (inputs_in chosen) asked well.before.streams follows.outcome well.after.texts follows.mid) well.unasked runs)) in
+      cell_wrote protocol follows.mid follows.outcome (driven_or_not (good_drive content inputs p good protocol well.before.streams follows.mid follows.outcome well.after.texts shaped acceptable drive)) follows.input
       (subst (λ (n : CommandName). EndsBy (draws n chosen.svg) follows.outcome follows.mid.output well.after.streams.output well.before.errors well.after.errors status) name
-      (own_ends chosen follows.outcome _ _ _ _ follows.own status well.log (no_log words pair chosen ask are.chosen) follows.status_is follows.ends))
-  follows_wrote pair (Err (Usage help text)) ask good shaped acceptable are follows =
+      (own_ends chosen follows.outcome _ _ _ _ follows.own status well.log (no_log words inputs chosen ask are.chosen) follows.status_is follows.ends))
+  follows_wrote inputs (Err (Usage help text)) ask good shaped acceptable are follows =
       absurd (let named = subst (λ kinds. NamesOneOf kinds (Usage help text)) ask.accepted are.refused in named.1)
-  follows_wrote pair (Err NoWordsMemory) ask good shaped acceptable are follows = absurd (well.not_out_of_memory (memory_status well.before.errors well.after.errors status follows.0.1))
+  follows_wrote inputs (Err NoWordsMemory) ask good shaped acceptable are follows = absurd (well.not_out_of_memory (memory_status well.before.errors well.after.errors status follows.0.1))
 
 -- ---- two runs
 
@@ -262,10 +262,10 @@ wrote_the_same p protocol input status other_status written other shaped one two
     let done : two.done ≡ one.done = same_done p one.state two.state one.done two.done one.last two.last one.left two.left one.so_far two.so_far same.1 in
     (two.own ∙ ap status_at done ∙ sym one.own, same.0)
 
-pub drive_writes_the_same : (content : List ℕ → Result (List ℕ) CommandFault) (words : List (List ℕ)) (pair : InputPaths) (p : PlannedShop) (input : List ℕ) (status other_status : ℕ) (written other : List ℕ)
-    → AskForDrive words pair → ParseAsPlan content pair p → IsWellShaped p → IsAcceptable p → length input ≤ MAX_INPUT
+pub drive_writes_the_same : (content : List ℕ → Result (List ℕ) CommandFault) (words : List (List ℕ)) (inputs : InputPaths) (p : PlannedShop) (input : List ℕ) (status other_status : ℕ) (written other : List ℕ)
+    → AskForDrive words inputs → ParseAsPlan content inputs p → IsWellShaped p → IsAcceptable p → length input ≤ MAX_INPUT
     → RunsWell content words input status written → RunsWell content words input other_status other → (other_status ≡ status) × (other ≡ written)
-drive_writes_the_same content words pair p input status other_status written other ask good shaped acceptable few one two =
+drive_writes_the_same content words inputs p input status other_status written other ask good shaped acceptable few one two =
     wrote_the_same p (protocol_of words) input status other_status written other shaped
-    (follows_wrote content words p input few status written one pair one.run.read ask good shaped acceptable one.run.is one.run.follows)
-    (follows_wrote content words p input few other_status other two pair two.run.read ask good shaped acceptable two.run.is two.run.follows)
+    (follows_wrote content words p input few status written one inputs one.run.read ask good shaped acceptable one.run.is one.run.follows)
+    (follows_wrote content words p input few other_status other two inputs two.run.read ask good shaped acceptable two.run.is two.run.follows)

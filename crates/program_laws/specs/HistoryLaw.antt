@@ -1,4 +1,4 @@
--- The law that what `run` asks of the telling of a log can be met.
+-- The law that what `run` asks of the history of a log can be met.
 use Rattle.std.specs.Prelude.{◌≡◌, ℕ, List, [], ◌∷◌, ◌++◌, get_or, unwrap_or, Some, IfSome, Result, Ok}
 use Rattle.shop_base.specs.Plan.{PlannedShop}
 use Rattle.text_lines.specs.Lines.{ended_lines}
@@ -16,7 +16,7 @@ use Rattle.command_answers.specs.Commands.{InputPaths, Shapes}
 use Rattle.command_run.specs.Streams.{Devices}
 use Rattle.cell_drive.specs.Replay.{replay_text}
 use Rattle.command_run.specs.Logs.{digits_in}
-use Rattle.command_run.specs.Program.{IsHistoryOfWords, is_second, pair_in}
+use Rattle.command_run.specs.Program.{IsHistoryOfWords, is_second, inputs_in}
 use Rattle.command_run.specs.Laws.{Shelf, ParseAsPlan}
 use Rattle.program_laws.specs.ResumeLaw.{moment_given}
 
@@ -26,7 +26,7 @@ protocol_of words = record { version_2 = is_second (lines_in (rows_found (found_
 
 -- each plan that the files which the words name may give has these digits, with its shop
 abbrev pub AreDigitsOfPlan : {W : Type 0} → (W → List ℕ → Result (List ℕ) CommandFault → W → Type 0) → List (List ℕ) → W → RunDigits → Type 0
-AreDigitsOfPlan {W} gives words texts digits = (chosen : Chosen) (p : PlannedShop) (mid : W) → IsChoiceOf words (found_in words) chosen → Shapes gives (pair_in chosen) texts (Ok (Ok p)) mid → digits_in p ≡ digits
+AreDigitsOfPlan {W} gives words texts digits = (chosen : Chosen) (p : PlannedShop) (mid : W) → IsChoiceOf words (found_in words) chosen → Shapes gives (inputs_in chosen) texts (Ok (Ok p)) mid → digits_in p ≡ digits
 
 -- of a log that isn't there, or has no bytes, it is known that it has the line of the plan, and of the output what was written on it
 abbrev pub NewLogHasHistory : {W : Type 0} → (W → List ℕ → Result (List ℕ) CommandFault → W → Type 0) → Type 0
@@ -35,16 +35,16 @@ NewLogHasHistory {W} gives = (words : List (List ℕ)) (before : Devices W) (log
     → IsHistoryOfWords gives words before (plan_line digits, start)
 
 -- the words ask for these files, and for this log of its own
-pub record AskForLog (words : List (List ℕ)) (pair : InputPaths) (log : List ℕ) : Type 0 where
+pub record AskForLog (words : List (List ℕ)) (inputs : InputPaths) (log : List ℕ) : Type 0 where
   pub kept : kept_in (rows_found (found_in words)) ≡ Some log
-  pub path : pair.path ≡ get_or (files_in (rows_found (found_in words))) 0 []
-  pub name : pair.name ≡ instance_in (rows_found (found_in words))
-  pub plan : pair.plan ≡ get_or (files_in (rows_found (found_in words))) 1 []
+  pub path : inputs.path ≡ get_or (files_in (rows_found (found_in words))) 0 []
+  pub name : inputs.name ≡ instance_in (rows_found (found_in words))
+  pub plan : inputs.plan ≡ get_or (files_in (rows_found (found_in words))) 1 []
 
 -- of a log with bytes, from which the run is recovered by the plan that the files give, its whole lines are known, with the line of the plan behind them unless it is their last one; and behind what the output has written the events that are replayed
 abbrev pub OldLogHasHistory : Type 0
-OldLogHasHistory = (content : List ℕ → Result (List ℕ) CommandFault) (words : List (List ℕ)) (pair : InputPaths) (log : List ℕ) (byte : ℕ) (bytes base : List ℕ) (p : PlannedShop) (recovered : Recovered)
+OldLogHasHistory = (content : List ℕ → Result (List ℕ) CommandFault) (words : List (List ℕ)) (inputs : InputPaths) (log : List ℕ) (byte : ℕ) (bytes base : List ℕ) (p : PlannedShop) (recovered : Recovered)
     (before : Devices (List (List ℕ))) (logs : List NamedLog) (start : List ℕ)
-    → AskForLog words pair log → ParseAsPlan content pair p → before.texts ≡ [] → before.folder.logs ≡ Some logs → before.streams.output.written ≡ Some start → held logs log ≡ Some (byte ∷ bytes)
+    → AskForLog words inputs log → ParseAsPlan content inputs p → before.texts ≡ [] → before.folder.logs ≡ Some logs → before.streams.output.written ≡ Some start → held logs log ≡ Some (byte ∷ bytes)
     → IsRecovered p (ended_lines (whole_lines (byte ∷ bytes))) (moment_given words) recovered → IsNamedFor (digits_in p) (whole_lines (byte ∷ bytes)) base
     → IsHistoryOfWords (Shelf content) words before (base, start ++ replay_text (protocol_of words) recovered)

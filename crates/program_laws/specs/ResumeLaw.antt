@@ -13,12 +13,12 @@ use Rattle.command_answers.specs.Commands.{InputPaths}
 use Rattle.command_run.specs.Laws.{ParseAsPlan, AskForDrive, RunsWell}
 
 -- the words ask for `resume` with these files and this log
-pub record AskForResume (words : List (List ℕ)) (pair : InputPaths) (log : List ℕ) : Type 0 where
+pub record AskForResume (words : List (List ℕ)) (inputs : InputPaths) (log : List ℕ) : Type 0 where
   pub accepted : reasons_in words ≡ []
   pub resume : word_found (found_in words) ≡ word_of Resume
-  pub path : pair.path ≡ get_or (files_in (rows_found (found_in words))) 0 []
-  pub name : pair.name ≡ instance_in (rows_found (found_in words))
-  pub plan : pair.plan ≡ get_or (files_in (rows_found (found_in words))) 1 []
+  pub path : inputs.path ≡ get_or (files_in (rows_found (found_in words))) 0 []
+  pub name : inputs.name ≡ instance_in (rows_found (found_in words))
+  pub plan : inputs.plan ≡ get_or (files_in (rows_found (found_in words))) 1 []
   pub log_is : log ≡ get_or (files_in (rows_found (found_in words))) 2 []
 
 -- the present moment that the words give, if they give one
@@ -27,8 +27,8 @@ moment_given words = at_in (rows_found (found_in words))
 
 -- `resume` of a log that can be recovered writes the same, and ends with the same status, whenever it is run on the same words, files and input, of no more bytes than the limit
 abbrev pub ResumeWritesTheSame : Type 0
-ResumeWritesTheSame = (content : List ℕ → Result (List ℕ) CommandFault) (words : List (List ℕ)) (pair : InputPaths) (log text : List ℕ) (p : PlannedShop) (input : List ℕ) (status other_status : ℕ) (written other : List ℕ)
-    → AskForResume words pair log → ParseAsPlan content pair p → IsWellShaped p → content log ≡ Ok text → IsRecoverable p (ended_lines text) (moment_given words) → length input ≤ MAX_INPUT
+ResumeWritesTheSame = (content : List ℕ → Result (List ℕ) CommandFault) (words : List (List ℕ)) (inputs : InputPaths) (log text : List ℕ) (p : PlannedShop) (input : List ℕ) (status other_status : ℕ) (written other : List ℕ)
+    → AskForResume words inputs log → ParseAsPlan content inputs p → IsWellShaped p → content log ≡ Ok text → IsRecoverable p (ended_lines text) (moment_given words) → length input ≤ MAX_INPUT
     → RunsWell content words input status written → RunsWell content words input other_status other → (other_status ≡ status) × (other ≡ written)
 
 -- both words ask for the same version of the lines and for the same longest time, and neither gives a moment
@@ -40,7 +40,7 @@ pub record AskForOneManner (words others : List (List ℕ)) : Type 0 where
 
 -- behind a log without events, by an accepted plan, `resume` writes the mark and what `drive` writes, and ends with the same status
 abbrev pub ResumeWritesAsDrive : Type 0
-ResumeWritesAsDrive = (content : List ℕ → Result (List ℕ) CommandFault) (words others : List (List ℕ)) (pair : InputPaths) (log text : List ℕ) (p : PlannedShop) (input : List ℕ) (status other_status : ℕ) (written other : List ℕ)
-    → AskForResume words pair log → AskForDrive others pair → AskForOneManner words others
-    → ParseAsPlan content pair p → IsWellShaped p → IsAcceptable p → content log ≡ Ok text → LinesParse p (ended_lines text) [] → length input ≤ MAX_INPUT
+ResumeWritesAsDrive = (content : List ℕ → Result (List ℕ) CommandFault) (words others : List (List ℕ)) (inputs : InputPaths) (log text : List ℕ) (p : PlannedShop) (input : List ℕ) (status other_status : ℕ) (written other : List ℕ)
+    → AskForResume words inputs log → AskForDrive others inputs → AskForOneManner words others
+    → ParseAsPlan content inputs p → IsWellShaped p → IsAcceptable p → content log ≡ Ok text → LinesParse p (ended_lines text) [] → length input ≤ MAX_INPUT
     → RunsWell content words input status written → RunsWell content others input other_status other → (status ≡ other_status) × (written ≡ 10 ∷ other)

@@ -5,7 +5,7 @@ use Rattle.std.proofs.lemmas.List.{get_or-replicate, get_or_past, ext_get_or, ge
 use Rattle.std.proofs.lemmas.List.FromFn.{get_or-map-range_with_len, length-map-range_with_len}
 use Rattle.std.proofs.lemmas.Nat.{mul-le}
 use Rattle.std.proofs.lemmas.Grind.{div_ceil_times}
-use Rattle.run_gantt.specs.declared.visits.Visit.{Visit}
+use Rattle.run_gantt.specs.declared.visits.LoggedVisit.{LoggedVisit}
 use Rattle.std.specs.Option.{option_or}
 use Rattle.run_gantt.specs.Visits.{first_of}
 use Rattle.run_gantt.specs.GanttText.{is_before, digit_of, sign_of, column_sign, bar_of}
@@ -19,11 +19,11 @@ option_or-assoc None y z = refl
 option_or-assoc (Some x) y z = refl
 
 -- a visit shows nothing before the job enters
-pub sign-early : (t : ℕ) (visit : Visit) → t < visit.enter → sign_of t visit ≡ None
+pub sign-early : (t : ℕ) (visit : LoggedVisit) → t < visit.enter → sign_of t visit ≡ None
 sign-early t visit early = rw (lt-leb visit.enter t early) refl
 
 -- in between it shows its sign
-pub sign-there : (t : ℕ) (visit : Visit) → visit.enter ≤ t → is_before t visit.leave ≡ true
+pub sign-there : (t : ℕ) (visit : LoggedVisit) → visit.enter ≤ t → is_before t visit.leave ≡ true
     → sign_of t visit ≡ Some (if is_before t visit.finish then digit_of visit.job else 61)
 sign-there t visit entered before = rw (le-leb visit.enter t entered, before) refl
 
@@ -42,7 +42,7 @@ pub columns-rise : (a b scale : ℕ) → a ≤ b → a * scale ≤ b * scale
 columns-rise a b scale le = mul-le a scale b scale le (omega arith)
 
 -- one more column is done
-pub column-done : (before now after : List (Option ℕ)) (scale column sign : ℕ) (visit : Visit)
+pub column-done : (before now after : List (Option ℕ)) (scale column sign : ℕ) (visit : LoggedVisit)
     → ((c : ℕ) → c < column → c < 60 → get_or now c None ≡ option_or (get_or before c None) (sign_of (c * scale) visit))
     → ((c : ℕ) → column ≤ c → get_or now c None ≡ get_or before c None)
     → sign_of (column * scale) visit ≡ Some sign
@@ -59,7 +59,7 @@ column-done before now after scale column sign visit done others shows here else
         (here ∙ rw (others column (omega arith), shows) refl)
 
 -- a sign is an ASCII character
-sign-ascii : (t sign : ℕ) (visit : Visit) → sign_of t visit ≡ Some sign → sign < 128
+sign-ascii : (t sign : ℕ) (visit : LoggedVisit) → sign_of t visit ≡ Some sign → sign < 128
 sign-ascii t sign visit is = go (nat_le visit.enter t && is_before t visit.leave) (is_before t visit.finish) is
   where
     go : (there before : Bool) → (if there then Some (if before then digit_of visit.job else 61) else None) ≡ Some sign → sign < 128
@@ -68,7 +68,7 @@ sign-ascii t sign visit is = go (nat_le visit.enter t && is_before t visit.leave
     go false before same = absurd (cc)
 
 -- so is what a column shows of some visits
-pub shown-ascii : (t sign : ℕ) (visits : List Visit) → first_of (sign_of t) visits ≡ Some sign → sign < 128
+pub shown-ascii : (t sign : ℕ) (visits : List LoggedVisit) → first_of (sign_of t) visits ≡ Some sign → sign < 128
 shown-ascii t sign [] is = absurd (cc)
 shown-ascii t sign (visit ∷ visits) is = go (sign_of t visit) refl is (shown-ascii t sign visits)
   where
@@ -92,7 +92,7 @@ columns-more now new all columns i sign below pushed is so_far =
     ∙ so_far
 
 -- the columns of a bar, as text
-pub bar-text : (bar : List (Option ℕ)) (scale columns : ℕ) (visits : List Visit) → length bar ≡ 60 → columns ≤ 60
+pub bar-text : (bar : List (Option ℕ)) (scale columns : ℕ) (visits : List LoggedVisit) → length bar ≡ 60 → columns ≤ 60
     → ((c : ℕ) → c < 60 → get_or bar c None ≡ first_of (sign_of (c * scale)) visits) → map column_sign (take columns bar) ≡ bar_of scale columns visits
 bar-text bar scale columns visits whole few shown =
     let size : length (take columns bar) ≡ columns = length-take-le columns bar (omega (arith, whole)) in
@@ -104,7 +104,7 @@ bar-text bar scale columns visits whole few shown =
     ∙ sym (get_or-map-range_with_len _ 0 columns i i 0 below (omega arith))
 
 -- a bar of which nothing is shown yet
-pub bar-shown : (before after : List (Option ℕ)) (scale : ℕ) (visits : List Visit) → before ≡ replicate 60 None
+pub bar-shown : (before after : List (Option ℕ)) (scale : ℕ) (visits : List LoggedVisit) → before ≡ replicate 60 None
     → ((c : ℕ) → c < 60 → get_or after c None ≡ option_or (get_or before c None) (first_of (sign_of (c * scale)) visits))
     → (c : ℕ) → c < 60 → get_or after c None ≡ first_of (sign_of (c * scale)) visits
 bar-shown before after scale visits empty shown c inside =
@@ -112,7 +112,7 @@ bar-shown before after scale visits empty shown c inside =
     shown c inside ∙ ap (λ (x : Option ℕ). option_or x (first_of (sign_of (c * scale)) visits)) none
 
 -- all columns of a bar are ASCII characters
-pub columns-ascii : (bar : List (Option ℕ)) (scale columns : ℕ) (visits : List Visit) → length bar ≡ 60 → columns ≤ 60
+pub columns-ascii : (bar : List (Option ℕ)) (scale columns : ℕ) (visits : List LoggedVisit) → length bar ≡ 60 → columns ≤ 60
     → ((c : ℕ) → c < 60 → get_or bar c None ≡ first_of (sign_of (c * scale)) visits)
     → (c sign : ℕ) → get_or (take columns bar) c None ≡ Some sign → sign < 128
 columns-ascii bar scale columns visits whole few shown c sign is = go (cases_lt c columns)

@@ -6,7 +6,7 @@ use Rattle.std.proofs.lemmas.List.{map-id, flat_map_more}
 use Rattle.std.proofs.lemmas.List.FromFn.{map-range_with_len_more}
 use Rattle.cell_tables.specs.declared.entry.Entry.{Entry}
 use Rattle.people_names.specs.NameBooks.{NameBook}
-use Rattle.run_gantt.specs.declared.visits.Visit.{Visit}
+use Rattle.run_gantt.specs.declared.visits.LoggedVisit.{LoggedVisit}
 use Rattle.run_gantt.specs.Visits.{last_of, machine_visits}
 use Rattle.run_gantt.specs.GanttText.{scale_for, columns_for, visit_lines, machine_lines, row_lines, gantt_text}
 use Rattle.run_gantt.proofs.MachineVisits.{machine_visits-at}
@@ -35,13 +35,13 @@ same_lines f g (suc n) same =
     (sym one ∙ ap (λ (l : List ℕ). l ++ f n) before ∙ ap (λ (l : List ℕ). flat_map g (range_with_len 0 n) ++ l) (same n (omega arith)) ∙ other)
 
 -- the lines of the rows are those of the entries
-pub rows-drawn : (names : NameBook) (n scale columns : ℕ) (entries : List Entry) (rows : List (List Visit)) → rows ≡ machine_visits n entries
+pub rows-drawn : (names : NameBook) (n scale columns : ℕ) (entries : List Entry) (rows : List (List LoggedVisit)) → rows ≡ machine_visits n entries
     → flat_map (row_lines names scale columns rows) (range_with_len 0 n) ≡ flat_map (machine_lines names scale columns entries) (range_with_len 0 n)
 rows-drawn names n scale columns entries rows is = same_lines (row_lines names scale columns rows) (machine_lines names scale columns entries) n λ m inside.
-    ap (visit_lines names scale columns m) (ap (λ (l : List (List Visit)). get_or l m []) is ∙ machine_visits-at n m entries inside)
+    ap (visit_lines names scale columns m) (ap (λ (l : List (List LoggedVisit)). get_or l m []) is ∙ machine_visits-at n m entries inside)
 
 -- the scale and the lines of the rows are written one after another
-pub text-drawn : (names : NameBook) (n count last scale columns : ℕ) (entries : List Entry) (rows : List (List Visit)) (none one two three four : List ℕ)
+pub text-drawn : (names : NameBook) (n count last scale columns : ℕ) (entries : List Entry) (rows : List (List LoggedVisit)) (none one two three four : List ℕ)
     → count ≡ n → last ≡ last_of entries → scale ≡ scale_for last → columns ≡ columns_for last scale → rows ≡ machine_visits n entries
     → none ≡ [] → one ≡ none ++ codes "scale " → two ≡ one ++ decimal scale → three ≡ two ++ codes "\n"
     → four ≡ three ++ flat_map (row_lines names scale columns rows) (range_with_len 0 count) → four ≡ gantt_text names n entries

@@ -3,14 +3,14 @@ use Rattle.std.proofs.Common.{◌≡◌, ℕ, zero, suc, ◌<◌, ◌≤◌, ◌
 use Rattle.std.proofs.Math.Seq.{get_or-append_seam}
 use Rattle.std.proofs.lemmas.Bool.{cases_eq}
 use Rattle.std.proofs.lemmas.List.{get_or_append_left, get_or-map, ext_get_or, length-map, length-replicate}
-use Rattle.run_gantt.specs.declared.visits.Visit.{Visit}
+use Rattle.run_gantt.specs.declared.visits.LoggedVisit.{LoggedVisit}
 use Rattle.run_gantt.specs.declared.visits.LinkedVisit.{LinkedVisit}
 use Rattle.run_gantt.specs.Visits.{machine_visits}
 use Rattle.run_gantt.proofs.MachineVisits.{machine_visits-count, machine_visits-at}
 use Rattle.run_gantt.specs.LinkedVisits.{no_visit, linked_from, rows_of, IsBelow, AreLinked, AreAllLinked}
 
 -- a chain is one in a longer table too
-chain-longer : (table : List LinkedVisit) (more : LinkedVisit) (first : Option ℕ) (visits : List Visit) → AreLinked table first visits → AreLinked (table ++ more ∷ []) first visits
+chain-longer : (table : List LinkedVisit) (more : LinkedVisit) (first : Option ℕ) (visits : List LoggedVisit) → AreLinked table first visits → AreLinked (table ++ more ∷ []) first visits
 chain-longer table more first [] chain = chain
 chain-longer table more first (visit ∷ visits) (place, is, within, here, below, chain) =
     let same : get_or (table ++ more ∷ []) place no_visit ≡ get_or table place no_visit = get_or_append_left table (more ∷ []) no_visit place within in (
@@ -23,12 +23,12 @@ chain-longer table more first (visit ∷ visits) (place, is, within, here, below
     )
 
 -- a chain begins within the table
-chain-below : (table : List LinkedVisit) (first : Option ℕ) (visits : List Visit) → AreLinked table first visits → IsBelow first (length table)
+chain-below : (table : List LinkedVisit) (first : Option ℕ) (visits : List LoggedVisit) → AreLinked table first visits → IsBelow first (length table)
 chain-below table first [] chain = rw chain tt
 chain-below table first (visit ∷ visits) (place, is, within, here, below, chain) = rw is within
 
 -- a visit put before a chain
-chain-cons : (table : List LinkedVisit) (first : Option ℕ) (visit : Visit) (visits : List Visit) → AreLinked table first visits
+chain-cons : (table : List LinkedVisit) (first : Option ℕ) (visit : LoggedVisit) (visits : List LoggedVisit) → AreLinked table first visits
     → AreLinked (table ++ record { visit = visit; next = first } ∷ []) (Some (length table)) (visit ∷ visits)
 chain-cons table first visit visits chain =
     let new : LinkedVisit = record { visit = visit; next = first } in
@@ -50,7 +50,7 @@ none_linked table zero = refl
 none_linked table (suc most) = refl
 
 -- a chain is what is linked from its first place on
-chain-is : (table : List LinkedVisit) (most : ℕ) (first : Option ℕ) (visits : List Visit) → AreLinked table first visits → IsBelow first most → linked_from table most first ≡ visits
+chain-is : (table : List LinkedVisit) (most : ℕ) (first : Option ℕ) (visits : List LoggedVisit) → AreLinked table first visits → IsBelow first most → linked_from table most first ≡ visits
 chain-is table most first [] chain below = rw chain (none_linked table most)
 chain-is table zero first (visit ∷ visits) (place, is, within, here, under, chain) below =
     let less : place < zero = rw is at below in absurd (omega (arith, less))
@@ -61,8 +61,8 @@ chain-is table (suc most) first (visit ∷ visits) (place, is, within, here, und
     rw (is, here, rest) refl
 
 -- a visit is put before the others to machine m
-module _ (table : List LinkedVisit) (first : List (Option ℕ)) (m : ℕ) (visit : Visit) (inside : m < length first) (are : AreAllLinked table first) where
-  abbrev old : List (List Visit)
+module _ (table : List LinkedVisit) (first : List (Option ℕ)) (m : ℕ) (visit : LoggedVisit) (inside : m < length first) (are : AreAllLinked table first) where
+  abbrev old : List (List LoggedVisit)
   old = rows_of table first
 
   abbrev longer : List LinkedVisit
@@ -71,7 +71,7 @@ module _ (table : List LinkedVisit) (first : List (Option ℕ)) (m : ℕ) (visit
   abbrev places : List (Option ℕ)
   places = set first m (Some (length table))
 
-  abbrev rows : List (List Visit)
+  abbrev rows : List (List LoggedVisit)
   rows = set old m (visit ∷ get_or old m [])
 
   row-is : (n : ℕ) → n < length first → get_or old n [] ≡ linked_from table (length table) (get_or first n None)
@@ -111,16 +111,16 @@ module _ (table : List LinkedVisit) (first : List (Option ℕ)) (m : ℕ) (visit
   put-linked = record {
     chains = λ n among.
         let within : n < length first = omega (arith, among, length-set first m (Some (length table))) in
-        subst (λ (l : List Visit). AreLinked longer (get_or places n None) l) (sym (row-now n within)) (row-linked n within);
+        subst (λ (l : List LoggedVisit). AreLinked longer (get_or places n None) l) (sym (row-now n within)) (row-linked n within);
   }
 
 -- the visits to machine m are linked from the place of the first one on
-pub row-chain : (table : List LinkedVisit) (first : List (Option ℕ)) (rows : List (List Visit)) (m : ℕ) (next : Option ℕ) → AreAllLinked table first → rows_of table first ≡ rows
+pub row-chain : (table : List LinkedVisit) (first : List (Option ℕ)) (rows : List (List LoggedVisit)) (m : ℕ) (next : Option ℕ) → AreAllLinked table first → rows_of table first ≡ rows
     → m < length first → next ≡ get_or first m None → AreLinked table next (get_or rows m [])
 row-chain table first rows m next are is inside at =
     let same : linked_from table (length table) (get_or first m None) ≡ get_or rows m [] =
-    sym (get_or-map (linked_from table (length table)) first m None [] inside) ∙ ap (λ (l : List (List Visit)). get_or l m []) is
-    in rw at (subst (λ (l : List Visit). AreLinked table (get_or first m None) l) same (are.chains m inside))
+    sym (get_or-map (linked_from table (length table)) first m None [] inside) ∙ ap (λ (l : List (List LoggedVisit)). get_or l m []) is
+    in rw at (subst (λ (l : List LoggedVisit). AreLinked table (get_or first m None) l) same (are.chains m inside))
 
 -- a table without visits
 module _ (n : ℕ) (first : List (Option ℕ)) (none : first ≡ replicate n None) where

@@ -7,7 +7,7 @@ use Rattle.shop_base.specs.declared.move_order.Spot.TheVariants.{At}
 use Rattle.shop_base.specs.declared.move_order.MoveOrder.{MoveOrder}
 use Rattle.cell_tables.specs.declared.entry.Entry.{Entry}
 use Rattle.cell_tables.specs.declared.entry.Entry.TheVariants.{Order as OrderEntry}
-use Rattle.run_gantt.specs.declared.visits.Visit.{Visit}
+use Rattle.run_gantt.specs.declared.visits.LoggedVisit.{LoggedVisit}
 use Rattle.run_gantt.specs.Visits.{visit_of, visits_to, machine_visits}
 
 pub machine_visits-count : (n : ℕ) (entries : List Entry) → length (machine_visits n entries) ≡ n
@@ -34,14 +34,14 @@ machine_visits-passed n order later m to past =
 
 -- the visit that a move begins is put before the others to its machine
 module _ (n : ℕ) (order : MoveOrder) (later : List Entry) (m : ℕ) (to : order.target ≡ At m) (inside : m < n) where
-  abbrev noted : List (List Visit)
+  abbrev noted : List (List LoggedVisit)
   noted = set (machine_visits n later) m (visit_of order m later ∷ get_or (machine_visits n later) m [])
 
   noted-here : get_or (machine_visits n (OrderEntry order ∷ later)) m [] ≡ get_or noted m []
   noted-here =
       machine_visits-at n m (OrderEntry order ∷ later) inside
       ∙ visits-here order later m to
-      ∙ ap (λ (l : List Visit). visit_of order m later ∷ l) (sym (machine_visits-at n m later inside))
+      ∙ ap (λ (l : List LoggedVisit). visit_of order m later ∷ l) (sym (machine_visits-at n m later inside))
       ∙ sym (get_or-set_same (machine_visits n later) m (visit_of order m later ∷ get_or (machine_visits n later) m []) [] (omega (arith, inside, machine_visits-count n later)))
 
   noted-other : (i : ℕ) → i < n → (i ≡ m → ⊥) → get_or (machine_visits n (OrderEntry order ∷ later)) i [] ≡ get_or noted i []

@@ -3,7 +3,7 @@ use Rattle.std.proofs.Common.{◌≡◌, ℕ, ◌+◌, ◌*◌, ◌<◌, List, [
 use Rattle.std.proofs.lemmas.List.Concat.{flat_map-cons}
 use Rattle.std.specs.Prelude.{flat_map}
 use Rattle.people_names.specs.NameBooks.{NameBook}
-use Rattle.run_gantt.specs.declared.visits.Visit.{Visit}
+use Rattle.run_gantt.specs.declared.visits.LoggedVisit.{LoggedVisit}
 use Rattle.run_gantt.specs.declared.visits.LinkedVisit.{LinkedVisit}
 use Rattle.std.specs.Option.{option_or}
 use Rattle.run_gantt.specs.Visits.{first_of}
@@ -17,22 +17,22 @@ above None = 0
 above (Some place) = place + 1
 
 -- of a machine's visits, those from the next on are still to be shown
-pub record AreLeft (names : NameBook) (table : List LinkedVisit) (next : Option ℕ) (visits : List Visit) (start now : List ℕ) (before after : List (Option ℕ)) (scale : ℕ) : Type 0 where
-  pub rest : List Visit
+pub record AreLeft (names : NameBook) (table : List LinkedVisit) (next : Option ℕ) (visits : List LoggedVisit) (start now : List ℕ) (before after : List (Option ℕ)) (scale : ℕ) : Type 0 where
+  pub rest : List LoggedVisit
   pub chain : AreLinked table next rest
   pub text : now ++ flat_map (visit_word names) rest ≡ start ++ flat_map (visit_word names) visits
   pub bar : (c : ℕ) → c < 60 → option_or (get_or after c None) (first_of (sign_of (c * scale)) rest) ≡ option_or (get_or before c None) (first_of (sign_of (c * scale)) visits)
 
 -- a chain that goes on with this visit
-record GoesOn (table : List LinkedVisit) (place : ℕ) (linked : LinkedVisit) (visits : List Visit) : Type 0 where
-  rest : List Visit
+record ChainGoesOn (table : List LinkedVisit) (place : ℕ) (linked : LinkedVisit) (visits : List LoggedVisit) : Type 0 where
+  rest : List LoggedVisit
   within : place < length table
   whole : visits ≡ linked.visit ∷ rest
   below : IsBelow linked.next place
   chain : AreLinked table linked.next rest
 
-goes_on : (table : List LinkedVisit) (next : Option ℕ) (place : ℕ) (linked : LinkedVisit) (visits : List Visit)
-    → next ≡ Some place → linked ≡ get_or table place no_visit → AreLinked table next visits → GoesOn table place linked visits
+goes_on : (table : List LinkedVisit) (next : Option ℕ) (place : ℕ) (linked : LinkedVisit) (visits : List LoggedVisit)
+    → next ≡ Some place → linked ≡ get_or table place no_visit → AreLinked table next visits → ChainGoesOn table place linked visits
 goes_on table next place linked [] at is chain = absurd (cc)
 goes_on table next place linked (visit ∷ visits) at is (other, first, within, here, below, chain) =
     let same : other ≡ place = cc in
@@ -40,12 +40,12 @@ goes_on table next place linked (visit ∷ visits) at is (other, first, within, 
     record {
       rest = visits;
       within = omega (arith, same, within);
-      whole = ap (λ (v : Visit). v ∷ visits) (sym here ∙ ap (λ (l : LinkedVisit). l.visit) found);
+      whole = ap (λ (v : LoggedVisit). v ∷ visits) (sym here ∙ ap (λ (l : LinkedVisit). l.visit) found);
       below = subst (λ (x : ℕ). IsBelow linked.next x) same (subst (λ (l : LinkedVisit). IsBelow l.next other) found below);
       chain = subst (λ (l : LinkedVisit). AreLinked table l.next visits) found chain;
     }
 
-module _ (names : NameBook) (table : List LinkedVisit) (next : Option ℕ) (visits : List Visit) (start now : List ℕ) (before after : List (Option ℕ)) (scale : ℕ) (left : AreLeft names table next visits start now before after scale) where
+module _ (names : NameBook) (table : List LinkedVisit) (next : Option ℕ) (visits : List LoggedVisit) (start now : List ℕ) (before after : List (Option ℕ)) (scale : ℕ) (left : AreLeft names table next visits start now before after scale) where
   -- the next place is one of the table
   pub left-within : (place : ℕ) → next ≡ Some place → place < length table
   left-within place at = (goes_on table next place (get_or table place no_visit) left.rest at refl left.chain).within
@@ -73,27 +73,27 @@ module _ (names : NameBook) (table : List LinkedVisit) (next : Option ℕ) (visi
             ap (λ (l : List ℕ). l ++ flat_map (visit_word names) on.rest) pushed
             ∙ append_assoc now (visit_word names visit) (flat_map (visit_word names) on.rest)
             ∙ ap (λ (l : List ℕ). now ++ l) (sym (flat_map-cons (visit_word names) visit on.rest))
-            ∙ ap (λ (l : List Visit). now ++ flat_map (visit_word names) l) (sym on.whole)
+            ∙ ap (λ (l : List LoggedVisit). now ++ flat_map (visit_word names) l) (sym on.whole)
             ∙ left.text;
         bar = λ c inside.
             ap (λ (x : Option ℕ). option_or x (first_of (sign_of (c * scale)) on.rest)) (is_shown c inside)
             ∙ option_or-assoc (get_or after c None) (sign_of (c * scale) visit) (first_of (sign_of (c * scale)) on.rest)
-            ∙ ap (λ (l : List Visit). option_or (get_or after c None) (first_of (sign_of (c * scale)) l)) (sym on.whole)
+            ∙ ap (λ (l : List LoggedVisit). option_or (get_or after c None) (first_of (sign_of (c * scale)) l)) (sym on.whole)
             ∙ left.bar c inside;
       }
 
-none_left : (table : List LinkedVisit) (next : Option ℕ) (visits : List Visit) → next ≡ None → AreLinked table next visits → visits ≡ []
+none_left : (table : List LinkedVisit) (next : Option ℕ) (visits : List LoggedVisit) → next ≡ None → AreLinked table next visits → visits ≡ []
 none_left table next [] at chain = refl
 none_left table next (visit ∷ visits) at (place, first, within, here, below, chain) = absurd (cc)
 
-module _ (names : NameBook) (table : List LinkedVisit) (next : Option ℕ) (visits : List Visit) (start now : List ℕ) (before after : List (Option ℕ)) (scale : ℕ) (left : AreLeft names table next visits start now before after scale) (at : next ≡ None) where
+module _ (names : NameBook) (table : List LinkedVisit) (next : Option ℕ) (visits : List LoggedVisit) (start now : List ℕ) (before after : List (Option ℕ)) (scale : ℕ) (left : AreLeft names table next visits start now before after scale) (at : next ≡ None) where
   -- at the end all words are there
   pub all_words : now ≡ start ++ flat_map (visit_word names) visits
-  all_words = sym (append-nil now) ∙ ap (λ (l : List Visit). now ++ flat_map (visit_word names) l) (sym (none_left table next left.rest at left.chain)) ∙ left.text
+  all_words = sym (append-nil now) ∙ ap (λ (l : List LoggedVisit). now ++ flat_map (visit_word names) l) (sym (none_left table next left.rest at left.chain)) ∙ left.text
 
   -- and all visits are in the bar
   pub all_signs : (c : ℕ) → c < 60 → get_or after c None ≡ option_or (get_or before c None) (first_of (sign_of (c * scale)) visits)
   all_signs c inside =
       sym (option_or-none (get_or after c None))
-      ∙ ap (λ (l : List Visit). option_or (get_or after c None) (first_of (sign_of (c * scale)) l)) (sym (none_left table next left.rest at left.chain))
+      ∙ ap (λ (l : List LoggedVisit). option_or (get_or after c None) (first_of (sign_of (c * scale)) l)) (sym (none_left table next left.rest at left.chain))
       ∙ left.bar c inside

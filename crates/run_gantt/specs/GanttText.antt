@@ -5,7 +5,7 @@ use Rattle.cell_tables.specs.declared.entry.Entry.{Entry}
 use Rattle.people_names.specs.NameBooks.{NameBook}
 use Rattle.people_names.specs.Words.{job_word, machine_word, moment_word}
 use Rattle.run_gantt.specs.declared.bar.TheConstants.{MAX_COLUMNS}
-use Rattle.run_gantt.specs.declared.visits.Visit.{Visit}
+use Rattle.run_gantt.specs.declared.visits.LoggedVisit.{LoggedVisit}
 use Rattle.run_gantt.specs.Visits.{first_of, last_of, visits_to}
 
 -- how long a column of a bar is, so that at most MAX_COLUMNS columns reach to the last moment
@@ -26,7 +26,7 @@ abbrev pub digit_of : ℕ → ℕ
 digit_of j = 48 + j % 10
 
 -- what a visit shows at moment t, if the job is there: its digit, and `=` once its operation has ended
-abbrev pub sign_of : ℕ → Visit → Option ℕ
+abbrev pub sign_of : ℕ → LoggedVisit → Option ℕ
 sign_of t visit =
     if nat_le visit.enter t && is_before t visit.leave
     then Some (if is_before t visit.finish then digit_of visit.job else 61)
@@ -38,7 +38,7 @@ column_sign None = 46
 column_sign (Some sign) = sign
 
 -- a bar: each column shows the first visit that shows something at the column's first moment
-abbrev pub bar_of : ℕ → ℕ → List Visit → List ℕ
+abbrev pub bar_of : ℕ → ℕ → List LoggedVisit → List ℕ
 bar_of scale columns visits = map (λ c. column_sign (first_of (sign_of (c * scale)) visits)) (range_with_len 0 columns)
 
 module _ (names : NameBook) where
@@ -48,11 +48,11 @@ module _ (names : NameBook) where
   moment_or_unknown (Some moment) = moment_word names moment
 
   -- ` JOB:ENTER-FINISH-LEAVE`
-  abbrev pub visit_word : Visit → List ℕ
+  abbrev pub visit_word : LoggedVisit → List ℕ
   visit_word visit = codes " " ++ job_word names visit.job ++ codes ":" ++ moment_word names visit.enter ++ codes "-" ++ moment_or_unknown visit.finish ++ codes "-" ++ moment_or_unknown visit.leave
 
   -- the two lines of machine m: its visits, and its bar
-  abbrev pub visit_lines : ℕ → ℕ → ℕ → List Visit → List ℕ
+  abbrev pub visit_lines : ℕ → ℕ → ℕ → List LoggedVisit → List ℕ
   visit_lines scale columns m visits =
       codes "machine " ++ machine_word names m ++ flat_map visit_word visits ++ codes "\nbar " ++ bar_of scale columns visits ++ codes "\n"
 
@@ -61,7 +61,7 @@ module _ (names : NameBook) where
   machine_lines scale columns entries m = visit_lines scale columns m (visits_to m entries)
 
   -- those of the visits in a row for each machine
-  abbrev pub row_lines : ℕ → ℕ → List (List Visit) → ℕ → List ℕ
+  abbrev pub row_lines : ℕ → ℕ → List (List LoggedVisit) → ℕ → List ℕ
   row_lines scale columns rows m = visit_lines scale columns m (slice_index_or rows m [])
 
   -- the Gantt text of entries, for so many machines

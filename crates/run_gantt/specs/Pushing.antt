@@ -4,7 +4,7 @@ use Rattle.std.specs.Option.{option_or}
 use Rattle.std.specs.List.{range_with_len}
 use Rattle.people_names.specs.NameBooks.{NameBook}
 use Rattle.run_gantt.specs.declared.bar.TheConstants.{MAX_COLUMNS}
-use Rattle.run_gantt.specs.declared.visits.Visit.{Visit}
+use Rattle.run_gantt.specs.declared.visits.LoggedVisit.{LoggedVisit}
 use Rattle.run_gantt.specs.GanttText.{row_lines}
 
 -- these bytes were put behind those of the text
@@ -12,11 +12,11 @@ abbrev pub IsPushed : {A : Type 0} → String A → String A → List ℕ → Ty
 IsPushed before after bytes = string_bytes after ≡ string_bytes before ++ bytes
 
 -- the lines of so many machines, one after another, of whose visits these are the rows
-abbrev pub all_lines : NameBook → ℕ → ℕ → List (List Visit) → ℕ → List ℕ
+abbrev pub all_lines : NameBook → ℕ → ℕ → List (List LoggedVisit) → ℕ → List ℕ
 all_lines names scale columns rows machines = flat_map (row_lines names scale columns rows) (range_with_len 0 machines)
 
 -- the visits to machine m, among the rows of visits
-abbrev pub visits_to : List (List Visit) → ℕ → List Visit
+abbrev pub visits_to : List (List LoggedVisit) → ℕ → List LoggedVisit
 visits_to rows m = slice_index_or rows m []
 
 -- each column of a bar shows what it showed, or else what there is to show at the column's first moment

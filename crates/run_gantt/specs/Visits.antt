@@ -9,7 +9,7 @@ use Rattle.shop_base.specs.Report.{at}
 use Rattle.shop_base.specs.declared.report.Report.TheVariants.{Arrive, Finish, Clean}
 use Rattle.cell_tables.specs.declared.entry.Entry.{Entry}
 use Rattle.cell_tables.specs.declared.entry.Entry.TheVariants.{Report as ReportEntry, Order as OrderEntry}
-use Rattle.run_gantt.specs.declared.visits.Visit.{Visit}
+use Rattle.run_gantt.specs.declared.visits.LoggedVisit.{LoggedVisit}
 use Rattle.run_gantt.specs.declared.visit_ends.VisitEnd.{VisitEnd}
 
 -- what is given for the first item for which something is given
@@ -49,7 +49,7 @@ abbrev pub visit_end : ℕ → ℕ → List Entry → VisitEnd
 visit_end j m entries = record { finish = first_of (finish_in j m) entries; leave = first_of (leave_in j m) entries }
 
 -- a visit to machine m that an order begins; what becomes of it is recorded by the later entries
-abbrev pub visit_of : MoveOrder → ℕ → List Entry → Visit
+abbrev pub visit_of : MoveOrder → ℕ → List Entry → LoggedVisit
 visit_of order m later = record {
   job = order.job;
   enter = order.at;
@@ -58,11 +58,11 @@ visit_of order m later = record {
 }
 
 -- the visits to machine m, in the order of the entries that begin them
-abbrev pub visits_to : ℕ → List Entry → List Visit
+abbrev pub visits_to : ℕ → List Entry → List LoggedVisit
 visits_to m [] = []
 visits_to m (ReportEntry report ∷ later) = visits_to m later
 visits_to m (OrderEntry order ∷ later) = if is_at m order.target then visit_of order m later ∷ visits_to m later else visits_to m later
 
 -- those to each of so many machines
-abbrev pub machine_visits : ℕ → List Entry → List (List Visit)
+abbrev pub machine_visits : ℕ → List Entry → List (List LoggedVisit)
 machine_visits machines entries = map (λ m. visits_to m entries) (range_with_len 0 machines)

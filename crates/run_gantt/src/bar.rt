@@ -5,7 +5,7 @@ ghost use Rattle.run_gantt.specs.declared.bar.TheConstants.{MAX_COLUMNS, MAX_SCA
 ghost use Rattle.std.specs.Option.{option_or};
 ghost use Rattle.run_gantt.specs.{GanttText.is_before, GanttText.digit_of, GanttText.sign_of, Pushing.SignsToo};
 
-use crate::visits::Visit;
+use crate::visits::LoggedVisit;
 use shop_base::Moment;
 
 /// The greatest number of columns.
@@ -18,7 +18,7 @@ pub(crate) const MAX_SCALE: Moment = u64::MAX / MAX_COLUMNS as u64 + 1;
 pub(crate) type Bar = [Option<char>; MAX_COLUMNS];
 
 /// Shows a visit in each column in which its job is there and none is shown yet.
-pub(crate) fn sign_visit(bar: &mut Bar, scale: Moment, visit: Visit)
+pub(crate) fn sign_visit(bar: &mut Bar, scale: Moment, visit: LoggedVisit)
     requires above { 0 < scale }
     requires below { scale ≤ MAX_SCALE }
     ensures { SignsToo scale (λ t. sign_of t visit) bar.old bar.new }
@@ -46,7 +46,7 @@ fn put_sign(bar: &mut Bar, column: usize, sign: char)
 }
 
 /// What a visit shows at a moment at which its job is there.
-fn sign_at(moment: Moment, visit: Visit) -> char
+fn sign_at(moment: Moment, visit: LoggedVisit) -> char
     ensures { result ≡ if is_before moment visit.finish then digit_of visit.job else 61 }
 {
     if is_before(moment, visit.finish) {

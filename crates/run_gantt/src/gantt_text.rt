@@ -11,7 +11,7 @@ ghost use Rattle.run_gantt.specs.Pushing.{IsPushed, all_lines, visits_to, SignsT
 ghost use Rattle.run_gantt.specs.declared.bar.TheConstants.{MAX_COLUMNS, MAX_SCALE};
 
 use crate::bar::{Bar, MAX_COLUMNS, sign_visit};
-use crate::visits::{Visit, Visits, visits_of};
+use crate::visits::{LoggedVisit, Visits, visits_of};
 use cell_tables::Entry;
 use itoa::Buffer;
 use people_names::{LONGEST_MOMENT, Names};
@@ -166,7 +166,7 @@ impl Visits {
     }
 }
 
-fn push_visit(text: &mut String, names: &Names, visit: Visit) -> Result<(), AllocError>
+fn push_visit(text: &mut String, names: &Names, visit: LoggedVisit) -> Result<(), AllocError>
     ensures { OnOk result (IsPushed text.old text.new (visit_word names.now visit)) }
 {
     text.push_str(" ")?;

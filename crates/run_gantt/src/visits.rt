@@ -13,7 +13,7 @@ use std::marker::Model;
 /// A visit of a job to a machine: when the job enters, when its operation ends and when it leaves, each of
 /// the last two only if it is known.
 #[derive(Clone, Copy)]
-pub(crate) struct Visit {
+pub(crate) struct LoggedVisit {
     pub job: JobNo,
     pub enter: Moment,
     pub finish: Option<Moment>,
@@ -23,7 +23,7 @@ pub(crate) struct Visit {
 /// A visit, with the place of the next one to the same machine.
 #[derive(Clone, Copy)]
 pub(crate) struct LinkedVisit {
-    pub visit: Visit,
+    pub visit: LoggedVisit,
     pub next: Option<usize>,
 }
 
@@ -36,10 +36,10 @@ pub(crate) struct Visits {
 
 impl Model for Visits {
     ghost use Rattle.std.specs.Prelude.{List};
-    ghost use Rattle.run_gantt.specs.declared.visits.Visit.{Visit};
+    ghost use Rattle.run_gantt.specs.declared.visits.LoggedVisit.{LoggedVisit};
     ghost use Rattle.run_gantt.specs.LinkedVisits.{rows_of, AreAllLinked};
 
-    ghost Value = { List (List Visit) };
+    ghost Value = { List (List LoggedVisit) };
 
     ghost view = { λ v. rows_of v.table.items v.first.items };
 
@@ -98,7 +98,7 @@ impl Visits {
             return Ok(());
         }
         let end = visit_end_at(ends, later, order.job, machine);
-        let visit = Visit {
+        let visit = LoggedVisit {
             job: order.job,
             enter: order.at,
             finish: end.finish,
@@ -109,7 +109,7 @@ impl Visits {
     }
 
     /// Puts a visit before the others to its machine.
-    fn put_first(&mut self, machine: MachineNo, visit: Visit) -> Result<(), AllocError>
+    fn put_first(&mut self, machine: MachineNo, visit: LoggedVisit) -> Result<(), AllocError>
         requires { machine < length self.old }
         ensures { OnOk result (self.new ≡ slice_set self.old machine (visit ∷ slice_index_or self.old machine [])) }
     {

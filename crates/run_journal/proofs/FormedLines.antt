@@ -9,7 +9,7 @@ use Rattle.event_lines.specs.AnswerLines.{late_words, refused_words, done_words,
 use Rattle.event_lines.specs.Words.{Word, Text, Number, words_before, line_of}
 use Rattle.event_lines.specs.ReadBack.{IsSpaceless, IsFitting, AreFitting}
 use Rattle.event_lines.proofs.WrittenWords.{absent_from_words, AreSpaceless, all_spaceless, before-append, decimal_spaceless}
-use Rattle.event_lines.proofs.Telling.{detail_spaceless, standing_spaceless}
+use Rattle.event_lines.proofs.EntryParses.{detail_spaceless, standing_spaceless}
 use Rattle.run_journal.specs.{LoggedLines.is_logged, TornEnds.{begins_line, AreNarrow, IsNarrow}}
 use Rattle.run_journal.proofs.Formed.{IsFormed, formed-line}
 use Rattle.run_journal.proofs.TornEnds.{event_begins, late_begins, late_overdue_begins}

@@ -5,7 +5,7 @@ use Rattle.std.specs.Io.KnownBytes.{Appends}
 use Rattle.run_journal.specs.declared.{logged.TheConstants.MAX_PENDING, selection.TheConstants.DECIDING}
 use Rattle.run_journal.specs.{declared.logged.Unflushed.{Unflushed, TheVariants.{Log, Output}}, LoggedLines.logged}
 use Rattle.run_journal.specs.{LogFiles.{Leaves, IsDurable}, Selecting.{Gets, IsFront, added, open_line}}
-use Rattle.run_journal.specs.Logged.{AreInitial, IsSoFar, IsSound, OnKept, OnLogFault}
+use Rattle.run_journal.specs.Logged.{AreInitial, IsSoFar, IsSoundLogger, OnKept, OnLogFault}
 use Rattle.run_journal.proofs.Fronts.{durable_leaves, fewer_left, if_some-at, if_some-map}
 use Rattle.run_journal.proofs.Selected.{line_after-append, logged-front, logged-more}
 
@@ -17,7 +17,7 @@ grown (Some ys) (Some zs) xs bs is added = let same : ys ≡ xs = cc is in ap So
 -- before anything has come
 pub starts : (before : Option (List ℕ × List ℕ)) (seen : Option (List ℕ)) (crash_states : List ℕ → Type 0) (written : Option (List ℕ)) (buffered : List ℕ) (capacity events_capacity front_capacity : ℕ) (front : List ℕ)
     → AreInitial before seen written → IsDurable seen crash_states → buffered ≡ [] → MAX_PENDING ≤ capacity → MAX_PENDING + DECIDING ≤ events_capacity → front ≡ [] → DECIDING ≤ front_capacity
-    → IsSound before seen crash_states written buffered capacity events_capacity front_capacity 0 false front
+    → IsSoundLogger before seen crash_states written buffered capacity events_capacity front_capacity 0 false front
 starts before seen crash_states written buffered capacity events_capacity front_capacity front are durable none room events_room first front_room = record {
   within = omega arith;
   few = omega (arith, ap length none);
@@ -40,12 +40,12 @@ starts before seen crash_states written buffered capacity events_capacity front_
 }
 
 module _ (before : Option (List ℕ × List ℕ)) (seen : Option (List ℕ)) (crash_states : List ℕ → Type 0) (written : Option (List ℕ)) (buffered : List ℕ) (capacity events_capacity front_capacity sent : ℕ) (failed : Bool)
-    (front : List ℕ) (sound : IsSound before seen crash_states written buffered capacity events_capacity front_capacity sent failed front) (unfailed : failed ≡ false) where
+    (front : List ℕ) (sound : IsSoundLogger before seen crash_states written buffered capacity events_capacity front_capacity sent failed front) (unfailed : failed ≡ false) where
   pub all_pending : drop sent buffered ≡ buffered
   all_pending = ap (λ (n : ℕ). drop n buffered) (sound.none_out unfailed)
 
   -- more bytes are gathered
-  pub gathers : (more now : List ℕ) (room : ℕ) → now ≡ buffered ++ more → length now ≤ MAX_PENDING → capacity ≤ room → IsSound before seen crash_states written now room events_capacity front_capacity sent failed front
+  pub gathers : (more now : List ℕ) (room : ℕ) → now ≡ buffered ++ more → length now ≤ MAX_PENDING → capacity ≤ room → IsSoundLogger before seen crash_states written now room events_capacity front_capacity sent failed front
   gathers more now room is few kept_room = record {
     within = omega (arith, sound.none_out unfailed);
     few = few;
@@ -83,7 +83,7 @@ module _ (before : Option (List ℕ × List ℕ)) (seen : Option (List ℕ)) (cr
 
     -- the log didn't take them
     pub not_kept : IfSome seen (λ file. Leaves crash_states_now (length file) (file ++ events))
-        → IsSound before seen_now crash_states_now written buffered capacity events_room front_capacity_now sent true front_now
+        → IsSoundLogger before seen_now crash_states_now written buffered capacity events_room front_capacity_now sent true front_now
     not_kept crash = record {
       within = sound.within;
       few = sound.few;
@@ -124,7 +124,7 @@ module _ (before : Option (List ℕ × List ℕ)) (seen : Option (List ℕ)) (cr
 
       -- and the output took only some
       pub not_shown : (written_now : Option (List ℕ)) (out : ℕ) → out ≤ length buffered → Appends written written_now (take out buffered)
-          → IsSound before seen_now crash_states_now written_now buffered capacity events_room front_capacity_now out true front_now
+          → IsSoundLogger before seen_now crash_states_now written_now buffered capacity events_room front_capacity_now out true front_now
       not_shown written_now out within added = record {
         within = within;
         few = sound.few;
@@ -155,7 +155,7 @@ module _ (before : Option (List ℕ × List ℕ)) (seen : Option (List ℕ)) (cr
 
       -- both have them
       pub shown : (written_now : Option (List ℕ)) (out : ℕ) (now : List ℕ) (room : ℕ) → out ≡ length buffered → Appends written written_now (take out buffered) → now ≡ [] → capacity ≤ room
-          → IsSound before seen_now crash_states_now written_now now room events_room front_capacity_now 0 false front_now
+          → IsSoundLogger before seen_now crash_states_now written_now now room events_room front_capacity_now 0 false front_now
       shown written_now out now room all added none kept_buffered = record {
         within = omega arith;
         few = omega (arith, ap length none);

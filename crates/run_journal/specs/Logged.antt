@@ -52,7 +52,7 @@ pub record IsSoFar (base start : List ℕ) (seen : Option (List ℕ)) (crash_sta
 
 -- At most so many bytes are gathered, and there is room for them, for what a log gets of them, and for the first bytes of a line. Until a call fails none
 -- of them is out, and the log is synced.
-pub record IsSound (before : Option (List ℕ × List ℕ)) (seen : Option (List ℕ)) (crash_states : List ℕ → Type 0) (written : Option (List ℕ)) (buffered : List ℕ) (capacity events_capacity front_capacity sent : ℕ)
+pub record IsSoundLogger (before : Option (List ℕ × List ℕ)) (seen : Option (List ℕ)) (crash_states : List ℕ → Type 0) (written : Option (List ℕ)) (buffered : List ℕ) (capacity events_capacity front_capacity sent : ℕ)
     (failed : Bool) (front : List ℕ) : Type 0 where
   pub within : sent ≤ length buffered
   pub few : length buffered ≤ MAX_PENDING

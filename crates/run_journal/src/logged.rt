@@ -59,7 +59,7 @@ pub struct Logged<W: BufferedSink, D: LogFile, B: InitialState> {
 
 impl<W: BufferedSink, D: LogFile, B: InitialState> Model for Logged<W, D, B> {
     ghost use Rattle.std.specs.Prelude.{drop, vec_capacity};
-    ghost use Rattle.run_journal.specs.Logged.{AreFaultsKnown, Held, HoldsNothing, IsSound};
+    ghost use Rattle.run_journal.specs.Logged.{AreFaultsKnown, Held, HoldsNothing, IsSoundLogger};
 
     ghost Value = { Held };
 
@@ -70,7 +70,7 @@ impl<W: BufferedSink, D: LogFile, B: InitialState> Model for Logged<W, D, B> {
       log_failed = l.log_failed;
     } };
 
-    ghost invariant = { λ l. IsSound B.before (D.seen l.log) (D.crash_states l.log)
+    ghost invariant = { λ l. IsSoundLogger B.before (D.seen l.log) (D.crash_states l.log)
         (W.written l.output) l.buffered.items (vec_capacity l.buffered) (vec_capacity l.events)
         (vec_capacity l.front) l.sent l.failed l.front.items × HoldsNothing (W.pending l.output) (W.failed l.output)
         × AreFaultsKnown l.failed l.log_failed (D.fault l.log) (W.failed l.output) };

@@ -44,7 +44,7 @@ fn select_byte(front: &mut Vec<u8>, byte: u8, events: &mut Vec<u8>)
     ensures front_capacity { vec_capacity front.old ≤ vec_capacity front.new }
     ensures capacity { vec_capacity events.old ≤ vec_capacity events.new }
 {
-    go_on(front, byte, events);
+    append_byte(front, byte, events);
     if byte == b'\n' {
         front.clear();
     }
@@ -52,7 +52,7 @@ fn select_byte(front: &mut Vec<u8>, byte: u8, events: &mut Vec<u8>)
 
 /// Appends what a log gets by a byte of the line.
 #[tactic(auto, using(crate::proofs::Selected::front_stays, crate::proofs::Selected::front_grows, crate::proofs::Selected::front_decided))]
-fn go_on(front: &mut Vec<u8>, byte: u8, events: &mut Vec<u8>)
+fn append_byte(front: &mut Vec<u8>, byte: u8, events: &mut Vec<u8>)
     requires few { length front.old.items ≤ DECIDING }
     requires front_room { DECIDING ≤ vec_capacity front.old }
     requires room { vec_len events.old + undecided front.old.items < vec_capacity events.old }

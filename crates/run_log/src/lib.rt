@@ -20,5 +20,5 @@ pub use cell_tables::Entry;
 pub use entry_check::follow_entry;
 pub use log_text::write_lines;
 pub use logged_run::{LoggedRun, run_if_replayed, run_of_log};
-pub use present_run::{RunFault, run_at};
+pub use present_run::{RunFault, present_at, run_at};
 pub use run_log::{LogFault, RunLog};

@@ -1,6 +1,6 @@
 //! The run that a log records, as far as the present moment.
 
-ghost use Rattle.std.specs.Prelude.{◌≡◌, ◌≤◌, IfOk, IfErr};
+ghost use Rattle.std.specs.Prelude.{◌≡◌, ◌≤◌, unwrap_or, IfOk, IfErr};
 ghost use Rattle.shop_base.specs.declared.limits.TheConstants.{MAX_MOMENT};
 ghost use Rattle.text_lines.specs.Lines.{ended_lines};
 ghost use Rattle.run_log.specs.Present.{IsRunAt, IsPresent, IsMomentFault, IsRunFault};
@@ -52,6 +52,16 @@ pub fn run_at<P: Planned>(
             drop(run);
             Ok(Err(fault))
         }
+    }
+}
+
+/// The present moment: the one that is given, or else the last one.
+pub fn present_at(at: Option<Moment>, last: Moment) -> Moment
+    ensures { result ≡ unwrap_or at last }
+{
+    match at {
+        Some(present) => present,
+        None => last,
     }
 }
 

@@ -2,7 +2,7 @@
 
 use super::calling::moves_of;
 use super::cells::{CLEANED, CROSSING, FOLLOWING, INSTANT, Texts, controller};
-use super::events::{arrive, enter, finish, go_on};
+use super::events::{arrive, enter, finish, move_on};
 use super::worked_runs::{
     AT_ONCE, AT_THE_LIMIT, CLEANING, CLEANING_END, EARLY, EARLY_END, FIRST, FOLLOWED, FOLLOWED_END,
     LATE_LEAVING, LATE_RUN, LATE_WAITING, REFUSED, Row, SECOND_LEAVING, THIRD_LEAVING, UNCLEAN,
@@ -246,7 +246,7 @@ fn gives<D: Dues>(rt: &impl Abort, cell: &mut Controller<D>, rows: &[Row]) {
 }
 
 /// Whether the readers give this of the jobs.
-fn tells_of_jobs<D: Dues>(cell: &Controller<D>, jobs: &[OfJob]) -> bool {
+fn shows_jobs<D: Dues>(cell: &Controller<D>, jobs: &[OfJob]) -> bool {
     for &(job, phase, due) in jobs {
         if cell.phase(job) != phase || cell.due(job) != due {
             return false;
@@ -256,7 +256,7 @@ fn tells_of_jobs<D: Dues>(cell: &Controller<D>, jobs: &[OfJob]) -> bool {
 }
 
 /// Whether the readers give this of the machines.
-fn tells_of_machines<D: Dues>(cell: &Controller<D>, machines: &[OfMachine]) -> bool {
+fn shows_machines<D: Dues>(cell: &Controller<D>, machines: &[OfMachine]) -> bool {
     for &(machine, holder, due) in machines {
         if cell.holder(machine) != holder || cell.clean_due(machine) != due {
             return false;
@@ -266,7 +266,7 @@ fn tells_of_machines<D: Dues>(cell: &Controller<D>, machines: &[OfMachine]) -> b
 }
 
 /// Whether the readers give this of the run.
-fn tells_of_end<D: Dues>(cell: &Controller<D>, end: (u64, Moment, bool)) -> bool {
+fn shows_end<D: Dues>(cell: &Controller<D>, end: (u64, Moment, bool)) -> bool {
     let (left, now, punctual) = end;
     cell.reports_left() == left
         && cell.is_done() == (left == 0)
@@ -280,9 +280,9 @@ fn makes<D: Dues>(rt: &impl Abort, cell: &mut Controller<D>, run: &Run) {
         gives(rt, cell, rows);
     }
     let found = (
-        tells_of_end(cell, run.end),
-        tells_of_jobs(cell, run.jobs),
-        tells_of_machines(cell, run.machines),
+        shows_end(cell, run.end),
+        shows_jobs(cell, run.jobs),
+        shows_machines(cell, run.machines),
     );
     let now = run.end.1;
     assert!(rt; found == (true, true, true), "{found:?} at {now}");
@@ -349,7 +349,7 @@ fn are_given(
 #[test]
 fn a_caller_is_given_the_moves(rt: HostRuntime) -> Result<(), Fail> {
     let reports = [arrive(0, 0), arrive(1, 0), finish(0, 0, 3)];
-    let wanted = [enter(0, 0, 0), go_on(0, 0, 1, 3)];
+    let wanted = [enter(0, 0, 0), move_on(0, 0, 1, 3)];
     let given = are_given(rt.alloc(), &reports, Some(wanted.as_slice()))?;
     let none = are_given(rt.alloc(), &reports[2..], None)?;
     assert!(rt; given && none);

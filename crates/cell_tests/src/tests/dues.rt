@@ -29,7 +29,7 @@ fn are_due<D: Dues>(
     dues.least() == least && dues.get(0) == first && dues.get(3) == third
 }
 
-fn tells_each_change<D: Dues>(rt: &(impl Abort + AllocGlobal)) -> Result<(), Fail> {
+fn notes_each_change<D: Dues>(rt: &(impl Abort + AllocGlobal)) -> Result<(), Fail> {
     let mut dues = D::sized(rt.alloc(), 5)?;
     dues.set(0, 7);
     dues.set(3, 4);
@@ -74,13 +74,13 @@ fn takes_any_size_and_moment<D: Dues>(rt: &(impl Abort + AllocGlobal)) -> Result
 }
 
 #[test]
-fn scan_dues_tell_each_change(rt: HostRuntime) -> Result<(), Fail> {
-    tells_each_change::<ScanDues>(&rt)?;
+fn scan_dues_note_each_change(rt: HostRuntime) -> Result<(), Fail> {
+    notes_each_change::<ScanDues>(&rt)?;
     takes_any_size_and_moment::<ScanDues>(&rt)
 }
 
 #[test]
-fn tourney_dues_tell_each_change(rt: HostRuntime) -> Result<(), Fail> {
-    tells_each_change::<TourneyDues>(&rt)?;
+fn tourney_dues_note_each_change(rt: HostRuntime) -> Result<(), Fail> {
+    notes_each_change::<TourneyDues>(&rt)?;
     takes_any_size_and_moment::<TourneyDues>(&rt)
 }

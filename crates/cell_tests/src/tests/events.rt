@@ -24,7 +24,7 @@ pub(super) const fn enter(job: JobNo, machine: MachineNo, at: Moment) -> MoveOrd
     }
 }
 
-pub(super) const fn go_on(
+pub(super) const fn move_on(
     job: JobNo,
     source: MachineNo,
     target: MachineNo,

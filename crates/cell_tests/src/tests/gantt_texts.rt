@@ -1,7 +1,7 @@
 //! Entries that are drawn though no log has them. How those of runs are drawn is shown by `tests/commands/runs`.
 
 use super::cells::{INSTANT, shaped};
-use super::events::{enter, finish, go_on, leave};
+use super::events::{enter, finish, leave, move_on};
 use cell_tables::Entry;
 use run_gantt::gantt;
 use std::alloc::Global;
@@ -29,9 +29,9 @@ fn entries_of_no_run_are_drawn(rt: HostRuntime) -> Result<(), Fail> {
     let drawing = "scale 1\nmachine 0 4000000013:0-1-3\nbar 3==.\n";
     let of_strangers = are_drawn(rt.alloc(), &strangers, drawing)?;
     let again = [
-        Entry::Order(go_on(0, 0, 0, 5)),
+        Entry::Order(move_on(0, 0, 0, 5)),
         Entry::Report(finish(0, 0, 4)),
-        Entry::Order(go_on(0, 0, 0, 2)),
+        Entry::Order(move_on(0, 0, 0, 2)),
         Entry::Order(leave(0, 0, 1)),
     ];
     let drawing = "scale 1\nmachine 0 0:5-4-2 0:2-?-1\nbar ......\n";

@@ -1,6 +1,6 @@
 //! Entries that are written as lines.
 
-use super::events::{arrive, clean, enter, finish, go_on, leave};
+use super::events::{arrive, clean, enter, finish, leave, move_on};
 use super::one_byte_writer::OneByteWriter;
 use cell_tables::Entry;
 use run_log::{IntoSink, put_all, write_lines};
@@ -19,7 +19,7 @@ fn all_lines_are_written_or_their_first_bytes(rt: HostRuntime) {
         Entry::Report(finish(0, 1, 4)),
         Entry::Order(leave(0, 1, 4)),
         Entry::Report(clean(1, 7)),
-        Entry::Order(go_on(u32::MAX, u32::MAX, u32::MAX, u64::MAX)),
+        Entry::Order(move_on(u32::MAX, u32::MAX, u32::MAX, u64::MAX)),
     ];
     for takes_nothing in [false, true] {
         for calls in 0..LINES.len() + 1 {

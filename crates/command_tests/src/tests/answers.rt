@@ -9,7 +9,7 @@ use std::process::Abort;
 use std::test::Fail;
 
 /// Whether the answer is this text, with this status.
-fn tells(answer: Result<Answer, CommandFault>, text: &[u8], status: u8) -> bool {
+fn answers(answer: Result<Answer, CommandFault>, text: &[u8], status: u8) -> bool {
     match answer {
         Ok(answer) => answer.text.as_slice() == text && answer.status == status,
         Err(_) => false,
@@ -60,7 +60,7 @@ fn answers_each(rt: &(impl Abort + AllocGlobal), proposers: &[Box<dyn Proposer>]
             log: b"",
         };
         let answer = plan_answer(rt.alloc(), &mut shelf, &PAIR, proposers, rounds);
-        assert!(rt; tells(answer, text, status));
+        assert!(rt; answers(answer, text, status));
     }
 }
 

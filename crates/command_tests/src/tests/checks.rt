@@ -130,7 +130,7 @@ fn counts(verified: Verified) -> (Moment, u64, u64) {
 }
 
 #[test]
-fn an_accepted_plan_tells_its_leavings_and_chains(rt: HostRuntime) -> Result<(), Fail> {
+fn an_accepted_plan_gives_its_leavings_and_chains(rt: HostRuntime) -> Result<(), Fail> {
     let verified = load(rt.alloc(), TWO, None, IN_TIME)?.accepted()?;
     let leavings = leavings(rt.alloc(), &verified);
     let counts = counts(verified);

@@ -562,8 +562,8 @@ met a words rows found is h = (h (ap is_simple is)).1 ∙ ap (λ x. subcommand_o
 
 pub parse_refuses : (a : App) (words : List Text) (error : Error) (fault : WordsFault) → a ≡ command_line → (is_simple_and_free a ≡ true → HasKind (fault_of a words) error)
     → NamesReason (kind_of error) fault → NamesOneOf (parse_reasons_in words) fault
-parse_refuses a words error Memory is h tells = tt
-parse_refuses a words error (Usage help text) is h tells = elim (h (ap is_simple_and_free is)) [
-  | inl memory ↦ absurd (tells.0 memory)
-  | inr among ↦ (kind_of error, subst (λ (x : App). IsAmong (kind_of error) (fault_of x words)) is among, tells.1)
+parse_refuses a words error Memory is h named = tt
+parse_refuses a words error (Usage help text) is h named = elim (h (ap is_simple_and_free is)) [
+  | inl memory ↦ absurd (named.0 memory)
+  | inr among ↦ (kind_of error, subst (λ (x : App). IsAmong (kind_of error) (fault_of x words)) is among, named.1)
 ]

@@ -1,4 +1,4 @@
--- A command is told by its word.
+-- A command is known by its word.
 use Rattle.std.proofs.Common.{◌≡◌, ◌∙◌, if◌then◌else◌, ℕ, Option, None, Some, ap, codes, refl, subst, sym}
 use Rattle.std.specs.Prelude.{bytes_eq}
 use Rattle.clap.specs.Words.{Text}

@@ -8,12 +8,12 @@ use Rattle.command_words.specs.declared.words.Chosen.{Chosen}
 use Rattle.command_words.specs.declared.words.WordsFault.{WordsFault}
 use Rattle.command_words.specs.declared.words.WordsFault.TheVariants.{Usage, Memory}
 
-tells : (kind : ErrorKind) (fault : WordsFault) → IsFaultOf kind fault → NamesReason kind fault
-tells kind Memory is = tt
-tells kind (Usage help text) is = is
+reason_named : (kind : ErrorKind) (fault : WordsFault) → IsFaultOf kind fault → NamesReason kind fault
+reason_named kind Memory is = tt
+reason_named kind (Usage help text) is = is
 
 pub names_reason : (kind same : ErrorKind) (fault : WordsFault) → kind ≡ same → IsFaultOf kind fault → NamesReason same fault
-names_reason kind same fault e is = subst (λ k. NamesReason k fault) e (tells kind fault is)
+names_reason kind same fault e is = subst (λ k. NamesReason k fault) e (reason_named kind fault is)
 
 -- it names the only one
 pub names_only : (kind : ErrorKind) (kinds : Kinds) (fault : WordsFault) → kinds ≡ kind ∷ [] → NamesReason kind fault → NamesOneOf kinds fault

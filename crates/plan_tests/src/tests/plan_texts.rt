@@ -1,5 +1,5 @@
 //! Plans that are read and written again. Texts that are no plans, the spellings of TOML and the
-//! greatest plan stand in `tests/commands/command-lines`; usual plans are read and written in `wants.rt` of
+//! greatest plan stand in `tests/commands/command-lines`; usual plans are read and written in `alloc_failures.rt` of
 //! `command_tests`.
 
 use super::plans::{IN_SERIES, is_text};

@@ -52,7 +52,7 @@ fn judged(alloc: Global, shaped: Shaped) -> Result<Verdict, AllocError>
 }
 
 /// Whether the plan's schedule is this text.
-fn tells(alloc: Global, plan: &[u8], text: &[u8]) -> Result<bool, Fail> {
+fn answers(alloc: Global, plan: &[u8], text: &[u8]) -> Result<bool, Fail> {
     let shaped = planned(alloc, TWO, plan)?;
     let verdict = judged(alloc, shaped)?;
     let names = Names::none(alloc);
@@ -65,7 +65,7 @@ fn tells(alloc: Global, plan: &[u8], text: &[u8]) -> Result<bool, Fail> {
 #[test]
 fn each_verdict_has_its_schedule(rt: HostRuntime) -> Result<(), Fail> {
     for &(plan, text) in SCHEDULES {
-        assert!(rt; tells(rt.alloc(), plan, text)?);
+        assert!(rt; answers(rt.alloc(), plan, text)?);
     }
     Ok(())
 }

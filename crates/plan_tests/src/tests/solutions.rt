@@ -1,4 +1,4 @@
-//! What the solver of the alternative graph finds. What it takes memory for is asked in `wants.rt`
+//! What the solver of the alternative graph finds. What it takes memory for is asked in `alloc_failures.rt`
 //! of `command_tests`, which shows a cycle and a whole chain as well.
 
 use super::plans::{CLEANED, IN_SERIES, TWO, planned};

@@ -1,6 +1,6 @@
 use Rattle.std.proofs.{Common.{◌≡◌, List, Err, ap, ◌∙◌}, lemmas.Result.err_from_is_err_and}
 use Rattle.byte_streams.specs.Lent.{streams_of}
-use Rattle.cell_drive.specs.{ManyCells.PlannedCell, Numbers.planned_cells}
+use Rattle.cell_drive.specs.{ManyCells.HubCell, Numbers.planned_cells}
 use Rattle.cell_drive.specs.ProtocolCells.{HubAnswer, HubCloses, hub_of, hub_of_plans}
 use Rattle.cell_drive.proofs.{OneText.undriven_hub, StreamedFrom.{never_memory, on_ok, streamed_from}}
 use Rattle.cell_drive.proofs.hub.drive_hub_in.Goals as goal
@@ -8,7 +8,7 @@ use Rattle.cell_drive.proofs.hub.drive_hub_in.Goals as goal
 pub returns-clause-driven : goal.returns-clause-driven
 returns-clause-driven g c =
     let first = hub_of c.args.protocol (planned_cells c.in_ok-controllers.controllers.items) in
-    let begun : first ≡ hub_of_plans c.args.protocol c.args.cells.items = ap (λ (cells : List PlannedCell). hub_of c.args.protocol cells) c.in_ok-controllers.ensures.started in
+    let begun : first ≡ hub_of_plans c.args.protocol c.args.cells.items = ap (λ (cells : List HubCell). hub_of c.args.protocol cells) c.in_ok-controllers.ensures.started in
     let driven = c.drive_cells.ensures in
     record {
       end = driven.0;

@@ -9,17 +9,17 @@ use Rattle.cell_drive.proofs.Replied.{accepts}
 use Rattle.cell_drive.proofs.requests.accept_judged.Goals as goal
 
 pub returns-clause-done : goal.returns-clause-done
-returns-clause-done g c = (c.take.result.late, subst (λ (r : Report). IsAnswered c.args.controller.now r c.take.result c.take.new.self) c.requires.judged.0 c.take.ensures.answered)
+returns-clause-done g c = (c.accept.result.late, subst (λ (r : Report). IsAnswered c.args.controller.now r c.accept.result c.accept.new.self) c.requires.judged.0 c.accept.ensures.answered)
 
 pub returns-clause-answered : goal.returns-clause-answered
 returns-clause-answered g c =
     let v = c.args.controller.now in
-    let new = c.take.new.self in
+    let new = c.accept.new.self in
     let own = claimed c.args.claim in
     let judged = c.requires.judged in
     let late = c.args.late in
     let cell = c.work_cell.result.now in
-    let answered = subst (λ (r : Report). IsAnswered v r c.take.result new) judged.0 c.take.ensures.answered in
+    let answered = subst (λ (r : Report). IsAnswered v r c.accept.result new) judged.0 c.accept.ensures.answered in
     let late_is = subst (λ (b : Bool). (b ≡ false) ↔ IsPunctual v.planned v.cell own) (sym c.requires.late)
     (subst (λ (r : Report). (c.args.possible.late ≡ false) ↔ IsPunctual v.planned v.cell r) judged.0 judged.1.late) in
     let report_is : c.report-report.result ≡ own = c.report-report.ensures ∙ judged.0 in
@@ -37,7 +37,7 @@ returns-clause-answered g c =
     ∙ ap (λ (ended : Bool). acceptance_lines prefix own late overdue new.orders ended) c.prints_end-ended.ensures in
     record {
       text = acceptance_lines prefix own late overdue new.orders (prints_end c.args.protocol new.planned new.cell);
-      is_text = accepts c.args.protocol prefix v new c.args.claim late c.take.result c.requires.accepted late_is answered;
+      is_text = accepts c.args.protocol prefix v new c.args.claim late c.accept.result c.requires.accepted late_is answered;
       wrote = subst (λ (text : List ℕ). WroteTo g.W.Sink c.put_accepted.result c.args.writer.now c.put_accepted.new.writer text) text_is c.put_accepted.ensures.wrote;
       unfailed = c.put_accepted.ensures.unfailed;
     }

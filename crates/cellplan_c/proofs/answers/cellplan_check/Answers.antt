@@ -1,6 +1,6 @@
 use Rattle.std.proofs.Common.{rules}
 use Rattle.cellplan_c.proofs.Judging.{check_bound}
-use Rattle.cellplan_c.proofs.Telling.{found_and_put}
+use Rattle.cellplan_c.proofs.Answering.{found_and_put}
 use Rattle.cellplan_c.proofs.answers.cellplan_check.Goals as goal
 
 pub returns : goal.returns

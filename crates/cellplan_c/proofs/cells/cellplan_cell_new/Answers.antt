@@ -15,7 +15,7 @@ returns-in-Ok c =
       fault = no_fault _ _ _ c.in-Ok.loaded are _ c.begun.ensures.status;
       only = only _ _ _ c.in-Ok.loaded are _ c.begun.ensures.status;
       first = λ fault is. absurd (are.first fault is);
-      second = λ fault tells is. absurd (are.second fault tells is);
+      second = λ fault parses is. absurd (are.second fault parses is);
       unchanged = c.begun.ensures.unchanged;
       statuses = statuses _ _ _ c.in-Ok.loaded are _ c.begun.ensures.status;
     }
@@ -31,9 +31,9 @@ returns-in-Err c =
       never_wrong = λ good. absurd (omega (arith, good, status_is, bounds.0));
       judged = λ small. absurd (omega (arith, small, status_is, bounds.0));
       fault = λ three. (c.in-Err.fault, record { right = are.fault; status = sym status_is ∙ three });
-      only = λ p tell. inl (status_is ∙ ap status_of (are.only p tell));
+      only = λ p parse. inl (status_is ∙ ap status_of (are.only p parse));
       first = λ fault is. omega (arith, status_is, bounds.0);
-      second = λ fault tells is. omega (arith, status_is, bounds.0);
+      second = λ fault parses is. omega (arith, status_is, bounds.0);
       unchanged = λ no. refl;
       statuses = (omega (arith, status_is, bounds.1), λ two. omega (arith, two, status_is, bounds.0));
     }

@@ -3,8 +3,8 @@ use Rattle.command_answers.proofs.bound_answers.bounds_answer.Goals as goal
 
 pub returns : goal.returns
 returns g c = record {
-  came = Ok c.in_ok-both.both;
+  came = Ok c.in_ok-parsed.parsed;
   mid = c.read_inputs.new.texts;
-  is = rw (← c.in_ok-both.was) c.read_inputs.ensures;
+  is = rw (← c.in_ok-parsed.was) c.read_inputs.ensures;
   goes_on = c.named_bounded.ensures;
 }

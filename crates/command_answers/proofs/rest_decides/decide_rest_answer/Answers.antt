@@ -3,8 +3,8 @@ use Rattle.command_answers.proofs.rest_decides.decide_rest_answer.Goals as goal
 
 pub returns : goal.returns
 returns g c = record {
-  came = Ok c.in_ok-both.both;
+  came = Ok c.in_ok-parsed.parsed;
   mid = c.read_inputs.new.texts;
-  is = rw (← c.in_ok-both.was) c.read_inputs.ensures;
-  goes_on = rw (← c.in_ok-both-2.ensures) c.both_rest_decided.ensures;
+  is = rw (← c.in_ok-parsed.was) c.read_inputs.ensures;
+  goes_on = rw (← c.in_ok-parsed-2.ensures) c.parsed_rest_decided.ensures;
 }

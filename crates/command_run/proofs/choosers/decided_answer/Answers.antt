@@ -3,9 +3,9 @@ use Rattle.command_run.proofs.Choosing.{ahead_asked, plan_asked}
 use Rattle.command_run.proofs.choosers.decided_answer.Goals as goal
 
 pub returns-in-Some : goal.returns-in-Some
-returns-in-Some g c = ahead_asked (λ at pair names log. Decides g.T.Texts.gives c.args.aim at pair names log c.args.texts.now c.rest_decision_answer.result c.rest_decision_answer.new.texts)
-    _ _ _ _ _ _ _ _ _ c.ahead.ensures.at c.ahead.ensures.pair c.ahead.ensures.names c.ahead.ensures.log c.in-Some.ensures c.rest_decision_answer.ensures
+returns-in-Some g c = ahead_asked (λ at inputs names log. Decides g.T.Texts.gives c.args.aim at inputs names log c.args.texts.now c.rest_decision_answer.result c.rest_decision_answer.new.texts)
+    _ _ _ _ _ _ _ _ _ c.ahead.ensures.at c.ahead.ensures.inputs c.ahead.ensures.names c.ahead.ensures.log c.in-Some.ensures c.rest_decision_answer.ensures
 
 pub returns-in-None : goal.returns-in-None
-returns-in-None g c = plan_asked (λ pair names log. Decides g.T.Texts.gives c.args.aim c.args.chosen.now.at pair names log c.args.texts.now c.decision_answer.result c.decision_answer.new.texts)
-    _ _ _ _ _ c.files.ensures.pair c.files.ensures.names c.in-None.ensures c.decision_answer.ensures
+returns-in-None g c = plan_asked (λ inputs names log. Decides g.T.Texts.gives c.args.aim c.args.chosen.now.at inputs names log c.args.texts.now c.decision_answer.result c.decision_answer.new.texts)
+    _ _ _ _ _ c.files.ensures.inputs c.files.ensures.names c.in-None.ensures c.decision_answer.ensures

@@ -1,5 +1,5 @@
 use Rattle.command_run.specs.Streams.{errors_of}
-use Rattle.command_run.proofs.Telling.{printed_by}
+use Rattle.command_run.proofs.Printing.{printed_by}
 use Rattle.command_run.proofs.ending.print_line.Goals as goal
 
 pub returns-clause-printed : goal.returns-clause-printed

@@ -5,5 +5,5 @@ use Rattle.command_run.proofs.improvers.better_answer.Goals as goal
 pub returns : goal.returns
 returns g c =
     let alone : length c.deref.result.now ≡ 1 = search rules in
-    inl (improves _ c.deref.result.now alone g.T.Texts.gives c.args.rounds c.args.pair.now
+    inl (improves _ c.deref.result.now alone g.T.Texts.gives c.args.rounds c.args.inputs.now
     c.args.texts.now c.improve_answer-answer.result c.improve_answer-answer.new.texts c.improve_answer-answer.ensures)

@@ -8,7 +8,7 @@ use Rattle.command_run.proofs.planners.seek_answer.Goals as goal
 pub returns : goal.returns
 returns g c =
     let planners : c.deref.result.now ≡ c.into_dyn_box.result ∷ c.into_dyn_box-2.result ∷ [] = search rules in
-    inl (seeks g.T.Texts.gives (λ b. (own.own-1.entry b.vtable).1.may b.value) c.deref.result.now c.args.rounds c.args.pair.now c.args.texts.now c.plan_answer.result c.plan_answer.new.texts
+    inl (seeks g.T.Texts.gives (λ b. (own.own-1.entry b.vtable).1.may b.value) c.deref.result.now c.args.rounds c.args.inputs.now c.args.texts.now c.plan_answer.result c.plan_answer.new.texts
     (subst (AreTheTwo _) (sym planners) (
       subst (λ v. (value : (own.own-1.entry v).0.Denot) (shop : JobShop) (round : ℕ) (proposal : Proposal) → (own.own-1.entry v).1.may value shop round proposal)
           (sym c.into_dyn_box.ensures.0) (λ value shop round proposal. tt) c.into_dyn_box.result.value,

@@ -1,7 +1,7 @@
 use Rattle.std.proofs.Common.{◌≡◌, ◌==◌, ◌&&◌, if◌then◌else◌, ℕ, List, Bool, Option, IfSome, ap, sym, ◌∙◌, subst}
 use Rattle.command_run.specs.Streams.{Devices}
 use Rattle.command_run.specs.Logs.{IsHistoryOfLog, is_driven}
-use Rattle.command_run.specs.Program.{kept_log_in, protocol_in, pair_in, starts_again, status_by}
+use Rattle.command_run.specs.Program.{kept_log_in, protocol_in, inputs_in, starts_again, status_by}
 use Rattle.command_run.proofs.Choosing.{history_of_path, logged}
 use Rattle.command_run.proofs.Endings.{own_or}
 use Rattle.command_run.proofs.Keepers.{kept_ends}
@@ -12,8 +12,8 @@ use Rattle.command_run.proofs.program.drive_logged.Goals as goal
 pub logged_answer-outcome-requires-clause-history : goal.logged_answer-outcome-requires-clause-history
 logged_answer-outcome-requires-clause-history g c =
     let chosen = c.args.chosen.now in
-    rw (c.pair-pair.ensures, c.protocol-protocol.ensures)
-    (subst (λ (d : Devices g.row.T.Denot). IfSome g.B.InitialState.before (IsHistoryOfLog g.T.Texts.gives d.folder (pair_in chosen) c.args.path.now (protocol_in chosen) chosen.at d.texts d.streams.output.written)) (sym c.devices.view_is)
+    rw (c.inputs-inputs.ensures, c.protocol-protocol.ensures)
+    (subst (λ (d : Devices g.row.T.Denot). IfSome g.B.InitialState.before (IsHistoryOfLog g.T.Texts.gives d.folder (inputs_in chosen) c.args.path.now (protocol_in chosen) chosen.at d.texts d.streams.output.written)) (sym c.devices.view_is)
     (history_of_path g.T.Texts.gives chosen c.args.devices c.args.path.now g.B.InitialState.before c.requires.kept c.requires.known))
 
 pub returns : goal.returns
@@ -30,8 +30,8 @@ returns g c =
         is = record {
           outcome = c.logged_answer-outcome.result.outcome;
           mid = c.logged_answer-outcome.result.streams;
-          runs = logged g.T.Texts.gives c.args.chosen.now _ _ c.logged_answer-outcome.result.outcome c.logged_answer-outcome.result.streams run.end c.args.path.now c.pair-pair.result c.protocol-protocol.result c.requires.kept
-              c.pair-pair.ensures c.protocol-protocol.ensures run.is.1;
+          runs = logged g.T.Texts.gives c.args.chosen.now _ _ c.logged_answer-outcome.result.outcome c.logged_answer-outcome.result.streams run.end c.args.path.now c.inputs-inputs.result c.protocol-protocol.result c.requires.kept
+              c.inputs-inputs.ensures c.protocol-protocol.ensures run.is.1;
           input = c.end-own.ensures.input;
           own = c.end-own.result;
           ends = kept_ends c.args.chosen.now c.args.path.now c.logged_answer-outcome.result.outcome _ _ _ _ c.end-own.result c.requires.kept c.end-own.ensures.ends;

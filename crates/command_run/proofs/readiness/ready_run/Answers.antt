@@ -19,7 +19,7 @@ returns-in-Ok-Ok g c =
       drives = subst (λ (s : Result PlannedShop ShapeFault). DrivesShaped (g.L.Logs.folder c.args.logs.now) (g.L.Logs.folder c.ready_shaped.new.logs) asked.path.now asked.start asked.protocol asked.at (Ok s) step)
           (sym c.in-Ok-Ok.field-0-is) is;
     })
-    (λ output known had. had c.in-Ok-Ok.shaped mid (subst (λ (s : Result PlannedShop ShapeFault). Shapes g.T.Texts.gives c.args.pair.now c.args.texts.now (Ok s) mid) c.in-Ok-Ok.field-0-is c.in-Ok-Ok.ensures))
+    (λ output known had. had c.in-Ok-Ok.shaped mid (subst (λ (s : Result PlannedShop ShapeFault). Shapes g.T.Texts.gives c.args.inputs.now c.args.texts.now (Ok s) mid) c.in-Ok-Ok.field-0-is c.in-Ok-Ok.ensures))
 
 pub returns-in-Ok-Err : goal.returns-in-Ok-Err
 returns-in-Ok-Err g c =

@@ -14,8 +14,8 @@ returns g c =
       changes = changes;
       are = subst (λ (some : List Change). AreChangesOf c.args.asked.now some) (sym c.as_slice-changes.ensures.value) c.in_ok-add_changes.ensures.are;
       runs =
-          subst (λ (prints : Revised). RunsRevise g.T.Texts.gives prints c.args.at changes (values_asked c.args.asked.now) c.args.pair.now c.args.log.now c.args.texts.now c.revise_answer.result c.revise_answer.new.texts)
+          subst (λ (prints : Revised). RunsRevise g.T.Texts.gives prints c.args.at changes (values_asked c.args.asked.now) c.args.inputs.now c.args.log.now c.args.texts.now c.revise_answer.result c.revise_answer.new.texts)
           c.printed_for-prints.ensures
-          (subst (λ (values : List (List ℕ)). RunsRevise g.T.Texts.gives c.printed_for-prints.result c.args.at changes values c.args.pair.now c.args.log.now c.args.texts.now c.revise_answer.result c.revise_answer.new.texts)
+          (subst (λ (values : List (List ℕ)). RunsRevise g.T.Texts.gives c.printed_for-prints.result c.args.at changes values c.args.inputs.now c.args.log.now c.args.texts.now c.revise_answer.result c.revise_answer.new.texts)
           texts c.revise_answer.ensures);
     })

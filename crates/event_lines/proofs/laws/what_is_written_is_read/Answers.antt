@@ -1,5 +1,5 @@
 use Rattle.event_lines.proofs.WrittenWords.{what_is_written_is_read, numbered_lines_are_lines}
-use Rattle.event_lines.proofs.Telling.{written_entries_parse, others_parse_none}
+use Rattle.event_lines.proofs.EntryParses.{written_entries_parse, others_parse_none}
 use Rattle.event_lines.proofs.laws.what_is_written_is_read.Goals as goal
 
 pub returns-clause-words : goal.returns-clause-words

@@ -1,6 +1,6 @@
 use Rattle.plan_decide.specs.Settings.{case_in}
 use Rattle.plan_decide.proofs.Kepts.{rooted}
-use Rattle.plan_decide.proofs.Telling.{alone_more, alone_passed}
+use Rattle.plan_decide.proofs.Collecting.{alone_more, alone_passed}
 use Rattle.plan_decide.proofs.alone.add_alone.Goals as goal
 
 pub returns-then-not-is_never_in_time : goal.returns-then-not-is_never_in_time

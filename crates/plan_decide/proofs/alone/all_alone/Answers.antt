@@ -1,5 +1,5 @@
 use Rattle.plan_decide.specs.Settings.{case_in}
-use Rattle.plan_decide.proofs.Telling.{alone_none}
+use Rattle.plan_decide.proofs.Collecting.{alone_none}
 use Rattle.plan_decide.proofs.alone.all_alone.Goals as goal
 
 pub loop-job-init : goal.loop-job-init

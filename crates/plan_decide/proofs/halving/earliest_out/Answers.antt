@@ -1,6 +1,6 @@
 use Rattle.std.proofs.Common.{inl, inr, refl, sym, ap, subst, ◌∙◌}
 use Rattle.plan_decide.specs.declared.aim.Objective.TheVariants.{Makespan, Leaving}
-use Rattle.plan_decide.specs.Objectives.{IsLeast}
+use Rattle.plan_decide.specs.Objectives.{IsLeastValue}
 use Rattle.plan_decide.specs.Settings.{case_in}
 use Rattle.plan_decide.proofs.Bounded.{bound_least}
 use Rattle.plan_decide.proofs.Kepts.{rooted, gone_setting}
@@ -14,8 +14,8 @@ returns-then-is_waiting c =
     let root = rooted s.past s.cell.plan s.cell.cell c.requires.set in
     let waits = sym c.is_waiting.ensures ∙ c.if-is_waiting.true in
     record {
-      leaving = subst (IsLeast t (Leaving j)) (sym c.bound_of_job.ensures) (bound_least t (Leaving j) j root c.requires.job waits (inr refl));
-      makespan = subst (IsLeast t Makespan) (sym c.bound_of_job.ensures) (bound_least t Makespan j root c.requires.job waits (inl refl));
+      leaving = subst (IsLeastValue t (Leaving j)) (sym c.bound_of_job.ensures) (bound_least t (Leaving j) j root c.requires.job waits (inr refl));
+      makespan = subst (IsLeastValue t Makespan) (sym c.bound_of_job.ensures) (bound_least t Makespan j root c.requires.job waits (inl refl));
     }
 
 pub returns-else-is_waiting : goal.returns-else-is_waiting
@@ -26,6 +26,6 @@ returns-else-is_waiting c =
     let not = sym c.is_waiting.ensures ∙ c.if-is_waiting.false in
     let left = ap (λ state. state.since) c.job_state.ensures in
     record {
-      leaving = subst (IsLeast t (Leaving j)) (sym left) (gone_setting s.past t s.cell.plan s.cell.cell (Leaving j) j refl refl c.requires.job not (inr refl));
-      makespan = subst (IsLeast t Makespan) (sym left) (gone_setting s.past t s.cell.plan s.cell.cell Makespan j refl refl c.requires.job not (inl refl));
+      leaving = subst (IsLeastValue t (Leaving j)) (sym left) (gone_setting s.past t s.cell.plan s.cell.cell (Leaving j) j refl refl c.requires.job not (inr refl));
+      makespan = subst (IsLeastValue t Makespan) (sym left) (gone_setting s.past t s.cell.plan s.cell.cell Makespan j refl refl c.requires.job not (inl refl));
     }

@@ -1,7 +1,7 @@
 use Rattle.std.proofs.Common.{arith}
 use Rattle.plan_decide.specs.declared.decided.Excluded.TheVariants.{Pair}
 use Rattle.plan_decide.specs.Settings.{case_in}
-use Rattle.plan_decide.proofs.Telling.{pair_exclusion, pair_more, pair_passed, adds_none, adds_one}
+use Rattle.plan_decide.proofs.Collecting.{pair_exclusion, pair_more, pair_passed, adds_none, adds_one}
 use Rattle.plan_decide.proofs.pairs.add_pair.Goals as goal
 
 pub returns-then-not-is_in_doubt-clause-listed : goal.returns-then-not-is_in_doubt-clause-listed

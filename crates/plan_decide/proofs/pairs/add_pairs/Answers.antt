@@ -1,4 +1,4 @@
-use Rattle.plan_decide.proofs.Telling.{adds_none, adds_on}
+use Rattle.plan_decide.proofs.Collecting.{adds_none, adds_on}
 use Rattle.plan_decide.proofs.pairs.add_pairs.Goals as goal
 
 pub loop-one-init : goal.loop-one-init

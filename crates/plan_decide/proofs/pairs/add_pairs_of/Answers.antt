@@ -1,6 +1,6 @@
 use Rattle.std.proofs.Common.{zero-le}
 use Rattle.plan_decide.specs.Settings.{case_in}
-use Rattle.plan_decide.proofs.Telling.{adds_none, adds_on, pair_passed, row_passed}
+use Rattle.plan_decide.proofs.Collecting.{adds_none, adds_on, pair_passed, row_passed}
 use Rattle.plan_decide.proofs.pairs.add_pairs_of.Goals as goal
 
 pub loop-other-init : goal.loop-other-init

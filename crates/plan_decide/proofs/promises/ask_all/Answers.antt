@@ -1,7 +1,7 @@
 use Rattle.std.proofs.Common.{arith, refl, vec_len}
 use Rattle.plan_decide.specs.Settings.{case_in}
 use Rattle.plan_decide.specs.Cases.{job_count}
-use Rattle.plan_decide.proofs.Telling.{some_listed, none_listed, none_alone, alone_before, exclusions_with}
+use Rattle.plan_decide.proofs.Collecting.{some_listed, none_listed, none_alone, alone_before, exclusions_with}
 use Rattle.plan_decide.proofs.promises.ask_all.Goals as goal
 
 pub add_pairs-requires-clause-listed : goal.add_pairs-requires-clause-listed

@@ -1,6 +1,6 @@
 use Rattle.std.proofs.Common.{arith, vec_len}
 use Rattle.plan_decide.specs.Settings.{case_in}
-use Rattle.plan_decide.proofs.Telling.{some_listed, none_listed, nothing_before, exclusions_some, exclusions_one}
+use Rattle.plan_decide.proofs.Collecting.{some_listed, none_listed, nothing_before, exclusions_some, exclusions_one}
 use Rattle.plan_decide.proofs.promises.exclusions.Goals as goal
 
 pub add_pairs-requires-clause-listed : goal.add_pairs-requires-clause-listed
