@@ -17,7 +17,8 @@ again, as a service is. In between the floor goes on.
 With `--scrap J@T` part J is scrapped at moment T, or cancelled where it is still outside; with `--down M@T` machine M does no more from then
 on; with `--add ROUTE@T` one more job comes, whose machines and times are ROUTE; with `--break M UNTIL` machine M stands still until moment
 UNTIL, from the first part on that it gets before. The gateway is told, and hands the run over to a plan for what has changed, in mid-run, and
-it may be killed within that too. A time unit lasts longer then, as the search for a plan takes some time.
+it may be killed within that too. A change that cellplan refuses is printed with its answer, and the run goes on by the old plan. A time unit
+lasts longer then, as the search for a plan takes some time.
 
 The gateway asks for the state behind each batch of reports, so it has no model of the cell; a floor with many reports a second follows the
 lines itself. It sends the next order once the floor has confirmed that the one before is carried out, so a copy that comes late finds its part
@@ -27,7 +28,7 @@ own.
 
 Each order is checked as it is carried out: the part stands where it is to be fetched and is finished, and where it goes no part is, and
 nothing is cleaned. At the end LOG has each move that was made, once, and no other; it has no report of what hasn't ended; and `cellplan audit`
-keeps it. What is wrong ends the program with status 1.
+keeps it. What is wrong ends the program with status 1, and a run that cellplan doesn't begin with what it says, and its status.
 """
 import argparse, collections, heapq, json, multiprocessing, os, random, re, select, shutil, signal, socket, subprocess, sys, tempfile, time, traceback
 
@@ -63,7 +64,7 @@ class FieldBus:
 
 class Gateway:
     """Drives one run by cellplan. `folder` has the log, and the texts by which it was driven, shop-N.txt and plan-N.toml, none of which is ever
-    written anew. The first line of a plan says after how many changes it is."""
+    written anew. The first line of a plan says after how many changes it is, and which machines are down by it."""
 
     def __init__(self, program, folder, bus):
         self.program, self.folder, self.bus = program, folder, bus
@@ -101,29 +102,35 @@ class Gateway:
 
     def hand_over(self):
         """Hands the run over to a plan for the next change. All that was ordered is carried out, so each part is where the log has it, and
-        nothing is reported meanwhile. What has ended is kept by the floor, and reported to the new plan."""
+        nothing is reported meanwhile. What has ended is kept by the floor, and reported to the new plan. For a change that is refused the old
+        plan is written once more, with a first line that counts the change."""
         self.close()
         state, texts = self.bus.newest, self.texts(self.number)
         change, now = state["changes"][self.changes], str(max(int(state["now"]), self.last))
-        down = [word for earlier in state["changes"][:self.changes] if earlier[0] == "--down" for word in earlier]
-        words = ["revise", *texts, self.log, "--at", now, *change, *down]
-        plan = self.answer(*words)
-        if plan.startswith("change refused "):  # the run goes on as before
-            file, plan = (open(path).read() for path in texts)
-        else:
-            file = self.answer(*words, "--file")
+        words = ["revise", *texts, self.log, "--at", now, *change, *self.down]
+        revised, down = self.answer(*words), self.down
+        is_refused = revised.startswith("change refused ")
         self.number = self.plans()
         file_path, plan_path = self.texts(self.number)
-        written(file_path, file)
-        written(plan_path + ".last", plan)
-        plan = self.answer("improve", file_path, plan_path + ".last", "--after", self.log, "--at", now, "--rounds", "1")
-        written(plan_path, "# changes %d\n%s" % (self.changes + 1, plan))
-        print("at %s, %s: %s" % (now, " ".join(change), self.answer("check", file_path, plan_path, "--after", self.log, "--at", now)), end="", flush=True)
+        if is_refused:
+            file, plan = (open(path).read() for path in texts)
+            written(file_path, file)
+        else:
+            written(file_path, self.answer(*words, "--file"))
+            written(plan_path + ".last", revised)
+            plan = self.answer("improve", file_path, plan_path + ".last", "--after", self.log, "--at", now, "--rounds", "1")
+            if change[0] == "--down":
+                down = down + change
+        written(plan_path, "# changes %s\n%s" % (" ".join([str(self.changes + 1), *down]), plan))
+        said = revised + "the run goes on by the old plan\n"
+        if not is_refused:
+            said = self.answer("check", file_path, plan_path, "--after", self.log, "--at", now)
+        print("at %s, %s: %s" % (now, " ".join(change), said), end="", flush=True)
         self.start("--hand-over", "--at", now)
 
     def start(self, *words):
         """Starts cellplan, and reads what the log has. Which of its orders are carried out, the floor says."""
-        self.changes = self.changes_of(self.number)
+        self.changes, self.down = self.noted(self.number)
         words = [self.program, "drive", *self.texts(self.number), "--log", self.log, "--lines", "2", *words]
         self.cellplan = subprocess.Popen(words, stdin=subprocess.PIPE, stdout=subprocess.PIPE, text=True)
         self.orders = collections.deque()  # each with its job and how many moves that has made once it is carried out
@@ -174,8 +181,11 @@ class Gateway:
 
     def wanted(self):
         """The number of the texts by which the log was driven last: its last line of a plan has their digits."""
-        with open(self.log, errors="replace") as log:
-            digits = re.findall(r"^unfinished (plan [0-9a-f]{16} shop [0-9a-f]{16})\n", log.read(), re.MULTILINE)
+        try:
+            with open(self.log, errors="replace") as log:
+                digits = re.findall(r"^unfinished (plan [0-9a-f]{16} shop [0-9a-f]{16})\n", log.read(), re.MULTILINE)
+        except OSError as why:  # its disk may not be mounted, so a person looks
+            sys.exit("floor: the log can't be read: %s" % why)
         for number in reversed(range(self.plans() if digits else 0)):
             if self.answer("digest", *self.texts(number)).split("\n")[0] == digits[-1]:
                 return number
@@ -188,11 +198,11 @@ class Gateway:
     def texts(self, number):
         return [os.path.join(self.folder, name % number) for name in ("shop-%d.txt", "plan-%d.toml")]
 
-    def changes_of(self, number):
-        """After how many changes the texts are."""
+    def noted(self, number):
+        """After how many changes the texts are, and the words for the machines that are down by them, which each later `revise` needs again."""
         with open(self.texts(number)[1]) as plan:
-            found = re.match(r"# changes (\d+)\n", plan.readline())
-        return int(found[1]) if found else 0
+            found = re.match(r"# changes (\d+)((?: --down \d+)*)\n", plan.readline())
+        return (int(found[1]), found[2].split()) if found else (0, [])
 
     def answer(self, *words):
         """The answer of a command that needs no input."""
@@ -338,7 +348,7 @@ class Floor:
         while self.to_come and self.to_come[0][0] <= self.now():
             _, (kind, value) = self.to_come.popleft()
             self.changes.append([kind, value])
-            if kind == "--scrap" and self.places[int(value)] == "out":
+            if kind == "--scrap" and int(value) < len(self.places) and self.places[int(value)] == "out":
                 self.ended.setdefault("arrive " + value, int(self.now()))
 
     def carry(self, number, job, source, target):
@@ -361,7 +371,7 @@ class Floor:
 
     def is_free(self, number, target):
         """Whether a part may come there: outside, or to a machine that holds none, isn't cleaned, and isn't down by these texts."""
-        is_down = ["--down", target] in self.changes[:self.gateway.changes_of(number)]
+        is_down = target in self.gateway.noted(number)[1]
         return target == "out" or not (target in self.places or target in self.cleaning or is_down)
 
 
@@ -371,18 +381,26 @@ class Run:
     def __init__(self, options, rng, folder):
         self.options, self.rng = options, rng
         self.gateway = Gateway(options.program, folder, None)
-        for path, text in zip(self.gateway.texts(0), (options.instance, options.plan)):
-            shutil.copyfile(text, path)
-        self.floor = Floor(options, rng, self.gateway)
         self.process, self.starts = None, 0  # the gateway, and when it starts
-        self.kills = sorted(rng.randint(0, self.floor.driven_by(0).totals()[0]) for _ in range(options.kills))  # after how many ends
         self.moments, self.heard = [], 0  # when something is killed, and after how many changes that was chosen
         self.before, self.since = None, 0  # what had happened, and since when nothing has
 
+    def begin(self):
+        """What a person does: the run is begun, or what cellplan says against it is printed, and the program ends with its status."""
+        for path, text in zip(self.gateway.texts(0), (self.options.instance, self.options.plan)):
+            shutil.copyfile(text, path)
+        words = ["drive", *self.gateway.texts(0), "--log", self.gateway.log, "--new"]
+        begun = subprocess.run([self.gateway.program, *words], stdin=subprocess.DEVNULL, stdout=subprocess.PIPE, text=True)
+        if not begun.stdout.startswith("unfinished "):
+            print(begun.stdout, end="", flush=True)
+            sys.exit(begun.returncode)
+
     def go(self):
         """The run: a person begins it, and the gateway drives it, whatever is killed."""
-        words = ["drive", *self.gateway.texts(0), "--log", self.gateway.log, "--new"]
-        subprocess.run([self.gateway.program, *words], stdin=subprocess.DEVNULL, stdout=subprocess.DEVNULL)
+        self.begin()
+        self.floor = Floor(self.options, self.rng, self.gateway)
+        ends = self.floor.driven_by(0).totals()[0]
+        self.kills = sorted(self.rng.randint(0, ends) for _ in range(self.options.kills))  # after how many ends something is killed
         while self.process is None or self.process.exitcode != 0:
             self.floor.goes_on()
             self.is_started()
@@ -474,6 +492,8 @@ def change(kind):
 
     def read(text):
         value, _, moment = text.rpartition("@")
+        if kind != "--add" and not re.fullmatch("[0-9]{1,9}", value):
+            raise argparse.ArgumentTypeError("%r has no number of 1 to 9 digits before an @" % text)
         return float(moment), [kind, value]
 
     return read

@@ -27,6 +27,7 @@ seed=$SLURM_ARRAY_TASK_ID
 shift 3
 mkdir -p "$folder" || exit 5
 [ "$plan" -ef "$folder/seed-$seed.toml" ] || rm -f "$folder/seed-$seed.toml"
+for text in "$file" "$plan"; do [ -r "$text" ] || { echo "seeds.sbatch: $text can't be read" >&2; exit 5; }; done
 "${CELLPLAN:-cellplan}" improve "$file" "$plan" --rounds 2 --seed "$seed" "$@" >"$folder/seed-$seed.part"
 status=$?
 # status 1 is that of a late plan, and of a line that begins with the fault of a PLAN that isn't well shaped

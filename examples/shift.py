@@ -2,7 +2,8 @@
 """Makes an instance, a plan and names for cellplan of a table, as a spreadsheet exports it; and a table of the lines of `schedule`.
 
 shift.py TABLE [--begin HH:MM]   writes TABLE without its ending and with .txt, .toml and .names.toml, and says what comes next
-shift.py --back [LINES]          reads the lines of `schedule` (the standard input without LINES), and prints a table
+shift.py --back [LINES]          reads the lines of `schedule` (the standard input without LINES), and prints a table; of a plan that isn't
+                                 accepted the first line goes to the standard error, and the status is 1
 
 TABLE is CSV, with commas or semicolons: a heading, and then a row for each operation, the rows of a job in the order of its route:
 
@@ -17,7 +18,7 @@ orders yet: `improve` and `plan` find them. The clock begins with the earliest r
 
 In names blanks become hyphens, and what cellplan takes for no name (a number, `out`, `or`, `fewer`) gets a hyphen in front.
 """
-import argparse, csv, json, os, re, sys
+import argparse, csv, json, os, re, shlex, sys
 
 PROMISED_TO_NOBODY = 10**12
 COLUMNS = ["job", "machine", "minutes", "release", "due", "cleaning"]
@@ -129,34 +130,47 @@ def make(path, begin):
     clock = begin % 1440
     text = lambda names: json.dumps(names, ensure_ascii=False)
     written(base + ".names.toml", "jobs = " + text(list(routes)), "machines = " + text(machines), 'begin = "%02d:%02d"' % divmod(clock, 60))
-    print("cellplan improve %s.txt %s.toml > %s.best.toml" % (base, base, base))
+    print("cellplan improve %s %s > %s" % tuple(shlex.quote(base + each) for each in (".txt", ".toml", ".best.toml")))
+
+
+def words_of(form, line):
+    """The words of a line of this form, in which W stands for a word: all but a space or a tab, as a name may have other blanks."""
+    found = re.fullmatch(form.replace("W", r"([^ \t]+)"), line)
+    return found and found.groups("")
+
+
+def row_of(line):
+    """The row of a line of `schedule`, nothing where it has none: a visit, a cleaning (without a job) or an arrival (without a machine). A job
+    that is gone has only its leaving, one that has arrived and is outside no moment."""
+    visit = words_of("job W on machine W (?:from|since) W(?: to W(?: by W)?| done) leaves W", line)
+    cleaned = words_of("machine W cleaned (?:from|since) W to W(?: by W)?", line)
+    arrives = words_of("job W arrives W(?: by W)?", line)
+    left = words_of("job W left W", line)
+    arrived = words_of("job W has arrived", line)
+    if visit:
+        return list(visit)
+    if cleaned:
+        return ["", *cleaned, ""]
+    if arrives:
+        job, comes, by = arrives
+        return [job, "", comes, comes, by, ""]
+    if left:
+        return [left[0], "", "", "", "", left[1]]
+    return [arrived[0], "", "", "", "", ""] if arrived else None
 
 
 def back(lines):
-    """Prints the lines of `schedule` as a table: visits, cleanings (without a job) and arrivals (without a machine). A job that is gone
-    has only its leaving, one that has arrived and is outside no moment."""
-    table = csv.writer(sys.stdout, lineterminator="\n")
-    table.writerow(["job", "machine", "from", "to", "by", "leaves"])
-    for line in lines:
-        line = line.rstrip("\r\n")
-        visit = re.fullmatch(r"job (\S+) on machine (\S+) (?:from|since) (\S+)(?: to (\S+)(?: by (\S+))?| done) leaves (\S+)", line)
-        cleaned = re.fullmatch(r"machine (\S+) cleaned (?:from|since) (\S+) to (\S+)(?: by (\S+))?", line)
-        arrives = re.fullmatch(r"job (\S+) arrives (\S+)(?: by (\S+))?", line)
-        left = re.fullmatch(r"job (\S+) left (\S+)", line)
-        arrived = re.fullmatch(r"job (\S+) has arrived", line)
-        if visit:
-            job, machine, begins, ends, by, leaves = visit.groups("")
-            table.writerow([job, machine, begins, ends, by, leaves])
-        elif cleaned:
-            machine, begins, ends, by = cleaned.groups("")
-            table.writerow(["", machine, begins, ends, by, ""])
-        elif arrives:
-            job, comes, by = arrives.groups("")
-            table.writerow([job, "", comes, comes, by, ""])
-        elif left:
-            table.writerow([left[1], "", "", "", "", left[2]])
-        elif arrived:
-            table.writerow([arrived[1], "", "", "", "", ""])
+    """Prints the lines of `schedule` as a table, if all are understood. The first one is the line of `check`, unless it was left out: of a
+    plan that isn't accepted it says what is wrong, and the lines of a late plan are printed all the same."""
+    lines = [line.rstrip("\r\n") for line in lines] or ["there are no lines of `schedule`"]
+    verdict = "accepted" if row_of(lines[0]) else lines.pop(0)
+    rows = [row_of(line) for line in lines]
+    if None in rows:
+        raise Refused("this line isn't understood: " + lines[rows.index(None)])
+    if rows:
+        csv.writer(sys.stdout, lineterminator="\n").writerows([["job", "machine", "from", "to", "by", "leaves"], *rows])
+    if not verdict.startswith("accepted"):
+        raise Refused(verdict)
 
 
 def main():
