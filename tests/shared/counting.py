@@ -1,6 +1,6 @@
-"""What the scripts of tests in Python count: what has passed, and what hasn't, which is printed at once. The last line is 'N passed,
-M failed'."""
-import os, sys
+"""What the scripts of tests in Python count: what has passed, what hasn't, and what is skipped; both of these are printed at once. The
+last line is 'N passed, M failed', and ', K skipped' behind it only where something was."""
+import os, shutil, sys
 
 
 def numbers(*defaults):
@@ -11,7 +11,8 @@ def numbers(*defaults):
 
 class Count:
     def __init__(self):
-        self.script, self.passed, self.failed = os.path.basename(sys.argv[0]), 0, 0
+        self.script = os.path.basename(sys.argv[0])
+        self.passed = self.failed = self.skipped = 0
 
     def miss(self, text):
         self.failed += 1
@@ -31,9 +32,18 @@ class Count:
             if count < (least(kind) if callable(least) else least):
                 self.miss("only %d are of the kind %s" % (count, kind))
 
-    def skip(self, what, command):
-        print("skipped %s: there is no command %s" % (what, command))
+    def skip(self, what):
+        """This isn't tried here, and why."""
+        self.skipped += 1
+        print("skipped %s" % what, flush=True)
+
+    def has(self, command, what):
+        """Whether there is this command; else what needs it is skipped."""
+        found = shutil.which(command) is not None
+        if not found:
+            self.skip("%s: there is no command %s" % (what, command))
+        return found
 
     def finish(self):
-        print("%d passed, %d failed" % (self.passed, self.failed))
+        print("%d passed, %d failed%s" % (self.passed, self.failed, ", %d skipped" % self.skipped if self.skipped else ""))
         sys.exit(self.failed > 0)

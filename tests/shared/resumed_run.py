@@ -55,7 +55,7 @@ class Run:
         return count, before, behind
 
     def starts(self):
-        """The words of a process that takes the run up or begins it, what it writes first, and the reports that it is to be sent."""
+        """The words of a process that continues the run or begins it, what it writes first, and the reports that it is to be sent."""
         if self.log is None:
             return ["drive", *self.files, *self.options], [], self.asked
         path = self.written(self.log)
@@ -77,7 +77,7 @@ class Run:
     def closing(self, asked):
         return "unfinished %d" % len(asked) if asked else "done %d" % self.last
 
-    def is_taken_up(self):
+    def is_recovered(self):
         """The log of a `resume` without a report: before its mark it has exactly the events that the torn log has in full."""
         words, first, asked = self.starts()
         status, got = self.ends(words, b"")

@@ -45,10 +45,10 @@ BEGIN {
   }
 }
 
-FNR == 1 { if (NR > 1) tell_places(); file = FILENAME; tokens = 0; comments = 0; quote = "" }
+FNR == 1 { if (NR > 1) print_places(); file = FILENAME; tokens = 0; comments = 0; quote = "" }
 { raw[FNR] = $0; take($0) }
 END {
-  if (NR > 0) tell_places()
+  if (NR > 0) print_places()
   for (key in row_of) if (!(key in asked)) print bounds ":" row_of[key] ": no source asks for this: " text_of[key]
 }
 
@@ -510,7 +510,7 @@ function turn(word, last_word) {
   return word == "," && kind[open] == "match" && pattern[open] == ""
 }
 
-function tell_places(i, word) {
+function print_places(i, word) {
   drop_ghosts()
   open = 0
   kind[0] = bracket[0] = awaited[0] = item = from[0] = into[0] = type[0] = ""
