@@ -18,7 +18,7 @@ abbrev pub report_by : ℕ → ℕ → ℕ → ℕ → Option Ended
 report_by kind job machine at =
     if nat_eq kind 0 then Some (Reported (Arrive job at)) else (if nat_eq kind 1 then Some (Reported (Finish job machine at)) else (if nat_eq kind 2 then Some (Reported (Clean machine at)) else (if nat_eq kind 3 then Some (CleanedAfter machine job at) else None)))
 
--- the number of a reason, from 16 on in the order of the reasons
+-- the number of a reason, from 16 on
 abbrev pub fault_number : ReportFault → ℕ
 fault_number JobOutOfRange = 16
 fault_number MachineOutOfRange = 17

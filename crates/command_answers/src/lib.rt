@@ -3,9 +3,9 @@
 //! What comes of texts belongs to the shop and the plan that they give, and comes whenever they give them, unless
 //! memory runs out. A fault is the instance's first, or the plan's first if the instance gives a shop.
 //!
-//! A command over files asks for the instance's file and reads it, then for the plan's, and if the plan (of `bounds` and
-//! `decide` its numbers) is sound for that of names, where one is given, and then for the log's. The first that can't be had, or gives no instance, no
-//! plan or no names, ends the command with its fault.
+//! A command over files asks for the instance's file and reads it, then for the plan's, and if the plan (of `bounds`
+//! and `decide` its numbers) is sound for that of names, where one is given, and then for the log's. The first that
+//! can't be had, or gives no instance, no plan or no names, ends the command with its fault.
 #![tactic(auto)]
 
 mod answer;

@@ -10,11 +10,11 @@ const MAX_CHOICES: u32 = 100_000;
 
 /// A planner that simulates the cell at nominal times, as if all releases were 0 and no machine had to be cleaned. At
 /// each choice the first job that can move does so, and if none can, it waits for the next operation to end. No move is
-/// made after which it finds no safe sequence of moves for all jobs in the cell. In round `r` the choice begins at job `r`, with job 0
-/// after the last, and in odd rounds no more jobs are let in once more than half of the machines hold one.
-/// Looking ahead makes 100,000 choices at most. At the limit it only empties the cell by the known moves; if jobs are
-/// then still outside, it proposes no plan. By its clause it may propose anything:
-/// it is only proved that it is safe and ends.
+/// made after which it finds no safe sequence of moves for all jobs in the cell. In round `r` the choice begins at job
+/// `r`, with job 0 after the last, and in odd rounds no more jobs are let in once more than half of the machines hold
+/// one. Looking ahead makes 100,000 choices at most. At the limit it only empties the cell by the known moves; if jobs
+/// are then still outside, it proposes no plan. By its clause it may propose anything: it is only proved that it is
+/// safe and ends.
 #[derive(Clone, Copy, Debug, Default)]
 pub struct GreedyProposer;
 

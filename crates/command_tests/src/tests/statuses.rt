@@ -10,7 +10,7 @@ use plan_seek::SeekFault;
 use plan_text::PlanFault;
 use plan_verifier::{Verdict, Why};
 use run_log::AuditFault;
-use shop_base::{Shaped, ShopFault};
+use shop_base::{ShapeFault, Shaped, ShopFault};
 use std::alloc::{AllocError, Global};
 use std::fmt::Display;
 use std::test::Fail;
@@ -70,6 +70,59 @@ fn faults_have_a_text_and_a_status(rt: HostRuntime) -> Result<(), Fail> {
     assert!(rt; of_texts(rt.alloc())? == [true; 5]);
     assert!(rt; of_devices(rt.alloc())? == [true; 6]);
     assert!(rt; are_written(rt.alloc())? == [true; 5]);
+    Ok(())
+}
+
+/// The faults of a plan's shape, and their texts.
+const SHAPES: &[(ShapeFault, &str)] = &[
+    (ShapeFault::ReleaseCount, "ReleaseCount"),
+    (ShapeFault::BudgetCount, "BudgetCount"),
+    (ShapeFault::OrderCount, "OrderCount"),
+    (ShapeFault::CleanCount, "CleanCount"),
+    (
+        ShapeFault::ReleaseTooLarge { job: 7 },
+        "ReleaseTooLarge job 7",
+    ),
+    (
+        ShapeFault::BudgetTooLarge { job: 7 },
+        "BudgetTooLarge job 7",
+    ),
+    (
+        ShapeFault::CleanTooLarge { machine: 8 },
+        "CleanTooLarge machine 8",
+    ),
+    (
+        ShapeFault::JobOutOfRange {
+            machine: 8,
+            place: 9,
+        },
+        "JobOutOfRange machine 8 place 9",
+    ),
+    (
+        ShapeFault::NotOnRoute {
+            machine: 8,
+            place: 9,
+        },
+        "NotOnRoute machine 8 place 9",
+    ),
+    (
+        ShapeFault::JobTwice {
+            machine: 8,
+            place: 9,
+        },
+        "JobTwice machine 8 place 9",
+    ),
+    (
+        ShapeFault::JobMissing { machine: 8, job: 7 },
+        "JobMissing machine 8 job 7",
+    ),
+];
+
+#[test]
+fn faults_of_a_shape_have_a_text(rt: HostRuntime) -> Result<(), Fail> {
+    for &(fault, text) in SHAPES {
+        assert!(rt; says(rt.alloc(), &fault, text)?, "{text}");
+    }
     Ok(())
 }
 
