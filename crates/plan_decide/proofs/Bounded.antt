@@ -1,5 +1,5 @@
 -- What is known of all plans of a case: they lead to one cell, are out at their jobs' bounds at the earliest, and what each value says.
-use Rattle.std.proofs.Common.{◌≡◌, ℕ, max, zero, suc, ◌+◌, ◌-◌, ◌<◌, ◌≤◌, ◌⊎◌, inl, inr, Bool, true, false, nat_le, List, [], ◌∷◌, ◌++◌, drop, length, slice_index, Option, None, Some, arith, refl, sym, ap, subst, ◌∙◌, drop_of_length-le, le_refl, true≢false}
+use Rattle.std.proofs.Common.{◌≡◌, ℕ, max, zero, suc, ◌+◌, ◌-◌, ◌<◌, ◌≤◌, ◌⊎◌, inl, inr, true, false, List, [], ◌∷◌, ◌++◌, drop, length, arith, refl, sym, ap, subst, ◌∙◌, drop_of_length-le, true≢false}
 use Rattle.std.proofs.lemmas.Bool.{cases_lt, leb-true, le-leb}
 use Rattle.std.proofs.lemmas.List.Sums.{sum_by-drop_more}
 use Rattle.shop_base.specs.declared.node.Node.{Node}
@@ -18,7 +18,7 @@ use Rattle.run_log.specs.Audits.{ParseAsRun}
 use Rattle.plan_verifier.specs.Accepted.{HasNoCycle}
 use Rattle.plan_verifier.specs.Held.{later_than}
 use Rattle.plan_verifier.proofs.Tables.{later_is}
-use Rattle.plan_bounds.specs.Bounds.{ShopTimes, times_of, job_bound, route_in}
+use Rattle.plan_bounds.specs.Bounds.{ShopTimes, times_of, job_bound}
 use Rattle.plan_bounds.specs.Makespan.{IsLeastMakespan}
 use Rattle.plan_bounds.specs.declared.makespan.LeastMakespan.{LeastMakespan}
 use Rattle.plan_bounds.proofs.Bounded.{no_plan_is_sooner-holds}

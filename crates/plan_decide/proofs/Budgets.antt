@@ -7,12 +7,12 @@ use Rattle.shop_base.specs.declared.move_order.Spot.TheVariants.{Out, At}
 use Rattle.shop_base.specs.declared.move_order.MoveOrder.{MoveOrder}
 use Rattle.shop_base.specs.declared.report.Report.TheVariants.{Arrive, Finish, Clean}
 use Rattle.shop_base.specs.Plan.{PlannedShop, jobs, Visits, Stands, IsOrder, IsWellShaped}
-use Rattle.shop_base.specs.Cell.{Cell, made, start, IsOn, IsGone}
+use Rattle.shop_base.specs.Cell.{Cell, made, start, IsOn}
 use Rattle.shop_base.specs.Activity.{Activity, Arrival, Operation, Cleaning, GoesOn}
 use Rattle.shop_base.specs.Report.{ended}
-use Rattle.shop_base.specs.Move.{CanLeave, CanEnter, CanMove, CanObey, KeepsPlan, source, target, spot_after, after_leaving, with_entry, with_moved}
-use Rattle.shop_base.specs.Run.{Event, Reported, Moved, CanHappen, AreEvents, IsRun, after, after_all, ends_in}
-use Rattle.shop_base.specs.Graph.{leaving, Arc, job_arc, blocking_arc, ArcsLead, Path, begins, follows, IsSimpleCycle, IsNode}
+use Rattle.shop_base.specs.Move.{CanLeave, CanEnter, source, target, spot_after, after_leaving, with_entry, with_moved}
+use Rattle.shop_base.specs.Run.{Event, Reported, Moved, CanHappen, AreEvents, after, after_all}
+use Rattle.shop_base.specs.Graph.{leaving, Arc, job_arc, blocking_arc, ArcsLead, Path, begins, follows, IsSimpleCycle}
 use Rattle.shop_base.specs.Ahead.{HoldsUp, PathAhead, now, held, onward}
 use Rattle.cell_tables.specs.Events.{events_of}
 use Rattle.cell_tables.specs.Moving.{IsSpotOf}
@@ -20,13 +20,11 @@ use Rattle.cell_tables.specs.declared.entry.Entry.{Entry}
 use Rattle.cell_tables.specs.declared.entry.Entry.TheVariants.{Report as ReportEntry, Order as OrderEntry}
 use Rattle.event_lines.specs.LogLines.{IsEntryOf, LineParses, LinesParse}
 use Rattle.run_log.specs.Audits.{ParseAsRun}
-use Rattle.alt_graph.specs.Solved.{HasCycle}
-use Rattle.plan_verifier.specs.Accepted.{HasNoCycle, IsGreatest, IsMakespan}
+use Rattle.plan_verifier.specs.Accepted.{HasNoCycle, IsGreatest}
 use Rattle.plan_verifier.specs.Rest.{IsGreatestAhead}
 use Rattle.run_log.specs.Present.{IsCellOf}
-use Rattle.plan_decide.specs.declared.aim.Objective.{Objective}
-use Rattle.plan_decide.specs.declared.aim.Objective.TheVariants.{Makespan, Leaving}
-use Rattle.plan_decide.specs.Cases.{Past, nothing, run_to, KeepsPast, IsOutWithin, IsGood, HasValue, IsAccepted, IsMakespanAhead, IsLeavingAhead}
+use Rattle.plan_decide.specs.declared.aim.Objective.TheVariants.{Leaving}
+use Rattle.plan_decide.specs.Cases.{Past, nothing, run_to, KeepsPast, IsOutWithin, HasValue}
 
 -- the plan with these budgets
 abbrev pub rebudgeted : PlannedShop → List ℕ → PlannedShop

@@ -1,18 +1,18 @@
 -- What is listed of promises that can't be kept, as it is collected.
-use Rattle.std.proofs.Common.{◌≡◌, ℕ, ◌+◌, ◌<◌, ◌≤◌, ◌==◌, Bool, true, false, true≢false, eqb-true, List, [], ◌∷◌, ◌++◌, length, Contains, arith, refl, sym, ap, subst, inl, inr, le_refl, ◌⊎◌, ◌∙◌}
-use Rattle.std.proofs.lemmas.Bool.{cases_eq}
-use Rattle.std.proofs.lemmas.List.{length_push}
-use Rattle.std.proofs.lemmas.List.Elements.{All-nil, All-cons, All-push, All-weaker, Contains-append_left, Contains-push}
+use Rattle.std.proofs.Common.{◌≡◌, ◌≢◌, ℕ, ◌+◌, ◌<◌, ◌≤◌, ◌==◌, Bool, true, false, true≢false, eqb-true, List, [], ◌∷◌, ◌++◌, length, All, AllPairs, Contains, arith, refl, sym, ap, subst, inl, inr, ◌⊎◌, ◌∙◌}
+use Rattle.std.proofs.lemmas.Bool.{cases_eq, cases_lt}
+use Rattle.std.proofs.lemmas.List.{get_or_past}
+use Rattle.std.proofs.lemmas.List.Elements.{All-nil, All-cons, All-push, All-weaker, All-contains, Contains-append_left, Contains-push}
 use Rattle.std.proofs.lemmas.List.Kept.{AllPairs-cons}
 use Rattle.plan_decide.specs.declared.decided.Excluded.{Excluded}
 use Rattle.plan_decide.specs.declared.decided.Excluded.TheVariants.{Alone, Pair, Several}
-use Rattle.plan_decide.specs.declared.asked.Asked.TheVariants.{Both}
-use Rattle.plan_decide.specs.Cases.{Case, job_count, budget_in}
+use Rattle.plan_decide.specs.declared.listing.Listing.{Listing}
+use Rattle.plan_decide.specs.declared.standing.Standing.{Standing}
+use Rattle.plan_decide.specs.declared.standing.Standing.TheVariants.{Unpromised, Late, Doubt}
+use Rattle.plan_decide.specs.Cases.{Past, nothing, run_to, Case, job_count, budget_in}
 use Rattle.plan_decide.specs.Promises.{IsPromised}
-use Rattle.plan_decide.specs.Excluding.{AreExcluded, IsNeverInTime, IsInDoubt, IsExclusion, ComesBefore, AreExclusions, NoneIsAlone}
-use Rattle.plan_decide.specs.Asking.{IsImpossible}
-use Rattle.plan_decide.specs.Listed.{AreOrderedExclusions, AreExclusionsBefore, AreAllAlone, AddsExclusions}
-use Rattle.plan_decide.proofs.Limits.{both_excluded}
+use Rattle.plan_decide.specs.Excluding.{AreExcluded, HasPlanFor, AreNeeded, AreNeededUnless, IsNeverInTime, IsInDoubt, IsLateAlone, IsExclusion, ComesBefore, IsSettled, one_alone, other_alone, as_pair, together, IsApart, AreExclusions, NoneIsAlone}
+use Rattle.plan_decide.specs.Listed.{standing_of, exclusions_of, IsStanding, AreStandings, IsPairSettled, IsFrom, AreListedBefore, AreAllAlone, ArePairedTo}
 use Rattle.plan_decide.proofs.Bounded.{IsRooted, bound_le}
 use Rattle.plan_decide.proofs.Pushing.{pairs_push}
 
@@ -22,139 +22,406 @@ alone_excluded t j rooted never p plan keeps =
     let bound = bound_le t p j (budget_in t j) rooted plan never.promised.inside never.promised.waits (keeps.out j (0, omega arith, refl)) in
     absurd (omega (arith, bound, never.late))
 
-alone_exclusion : (t : Case) (j : ℕ) → IsRooted t → IsNeverInTime t j → IsExclusion t (Alone j)
-alone_exclusion t j rooted never = record {
-  promised = All-cons (IsPromised t) j [] never.promised (All-nil (IsPromised t));
+-- a job whose promise no plan keeps
+pub alone_exclusion : (t : Case) (j : ℕ) → IsPromised t j → AreExcluded t (j ∷ []) → IsLateAlone t.past t j → IsExclusion t (Alone j)
+alone_exclusion t j promised excluded said = record {
+  some = omega arith;
+  promised = All-cons (IsPromised t) j [] promised (All-nil (IsPromised t));
   ascending = λ a b d one two. absurd (omega (arith, one, two));
-  excluded = alone_excluded t j rooted never;
-  said = never;
+  excluded = excluded;
+  said = said;
 }
 
-pub pair_exclusion : (t : Case) (i j : ℕ) → i < j → IsInDoubt t i → IsInDoubt t j → IsImpossible t (Both i j) → IsExclusion t (Pair i j)
-pair_exclusion t i j below one other none = record {
+pub late_exclusion : (t : Case) (j : ℕ) → IsRooted t → IsNeverInTime t j → IsExclusion t (Alone j)
+late_exclusion t j rooted never = alone_exclusion t j never.promised (alone_excluded t j rooted never) (said t.past)
+  where
+    said : (past : Past) → IsLateAlone past t j
+    said nothing = never
+    said (run_to lines c present) = tt
+
+pub pair_exclusion : (t : Case) (i j : ℕ) (or_fewer : Bool) → i < j → IsInDoubt t i → IsInDoubt t j → AreExcluded t (i ∷ j ∷ []) → AreNeededUnless or_fewer t (i ∷ j ∷ []) → IsExclusion t (Pair i j or_fewer)
+pair_exclusion t i j or_fewer below one other excluded needed = record {
+  some = omega arith;
   promised = All-cons (IsPromised t) i (j ∷ []) one.promised (All-cons (IsPromised t) j [] other.promised (All-nil (IsPromised t)));
   ascending = AllPairs-cons (λ a b. a < b) i (j ∷ []) (All-cons (λ b. i < b) j [] below (All-nil (λ b. i < b))) (λ a b d two three. absurd (omega (arith, two, three)));
-  excluded = both_excluded t i j none;
-  said = (one, other);
+  excluded = excluded;
+  said = (one, other, needed);
 }
+
+-- ---- two jobs, and one that is given twice
+
+pub is_either : (i j k : ℕ) → Contains (i ∷ j ∷ []) k → (k ≡ i) ⊎ (k ≡ j)
+is_either i j k has = All-contains (λ l. (l ≡ i) ⊎ (l ≡ j)) (i ∷ j ∷ []) k
+    (All-cons (λ l. (l ≡ i) ⊎ (l ≡ j)) i (j ∷ []) (inl refl) (All-cons (λ l. (l ≡ i) ⊎ (l ≡ j)) j [] (inr refl) (All-nil (λ l. (l ≡ i) ⊎ (l ≡ j))))) has
+
+pub has_either : (i j k : ℕ) → (k ≡ i) ⊎ (k ≡ j) → Contains (i ∷ j ∷ []) k
+has_either i j k (inl is) = (0, omega arith, sym is)
+has_either i j k (inr is) = (1, omega arith, sym is)
+
+is_twice : (j k : ℕ) → Contains (j ∷ j ∷ []) k → k ≡ j
+is_twice j k has = elim (is_either j j k has) [
+  | inl is ↦ is
+  | inr is ↦ is
+]
+
+-- a promise that no plan keeps twice none keeps
+pub excluded_once : (t : Case) (j : ℕ) → AreExcluded t (j ∷ j ∷ []) → AreExcluded t (j ∷ [])
+excluded_once t j none p plan keeps = none p plan (record { acyclic = keeps.acyclic; out = λ k has. keeps.out k (0, omega arith, sym (is_twice j k has)) })
+
+-- an accepted plan for some jobs is one for the same jobs
+plan_for_same : (t : Case) (P Q : ℕ → Type 0) → ((j : ℕ) → P j → Q j) → ((j : ℕ) → Q j → P j) → HasPlanFor t P → HasPlanFor t Q
+plan_for_same t P Q there back has = record {
+  plan = has.plan;
+  same = has.same;
+  accepted = has.accepted;
+  meant = λ j is. has.meant j (back j is);
+  others = λ j inside not. has.others j inside (λ is. not (there j is));
+}
+
+-- each of two jobs is needed, where the other can be out without it
+pub both_needed : (t : Case) (i j : ℕ) → i < j → HasPlanFor t (Contains (i ∷ i ∷ [])) → HasPlanFor t (Contains (j ∷ j ∷ [])) → AreNeeded t (i ∷ j ∷ [])
+both_needed t i j below one other k has = elim (is_either i j k has) [
+  | inl is ↦ plan_for_same t (Contains (j ∷ j ∷ [])) (λ l. Contains (i ∷ j ∷ []) l × (l ≢ k))
+      (λ l twice. (has_either i j l (inr (is_twice j l twice)), λ same. omega (arith, below, is, same, is_twice j l twice)))
+      (λ l is_other. has_either j j l (inl (left l is_other.0 (λ first. is_other.1 (first ∙ sym is))))) other
+  | inr is ↦ plan_for_same t (Contains (i ∷ i ∷ [])) (λ l. Contains (i ∷ j ∷ []) l × (l ≢ k))
+      (λ l twice. (has_either i j l (inl (is_twice i l twice)), λ same. omega (arith, below, is, same, is_twice i l twice)))
+      (λ l is_other. has_either i i l (inl (right l is_other.0 (λ second. is_other.1 (second ∙ sym is))))) one
+]
+  where
+    left : (l : ℕ) → Contains (i ∷ j ∷ []) l → l ≢ i → l ≡ j
+    left l has_it apart = elim (is_either i j l has_it) [
+      | inl first ↦ absurd (apart first)
+      | inr second ↦ second
+    ]
+
+    right : (l : ℕ) → Contains (i ∷ j ∷ []) l → l ≢ j → l ≡ i
+    right l has_it apart = elim (is_either i j l has_it) [
+      | inl first ↦ first
+      | inr second ↦ absurd (apart second)
+    ]
+
+-- ---- how promises stand
+
+abbrev is_late : Standing → Bool
+is_late Unpromised = false
+is_late Late = true
+is_late Doubt = false
+
+abbrev is_doubt : Standing → Bool
+is_doubt Unpromised = false
+is_doubt Late = false
+is_doubt Doubt = true
+
+doubt_not_late : (s : Standing) → s ≡ Doubt → s ≡ Late → ⊥
+doubt_not_late s one other = true≢false (sym (ap is_doubt one) ∙ ap is_doubt other)
+
+-- a job whose promise is late or in doubt is one of the shop
+late_inside : (standings : List Standing) (j : ℕ) → standing_of standings j ≡ Late → j < length standings
+late_inside standings j late = elim (cases_lt j (length standings)) [
+  | inl inside ↦ inside
+  | inr past ↦ absurd (true≢false (sym (ap is_late late) ∙ ap is_late (get_or_past standings j Unpromised past)))
+]
+
+doubt_inside : (standings : List Standing) (j : ℕ) → standing_of standings j ≡ Doubt → j < length standings
+doubt_inside standings j doubt = elim (cases_lt j (length standings)) [
+  | inl inside ↦ inside
+  | inr past ↦ absurd (true≢false (sym (ap is_doubt doubt) ∙ ap is_doubt (get_or_past standings j Unpromised past)))
+]
+
+module _ (t : Case) (n : ℕ) (standings : List Standing) (are : AreStandings t n standings) where
+  pub late_is : (j : ℕ) → standing_of standings j ≡ Late → IsExclusion t (Alone j)
+  late_is j late = subst (IsStanding t j) late (are.each j (omega (arith, late_inside standings j late, are.count)))
+
+  pub doubt_is : (j : ℕ) → standing_of standings j ≡ Doubt → IsInDoubt t j
+  doubt_is j doubt = subst (IsStanding t j) doubt (are.each j (omega (arith, doubt_inside standings j doubt, are.count)))
+
+  -- a job that is never in time is late
+  never_is_late : (j : ℕ) → j < n → IsNeverInTime t j → standing_of standings j ≡ Late
+  never_is_late j inside never = go (standing_of standings j) (are.each j inside)
+    where
+      go : (s : Standing) → IsStanding t j s → s ≡ Late
+      go Unpromised none = absurd (none never.promised)
+      go Late is = refl
+      go Doubt doubt = absurd (doubt.possible never)
+
+  -- one in doubt by its bound is late or in doubt
+  in_doubt : (j : ℕ) → j < n → IsInDoubt t j → (standing_of standings j ≡ Late) ⊎ (standing_of standings j ≡ Doubt)
+  in_doubt j inside doubt = go (standing_of standings j) (are.each j inside)
+    where
+      go : (s : Standing) → IsStanding t j s → (s ≡ Late) ⊎ (s ≡ Doubt)
+      go Unpromised none = absurd (none doubt.promised)
+      go Late is = inl refl
+      go Doubt is = inr refl
 
 -- what comes before a job alone comes before the next
 before_alone : (e : Excluded) (n : ℕ) → ComesBefore e (Alone n) → ComesBefore e (Alone (n + 1))
 before_alone (Alone i) n before = omega (arith, before)
-before_alone (Pair i j) n before = before
+before_alone (Pair i j fewer) n before = before
 before_alone (Several js or_fewer) n before = before
 
 -- what comes before a pair comes before a later one
-before_pair : (e : Excluded) (i j k l : ℕ) → (i < k) ⊎ ((i ≡ k) × (j ≤ l)) → ComesBefore e (Pair i j) → ComesBefore e (Pair k l)
+before_pair : (e : Excluded) (i j k l : ℕ) → (i < k) ⊎ ((i ≡ k) × (j ≤ l)) → ComesBefore e (Pair i j false) → ComesBefore e (Pair k l false)
 before_pair (Alone a) i j k l later before = tt
-before_pair (Pair a b) i j k l (inl more) (inl before) = inl (omega (arith, more, before))
-before_pair (Pair a b) i j k l (inl more) (inr (same, before)) = inl (omega (arith, more, same))
-before_pair (Pair a b) i j k l (inr (is, more)) (inl before) = inl (omega (arith, is, before))
-before_pair (Pair a b) i j k l (inr (is, more)) (inr (same, before)) = inr (omega (arith, is, same), omega (arith, more, before))
+before_pair (Pair a b fewer) i j k l (inl more) (inl before) = inl (omega (arith, more, before))
+before_pair (Pair a b fewer) i j k l (inl more) (inr (same, before)) = inl (omega (arith, more, same))
+before_pair (Pair a b fewer) i j k l (inr (is, more)) (inl before) = inl (omega (arith, is, before))
+before_pair (Pair a b fewer) i j k l (inr (is, more)) (inr (same, before)) = inr (omega (arith, is, same), omega (arith, more, before))
 before_pair (Several js or_fewer) i j k l later before = before
 
 -- a job alone comes before all pairs
-before_pairs : (e : Excluded) (n : ℕ) → ComesBefore e (Alone n) → ComesBefore e (Pair 0 0)
+before_pairs : (e : Excluded) (n : ℕ) → ComesBefore e (Alone n) → ComesBefore e (Pair 0 0 false)
 before_pairs (Alone i) n before = tt
-before_pairs (Pair i j) n before = absurd before
+before_pairs (Pair i j fewer) n before = absurd before
 before_pairs (Several js or_fewer) n before = absurd before
 
 -- a test whether something is listed
-pub some_listed : (es : List Excluded) (n : ℕ) (is_empty : Bool) → n ≡ length es → is_empty ≡ (n == 0) → is_empty ≡ false → 0 < length es
+pub some_listed : {X : Type 0} (es : List X) (n : ℕ) (is_empty : Bool) → n ≡ length es → is_empty ≡ (n == 0) → is_empty ≡ false → 0 < length es
 some_listed es n is_empty count is not = elim (cases_eq n 0) [
   | inl none ↦ absurd (true≢false (sym (is ∙ ap (λ (k : ℕ). k == 0) none) ∙ not))
   | inr some ↦ omega (arith, some, count)
 ]
 
-pub none_listed : (es : List Excluded) (n : ℕ) (is_empty : Bool) → n ≡ length es → is_empty ≡ (n == 0) → is_empty ≡ true → length es ≡ 0
+pub none_listed : {X : Type 0} (es : List X) (n : ℕ) (is_empty : Bool) → n ≡ length es → is_empty ≡ (n == 0) → is_empty ≡ true → length es ≡ 0
 none_listed es n is_empty count is none = omega (arith, count, eqb-true n 0 (sym is ∙ none))
 
-module _ (t : Case) where
-  pub none_before : (next : Excluded) → AreExclusionsBefore t next []
+-- what is listed by itself is apart
+abbrev is_alone : Excluded → Bool
+is_alone (Alone k) = true
+is_alone (Pair k l some) = false
+is_alone (Several js some) = false
+
+not_alone : (i j : ℕ) (fewer : Bool) (k : ℕ) → Contains (Pair i j fewer ∷ []) (Alone k) → ⊥
+not_alone i j fewer k has = true≢false (All-contains (λ x. is_alone x ≡ false) (Pair i j fewer ∷ []) (Alone k) (All-cons (λ x. is_alone x ≡ false) (Pair i j fewer) [] refl (All-nil (λ x. is_alone x ≡ false))) has)
+
+alone_only : (e : Excluded) → IsApart (e ∷ []) e
+alone_only (Alone j) = tt
+alone_only (Pair i j fewer) = (λ has. not_alone i j fewer i has, λ has. not_alone i j fewer j has)
+alone_only (Several js fewer) = tt
+
+module _ (t : Case) (standings : List Standing) where
+  none_before : (next : Excluded) → AreListedBefore t standings next []
   none_before next = record {
-    listed = record { each = All-nil (IsExclusion t); order = λ i j d one two. absurd (omega (arith, two)) };
+    each = All-nil (IsExclusion t);
+    from = All-nil (IsFrom standings);
+    order = λ i j d one two. absurd (omega (arith, two));
     before = All-nil (λ e. ComesBefore e next);
   }
 
   -- one more is listed
-  one_more_before : (e next : Excluded) (es : List Excluded) → IsExclusion t e → ((other : Excluded) → ComesBefore other e → ComesBefore other next) → ComesBefore e next → AreExclusionsBefore t e es
-      → AreExclusionsBefore t next (es ++ e ∷ [])
-  one_more_before e next es exclusion later before known = record {
-    listed = record { each = All-push (IsExclusion t) es e known.listed.each exclusion; order = pairs_push ComesBefore es e known.listed.order known.before };
+  one_more_before : (e next : Excluded) (es : List Excluded) → IsExclusion t e → IsFrom standings e → ((other : Excluded) → ComesBefore other e → ComesBefore other next) → ComesBefore e next → AreListedBefore t standings e es
+      → AreListedBefore t standings next (es ++ e ∷ [])
+  one_more_before e next es exclusion stands later before known = record {
+    each = All-push (IsExclusion t) es e known.each exclusion;
+    from = All-push (IsFrom standings) es e known.from stands;
+    order = pairs_push ComesBefore es e known.order known.before;
     before = All-push (λ other. ComesBefore other next) es e (All-weaker (λ other. ComesBefore other e) (λ other. ComesBefore other next) later es known.before) before;
   }
 
   -- nothing more is
-  all_before : (e next : Excluded) (es : List Excluded) → ((other : Excluded) → ComesBefore other e → ComesBefore other next) → AreExclusionsBefore t e es → AreExclusionsBefore t next es
-  all_before e next es later known = record { listed = known.listed; before = All-weaker (λ other. ComesBefore other e) (λ other. ComesBefore other next) later es known.before }
+  all_before : (e next : Excluded) (es : List Excluded) → ((other : Excluded) → ComesBefore other e → ComesBefore other next) → AreListedBefore t standings e es → AreListedBefore t standings next es
+  all_before e next es later known = record {
+    each = known.each;
+    from = known.from;
+    order = known.order;
+    before = All-weaker (λ other. ComesBefore other e) (λ other. ComesBefore other next) later es known.before;
+  }
 
-  pub alone_none : (es : List Excluded) → es ≡ [] → AreAllAlone t 0 es
-  alone_none es is = subst (AreAllAlone t 0) (sym is) (record { listed = none_before (Alone 0); alone = λ j before never. absurd (omega (arith, before)) })
+  pub alone_begin : (es : List Excluded) → es ≡ [] → AreAllAlone t standings 0 es
+  alone_begin es is = subst (AreAllAlone t standings 0) (sym is) (record { listed = none_before (Alone 0); alone = λ j before late. absurd (omega (arith, before)) })
 
-  pub alone_more : (n : ℕ) (es more : List Excluded) → more ≡ es ++ Alone n ∷ [] → IsRooted t → IsNeverInTime t n → AreAllAlone t n es → AreAllAlone t (n + 1) more
-  alone_more n es more is rooted never known = subst (AreAllAlone t (n + 1)) (sym is) (record {
-    listed = one_more_before (Alone n) (Alone (n + 1)) es (alone_exclusion t n rooted never) (λ e before. before_alone e n before) (omega arith) known.listed;
-    alone = λ j lt never_there. elim (cases_eq j n) [
+  pub alone_more : (n : ℕ) (es more : List Excluded) → more ≡ es ++ Alone n ∷ [] → IsExclusion t (Alone n) → standing_of standings n ≡ Late → AreAllAlone t standings n es → AreAllAlone t standings (n + 1) more
+  alone_more n es more is exclusion late known = subst (AreAllAlone t standings (n + 1)) (sym is) (record {
+    listed = one_more_before (Alone n) (Alone (n + 1)) es exclusion late (λ e before. before_alone e n before) (omega arith) known.listed;
+    alone = λ j lt late_there. elim (cases_eq j n) [
       | inl same ↦ subst (λ k. Contains (es ++ Alone n ∷ []) (Alone k)) (sym same) (Contains-push es (Alone n))
-      | inr other ↦ Contains-append_left es (Alone n ∷ []) (Alone j) (known.alone j (omega (arith, lt, other)) never_there)
+      | inr other ↦ Contains-append_left es (Alone n ∷ []) (Alone j) (known.alone j (omega (arith, lt, other)) late_there)
     ];
   })
 
-  pub alone_passed : (n : ℕ) (es : List Excluded) → (IsNeverInTime t n → ⊥) → AreAllAlone t n es → AreAllAlone t (n + 1) es
-  alone_passed n es possible known = record {
+  pub alone_passed : (n : ℕ) (es : List Excluded) → (standing_of standings n ≡ Late → ⊥) → AreAllAlone t standings n es → AreAllAlone t standings (n + 1) es
+  alone_passed n es not known = record {
     listed = all_before (Alone n) (Alone (n + 1)) es (λ e before. before_alone e n before) known.listed;
-    alone = λ j lt never_there. elim (cases_eq j n) [
-      | inl same ↦ absurd (possible (subst (IsNeverInTime t) same never_there))
-      | inr other ↦ known.alone j (omega (arith, lt, other)) never_there
+    alone = λ j lt late. elim (cases_eq j n) [
+      | inl same ↦ absurd (not (subst (λ k. standing_of standings k ≡ Late) same late))
+      | inr other ↦ known.alone j (omega (arith, lt, other)) late
     ];
   }
 
-  pub pair_more : (i j : ℕ) (es more : List Excluded) → more ≡ es ++ Pair i j ∷ [] → IsExclusion t (Pair i j) → AreExclusionsBefore t (Pair i j) es → AreExclusionsBefore t (Pair i (j + 1)) more
-  pair_more i j es more is exclusion known = subst (AreExclusionsBefore t (Pair i (j + 1))) (sym is)
-      (one_more_before (Pair i j) (Pair i (j + 1)) es exclusion (λ e before. before_pair e i j i (j + 1) (inr (refl, omega arith)) before) (inr (refl, omega arith)) known)
+  -- no job is never in time where none is listed alone
+  pub none_alone : (n : ℕ) → n ≡ job_count t → AreStandings t n standings → AreAllAlone t standings n [] → NoneIsAlone t
+  none_alone n all are known j never =
+      let inside : j < n = omega (arith, all, never.promised.inside) in
+      (let has = known.alone j inside (never_is_late t n standings are j inside never) in omega (arith, has.1))
 
-  pub pair_passed : (i j k : ℕ) (es : List Excluded) → j ≤ k → AreExclusionsBefore t (Pair i j) es → AreExclusionsBefore t (Pair i k) es
-  pair_passed i j k es later known = all_before (Pair i j) (Pair i k) es (λ e before. before_pair e i j i k (inr (refl, later)) before) known
+  -- ---- pairs
 
-  pub row_passed : (i j k : ℕ) (es : List Excluded) → AreExclusionsBefore t (Pair i j) es → AreExclusionsBefore t (Pair (i + 1) k) es
-  row_passed i j k es known = all_before (Pair i j) (Pair (i + 1) k) es (λ e before. before_pair e i j (i + 1) k (inl (omega arith)) before) known
+  pub paired_begin : (n : ℕ) (found : Listing) (es : List Excluded) → found.listed.items ≡ es → length standings ≡ n → AreAllAlone t standings n es → ArePairedTo t standings 0 0 found
+  paired_begin n found es is count known = record {
+    listed = subst (AreListedBefore t standings (Pair 0 0 false)) (sym is) (all_before (Alone n) (Pair 0 0 false) es (λ e before. before_pairs e n before) known.listed);
+    alone = λ j late. subst (λ (list : List Excluded). Contains list (Alone j)) (sym is) (known.alone j (omega (arith, late_inside standings j late, count)) late);
+    settled = λ closed k l below before. absurd (nothing_before k l before);
+  }
+    where
+      nothing_before : (k l : ℕ) → (k < 0) ⊎ ((k ≡ 0) × (l < 0)) → ⊥
+      nothing_before k l (inl less) = omega (arith, less)
+      nothing_before k l (inr (same, less)) = omega (arith, less)
 
-  -- no job is alone where none is listed
-  pub none_alone : (n : ℕ) (es : List Excluded) → n ≡ job_count t → length es ≡ 0 → AreAllAlone t n es → NoneIsAlone t
-  none_alone n es all none known j never = (let has = known.alone j (omega (arith, all, never.promised.inside)) never in omega (arith, none, has.1))
-
-  -- before all pairs jobs alone are listed
-  pub alone_before : (n : ℕ) (es : List Excluded) → AreAllAlone t n es → AreExclusionsBefore t (Pair 0 0) es
-  alone_before n es known = all_before (Alone n) (Pair 0 0) es (λ e before. before_pairs e n before) known.listed
-
-  pub nothing_before : (es : List Excluded) → es ≡ [] → AreExclusionsBefore t (Pair 0 0) es
-  nothing_before es is = subst (AreExclusionsBefore t (Pair 0 0)) (sym is) (none_before (Pair 0 0))
-
-  -- what is listed in the end: jobs alone and then pairs, or pairs, or one exclusion
-  pub exclusions_with : (es more : List Excluded) → 0 < length es → AreAllAlone t (job_count t) es → AreOrderedExclusions t more → AddsExclusions es more → AreExclusions t more
-  exclusions_with es more some known listed adds = record {
-    some = omega (arith, some, adds.more);
-    each = listed.each;
-    order = listed.order;
-    alone = λ j never. adds.kept (Alone j) (known.alone j never.promised.inside never);
+  -- the next pair is looked at, and nothing more listed
+  pub paired_passed : (i j k l : ℕ) (found : Listing) → (i < k) ⊎ ((i ≡ k) × (j ≤ l))
+      → ((a b : ℕ) → a < b → (a < k) ⊎ ((a ≡ k) × (b < l)) → standing_of standings a ≡ Doubt → standing_of standings b ≡ Doubt → ((a < i) ⊎ ((a ≡ i) × (b < j))) ⊎ IsPairSettled t found.listed.items a b)
+      → ArePairedTo t standings i j found → ArePairedTo t standings k l found
+  paired_passed i j k l found later each known = record {
+    listed = all_before (Pair i j false) (Pair k l false) found.listed.items (λ e before. before_pair e i j k l later before) known.listed;
+    alone = known.alone;
+    settled = λ closed a b below before one other. elim (each a b below before one other) [
+      | inl earlier ↦ known.settled closed a b below earlier one other
+      | inr is ↦ is
+    ];
   }
 
-  pub exclusions_some : (es : List Excluded) → 0 < length es → AreOrderedExclusions t es → NoneIsAlone t → AreExclusions t es
-  exclusions_some es some listed none = record { some = some; each = listed.each; order = listed.order; alone = λ j never. absurd (none j never) }
+  -- what is left of a row begins behind its job
+  pub row_begins : (i j : ℕ) (found : Listing) → j ≤ i + 1 → ArePairedTo t standings i 0 found → ArePairedTo t standings i j found
+  row_begins i j found few known = paired_passed i 0 i j found (inr (refl, omega arith)) go known
+    where
+      go : (a b : ℕ) → a < b → (a < i) ⊎ ((a ≡ i) × (b < j)) → standing_of standings a ≡ Doubt → standing_of standings b ≡ Doubt → ((a < i) ⊎ ((a ≡ i) × (b < 0))) ⊎ IsPairSettled t found.listed.items a b
+      go a b below (inl less) one other = inl (inl less)
+      go a b below (inr (same, less)) one other = absurd (omega (arith, below, same, less, few))
 
-  pub exclusions_one : (e : Excluded) (es more : List Excluded) → length es ≡ 0 → more ≡ es ++ e ∷ [] → IsExclusion t e → NoneIsAlone t → AreExclusions t more
-  exclusions_one e [] more empty is exclusion none = subst (AreExclusions t) (sym is)
-      (exclusions_some (e ∷ []) (omega arith) (record { each = All-cons (IsExclusion t) e [] exclusion (All-nil (IsExclusion t)); order = λ a b d one two. absurd (omega (arith, one, two)) }) none)
-  exclusions_one e (x ∷ es) more empty is exclusion none = absurd (omega (arith, empty))
+  -- a row whose job isn't in doubt has no pair
+  pub row_without : (i : ℕ) (found : Listing) → (standing_of standings i ≡ Doubt → ⊥) → ArePairedTo t standings i 0 found → ArePairedTo t standings (i + 1) 0 found
+  row_without i found not known = paired_passed i 0 (i + 1) 0 found (inl (omega arith)) go known
+    where
+      go : (a b : ℕ) → a < b → (a < i + 1) ⊎ ((a ≡ i + 1) × (b < 0)) → standing_of standings a ≡ Doubt → standing_of standings b ≡ Doubt → ((a < i) ⊎ ((a ≡ i) × (b < 0))) ⊎ IsPairSettled t found.listed.items a b
+      go a b below (inr (same, less)) one other = absurd (omega (arith, less))
+      go a b below (inl less) one other = elim (cases_eq a i) [
+        | inl same ↦ absurd (not (subst (λ k. standing_of standings k ≡ Doubt) same one))
+        | inr apart ↦ inl (inl (omega (arith, less, apart)))
+      ]
 
-pub adds_none : (es : List Excluded) → AddsExclusions es es
-adds_none es = record { kept = λ e has. has; more = le_refl _ }
+  -- a row ends with the last job
+  pub row_ends : (i j n : ℕ) (found : Listing) → length standings ≡ n → n ≤ j → ArePairedTo t standings i j found → ArePairedTo t standings (i + 1) 0 found
+  row_ends i j n found count all known = paired_passed i j (i + 1) 0 found (inl (omega arith)) go known
+    where
+      go : (a b : ℕ) → a < b → (a < i + 1) ⊎ ((a ≡ i + 1) × (b < 0)) → standing_of standings a ≡ Doubt → standing_of standings b ≡ Doubt → ((a < i) ⊎ ((a ≡ i) × (b < j))) ⊎ IsPairSettled t found.listed.items a b
+      go a b below (inr (same, less)) one other = absurd (omega (arith, less))
+      go a b below (inl less) one other = elim (cases_eq a i) [
+        | inl same ↦ inl (inr (same, omega (arith, doubt_inside standings b other, count, all)))
+        | inr apart ↦ inl (inl (omega (arith, less, apart)))
+      ]
 
-pub adds_one : (es more : List Excluded) (e : Excluded) → more ≡ es ++ e ∷ [] → AddsExclusions es more
-adds_one es more e is = record {
-  kept = λ other has. subst (λ (list : List Excluded). Contains list other) (sym is) (Contains-append_left es (e ∷ []) other has);
-  more = omega (arith, ap length is, length_push es e);
-}
+  -- a pair that is settled is looked at, or one whose other job isn't in doubt
+  pub pair_passed : (i j : ℕ) (found : Listing) → (standing_of standings j ≡ Doubt → IsPairSettled t found.listed.items i j) → ArePairedTo t standings i j found → ArePairedTo t standings i (j + 1) found
+  pair_passed i j found settled known = paired_passed i j i (j + 1) found (inr (refl, omega arith)) go known
+    where
+      go : (a b : ℕ) → a < b → (a < i) ⊎ ((a ≡ i) × (b < j + 1)) → standing_of standings a ≡ Doubt → standing_of standings b ≡ Doubt → ((a < i) ⊎ ((a ≡ i) × (b < j))) ⊎ IsPairSettled t found.listed.items a b
+      go a b below (inl less) one other = inl (inl less)
+      go a b below (inr (same, less)) one other = elim (cases_eq b j) [
+        | inl is ↦ inr (subst (λ k. IsPairSettled t found.listed.items k b) (sym same) (subst (IsPairSettled t found.listed.items i) (sym is) (settled (subst (λ k. standing_of standings k ≡ Doubt) is other))))
+        | inr apart ↦ inl (inr (same, omega (arith, less, apart)))
+      ]
 
-pub adds_on : (es more most : List Excluded) → AddsExclusions es more → AddsExclusions more most → AddsExclusions es most
-adds_on es more most one next = record { kept = λ e has. next.kept e (one.kept e has); more = omega (arith, one.more, next.more) }
+  -- one that is open is passed over
+  pub pair_open : (i j k l : ℕ) (found more : Listing) → (i < k) ⊎ ((i ≡ k) × (j ≤ l)) → more.listed.items ≡ found.listed.items → more.pairs_open ≡ true → ArePairedTo t standings i j found → ArePairedTo t standings k l more
+  pair_open i j k l found more later same opened known = record {
+    listed = subst (AreListedBefore t standings (Pair k l false)) (sym same) (all_before (Pair i j false) (Pair k l false) found.listed.items (λ e before. before_pair e i j k l later before) known.listed);
+    alone = λ a late. subst (λ (list : List Excluded). Contains list (Alone a)) (sym same) (known.alone a late);
+    settled = λ closed. absurd (true≢false (sym opened ∙ closed));
+  }
+
+  -- a pair that excludes each other is listed
+  pub pair_more : (i j : ℕ) (or_fewer : Bool) (found more : Listing) → more.listed.items ≡ found.listed.items ++ Pair i j or_fewer ∷ [] → more.pairs_open ≡ found.pairs_open
+      → IsExclusion t (Pair i j or_fewer) → standing_of standings i ≡ Doubt → standing_of standings j ≡ Doubt → ArePairedTo t standings i j found → ArePairedTo t standings i (j + 1) more
+  pair_more i j or_fewer found more is same exclusion one_doubt other_doubt known = record {
+    listed = subst (AreListedBefore t standings (Pair i (j + 1) false)) (sym is)
+        (one_more_before (Pair i j or_fewer) (Pair i (j + 1) false) es exclusion (one_doubt, other_doubt) (λ e before. before_pair e i j i (j + 1) (inr (refl, omega arith)) (any_pair e before)) (inr (refl, omega arith)) (all_before (Pair i j false) (Pair i j or_fewer) es (λ e before. this_pair e before) known.listed));
+    alone = λ a late. subst (λ (list : List Excluded). Contains list (Alone a)) (sym is) (Contains-append_left es (Pair i j or_fewer ∷ []) (Alone a) (known.alone a late));
+    settled = λ closed a b below before one other. (
+        subst (λ list. IsPairSettled t list a b) (sym is) (settled_before a b below before (λ earlier. known.settled (sym same ∙ closed) a b below earlier one other)));
+  }
+    where
+      es : List Excluded
+      es = found.listed.items
+
+      any_pair : (e : Excluded) → ComesBefore e (Pair i j or_fewer) → ComesBefore e (Pair i j false)
+      any_pair (Alone a) before = before
+      any_pair (Pair a b fewer) before = before
+      any_pair (Several js fewer) before = before
+
+      this_pair : (e : Excluded) → ComesBefore e (Pair i j false) → ComesBefore e (Pair i j or_fewer)
+      this_pair (Alone a) before = before
+      this_pair (Pair a b fewer) before = before
+      this_pair (Several js fewer) before = before
+
+      listed_still : (a b : ℕ) → IsPairSettled t es a b → IsPairSettled t (es ++ Pair i j or_fewer ∷ []) a b
+      listed_still a b (inl (fewer, has)) = inl (fewer, Contains-append_left es (Pair i j or_fewer ∷ []) (Pair a b fewer) has)
+      listed_still a b (inr plan) = inr plan
+
+      settled_before : (a b : ℕ) → a < b → (a < i) ⊎ ((a ≡ i) × (b < j + 1)) → ((a < i) ⊎ ((a ≡ i) × (b < j)) → IsPairSettled t es a b) → IsPairSettled t (es ++ Pair i j or_fewer ∷ []) a b
+      settled_before a b below (inl less) earlier = listed_still a b (earlier (inl less))
+      settled_before a b below (inr (first, less)) earlier = elim (cases_eq b j) [
+        | inl last ↦ inl (or_fewer, subst (λ k. Contains (es ++ Pair i j or_fewer ∷ []) (Pair k b or_fewer)) (sym first) (subst (λ k. Contains (es ++ Pair i j or_fewer ∷ []) (Pair i k or_fewer)) (sym last) (Contains-push es (Pair i j or_fewer))))
+        | inr apart ↦ listed_still a b (earlier (inr (first, omega (arith, less, apart))))
+      ]
+
+  -- neither of a pair is late alone
+  pair_apart : (es : List Excluded) → All (IsFrom standings) es → (e : Excluded) → IsFrom standings e → IsApart es e
+  pair_apart es stand (Alone j) is = tt
+  pair_apart es stand (Pair i j fewer) (one, other) =
+      (λ has. doubt_not_late (standing_of standings i) one (All-contains (IsFrom standings) es (Alone i) stand has), λ has. doubt_not_late (standing_of standings j) other (All-contains (IsFrom standings) es (Alone j) stand has))
+  pair_apart es stand (Several js fewer) is = absurd is
+
+  module _ (n : ℕ) (found : Listing) (all : n ≡ job_count t) (are : AreStandings t n standings) (known : ArePairedTo t standings n 0 found) where
+    -- what is known of each two jobs in doubt
+    settled_all : found.pairs_open ≡ false → (i j : ℕ) → i < j → IsInDoubt t i → IsInDoubt t j → IsSettled t found.listed.items i j
+    settled_all closed i j below one other =
+        let first : i < n = omega (arith, all, one.promised.inside) in
+        let second : j < n = omega (arith, all, other.promised.inside) in
+        go (in_doubt t n standings are i first one) (in_doubt t n standings are j second other)
+      where
+        settled_pair : IsPairSettled t found.listed.items i j → IsSettled t found.listed.items i j
+        settled_pair (inl (fewer, has)) = as_pair fewer has
+        settled_pair (inr plan) = together plan
+
+        go : (standing_of standings i ≡ Late) ⊎ (standing_of standings i ≡ Doubt) → (standing_of standings j ≡ Late) ⊎ (standing_of standings j ≡ Doubt) → IsSettled t found.listed.items i j
+        go (inl late) stands = one_alone (known.alone i late)
+        go (inr doubt) (inl late) = other_alone (known.alone j late)
+        go (inr doubt) (inr doubt_too) = settled_pair (known.settled closed i j below (inl (omega (arith, all, one.promised.inside))) doubt doubt_too)
+
+    never_listed : (j : ℕ) → IsNeverInTime t j → Contains found.listed.items (Alone j)
+    never_listed j never = known.alone j (never_is_late t n standings are j (omega (arith, all, never.promised.inside)) never)
+
+    -- what is listed in the end
+    pub exclusions_some : 0 < length found.listed.items → AreExclusions t (exclusions_of found true)
+    exclusions_some some = record {
+      some = some;
+      each = known.listed.each;
+      order = known.listed.order;
+      alone = never_listed;
+      apart = All-weaker (IsFrom standings) (IsApart found.listed.items) (λ e is. pair_apart found.listed.items known.listed.from e is) found.listed.items known.listed.from;
+      acyclic = λ closed. absurd (true≢false closed);
+      pairs = settled_all;
+    }
+
+    -- one exclusion, where nothing else is listed
+    pub exclusions_one : (e : Excluded) (more : Listing) → length found.listed.items ≡ 0 → more.listed.items ≡ found.listed.items ++ e ∷ [] → more.pairs_open ≡ found.pairs_open → IsExclusion t e → AreExclusions t (exclusions_of more true)
+    exclusions_one e more empty is same exclusion = go found.listed.items empty is never_listed settled_all
+      where
+        settled_more : (i j : ℕ) → IsSettled t [] i j → IsSettled t (e ∷ []) i j
+        settled_more i j (one_alone has) = absurd (omega (arith, has.1))
+        settled_more i j (other_alone has) = absurd (omega (arith, has.1))
+        settled_more i j (as_pair fewer has) = absurd (omega (arith, has.1))
+        settled_more i j (together plan) = together plan
+
+        go : (es : List Excluded) → length es ≡ 0 → more.listed.items ≡ es ++ e ∷ [] → ((j : ℕ) → IsNeverInTime t j → Contains es (Alone j))
+            → (found.pairs_open ≡ false → (i j : ℕ) → i < j → IsInDoubt t i → IsInDoubt t j → IsSettled t es i j) → AreExclusions t (exclusions_of more true)
+        go (x ∷ es) none is_more never pairs = absurd (omega (arith, none))
+        go [] none is_more never pairs = record {
+          some = omega (arith, ap length is_more);
+          each = subst (All (IsExclusion t)) (sym is_more) (All-cons (IsExclusion t) e [] exclusion (All-nil (IsExclusion t)));
+          order = subst (AllPairs ComesBefore) (sym is_more) (λ a b d one two. absurd (omega (arith, one, two)));
+          alone = λ j is_never. (let has = never j is_never in absurd (omega (arith, has.1)));
+          apart = subst (λ list. All (IsApart list) list) (sym is_more) (All-cons (IsApart (e ∷ [])) e [] (alone_only e) (All-nil (IsApart (e ∷ []))));
+          acyclic = λ open_not. absurd (true≢false open_not);
+          pairs = λ closed i j below one other. subst (λ list. IsSettled t list i j) (sym is_more) (settled_more i j (pairs (sym same ∙ closed) i j below one other));
+        }

@@ -1,5 +1,5 @@
 -- Settings, and plans that are kept in them.
-use Rattle.std.proofs.Common.{◌≡◌, ◌≢◌, ℕ, ◌-◌, ◌<◌, ◌≤◌, ◌⊎◌, inl, inr, false, List, [], take, drop, length, set, Option, None, Some, arith, refl, sym, ap, subst, ◌∙◌, true≢false}
+use Rattle.std.proofs.Common.{◌≡◌, ℕ, ◌-◌, ◌<◌, ◌≤◌, ◌⊎◌, inl, inr, false, List, [], take, drop, length, set, Option, None, Some, arith, refl, sym, ap, subst, ◌∙◌, true≢false}
 use Rattle.std.specs.Prelude.{Result, Ok, Err, IfOk, IfSome}
 use Rattle.std.proofs.lemmas.Bool.{cases_lt}
 use Rattle.std.proofs.lemmas.List.{length-set, nil_from_length, take_all, length-drop}
@@ -36,7 +36,9 @@ use Rattle.plan_decide.specs.declared.kept.Kept.{Kept}
 use Rattle.plan_decide.specs.declared.kept.Kept.TheVariants.{Rest}
 use Rattle.plan_decide.specs.declared.setting.Past.{Past as Happened}
 use Rattle.plan_decide.specs.declared.setting.Past.TheVariants.{Nothing, Run}
-use Rattle.plan_decide.specs.Cases.{Past, nothing, run_to, Case, HasValue, is_waiting, times_in, job_count}
+use Rattle.plan_decide.specs.Cases.{Past, nothing, run_to, Case, KeepsPast, HasValue, is_waiting, times_in, job_count}
+use Rattle.plan_decide.specs.Excluding.{HasAcyclicPlan}
+use Rattle.plan_verifier.specs.Accepted.{HasNoCycle}
 use Rattle.plan_decide.specs.Pasts.{IsPastOf, unbegun, begun}
 use Rattle.plan_decide.specs.Objectives.{IsLeastValue}
 use Rattle.plan_decide.specs.declared.setting.Setting.{Setting}
@@ -168,3 +170,12 @@ work_rest p j k shaped inside = (
   ap route_work (take_all (length (route p j) - k) (drop k (route p j)) (omega (arith, length-drop k (route p j)))),
   omega (arith, route_work-le (machines p) (route p j) (shaped.shop.routes j inside), shaped.shop.counts.few_machines, sum_by-take-drop (λ (s : Step). s.nominal) (route p j) k),
 )
+
+-- a setting's own plan keeps what has happened
+keeps_own : (happened : Happened) (p : PlannedShop) (c : Cell) → HasLed happened p c → KeepsPast (past_in happened c) p
+keeps_own Nothing p c led = tt
+keeps_own (Run log present) p c led = parses_run (ended_lines log.now) p c led.0
+
+-- where it has no cycle, some plan of its case has none
+pub own_acyclic : (s : Setting) → IsSet s → IsWellShaped s.cell.plan → HasNoCycle s.cell.plan → HasAcyclicPlan (case_in s)
+own_acyclic s set shaped acyclic = record { plan = s.cell.plan; is = record { shaped = shaped; same = refl; keeps = keeps_own s.past s.cell.plan s.cell.cell set }; acyclic = acyclic }

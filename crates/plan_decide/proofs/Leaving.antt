@@ -1,22 +1,23 @@
 -- Jobs left out in turn.
-use Rattle.std.proofs.Common.{◌≡◌, ◌≢◌, ℕ, ◌+◌, ◌<◌, ◌≤◌, Bool, true, false, List, [], ◌∷◌, ◌++◌, map, length, set, slice_index, All, AllPairs, Contains, Option, None, Some, IsSome, is_some, Vec, Global, arith, refl, sym, ap, ◌∙◌, subst, inl, inr, true≢false, le_refl}
-use Rattle.std.proofs.lemmas.Bool.{cases_eq, cases_lt}
+use Rattle.std.proofs.Common.{◌≡◌, ◌≢◌, ℕ, ◌+◌, ◌<◌, ◌≤◌, ◌==◌, ◌||◌, if◌then◌else◌, Bool, true, false, eqb-true, List, [], ◌∷◌, ◌++◌, map, length, set, slice_index, All, AllPairs, Contains, Option, None, Some, IsSome, is_some, Vec, Global, arith, refl, sym, ap, ◌∙◌, subst, inl, inr, true≢false, le_refl}
+use Rattle.std.proofs.lemmas.Bool.{cases_eq, cases_lt, eq-eqb}
 use Rattle.std.proofs.lemmas.List.{get_or_past, get_or-set_same, get_or-set_other, get_or-map, length-set, length-map}
 use Rattle.std.proofs.lemmas.List.Elements.{All-nil, All-push, All-weaker, All-contains, Contains-append_left, Contains-push}
 use Rattle.shop_base.specs.declared.limits.TheConstants.{MAX_MOMENT}
 use Rattle.shop_base.specs.Plan.{PlannedShop, jobs}
 use Rattle.plan_bounds.specs.Bounds.{times_of}
 use Rattle.plan_limits.specs.Limits.{limit_of}
-use Rattle.plan_decide.specs.declared.asked.Asked.TheVariants.{All as AllAsked}
+use Rattle.plan_decide.specs.declared.asked.Asked.TheVariants.{All as AllAsked, Both}
 use Rattle.plan_decide.specs.declared.decided.Excluded.TheVariants.{Several}
 use Rattle.plan_decide.specs.declared.leaving_out.Left.{Left}
 use Rattle.plan_decide.specs.Cases.{Case, is_waiting, job_count, budget_in, times_in, with_budgets}
 use Rattle.plan_decide.specs.Promises.{IsPromised}
-use Rattle.plan_decide.specs.Excluding.{AreExcluded, HasPlanWithout, AreNeeded, IsSaidOf, IsExclusion}
+use Rattle.plan_decide.specs.Excluding.{AreAllCyclic, AreExcluded, HasPlanFor, AreNeeded, AreNeededUnless, IsExclusion}
 use Rattle.plan_decide.specs.Decisions.{IsAcceptedWith}
-use Rattle.plan_decide.specs.Asking.{AreLimits, NoPlanKeeps}
+use Rattle.plan_decide.specs.Asking.{promise_in, AreLimits, NoPlanKeeps}
 use Rattle.plan_decide.specs.LeftOut.{cap, AreLimited, ArePromised, CanKeep, IsLeft}
-use Rattle.plan_decide.proofs.Limits.{promise_is}
+use Rattle.plan_decide.proofs.Limits.{limit_if, promise_is, promise_of}
+use Rattle.plan_decide.proofs.Collecting.{is_either, has_either}
 use Rattle.plan_decide.proofs.Pushing.{pairs_push}
 use Rattle.plan_decide.proofs.Budgets.{rebudgeted, shaped_again, keeps_again, out_again, out_later, acyclic_again}
 use Rattle.plan_decide.proofs.Bounded.{good_acyclic, good_out, good_from}
@@ -27,6 +28,10 @@ limit_inside limits j n is = elim (cases_lt j (length limits)) [
   | inl inside ↦ inside
   | inr past ↦ absurd (true≢false (sym (ap is_some (sym (get_or_past limits j None past) ∙ is))))
 ]
+
+or_second : (a b : Bool) → b ≡ true → (a || b) ≡ true
+or_second true b is = refl
+or_second false b is = is
 
 -- the limits without one of them
 limit_gone : (limits : List (Option ℕ)) (k : ℕ) → k < length limits → limit_of (set limits k None) k ≡ None
@@ -135,6 +140,64 @@ module _ (t : Case) where
         out_later t.past p j (slice_index p.plan.budget j) (cap (limit_of limits j)) (omega (arith, budget)) (good_out t.past p j is.accepted.acceptable inside there));
   }
 
+  -- an accepted plan with the budgets of the jobs that have limits, which it keeps
+  pub plan_for : (limits : List (Option ℕ)) (is_meant : ℕ → Type 0) → length limits ≡ job_count t → ((i : ℕ) → cap (limit_of limits i) ≤ MAX_MOMENT)
+      → ((i : ℕ) → is_meant i → (i < job_count t) × (limit_of limits i ≡ Some (budget_in t i))) → ((i : ℕ) → i < job_count t → (is_meant i → ⊥) → limit_of limits i ≡ None) → CanKeep t limits → HasPlanFor t is_meant
+  plan_for limits is_meant count few meant others can =
+      let p = can.plan in
+      let budgets = map cap limits in
+      let same : jobs p ≡ job_count t = ap (λ s. length s.shop.routes) can.is.same in
+      let budget : (i : ℕ) → i < job_count t → slice_index budgets i ≡ cap (limit_of limits i) = λ i inside. get_or-map cap limits i None 0 (omega (arith, inside, count)) in
+      record {
+        plan = rebudgeted p budgets;
+        same = can.is.same;
+        accepted = record {
+          shaped = shaped_again p budgets can.is.shaped (length-map limits cap ∙ count ∙ sym same) (λ i inside. omega (arith, budget i (omega (arith, inside, same)), few i));
+          keeps = keeps_again t.past p budgets can.is.keeps;
+          acceptable = good_from t.past (rebudgeted p budgets) (acyclic_again p budgets can.acyclic)
+              (λ i inside waits. (
+              let there : is_waiting (times_in t) t.past i ≡ true = sym (ap (λ x. is_waiting x t.past i) can.is.same) ∙ waits in
+              out_again t.past p budgets i (slice_index budgets i)
+              (out_later t.past p i (cap (limit_of limits i)) (slice_index budgets i) (omega (arith, budget i (omega (arith, inside, same)))) (can.out i inside there))));
+        };
+        meant = λ i is. budget i (meant i is).0 ∙ ap cap (meant i is).1;
+        others = λ i inside not. (let here : i < job_count t = omega (arith, inside, same) in budget i here ∙ ap cap (others i here not));
+      }
+
+  -- ---- two jobs
+
+  module _ (i j : ℕ) (limits : List (Option ℕ)) (all : AreLimits t (Both i j) (job_count t) limits) where
+    both_limited : ArePromised t limits
+    both_limited = record {
+      count = all.count;
+      each = λ k n is.
+          (let inside : k < job_count t = omega (arith, limit_inside limits k n is, all.count) in
+          let asked = limit_if ((k == i) || (k == j)) (promise_in t k) n (sym (all.each k inside) ∙ is) in
+          let promise = promise_is t k n asked.1 in
+          (record { inside = inside; waits = promise.0; below = promise.1 }, promise.2));
+    }
+
+    -- a plan that keeps their limits is one for them
+    pub both_kept : IsPromised t i → IsPromised t j → CanKeep t limits → HasPlanFor t (Contains (i ∷ j ∷ []))
+    both_kept one other can = plan_for limits (Contains (i ∷ j ∷ [])) all.count (cap-le limits both_limited) meant others can
+      where
+        asked : (k : ℕ) → IsPromised t k → ((k == i) || (k == j)) ≡ true → (k < job_count t) × (limit_of limits k ≡ Some (budget_in t k))
+        asked k promised either = (promised.inside, all.each k promised.inside ∙ ap (λ (b : Bool). if b then promise_in t k else None) either ∙ promise_of t k promised)
+
+        meant : (k : ℕ) → Contains (i ∷ j ∷ []) k → (k < job_count t) × (limit_of limits k ≡ Some (budget_in t k))
+        meant k has = elim (is_either i j k has) [
+          | inl is ↦ asked k (subst (IsPromised t) (sym is) one) (ap (λ (b : Bool). b || (k == j)) (eq-eqb k i is))
+          | inr is ↦ asked k (subst (IsPromised t) (sym is) other) (or_second (k == i) (k == j) (eq-eqb k j is))
+        ]
+
+        others : (k : ℕ) → k < job_count t → (Contains (i ∷ j ∷ []) k → ⊥) → limit_of limits k ≡ None
+        others k inside not = all.each k inside ∙ go (k == i) (k == j) refl refl
+          where
+            go : (a b : Bool) → (k == i) ≡ a → (k == j) ≡ b → (if a || b then promise_in t k else None) ≡ None
+            go true b is_one is_other = absurd (not (has_either i j k (inl (eqb-true k i is_one))))
+            go false true is_one is_other = absurd (not (has_either i j k (inr (eqb-true k j is_other))))
+            go false false is_one is_other = refl
+
   pub left_out : (left more : Left) (k : ℕ) → k < job_count t → more.or_fewer ≡ left.or_fewer → more.limits.items ≡ set left.limits.items k None → NoPlanKeeps t more.limits.items
       → IsLeft t left (k + 1) → IsLeft t more k
   left_out left more k inside fewer is none known = record {
@@ -207,43 +270,42 @@ module _ (t : Case) where
     })
 
     -- a job without which the others can be kept
-    plan_without : (j : ℕ) → Contains js j → CanKeep t (set limits j None) → HasPlanWithout t js j
-    plan_without j has can =
-        let p = can.plan in
-        let fewer = set limits j None in
-        let budgets = map cap fewer in
-        let same : jobs p ≡ job_count t = ap (λ s. length s.shop.routes) can.is.same in
-        let here : j < job_count t = omega (arith, limit_inside limits j _ (named_limit j has), are.count) in
-        let count : length fewer ≡ job_count t = length-set limits j None ∙ are.count in
-        let budget : (i : ℕ) → i < job_count t → slice_index budgets i ≡ cap (limit_of fewer i) = λ i inside. get_or-map cap fewer i None 0 (omega (arith, inside, count)) in
-        let few = cap-le fewer (fewer_promised limits j here are) in
-        record {
-          plan = rebudgeted p budgets;
-          same = can.is.same;
-          accepted = record {
-            shaped = shaped_again p budgets can.is.shaped (length-map fewer cap ∙ count ∙ sym same) (λ i inside. omega (arith, budget i (omega (arith, inside, same)), few i));
-            keeps = keeps_again t.past p budgets can.is.keeps;
-            acceptable = good_from t.past (rebudgeted p budgets) (acyclic_again p budgets can.acyclic)
-                (λ i inside waits. (
-                let there : is_waiting (times_in t) t.past i ≡ true = sym (ap (λ x. is_waiting x t.past i) can.is.same) ∙ waits in
-                out_again t.past p budgets i (slice_index budgets i)
-                (out_later t.past p i (cap (limit_of fewer i)) (slice_index budgets i) (omega (arith, budget i (omega (arith, inside, same)))) (can.out i inside there))));
-          };
-          others = λ i has_too apart. budget i (omega (arith, limit_inside limits i _ (named_limit i has_too), are.count)) ∙ ap cap (limit_stays limits j i apart ∙ named_limit i has_too);
-          itself = budget j here ∙ ap cap (limit_gone limits j (omega (arith, here, are.count)));
-          rest = λ i inside not_named. budget i (omega (arith, inside, same)) ∙ ap cap (limit_stays limits j i (λ is. not_named (subst (Contains js) (sym is) has)) ∙ unnamed_limit i not_named);
-        }
+    plan_without : (j : ℕ) → Contains js j → CanKeep t (set limits j None) → HasPlanFor t (λ i. Contains js i × (i ≢ j))
+    plan_without j has can = plan_for (set limits j None) (λ i. Contains js i × (i ≢ j)) (length-set limits j None ∙ are.count) (cap-le (set limits j None) (fewer_promised limits j here are)) meant others can
+      where
+        here : j < job_count t
+        here = omega (arith, limit_inside limits j _ (named_limit j has), are.count)
+
+        meant : (i : ℕ) → Contains js i × (i ≢ j) → (i < job_count t) × (limit_of (set limits j None) i ≡ Some (budget_in t i))
+        meant i (named_too, apart) = (omega (arith, limit_inside limits i _ (named_limit i named_too), are.count), limit_stays limits j i apart ∙ named_limit i named_too)
+
+        others : (i : ℕ) → i < job_count t → (Contains js i × (i ≢ j) → ⊥) → limit_of (set limits j None) i ≡ None
+        others i inside not = elim (cases_eq i j) [
+          | inl same ↦ ap (limit_of (set limits j None)) same ∙ limit_gone limits j (omega (arith, here, are.count))
+          | inr apart ↦ limit_stays limits j i apart ∙ unnamed_limit i (λ named_too. not (named_too, apart))
+        ]
+
+    -- where none is named, no plan is without a cycle
+    pub none_left : length js ≡ 0 → NoPlanKeeps t limits → AreAllCyclic t
+    none_left empty none p plan acyclic = none p plan (record {
+      acyclic = acyclic;
+      out = λ j k inside waits is. (
+          let same : jobs p ≡ job_count t = ap (λ s. length s.shop.routes) plan.same in
+          let has = named.complete j k (omega (arith, inside, same, all)) is in
+          absurd (omega (arith, empty, has.1)));
+    })
 
     -- what is left
-    pub several : (jobs : Vec ℕ Global) (or_fewer : Bool) → jobs.items ≡ js → NoPlanKeeps t limits
+    pub several : (jobs : Vec ℕ Global) (or_fewer : Bool) → jobs.items ≡ js → 0 < length jobs.items → NoPlanKeeps t limits
         → (or_fewer ≡ false → (j k : ℕ) → 0 ≤ j → limit_of limits j ≡ Some k → CanKeep t (set limits j None)) → IsExclusion t (Several jobs or_fewer)
-    several jobs or_fewer is none needed = record {
+    several jobs or_fewer is some none needed = record {
+      some = some;
       promised = subst (All (IsPromised t)) (sym is) (All-weaker (λ j. IsSome (limit_of limits j)) (IsPromised t) some_promised js named.limited);
       ascending = subst (AllPairs (λ i j. i < j)) (sym is) named.ascending;
       excluded = subst (AreExcluded t) (sym is) (all_excluded none);
       said = said or_fewer needed;
     }
       where
-        said : (fewer : Bool) → (fewer ≡ false → (j k : ℕ) → 0 ≤ j → limit_of limits j ≡ Some k → CanKeep t (set limits j None)) → IsSaidOf t (Several jobs fewer)
+        said : (fewer : Bool) → (fewer ≡ false → (j k : ℕ) → 0 ≤ j → limit_of limits j ≡ Some k → CanKeep t (set limits j None)) → AreNeededUnless fewer t jobs.items
         said true needed = tt
         said false needed = subst (AreNeeded t) (sym is) (λ j has. plan_without j has (needed refl j _ (omega arith) (named_limit j has)))

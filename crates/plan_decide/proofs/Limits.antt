@@ -1,6 +1,6 @@
 -- The limits of a question, and what an answer to it says.
 use Rattle.std.proofs.Common.{◌≡◌, ℕ, ◌<◌, ◌≤◌, nat_lt, ◌==◌, ◌||◌, if◌then◌else◌, Bool, true, false, List, [], ◌∷◌, length, Contains, Option, None, Some, is_some, arith, refl, sym, ap, ◌∙◌, subst, inl, inr, true≢false, eqb-true, ltb-true}
-use Rattle.std.proofs.lemmas.Bool.{or_cases, cond_above}
+use Rattle.std.proofs.lemmas.Bool.{or_cases, cond_above, lt-ltb}
 use Rattle.shop_base.specs.declared.limits.TheConstants.{MAX_MOMENT}
 use Rattle.shop_base.specs.Plan.{PlannedShop, jobs}
 use Rattle.shop_base.specs.Cell.{Cell, IsGone, start}
@@ -10,10 +10,11 @@ use Rattle.plan_limits.specs.Limits.{NoPlanKeepsFrom}
 use Rattle.plan_limits.proofs.Acceptance.{the_start_is_every_plan-holds}
 use Rattle.run_log.specs.Present.{IsCellOf}
 use Rattle.plan_decide.specs.declared.asked.Asked.{Asked}
-use Rattle.plan_decide.specs.declared.asked.Asked.TheVariants.{Both}
+use Rattle.plan_decide.specs.declared.asked.Asked.TheVariants.{Nobody, Both}
 use Rattle.plan_decide.specs.Cases.{Past, nothing, run_to, Case, is_waiting, job_count, budget_in, times_in, with_budgets}
 use Rattle.plan_decide.specs.Pasts.{case_of}
-use Rattle.plan_decide.specs.Excluding.{AreExcluded}
+use Rattle.plan_decide.specs.Promises.{IsPromised}
+use Rattle.plan_decide.specs.Excluding.{AreAllCyclic, AreExcluded}
 use Rattle.plan_decide.specs.Asking.{promise_in, AreLimits, IsImpossible, NoPlanKeeps}
 use Rattle.plan_decide.specs.LeftOut.{cap}
 use Rattle.plan_decide.proofs.Budgets.{out_later}
@@ -30,6 +31,11 @@ promise_is t j n is =
     let waits = limit_if (is_waiting (times_in t) t.past j) (if nat_lt (budget_in t j) MAX_MOMENT then Some (budget_in t j) else None) n is in
     let at = limit_if (nat_lt (budget_in t j) MAX_MOMENT) (Some (budget_in t j)) n waits.1 in
     (waits.0, ltb-true (budget_in t j) MAX_MOMENT at.0, sym (ap cap at.1))
+
+-- and each promised job has one
+pub promise_of : (t : Case) (j : ℕ) → IsPromised t j → promise_in t j ≡ Some (budget_in t j)
+promise_of t j promised = ap (λ (b : Bool). if b then (if nat_lt (budget_in t j) MAX_MOMENT then Some (budget_in t j) else None) else None) promised.waits
+    ∙ ap (λ (b : Bool). if b then Some (budget_in t j) else None) (lt-ltb (budget_in t j) MAX_MOMENT promised.below)
 
 -- a job whose budget is the greatest one has none
 pub promise_past : (t : Case) (j budget : ℕ) → budget ≡ budget_in t j → MAX_MOMENT ≤ budget → None ≡ promise_in t j
@@ -70,6 +76,10 @@ module _ (t : Case) (asked : Asked) where
     where
       same_jobs : jobs p ≡ job_count t
       same_jobs = ap (λ s. length s.shop.routes) plan.same
+
+-- where nobody is asked for and it is impossible, no plan is without a cycle
+pub nobody_out : (t : Case) → IsImpossible t Nobody → AreAllCyclic t
+nobody_out t none p plan acyclic = none p plan (record { acyclic = acyclic; out = λ j n inside waits is. absurd (true≢false (sym (ap is_some is))) })
 
 -- two jobs whose promises no plan keeps exclude each other
 pub both_excluded : (t : Case) (i j : ℕ) → IsImpossible t (Both i j) → AreExcluded t (i ∷ j ∷ [])

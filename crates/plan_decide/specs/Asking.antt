@@ -6,7 +6,7 @@ use Rattle.plan_verifier.specs.Accepted.{HasNoCycle}
 use Rattle.plan_limits.specs.Limits.{limit_of}
 use Rattle.plan_decide.specs.declared.aim.Objective.TheVariants.{Makespan, Leaving}
 use Rattle.plan_decide.specs.declared.asked.Asked.{Asked}
-use Rattle.plan_decide.specs.declared.asked.Asked.TheVariants.{All, Both, AtMost}
+use Rattle.plan_decide.specs.declared.asked.Asked.TheVariants.{All, Nobody, Both, AtMost}
 use Rattle.plan_decide.specs.Cases.{Case, IsOutWithin, IsPlanOf, is_waiting, budget_in, times_in}
 
 module _ (t : Case) where
@@ -17,6 +17,7 @@ module _ (t : Case) where
   -- the limit of job j, where it is asked for
   abbrev pub limit_asked : Asked → ℕ → Option ℕ
   limit_asked All j = promise_in j
+  limit_asked Nobody j = None
   limit_asked (Both one other) j = if (j == one) || (j == other) then promise_in j else None
   limit_asked (AtMost Makespan n) j = Some (min (budget_in t j) n)
   limit_asked (AtMost (Leaving i) n) j = if j == i then Some n else promise_in j

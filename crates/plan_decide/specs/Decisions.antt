@@ -1,5 +1,5 @@
 -- What a decision says.
-use Rattle.std.specs.Prelude.{◌≡◌, ℕ, ◌≤◌, List, false}
+use Rattle.std.specs.Prelude.{◌≡◌, ℕ, ◌≤◌, false}
 use Rattle.shop_base.specs.Plan.{PlannedShop}
 use Rattle.plan_seek.specs.Tasks.{with_order}
 use Rattle.plan_decide.specs.declared.aim.Aim.{Aim}
@@ -9,9 +9,9 @@ use Rattle.plan_decide.specs.declared.aim.Objective.TheVariants.{Makespan, Leavi
 use Rattle.plan_decide.specs.declared.decide_fault.DecideFault.{DecideFault}
 use Rattle.plan_decide.specs.declared.decide_fault.DecideFault.TheVariants.{JobOutOfRange, Run, Memory}
 use Rattle.plan_decide.specs.declared.decided.Decided.{Decided}
-use Rattle.plan_decide.specs.declared.decided.Decided.TheVariants.{Kept, Best, Never, Open}
+use Rattle.plan_decide.specs.declared.decided.Decided.TheVariants.{Kept, Best, Never, Cyclic, Open}
 use Rattle.plan_decide.specs.declared.decided.Within.{Within}
-use Rattle.plan_decide.specs.declared.decided.Excluded.{Excluded}
+use Rattle.plan_decide.specs.declared.decided.Exclusions.{Exclusions}
 use Rattle.plan_decide.specs.Cases.{Case, IsAccepted, HasValue, with_budget}
 use Rattle.plan_decide.specs.Promises.{asked_for, IsInRange}
 use Rattle.plan_decide.specs.Objectives.{IsLeastValue}
@@ -20,29 +20,49 @@ use Rattle.plan_decide.specs.Objectives.{IsLeastValue}
 abbrev pub OnKept : {K : Type 0} → (K → Type 0) → Decided K → Type 0
 OnKept P (Kept plan) = P plan
 OnKept P (Best plan within) = Unit {0}
-OnKept P (Never excluded back) = Unit {0}
+OnKept P (Never found back) = Unit {0}
+OnKept P (Cyclic back) = Unit {0}
 OnKept P (Open back) = Unit {0}
 
 -- where the best plan that was found is given
 abbrev pub OnBest : {K : Type 0} → (K → Within → Type 0) → Decided K → Type 0
 OnBest P (Kept plan) = Unit {0}
 OnBest P (Best plan within) = P plan within
-OnBest P (Never excluded back) = Unit {0}
+OnBest P (Never found back) = Unit {0}
+OnBest P (Cyclic back) = Unit {0}
 OnBest P (Open back) = Unit {0}
 
 -- where they can't be kept
-abbrev pub OnNever : {K : Type 0} → (List Excluded → PlannedShop → Type 0) → Decided K → Type 0
+abbrev pub OnNever : {K : Type 0} → (Exclusions → Type 0) → Decided K → Type 0
 OnNever P (Kept plan) = Unit {0}
 OnNever P (Best plan within) = Unit {0}
-OnNever P (Never excluded back) = P excluded.items back
+OnNever P (Never found back) = P found
+OnNever P (Cyclic back) = Unit {0}
 OnNever P (Open back) = Unit {0}
 
+-- where no plan is without a cycle
+abbrev pub OnCyclic : {K : Type 0} → Type 0 → Decided K → Type 0
+OnCyclic P (Kept plan) = Unit {0}
+OnCyclic P (Best plan within) = Unit {0}
+OnCyclic P (Never found back) = Unit {0}
+OnCyclic P (Cyclic back) = P
+OnCyclic P (Open back) = Unit {0}
+
 -- where it isn't decided
-abbrev pub OnOpen : {K : Type 0} → (PlannedShop → Type 0) → Decided K → Type 0
+abbrev pub OnOpen : {K : Type 0} → Type 0 → Decided K → Type 0
 OnOpen P (Kept plan) = Unit {0}
 OnOpen P (Best plan within) = Unit {0}
-OnOpen P (Never excluded back) = Unit {0}
-OnOpen P (Open back) = P back
+OnOpen P (Never found back) = Unit {0}
+OnOpen P (Cyclic back) = Unit {0}
+OnOpen P (Open back) = P
+
+-- where no plan is found, this one comes back
+abbrev pub GivesBack : {K : Type 0} → PlannedShop → Decided K → Type 0
+GivesBack p (Kept plan) = Unit {0}
+GivesBack p (Best plan within) = Unit {0}
+GivesBack p (Never found back) = back ≡ p
+GivesBack p (Cyclic back) = back ≡ p
+GivesBack p (Open back) = back ≡ p
 
 -- the plan has these numbers, and is accepted
 pub record IsAcceptedWith (t : Case) (p : PlannedShop) : Type 0 where

@@ -8,7 +8,7 @@ use Rattle.shop_base.specs.Ends.{IsGoneBy}
 use Rattle.shop_base.specs.Ahead.{MoveFrom}
 use Rattle.plan_seek.specs.Tasks.{PlanTask}
 use Rattle.plan_decide.specs.Cases.{Case, nothing, run_to, IsPlanOf, budget_in}
-use Rattle.plan_decide.specs.Excluding.{AreExcluded}
+use Rattle.plan_decide.specs.Excluding.{AreAllCyclic, AreExcluded}
 
 -- a run at whose end all jobs are gone, and these by their budgets in t
 pub record KeepsThemAll (t : Case) (js : List ℕ) (p : PlannedShop) (es : List Event) : Type 0 where
@@ -22,6 +22,10 @@ whole t = record { task = t; past = nothing }
 -- the numbers of plans that go on from a cell, to which these lines lead, and a present moment
 abbrev pub from_there : PlanTask → List (List ℕ) → Cell → ℕ → Case
 from_there t lines c present = record { task = t; past = run_to lines c present }
+
+-- where no plan is without a cycle, no run of any such plan has all jobs out, whatever its moments and whoever controls it
+abbrev pub NoRunEndsWhereAllAreCyclic : Type 0
+NoRunEndsWhereAllAreCyclic = (t : Case) (p : PlannedShop) (es : List Event) → AreAllCyclic t → IsPlanOf t p → IsRun p es → ((j : ℕ) → j < jobs p → IsGone p (ends_in p es) j) → ⊥
 
 -- where promises exclude each other, no run of any such plan keeps them all whose reports are exact
 abbrev pub NoExactRunKeepsThem : Type 0

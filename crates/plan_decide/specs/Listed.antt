@@ -1,34 +1,78 @@
--- What is listed of promises that can't be kept, while it is collected.
-use Rattle.std.specs.Prelude.{ℕ, ◌<◌, ◌≤◌, List, All, AllPairs, Contains, length}
+-- How each job's promise stands, and what is listed of promises that can't be kept, while it is collected.
+use Rattle.std.specs.Prelude.{◌≡◌, ◌⊎◌, ℕ, ◌<◌, Bool, true, false, List, [], ◌∷◌, All, AllPairs, Contains, length, slice_index_or}
 use Rattle.plan_decide.specs.declared.decided.Excluded.{Excluded}
-use Rattle.plan_decide.specs.declared.decided.Excluded.TheVariants.{Alone}
+use Rattle.plan_decide.specs.declared.decided.Excluded.TheVariants.{Alone, Pair, Several}
+use Rattle.plan_decide.specs.declared.decided.Exclusions.{Exclusions}
+use Rattle.plan_decide.specs.declared.listing.Listing.{Listing}
+use Rattle.plan_decide.specs.declared.standing.Standing.{Standing}
+use Rattle.plan_decide.specs.declared.standing.Standing.TheVariants.{Unpromised, Late, Doubt}
+use Rattle.plan_decide.specs.declared.pairs.Both.{Both}
+use Rattle.plan_decide.specs.declared.pairs.Both.TheVariants.{Never, Kept, Open}
 use Rattle.plan_decide.specs.declared.promises.Reply.{Reply}
-use Rattle.plan_decide.specs.declared.promises.Reply.TheVariants.{Orders, Never, Open}
+use Rattle.plan_decide.specs.declared.promises.Reply.TheVariants.{Orders, Never as Excluding, Cyclic, Open as Undecided}
 use Rattle.plan_decide.specs.Cases.{Case}
-use Rattle.plan_decide.specs.Excluding.{IsNeverInTime, IsExclusion, ComesBefore, AreExclusions, NoneIsAlone}
+use Rattle.plan_decide.specs.Promises.{IsPromised}
+use Rattle.plan_decide.specs.Excluding.{AreAllCyclic, AreExcluded, HasPlanFor, IsInDoubt, IsExclusion, ComesBefore, AreExclusions, NoneIsAlone}
 
--- jobs that exclude each other, in order
-pub record AreOrderedExclusions (t : Case) (es : List Excluded) : Type 0 where
-  pub each : All (IsExclusion t) es
-  pub order : AllPairs ComesBefore es
+-- how the promise of job j stands
+abbrev pub standing_of : List Standing → ℕ → Standing
+standing_of standings j = slice_index_or standings j Unpromised
 
--- and all of them come before this one
-pub record AreExclusionsBefore (t : Case) (next : Excluded) (es : List Excluded) : Type 0 where
-  pub listed : AreOrderedExclusions t es
-  pub before : All (λ e. ComesBefore e next) es
+-- what is listed, and whether it is open if any plan is without a cycle
+abbrev pub exclusions_of : Listing → Bool → Exclusions
+exclusions_of found cycles_open = record { listed = found.listed; pairs_open = found.pairs_open; cycles_open = cycles_open }
 
--- of the first n jobs, each that is never in time by its bound is listed
-pub record AreAllAlone (t : Case) (n : ℕ) (es : List Excluded) : Type 0 where
-  pub listed : AreExclusionsBefore t (Alone n) es
-  pub alone : (j : ℕ) → j < n → IsNeverInTime t j → Contains es (Alone j)
+module _ (t : Case) where
+  -- it stands so
+  abbrev pub IsStanding : ℕ → Standing → Type 0
+  IsStanding j Unpromised = IsPromised t j → ⊥
+  IsStanding j Late = IsExclusion t (Alone j)
+  IsStanding j Doubt = IsInDoubt t j
 
--- more is listed, and what was listed stays
-pub record AddsExclusions (old new : List Excluded) : Type 0 where
-  pub kept : (e : Excluded) → Contains old e → Contains new e
-  pub more : length old ≤ length new
+  -- the promises of the first n jobs stand so
+  pub record AreStandings (n : ℕ) (standings : List Standing) : Type 0 where
+    pub count : length standings ≡ n
+    pub each : (j : ℕ) → j < n → IsStanding j (standing_of standings j)
 
--- what is found of all promises together
-abbrev pub IsReply : Case → Reply → Type 0
-IsReply t (Orders order) = NoneIsAlone t
-IsReply t (Never listed) = AreExclusions t listed.items
-IsReply t Open = NoneIsAlone t
+  -- what is found of the promises to two jobs is so
+  abbrev pub IsBoth : ℕ → ℕ → Both → Type 0
+  IsBoth i j Never = AreExcluded t (i ∷ j ∷ [])
+  IsBoth i j Kept = HasPlanFor t (Contains (i ∷ j ∷ []))
+  IsBoth i j Open = Unit {0}
+
+  -- the two are listed as a pair, or some plan keeps both promises
+  abbrev pub IsPairSettled : List Excluded → ℕ → ℕ → Type 0
+  IsPairSettled es i j = ((or_fewer : Bool) × Contains es (Pair i j or_fewer)) ⊎ HasPlanFor t (Contains (i ∷ j ∷ []))
+
+  -- what is found of all promises together
+  abbrev pub IsReply : Reply → Type 0
+  IsReply (Orders order) = NoneIsAlone t
+  IsReply (Excluding found) = AreExclusions t (exclusions_of found true)
+  IsReply Cyclic = AreAllCyclic t
+  IsReply Undecided = NoneIsAlone t
+
+-- jobs that are late alone, and pairs of jobs in doubt
+abbrev pub IsFrom : List Standing → Excluded → Type 0
+IsFrom standings (Alone j) = standing_of standings j ≡ Late
+IsFrom standings (Pair i j or_fewer) = (standing_of standings i ≡ Doubt) × (standing_of standings j ≡ Doubt)
+IsFrom standings (Several js or_fewer) = ⊥
+
+module _ (t : Case) (standings : List Standing) where
+  -- such jobs that exclude each other, in order, and all of them come before this one
+  pub record AreListedBefore (next : Excluded) (es : List Excluded) : Type 0 where
+    pub each : All (IsExclusion t) es
+    pub from : All (IsFrom standings) es
+    pub order : AllPairs ComesBefore es
+    pub before : All (λ e. ComesBefore e next) es
+
+  -- of the first n jobs, each that is late alone is listed
+  pub record AreAllAlone (n : ℕ) (es : List Excluded) : Type 0 where
+    pub listed : AreListedBefore (Alone n) es
+    pub alone : (j : ℕ) → j < n → standing_of standings j ≡ Late → Contains es (Alone j)
+
+  -- each job that is late alone is listed, and each pair before i and j that excludes each other, where none is open
+  pub record ArePairedTo (i j : ℕ) (found : Listing) : Type 0 where
+    pub listed : AreListedBefore (Pair i j false) found.listed.items
+    pub alone : (k : ℕ) → standing_of standings k ≡ Late → Contains found.listed.items (Alone k)
+    pub settled : found.pairs_open ≡ false → (k l : ℕ) → k < l → (k < i) ⊎ ((k ≡ i) × (l < j)) → standing_of standings k ≡ Doubt → standing_of standings l ≡ Doubt
+        → IsPairSettled t found.listed.items k l

@@ -17,7 +17,9 @@ use std::alloc::{AllocError, Global};
 pub(crate) enum Asked {
     /// All of them.
     All,
-    /// Those of two jobs.
+    /// None of them.
+    Nobody,
+    /// Those of two jobs, or of one that is given twice.
     Both(JobNo, JobNo),
     /// All of them, and an objective that is at most this.
     AtMost(Objective, Moment),
@@ -43,6 +45,7 @@ fn limit_for(setting: &Setting<'_>, asked: Asked, job: JobNo) -> Option<Moment>
 {
     match asked {
         Asked::All => promise_to(setting, job),
+        Asked::Nobody => None,
         Asked::Both(one, other) => {
             if job == one || job == other {
                 promise_to(setting, job)

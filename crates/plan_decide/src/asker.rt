@@ -21,7 +21,7 @@ pub trait Watch {
     fn choice(&mut self, choices: u64, limit: u64, found: Option<Within>);
 }
 
-/// The most choices of a search for a plan that keeps the promises to two jobs, even where more are allowed.
+/// The most choices of a search for a plan that keeps the promises to two jobs, or to one, even where more are allowed.
 pub const PAIR_CHOICES: u64 = 1_000;
 
 /// A chooser whose choices are counted in each search, and reported to a watch.
@@ -68,15 +68,7 @@ impl<C: Choose, W: Watch> Asker<'_, C, W> {
         ensures { IfOk result (OnNever (IsImpossible (case_in setting.now) asked)) }
     {
         let limits = limits_for(alloc, setting, asked)?;
-        match asked {
-            Asked::Both(_, _) => self.search(
-                alloc,
-                setting,
-                &limits,
-                self.choices.min(PAIR_CHOICES),
-            ),
-            _ => self.search(alloc, setting, &limits, self.choices),
-        }
+        self.ask_limits(alloc, setting, &limits)
     }
 
     /// Whether any plan keeps these limits.
@@ -91,6 +83,20 @@ impl<C: Choose, W: Watch> Asker<'_, C, W> {
         ensures { IfOk result (OnNever (NoPlanKeeps (case_in setting.now) limits.now)) }
     {
         self.search(alloc, setting, limits, self.choices)
+    }
+
+    /// The same by few choices.
+    pub(crate) fn ask_few(
+        &mut self,
+        alloc: Global,
+        setting: &Setting<'_>,
+        limits: &[Option<Moment>],
+    ) -> Result<Answer, AllocError>
+        requires count { length limits.now ≡ jobs setting.now.cell.plan }
+        requires set { IsSet setting.now }
+        ensures { IfOk result (OnNever (NoPlanKeeps (case_in setting.now) limits.now)) }
+    {
+        self.search(alloc, setting, limits, self.choices.min(PAIR_CHOICES))
     }
 
     /// The same by at most so many choices.

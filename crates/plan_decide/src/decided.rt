@@ -11,7 +11,9 @@ pub enum Decided<K> {
     /// of a job was asked for, the plan has the job's leaving as its budget.
     Best(K, Within),
     /// They can't: the jobs that exclude each other, and the plan that was given.
-    Never(Vec<Excluded>, Shaped),
+    Never(Exclusions, Shaped),
+    /// No plan is without a cycle, whatever its orders: none gets all jobs out. The plan that was given comes back.
+    Cyclic(Shaped),
     /// Whether they can isn't decided, within the choices that were allowed or since the question is too large. The
     /// plan that was given comes back.
     Open(Shaped),
@@ -29,15 +31,37 @@ pub struct Within {
     pub ended_open: bool,
 }
 
-/// Promised jobs that exclude each other: in no plan are all of them out by their budgets, even if all others are late.
+/// The promises that exclude each other.
+#[derive(Debug, Drop)]
+pub struct Exclusions {
+    /// What is listed, in order.
+    pub listed: Vec<Excluded>,
+    /// Whether a pair may be missing: the search for a plan that keeps the promises to two jobs ended open, or none was
+    /// made, since more than `PAIRED_JOBS` jobs may have been in a pair.
+    pub pairs_open: bool,
+    /// Whether it isn't decided if any plan is without a cycle: a search for one ended open.
+    pub cycles_open: bool,
+}
+
+/// Promised jobs that exclude each other: no plan without a cycle has all of them out by their budgets, even if all
+/// others are late.
 #[derive(Debug, Drop)]
 pub enum Excluded {
-    /// A job whose bound is past its budget.
+    /// A job whose promise no plan keeps. Of whole plans that is one whose bound is past its budget.
     Alone(JobNo),
-    /// Two jobs, the lesser first. Neither's bound is past its budget.
-    Pair(JobNo, JobNo),
+    /// Two jobs, the lesser first, of which neither is listed alone. Unless `or_fewer` holds, each can be out by its
+    /// budget without the other.
+    Pair {
+        lesser: JobNo,
+        greater: JobNo,
+        /// Whether the search for a plan that keeps the promise to one of the two ended open.
+        or_fewer: bool,
+    },
     /// The jobs that remain where of all the promised ones those are left out, the greatest number first, without which
     /// the others still exclude each other. They ascend. Where no search of this ended open, each of them is needed:
     /// the promises of the others can be kept.
-    Several { jobs: Vec<JobNo>, or_fewer: bool },
+    Several {
+        jobs: Vec<JobNo>,
+        or_fewer: bool,
+    },
 }

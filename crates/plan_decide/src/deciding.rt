@@ -8,19 +8,23 @@ ghost use Rattle.plan_decide.specs.declared.aim.Aim.TheVariants.{Promises, Least
 ghost use Rattle.plan_decide.specs.Cases.{Case};
 ghost use Rattle.plan_decide.specs.Pasts.{whole_case, HoldsAfter, IsDecideRestFault};
 ghost use Rattle.plan_decide.specs.Promises.{asked_for, IsInRange};
-ghost use Rattle.plan_decide.specs.Excluding.{AreExclusions, NoneIsAlone};
-ghost use Rattle.plan_decide.specs.Decisions.{OnKept, OnBest, OnNever, OnOpen, IsKept, IsBest, IsDecideFault};
+ghost use Rattle.plan_decide.specs.Excluding.{AreAllCyclic, AreExclusions, NoneIsAlone};
+ghost use Rattle.plan_decide.specs.Decisions.{OnKept, OnBest, OnNever, OnCyclic, OnOpen, GivesBack};
+ghost use Rattle.plan_decide.specs.Decisions.{IsKept, IsBest, IsDecideFault};
 ghost use Rattle.plan_decide.specs.Settings.{IsSet, case_in};
 ghost use Rattle.plan_decide.specs.Found.{IsReady, IsFound, IsDecided};
 ghost use Rattle.plan_decide.specs.Halves.{IsFree};
+ghost use Rattle.plan_decide.specs.Listed.{exclusions_of};
 
 use crate::aim::{Aim, Objective, is_in_range};
 use crate::asker::{Asker, Watch};
+use crate::cycles::{Acyclic, ask_acyclic, is_unfound};
 use crate::decide_fault::{DecideFault, Undecided};
-use crate::decided::{Decided, Excluded, Within};
+use crate::decided::{Decided, Exclusions, Within};
 use crate::halving::{halve, plan_by};
 use crate::judging::accepted_by;
 use crate::kept::Kept;
+use crate::listing::Listing;
 use crate::promises::{Reply, ask_all};
 use crate::setting::{Setting, after_log, whole};
 use arc_choice::Choose;
@@ -33,7 +37,8 @@ use std::alloc::{AllocError, Global};
 pub(crate) enum Found {
     Kept(Kept),
     Best(Kept, Within),
-    Never(Vec<Excluded>),
+    Never(Exclusions),
+    Cyclic,
     Open,
 }
 
@@ -60,10 +65,10 @@ pub fn decide<C: Choose, W: Watch>(
     ensures in_range { OnOk result (IsInRange (whole_case shaped) aim) }
     ensures kept { IfOk result (OnKept (λ verified. IsKept (whole_case shaped) aim verified.planned)) }
     ensures best { IfOk result (OnBest (λ verified within. IsBest (whole_case shaped) aim verified.planned within)) }
-    ensures never { IfOk result (OnNever (λ listed back. AreExclusions (asked_for (whole_case shaped) aim) listed)) }
-    ensures open { IfOk result (OnOpen (λ back. NoneIsAlone (asked_for (whole_case shaped) aim))) }
-    ensures given_back { IfOk result (OnNever (λ listed back. back ≡ shaped)) }
-    ensures left_open { IfOk result (OnOpen (λ back. back ≡ shaped)) }
+    ensures never { IfOk result (OnNever (AreExclusions (asked_for (whole_case shaped) aim))) }
+    ensures cyclic { IfOk result (OnCyclic (AreAllCyclic (whole_case shaped))) }
+    ensures open { IfOk result (OnOpen (NoneIsAlone (asked_for (whole_case shaped) aim))) }
+    ensures given_back { IfOk result (GivesBack shaped) }
     ensures refused { IfErr result (λ undecided. IsDecideFault (whole_case shaped) aim undecided.fault) }
     ensures handed_back { IfErr result (λ undecided. undecided.shaped ≡ shaped) }
 {
@@ -83,7 +88,9 @@ pub fn decide<C: Choose, W: Watch>(
 /// from its last one: of all plans with its releases and cleaning times of which they record a run too. Entries that
 /// were made stay, and jobs that are gone aren't asked for. What goes on ends when it is due, and what is overdue at
 /// the present moment. The bound of a job is then that moment, or the one at which what goes on with it is due, and its
-/// nominal times from there on. Where the log records no event and the moment is 0, that is what `decide` decides.
+/// nominal times from there on. It is asked first whether any of these plans is without a cycle: this one, or else one
+/// that a search finds; and each promised job is asked for alone, by at most `PAIR_CHOICES` choices, before all of them
+/// are. Where the log records no event and the moment is 0, that is what `decide` decides.
 pub fn decide_after<C: Choose, W: Watch>(
     alloc: Global,
     shaped: Shaped,
@@ -98,12 +105,12 @@ pub fn decide_after<C: Choose, W: Watch>(
     ensures kept { IfOk result (OnKept (λ plan. HoldsAfter (ended_lines log.now) at shaped (λ t. IsKept t aim plan))) }
     ensures best { IfOk result (OnBest (λ plan within.
         HoldsAfter (ended_lines log.now) at shaped (λ t. IsBest t aim plan within))) }
-    ensures never { IfOk result (OnNever (λ listed back.
-        HoldsAfter (ended_lines log.now) at shaped (λ t. AreExclusions (asked_for t aim) listed))) }
-    ensures open { IfOk result (OnOpen (λ back.
-        HoldsAfter (ended_lines log.now) at shaped (λ t. NoneIsAlone (asked_for t aim)))) }
-    ensures given_back { IfOk result (OnNever (λ listed back. back ≡ shaped)) }
-    ensures left_open { IfOk result (OnOpen (λ back. back ≡ shaped)) }
+    ensures never { IfOk result (OnNever (λ found.
+        HoldsAfter (ended_lines log.now) at shaped (λ t. AreExclusions (asked_for t aim) found))) }
+    ensures cyclic { IfOk result (OnCyclic (HoldsAfter (ended_lines log.now) at shaped AreAllCyclic)) }
+    ensures open { IfOk result (OnOpen
+        (HoldsAfter (ended_lines log.now) at shaped (λ t. NoneIsAlone (asked_for t aim)))) }
+    ensures given_back { IfOk result (GivesBack shaped) }
     ensures refused { IfErr result (λ undecided.
         IsDecideRestFault (ended_lines log.now) at shaped aim undecided.fault) }
     ensures handed_back { IfErr result (λ undecided. undecided.shaped ≡ shaped) }
@@ -189,7 +196,8 @@ fn whole_back(found: Found, shaped: Shaped) -> Decided<Verified>
             }
             None => Decided::Open(shaped),
         },
-        Found::Never(listed) => Decided::Never(listed, shaped),
+        Found::Never(found) => Decided::Never(found, shaped),
+        Found::Cyclic => Decided::Cyclic(shaped),
         Found::Open => Decided::Open(shaped),
     }
 }
@@ -208,7 +216,8 @@ fn rest_back(found: Found, shaped: Shaped) -> Decided<Shaped>
             drop(shaped);
             Decided::Best(kept.into_shaped(), within)
         }
-        Found::Never(listed) => Decided::Never(listed, shaped),
+        Found::Never(found) => Decided::Never(found, shaped),
+        Found::Cyclic => Decided::Cyclic(shaped),
         Found::Open => Decided::Open(shaped),
     }
 }
@@ -224,13 +233,30 @@ fn find<C: Choose, W: Watch>(
     requires ready { IsReady (case_in setting.now) aim }
     ensures { IfOk result (IsFound (case_in setting.now) aim) }
 {
+    let acyclic = ask_acyclic(alloc, setting, asker)?;
+    if let Acyclic::Never = acyclic {
+        return Ok(Found::Cyclic);
+    }
     match ask_all(alloc, setting, asker)? {
-        Reply::Never(listed) => Ok(Found::Never(listed)),
+        Reply::Never(found) => Ok(Found::Never(never_of(found, is_unfound(acyclic)))),
+        Reply::Cyclic => Ok(Found::Cyclic),
         Reply::Open => Ok(Found::Open),
         Reply::Orders(order) => match aim {
             Aim::Promises => keep(alloc, setting, order),
             Aim::Least(objective) => least(alloc, setting, objective, asker, order),
         },
+    }
+}
+
+/// What is listed, and whether it is open if any plan is without a cycle.
+fn never_of(found: Listing, cycles_open: bool) -> Exclusions
+    ensures { result ≡ exclusions_of found cycles_open }
+{
+    let Listing { listed, pairs_open } = found;
+    Exclusions {
+        listed,
+        pairs_open,
+        cycles_open,
     }
 }
 

@@ -1,19 +1,18 @@
 //! Promised jobs left out in turn, where the others still exclude each other.
 
-ghost use Rattle.std.specs.Prelude.{◌≡◌, ◌+◌, ◌<◌, ℕ, List, Option, IfOk, OnOk, length, map, slice_set, None};
+ghost use Rattle.std.specs.Prelude.{◌≡◌, ◌+◌, ◌<◌, IfOk, MatchOption, OnOk, length, slice_set, None};
 ghost use Rattle.shop_base.specs.Plan.{jobs};
 ghost use Rattle.plan_decide.specs.Asking.{NoPlanKeeps};
 ghost use Rattle.plan_decide.specs.Settings.{IsSet, case_in};
-ghost use Rattle.plan_decide.specs.Excluding.{IsExclusion};
-ghost use Rattle.plan_decide.specs.LeftOut.{ArePromised, IsSpared, IsLeft, AreLimited, cap};
+ghost use Rattle.plan_decide.specs.Excluding.{AreAllCyclic, IsExclusion};
+ghost use Rattle.plan_decide.specs.LeftOut.{ArePromised, IsSpared, IsLeft, AreLimited};
 
 use crate::asker::{Asker, Watch};
 use crate::decided::Excluded;
-use crate::judging::accepted_with;
+use crate::keeping::keeps;
 use crate::setting::Setting;
 use arc_choice::Choose;
 use plan_limits::Answer;
-use shop_base::limits::MAX_MOMENT;
 use shop_base::{JobNo, Moment};
 use std::alloc::{AllocError, Global};
 
@@ -37,17 +36,18 @@ pub(crate) struct Left {
 }
 
 /// The jobs that are left of those with limits, where all together exclude each other: from the greatest number down
-/// each is left out without which the others still do.
+/// each is left out without which the others still do. Where none is left, no plan is without a cycle.
 pub(crate) fn leave_out<C: Choose, W: Watch>(
     alloc: Global,
     setting: &Setting<'_>,
     asker: &mut Asker<'_, C, W>,
     limits: Vec<Option<Moment>>,
-) -> Result<Excluded, AllocError>
+) -> Result<Option<Excluded>, AllocError>
     requires set { IsSet setting.now }
     requires promised { ArePromised (case_in setting.now) limits.items }
     requires none { NoPlanKeeps (case_in setting.now) limits.items }
-    ensures { IfOk result (IsExclusion (case_in setting.now)) }
+    ensures { let t = case_in setting.now in
+        IfOk result (λ found. MatchOption found (AreAllCyclic t) (IsExclusion t)) }
 {
     let mut left = Left {
         limits,
@@ -58,7 +58,10 @@ pub(crate) fn leave_out<C: Choose, W: Watch>(
     }
     let Left { limits, or_fewer } = left;
     let jobs = limited_jobs(alloc, setting, &limits)?;
-    Ok(Excluded::Several { jobs, or_fewer })
+    if jobs.is_empty() {
+        return Ok(None);
+    }
+    Ok(Some(Excluded::Several { jobs, or_fewer }))
 }
 
 /// What is left once this job was asked about too.
@@ -108,29 +111,13 @@ fn spare<C: Choose, W: Watch>(
     match asker.ask_limits(alloc, setting, &fewer)? {
         Answer::Never => Ok(Spared::LeftOut(fewer)),
         Answer::Open => Ok(Spared::Open),
-        Answer::Orders(order) => needed_by(alloc, setting, &fewer, order),
-    }
-}
-
-/// Whether a job is needed, where the plan with these orders may keep the limits of the others.
-fn needed_by(
-    alloc: Global,
-    setting: &Setting<'_>,
-    fewer: &[Option<Moment>],
-    order: Vec<Vec<JobNo>>,
-) -> Result<Spared, AllocError>
-    requires count { length fewer.now ≡ jobs setting.now.cell.plan }
-    requires set { IsSet setting.now }
-    ensures { (limits : List (Option ℕ)) (j : ℕ) → fewer.now ≡ slice_set limits j None
-        → IfOk result (IsSpared (case_in setting.now) limits j) }
-{
-    let budget = caps(alloc, fewer)?;
-    match accepted_with(alloc, setting, budget, order)? {
-        Some(kept) => {
-            drop(kept);
-            Ok(Spared::Needed)
+        Answer::Orders(order) => {
+            if keeps(alloc, setting, &fewer, order)? {
+                Ok(Spared::Needed)
+            } else {
+                Ok(Spared::Open)
+            }
         }
-        None => Ok(Spared::Open),
     }
 }
 
@@ -146,26 +133,6 @@ fn without(
     let mut fewer = limits.to_vec(alloc)?;
     fewer[job as usize] = None;
     Ok(fewer)
-}
-
-/// The budgets that these limits make: no promise where there is no limit.
-fn caps(alloc: Global, limits: &[Option<Moment>]) -> Result<Vec<Moment>, AllocError>
-    ensures { IfOk result (λ budget. budget.items ≡ map cap limits.now) }
-{
-    let mut budget = Vec::new(alloc);
-    for limit in limits {
-        budget.push(cap_of(*limit))?;
-    }
-    Ok(budget)
-}
-
-fn cap_of(limit: Option<Moment>) -> Moment
-    ensures { result ≡ cap limit }
-{
-    match limit {
-        Some(limit) => limit,
-        None => MAX_MOMENT,
-    }
 }
 
 /// The jobs that have limits, in ascending order.

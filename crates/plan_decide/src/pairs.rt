@@ -1,17 +1,19 @@
 //! Pairs of jobs whose promises exclude each other.
 
-ghost use Rattle.std.specs.Prelude.{◌+◌, ◌<◌, OnOk};
+ghost use Rattle.std.specs.Prelude.{◌≡◌, ◌+◌, ◌<◌, ◌≤◌, IfOk, OnOk, length, [], ◌∷◌};
 ghost use Rattle.shop_base.specs.Plan.{jobs};
-ghost use Rattle.plan_decide.specs.declared.decided.Excluded.TheVariants.{Pair};
-ghost use Rattle.plan_decide.specs.Excluding.{IsInDoubt};
+ghost use Rattle.plan_decide.specs.declared.standing.Standing.TheVariants.{Doubt};
+ghost use Rattle.plan_decide.specs.{Cases.job_count, Promises.IsPromised, Excluding.AreNeededUnless};
 ghost use Rattle.plan_decide.specs.Settings.{IsSet, case_in};
-ghost use Rattle.plan_decide.specs.Listed.{AreOrderedExclusions, AreExclusionsBefore, AddsExclusions};
+ghost use Rattle.plan_decide.specs.Listed.{ArePairedTo, AreStandings, IsBoth, standing_of};
 
-use crate::alone::is_in_doubt;
-use crate::asked::Asked;
+use crate::asked::{Asked, limits_for};
 use crate::asker::{Asker, Watch};
 use crate::decided::Excluded;
+use crate::keeping::keeps;
+use crate::listing::{Listing, list_one};
 use crate::setting::Setting;
+use crate::standing::{Standing, standing_of};
 use arc_choice::Choose;
 use plan_limits::Answer;
 use shop_base::JobNo;
@@ -20,35 +22,47 @@ use std::alloc::{AllocError, Global};
 /// The most promised jobs of which each two are asked for together.
 pub const PAIRED_JOBS: u32 = 64;
 
-/// Adds each pair of jobs that exclude each other, though neither is never in time by its bound.
+/// What is found of the promises to two jobs.
+#[derive(Clone, Copy)]
+pub(crate) enum Both {
+    /// No plan keeps both.
+    Never,
+    /// Some plan does.
+    Kept,
+    /// That isn't decided.
+    Open,
+}
+
+/// Adds each pair of jobs in doubt that exclude each other.
 pub(crate) fn add_pairs<C: Choose, W: Watch>(
     alloc: Global,
     setting: &Setting<'_>,
     asker: &mut Asker<'_, C, W>,
-    listed: &mut Vec<Excluded>,
+    standings: &[Standing],
+    found: &mut Listing,
 ) -> Result<(), AllocError>
     requires set { IsSet setting.now }
-    requires listed { AreExclusionsBefore (case_in setting.now) (Pair 0 0) listed.old.items }
-    ensures listed { OnOk result (AreOrderedExclusions (case_in setting.now) listed.new.items) }
-    ensures adds { OnOk result (AddsExclusions listed.old.items listed.new.items) }
+    requires standings { let t = case_in setting.now in AreStandings t (job_count t) standings.now }
+    requires found { ArePairedTo (case_in setting.now) standings.now 0 0 found.old }
+    ensures found { let t = case_in setting.now in OnOk result (ArePairedTo t standings.now (job_count t) 0 found.new) }
+    ensures more { OnOk result (length found.old.listed.items ≤ length found.new.listed.items) }
 {
-    if doubtful_jobs(setting) > PAIRED_JOBS {
+    if doubtful_jobs(standings) > PAIRED_JOBS {
+        found.pairs_open = true;
         return Ok(());
     }
     for one in 0..setting.cell.job_count() {
-        add_pairs_of(alloc, setting, asker, one, listed)?;
+        add_pairs_of(alloc, setting, asker, standings, one, found)?;
     }
     Ok(())
 }
 
-/// How many jobs have promises that their bounds leave possible.
-fn doubtful_jobs(setting: &Setting<'_>) -> u32
-    requires { IsSet setting.now }
-{
-    let mut count = 0;
-    for job in 0..setting.cell.job_count() {
-        if is_in_doubt(setting, job) {
-            count += 1;
+/// How many jobs are in doubt.
+fn doubtful_jobs(standings: &[Standing]) -> u32 {
+    let mut count = 0u32;
+    for standing in standings {
+        if let Standing::Doubt = *standing {
+            count = count.saturating_add(1);
         }
     }
     count
@@ -59,21 +73,23 @@ fn add_pairs_of<C: Choose, W: Watch>(
     alloc: Global,
     setting: &Setting<'_>,
     asker: &mut Asker<'_, C, W>,
+    standings: &[Standing],
     one: JobNo,
-    listed: &mut Vec<Excluded>,
+    found: &mut Listing,
 ) -> Result<(), AllocError>
     requires one { one < jobs setting.now.cell.plan }
     requires set { IsSet setting.now }
-    requires listed { AreExclusionsBefore (case_in setting.now) (Pair one 0) listed.old.items }
-    ensures listed { OnOk result (AreExclusionsBefore (case_in setting.now) (Pair (one + 1) 0) listed.new.items) }
-    ensures adds { OnOk result (AddsExclusions listed.old.items listed.new.items) }
+    requires standings { let t = case_in setting.now in AreStandings t (job_count t) standings.now }
+    requires found { ArePairedTo (case_in setting.now) standings.now one 0 found.old }
+    ensures found { OnOk result (ArePairedTo (case_in setting.now) standings.now (one + 1) 0 found.new) }
+    ensures more { OnOk result (length found.old.listed.items ≤ length found.new.listed.items) }
 {
-    if !is_in_doubt(setting, one) {
+    let Standing::Doubt = standing_of(standings, one) else {
         return Ok(());
-    }
+    };
     let jobs = setting.cell.job_count();
     for other in one + 1..jobs {
-        add_pair(alloc, setting, asker, one, other, listed)?;
+        add_pair(alloc, setting, asker, standings, one, other, found)?;
     }
     Ok(())
 }
@@ -83,24 +99,89 @@ fn add_pair<C: Choose, W: Watch>(
     alloc: Global,
     setting: &Setting<'_>,
     asker: &mut Asker<'_, C, W>,
+    standings: &[Standing],
     one: JobNo,
     other: JobNo,
-    listed: &mut Vec<Excluded>,
+    found: &mut Listing,
 ) -> Result<(), AllocError>
     requires other { other < jobs setting.now.cell.plan }
     requires set { IsSet setting.now }
+    requires standings { let t = case_in setting.now in AreStandings t (job_count t) standings.now }
     requires ascending { one < other }
-    requires doubt { IsInDoubt (case_in setting.now) one }
-    requires listed { AreExclusionsBefore (case_in setting.now) (Pair one other) listed.old.items }
-    ensures listed { OnOk result (AreExclusionsBefore (case_in setting.now) (Pair one (other + 1)) listed.new.items) }
-    ensures adds { OnOk result (AddsExclusions listed.old.items listed.new.items) }
+    requires doubt { standing_of standings.now one ≡ Doubt }
+    requires found { ArePairedTo (case_in setting.now) standings.now one other found.old }
+    ensures found { OnOk result (ArePairedTo (case_in setting.now) standings.now one (other + 1) found.new) }
+    ensures more { OnOk result (length found.old.listed.items ≤ length found.new.listed.items) }
 {
-    if !is_in_doubt(setting, other) {
-        return Ok(());
-    }
-    let Answer::Never = asker.ask(alloc, setting, Asked::Both(one, other))? else {
+    let Standing::Doubt = standing_of(standings, other) else {
         return Ok(());
     };
-    listed.push(Excluded::Pair(one, other))?;
-    Ok(())
+    match ask_both(alloc, setting, asker, one, other)? {
+        Both::Never => {
+            let or_fewer = may_fewer_do(alloc, setting, asker, one, other)?;
+            let pair = Excluded::Pair {
+                lesser: one,
+                greater: other,
+                or_fewer,
+            };
+            list_one(found, pair)
+        }
+        Both::Kept => Ok(()),
+        Both::Open => {
+            found.pairs_open = true;
+            Ok(())
+        }
+    }
+}
+
+/// Whether one of the two may do: no search has found that the promise to each can be kept without the other.
+fn may_fewer_do<C: Choose, W: Watch>(
+    alloc: Global,
+    setting: &Setting<'_>,
+    asker: &mut Asker<'_, C, W>,
+    one: JobNo,
+    other: JobNo,
+) -> Result<bool, AllocError>
+    requires ascending { one < other }
+    requires other { other < jobs setting.now.cell.plan }
+    requires promised { IsPromised (case_in setting.now) one × IsPromised (case_in setting.now) other }
+    requires set { IsSet setting.now }
+    ensures { IfOk result (λ or_fewer. AreNeededUnless or_fewer (case_in setting.now) (one ∷ other ∷ [])) }
+{
+    let Both::Kept = ask_both(alloc, setting, asker, one, one)? else {
+        return Ok(true);
+    };
+    let Both::Kept = ask_both(alloc, setting, asker, other, other)? else {
+        return Ok(true);
+    };
+    Ok(false)
+}
+
+/// Asks for the promises to two jobs, or to one that is given twice.
+fn ask_both<C: Choose, W: Watch>(
+    alloc: Global,
+    setting: &Setting<'_>,
+    asker: &mut Asker<'_, C, W>,
+    one: JobNo,
+    other: JobNo,
+) -> Result<Both, AllocError>
+    requires one { one < jobs setting.now.cell.plan }
+    requires other { other < jobs setting.now.cell.plan }
+    requires promised { IsPromised (case_in setting.now) one × IsPromised (case_in setting.now) other }
+    requires set { IsSet setting.now }
+    ensures { IfOk result (IsBoth (case_in setting.now) one other) }
+{
+    let limits = limits_for(alloc, setting, Asked::Both(one, other))?;
+    match asker.ask_few(alloc, setting, &limits)? {
+        Answer::Never => Ok(Both::Never),
+        Answer::Open => Ok(Both::Open),
+        Answer::Orders(order) => {
+            let is_kept = keeps(alloc, setting, &limits, order)?;
+            if is_kept {
+                Ok(Both::Kept)
+            } else {
+                Ok(Both::Open)
+            }
+        }
+    }
 }

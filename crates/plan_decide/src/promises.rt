@@ -1,16 +1,19 @@
 //! Whether all promises can be kept, and where they can't, which exclude each other.
 
-ghost use Rattle.std.specs.Prelude.{IfOk};
+ghost use Rattle.std.specs.Prelude.{◌≡◌, ◌≤◌, ◌++◌, IfOk, length, [], ◌∷◌};
 ghost use Rattle.plan_decide.specs.{Asking.NoPlanKeeps, Settings.IsSet, Settings.case_in, LeftOut.ArePromised};
-ghost use Rattle.plan_decide.specs.{Excluding.AreExclusions, Excluding.NoneIsAlone, Listed.IsReply};
+ghost use Rattle.plan_decide.specs.Cases.{job_count};
+ghost use Rattle.plan_decide.specs.Listed.{AreAllAlone, ArePairedTo, AreStandings, IsReply};
 
 use crate::alone::all_alone;
 use crate::asked::{Asked, limits_for};
 use crate::asker::{Asker, Watch};
 use crate::decided::Excluded;
 use crate::leaving_out::leave_out;
+use crate::listing::{Listing, list_one};
 use crate::pairs::add_pairs;
 use crate::setting::Setting;
+use crate::standing::{Standing, standings};
 use arc_choice::Choose;
 use plan_limits::Answer;
 use shop_base::{JobNo, Moment};
@@ -22,12 +25,14 @@ pub(crate) enum Reply {
     /// Orders of a plan that may keep them.
     Orders(Vec<Vec<JobNo>>),
     /// The jobs that exclude each other.
-    Never(Vec<Excluded>),
+    Never(Listing),
+    /// No plan is without a cycle.
+    Cyclic,
     /// Not decided.
     Open,
 }
 
-/// Asks for all promises, if none is excluded by its job's bound; else for each pair of the others.
+/// Asks for all promises, if no job is late alone; else for each pair of the others.
 pub(crate) fn ask_all<C: Choose, W: Watch>(
     alloc: Global,
     setting: &Setting<'_>,
@@ -36,29 +41,54 @@ pub(crate) fn ask_all<C: Choose, W: Watch>(
     requires { IsSet setting.now }
     ensures { IfOk result (IsReply (case_in setting.now)) }
 {
-    let mut listed = all_alone(alloc, setting)?;
+    let standings = standings(alloc, setting, asker)?;
+    let listed = all_alone(alloc, setting, &standings)?;
     if listed.is_empty() {
-        return ask_promises(alloc, setting, asker);
+        drop(listed);
+        return ask_promises(alloc, setting, asker, &standings);
     }
-    add_pairs(alloc, setting, asker, &mut listed)?;
-    Ok(Reply::Never(listed))
+    Ok(Reply::Never(with_pairs(alloc, setting, asker, &standings, listed)?))
 }
 
-/// Asks for all promises, where none is excluded by its job's bound.
+/// What is listed of jobs alone, with the pairs of others that exclude each other.
+fn with_pairs<C: Choose, W: Watch>(
+    alloc: Global,
+    setting: &Setting<'_>,
+    asker: &mut Asker<'_, C, W>,
+    standings: &[Standing],
+    listed: Vec<Excluded>,
+) -> Result<Listing, AllocError>
+    requires set { IsSet setting.now }
+    requires standings { let t = case_in setting.now in AreStandings t (job_count t) standings.now }
+    requires alone { let t = case_in setting.now in AreAllAlone t standings.now (job_count t) listed.items }
+    ensures found { let t = case_in setting.now in IfOk result (ArePairedTo t standings.now (job_count t) 0) }
+    ensures more { IfOk result (λ found. length listed.items ≤ length found.listed.items) }
+{
+    let mut found = Listing {
+        listed,
+        pairs_open: false,
+    };
+    add_pairs(alloc, setting, asker, standings, &mut found)?;
+    Ok(found)
+}
+
+/// Asks for all promises, where no job is late alone.
 fn ask_promises<C: Choose, W: Watch>(
     alloc: Global,
     setting: &Setting<'_>,
     asker: &mut Asker<'_, C, W>,
+    standings: &[Standing],
 ) -> Result<Reply, AllocError>
     requires set { IsSet setting.now }
-    requires none_alone { NoneIsAlone (case_in setting.now) }
+    requires standings { let t = case_in setting.now in AreStandings t (job_count t) standings.now }
+    requires none { let t = case_in setting.now in AreAllAlone t standings.now (job_count t) [] }
     ensures { IfOk result (IsReply (case_in setting.now)) }
 {
     let limits = limits_for(alloc, setting, Asked::All)?;
     match asker.ask_limits(alloc, setting, &limits)? {
         Answer::Orders(order) => Ok(Reply::Orders(order)),
         Answer::Open => Ok(Reply::Open),
-        Answer::Never => Ok(Reply::Never(exclusions(alloc, setting, asker, limits)?)),
+        Answer::Never => exclusions(alloc, setting, asker, standings, limits),
     }
 }
 
@@ -67,19 +97,26 @@ fn exclusions<C: Choose, W: Watch>(
     alloc: Global,
     setting: &Setting<'_>,
     asker: &mut Asker<'_, C, W>,
+    standings: &[Standing],
     limits: Vec<Option<Moment>>,
-) -> Result<Vec<Excluded>, AllocError>
+) -> Result<Reply, AllocError>
     requires set { IsSet setting.now }
     requires promised { ArePromised (case_in setting.now) limits.items }
     requires none { NoPlanKeeps (case_in setting.now) limits.items }
-    requires none_alone { NoneIsAlone (case_in setting.now) }
-    ensures { IfOk result (λ listed. AreExclusions (case_in setting.now) listed.items) }
+    requires standings { let t = case_in setting.now in AreStandings t (job_count t) standings.now }
+    requires none_alone { let t = case_in setting.now in AreAllAlone t standings.now (job_count t) [] }
+    ensures { IfOk result (IsReply (case_in setting.now)) }
 {
-    let mut listed = Vec::new(alloc);
-    add_pairs(alloc, setting, asker, &mut listed)?;
-    if !listed.is_empty() {
-        return Ok(listed);
+    let found = with_pairs(alloc, setting, asker, standings, Vec::new(alloc))?;
+    if !found.listed.is_empty() {
+        return Ok(Reply::Never(found));
     }
-    listed.push(leave_out(alloc, setting, asker, limits)?)?;
-    Ok(listed)
+    match leave_out(alloc, setting, asker, limits)? {
+        Some(left) => {
+            let mut found = found;
+            list_one(&mut found, left)?;
+            Ok(Reply::Never(found))
+        }
+        None => Ok(Reply::Cyclic),
+    }
 }

@@ -1,13 +1,15 @@
+use Rattle.std.proofs.Common.{◌∙◌, sym}
 use Rattle.plan_decide.specs.Settings.{case_in}
-use Rattle.plan_decide.proofs.Kepts.{rooted}
-use Rattle.plan_decide.proofs.Collecting.{alone_more, alone_passed}
+use Rattle.plan_decide.specs.Cases.{job_count}
+use Rattle.plan_decide.proofs.Collecting.{alone_more, alone_passed, late_is}
 use Rattle.plan_decide.proofs.alone.add_alone.Goals as goal
 
-pub returns-then-not-is_never_in_time : goal.returns-then-not-is_never_in_time
-returns-then-not-is_never_in_time c = alone_passed (case_in c.args.setting.now) c.args.job c.args.listed.now.items c.if-not-is_never_in_time.ensures c.requires.known
+pub returns-in_default : goal.returns-in_default
+returns-in_default c = alone_passed (case_in c.args.setting.now) c.args.standings.now c.args.job c.args.listed.now.items (λ late. c.in_default.not-Late (c.standing_of.ensures ∙ late)) c.requires.known
 
 pub returns : goal.returns
 returns c =
-    let s = c.args.setting.now in
-    alone_more (case_in s) c.args.job c.args.listed.now.items c.push.new.self.items c.in_ok-push.ensures.items
-    (rooted s.past s.cell.plan s.cell.cell c.requires.set) c.if-not-is_never_in_time.ensures c.requires.known
+    let t = case_in c.args.setting.now in
+    let ss = c.args.standings.now in
+    let late = sym c.standing_of.ensures ∙ c.in-Late.is in
+    alone_more t ss c.args.job c.args.listed.now.items c.push.new.self.items c.in_ok-push.ensures.items (late_is t (job_count t) ss c.requires.standings c.args.job late) late c.requires.known

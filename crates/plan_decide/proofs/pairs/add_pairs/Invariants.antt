@@ -1,8 +1,8 @@
+use Rattle.std.proofs.Common.{◌≤◌, length}
 use Rattle.plan_decide.specs.Settings.{case_in}
-use Rattle.plan_decide.specs.declared.decided.Excluded.TheVariants.{Pair}
-use Rattle.plan_decide.specs.Listed.{AreExclusionsBefore, AddsExclusions}
+use Rattle.plan_decide.specs.Listed.{ArePairedTo}
 use Rattle.plan_decide.proofs.pairs.add_pairs.Given as goal
 
--- what was listed stays, and the pairs of the jobs before this one are listed
+-- the pairs of the jobs before this one are listed, and nothing is listed no more
 abbrev pub invariant-loop-one : goal.invariant-loop-one
-invariant-loop-one g l = AreExclusionsBefore (case_in l.setting) (Pair l.one 0) l.listed.items × AddsExclusions l.initial.listed.items l.listed.items
+invariant-loop-one g l = ArePairedTo (case_in l.setting) l.standings l.one 0 l.found × (length l.initial.found.listed.items ≤ length l.found.listed.items)

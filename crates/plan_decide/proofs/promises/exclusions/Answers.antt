@@ -1,18 +1,19 @@
-use Rattle.std.proofs.Common.{arith, vec_len}
+use Rattle.std.proofs.Common.{arith, refl, vec_len}
 use Rattle.plan_decide.specs.Settings.{case_in}
-use Rattle.plan_decide.proofs.Collecting.{some_listed, none_listed, nothing_before, exclusions_some, exclusions_one}
+use Rattle.plan_decide.specs.Cases.{job_count}
+use Rattle.plan_decide.proofs.Collecting.{some_listed, none_listed, exclusions_some, exclusions_one}
 use Rattle.plan_decide.proofs.promises.exclusions.Goals as goal
-
-pub add_pairs-requires-clause-listed : goal.add_pairs-requires-clause-listed
-add_pairs-requires-clause-listed g c = nothing_before (case_in c.args.setting.now) c.new-listed.result.items c.new-listed.ensures.items
 
 pub returns-then-not-is_empty : goal.returns-then-not-is_empty
 returns-then-not-is_empty g c =
-    let es = c.add_pairs.new.listed.items in
-    exclusions_some (case_in c.args.setting.now) es (some_listed es (vec_len c.add_pairs.new.listed) c.is_empty.result (omega (arith, c.add_pairs.new.listed.ok.0)) c.is_empty.ensures c.if-not-is_empty.true) c.in_ok-add_pairs.ensures.listed c.requires.none_alone
+    let t = case_in c.args.setting.now in
+    let found = c.in_ok-found.found in
+    exclusions_some t c.args.standings.now (job_count t) found refl c.requires.standings c.in_ok-found.ensures.found
+    (some_listed found.listed.items (vec_len found.listed) c.is_empty.result (omega (arith, found.listed.ok.0)) c.is_empty.ensures c.if-not-is_empty.true)
 
-pub returns : goal.returns
-returns g c =
-    let es = c.add_pairs.new.listed.items in
-    exclusions_one (case_in c.args.setting.now) c.in_ok-leave_out.field-0 es c.push.new.self.items (none_listed es (vec_len c.add_pairs.new.listed) c.is_empty.result (omega (arith, c.add_pairs.new.listed.ok.0)) c.is_empty.ensures c.if-not-is_empty.false)
-    c.in_ok-push.ensures.items c.in_ok-leave_out.ensures c.requires.none_alone
+pub returns-in_ok-list_one-in-Some : goal.returns-in_ok-list_one-in-Some
+returns-in_ok-list_one-in-Some g c =
+    let t = case_in c.args.setting.now in
+    let found = c.in_ok-found.found in
+    exclusions_one t c.args.standings.now (job_count t) found refl c.requires.standings c.in_ok-found.ensures.found c.in-Some.left c.list_one.new.found
+    (none_listed found.listed.items (vec_len found.listed) c.is_empty.result (omega (arith, found.listed.ok.0)) c.is_empty.ensures c.if-not-is_empty.false) c.in_ok-list_one-in-Some.ensures.listed c.list_one.ensures.same (rw c.in-Some.is at c.in_ok-left.ensures)

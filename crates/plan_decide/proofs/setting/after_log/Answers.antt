@@ -1,5 +1,4 @@
 use Rattle.std.proofs.Common.{length, Option, ℕ, sym, ap, subst, ◌∙◌}
-use Rattle.text_lines.specs.Lines.{ended_lines}
 use Rattle.shop_base.specs.Plan.{PlannedShop}
 use Rattle.plan_decide.specs.Pasts.{case_of}
 use Rattle.plan_decide.specs.Cases.{with_budgets}

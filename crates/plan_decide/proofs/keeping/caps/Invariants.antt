@@ -1,6 +1,6 @@
 use Rattle.std.proofs.Common.{◌≡◌, map, take}
 use Rattle.plan_decide.specs.LeftOut.{cap}
-use Rattle.plan_decide.proofs.leaving_out.caps.Given as goal
+use Rattle.plan_decide.proofs.keeping.caps.Given as goal
 
 -- the budgets of the limits before this one
 abbrev pub invariant-loop-limit : goal.invariant-loop-limit

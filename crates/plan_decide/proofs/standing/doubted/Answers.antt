@@ -1,0 +1,18 @@
+use Rattle.std.proofs.Common.{refl, sym, subst}
+use Rattle.plan_decide.specs.declared.asked.Asked.TheVariants.{Both}
+use Rattle.plan_decide.specs.Settings.{past_in, case_in}
+use Rattle.plan_decide.specs.Cases.{job_count}
+use Rattle.plan_decide.specs.Asking.{NoPlanKeeps}
+use Rattle.plan_decide.specs.Excluding.{IsLateAlone}
+use Rattle.plan_decide.proofs.Limits.{both_excluded, impossible}
+use Rattle.plan_decide.proofs.Collecting.{alone_exclusion, excluded_once}
+use Rattle.plan_decide.proofs.standing.doubted.Goals as goal
+
+pub returns-in-Never : goal.returns-in-Never
+returns-in-Never g c =
+    let s = c.args.setting.now in
+    let t = case_in s in
+    let j = c.args.job in
+    let none = subst (NoPlanKeeps t) c.deref.ensures.value (rw c.in-Never.is at c.in_ok-ask_few.ensures) in
+    alone_exclusion t j c.requires.doubt.promised (excluded_once t j (both_excluded t j j (impossible t (Both j j) (job_count t) c.in_ok-limits.limits.items refl c.in_ok-limits.ensures none)))
+    (subst (λ happened. IsLateAlone (past_in happened s.cell.cell) t j) (sym c.in-Run.is) tt)
