@@ -27,7 +27,7 @@ use Rattle.command_answers.specs.Serial.{serially}
 use Rattle.command_answers.specs.BoundLines.{AreBoundLines, IsBadNumbersLine}
 use Rattle.command_answers.specs.Margins.{IsMarginAnswer}
 use Rattle.command_answers.specs.Moves.{AreMovesOfLog, AreMovesOfPlan}
-use Rattle.command_answers.specs.Deciding.{IsDecisionAnswer}
+use Rattle.command_answers.specs.Deciding.{IsDecisionAnswer, job_of}
 use Rattle.command_answers.specs.Shapes.{IsShapeLine, IsNotShapedLine, IsShapedOrNot}
 use Rattle.command_answers.specs.Digests.{IsDigestAnswer}
 use Rattle.command_answers.specs.DecidingRests.{IsRestDecisionAnswer, IsUnfitLine}
@@ -148,9 +148,13 @@ module _ {W : Type 0} (gives : W → List ℕ → Result (List ℕ) CommandFault
   abbrev pub RunsImprove : Asked → ℕ → InputPaths → W → Result Answer CommandFault → W → Type 0
   RunsImprove made rounds inputs = WithBoth inputs (λ p. Concludes (IsImproveAnswer made rounds (ordered p)))
 
+  -- where the job that is asked for is one of the shop, names are read, and then what is decided of the plan's budgets is answered
+  abbrev pub WithDecision : Aim → Option (List ℕ) → PlannedShop → W → Result Answer CommandFault → W → Type 0
+  WithDecision aim names p = IfThere (job_of aim) p (WithNames names p (λ book. IsDecisionAnswer book (whole_case p) aim))
+
   -- `decide`: both are read, then the names, and what is decided of the plan's budgets is answered
   abbrev pub RunsDecide : Aim → InputPaths → Option (List ℕ) → W → Result Answer CommandFault → W → Type 0
-  RunsDecide aim inputs names = WithBoth inputs (λ p. WithSoundNames (λ book. IsDecisionAnswer book (whole_case p) aim) names p)
+  RunsDecide aim inputs names = WithBoth inputs (λ p. IfSound p (WithDecision aim names (serially p)))
 
   -- the log of a well-shaped plan is asked for, and then this comes of it; any other plan is answered by its first fault
   abbrev pub WithLogOf : (PlannedShop → List ℕ → Result Answer CommandFault → Type 0) → List ℕ → PlannedShop → W → Result Answer CommandFault → W → Type 0
@@ -184,11 +188,14 @@ module _ {W : Type 0} (gives : W → List ℕ → Result (List ℕ) CommandFault
   abbrev pub WithRest : RestAsked → Option ℕ → ℕ → List ℕ → PlannedShop → W → Result Answer CommandFault → W → Type 0
   WithRest made at rounds = WithLogOf (λ p log. IsRestAnswer made at rounds (ended_lines log) p)
 
+  -- where the job that is asked for is one of the shop, names and then a log are read, and then what is decided of the rest is answered
+  abbrev pub OnRestDecision : Aim → Option ℕ → Option (List ℕ) → List ℕ → PlannedShop → W → Result Answer CommandFault → W → Type 0
+  OnRestDecision aim at names path p =
+      IfThere (job_of aim) p (Then (ReadsNames gives names p) (λ book. Then (Asks gives path) (λ log. Concludes (IsRestDecisionAnswer book at (ended_lines log) p aim))))
+
   -- `decide` of the rest of a run: both are read, then the names, and then its log
   abbrev pub WithRestDecision : Aim → Option ℕ → Option (List ℕ) → List ℕ → PlannedShop → W → Result Answer CommandFault → W → Type 0
-  WithRestDecision aim at names path p before outcome after =
-      (IsWellShaped p × Then (ReadsNames gives names p) (λ book. Then (Asks gives path) (λ log. Concludes (IsRestDecisionAnswer book at (ended_lines log) p aim))) before outcome after)
-      ⊎ Concludes (IsOrMemory (IsUnfitLine p)) before outcome after
+  WithRestDecision aim at names path p before outcome after = (IsWellShaped p × OnRestDecision aim at names path p before outcome after) ⊎ Concludes (IsOrMemory (IsUnfitLine p)) before outcome after
 
   abbrev pub RunsDecideRest : Aim → Option ℕ → InputPaths → Option (List ℕ) → List ℕ → W → Result Answer CommandFault → W → Type 0
   RunsDecideRest aim at inputs names log = WithBoth inputs (λ p. WithRestDecision aim at names log (ordered p))

@@ -1,5 +1,5 @@
 -- The answers of the command `decide`.
-use Rattle.std.specs.Prelude.{◌≡◌, ◌⊎◌, ℕ, ◌≤◌, List, [], ◌++◌, Option, None, Some, Result, Ok, Err, codes, decimal}
+use Rattle.std.specs.Prelude.{◌≡◌, ◌⊎◌, ℕ, List, Option, None, Some, Result, Ok, Err, codes}
 use Rattle.shop_base.specs.Plan.{PlannedShop}
 use Rattle.people_names.specs.NameBooks.{NameBook}
 use Rattle.plan_text.specs.declared.plan_fault.PlanFault.TheVariants.{NotReadBack}
@@ -11,17 +11,16 @@ use Rattle.plan_decide.specs.declared.aim.Objective.TheVariants.{Makespan, Leavi
 use Rattle.plan_decide.specs.declared.decide_fault.DecideFault.{DecideFault}
 use Rattle.plan_decide.specs.declared.decide_fault.DecideFault.TheVariants.{JobOutOfRange, Run, Memory as OutOfMemory}
 use Rattle.plan_decide.specs.declared.decided.Decided.{Decided}
-use Rattle.plan_decide.specs.declared.decided.Decided.TheVariants.{Kept, Best, Never, Open}
+use Rattle.plan_decide.specs.declared.decided.Decided.TheVariants.{Kept, Best, Never, Cyclic, Open}
 use Rattle.plan_decide.specs.declared.decided.Within.{Within}
-use Rattle.plan_decide.specs.declared.decided.Excluded.{Excluded}
-use Rattle.plan_decide.specs.Cases.{Case, job_count}
+use Rattle.plan_decide.specs.declared.decided.Exclusions.{Exclusions}
+use Rattle.plan_decide.specs.Cases.{Case}
 use Rattle.plan_decide.specs.Promises.{asked_for}
-use Rattle.plan_decide.specs.Excluding.{AreExclusions, NoneIsAlone}
+use Rattle.plan_decide.specs.Excluding.{AreAllCyclic, AreExclusions, NoneIsAlone}
 use Rattle.plan_decide.specs.Decisions.{IsKept, IsBest}
 use Rattle.command_answers.specs.declared.answer.Answer.{Answer}
 use Rattle.command_answers.specs.declared.command_fault.CommandFault.{CommandFault}
 use Rattle.command_answers.specs.declared.command_fault.CommandFault.TheVariants.{Plan, Memory}
-use Rattle.command_answers.specs.AskedJobs.{no_job_line}
 use Rattle.command_answers.specs.DecisionLines.{never_lines, within_line}
 use Rattle.command_answers.specs.Documents.{IsDocumentOf, IsDocumentAnswer, IsHeadedBy, IsHeadedAnswer}
 use Rattle.command_answers.specs.Rests.{HasLine, IsRunFaultAnswer}
@@ -42,9 +41,15 @@ pub record IsOptimumText (t : Case) (aim : Aim) (answer : Answer) : Type 0 where
 
 -- the lines of jobs that exclude each other
 pub record AreNeverLines (names : NameBook) (t : Case) (aim : Aim) (answer : Answer) : Type 0 where
-  pub excluded : List Excluded
-  pub are : AreExclusions (asked_for t aim) excluded
-  pub lines : answer.text.items ≡ never_lines names excluded
+  pub found : Exclusions
+  pub are : AreExclusions (asked_for t aim) found
+  pub lines : answer.text.items ≡ never_lines names found.listed.items
+  pub refused : answer.status ≡ 1
+
+-- the line where no plan is without a cycle
+pub record IsCyclicLine (t : Case) (answer : Answer) : Type 0 where
+  pub cyclic : AreAllCyclic t
+  pub line : answer.text.items ≡ codes "never without a cycle\n"
   pub refused : answer.status ≡ 1
 
 -- the line of what isn't decided
@@ -53,24 +58,22 @@ pub record IsOpenLine (t : Case) (aim : Aim) (answer : Answer) : Type 0 where
   pub line : answer.text.items ≡ codes "open\n"
   pub refused : answer.status ≡ 1
 
--- the line of a job that isn't of the shop
-pub record IsOutOfRangeLine (t : Case) (aim : Aim) (answer : Answer) : Type 0 where
-  pub job : ℕ
-  pub aims : aim ≡ Least (Leaving job)
-  pub outside : job_count t ≤ job
-  pub line : answer.text.items ≡ no_job_line job
-  pub refused : answer.status ≡ 1
+-- the job whose leaving is asked for, if one is
+abbrev pub job_of : Aim → Option ℕ
+job_of Promises = None
+job_of (Least Makespan) = None
+job_of (Least (Leaving j)) = Some j
 
 -- the fault of a command that the decision's is, if memory ran out
 abbrev pub decide_command_fault : DecideFault → Option CommandFault
 decide_command_fault OutOfMemory = Some Memory
 decide_command_fault fault = None
 
--- what is printed where the numbers are sound
+-- what is printed where the numbers are sound, and the job that is asked for is one of the shop
 abbrev pub IsDecisionText : NameBook → Case → Aim → Answer → Type 0
 IsDecisionText names t aim answer =
     IsKeptText t aim answer
-    ⊎ (IsOptimumText t aim answer ⊎ (AreNeverLines names t aim answer ⊎ (IsOpenLine t aim answer ⊎ IsOutOfRangeLine t aim answer)))
+    ⊎ (IsOptimumText t aim answer ⊎ (AreNeverLines names t aim answer ⊎ (IsCyclicLine t answer ⊎ IsOpenLine t aim answer)))
 
 -- a plan that was found has a text that isn't read as this plan
 pub record IsFoundUnread (t : Case) (aim : Aim) : Type 0 where
@@ -78,7 +81,7 @@ pub record IsFoundUnread (t : Case) (aim : Aim) : Type 0 where
   pub is : IsKept t aim plan ⊎ ((within : Within) × IsBest t aim plan within)
   pub unreadable : IsPlanText (plan_lines plan.plan) plan.plan → ⊥
 
--- what is answered where the numbers are sound: that, or that the plan that was found isn't read back, or out of memory
+-- what is answered there: that, or that the plan that was found isn't read back, or out of memory
 abbrev pub IsDecisionAnswer : NameBook → Case → Aim → Result Answer CommandFault → Type 0
 IsDecisionAnswer names t aim (Ok answer) = IsDecisionText names t aim answer
 IsDecisionAnswer names t aim (Err Memory) = Unit {0}
@@ -93,29 +96,18 @@ IsLineRefused text answer = (answer.text.items ≡ text) × (answer.status ≡ 1
 abbrev pub IsDecidedAnswer : {K : Type 0} → NameBook → (K → PlannedShop) → Decided K → Result Answer CommandFault → Type 0
 IsDecidedAnswer names planned (Kept plan) = IsDocumentAnswer (planned plan).plan 0
 IsDecidedAnswer names planned (Best plan within) = IsHeadedAnswer (within_line within) (planned plan).plan 0
-IsDecidedAnswer names planned (Never excluded back) = IsOrMemory (IsLineRefused (never_lines names excluded.items))
+IsDecidedAnswer names planned (Never found back) = IsOrMemory (IsLineRefused (never_lines names found.listed.items))
+IsDecidedAnswer names planned (Cyclic back) = IsOrMemory (IsLineRefused (codes "never without a cycle\n"))
 IsDecidedAnswer names planned (Open back) = IsOrMemory (IsLineRefused (codes "open\n"))
 
--- a job's leaving is asked for
-abbrev pub AsksForJob : Aim → Type 0
-AsksForJob Promises = ⊥
-AsksForJob (Least Makespan) = ⊥
-AsksForJob (Least (Leaving j)) = Unit {0}
+-- that nothing is decided is answered once the job that is asked for is known to be one of the shop
+abbrev pub IsAnswerable : DecideFault → Type 0
+IsAnswerable JobOutOfRange = ⊥
+IsAnswerable (Run fault) = HasLine fault
+IsAnswerable OutOfMemory = Unit {0}
 
--- that the job isn't of the shop is printed only of one that is asked for
-abbrev pub IsAnswerable : Aim → DecideFault → Type 0
-IsAnswerable aim JobOutOfRange = AsksForJob aim
-IsAnswerable aim (Run fault) = HasLine fault
-IsAnswerable aim OutOfMemory = Unit {0}
-
--- `bad numbers JobOutOfRange job J`
-abbrev pub out_of_range_line : Aim → List ℕ
-out_of_range_line Promises = []
-out_of_range_line (Least Makespan) = []
-out_of_range_line (Least (Leaving j)) = no_job_line j
-
--- what is answered where nothing is decided: the line of a job that isn't of the shop, of the log's first fault, or of a moment that is past; or that memory ran out
-abbrev pub IsUndecidedAnswer : Aim → DecideFault → Result Answer CommandFault → Type 0
-IsUndecidedAnswer aim JobOutOfRange outcome = IsOrMemory (IsLineRefused (out_of_range_line aim)) outcome
-IsUndecidedAnswer aim (Run fault) outcome = IsRunFaultAnswer fault outcome
-IsUndecidedAnswer aim OutOfMemory outcome = outcome ≡ Err Memory
+-- what is answered where nothing is decided: the line of the log's first fault, or of a moment that is past; or that memory ran out
+abbrev pub IsUndecidedAnswer : DecideFault → Result Answer CommandFault → Type 0
+IsUndecidedAnswer JobOutOfRange outcome = ⊥
+IsUndecidedAnswer (Run fault) outcome = IsRunFaultAnswer fault outcome
+IsUndecidedAnswer OutOfMemory outcome = outcome ≡ Err Memory

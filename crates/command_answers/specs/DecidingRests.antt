@@ -7,11 +7,11 @@ use Rattle.shop_base.specs.ShapeFault.{IsFirstShapeFault}
 use Rattle.people_names.specs.NameBooks.{NameBook}
 use Rattle.plan_text.specs.declared.plan_fault.PlanFault.TheVariants.{NotReadBack}
 use Rattle.plan_decide.specs.declared.aim.Aim.{Aim}
-use Rattle.plan_decide.specs.Pasts.{whole_case, HoldsAfter}
+use Rattle.plan_decide.specs.Pasts.{HoldsAfter}
 use Rattle.command_answers.specs.declared.answer.Answer.{Answer}
 use Rattle.command_answers.specs.declared.command_fault.CommandFault.{CommandFault}
 use Rattle.command_answers.specs.declared.command_fault.CommandFault.TheVariants.{Plan, Memory}
-use Rattle.command_answers.specs.Deciding.{IsDecisionText, IsFoundUnread, IsOutOfRangeLine}
+use Rattle.command_answers.specs.Deciding.{IsDecisionText, IsFoundUnread}
 use Rattle.command_answers.specs.ImprovingRests.{IsRestPast}
 use Rattle.command_answers.specs.LogLines.{IsLogRefused}
 use Rattle.command_answers.specs.Shapes.{IsLineOfFault}
@@ -32,11 +32,11 @@ pub record IsUnfitLine (p : PlannedShop) (answer : Answer) : Type 0 where
   pub line : IsLineOfFault (refusal fault) fault answer
 
 module _ (names : NameBook) (at : Option ℕ) (lines : List (List ℕ)) (start : PlannedShop) (aim : Aim) where
-  -- what is printed of a plan that is well shaped: what is decided of the rest of the run that the lines record; or the line of a job that isn't of the shop, of the log's first fault, or of a moment that is past
+  -- what is printed of a plan that is well shaped, where the job that is asked for is one of its shop: what is decided of the rest of the run that the lines record; or the line of the log's first fault, or of a moment that is past
   abbrev pub IsRestDecisionText : Answer → Type 0
   IsRestDecisionText answer =
       HoldsAfter lines at start (λ t. IsDecisionText names t aim answer)
-      ⊎ (IsOutOfRangeLine (whole_case start) aim answer ⊎ (IsLogRefused start lines answer ⊎ IsRestPast at lines start answer))
+      ⊎ (IsLogRefused start lines answer ⊎ IsRestPast at lines start answer)
 
   -- what is answered: that, or that the plan that was found isn't read back, or out of memory
   abbrev pub IsRestDecisionAnswer : Result Answer CommandFault → Type 0

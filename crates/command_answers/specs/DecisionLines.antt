@@ -16,10 +16,10 @@ job_words names js = flat_map (λ j. codes " " ++ job_word names j) js
 abbrev pub fewer_if : Bool → List ℕ
 fewer_if or_fewer = if or_fewer then codes " or fewer" else []
 
--- ` or fewer` behind several jobs, where some of them may not be needed
+-- ` or fewer` after two jobs or several, where some of them may not be needed
 abbrev pub fewer_words : Excluded → List ℕ
 fewer_words (Alone j) = []
-fewer_words (Pair i j) = []
+fewer_words (Pair i j or_fewer) = fewer_if or_fewer
 fewer_words (Several js or_fewer) = fewer_if or_fewer
 
 -- the words of the jobs that exclude each other, and that

@@ -3,15 +3,16 @@
 ghost use Rattle.std.specs.Prelude.{◌≡◌, IfOk, None};
 ghost use Rattle.std.specs.Option.{option_copied};
 ghost use Rattle.plan_decide.specs.Pasts.{whole_case};
-ghost use Rattle.command_answers.specs.Deciding.{AsksForJob, IsAnswerable, IsDecidedAnswer};
-ghost use Rattle.command_answers.specs.Deciding.{IsDecisionAnswer, IsLineRefused, IsUndecidedAnswer};
-ghost use Rattle.command_answers.specs.Deciding.{decide_command_fault, out_of_range_line};
+ghost use Rattle.plan_decide.specs.Promises.{IsInRange};
+ghost use Rattle.command_answers.specs.Deciding.{IsAnswerable, IsDecidedAnswer, IsDecisionAnswer};
+ghost use Rattle.command_answers.specs.Deciding.{IsLineRefused, IsUndecidedAnswer, decide_command_fault, job_of};
 ghost use Rattle.command_answers.specs.DecisionLines.{never_lines, within_line};
 ghost use Rattle.command_answers.specs.Documents.{IsHeadedAnswer};
-ghost use Rattle.command_answers.specs.Commands.{RunsDecide, WithNames, WithSoundNames};
+ghost use Rattle.command_answers.specs.Commands.{IfSound, RunsDecide, WithDecision};
+ghost use Rattle.command_answers.specs.Serial.{serially as made_serial};
 
 use crate::answer::{Answer, Answered, GOOD, REFUSED};
-use crate::asked_job::no_job_answer;
+use crate::asked_job::{absent_job, no_job_answer};
 use crate::command_fault::Unanswered;
 use crate::decision_lines::{push_never_lines, push_within_line};
 use crate::inputs::{Files, ParsedInputs, read_inputs, serially};
@@ -23,15 +24,15 @@ use crate::texts::Texts;
 use arc_choice::Choose;
 use people_names::Names;
 use plan_decide::{Aim, DecideFault, Decided, Excluded, Objective, Watch, Within, decide};
-use shop_base::{Plan, Planned, Shaped};
+use shop_base::{JobNo, Plan, Planned, Shaped};
 use std::alloc::{AllocError, Global};
 
 /// Whether any plan with the releases, budgets and cleaning times of the one in a file keeps all budgets, for the
 /// instance of another file, by complete searches of at most so many choices each. The orders of the given plan are
 /// read and not used. Where no plan keeps them, there is a line of jobs that exclude each other, or more than one, with
-/// their names where the file of names, which is read once the numbers are sound, has some. The words after
-/// `bad numbers ` are in no clause, but for those of a job that isn't of the shop. The text of a plan is read again: if
-/// it isn't that plan's, the fault is `NotReadBack`.
+/// their names where the file of names, which is read once the numbers are sound and the job that is asked for is
+/// found, has some. The words after `bad numbers ` are in no clause, but for those of a job that isn't of the shop. The
+/// text of a plan is read again: if it isn't that plan's, the fault is `NotReadBack`.
 pub fn decide_answer<T: Texts, C: Choose, W: Watch>(
     alloc: Global,
     texts: &mut T,
@@ -67,8 +68,8 @@ fn parsed_decided<T: Texts, C: Choose, W: Watch>(
     chooser: &mut C,
     watch: &mut W,
 ) -> Answered
-    ensures { WithSoundNames T.gives (λ book. IsDecisionAnswer book (whole_case parsed) aim)
-        (option_copied names.entry) parsed texts.old result texts.new }
+    ensures { IfSound T.gives parsed (WithDecision T.gives aim (option_copied names.entry) (made_serial parsed))
+        texts.old result texts.new }
 {
     match serially(alloc, parsed)?.shaped() {
         Ok(shaped) => sound_decided(alloc, texts, shaped, names, aim, choices, chooser, watch),
@@ -76,7 +77,8 @@ fn parsed_decided<T: Texts, C: Choose, W: Watch>(
     }
 }
 
-/// What is decided for a shop with the numbers of this plan, with the names and the clock of a file.
+/// What is decided for a shop with the numbers of this plan, if the job that is asked for is one of it, with the names
+/// and the clock of a file.
 fn sound_decided<T: Texts, C: Choose, W: Watch>(
     alloc: Global,
     texts: &mut T,
@@ -87,9 +89,12 @@ fn sound_decided<T: Texts, C: Choose, W: Watch>(
     chooser: &mut C,
     watch: &mut W,
 ) -> Answered
-    ensures { WithNames T.gives (option_copied names.entry) shaped
-        (λ book. IsDecisionAnswer book (whole_case shaped) aim) texts.old result texts.new }
+    ensures { WithDecision T.gives aim (option_copied names.entry) shaped texts.old result texts.new }
 {
+    if let Some(absent) = absent_job(&shaped, job_of(aim)) {
+        drop(shaped);
+        return Ok(no_job_answer(alloc, absent)?);
+    }
     match names_of(alloc, texts, names, &shaped) {
         Ok(names) => {
             let answer = shaped_decided(alloc, &names, shaped, aim, choices, chooser, watch);
@@ -113,6 +118,7 @@ fn shaped_decided<C: Choose, W: Watch>(
     chooser: &mut C,
     watch: &mut W,
 ) -> Answered
+    requires { IsInRange (whole_case shaped) aim }
     ensures { IsDecisionAnswer names.now (whole_case shaped) aim result }
 {
     match decide(alloc, shaped, aim, choices, chooser, watch) {
@@ -121,7 +127,7 @@ fn shaped_decided<C: Choose, W: Watch>(
             drop(decided);
             answer
         }
-        Err(undecided) => undecided_answer(alloc, aim, undecided.fault),
+        Err(undecided) => undecided_answer(alloc, undecided.fault),
     }
 }
 
@@ -136,7 +142,8 @@ pub(crate) fn decided_answer<K: Planned>(
     match decided {
         Decided::Kept(kept) => document_answer(alloc, kept.shaped().plan(), GOOD),
         Decided::Best(best, within) => best_answer(alloc, best.shaped().plan(), *within),
-        Decided::Never(excluded, _) => Ok(never_answer(alloc, names, excluded)?),
+        Decided::Never(found, _) => Ok(never_answer(alloc, names, &found.listed)?),
+        Decided::Cyclic(_) => Ok(line_answer(alloc, b"never without a cycle\n", REFUSED)?),
         Decided::Open(_) => Ok(line_answer(alloc, b"open\n", REFUSED)?),
     }
 }
@@ -159,38 +166,35 @@ fn never_answer(alloc: Global, names: &Names, excluded: &[Excluded]) -> Result<A
     Ok(Answer { text, status })
 }
 
-/// Why nothing is decided: the line of a job that isn't of the shop, of the log's first fault or of a moment that is
-/// past, or that memory ran out.
-pub(crate) fn undecided_answer(alloc: Global, aim: Aim, fault: DecideFault) -> Answered
-    requires { IsAnswerable aim fault }
-    ensures { IsUndecidedAnswer aim fault result }
+/// Why nothing is decided: the line of the log's first fault or of a moment that is past, or that memory ran out.
+pub(crate) fn undecided_answer(alloc: Global, fault: DecideFault) -> Answered
+    requires { IsAnswerable fault }
+    ensures { IsUndecidedAnswer fault result }
 {
     match Unanswered::from(fault).0 {
         Some(fault) => Err(fault),
-        None => refused_answer(alloc, aim, fault),
+        None => refused_answer(alloc, fault),
     }
 }
 
 /// The line that says why nothing is decided.
-fn refused_answer(alloc: Global, aim: Aim, fault: DecideFault) -> Answered
-    requires answerable { IsAnswerable aim fault }
+fn refused_answer(alloc: Global, fault: DecideFault) -> Answered
+    requires answerable { IsAnswerable fault }
     requires memory { decide_command_fault fault ≡ None }
-    ensures { IsUndecidedAnswer aim fault result }
+    ensures { IsUndecidedAnswer fault result }
 {
     match fault {
-        DecideFault::JobOutOfRange => Ok(out_of_range_answer(alloc, aim)?),
         DecideFault::Run(fault) => run_fault_answer(alloc, fault),
-        DecideFault::Memory => unreachable!(),
+        DecideFault::JobOutOfRange | DecideFault::Memory => unreachable!(),
     }
 }
 
-/// The line of the job whose leaving is asked for, which isn't of the shop.
-fn out_of_range_answer(alloc: Global, aim: Aim) -> Result<Answer, AllocError>
-    requires { AsksForJob aim }
-    ensures { IfOk result (IsLineRefused (out_of_range_line aim)) }
+/// The job whose leaving is asked for, if one is.
+pub(crate) fn job_of(aim: Aim) -> Option<JobNo>
+    ensures { result ≡ job_of aim }
 {
-    let Aim::Least(Objective::Leaving(job)) = aim else {
-        unreachable!();
-    };
-    no_job_answer(alloc, job)
+    match aim {
+        Aim::Least(Objective::Leaving(job)) => Some(job),
+        _ => None,
+    }
 }

@@ -45,7 +45,14 @@ fn push_excluded(text: &mut Vec<u8>, names: &Names, excluded: &Excluded) -> Resu
 {
     match excluded {
         Excluded::Alone(job) => push_jobs(text, names, &[*job]),
-        Excluded::Pair(first, second) => push_jobs(text, names, &[*first, *second]),
+        Excluded::Pair {
+            lesser,
+            greater,
+            or_fewer,
+        } => {
+            push_jobs(text, names, &[*lesser, *greater])?;
+            push_fewer(text, *or_fewer)
+        }
         Excluded::Several { jobs, or_fewer } => {
             push_jobs(text, names, jobs)?;
             push_fewer(text, *or_fewer)

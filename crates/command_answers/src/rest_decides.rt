@@ -6,13 +6,12 @@ ghost use Rattle.shop_base.specs.declared.limits.TheConstants.{MAX_MOMENT};
 ghost use Rattle.text_lines.specs.Lines.{ended_lines};
 ghost use Rattle.command_answers.specs.Shapes.{IsLineOfFault};
 ghost use Rattle.command_answers.specs.DecidingRests.{IsRestDecisionAnswer, refusal};
-ghost use Rattle.command_answers.specs.Commands.{RunsDecideRest, WithRestDecision};
-ghost use Rattle.command_answers.specs.Naming.{ReadsNames};
-ghost use Rattle.command_answers.specs.Steps.{Concludes, Then};
-ghost use Rattle.command_answers.specs.Texts.{Asks};
+ghost use Rattle.plan_decide.specs.{Pasts.whole_case, Promises.IsInRange};
+ghost use Rattle.command_answers.specs.Commands.{OnRestDecision, RunsDecideRest, WithRestDecision};
 
 use crate::answer::{Answer, Answered};
-use crate::decides::{decided_answer, undecided_answer};
+use crate::asked_job::{absent_job, no_job_answer};
+use crate::decides::{decided_answer, job_of, undecided_answer};
 use crate::improves::with_orders;
 use crate::inputs::{Ahead, ParsedInputs, read_inputs};
 use crate::naming::names_and_log;
@@ -71,7 +70,8 @@ fn parsed_rest_decided<T: Texts, C: Choose, W: Watch>(
     }
 }
 
-/// What is decided of the rest of the run of a plan in the log of a file.
+/// What is decided of the rest of the run of a plan in the log of a file, if the job that is asked for is one of its
+/// shop.
 fn shaped_rest_decided<T: Texts, C: Choose, W: Watch>(
     alloc: Global,
     texts: &mut T,
@@ -83,11 +83,13 @@ fn shaped_rest_decided<T: Texts, C: Choose, W: Watch>(
     watch: &mut W,
 ) -> Answered
     requires { IfSome ahead.now.at (λ present. present ≤ MAX_MOMENT) }
-    ensures { Then (ReadsNames T.gives (option_copied ahead.now.files.names) shaped)
-        (λ book. Then (Asks T.gives ahead.now.log.now)
-        (λ log. Concludes (IsRestDecisionAnswer book ahead.now.at (ended_lines log) shaped aim)))
-        texts.old result texts.new }
+    ensures { OnRestDecision T.gives aim ahead.now.at
+        (option_copied ahead.now.files.names) ahead.now.log.now shaped texts.old result texts.new }
 {
+    if let Some(absent) = absent_job(&shaped, job_of(aim)) {
+        drop(shaped);
+        return Ok(no_job_answer(alloc, absent)?);
+    }
     let at = ahead.at;
     match names_and_log(alloc, texts, &shaped, ahead.files.names, ahead.log) {
         Ok(read) => {
@@ -115,7 +117,8 @@ fn rest_decided<C: Choose, W: Watch>(
     chooser: &mut C,
     watch: &mut W,
 ) -> Answered
-    requires { IfSome at (λ present. present ≤ MAX_MOMENT) }
+    requires present { IfSome at (λ present. present ≤ MAX_MOMENT) }
+    requires job { IsInRange (whole_case shaped) aim }
     ensures { IsRestDecisionAnswer names.now at (ended_lines log.now) shaped aim result }
 {
     match decide_after(alloc, shaped, log, at, aim, choices, chooser, watch) {
@@ -124,7 +127,7 @@ fn rest_decided<C: Choose, W: Watch>(
             drop(decided);
             answer
         }
-        Err(undecided) => undecided_answer(alloc, aim, undecided.fault),
+        Err(undecided) => undecided_answer(alloc, undecided.fault),
     }
 }
 

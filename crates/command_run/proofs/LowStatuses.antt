@@ -52,12 +52,14 @@ use Rattle.command_answers.specs.Shapes.{IsShapeLine, IsNotShapedLine}
 use Rattle.command_answers.specs.Checks.{IsCheckLine, IsLineOf, accepted_in, verdict_status}
 use Rattle.command_answers.specs.AskedJobs.{IsNoJobLine}
 use Rattle.command_answers.specs.Texts.{Asks}
+use Rattle.command_answers.specs.Naming.{ReadsNames}
+use Rattle.command_answers.specs.Serial.{serially}
 use Rattle.command_answers.specs.Explains.{IsPlanExplained}
 use Rattle.command_answers.specs.Timetables.{IsPlanScheduled}
 use Rattle.people_names.specs.NameBooks.{NameBook}
 use Rattle.plan_bounds.specs.Bounds.{ShopTimes, times_of}
 use Rattle.command_answers.specs.BoundLines.{AreBoundLines, IsBadNumbersLine}
-use Rattle.command_answers.specs.Deciding.{IsDecisionAnswer, IsDecisionText}
+use Rattle.command_answers.specs.Deciding.{IsDecisionAnswer, IsDecisionText, job_of}
 use Rattle.command_answers.specs.DecidingRests.{IsUnfitLine, IsRestDecisionText, IsRestDecisionAnswer}
 use Rattle.command_answers.specs.Improving.{IsStatusOf, IsBestAnswer, IsImproveAnswer, ordered}
 use Rattle.command_answers.specs.Search.{IsSearchLine, IsSearchAnswer, IsNoPlanLine}
@@ -70,7 +72,7 @@ use Rattle.command_answers.specs.Rests.{IsPastLine, IsRestLine, job_asked}
 use Rattle.command_answers.specs.declared.pictures.Drawn.{Drawn}
 use Rattle.command_answers.specs.declared.pictures.Drawn.TheVariants.{Picture, Line as LineDrawn}
 use Rattle.command_answers.specs.Pictures.{IsCellDrawn, IsLogDrawn, IsPlanDrawn, IsRestDrawing, IsRestDrawn, IsUnshapedDrawn, IsVerdictDrawn, IfDrawable, DrawsLog, DrawsRest, DrawsSchedule}
-use Rattle.command_answers.specs.Commands.{InputPaths, IfShaped, IfThere, WithBoth, WithLogOf, WithNames, WithNamesAndLog, WithRest, WithRestDecision, WithSoundNames}
+use Rattle.command_answers.specs.Commands.{InputPaths, IfShaped, IfSound, IfThere, WithBoth, WithDecision, WithLogOf, WithNames, WithNamesAndLog, WithRest, WithRestDecision, WithSoundNames}
 use Rattle.command_answers.specs.Cells.{IsCellLine, AfterPlan, LoadsEach}
 use Rattle.command_answers.specs.Digests.{IsDigestAnswer}
 use Rattle.command_answers.specs.Margins.{IsMarginAnswer}
@@ -188,8 +190,8 @@ module _ (names : NameBook) where
   low_decision t aim answer (inl kept) = zero_low answer.status kept.text.ends
   low_decision t aim answer (inr (inl best)) = zero_low answer.status best.text.ends
   low_decision t aim answer (inr (inr (inl never))) = one_low answer.status never.refused
-  low_decision t aim answer (inr (inr (inr (inl left_open)))) = one_low answer.status left_open.refused
-  low_decision t aim answer (inr (inr (inr (inr outside)))) = one_low answer.status outside.refused
+  low_decision t aim answer (inr (inr (inr (inl cyclic)))) = one_low answer.status cyclic.refused
+  low_decision t aim answer (inr (inr (inr (inr left_open)))) = one_low answer.status left_open.refused
 
   low_decided : (t : Case) (aim : Aim) (outcome : Result Answer CommandFault) → IsDecisionAnswer names t aim outcome → IsLow outcome
   low_decided t aim (Ok answer) is = low_decision t aim answer is
@@ -197,9 +199,8 @@ module _ (names : NameBook) where
 
   low_rest_decision : (at : Option ℕ) (lines : List (List ℕ)) (start : PlannedShop) (aim : Aim) (answer : Answer) → IsRestDecisionText names at lines start aim answer → answer.status ≤ 1
   low_rest_decision at lines start aim answer (inl held) = low_decision _ aim answer held.says
-  low_rest_decision at lines start aim answer (inr (inl outside)) = one_low answer.status outside.refused
-  low_rest_decision at lines start aim answer (inr (inr (inl refused))) = one_low answer.status refused.line.1
-  low_rest_decision at lines start aim answer (inr (inr (inr past))) = one_low answer.status past.line.1
+  low_rest_decision at lines start aim answer (inr (inl refused)) = one_low answer.status refused.line.1
+  low_rest_decision at lines start aim answer (inr (inr past)) = one_low answer.status past.line.1
 
   low_rest_decided : (at : Option ℕ) (lines : List (List ℕ)) (start : PlannedShop) (aim : Aim) (outcome : Result Answer CommandFault) → IsRestDecisionAnswer names at lines start aim outcome → IsLow outcome
   low_rest_decided at lines start aim (Ok answer) is = low_rest_decision at lines start aim answer is
@@ -566,19 +567,27 @@ module _ {W : Type 0} (gives : W → List ℕ → Result (List ℕ) CommandFault
   low_sound Comes names p mid outcome after each (inl (sound, is)) = held IsLow _ (λ book. Concludes (Comes book)) mid outcome after low_failed (λ book later on. each book on.0) is
   low_sound Comes names p mid outcome after each (inr answered) = low_or (IsBadNumbersLine p) outcome (λ answer line. one_low answer.status line.line.refused) answered.0
 
+  low_sound_decision : (aim : Aim) (names : Option (List ℕ)) (p : PlannedShop) (mid : W) (outcome : Result Answer CommandFault) (after : W)
+      → IfSound gives p (WithDecision gives aim names (serially p)) mid outcome after → IsLow outcome
+  low_sound_decision aim names p mid outcome after (inl (sound, is)) =
+      let q = serially p in
+      low_if_there (job_of aim) (WithNames gives names q (λ book. IsDecisionAnswer book (whole_case q) aim)) q mid outcome after
+      (held IsLow _ (λ book. Concludes (IsDecisionAnswer book (whole_case q) aim)) mid outcome after low_failed (λ book later on. low_decided book (whole_case q) aim outcome on.0)) is
+  low_sound_decision aim names p mid outcome after (inr answered) = low_or (IsBadNumbersLine p) outcome (λ answer line. one_low answer.status line.line.refused) answered.0
+
   low_with_decision : (aim : Aim) (at : Option ℕ) (names : Option (List ℕ)) (log : List ℕ) (p : PlannedShop) (mid : W) (outcome : Result Answer CommandFault) (after : W)
       → WithRestDecision gives aim at names log p mid outcome after → IsLow outcome
   low_with_decision aim at names log p mid outcome after (inl (shaped, is)) =
-      held IsLow _ _ mid outcome after low_failed
+      low_if_there (job_of aim) (Then (ReadsNames gives names p) (λ book. Then (Asks gives log) (λ text. Concludes (IsRestDecisionAnswer book at (ended_lines text) p aim)))) p mid outcome after
+      (held IsLow _ _ mid outcome after low_failed
       (λ book named on. held IsLow _ (λ text. Concludes (IsRestDecisionAnswer book at (ended_lines text) p aim)) named outcome after low_failed
-      (λ text later goes. low_rest_decided book at (ended_lines text) p aim outcome goes.0) on) is
+      (λ text later goes. low_rest_decided book at (ended_lines text) p aim outcome goes.0) on)) is
   low_with_decision aim at names log p mid outcome after (inr answered) = low_or (IsUnfitLine p) outcome (λ answer line. one_low answer.status line.line.refused) answered.0
 
   low_all_decided : (aim : Aim) (at : Option ℕ) (inputs : InputPaths) (names log : Option (List ℕ)) (texts : W) (outcome : Result Answer CommandFault) (after : W)
       → Decides gives aim at inputs names log texts outcome after → IsLow outcome
   low_all_decided aim at inputs names None texts outcome after run =
-      low_both inputs (λ p. WithSoundNames gives (λ book. IsDecisionAnswer book (whole_case p) aim) names p) texts outcome after
-      (λ p mid on. low_sound (λ book. IsDecisionAnswer book (whole_case p) aim) names p mid outcome after (λ book is. low_decided book (whole_case p) aim outcome is) on) run
+      low_both inputs (λ p. IfSound gives p (WithDecision gives aim names (serially p))) texts outcome after (λ p mid on. low_sound_decision aim names p mid outcome after on) run
   low_all_decided aim at inputs names (Some log) texts outcome after run =
       low_both inputs (λ p. WithRestDecision gives aim at names log (ordered p)) texts outcome after (λ p mid on. low_with_decision aim at names log (ordered p) mid outcome after on) run
 
