@@ -23,3 +23,4 @@ pub mod ReportLines
 pub mod GoneOnAsOne
 pub mod LawProofs
 mod ShortAnswers
+mod BrokenDrives

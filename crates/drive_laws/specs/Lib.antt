@@ -11,3 +11,4 @@ pub mod ShortLinesLaw
 pub mod CellsVersionsLaw
 pub mod SameReportsLaw
 pub mod OneRunLaw
+pub mod BrokenLaw

@@ -18,6 +18,7 @@ ghost use Rattle.drive_laws.specs.AnswerLaw.{ReplayAsAnswered, ReplayInProtocol}
 ghost use Rattle.drive_laws.specs.OneRunLaw.{ItIsRecoveredAsOne, ItIsOneSoFar, ADrivenRunGoesOnAsOne};
 ghost use Rattle.drive_laws.specs.OneRunLaw.{ItStaysAsPromised, TheFirstEventsHaveTheirOrders};
 ghost use Rattle.drive_laws.specs.{OneRunLaw.WhatWasResumedHasItsOrders, CellsAlone.EachCellIsAsAlone};
+ghost use Rattle.drive_laws.specs.BrokenLaw.{ABrokenDriveStaysAsPromised};
 ghost use Rattle.drive_laws.specs.{CellsVersionsLaw.Version2OnlyAddsForCells, LeapLaw.NoPunctualReportLeaps};
 ghost use Rattle.drive_laws.specs.FloorLaw.{NothingIsOrderedWrongly, ADrivenCellOrdersRightly};
 ghost use Rattle.drive_laws.specs.FloorLaw.{ARunThatGoesOnOrdersRightly, EachCellOrdersRightly};
@@ -56,6 +57,13 @@ pub fn one_answer_text_of_cells()
 #[tactic(auto, using(crate::proofs::CellsAlone::as_alone))]
 pub fn each_cell_is_as_alone()
     ensures { EachCellIsAsAlone }
+{}
+
+/// Let the cell of an accepted plan be driven, by any protocol, to the end of its input or until a read or a write
+/// fails or the input is too long. Up to the last line that was answered, whose answer may have been cut off, the
+/// events are the controlled run of some reports, and all stayed as the plan promises.
+pub fn a_broken_drive_stays_as_promised()
+    ensures { ABrokenDriveStaysAsPromised }
 {}
 
 /// For a well-shaped plan the lines of an answer text, by any protocol, record, in order, exactly the reports that were

@@ -30,7 +30,7 @@ use Rattle.plan_verifier.proofs.Reasons.{reason_refutes}
 use Rattle.program_laws.proofs.GoodFiles.{answered, no_memory, asked_and_read}
 
 -- the plans of cells
-abbrev plans_of : List VerifiedPlan → List PlannedShop
+abbrev pub plans_of : List VerifiedPlan → List PlannedShop
 plans_of cells = map (λ (v : VerifiedPlan). v.planned) cells
 
 -- all plans were accepted, and they are these

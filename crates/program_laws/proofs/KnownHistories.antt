@@ -1,5 +1,5 @@
 -- What `run` asks of the history of a log can be met.
-use Rattle.std.proofs.Common.{◌≡◌, ℕ, List, [], ◌∷◌, ◌++◌, length, take, get_or, map, Bool, true, false, Option, None, Some, IfSome, Result, Ok, option_map, ap, ap₂, sym, ◌∙◌, subst, refl}
+use Rattle.std.proofs.Common.{◌≡◌, ℕ, List, [], ◌∷◌, ◌++◌, length, take, get_or, map, Bool, true, false, Option, None, Some, IfSome, Result, Ok, option_map, ap, ap₂, sym, ◌∙◌, subst}
 use Rattle.std.specs.String.{string_bytes}
 use Rattle.shop_base.specs.Plan.{PlannedShop}
 use Rattle.shop_base.specs.Cell.{start}
@@ -19,10 +19,11 @@ use Rattle.command_answers.specs.declared.command_fault.CommandFault.{CommandFau
 use Rattle.command_answers.specs.Commands.{InputPaths, Shapes}
 use Rattle.command_answers.specs.Shapes.{IsShapedOrNot}
 use Rattle.command_run.specs.Logs.{IsHistoryOf, IsHistoryOfOld, digits_in}
-use Rattle.command_run.specs.Program.{keeps_log, kept_log_in, log_kept_by, protocol_in, inputs_in}
-use Rattle.command_run.specs.Laws.{Shelf}
+use Rattle.command_run.specs.Streams.{Devices}
+use Rattle.command_run.specs.Program.{IsHistoryOfWords, keeps_log, kept_log_in, log_kept_by, protocol_in, inputs_in}
+use Rattle.command_run.specs.Laws.{ParseAsPlan, Shelf}
 use Rattle.program_laws.specs.ResumeLaw.{moment_given}
-use Rattle.program_laws.specs.HistoryLaw.{AskForLog, NewLogHasHistory, OldLogHasHistory, protocol_of}
+use Rattle.program_laws.specs.HistoryLaw.{AskForLog, NewLogHasHistory, OldLogHasHistory, UnrecoveredLogHasHistory, protocol_of}
 use Rattle.program_laws.proofs.GoodFiles.{good_plan}
 use Rattle.program_laws.proofs.SameWriting.{same_manner}
 
@@ -35,7 +36,7 @@ kept_some false log path is = absurd (cc is)
 pub asked_path : (words : List (List ℕ)) (chosen : Chosen) (path : List ℕ) → IsChoiceOf words (found_in words) chosen → kept_log_in chosen ≡ Some path → kept_in (rows_found (found_in words)) ≡ Some path
 asked_path words chosen path choice kept = sym choice.log ∙ kept_some (keeps_log chosen.name) (option_map string_bytes chosen.log) path kept
 
-asked_pair : (words : List (List ℕ)) (inputs : InputPaths) (log : List ℕ) (chosen : Chosen) → AskForLog words inputs log → IsChoiceOf words (found_in words) chosen → inputs_in chosen ≡ inputs
+pub asked_pair : (words : List (List ℕ)) (inputs : InputPaths) (log : List ℕ) (chosen : Chosen) → AskForLog words inputs log → IsChoiceOf words (found_in words) chosen → inputs_in chosen ≡ inputs
 asked_pair words inputs log chosen ask is =
     let of : List ℕ → Option (List ℕ) → List ℕ → InputPaths = λ a b c. record { path = a; name = b; plan = c } in
     let files : List (List ℕ) = map string_bytes chosen.files.items in
@@ -68,27 +69,41 @@ same_replay protocol p lines at recovered other up also =
     ap₂ (λ (es : List Entry) (fs : List Bool). of (plan_of other) es fs) (ap (λ (d : DrivenCell). d.entries) one.0) one.1
     ∙ ap (λ (q : PlannedShop). of q recovered.log.entries recovered.late) (also.recovered_from.planned ∙ sym up.recovered_from.planned)
 
-pub old_log_has_history : OldLogHasHistory
-old_log_has_history content words inputs log byte bytes named p recovered before logs start ask parse unasked there output has up is_named chosen choice path kept q mid shapes =
+-- what is known by the plan that the files give is known by what the words choose
+known_by_words : (content : List ℕ → Result (List ℕ) CommandFault) (words : List (List ℕ)) (inputs : InputPaths) (log : List ℕ) (byte : ℕ) (bytes : List ℕ) (p : PlannedShop) (before : Devices (List (List ℕ)))
+    (logs : List NamedLog) (known : List ℕ × List ℕ) → AskForLog words inputs log → ParseAsPlan content inputs p → before.texts ≡ [] → before.folder.logs ≡ Some logs → held logs log ≡ Some (byte ∷ bytes)
+    → IsHistoryOfOld p (protocol_of words) (moment_given words) (byte ∷ bytes) before.streams.output.written known → IsHistoryOfWords (Shelf content) words before known
+known_by_words content words inputs log byte bytes p before logs known ask parse unasked there has old chosen choice path kept q mid shapes =
     let base : List ℕ = byte ∷ bytes in
-    let protocol : Protocol = protocol_of words in
     let at : Option ℕ = moment_given words in
-    let known : List ℕ × List ℕ = (named, start ++ replay_text protocol recovered) in
     let here : path ≡ log = (let both : Some path ≡ Some log = sym (asked_path words chosen path choice kept) ∙ ask.kept in cc both) in
     let shapes_pair : Shapes (Shelf content) inputs [] (Ok (Ok q)) mid =
     subst (λ (r : InputPaths). Shapes (Shelf content) r [] (Ok (Ok q)) mid) (asked_pair words inputs log chosen ask choice)
     (subst (λ (asked : List (List ℕ)). Shapes (Shelf content) (inputs_in chosen) asked (Ok (Ok q)) mid) unasked shapes) in
     let same : q ≡ p = (good_plan content inputs p parse IsShapedOrNot (Ok (Ok q)) mid shapes_pair).0.0 in
-    let old : IsHistoryOfOld p protocol at base before.streams.output.written known = record {
-      log = is_named;
-      output = λ other also. record { start = start; was = output; is = ap (λ (text : List ℕ). start ++ text) (sym (same_replay protocol p (ended_lines (whole_lines base)) at recovered other up also)) };
-    } in
     let chosen_so : IsHistoryOfOld q (protocol_in chosen) chosen.at base before.streams.output.written known =
     subst (λ (r : PlannedShop). IsHistoryOfOld r (protocol_in chosen) chosen.at base before.streams.output.written known) (sym same)
     (subst (λ (m : Protocol). IsHistoryOfOld p m chosen.at base before.streams.output.written known) (sym (same_manner words chosen choice))
-    (subst (λ (a : Option ℕ). IsHistoryOfOld p protocol a base before.streams.output.written known) (sym choice.at) old)) in
+    (subst (λ (a : Option ℕ). IsHistoryOfOld p (protocol_of words) a base before.streams.output.written known) (sym choice.at) old)) in
     record {
       logs = logs;
       there = there;
       is = subst (λ (b : Option (List ℕ)). IsHistoryOf before.folder q (protocol_in chosen) chosen.at b before.streams.output.written known) (sym (ap (λ (l : List ℕ). held logs l) here ∙ has)) chosen_so;
     }
+
+pub old_log_has_history : OldLogHasHistory
+old_log_has_history content words inputs log byte bytes named p recovered before logs start ask parse unasked there output has up is_named =
+    let base : List ℕ = byte ∷ bytes in
+    let protocol : Protocol = protocol_of words in
+    known_by_words content words inputs log byte bytes p before logs (named, start ++ replay_text protocol recovered) ask parse unasked there has (record {
+      log = is_named;
+      output = λ other also. record {
+        start = start;
+        was = output;
+        is = ap (λ (text : List ℕ). start ++ text) (sym (same_replay protocol p (ended_lines (whole_lines base)) (moment_given words) recovered other up also));
+      };
+    })
+
+pub unrecovered_log_has_history : UnrecoveredLogHasHistory
+unrecovered_log_has_history content words inputs log byte bytes named p before logs start ask parse unasked there output has never is_named =
+    known_by_words content words inputs log byte bytes p before logs (named, start) ask parse unasked there has (record { log = is_named; output = λ recovered up. absurd (never recovered up) })

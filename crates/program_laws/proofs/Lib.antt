@@ -2,8 +2,11 @@ pub mod PlainWords
 pub mod GoodFiles
 pub mod GoodHubs
 pub mod GoodInputs
+mod CommandNames
 pub mod SameWriting
 pub mod SameResuming
+mod SameHubs
+mod SameLogged
 pub mod KnownHistories
 pub mod OneLogs
 mod NamedPlans

@@ -1,4 +1,4 @@
--- A log is driven by no other plan than its last line of a plan names.
+-- A log is driven by no plan with other digits than its last line of a plan has.
 use Rattle.std.proofs.Common.{◌≡◌, ℕ, List, [], ◌∷◌, Option, None, Some, IfSome, Result, Ok, Err, IfOk, is_some, option_map, MatchOption, true, false, inl, inr, sym, ap, ◌∙◌, subst, refl}
 use Rattle.shop_base.specs.declared.shape_fault.ShapeFault.{ShapeFault}
 use Rattle.shop_base.specs.Plan.{PlannedShop}
@@ -31,7 +31,7 @@ use Rattle.command_run.specs.declared.misfits.Misfit.{Misfit}
 use Rattle.command_run.specs.declared.misfits.Misfit.TheVariants.{NotNew, OtherPlan}
 use Rattle.command_run.specs.Logs.{Driven, Found, DrivesAs, DrivesFitting, DrivesFound, DrivesOpened, DrivesShaped, GoesOnAfter, ContinuesRecovered, LogEnd, Step, RecoversLog, bytes_in, digits_in}
 use Rattle.command_run.specs.Program.{Follows, RunsChosen, kept_log_in}
-use Rattle.program_laws.specs.PlanLaw.{NoOtherPlanDrives}
+use Rattle.program_laws.specs.PlanLaw.{NoPlanWithOtherDigitsDrives}
 use Rattle.program_laws.proofs.KnownHistories.{asked_path}
 
 -- a cell was driven with a log by this plan
@@ -105,8 +105,8 @@ module _ (p : PlannedShop) (digits : RunDigits) (bytes : List ℕ) (named : Name
           let same : found ≡ held logs path = subst (λ (o : Option (List NamedLog)). IfSome o (λ ls. found ≡ held ls path)) there known in
           same ∙ has
 
-pub no_other_plan : {W : Type 0} (gives : W → List ℕ → Result (List ℕ) CommandFault → W → Type 0) → NoOtherPlanDrives gives
-no_other_plan {W} gives words before after status logs path bytes digits p events run there kept has named asked other runs = follows runs.read runs.is.chosen runs.follows
+pub no_plan_with_other_digits : {W : Type 0} (gives : W → List ℕ → Result (List ℕ) CommandFault → W → Type 0) → NoPlanWithOtherDigitsDrives gives
+no_plan_with_other_digits {W} gives words before after status logs path bytes digits p events run there kept has named asked other runs = follows runs.read runs.is.chosen runs.follows
   where
     by_log : (chosen : Chosen) (log : Option (List ℕ)) (outcome : Result Answer CommandFault) (mid : Streams) → IsChoiceOf words (found_in words) chosen → kept_log_in chosen ≡ log
         → RunsChosen gives log chosen before outcome mid after (Some (Driven p events run)) → ⊥

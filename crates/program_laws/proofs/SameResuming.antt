@@ -1,5 +1,5 @@
 -- A run that is recovered writes the same, and behind a log without events what `drive` writes.
-use Rattle.std.proofs.Common.{◌≡◌, ℕ, ◌≤◌, ◌++◌, List, [], ◌∷◌, Bool, true, false, Option, None, Some, Result, Ok, Err, length, get_or, map, option_map, inl, inr, ap, sym, ◌∙◌, subst, arith, refl}
+use Rattle.std.proofs.Common.{◌≡◌, ℕ, ◌≤◌, ◌++◌, List, [], ◌∷◌, Bool, true, false, Option, None, Result, Ok, Err, length, get_or, map, option_map, inl, inr, ap, sym, ◌∙◌, subst, arith}
 use Rattle.std.specs.Prelude.{unwrap_or}
 use Rattle.std.specs.Io.KnownBytes.{Appends}
 use Rattle.std.specs.String.{string_bytes}
@@ -7,7 +7,6 @@ use Rattle.std.proofs.KnownBytes.{Appends-trans}
 use Rattle.shop_base.specs.Plan.{PlannedShop, IsWellShaped}
 use Rattle.text_lines.specs.declared.limits.TheConstants.{MAX_INPUT}
 use Rattle.text_lines.specs.Lines.{ended_lines}
-use Rattle.event_lines.specs.LogLines.{LinesParse}
 use Rattle.byte_streams.specs.declared.drive_fault.DriveFault.{DriveFault}
 use Rattle.byte_streams.specs.declared.drive_fault.DriveFault.TheVariants.{Read as NotRead, Write as NotWritten, InputTooLong as TooLong, Memory as OutOfMemory}
 use Rattle.byte_streams.specs.declared.rooms.TheConstants.{MAX_PIECE}
@@ -20,18 +19,18 @@ use Rattle.cell_drive.specs.AnswerText.{DrivenCell}
 use Rattle.cell_drive.specs.OneRun.{IsSoFar}
 use Rattle.cell_drive.specs.Session.{SessionState, SessionAnswer, SessionCloses, IsRestEndOf, seen}
 use Rattle.cell_drive.specs.Recovered.{Recovered, IsRecovered, IsRecoverable, plan_of}
-use Rattle.cell_drive.specs.Resuming.{IsResumedText, again_of, session_from}
+use Rattle.cell_drive.specs.Resuming.{IsContinuedRun, IsResumedText, again_of, session_from}
 use Rattle.cell_drive.specs.InProtocol.{IsResumeIn}
 use Rattle.cell_drive.proofs.OneText.{one_answer_text}
 use Rattle.drive_laws.proofs.Resumes.{resumed_text}
 use Rattle.drive_laws.proofs.Recoveries.{one_text_from_a_log, a_log_without_events_is_driven}
 use Rattle.command_words.specs.declared.words.Chosen.{Chosen}
 use Rattle.command_words.specs.declared.words.CommandName.{CommandName}
-use Rattle.command_words.specs.declared.words.CommandName.TheVariants.{Input, Facts, Shape, Check, Explain, Schedule, Bounds, Margin, Plan, Improve, Decide, Revise, Drive, Resume, Hub, Digest, Audit, Gantt}
+use Rattle.command_words.specs.declared.words.CommandName.TheVariants.{Resume}
 use Rattle.command_words.specs.declared.words.Lines.{Lines}
 use Rattle.command_words.specs.declared.words.WordsFault.{WordsFault}
 use Rattle.command_words.specs.declared.words.WordsFault.TheVariants.{Usage, Memory as NoWordsMemory}
-use Rattle.command_words.specs.Choice.{word_of, IsChoiceOf, NamesOneOf, found_in, rows_found, lines_in, leap_in}
+use Rattle.command_words.specs.Choice.{IsChoiceOf, NamesOneOf, found_in, rows_found, lines_in, leap_in}
 use Rattle.command_answers.specs.declared.answer.Answer.{Answer}
 use Rattle.command_answers.specs.declared.command_fault.CommandFault.{CommandFault}
 use Rattle.command_answers.specs.Commands.{InputPaths}
@@ -43,34 +42,11 @@ use Rattle.command_run.specs.Program.{AreWordsRead, RunsResume, RunsCommand, Run
 use Rattle.command_run.specs.Laws.{Shelf, ParseAsPlan, RunsWell}
 use Rattle.program_laws.specs.ResumeLaw.{AskForResume, AskForOneManner, moment_given, ResumeWritesTheSame, ResumeWritesAsDrive}
 use Rattle.program_laws.specs.HistoryLaw.{protocol_of}
+use Rattle.program_laws.proofs.CommandNames.{same_command}
 use Rattle.program_laws.proofs.GoodFiles.{good_resume}
-use Rattle.program_laws.proofs.SameWriting.{Wrote, same_manner, first, all_read, fewer, written_is, memory_status, memory_ends, own_ends, write_ends, ended_as, same_done, follows_wrote}
+use Rattle.program_laws.proofs.SameWriting.{Wrote, same_manner, all_read, fewer, written_is, memory_status, memory_ends, own_ends, write_ends, ended_as, same_done, follows_wrote}
 
 -- ---- the words
-
-abbrev third : Option (List ℕ) → ℕ
-third None = 0
-third (Some word) = get_or word 2 0
-
-is_resume : (name : CommandName) → word_of name ≡ word_of Resume → name ≡ Resume
-is_resume Input word = absurd (cc word)
-is_resume Resume word = refl
-is_resume Facts word = (let differ : 102 ≡ 114 = ap first word in absurd (omega (arith, differ)))
-is_resume Shape word = (let differ : 115 ≡ 114 = ap first word in absurd (omega (arith, differ)))
-is_resume Check word = (let differ : 99 ≡ 114 = ap first word in absurd (omega (arith, differ)))
-is_resume Explain word = (let differ : 101 ≡ 114 = ap first word in absurd (omega (arith, differ)))
-is_resume Schedule word = (let differ : 115 ≡ 114 = ap first word in absurd (omega (arith, differ)))
-is_resume Bounds word = (let differ : 98 ≡ 114 = ap first word in absurd (omega (arith, differ)))
-is_resume Margin word = (let differ : 109 ≡ 114 = ap first word in absurd (omega (arith, differ)))
-is_resume Plan word = (let differ : 112 ≡ 114 = ap first word in absurd (omega (arith, differ)))
-is_resume Improve word = (let differ : 105 ≡ 114 = ap first word in absurd (omega (arith, differ)))
-is_resume Revise word = (let differ : 118 ≡ 115 = ap third word in absurd (omega (arith, differ)))
-is_resume Decide word = (let differ : 100 ≡ 114 = ap first word in absurd (omega (arith, differ)))
-is_resume Drive word = (let differ : 100 ≡ 114 = ap first word in absurd (omega (arith, differ)))
-is_resume Hub word = (let differ : 104 ≡ 114 = ap first word in absurd (omega (arith, differ)))
-is_resume Digest word = (let differ : 100 ≡ 114 = ap first word in absurd (omega (arith, differ)))
-is_resume Audit word = (let differ : 97 ≡ 114 = ap first word in absurd (omega (arith, differ)))
-is_resume Gantt word = (let differ : 103 ≡ 114 = ap first word in absurd (omega (arith, differ)))
 
 asked_pair : (words : List (List ℕ)) (inputs : InputPaths) (log : List ℕ) (chosen : Chosen) → AskForResume words inputs log → IsChoiceOf words (found_in words) chosen → inputs_in chosen ≡ inputs
 asked_pair words inputs log chosen ask is =
@@ -85,7 +61,7 @@ asked_log words inputs log chosen ask is = ap (λ (fs : List (List ℕ)). get_or
 -- ---- what a good run wrote
 
 -- the text for its input from what was recovered, by this protocol
-record Resumed (p : PlannedShop) (protocol : Protocol) (lines : List (List ℕ)) (at : Option ℕ) (input : List ℕ) (status : ℕ) (written : List ℕ) : Type 0 where
+pub record Resumed (p : PlannedShop) (protocol : Protocol) (lines : List (List ℕ)) (at : Option ℕ) (input : List ℕ) (status : ℕ) (written : List ℕ) : Type 0 where
   pub recovered : Recovered
   pub up : IsRecovered p lines at recovered
   pub state : DrivenCell
@@ -99,6 +75,28 @@ record Resumed (p : PlannedShop) (protocol : Protocol) (lines : List (List ℕ))
 rest_so_far : (p q : PlannedShop) (s : SessionState) (end : RestEnd) → q ≡ p → IsRestEndOf q s end → IsSoFar p s.log.entries end.done end.last end.left
 rest_so_far p q s end same is =
     subst (λ x. IsSoFar x s.log.entries end.done end.last end.left) same (subst (λ (l : Noted). IsSoFar q l.entries end.done end.last end.left) is.log is.so_far)
+
+-- what was written behind what was recovered, and read
+pub resumed_from : (p : PlannedShop) (protocol : Protocol) (lines : List (List ℕ)) (at : Option ℕ) (recovered : Recovered) (input : List ℕ) (status : ℕ) (written : List ℕ) → IsRecovered p lines at recovered
+    → (end : RestEnd) (before after : Streams) (on : IsContinuedRun protocol (again_of protocol recovered) recovered before after (Ok end)) → on.streamed.input ≡ input
+    → written ≡ again_of protocol recovered ++ (on.streamed.comes_to.text ++ on.streamed.comes_to.closing) → status ≡ status_at end.done → Resumed p protocol lines at input status written
+resumed_from p protocol lines at recovered input status written up end before after on read wrote own =
+    let text : List ℕ = again_of protocol recovered ++ (on.streamed.comes_to.text ++ on.streamed.comes_to.closing) in
+    let state : DrivenCell = seen on.end in
+    let answered : IsResumedText p protocol recovered.log.entries recovered.late on.streamed.input text state =
+    subst (λ (q : PlannedShop). IsResumedText q protocol recovered.log.entries recovered.late on.streamed.input text state) up.recovered_from.planned (resumed_text protocol recovered end before after on) in
+    record {
+      recovered = recovered;
+      up = up;
+      state = state;
+      done = end.done;
+      last = end.last;
+      left = end.left;
+      is_text = subst (λ xs. IsResumedText p protocol recovered.log.entries recovered.late input xs state) (sym wrote)
+          (subst (λ xs. IsResumedText p protocol recovered.log.entries recovered.late xs text state) read answered);
+      so_far = rest_so_far p (plan_of recovered) on.end end up.recovered_from.planned on.came_to;
+      own = own;
+    }
 
 module _ (content : List ℕ → Result (List ℕ) CommandFault) (words : List (List ℕ)) (p : PlannedShop) (input : List ℕ) (few : length input ≤ MAX_INPUT)
     (status : ℕ) (written : List ℕ) (well : RunsWell content words input status written) where
@@ -142,22 +140,7 @@ module _ (content : List ℕ → Result (List ℕ) CommandFault) (words : List (
     resumed_so protocol lines at recovered up (Ok end) (inl cut) answer = absurd (let bad : Ok end ≡ Err NotWritten = cut.0 in cc bad)
     resumed_so protocol lines at recovered up (Ok end) (inr on) answer =
         let ended = ended_behind SessionAnswer SessionCloses (session_from protocol recovered) on.end (again_of protocol recovered) on.middle end on.streamed on.again answer in
-        let text : List ℕ = again_of protocol recovered ++ (on.streamed.comes_to.text ++ on.streamed.comes_to.closing) in
-        let state : DrivenCell = seen on.end in
-        let answered : IsResumedText p protocol recovered.log.entries recovered.late on.streamed.input text state =
-        subst (λ (q : PlannedShop). IsResumedText q protocol recovered.log.entries recovered.late on.streamed.input text state) up.recovered_from.planned (resumed_text protocol recovered end well.before.streams mid on) in
-        record {
-          recovered = recovered;
-          up = up;
-          state = state;
-          done = end.done;
-          last = end.last;
-          left = end.left;
-          is_text = subst (λ xs. IsResumedText p protocol recovered.log.entries recovered.late input xs state) (sym ended.1)
-              (subst (λ xs. IsResumedText p protocol recovered.log.entries recovered.late xs text state) ended.0 answered);
-          so_far = rest_so_far p (plan_of recovered) on.end end up.recovered_from.planned on.came_to;
-          own = ended.2;
-        }
+        resumed_from p protocol lines at recovered input status written up end well.before.streams mid on ended.0 ended.1 ended.2
     resumed_so protocol lines at recovered up (Err fault) (inl cut) answer =
         let same : fault ≡ NotWritten = (let both : Err fault ≡ Err NotWritten = cut.0 in cc both) in
         absurd (not_cut (subst (λ (f : DriveFault). IsEndAnswer (Err f) outcome) same answer) cut.1)
@@ -175,7 +158,7 @@ module _ (content : List ℕ → Result (List ℕ) CommandFault) (words : List (
       → IsRecoverable p (ended_lines text) (moment_given words) → AreWordsRead words read → Follows (Shelf content) read well.before status well.after well.log
       → Resumed p (protocol_of words) (ended_lines text) (moment_given words) input status written
   follows_resumed inputs log text (Ok chosen) ask good shaped came can are follows =
-      let name : chosen.name ≡ Resume = is_resume chosen.name (are.chosen.name ∙ ask.resume) in
+      let name : chosen.name ≡ Resume = same_command chosen.name Resume (are.chosen.name ∙ ask.resume) in
       let no_log : kept_log_in chosen ≡ None = ap (λ (n : CommandName). log_kept_by (keeps_log n) (option_map string_bytes chosen.log)) name in
       let unlogged : RunsCommand (Shelf content) chosen.name chosen well.before.texts well.before.streams follows.outcome well.after.texts follows.mid =
       (subst (λ (l : Option (List ℕ)). RunsChosen (Shelf content) l chosen well.before follows.outcome follows.mid well.after well.log) no_log follows.runs).0 in
@@ -200,14 +183,19 @@ module _ (content : List ℕ → Result (List ℕ) CommandFault) (words : List (
 
 -- ---- two runs
 
+pub resumed_the_same : (p : PlannedShop) (protocol : Protocol) (lines : List (List ℕ)) (at : Option ℕ) (input : List ℕ) (status other_status : ℕ) (written other : List ℕ)
+    → Resumed p protocol lines at input status written → Resumed p protocol lines at input other_status other → (other_status ≡ status) × (other ≡ written)
+resumed_the_same p protocol lines at input status other_status written other one two =
+    let same = one_text_from_a_log p protocol lines at one.recovered two.recovered input written other one.state two.state one.up two.up one.is_text two.is_text in
+    let done : two.done ≡ one.done = same_done p one.state two.state one.done two.done one.last two.last one.left two.left one.so_far two.so_far same.1 in
+    (two.own ∙ ap status_at done ∙ sym one.own, same.0)
+
 pub resume_writes_the_same : ResumeWritesTheSame
 resume_writes_the_same content words inputs log text p input status other_status written other ask good shaped came can few well also =
     let protocol = protocol_of words in
     let one = follows_resumed content words p input few status written well inputs log text well.run.read ask good shaped came can well.run.is well.run.follows in
     let two = follows_resumed content words p input few other_status other also inputs log text also.run.read ask good shaped came can also.run.is also.run.follows in
-    let same = one_text_from_a_log p protocol (ended_lines text) (moment_given words) one.recovered two.recovered input written other one.state two.state one.up two.up one.is_text two.is_text in
-    let done : two.done ≡ one.done = same_done p one.state two.state one.done two.done one.last two.last one.left two.left one.so_far two.so_far same.1 in
-    (two.own ∙ ap status_at done ∙ sym one.own, same.0)
+    resumed_the_same p protocol (ended_lines text) (moment_given words) input status other_status written other one two
 
 one_manner : (words others : List (List ℕ)) → AskForOneManner words others → protocol_of words ≡ protocol_of others
 one_manner words others one =

@@ -15,7 +15,6 @@ use Rattle.cell_drive.specs.declared.begin.DriveEnd.{DriveEnd}
 use Rattle.byte_streams.specs.declared.drive_fault.DriveFault.{DriveFault}
 use Rattle.byte_streams.specs.declared.drive_fault.DriveFault.TheVariants.{Read as NotRead, Write as NotWritten, InputTooLong as TooLong, Memory as OutOfMemory}
 use Rattle.byte_streams.specs.declared.rooms.TheConstants.{MAX_PIECE}
-use Rattle.byte_streams.specs.Lines.{input_lines}
 use Rattle.byte_streams.specs.Streams.{IsStreamed}
 use Rattle.run_log.specs.Log.{Noted}
 use Rattle.cell_drive.specs.AnswerText.{DrivenCell}
@@ -26,11 +25,11 @@ use Rattle.cell_drive.proofs.Sessions.{driven_text}
 use Rattle.cell_drive.proofs.OneText.{one_answer_text}
 use Rattle.command_words.specs.declared.words.Chosen.{Chosen}
 use Rattle.command_words.specs.declared.words.CommandName.{CommandName}
-use Rattle.command_words.specs.declared.words.CommandName.TheVariants.{Input, Facts, Shape, Check, Explain, Schedule, Bounds, Margin, Plan, Improve, Decide, Revise, Drive, Resume, Hub, Digest, Audit, Gantt}
+use Rattle.command_words.specs.declared.words.CommandName.TheVariants.{Drive}
 use Rattle.command_words.specs.declared.words.Lines.{Lines}
 use Rattle.command_words.specs.declared.words.WordsFault.{WordsFault}
 use Rattle.command_words.specs.declared.words.WordsFault.TheVariants.{Usage, Memory as NoWordsMemory}
-use Rattle.command_words.specs.Choice.{word_of, IsChoiceOf, NamesOneOf, found_in, rows_found, lines_in, leap_in}
+use Rattle.command_words.specs.Choice.{IsChoiceOf, NamesOneOf, found_in, rows_found, lines_in, leap_in}
 use Rattle.command_answers.specs.declared.answer.Answer.{Answer}
 use Rattle.command_answers.specs.declared.command_fault.CommandFault.{CommandFault}
 use Rattle.command_answers.specs.declared.command_fault.CommandFault.TheVariants.{Write, Memory}
@@ -42,6 +41,7 @@ use Rattle.command_run.specs.Logs.{LogEnd}
 use Rattle.command_run.specs.Program.{AreWordsRead, RunsDrive, RunsCommand, RunsChosen, Follows, draws, draws_in, is_second, keeps_log, kept_log_in, log_kept_by, protocol_in, inputs_in, status_by}
 use Rattle.command_run.specs.Laws.{Shelf, ParseAsPlan, AskForDrive, RunsWell}
 use Rattle.program_laws.specs.HistoryLaw.{protocol_of}
+use Rattle.program_laws.proofs.CommandNames.{same_command}
 use Rattle.program_laws.proofs.GoodFiles.{good_drive}
 
 driven_or_not : {P Q R S : Type 0} → (P × Q) ⊎ (R × S) → Q ⊎ R
@@ -49,34 +49,6 @@ driven_or_not (inl both) = inl both.1
 driven_or_not (inr other) = inr other.0
 
 -- ---- the words
-
-abbrev pub first : Option (List ℕ) → ℕ
-first None = 0
-first (Some word) = get_or word 0 0
-
-abbrev second : Option (List ℕ) → ℕ
-second None = 0
-second (Some word) = get_or word 1 0
-
-is_drive : (name : CommandName) → word_of name ≡ word_of Drive → name ≡ Drive
-is_drive Input word = absurd (cc word)
-is_drive Drive word = refl
-is_drive Facts word = (let differ : 102 ≡ 100 = ap first word in absurd (omega (arith, differ)))
-is_drive Shape word = (let differ : 115 ≡ 100 = ap first word in absurd (omega (arith, differ)))
-is_drive Check word = (let differ : 99 ≡ 100 = ap first word in absurd (omega (arith, differ)))
-is_drive Explain word = (let differ : 101 ≡ 100 = ap first word in absurd (omega (arith, differ)))
-is_drive Schedule word = (let differ : 115 ≡ 100 = ap first word in absurd (omega (arith, differ)))
-is_drive Bounds word = (let differ : 98 ≡ 100 = ap first word in absurd (omega (arith, differ)))
-is_drive Margin word = (let differ : 109 ≡ 100 = ap first word in absurd (omega (arith, differ)))
-is_drive Plan word = (let differ : 112 ≡ 100 = ap first word in absurd (omega (arith, differ)))
-is_drive Improve word = (let differ : 105 ≡ 100 = ap first word in absurd (omega (arith, differ)))
-is_drive Revise word = (let differ : 114 ≡ 100 = ap first word in absurd (omega (arith, differ)))
-is_drive Decide word = (let differ : 101 ≡ 114 = ap second word in absurd (omega (arith, differ)))
-is_drive Resume word = (let differ : 114 ≡ 100 = ap first word in absurd (omega (arith, differ)))
-is_drive Hub word = (let differ : 104 ≡ 100 = ap first word in absurd (omega (arith, differ)))
-is_drive Digest word = (let differ : 105 ≡ 114 = ap second word in absurd (omega (arith, differ)))
-is_drive Audit word = (let differ : 97 ≡ 100 = ap first word in absurd (omega (arith, differ)))
-is_drive Gantt word = (let differ : 103 ≡ 100 = ap first word in absurd (omega (arith, differ)))
 
 same_pair : (words : List (List ℕ)) (inputs : InputPaths) (chosen : Chosen) → AskForDrive words inputs → IsChoiceOf words (found_in words) chosen → inputs_in chosen ≡ inputs
 same_pair words inputs chosen ask is =
@@ -164,43 +136,45 @@ pub record Wrote (p : PlannedShop) (protocol : Protocol) (input : List ℕ) (sta
   pub so_far : IsSoFar p state.entries done last left
   pub own : status ≡ status_at done
 
+-- all was read and written, whoever answers the lines
+module _ (content : List ℕ → Result (List ℕ) CommandFault) (words : List (List ℕ)) (input : List ℕ) (few : length input ≤ MAX_INPUT)
+    (status : ℕ) (written : List ℕ) (well : RunsWell content words input status written)
+    {S : Type 0} (answers : S → ℕ → Option (List ℕ) → List ℕ → S → Type 0) (closes : S → List ℕ → Type 0) (start last : S) (mid : Streams) (outcome : Result Answer CommandFault)
+    (same_input : well.after.streams.input ≡ mid.input) (ends : Ends outcome mid.output well.after.streams.output well.before.errors well.after.errors status) where
+  pub ended_well : {T : Type 0} (end : T) (done : Bool) (is : IsStreamed (Ok end) MAX_PIECE answers closes start last well.before.streams mid) → IsEnded done outcome
+      → (is.input ≡ input) × (written ≡ is.comes_to.text ++ is.comes_to.closing) × (status ≡ status_at done)
+  ended_well end done is answer =
+      let all = is.comes_to in
+      let whole : List ℕ = all.text ++ all.closing in
+      let ended = ended_as done outcome mid.output well.after.streams.output well.before.errors well.after.errors status well.was_written answer ends in (
+        all_read well.before.streams.input.left mid.input.left input is.input well.given is.was_read all.at_end,
+        written_is well.before.streams.output.written mid.output.written well.after.streams.output.written well.start written whole ended.1.0 well.empty well.wrote all.written ended.1.2 ended.1.1,
+        ended.0,
+      )
+
+  pub never_broke : (T : Type 0) (fault : DriveFault) → IsStreamedFrom {T = T} answers closes start (Err fault) last well.before.streams mid → IsEndAnswer (Err fault) outcome → ⊥
+  never_broke T NotRead is answer = absurd (let failed : true ≡ false = sym is.comes_to.0 ∙ sym (ap (λ i. i.failed) same_input) ∙ well.was_read in cc failed)
+  never_broke T NotWritten is answer =
+      let same_output = write_ends outcome mid.output well.after.streams.output well.before.errors well.after.errors status answer ends in
+      absurd (let failed : true ≡ false = sym is.comes_to.0 ∙ sym (ap (λ (o : Output). o.failed) same_output) ∙ well.was_written in cc failed)
+  never_broke T TooLong is answer =
+      let less = fewer well.before.streams.input.left mid.input.left input is.input well.given is.was_read in
+      absurd (omega (arith, less, few, is.comes_to.0))
+  never_broke T OutOfMemory is answer = absurd (well.not_out_of_memory (memory_ends outcome mid.output well.after.streams.output well.before.errors well.after.errors status answer ends))
+
+pub so_far_of : (p : PlannedShop) (v : VerifiedPlan) (state : SessionState) (end : DriveEnd) → v.planned ≡ p → IsEndOf v state end → IsSoFar p state.log.entries end.done end.last end.left
+so_far_of p v state end same is =
+    subst (λ q. IsSoFar q state.log.entries end.done end.last end.left) same (subst (λ (l : Noted). IsSoFar v.planned l.entries end.done end.last end.left) is.log is.so_far)
+
 module _ (content : List ℕ → Result (List ℕ) CommandFault) (words : List (List ℕ)) (p : PlannedShop) (input : List ℕ) (few : length input ≤ MAX_INPUT)
     (status : ℕ) (written : List ℕ) (well : RunsWell content words input status written) where
-  -- all was read and written, whoever answers the lines
-  module _ {S : Type 0} (answers : S → ℕ → Option (List ℕ) → List ℕ → S → Type 0) (closes : S → List ℕ → Type 0) (start last : S) (mid : Streams) (outcome : Result Answer CommandFault)
-      (same_input : well.after.streams.input ≡ mid.input) (ends : Ends outcome mid.output well.after.streams.output well.before.errors well.after.errors status) where
-    ended_well : (end : DriveEnd) (is : IsStreamed (Ok end) MAX_PIECE answers closes start last well.before.streams mid) → IsEndAnswer (end_of_drive (Ok end)) outcome
-        → (is.input ≡ input) × (written ≡ is.comes_to.text ++ is.comes_to.closing) × (status ≡ status_at end.done)
-    ended_well end is answer =
-        let all = is.comes_to in
-        let whole : List ℕ = all.text ++ all.closing in
-        let ended = ended_as end.done outcome mid.output well.after.streams.output well.before.errors well.after.errors status well.was_written answer ends in (
-          all_read well.before.streams.input.left mid.input.left input is.input well.given is.was_read all.at_end,
-          written_is well.before.streams.output.written mid.output.written well.after.streams.output.written well.start written whole ended.1.0 well.empty well.wrote all.written ended.1.2 ended.1.1,
-          ended.0,
-        )
-
-    never_broke : (fault : DriveFault) → IsStreamedFrom {T = DriveEnd} answers closes start (Err fault) last well.before.streams mid → IsEndAnswer (Err fault) outcome → ⊥
-    never_broke NotRead is answer = absurd (let failed : true ≡ false = sym is.comes_to.0 ∙ sym (ap (λ i. i.failed) same_input) ∙ well.was_read in cc failed)
-    never_broke NotWritten is answer =
-        let same_output = write_ends outcome mid.output well.after.streams.output well.before.errors well.after.errors status answer ends in
-        absurd (let failed : true ≡ false = sym is.comes_to.0 ∙ sym (ap (λ (o : Output). o.failed) same_output) ∙ well.was_written in cc failed)
-    never_broke TooLong is answer =
-        let less = fewer well.before.streams.input.left mid.input.left input is.input well.given is.was_read in
-        absurd (omega (arith, less, few, is.comes_to.0))
-    never_broke OutOfMemory is answer = absurd (well.not_out_of_memory (memory_ends outcome mid.output well.after.streams.output well.before.errors well.after.errors status answer ends))
-
-  so_far_of : (v : VerifiedPlan) (state : SessionState) (end : DriveEnd) → v.planned ≡ p → IsEndOf v state end → IsSoFar p state.log.entries end.done end.last end.left
-  so_far_of v state end same is =
-      subst (λ q. IsSoFar q state.log.entries end.done end.last end.left) same (subst (λ (l : Noted). IsSoFar v.planned l.entries end.done end.last end.left) is.log is.so_far)
-
   drive_wrote : (protocol : Protocol) (v : VerifiedPlan) (mid : Streams) (outcome : Result Answer CommandFault) (end : Result DriveEnd DriveFault) → v.planned ≡ p
       → IsDriveIn protocol v well.before.streams mid end → IsEndAnswer (end_of_drive end) outcome → well.after.streams.input ≡ mid.input
       → Ends outcome mid.output well.after.streams.output well.before.errors well.after.errors status → Wrote p protocol input status written
   drive_wrote protocol v mid outcome (Ok end) same is answer same_input ends =
       let all = is.streamed.comes_to in
       let whole : List ℕ = all.text ++ all.closing in
-      let ended = ended_well SessionAnswer SessionCloses (session_start protocol v) is.end mid outcome same_input ends end is.streamed answer in
+      let ended = ended_well content words input few status written well SessionAnswer SessionCloses (session_start protocol v) is.end mid outcome same_input ends end end.done is.streamed answer in
       let answered : IsProtocolText p protocol is.streamed.input whole (seen is.end) = subst (λ q. IsProtocolText q protocol is.streamed.input whole (seen is.end)) same (driven_text v protocol end well.before.streams mid is) in
       record {
         state = seen is.end;
@@ -208,11 +182,11 @@ module _ (content : List ℕ → Result (List ℕ) CommandFault) (words : List (
         last = end.last;
         left = end.left;
         is_text = subst (λ xs. IsProtocolText p protocol input xs (seen is.end)) (sym ended.1) (subst (λ xs. IsProtocolText p protocol xs whole (seen is.end)) ended.0 answered);
-        so_far = so_far_of v is.end end same is.came_to;
+        so_far = so_far_of p v is.end end same is.came_to;
         own = ended.2;
       }
   drive_wrote protocol v mid outcome (Err fault) same is answer same_input ends =
-      absurd (never_broke SessionAnswer SessionCloses (session_start protocol v) is.end mid outcome same_input ends fault is.streamed answer)
+      absurd (never_broke content words input few status written well SessionAnswer SessionCloses (session_start protocol v) is.end mid outcome same_input ends DriveEnd fault is.streamed answer)
 
   cell_wrote : (protocol : Protocol) (mid : Streams) (outcome : Result Answer CommandFault) → ((v : VerifiedPlan) × (v.planned ≡ p) × DrivesCell protocol v well.before.streams mid outcome) ⊎ (outcome ≡ Err Memory)
       → well.after.streams.input ≡ mid.input → Ends outcome mid.output well.after.streams.output well.before.errors well.after.errors status → Wrote p protocol input status written
@@ -223,7 +197,7 @@ module _ (content : List ℕ → Result (List ℕ) CommandFault) (words : List (
   pub follows_wrote : (inputs : InputPaths) (read : Result Chosen WordsFault) → AskForDrive words inputs → ParseAsPlan content inputs p → IsWellShaped p → IsAcceptable p → AreWordsRead words read
       → Follows (Shelf content) read well.before status well.after well.log → Wrote p (protocol_of words) input status written
   follows_wrote inputs (Ok chosen) ask good shaped acceptable are follows =
-      let name = is_drive chosen.name (are.chosen.name ∙ ask.drive) in
+      let name = same_command chosen.name Drive (are.chosen.name ∙ ask.drive) in
       let protocol = protocol_of words in
       let unlogged : RunsCommand (Shelf content) chosen.name chosen well.before.texts well.before.streams follows.outcome well.after.texts follows.mid =
       (subst (λ (l : Option (List ℕ)). RunsChosen (Shelf content) l chosen well.before follows.outcome follows.mid well.after well.log) (no_log words inputs chosen ask are.chosen) follows.runs).0 in
@@ -242,7 +216,7 @@ module _ (content : List ℕ → Result (List ℕ) CommandFault) (words : List (
 
 -- ---- two runs
 
-same_truth : (a b : Bool) → (IsTrue a → IsTrue b) → (IsTrue b → IsTrue a) → b ≡ a
+pub same_truth : (a b : Bool) → (IsTrue a → IsTrue b) → (IsTrue b → IsTrue a) → b ≡ a
 same_truth true true there back = refl
 same_truth true false there back = absurd (let bad : false ≡ true = there refl in cc bad)
 same_truth false true there back = absurd (let bad : false ≡ true = back refl in cc bad)
@@ -255,7 +229,7 @@ same_done p one two done also last last_too left left_too so_far so_far_too same
     let counted : IsTrue also ↔ (reports_in (events_of one.entries) ≡ stated_number p) = subst (λ es. IsTrue also ↔ (reports_in (events_of es) ≡ stated_number p)) entries so_far_too.counted in
     same_truth done also (λ yet. counted.1 (so_far.counted.0 yet)) (λ yet. so_far.counted.1 (counted.0 yet))
 
-wrote_the_same : (p : PlannedShop) (protocol : Protocol) (input : List ℕ) (status other_status : ℕ) (written other : List ℕ) → IsWellShaped p → Wrote p protocol input status written → Wrote p protocol input other_status other
+pub wrote_the_same : (p : PlannedShop) (protocol : Protocol) (input : List ℕ) (status other_status : ℕ) (written other : List ℕ) → IsWellShaped p → Wrote p protocol input status written → Wrote p protocol input other_status other
     → (other_status ≡ status) × (other ≡ written)
 wrote_the_same p protocol input status other_status written other shaped one two =
     let same = one_answer_text p protocol input written other _ _ shaped one.is_text two.is_text in

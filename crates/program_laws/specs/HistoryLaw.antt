@@ -48,3 +48,11 @@ OldLogHasHistory = (content : List ℕ → Result (List ℕ) CommandFault) (word
     → AskForLog words inputs log → ParseAsPlan content inputs p → before.texts ≡ [] → before.folder.logs ≡ Some logs → before.streams.output.written ≡ Some start → held logs log ≡ Some (byte ∷ bytes)
     → IsRecovered p (ended_lines (whole_lines (byte ∷ bytes))) (moment_given words) recovered → IsNamedFor (digits_in p) (whole_lines (byte ∷ bytes)) base
     → IsHistoryOfWords (Shelf content) words before (base, start ++ replay_text (protocol_of words) recovered)
+
+-- of a log with bytes, from which no run is recovered by that plan, they are known likewise; and the output has what was written on it
+abbrev pub UnrecoveredLogHasHistory : Type 0
+UnrecoveredLogHasHistory = (content : List ℕ → Result (List ℕ) CommandFault) (words : List (List ℕ)) (inputs : InputPaths) (log : List ℕ) (byte : ℕ) (bytes base : List ℕ) (p : PlannedShop)
+    (before : Devices (List (List ℕ))) (logs : List NamedLog) (start : List ℕ)
+    → AskForLog words inputs log → ParseAsPlan content inputs p → before.texts ≡ [] → before.folder.logs ≡ Some logs → before.streams.output.written ≡ Some start → held logs log ≡ Some (byte ∷ bytes)
+    → ((recovered : Recovered) → IsRecovered p (ended_lines (whole_lines (byte ∷ bytes))) (moment_given words) recovered → ⊥) → IsNamedFor (digits_in p) (whole_lines (byte ∷ bytes)) base
+    → IsHistoryOfWords (Shelf content) words before (base, start)

@@ -1,4 +1,4 @@
--- The law that a log is driven by no other plan than its last line of a plan names.
+-- The law that a log is driven by no plan with other digits than its last line of a plan has.
 use Rattle.std.specs.Prelude.{◌≡◌, ℕ, List, Option, Some, Result}
 use Rattle.shop_base.specs.Plan.{PlannedShop}
 use Rattle.text_lines.specs.Lines.{lines_of}
@@ -15,8 +15,8 @@ use Rattle.command_run.specs.Streams.{Devices}
 use Rattle.command_run.specs.Logs.{Driven, digits_in}
 use Rattle.command_run.specs.Program.{RunsProgram}
 
--- the whole lines of a log name a plan last: by another one no cell is driven with it, unless the words ask for a hand-over
-abbrev pub NoOtherPlanDrives : {W : Type 0} → (W → List ℕ → Result (List ℕ) CommandFault → W → Type 0) → Type 0
-NoOtherPlanDrives {W} gives = (words : List (List ℕ)) (before after : Devices W) (status : ℕ) (logs : List NamedLog) (path bytes : List ℕ) (digits : RunDigits) (p : PlannedShop) (events : List Entry) (run : Held)
+-- the last line of a plan among the whole lines of a log has these digits: by a plan with others no cell is driven with it, unless the words ask for a hand-over
+abbrev pub NoPlanWithOtherDigitsDrives : {W : Type 0} → (W → List ℕ → Result (List ℕ) CommandFault → W → Type 0) → Type 0
+NoPlanWithOtherDigitsDrives {W} gives = (words : List (List ℕ)) (before after : Devices W) (status : ℕ) (logs : List NamedLog) (path bytes : List ℕ) (digits : RunDigits) (p : PlannedShop) (events : List Entry) (run : Held)
     → before.folder.logs ≡ Some logs → kept_in (rows_found (found_in words)) ≡ Some path → held logs path ≡ Some bytes → NameLast (lines_of (whole_lines bytes)) digits
     → (start_in (rows_found (found_in words)) ≡ HandOver → ⊥) → (digits_in p ≡ digits → ⊥) → RunsProgram gives words before status after (Some (Driven p events run)) → ⊥

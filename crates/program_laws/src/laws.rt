@@ -1,4 +1,4 @@
-//! The laws of the program. The first four speak of files that don't change (`Shelf`), and the first three also of
+//! The laws of the program. The first seven speak of files that don't change (`Shelf`), and the first three also of
 //! which paths are asked for. The others speak of every run of the whole program, over any files, input, output and
 //! error output, but for `a_log_has_history`, which is of what `run` asks, and `a_log_is_of_one_run`, of the log of
 //! a driven run. For `audit`, `gantt` and `--after` `good_files_are_answered` takes a well shaped plan. The clause of
@@ -27,10 +27,11 @@ ghost use Rattle.command_run.specs.Laws.{DriveAnswersByCheck, ResumeAnswersUnsha
 ghost use Rattle.command_run.specs.Laws.{HubAnswersByCheck, DriveWritesTheSame};
 ghost use Rattle.command_run.specs.Laws.{FaultsArePrinted, NothingIsHeldBack, WhatFailsIsNoAnswer};
 ghost use Rattle.program_laws.specs.ResumeLaw.{ResumeWritesTheSame, ResumeWritesAsDrive};
+ghost use Rattle.program_laws.specs.{HubLaw.HubWritesTheSame, LoggedLaw.LoggedDriveWritesTheSame};
 ghost use Rattle.program_laws.specs.OneLogLaw.{ANewLogIsOfOneRun, ARecoveredLogIsOfOneRun};
-ghost use Rattle.program_laws.specs.PlanLaw.{NoOtherPlanDrives};
+ghost use Rattle.program_laws.specs.PlanLaw.{NoPlanWithOtherDigitsDrives};
 ghost use Rattle.program_laws.specs.MemoryLaw.{OutOfMemoryChangesNoLog};
-ghost use Rattle.program_laws.specs.HistoryLaw.{NewLogHasHistory, OldLogHasHistory};
+ghost use Rattle.program_laws.specs.HistoryLaw.{NewLogHasHistory, OldLogHasHistory, UnrecoveredLogHasHistory};
 
 use command_answers::Texts;
 use logged_drive::laws::{a_driven_run_is_recovered, a_recovered_run_is_recovered};
@@ -122,6 +123,18 @@ pub fn resume_writes_the_same()
     ensures as_drive { ResumeWritesAsDrive }
 {}
 
+/// The same holds of `hub`, where all plans are accepted.
+pub fn hub_writes_the_same()
+    ensures { HubWritesTheSame }
+{}
+
+/// The same holds of `drive` with a log of its own, if two runs find the same log, which is as the words ask. It has no
+/// bytes, and the plan is accepted; or it can be recovered by the plan, which is well shaped, and its end can be torn.
+/// This holds unless memory runs out, or the log, its folder or a read or write fails.
+pub fn logged_drive_writes_the_same()
+    ensures { LoggedDriveWritesTheSame }
+{}
+
 /// A run ends with 0 or 1 and writes nothing on the error output, but by a command with `--svg` the line that is
 /// answered in place of a picture. (The line of progress on a terminal goes to another device.) Or it ends with 2 or
 /// more, and what failed is written there: with 2 what is wrong with the words, else the line of the fault in which the
@@ -145,18 +158,19 @@ pub fn what_fails_is_no_answer<T: Texts>()
 {}
 
 /// Where the logs and the output are known, what `run` asks of the history of a log can be said: of a log that isn't
-/// there or is empty, that it has no bytes; of any other, by files that don't change, its whole lines and the text that
-/// writes its events again, if a run is recovered from it.
+/// there or is empty, that it has no bytes; of any other, by files that don't change, its whole lines, and the text that
+/// writes its events again, if a run is recovered from it by their plan, or else none.
 pub fn a_log_has_history<T: Texts>()
     ensures new_log { NewLogHasHistory T.gives }
     ensures old_log { OldLogHasHistory }
+    ensures unrecovered { UnrecoveredLogHasHistory }
 {}
 
 /// Let the whole lines of a log name a plan last. By a plan with other digits no cell is driven with this log, unless
 /// the words ask for a hand-over. (By [`run_journal::laws::a_crash_keeps_the_plan`] what a crash leaves of a log that
 /// is driven names the same plan.)
-pub fn no_other_plan_drives<T: Texts>()
-    ensures { NoOtherPlanDrives T.gives }
+pub fn no_plan_with_other_digits_drives<T: Texts>()
+    ensures { NoPlanWithOtherDigitsDrives T.gives }
 {}
 
 /// A run that ends with 4, since memory ran out, has changed no byte of its log: it appended none, and cut none off.
