@@ -29,7 +29,8 @@ pub fn nobody_else_is_later()
     a_kept_run_is_one_of_the_other_plan();
 }
 
-/// No job has a machine ahead that is down. So no order brings a part there.
+/// Where the machines that are shut down come last among the changes, as those of the command do, no job has one of them
+/// ahead. So no order brings a part there. (A job that is added behind may have it on its route.)
 pub fn no_part_comes_to_a_machine_that_is_down()
     ensures { NoPartComesToAMachineThatIsDown }
 {

@@ -33,8 +33,9 @@ pub fn unwritten_lines_are_torn()
     ensures { UnwrittenLinesAreTorn }
 {}
 
-/// Of the answer to a report, if it has at most 16,384 bytes, no byte is shown before all of it is gathered. So by the
-/// clauses of [`Logged`](crate::Logged) what a log gets of it is written and synced first.
+/// Of the answer to a report, if it has at most 16,384 bytes and nothing is flushed between its lines, no byte is shown
+/// before all of it is gathered. So by the clauses of [`Logged`](crate::Logged) what a log gets of it is written and
+/// synced first. (That a session flushes only behind an answer is tested.)
 #[tactic(auto, using(crate::proofs::Buffering::buffered_whole))]
 pub fn an_answer_is_buffered_whole()
     ensures { AnAnswerIsBufferedWhole }
