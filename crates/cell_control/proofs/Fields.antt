@@ -12,10 +12,12 @@ use Rattle.alt_graph.specs.Times.{NodeTimes, rank_of, earliest_of}
 use Rattle.alt_graph.proofs.WholePlans.{times_ranks}
 use Rattle.plan_verifier.specs.{Rest.AreOrderedAhead, Accepted.{VerifiedPlan, IsVerified, kept_at, rank_in}}
 use Rattle.cell_tables.specs.PlannedCell as planned
-use Rattle.cell_tables.specs.PlannedCell.{PlannedCell}
+use Rattle.cell_tables.specs.{PlannedCell.{PlannedCell}, Rests.IsReached}
+use Rattle.cell_tables.proofs.Reaching.{start_reached}
 use Rattle.cell_control.specs.{declared.ack.Ack.Ack, DueMoments.AreDueMoments, Steps.IsMade, Settled.HasSettled}
 use Rattle.cell_control.specs.{Control.{Control, at_start, verified_in, IsAnswered, IsKeptFrom, AreMomentsKept, IsControl}, Begun.IsBegun}
 use Rattle.cell_control.specs.Fields.{control_of, begun_with, AreFieldsOf}
+use Rattle.cell_control.proofs.Reached.{moves_reached, step_reached}
 
 -- the two ways to say that no node ahead is kept to a moment before t
 to_none_late : (p : PlannedShop) (c : Cell) (t : ℕ) (kept : Node → ℕ) → IsKeptFrom p c t kept → IsNoneLate p c t kept
@@ -29,6 +31,7 @@ of_none_late p c t kept none v is ahead = none v (record { ahead = ahead; job = 
 start_control : (v : VerifiedPlan) → IsVerified v → IsControl (at_start v)
 start_control v verified = record {
   ranks = times_ranks v.planned v.times verified.ordered.times;
+  reached = start_reached v.planned;
   sound = start-sound v.planned verified.schedule.shaped;
   at_rest = start_at_rest v.planned;
   counted = sym (start-reports_left v.planned);
@@ -67,9 +70,10 @@ module _ (p : PlannedShop) (c : Cell) (t : ℕ) (times : NodeTimes) (orders : Li
     punctual = refl;
   }
 
-  pub settled-control : IsControl begun
-  settled-control = record {
+  pub settled-control : IsReached p c → IsControl begun
+  settled-control reached = record {
     ranks = ordered.ranks;
+    reached = subst (IsReached p) (sym settled.leads) (moves_reached p c t settled.movers reached settled.settles.moves);
     sound = subst (IsSound p) (sym settled.leads) (after_moves-sound p c t settled.movers ordered.ranks.shaped sound settled.settles.moves);
     at_rest = subst (IsAtRest p) (sym settled.leads) settled.settles.quiescent;
     counted = refl;
@@ -148,6 +152,7 @@ module _ (v : Control) (dues : List (Option ℕ)) (capacity : ℕ) (fields : Are
     fields_after dues' capacity' same due_moments = record {
       control = record {
         ranks = fields.control.ranks;
+        reached = subst (IsReached p) (sym made.leads) (step_reached p v.cell r js fields.control.reached made.step);
         sound = subst (IsSound p) (sym made.leads) (after_step-sound p v.cell r js fields.control.ranks.shaped fields.control.sound made.step);
         at_rest = subst (IsAtRest p) (sym made.leads) made.step.quiescent;
         counted = omega (arith, fewer);

@@ -5,13 +5,10 @@ pub mod DueMoments
 pub mod Sequences
 pub mod Reading
 pub mod Steps
-pub mod LeftCounts
+pub mod Reached
 pub mod Fields
 pub mod Promises
 pub mod Reasons
 pub mod OneReason
 pub mod CleanReasons
 pub mod Once
-pub mod KeptSoFar
-pub mod CarriedCells
-pub mod CarriedTables

@@ -5,6 +5,7 @@ ghost use Rattle.alt_graph.specs.Times.{earliest_of};
 ghost use Rattle.cell_tables.specs.Readings.{IsCleanedFor};
 ghost use Rattle.cell_control.specs.{Control.IsAnswered, Control.IfEndsNow, Control.IsControl, Promises.IsCalled};
 ghost use Rattle.cell_control.specs.{Fields.begun_with, Fields.IsRoomFor, Judged.IsJudged, Judged.IsPossible};
+ghost use Rattle.cell_control.specs.HandedOver.{IsRestAtFault};
 ghost use Rattle.cell_control.specs.Reports.{IsFirstReason, IsOnlyReason, CanCleanAfter};
 ghost use Rattle.cell_control.specs.Reports.{IsFirstCleanReason, IsOnlyCleanReason};
 ghost use Rattle.cell_control.specs.Readings.{IsPhaseOf, IsJobOn, IsDueOf, IsDueOfCleaning, IsOnTime};
@@ -14,6 +15,8 @@ use crate::checking::{check_cleaning_after, check_report};
 use crate::counting::count_left;
 use crate::due_moments::{cleaning_key, note_all};
 use crate::dues::Dues;
+use crate::hand_over_fault::HandOverFault;
+use crate::handing::take_over;
 use crate::phase::{Phase, phase_of};
 use crate::possible::Possible;
 use crate::releasing::Orders;
@@ -21,9 +24,10 @@ use crate::report_fault::ReportFault;
 use crate::room::Room;
 use crate::step::{is_past_due, make_step, still_punctual};
 use crate::timed::Timed;
-use cell_tables::WorkCell;
+use cell_tables::{Rest, WorkCell};
 use plan_verifier::leave_time;
 use shop_base::{JobNo, MachineNo, Moment, MoveOrder, Report, Shaped};
+use std::alloc::Global;
 use std::marker::Model;
 
 /// Runs a cell by a plan without a cycle, from any cell on: it gets reports of what has ended, and orders the moves
@@ -34,7 +38,7 @@ use std::marker::Model;
 /// locks, whatever ends first. While no report is late each job is out by the moment kept for it.
 ///
 /// A [`crate::Controller`] has an accepted plan, and began with it; a [`crate::RestController`] began in mid-run, or
-/// was handed over. None of the calls here takes memory.
+/// was handed over. Of the calls here only [`Core::rest_at`] takes memory.
 #[derive(Drop)]
 pub struct Core<P: Timed, D: Dues> {
     pub(crate) cell: WorkCell<P>,
@@ -179,12 +183,34 @@ impl<P: Timed, D: Dues> Core<P, D> {
         self.orders.as_slice()
     }
 
-    /// The cell, for its own readers, and for the verdict on what is left of the run.
+    /// The cell, for its own readers.
     pub fn work_cell(&self) -> &WorkCell<P>
         ensures plan { result.now.plan ≡ self.now.planned }
         ensures cell { result.now.cell ≡ self.now.cell }
     {
         &self.cell
+    }
+
+    /// The rest of its run, from a moment on. If the moment can't be the present one, that is the fault; else none but
+    /// `Memory` comes.
+    pub fn rest_at<'a>(
+        &'a self,
+        alloc: Global,
+        present: Moment,
+    ) -> Result<Rest<&'a Shaped>, HandOverFault>
+        ensures plan { IfOk result (λ rest. rest.plan ≡ self.now.planned) }
+        ensures cell { IfOk result (λ rest. rest.cell ≡ self.now.cell) }
+        ensures present { IfOk result (λ rest. rest.present ≡ present) }
+        ensures fault { IfErr result (IsRestAtFault self.now.cell present) }
+    {
+        let shaped = self.shaped();
+        if let Err(fault) = self.cell.present_at(Some(present)) {
+            return Err(HandOverFault::Present(fault));
+        }
+        match take_over(alloc, &self.cell, shaped, present) {
+            Ok(rest) => Ok(rest),
+            Err((fault, _shaped)) => Err(fault),
+        }
     }
 
     /// Where the job is; `None` for a number that is no job's.

@@ -1,8 +1,8 @@
 //! How many reports are still to come, counted from the cell.
 
-ghost use Rattle.std.specs.Prelude.{◌≡◌, ◌<◌, ◌≤◌, length};
-ghost use Rattle.shop_base.specs.{Plan.jobs, Plan.machines, Plan.order, Ends.sum_below};
-ghost use Rattle.shop_base.specs.ReportsLeft.{job_reports_left, departures, cleanings_left, reports_left};
+ghost use Rattle.std.specs.Prelude.{◌≡◌, ◌<◌, ◌≤◌};
+ghost use Rattle.shop_base.specs.{Plan.jobs, Plan.machines, Ends.sum_below};
+ghost use Rattle.shop_base.specs.ReportsLeft.{job_reports_left, cleanings_left, reports_left};
 
 use cell_tables::WorkCell;
 use shop_base::{JobNo, MachineNo, Planned};
@@ -66,25 +66,9 @@ fn cleaning_left<P: Planned>(cell: &WorkCell<P>, machine: MachineNo) -> u64
     if cell.shaped().clean_of(machine) == 0 {
         return 0;
     }
-    let ahead = cell.order_of(machine).len() as u64 - u64::from(departed(cell, machine));
+    let ahead = cell.order_of(machine).len() as u64 - u64::from(cell.departed(machine));
     match cell.cleaned_since(machine) {
         Some(_) => ahead + 1,
         None => ahead,
-    }
-}
-
-/// How many jobs have left the machine.
-#[tactic(auto, using(crate::proofs::LeftCounts::departed_on))]
-pub(crate) fn departed<P: Planned>(cell: &WorkCell<P>, machine: MachineNo) -> u32
-    requires machine { machine < machines cell.now.plan }
-    ensures count { result ≡ departures cell.now.plan cell.now.cell machine }
-    ensures few { result ≤ length (order cell.now.plan machine) }
-{
-    // Called for its clause alone: the cell is sound.
-    let _plan = cell.shaped();
-    let entered = cell.entered(machine);
-    match cell.holder(machine) {
-        Some(_) => entered - 1,
-        None => entered,
     }
 }

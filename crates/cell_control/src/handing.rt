@@ -1,39 +1,60 @@
-//! A cell that another plan takes over.
+//! A cell that a plan takes over.
 
-ghost use Rattle.std.specs.Prelude.{◌≡◌, ◌≤◌, OnOk, IfOk, IfErr};
+ghost use Rattle.std.specs.Prelude.{◌≡◌, ◌≤◌, IfOk, IfErr};
 ghost use Rattle.shop_base.specs.declared.limits.TheConstants.{MAX_MOMENT};
-ghost use Rattle.cell_control.specs.{Kept.KeepsSoFar, Carried.IsCarried, HandedOver.IsHandOverFault};
+ghost use Rattle.cell_tables.specs.{Recasts.IsRecast, Rests.IsReached};
+ghost use Rattle.cell_control.specs.HandedOver.{IsTakeOverFault, IsPast};
 
-use crate::carrying::carry;
-use crate::keeping::keeps_so_far;
-use crate::rest_fault::RestFault;
-use cell_tables::WorkCell;
-use shop_base::limits::MAX_MOMENT;
-use shop_base::{Moment, Planned, Shaped};
+use crate::hand_over_fault::HandOverFault;
+use cell_tables::{PresentFault, Rest, WorkCell};
+use shop_base::{Moment, Planned};
 use std::alloc::Global;
 
-/// The cell as one of another plan, if the run so far keeps that. If it is refused, the plan comes back.
-pub(crate) fn take_over<P: Planned>(
+/// The rest of the run of a cell by another plan, from a moment on, if the run so far keeps that plan. If it is
+/// refused, what leads to the plan comes back.
+pub(crate) fn take_over<P: Planned, Q: Planned>(
     alloc: Global,
     cell: &WorkCell<P>,
-    shaped: Shaped,
+    basis: Q,
     present: Moment,
-) -> Result<WorkCell<Shaped>, (RestFault, Shaped)>
-    ensures in_range { OnOk result (present ≤ MAX_MOMENT) }
-    ensures kept { OnOk result (KeepsSoFar cell.now.plan cell.now.cell shaped) }
-    ensures plan { IfOk result (λ new. new.plan ≡ shaped) }
-    ensures carried { IfOk result (λ new. IsCarried cell.now.plan cell.now.cell shaped new.cell) }
-    ensures fault { IfErr result (λ refused. IsHandOverFault cell.now.plan cell.now.cell shaped present refused.0) }
-    ensures handed_back { IfErr result (λ refused. refused.1 ≡ shaped) }
+) -> Result<Rest<Q>, (HandOverFault, Q)>
+    requires { IsReached cell.now.plan cell.now.cell }
+    ensures basis { IfOk result (λ rest. rest.basis ≡ basis) }
+    ensures plan { IfOk result (λ rest. rest.plan ≡ Q.planned basis) }
+    ensures recast { IfOk result (λ rest. IsRecast cell.now.plan cell.now.cell (Q.planned basis) rest.cell) }
+    ensures present { IfOk result (λ rest. rest.present ≡ present) }
+    ensures fault { IfErr result
+        (λ refused. IsTakeOverFault cell.now.plan cell.now.cell (Q.planned basis) present refused.0) }
+    ensures handed_back { IfErr result (λ refused. refused.1 ≡ basis) }
 {
-    if present > MAX_MOMENT {
-        return Err((RestFault::MomentTooLarge, shaped));
+    // Called for its clauses alone: the plan is well shaped, and the last moment within the limit.
+    let _plan = cell.shaped();
+    if let Err(fault @ PresentFault::TooLarge) = cell.present_at(Some(present)) {
+        return Err((HandOverFault::Present(fault), basis));
     }
-    if !keeps_so_far(cell, &shaped) {
-        return Err((RestFault::IncompatiblePlan, shaped));
+    match cell.recast(alloc, basis) {
+        Ok(new) => {
+            // Called for its clause alone: the other plan is well shaped.
+            let _other = new.shaped();
+            rest_from(new, present)
+        }
+        Err((fault, basis)) => Err((HandOverFault::from(fault), basis)),
     }
-    match carry(alloc, cell, &shaped) {
-        Ok(tables) => Ok(WorkCell::of_parts(shaped, tables)),
-        Err(fault) => Err((fault, shaped)),
+}
+
+/// The rest of a run that is recast, from a moment on that isn't past the latest.
+fn rest_from<Q: Planned>(cell: WorkCell<Q>, present: Moment) -> Result<Rest<Q>, (HandOverFault, Q)>
+    requires reached { IsReached cell.plan cell.cell }
+    requires in_range { present ≤ MAX_MOMENT }
+    ensures basis { IfOk result (λ rest. rest.basis ≡ cell.basis) }
+    ensures plan { IfOk result (λ rest. rest.plan ≡ cell.plan) }
+    ensures cell { IfOk result (λ rest. rest.cell ≡ cell.cell) }
+    ensures present { IfOk result (λ rest. rest.present ≡ present) }
+    ensures fault { IfErr result (λ refused. IsPast cell.cell present refused.0) }
+    ensures handed_back { IfErr result (λ refused. refused.1 ≡ cell.basis) }
+{
+    match Rest::at(cell, Some(present)) {
+        Ok(rest) => Ok(rest),
+        Err((fault, cell)) => Err((HandOverFault::Present(fault), cell.into_basis())),
     }
 }

@@ -2,19 +2,18 @@
 //!
 //! A controller takes one [`Report`] at a time. It accepts exactly the reports that are possible, and answers each with
 //! the moves that it releases. All its calls are those of [`Core`]. A [`Controller`] is made of a `Verified` plan, and
-//! begins with it. A [`RestController`] is begun from a cell in mid-run and a present moment, by a plan without a
-//! cycle, or made of a `Controller`: first it moves all jobs that can move then. It can be handed over, at a moment, to
-//! another plan that the run so far keeps, of the same shop or of another one.
+//! begins with it. A [`RestController`] is begun from the [`Rest`] of a run, by a plan without a cycle, or made of a
+//! `Controller`: first it moves all jobs that can move then. It can be handed over, at a moment, to another plan that
+//! the run so far keeps, of the same shop or of another one.
 //!
 //! A `RestController` asks for no budgets: a cell that has begun has to go on, however late. What holds of moments is
-//! what `verify_after` of `plan_verifier` says of the same cell and moment.
+//! what `judge` of `plan_verifier` says of the same rest.
 //!
 //! Moments are whole time units, counted from moment 0. Only [`Controller::new`], [`RestController::begin`],
-//! [`RestController::hand_over`] and [`Dues::sized`] take memory.
+//! [`RestController::hand_over`], [`Core::rest_at`] and [`Dues::sized`] take memory.
 #![tactic(auto)]
 
 mod ack;
-mod carrying;
 mod checking;
 mod controller;
 mod core_controller;
@@ -24,8 +23,8 @@ mod due_moments;
 mod due_row;
 mod dues;
 mod ending;
+mod hand_over_fault;
 mod handing;
-mod keeping;
 pub mod laws;
 mod phase;
 mod possible;
@@ -47,6 +46,7 @@ pub use core_controller::Core;
 pub use due_moments::note_all;
 pub use dues::Dues;
 pub use ending::end_activity;
+pub use hand_over_fault::HandOverFault;
 pub use phase::Phase;
 pub use possible::Possible;
 pub use releasing::advance;

@@ -1,7 +1,6 @@
 //! What is found and allocated before anything of a cell is changed.
 
-ghost use Rattle.std.specs.Prelude.{◌≡◌, [], OnOk, IfOk, IfErr};
-ghost use Rattle.shop_base.specs.Report.{IsNextMoment};
+ghost use Rattle.std.specs.Prelude.{◌≡◌, [], IfOk, IfErr};
 ghost use Rattle.plan_verifier.specs.Rest.{AreOrderedAhead};
 ghost use Rattle.cell_control.specs.{Begun.IsRestFault, Fields.IsRoomFor};
 
@@ -9,28 +8,24 @@ use crate::dues::Dues;
 use crate::rest_fault::RestFault;
 use crate::room::{Room, take_room};
 use alt_graph::{Solved, Times};
-use cell_tables::WorkCell;
-use plan_verifier::solve_after;
-use shop_base::limits::MAX_MOMENT;
-use shop_base::{Moment, Planned};
+use cell_tables::Rest;
+use plan_verifier::earliest_moments;
+use shop_base::Planned;
 use std::alloc::Global;
 
 /// What a controller needs besides its cell: the ranks and the moments of the nodes ahead, and room for due moments and
 /// orders.
 pub(crate) fn prepare<P: Planned, D: Dues>(
     alloc: Global,
-    cell: &WorkCell<P>,
-    present: Moment,
+    rest: &Rest<P>,
 ) -> Result<(Times, Room<D>), RestFault>
-    ensures moment { OnOk result (IsNextMoment cell.now.cell present) }
-    ensures ordered { IfOk result (λ new. AreOrderedAhead cell.now.plan cell.now.cell present new.0) }
-    ensures room { IfOk result (λ new. IsRoomFor cell.now.plan (D.dues new.1.dues) new.1.orders.capacity) }
+    ensures ordered { IfOk result (λ new. AreOrderedAhead rest.now.plan rest.now.cell rest.now.present new.0) }
+    ensures room { IfOk result (λ new. IsRoomFor rest.now.plan (D.dues new.1.dues) new.1.orders.capacity) }
     ensures no_orders { IfOk result (λ new. new.1.orders.items ≡ []) }
-    ensures fault { IfErr result (IsRestFault cell.now.plan cell.now.cell present) }
+    ensures fault { IfErr result (IsRestFault rest.now.plan) }
 {
-    check_moment(cell, present)?;
-    match solve_after(alloc, cell, present)? {
-        Solved::Ordered(times) => match take_room(alloc, cell) {
+    match earliest_moments(alloc, rest)? {
+        Solved::Ordered(times) => match take_room(alloc, rest.cell()) {
             Ok(room) => Ok((times, room)),
             Err(error) => {
                 drop(times);
@@ -39,18 +34,4 @@ pub(crate) fn prepare<P: Planned, D: Dues>(
         },
         Solved::Cyclic(nodes) => Err(RestFault::Cycle(nodes)),
     }
-}
-
-/// Checks that the moment isn't past the latest, nor before the last one.
-fn check_moment<P: Planned>(cell: &WorkCell<P>, present: Moment) -> Result<(), RestFault>
-    ensures moment { OnOk result (IsNextMoment cell.now.cell present) }
-    ensures fault { IfErr result (IsRestFault cell.now.plan cell.now.cell present) }
-{
-    if present > MAX_MOMENT {
-        return Err(RestFault::MomentTooLarge);
-    }
-    if present < cell.last() {
-        return Err(RestFault::Backwards { last: cell.last() });
-    }
-    Ok(())
 }

@@ -1,5 +1,4 @@
 ghost use Rattle.std.specs.Prelude.{◌≡◌, [], OnOk, IfOk, IfErr};
-ghost use Rattle.shop_base.specs.Report.{IsNextMoment};
 ghost use Rattle.plan_verifier.specs.Rest.{AreOrderedAhead};
 ghost use Rattle.cell_control.specs.{Begun.IsBegun, Begun.IsRestFault, Fields.IsRoomFor};
 ghost use Rattle.cell_control.specs.HandedOver.{IsHandedOver, IsHandOverFault};
@@ -8,13 +7,14 @@ use crate::controller::Controller;
 use crate::core_controller::Core;
 use crate::dispatching::dispatch_enabled;
 use crate::dues::Dues;
+use crate::hand_over_fault::HandOverFault;
 use crate::handing::take_over;
 use crate::preparing::prepare;
 use crate::rest_fault::RestFault;
 use crate::room::Room;
 use crate::timed::Held;
 use alt_graph::Times;
-use cell_tables::WorkCell;
+use cell_tables::{Rest, WorkCell};
 use shop_base::{Moment, Shaped};
 use std::alloc::Global;
 use std::mem::replace;
@@ -35,38 +35,40 @@ fn hold(cell: WorkCell<Shaped>, times: Times) -> WorkCell<Held>
     WorkCell::of_parts(Held { shaped, times }, tables)
 }
 
+/// The plan of a rest, taken out.
+fn plan_of(rest: Rest<Shaped>) -> Shaped
+    ensures { result ≡ rest.basis }
+{
+    let (cell, _present) = rest.into_parts();
+    cell.into_basis()
+}
+
 impl<D: Dues> Core<Held, D> {
-    /// Begins with a cell in mid-run and a present moment, which isn't before the last one. All jobs that can move are
-    /// moved at that moment, always the first of them, until the cell is at rest: these moves are in
-    /// [`Core::orders`]. If the call is refused, the cell comes back as it was.
+    /// Begins with the rest of a run. All jobs that can move are moved at its present moment, always the first of them,
+    /// until the cell is at rest: these moves are in [`Core::orders`]. If the call is refused, the rest comes back as
+    /// it was.
     pub fn begin(
         alloc: Global,
-        cell: WorkCell<Shaped>,
-        present: Moment,
-    ) -> Result<RestController<D>, (RestFault, WorkCell<Shaped>)>
-        ensures begun { IfOk result (IsBegun cell.plan cell.cell present) }
-        ensures fault { IfErr result (λ refused. IsRestFault cell.plan cell.cell present refused.0) }
-        ensures handed_back { IfErr result (λ refused. refused.1 ≡ cell) }
+        rest: Rest<Shaped>,
+    ) -> Result<RestController<D>, (RestFault, Rest<Shaped>)>
+        ensures begun { IfOk result (IsBegun rest.plan rest.cell rest.present) }
+        ensures fault { IfErr result (λ refused. IsRestFault rest.plan refused.0) }
+        ensures handed_back { IfErr result (λ refused. refused.1 ≡ rest) }
     {
-        match prepare(alloc, &cell, present) {
-            Ok((times, room)) => Ok(RestController::settled(cell, times, room, present)),
-            Err(fault) => Err((fault, cell)),
+        match prepare(alloc, &rest) {
+            Ok((times, room)) => Ok(RestController::settled(rest, times, room)),
+            Err(fault) => Err((fault, rest)),
         }
     }
 
     /// Settles the cell, and begins.
-    fn settled(
-        cell: WorkCell<Shaped>,
-        times: Times,
-        room: Room<D>,
-        present: Moment,
-    ) -> RestController<D>
-        requires moment { IsNextMoment cell.cell present }
-        requires ordered { AreOrderedAhead cell.plan cell.cell present times }
-        requires room { IsRoomFor cell.plan (D.dues room.dues) room.orders.capacity }
+    fn settled(rest: Rest<Shaped>, times: Times, room: Room<D>) -> RestController<D>
+        requires ordered { AreOrderedAhead rest.plan rest.cell rest.present times }
+        requires room { IsRoomFor rest.plan (D.dues room.dues) room.orders.capacity }
         requires no_orders { room.orders.items ≡ [] }
-        ensures { IsBegun cell.plan cell.cell present result }
+        ensures { IsBegun rest.plan rest.cell rest.present result }
     {
+        let (cell, present) = rest.into_parts();
         // Called for its clause alone: the cell is sound.
         let _plan = cell.shaped();
         let Room { dues, mut orders } = room;
@@ -108,7 +110,7 @@ impl<D: Dues> Core<Held, D> {
         alloc: Global,
         shaped: Shaped,
         present: Moment,
-    ) -> Result<(), (RestFault, Shaped)>
+    ) -> Result<(), (HandOverFault, Shaped)>
         ensures handed_over { OnOk result (IsHandedOver self.old shaped present self.new) }
         ensures fault { IfErr result
             (λ refused. IsHandOverFault self.old.planned self.old.cell shaped present refused.0) }
@@ -126,16 +128,18 @@ impl<D: Dues> Core<Held, D> {
         alloc: Global,
         shaped: Shaped,
         present: Moment,
-    ) -> Result<RestController<D>, (RestFault, Shaped)>
+    ) -> Result<RestController<D>, (HandOverFault, Shaped)>
         ensures handed_over { IfOk result (IsHandedOver self.now shaped present) }
         ensures fault { IfErr result
             (λ refused. IsHandOverFault self.now.planned self.now.cell shaped present refused.0) }
         ensures handed_back { IfErr result (λ refused. refused.1 ≡ shaped) }
     {
-        let cell = take_over(alloc, &self.cell, shaped, present)?;
-        match RestController::begin(alloc, cell, present) {
+        // Called for its clause alone: a run ends with the cell.
+        let _plan = self.shaped();
+        let rest = take_over(alloc, &self.cell, shaped, present)?;
+        match RestController::begin(alloc, rest) {
             Ok(new) => Ok(new),
-            Err((fault, cell)) => Err((fault, cell.into_basis())),
+            Err((fault, rest)) => Err((HandOverFault::from(fault), plan_of(rest))),
         }
     }
 }

@@ -1,20 +1,10 @@
-use shop_base::{Moment, Node};
+use shop_base::Node;
 use std::alloc::AllocError;
 use thiserror::Error;
 
-/// Why the rest of a run isn't driven: the first reason, in the order of the variants; `Memory` in place of any but the
-/// first two.
+/// Why the rest of a run isn't driven.
 #[derive(Debug, Drop, Error)]
 pub enum RestFault {
-    /// The moment is over the limit.
-    #[error("MomentTooLarge")]
-    MomentTooLarge,
-    /// The run so far isn't one of the other plan. A controller that begins isn't refused for this.
-    #[error("IncompatiblePlan")]
-    IncompatiblePlan,
-    /// The moment is before the last one.
-    #[error("Backwards last {last}")]
-    Backwards { last: Moment },
     /// The plan's graph has this simple cycle, its least node first.
     #[error("Cycle")]
     Cycle(Vec<Node>),

@@ -1,5 +1,5 @@
 -- The lines of a log have one first fault.
-use Rattle.std.proofs.Common.{◌≡◌, ℕ, zero, suc, ◌<◌, ◌≤◌, false, List, [], ◌∷◌, ◌++◌, length, ◌⊎◌, inl, inr, refl, sym, ap, ◌∙◌, subst, arith, append-nil}
+use Rattle.std.proofs.Common.{◌≡◌, ℕ, zero, suc, ◌<◌, ◌≤◌, false, List, [], ◌∷◌, ◌++◌, length, Option, ◌⊎◌, inl, inr, refl, sym, ap, ◌∙◌, subst, arith, append-nil}
 use Rattle.std.proofs.lemmas.Bool.{false≢true, cases_lt}
 use Rattle.shop_base.specs.{declared.move_order.MoveOrder.MoveOrder, Plan.PlannedShop, Cell.{Cell, ready}, Run.ends_in}
 use Rattle.shop_base.specs.{declared.move_order.Spot.{Spot, TheVariants.{Out, At}}, Report.{at, ended}}
@@ -8,9 +8,10 @@ use Rattle.cell_tables.specs.Events.{events_of}
 use Rattle.event_lines.specs.LogLines.{LineParses, LinesParse}
 use Rattle.event_lines.proofs.Readings.{one_parse, one_reading}
 use Rattle.run_log.specs.declared.audit_fault.AuditFault.{AuditFault, TheVariants.{BadLine, NotExpected, Backwards, NotReady, Occupied, OutOfOrder, WrongPlace, NotClean, Memory}}
-use Rattle.run_log.specs.Audits.{IsFaultOf, IsGoingOn, IsLineFault, IsBadLine, IsFirstBad, IsAuditFault, IsItsWay, IsOccupied, IsTimely, IsUnclean, IsOutOfTurn, IsOpen, fault_line}
+use Rattle.run_log.specs.Audits.{IsFaultOf, IsGoingOn, IsLineFault, IsBadLine, IsFirstBad, IsItsWay, IsOccupied, IsTimely, IsUnclean, IsOutOfTurn, IsOpen, fault_line}
+use Rattle.run_log.specs.{Present.IsRunFault, declared.present_run.RunFault.{RunFault, TheVariants.{Log, Present}}}
 use Rattle.run_log.proofs.Audits.{first_bad-no_run}
-use Rattle.cell_drive.specs.ResumeFaults.{IsOnlyLogFault, log_fault}
+use Rattle.cell_drive.specs.{ResumeFaults.IsOnlyLogFault, declared.resume_fault.ResumeFault.TheVariants.{Run}}
 use Rattle.cell_drive.proofs.Parts.{append_parts}
 
 -- which fault it is
@@ -193,13 +194,6 @@ module _ (p : PlannedShop) (lines : List (List ℕ)) where
       back [] longer lines_are = let line_is : one.line ≡ other.line = cc in same (sym (longer ∙ append-nil one.before)) line_is
       back (x ∷ rest) longer lines_are = absurd (no_earlier g f other one x rest longer lines_are)
 
-  pub only_log_fault : (fault : AuditFault) → IsAuditFault p lines fault → IsOnlyLogFault p lines (log_fault fault)
-  only_log_fault Memory is = tt
-  only_log_fault (BadLine n) is = λ other also. one_bad (BadLine n) other is also
-  only_log_fault (NotExpected n) is = λ other also. one_bad (NotExpected n) other is also
-  only_log_fault (Backwards n) is = λ other also. one_bad (Backwards n) other is also
-  only_log_fault (NotReady n) is = λ other also. one_bad (NotReady n) other is also
-  only_log_fault (Occupied n) is = λ other also. one_bad (Occupied n) other is also
-  only_log_fault (NotClean n) is = λ other also. one_bad (NotClean n) other is also
-  only_log_fault (OutOfOrder n) is = λ other also. one_bad (OutOfOrder n) other is also
-  only_log_fault (WrongPlace n) is = λ other also. one_bad (WrongPlace n) other is also
+  pub only_run_fault : (at : Option ℕ) (fault : RunFault) → IsRunFault lines at p fault → IsOnlyLogFault p lines (Run fault)
+  only_run_fault at (Log fault) is = λ other also. one_bad fault other is also
+  only_run_fault at (Present fault) is = tt

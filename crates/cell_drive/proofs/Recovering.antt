@@ -1,23 +1,24 @@
 -- A log that is recovered.
-use Rattle.std.proofs.Common.{◌≡◌, ℕ, ◌+◌, ◌*◌, ◌<◌, ◌≤◌, Bool, List, [], ◌∷◌, ◌++◌, length, map, take, Option, Result, Ok, Err, refl, sym, ap, ◌∙◌, subst, arith, length-append}
+use Rattle.std.proofs.Common.{◌≡◌, ℕ, ◌+◌, ◌*◌, ◌<◌, ◌≤◌, Bool, List, [], ◌∷◌, ◌++◌, length, map, take, Option, None, Some, Result, Ok, Err, refl, sym, ap, ◌∙◌, subst, arith, length-append}
 use Rattle.std.proofs.{Math.Seq.take-append_seam, lemmas.List.length-map}
-use Rattle.std.specs.Prelude.{unwrap_or, IsOk, IsErr, IfErr}
+use Rattle.std.specs.Prelude.{unwrap_or, IsOk, IsErr, IfSome}
+use Rattle.shop_base.specs.declared.limits.TheConstants.{MAX_MOMENT}
 use Rattle.shop_base.specs.{Plan.{PlannedShop, IsWellShaped}, Cell.{Cell, start}, Run.{IsRun, after}}
 use Rattle.shop_base.specs.Ends.{stated_number}
 use Rattle.shop_base.proofs.ControlledRuns.{moves-events}
 use Rattle.alt_graph.proofs.CycleParts.{cycle_simple}
 use Rattle.plan_verifier.specs.declared.verdict.Why.TheVariants.{Cycle, Late}
 use Rattle.cell_tables.specs.declared.entry.Entry.{Entry, TheVariants.Order as OrderEntry}
-use Rattle.cell_tables.specs.Events.{event_of, events_of}
-use Rattle.event_lines.specs.LogLines.{LinesParse}
+use Rattle.cell_tables.specs.{Events.{event_of, events_of}, Rests.{present_of, IsPresentFault}}
+use Rattle.cell_tables.specs.declared.present_fault.PresentFault.{PresentFault, TheVariants.{Past, TooLarge}}
 use Rattle.event_lines.proofs.Readings.{one_reading}
-use Rattle.run_log.specs.{Log.Noted, Audits.{IsReplayed, IsAuditFault}}
-use Rattle.run_log.specs.declared.audit_fault.AuditFault.{AuditFault, TheVariants.{BadLine, NotExpected, Backwards, NotReady, Occupied, OutOfOrder, WrongPlace, NotClean, Memory as OutOfMemory}}
+use Rattle.run_log.specs.{Log.Noted, Audits.IsReplayed, Present.IsRunAt, declared.present_run.RunFault.TheVariants.{Log, Present}}
 use Rattle.run_log.proofs.Audits.{run-few, first_bad-no_run}
-use Rattle.cell_control.specs.{Control.{Control, IsControl}, Begun.IsBegun}
-use Rattle.cell_drive.specs.{OneRun.cell_after, LateEvents.AreLate, ResumeFaults.{IsResumeFault, IsRunFault, log_fault}}
-use Rattle.cell_drive.specs.Recovered.{IsRecoveredRun, IsRecoverable, recovered_by}
-use Rattle.cell_drive.specs.declared.resume_fault.ResumeFault.{ResumeFault, TheVariants.{Log, Past, Refused, Memory}}
+use Rattle.cell_control.specs.{Control.{Control, IsControl}, Begun.{IsBegun, IsRestFault}}
+use Rattle.cell_control.specs.declared.rest_fault.RestFault.{RestFault, TheVariants.{Cycle as CycleOfRest, Memory as MemoryOfRest}}
+use Rattle.cell_drive.specs.{OneRun.cell_after, LateEvents.AreLate, ResumeFaults.{IsOnlyLogFault, IsResumeFault, IsStartRefusal, undriven_fault}}
+use Rattle.cell_drive.specs.Recovered.{Recovered, IsRecoveredRun, IsRecoveredFrom, IsRecovered, IsRecoverable, recovered_by}
+use Rattle.cell_drive.specs.declared.resume_fault.ResumeFault.{ResumeFault, TheVariants.{Run, Refused, Memory}}
 use Rattle.cell_drive.proofs.Rooms.{replayed_moves}
 
 -- it is known of each event whether it is late
@@ -74,45 +75,67 @@ module _ (control : Control) (entries : List Entry) (late : List Bool) (run : Is
         are_late = subst (λ (es : List Entry). AreLate p (start p) es late) (sym recorded) are;
       }
 
--- ---- faults
+-- ---- the run of a log
 
-module _ (p : PlannedShop) (lines : List (List ℕ)) (at : Option ℕ) where
-  -- the first fault of the lines is that of recovery
-  pub log_fault_is : (fault : AuditFault) → IsAuditFault p lines fault → IsResumeFault p lines at (log_fault fault)
-  log_fault_is OutOfMemory is = tt
-  log_fault_is (BadLine n) is = is
-  log_fault_is (NotExpected n) is = is
-  log_fault_is (Backwards n) is = is
-  log_fault_is (NotReady n) is = is
-  log_fault_is (Occupied n) is = is
-  log_fault_is (NotClean n) is = is
-  log_fault_is (OutOfOrder n) is = is
-  log_fault_is (WrongPlace n) is = is
+-- the present moment is said in two ways
+present_is : (at : Option ℕ) (last : ℕ) → present_of at last ≡ unwrap_or at last
+present_is None last = refl
+present_is (Some n) last = refl
 
-  -- so is that of the run that they record
-  pub run_fault_is : (recorded : List Entry) (fault : ResumeFault) → LinesParse p lines recorded → IsRun p (events_of recorded) → IsRunFault p recorded at fault → IsResumeFault p lines at fault
-  run_fault_is recorded (Log fault) parses run is = absurd is
-  run_fault_is recorded (Past last) parses run is = (recorded, parses, run, is)
-  run_fault_is recorded (Refused back why) parses run is = (recorded, parses, run, is)
-  run_fault_is recorded Memory parses run is = tt
+module _ (p : PlannedShop) (lines : List (List ℕ)) (at : Option ℕ) (c : Cell) (recorded : List Entry) (present : ℕ) (run : IsRunAt lines at p c recorded present) where
+  present_given : present ≡ unwrap_or at (cell_after p recorded).last
+  present_given = run.present_is.0 ∙ present_is at c.last ∙ ap (λ (x : Cell). unwrap_or at x.last) run.replayed.cell
 
-  -- what can be recovered is refused only where memory ran out
-  pub only_memory : (fault : ResumeFault) → IsResumeFault p lines at fault → IsRecoverable p lines at → fault ≡ Memory
-  only_memory Memory is can = refl
-  only_memory (Log fault) is can = absurd (first_bad-no_run p lines fault is (can.recorded, can.parses, can.is_run))
-  only_memory (Past last) (recorded, parses, run, is) can =
-      let same : recorded ≡ can.recorded = one_reading p lines recorded can.recorded parses can.parses in
-      let here : last ≡ (cell_after p can.recorded).last = is.0 ∙ ap (λ (es : List Entry). (cell_after p es).last) same in
-      let past_there : unwrap_or at (cell_after p can.recorded).last < (cell_after p can.recorded).last = subst (λ n. unwrap_or at n < n) here is.1 in
-      absurd (omega (arith, past_there, can.not_past))
-  only_memory (Refused back (Cycle nodes)) (recorded, parses, run, is) can = absurd (can.acyclic nodes.items (cycle_simple p nodes.items is.2))
-  only_memory (Refused back (Late job leaves chain times)) (recorded, parses, run, is) can =
-      let same : recorded ≡ can.recorded = one_reading p lines recorded can.recorded parses can.parses in
-      let acceptable = can.accepted (sym same ∙ is.2.0) in
-      let late = is.2.1.0 in
-      absurd (omega (arith, late.past, acceptable.budgets job late.job chain.items leaves late.path))
+  -- what was recovered at the present moment was so by the lines
+  pub recovered_by_lines : (recovered : Recovered) → IsRecoveredFrom p recorded (Some present) recovered → IsRecovered p lines at recovered
+  recovered_by_lines recovered from = record {
+    recorded = recorded;
+    parses = run.parses;
+    is_run = run.replayed.run;
+    recovered_from = record { run = from.run; planned = from.planned; replayed_is = from.replayed_is; began = from.began ∙ present_given; accepted = from.accepted };
+  }
 
-  -- so is whatever is said of the run that they record
-  pub only_memory_of : {T : Type 0} (recorded : List Entry) (r : Result T ResumeFault) → LinesParse p lines recorded → IsRun p (events_of recorded) → IfErr r (IsRunFault p recorded at) → IsRecoverable p lines at → IfErr r (λ fault. fault ≡ Memory)
-  only_memory_of recorded (Ok x) parses run is can = tt
-  only_memory_of recorded (Err fault) parses run is can = only_memory fault (run_fault_is recorded fault parses run is) can
+  -- the refusal of a plan is the fault
+  pub refused_by_lines : (fault : ResumeFault) → IsStartRefusal p (recorded ≡ []) fault → IsResumeFault p lines at fault
+  refused_by_lines (Run fault) is = absurd is
+  refused_by_lines (Refused back why) is =
+      let last : c.last ≡ (cell_after p recorded).last = ap (λ (x : Cell). x.last) run.replayed.cell in
+      (recorded, run.parses, run.replayed.run, (omega (arith, run.present_is.1, present_given, last), is))
+  refused_by_lines Memory is = tt
+
+-- a plan that is refused isn't a fault of the log
+pub refused_only : (p : PlannedShop) (Starts : Type 0) (lines : List (List ℕ)) (fault : ResumeFault) → IsStartRefusal p Starts fault → IsOnlyLogFault p lines fault
+refused_only p Starts lines (Run fault) is = absurd is
+refused_only p Starts lines (Refused back why) is = tt
+refused_only p Starts lines Memory is = tt
+
+-- a moment that is past is before the last one
+pub past_before : (at : Option ℕ) (last moment : ℕ) → IsPresentFault at last (Past moment) → unwrap_or at last < last
+past_before None last moment is = absurd is
+past_before (Some n) last moment is = is.0
+
+-- a moment that can't be the present one isn't that of a run that can be recovered
+not_present : (at : Option ℕ) (last : ℕ) (fault : PresentFault) → IfSome at (λ present. present ≤ MAX_MOMENT) → IsPresentFault at last fault → last ≤ unwrap_or at last → ⊥
+not_present at last (Past moment) low is not_past = omega (arith, past_before at last moment is, not_past)
+not_present None last TooLarge low is not_past = is
+not_present (Some n) last TooLarge low is not_past = omega (arith, is.1, low)
+
+-- what can be recovered is refused only where memory ran out
+pub only_memory : (p : PlannedShop) (lines : List (List ℕ)) (at : Option ℕ) (fault : ResumeFault) → IfSome at (λ present. present ≤ MAX_MOMENT) → IsResumeFault p lines at fault → IsRecoverable p lines at → fault ≡ Memory
+only_memory p lines at Memory low is can = refl
+only_memory p lines at (Run (Log fault)) low is can = absurd (first_bad-no_run p lines fault is (can.recorded, can.parses, can.is_run))
+only_memory p lines at (Run (Present fault)) low (c, there, is) can =
+    let same : there.entries ≡ can.recorded = one_reading p lines there.entries can.recorded there.parse can.parses in
+    let last : c.last ≡ (cell_after p can.recorded).last = ap (λ (x : Cell). x.last) there.run.cell ∙ ap (λ (es : List Entry). (cell_after p es).last) same in
+    absurd (not_present at (cell_after p can.recorded).last fault low (subst (λ n. IsPresentFault at n fault) last is) can.not_past)
+only_memory p lines at (Refused back (Cycle nodes)) low (recorded, parses, run, is) can = absurd (can.acyclic nodes.items (cycle_simple p nodes.items is.1.1))
+only_memory p lines at (Refused back (Late job leaves chain times)) low (recorded, parses, run, is) can =
+    let same : recorded ≡ can.recorded = one_reading p lines recorded can.recorded parses can.parses in
+    let acceptable = can.accepted (sym same ∙ is.1.1.0) in
+    let late = is.1.1.1.0 in
+    absurd (omega (arith, late.past, acceptable.budgets job late.job chain.items leaves late.path))
+
+-- a rest that isn't driven is that of a plan that is refused
+pub undriven_refused : (p : PlannedShop) (Starts : Type 0) (fault : RestFault) (back : PlannedShop) → back ≡ p → IsRestFault p fault → IsStartRefusal p Starts (undriven_fault fault back)
+undriven_refused p Starts (CycleOfRest nodes) back same is = (same, is)
+undriven_refused p Starts MemoryOfRest back same is = tt

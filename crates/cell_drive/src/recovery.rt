@@ -1,27 +1,26 @@
 //! A log that is recovered.
 
-ghost use Rattle.std.specs.Prelude.{◌≡◌, ◌*◌, ◌≤◌, vec_len, vec_capacity, Bool};
-ghost use Rattle.std.specs.Prelude.{true, IfOk, IfErr, OnOk, IfSome};
-ghost use Rattle.shop_base.specs.{declared.limits.TheConstants.MAX_MOMENT, Plan.IsWellShaped, Cell.start};
-ghost use Rattle.shop_base.specs.{Report.IsNextMoment, Run.IsRun, Ends.stated_number};
+ghost use Rattle.std.specs.Prelude.{◌≡◌, ◌*◌, ◌≤◌, [], Some, vec_len, vec_capacity, true, IfSome, IfOk, IfErr, OnOk};
+ghost use Rattle.shop_base.specs.declared.limits.TheConstants.{MAX_MOMENT};
+ghost use Rattle.shop_base.specs.{Plan.IsWellShaped, Cell.start, Run.IsRun, Ends.stated_number};
 ghost use Rattle.text_lines.specs.Lines.{ended_lines};
 ghost use Rattle.plan_verifier.specs.Accepted.{IsAcceptable};
 ghost use Rattle.cell_tables.specs.Events.{events_of};
 ghost use Rattle.run_log.specs.Audits.{IsReplayed};
-ghost use Rattle.cell_control.specs.Begun.{IsBegun, IsRestFault};
+ghost use Rattle.cell_control.specs.Begun.{IsBegun};
 ghost use Rattle.byte_streams.specs.declared.rooms.TheConstants.{MAX_PIECE};
 ghost use Rattle.cell_drive.specs.{OneRun.cell_after, LateEvents.AreLate};
 ghost use Rattle.cell_drive.specs.Recovered.{AreAtStart, IsRecovered, IsRecoveredFrom, IsRecoveredRun};
 ghost use Rattle.cell_drive.specs.Recovered.{IsRecoverable, replayed_events};
-ghost use Rattle.cell_drive.specs.ResumeFaults.{IsResumeFault, IsOnlyLogFault, IsRunFault, IsStartRefusal};
+ghost use Rattle.cell_drive.specs.ResumeFaults.{IsResumeFault, IsOnlyLogFault, IsStartRefusal};
 
 use crate::lateness::late_events;
-use crate::resume_fault::{AllocFailure, ResumeFault};
+use crate::resume_fault::{ResumeFault, Undriven};
 use byte_streams::reading_room;
-use cell_control::{RestController, RestFault, TourneyDues};
-use cell_tables::{Entry, Tables, WorkCell};
-use plan_verifier::{Verdict, Why, verify};
-use run_log::{LoggedRun, RunLog, present_at, run_of_log};
+use cell_control::{RestController, TourneyDues};
+use cell_tables::{Entry, Rest, Tables, WorkCell};
+use plan_verifier::{Verdict, verify};
+use run_log::{LoggedRest, RunLog, rest_at};
 use shop_base::{Moment, Shaped};
 use std::alloc::{AllocError, Global};
 use std::marker::Model;
@@ -84,11 +83,11 @@ pub fn recover(
     text: &[u8],
     at: Option<Moment>,
 ) -> Result<RecoveredRun, ResumeFault>
-    requires { IfSome at (λ present. present ≤ MAX_MOMENT) }
     ensures recovered { IfOk result (IsRecovered shaped (ended_lines text.now) at) }
     ensures fault { IfErr result (IsResumeFault shaped (ended_lines text.now) at) }
     ensures only_fault { IfErr result (IsOnlyLogFault shaped (ended_lines text.now)) }
-    ensures only { IsRecoverable shaped (ended_lines text.now) at → IfErr result (λ fault. fault ≡ ResumeFault.Memory) }
+    ensures only { IfSome at (λ present. present ≤ MAX_MOMENT) → IsRecoverable shaped (ended_lines text.now) at
+        → IfErr result (λ fault. fault ≡ ResumeFault.Memory) }
 {
     // Called for its clause alone: the plan is well shaped.
     let _plan = shaped.shop();
@@ -99,42 +98,35 @@ pub fn recover(
             return Err(ResumeFault::from(error));
         }
     };
-    match run_of_log(alloc, shaped, text) {
-        Ok(run) => recover_run(alloc, run, at, room),
-        Err(fault) => Err(ResumeFault::from(fault)),
+    match rest_at(alloc, shaped, text, at) {
+        Ok(Ok(run)) => recover_run(alloc, run, room),
+        Ok(Err(fault)) => Err(ResumeFault::Run(fault)),
+        Err(error) => Err(ResumeFault::from(error)),
     }
 }
 
 /// Recovers a run that a log recorded.
 fn recover_run(
     alloc: Global,
-    run: LoggedRun<Shaped>,
-    at: Option<Moment>,
+    run: LoggedRest<Shaped>,
     room: Vec<u8>,
 ) -> Result<RecoveredRun, ResumeFault>
-    requires at_most { IfSome at (λ present. present ≤ MAX_MOMENT) }
-    requires replayed { IsReplayed run.cell.plan run.cell.cell run.entries.items }
-    requires reserved { vec_capacity run.entries ≡ 2 * stated_number run.cell.plan }
+    requires replayed { IsReplayed run.rest.plan run.rest.cell run.entries.items }
+    requires reserved { vec_capacity run.entries ≡ 2 * stated_number run.rest.plan }
     requires room { vec_len room ≡ MAX_PIECE }
-    ensures recovered { IfOk result (IsRecoveredFrom run.cell.plan run.entries.items at) }
-    ensures fault { IfErr result (IsRunFault run.cell.plan run.entries.items at) }
+    ensures recovered { IfOk result (IsRecoveredFrom run.rest.plan run.entries.items (Some run.rest.present)) }
+    ensures fault { IfErr result (IsStartRefusal run.rest.plan (run.entries.items ≡ [])) }
 {
-    let LoggedRun { cell, entries } = run;
-    let last = cell.last();
-    let present = present_at(at, last);
-    if present < last {
-        drop(cell);
-        return Err(ResumeFault::Past { last });
-    }
+    let LoggedRest { rest, entries } = run;
     let starts = entries.is_empty();
-    let (late, start) = match ready_again(alloc, cell.shaped(), &entries) {
+    let (late, start) = match ready_again(alloc, rest.shaped(), &entries) {
         Ok(ready) => ready,
         Err(error) => {
-            drop(cell);
+            drop(rest);
             return Err(ResumeFault::from(error));
         }
     };
-    match begin(alloc, cell, starts, present) {
+    match begin(alloc, rest, starts) {
         Ok(controller) => Ok(RecoveredRun {
             run: with_due(controller, RunLog::of_entries(entries), late, room),
             start,
@@ -172,78 +164,64 @@ fn start_tables(alloc: Global, shaped: &Shaped) -> Result<Tables, AllocError>
     }
 }
 
-/// Begins with the cell. At the start of a run its plan has to be accepted; else it has to have no cycle.
+/// Begins with the rest. At the start of a run its plan has to be accepted; else it has to have no cycle.
 fn begin(
     alloc: Global,
-    cell: WorkCell<Shaped>,
+    rest: Rest<Shaped>,
     starts: bool,
-    present: Moment,
 ) -> Result<RestController<TourneyDues>, ResumeFault>
-    requires { IsNextMoment cell.cell present }
-    ensures begun { IfOk result (IsBegun cell.plan cell.cell present) }
-    ensures accepted { starts ≡ true → OnOk result (IsAcceptable cell.plan) }
-    ensures fault { IfErr result (IsStartRefusal cell.plan starts) }
+    ensures begun { IfOk result (IsBegun rest.plan rest.cell rest.present) }
+    ensures accepted { starts ≡ true → OnOk result (IsAcceptable rest.plan) }
+    ensures fault { IfErr result (IsStartRefusal rest.plan (starts ≡ true)) }
 {
-    match check_start(alloc, cell, starts) {
-        Ok(cell) => match RestController::begin(alloc, cell, present) {
+    // Called for its clause alone: what leads to the plan is the plan.
+    let _plan = rest.cell().basis();
+    match check_start(alloc, rest, starts) {
+        Ok(rest) => match RestController::begin(alloc, rest) {
             Ok(controller) => Ok(controller),
-            Err((fault, cell)) => Err(rest_fault(fault, cell, present)),
+            Err((fault, rest)) => {
+                let shaped = rest.into_parts().0.into_basis();
+                Err(ResumeFault::from(Undriven { fault, shaped }))
+            }
         },
         Err(fault) => Err(fault),
     }
 }
 
-/// Gives the cell back, if its run doesn't only start or its plan is accepted.
-fn check_start(
-    alloc: Global,
-    cell: WorkCell<Shaped>,
-    starts: bool,
-) -> Result<WorkCell<Shaped>, ResumeFault>
-    ensures plan { IfOk result (λ checked. checked.plan ≡ cell.plan) }
-    ensures cell { IfOk result (λ checked. checked.cell ≡ cell.cell) }
-    ensures accepted { starts ≡ true → OnOk result (IsAcceptable cell.plan) }
-    ensures fault { IfErr result (IsStartRefusal cell.plan starts) }
+/// Gives the rest back, if its run doesn't only start or its plan is accepted.
+fn check_start(alloc: Global, rest: Rest<Shaped>, starts: bool) -> Result<Rest<Shaped>, ResumeFault>
+    ensures same { IfOk result (λ checked. checked ≡ rest) }
+    ensures accepted { starts ≡ true → OnOk result (IsAcceptable rest.plan) }
+    ensures fault { IfErr result (IsStartRefusal rest.plan (starts ≡ true)) }
 {
     if starts {
-        check_plan(alloc, cell)
+        check_plan(alloc, rest)
     } else {
-        Ok(cell)
+        Ok(rest)
     }
 }
 
-/// Gives the cell back, if its plan is accepted.
-fn check_plan(alloc: Global, cell: WorkCell<Shaped>) -> Result<WorkCell<Shaped>, ResumeFault>
-    ensures plan { IfOk result (λ checked. checked.plan ≡ cell.plan) }
-    ensures cell { IfOk result (λ checked. checked.cell ≡ cell.cell) }
-    ensures accepted { OnOk result (IsAcceptable cell.plan) }
-    ensures fault { IfErr result (IsStartRefusal cell.plan true) }
+/// Gives the rest back, if its plan is accepted.
+fn check_plan(alloc: Global, rest: Rest<Shaped>) -> Result<Rest<Shaped>, ResumeFault>
+    ensures same { IfOk result (λ checked. checked ≡ rest) }
+    ensures accepted { OnOk result (IsAcceptable rest.plan) }
+    ensures fault { IfErr result (IsStartRefusal rest.plan (true ≡ true)) }
 {
+    let (cell, present) = rest.into_parts();
     let (shaped, tables) = cell.into_parts();
     match verify(alloc, shaped) {
-        Ok(Verdict::Accepted(verified)) => Ok(WorkCell::of_parts(verified.into_shaped(), tables)),
+        Ok(Verdict::Accepted(verified)) => {
+            let cell = WorkCell::of_parts(verified.into_shaped(), tables);
+            match Rest::at(cell, Some(present)) {
+                Ok(rest) => Ok(rest),
+                Err(_) => unreachable!(),
+            }
+        }
         Ok(Verdict::Refused(shaped, why)) => Err(ResumeFault::Refused(shaped, why)),
         Err((error, shaped)) => {
             drop(shaped);
             Err(ResumeFault::from(error))
         }
-    }
-}
-
-/// Why the rest of a run isn't driven from the cell, at a moment that isn't before its last one.
-fn rest_fault(fault: RestFault, cell: WorkCell<Shaped>, present: Moment) -> ResumeFault
-    requires moment { IsNextMoment cell.cell present }
-    requires fault { IsRestFault cell.plan cell.cell present fault }
-    ensures { (starts : Bool) → IsStartRefusal cell.plan starts result }
-{
-    match fault {
-        RestFault::Cycle(nodes) => ResumeFault::Refused(cell.into_basis(), Why::Cycle(nodes)),
-        fault @ RestFault::Memory => {
-            drop(cell);
-            ResumeFault::from(AllocFailure { fault })
-        }
-        RestFault::MomentTooLarge
-        | RestFault::IncompatiblePlan
-        | RestFault::Backwards { last: _ } => { unreachable!() }
     }
 }
 

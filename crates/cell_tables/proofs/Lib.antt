@@ -3,3 +3,12 @@ pub mod Writes
 pub mod MoveParts
 pub mod Seats
 pub mod Values
+pub mod Departed
+pub mod KeptSoFar
+pub mod CarriedCells
+pub mod CarriedTables
+pub mod KeptBefore
+pub mod KeptRuns
+pub mod KeptByBoth
+pub mod OneCarried
+pub mod Reaching

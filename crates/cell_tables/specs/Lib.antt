@@ -2,8 +2,14 @@
 pub mod Events
 pub mod Moving
 pub mod PlannedCell
+pub mod Kept
+pub mod Carried
+pub mod KeptLaw
 pub mod Readings
+pub mod Recasts
+pub mod Rests
 pub mod Standings
 pub mod Tables
 -- Of proofs and private contracts alone.
 pub mod Entering
+pub mod CarriedRows

@@ -2,22 +2,35 @@
 //! changed by the end of an activity and by a move. Its reports and orders are the [`Entry`]s of a log. A cell can
 //! be taken apart into its [`Tables`], and made of such.
 //!
-//! Moments are whole time units, counted from moment 0. Only [`WorkCell::start`] takes memory.
+//! The [`Rest`] of a run is such a cell, with which a run of its plan ends, and a present moment. Both can be recast to
+//! another plan that all that was done keeps.
+//!
+//! Moments are whole time units, counted from moment 0. Only the start of a cell and a recast take memory.
 //!
 //! The controller and the audit follow a run by this cell.
 #![tactic(auto)]
 
+mod carrying;
 mod due_moments;
 mod entry;
+mod keeping;
+pub mod laws;
 mod moves;
 mod places;
 mod plan_readers;
 mod planned;
+mod present_fault;
+mod recast_fault;
+mod recasting;
+mod rest;
 mod standing;
 mod tables;
 mod work_cell;
 
 pub use entry::Entry;
+pub use present_fault::PresentFault;
+pub use recast_fault::RecastFault;
+pub use rest::Rest;
 pub use standing::Standing;
 pub use tables::{MachineRow, Tables};
 pub use work_cell::WorkCell;

@@ -3,6 +3,7 @@
 ghost use Rattle.std.specs.Prelude.{◌≡◌, ◌-◌, ◌<◌, ◌≤◌, ◌↔◌, length, IsTrue, None};
 ghost use Rattle.shop_base.specs.Plan.{jobs, machines, order, job_at, Visits};
 ghost use Rattle.shop_base.specs.Cell.{made, entries, cleaning, IsOn, IsFree};
+ghost use Rattle.shop_base.specs.ReportsLeft.{departures};
 ghost use Rattle.cell_tables.specs.Readings.{IsMachineOf, IsHolder, IsNextOn, IsCleanedFor, EntersNext, CanMoveNow};
 
 use crate::work_cell::WorkCell;
@@ -58,6 +59,22 @@ impl<P: Planned> WorkCell<P> {
         ensures few { result ≤ length (order self.now.plan machine) }
     {
         self.tables.machines[machine as usize].entered
+    }
+
+    /// How many jobs have left the machine.
+    #[tactic(auto, using(crate::proofs::Departed::departed_on))]
+    pub fn departed(&self, machine: MachineNo) -> u32
+        requires machine { machine < machines self.now.plan }
+        ensures count { result ≡ departures self.now.plan self.now.cell machine }
+        ensures few { result ≤ length (order self.now.plan machine) }
+    {
+        // Called for its clause alone: the cell is sound.
+        let _plan = self.shaped();
+        let entered = self.entered(machine);
+        match self.holder(machine) {
+            Some(_) => entered - 1,
+            None => entered,
+        }
     }
 
     /// The job that is to enter the machine next; `None` if all jobs of its order have entered it.

@@ -32,4 +32,4 @@ logs_at path None named = []
 logs_at path (Some bytes) named = record { path = path; bytes = bytes; named = named } ∷ []
 
 abbrev pub folder_of : OneLog → Folder
-folder_of one = record { logs = Some (logs_at one.path one.bytes one.named); fault = one.fault; given = one.given }
+folder_of one = record { logs = Some (logs_at one.path one.bytes one.named); fault = one.fault; given = one.given; outputs = Some [] }

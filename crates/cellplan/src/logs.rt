@@ -97,7 +97,7 @@ impl SystemLog {
     fn lock(&self) -> Result<(), FileFault>
         ensures { IfErr result IsOpenFault }
     {
-        lock_file(&self.rt, &self.file)?;
+        lock_file(&self.file)?;
         self.found_again()
     }
 
@@ -219,23 +219,24 @@ const STANDARD_ERROR: i32 = 2;
 /// The name that the system has for the standard output of the process that asks.
 const STANDARD_OUTPUT: &str = "/proc/self/fd/1";
 
-/// Whether the standard output goes to this file; not where the system has no name for that.
-fn is_shown_in(rt: &HostRuntime, file: &File) -> bool {
-    let Ok(own) = file.metadata() else {
+/// Whether the path leads to a regular file, and the standard output goes to that; not where the system has no name for
+/// the output. What is written to a terminal doesn't stand in it.
+fn is_output_file(rt: &HostRuntime, path: &str) -> bool {
+    let Ok(there) = fs::metadata(rt, path) else {
         return false;
     };
     match fs::metadata(rt, STANDARD_OUTPUT) {
-        Ok(output) => are_same(&own, &output),
+        Ok(output) => there.is_file() && are_same(&there, &output),
         Err(_) => false,
     }
 }
 
 /// Locks a file. One that has the number of a standard stream, since that one is closed, is no log: what is written to
-/// the stream would stand in it. Nor is one to which the standard output goes.
-fn lock_file(rt: &HostRuntime, file: &File) -> Result<(), FileFault>
+/// the stream would stand in it.
+fn lock_file(file: &File) -> Result<(), FileFault>
     ensures { IfErr result IsOpenFault }
 {
-    if file.as_raw_fd() <= STANDARD_ERROR || is_shown_in(rt, file) {
+    if file.as_raw_fd() <= STANDARD_ERROR {
         return Err(FileFault::Log);
     }
     match file.try_lock() {
@@ -398,7 +399,11 @@ impl<'a> Logs for SystemLogs<'a> {
 
     ghost use Rattle.std.specs.Prelude.{None};
 
-    ghost folder = { λ l. record { logs = None; fault = l.fault; given = l.given } };
+    ghost folder = { λ l. record { logs = None; fault = l.fault; given = l.given; outputs = None } };
+
+    fn is_shown_in(&self, path: &str) -> bool {
+        is_output_file(self.rt, path)
+    }
 
     fn open(&mut self, path: &str) -> Result<Option<SystemLog>, FileFault> {
         match opened(self.rt, path) {

@@ -11,11 +11,12 @@ use Rattle.command_answers.specs.declared.command_fault.CommandFault.{CommandFau
 use Rattle.command_answers.specs.Readings.{AreTextsAnswered}
 use Rattle.command_answers.specs.Shapes.{IsShapedOrNot}
 use Rattle.command_answers.specs.Statuses.{status_of}
-use Rattle.cell_control.specs.declared.rest_fault.RestFault.{RestFault}
-use Rattle.cell_control.specs.declared.rest_fault.RestFault.TheVariants.{MomentTooLarge, IncompatiblePlan, Backwards, Cycle, Memory}
+use Rattle.cell_tables.specs.declared.present_fault.PresentFault.TheVariants.{Past, TooLarge}
+use Rattle.cell_control.specs.declared.hand_over_fault.HandOverFault.{HandOverFault}
+use Rattle.cell_control.specs.declared.hand_over_fault.HandOverFault.TheVariants.{Present, IncompatiblePlan, Cycle, Memory}
 use Rattle.cell_control.specs.HandedOver.{IsHandedOver, IsHandOverFault}
 use Rattle.cell_control.specs.Control.{Control}
-use Rattle.cellplan_c.specs.HandOvers.{MayTakeOver, IsHandOverStatus, takes_over, not_shaped, keeps_not, backwards, has_cycle, no_memory, rest_fault_status, IsHandOver}
+use Rattle.cellplan_c.specs.HandOvers.{MayTakeOver, IsHandOverStatus, takes_over, not_shaped, keeps_not, backwards, has_cycle, no_memory, hand_over_status, IsHandOver}
 use Rattle.cellplan_c.proofs.Judging.{fault_bounds}
 
 module _ (old : Control) (t : ℕ) where
@@ -45,16 +46,16 @@ module _ (old : Control) (t : ℕ) where
   pub misshapen : (fault : ShapeFault) (q : PlannedShop) → IsShapedOrNot q (Err fault) → IsHandOverStatus old q t 1
   misshapen fault q is = not_shaped fault refl is
 
-  fault_status : (q : PlannedShop) (fault : RestFault) → t ≤ MAX_MOMENT → IsWellShaped q → IsHandOverFault old.planned old.cell q t fault → IsHandOverStatus old q t (rest_fault_status fault)
-  fault_status q MomentTooLarge low shaped is = absurd (omega (arith, low, is))
+  fault_status : (q : PlannedShop) (fault : HandOverFault) → t ≤ MAX_MOMENT → IsWellShaped q → IsHandOverFault old.planned old.cell q t fault → IsHandOverStatus old q t (hand_over_status fault)
+  fault_status q (Present TooLarge) low shaped is = absurd (omega (arith, low, is))
   fault_status q IncompatiblePlan low shaped is = keeps_not refl shaped is.1
-  fault_status q (Backwards last) low shaped is = backwards refl shaped is.0 is.2
+  fault_status q (Present (Past last)) low shaped is = backwards refl shaped is.0 is.2
   fault_status q (Cycle nodes) low shaped is = has_cycle nodes.items refl (record { well_shaped = shaped; kept = is.0; moment = is.1 }) is.2
   fault_status q Memory low shaped is = no_memory refl
 
   -- it isn't handed over for this reason
-  pub refused_status : (shaped : PlannedShop) (fault : RestFault) → t ≤ MAX_MOMENT → IsHandOverFault old.planned old.cell shaped t fault
-      → (q : PlannedShop) → IsShapedOrNot q (Ok shaped) → IsHandOverStatus old q t (rest_fault_status fault)
+  pub refused_status : (shaped : PlannedShop) (fault : HandOverFault) → t ≤ MAX_MOMENT → IsHandOverFault old.planned old.cell shaped t fault
+      → (q : PlannedShop) → IsShapedOrNot q (Ok shaped) → IsHandOverStatus old q t (hand_over_status fault)
   refused_status shaped fault low why q is = fault_status q fault low is.1 (subst (λ (p : PlannedShop). IsHandOverFault old.planned old.cell p t fault) is.0 why)
 
 three_or_four : (n : ℕ) → 3 ≤ n → n ≤ 4 → (n ≡ 3) ⊎ (n ≡ 4)

@@ -1,7 +1,7 @@
 -- The status of a command's answer, and of its fault.
-use Rattle.std.proofs.Common.{ℕ, ◌≤◌, List, Option, inl, inr, arith}
+use Rattle.std.proofs.Common.{ℕ, ◌≤◌, List, Option, None, inl, inr, arith}
 use Rattle.shop_base.specs.Plan.{PlannedShop}
-use Rattle.shop_base.specs.Cell.{Cell}
+use Rattle.shop_base.specs.Cell.{Cell, start}
 use Rattle.plan_verifier.specs.declared.verdict.Verdict.{Verdict}
 use Rattle.plan_verifier.specs.declared.verdict.Verdict.TheVariants.{Accepted, Refused}
 use Rattle.command_answers.specs.declared.answer.Answer.{Answer}
@@ -12,6 +12,7 @@ use Rattle.command_answers.specs.Explains.{IsExplanation}
 use Rattle.command_answers.specs.Plans.{IsRightOfBoth}
 use Rattle.command_answers.specs.Statuses.{status_of}
 use Rattle.command_answers.specs.declared.rests.PlanAnswer.{PlanAnswer}
+use Rattle.command_answers.specs.declared.rests.PlanAnswer.TheVariants.{Reasons}
 use Rattle.people_names.specs.NameBooks.{no_names}
 use Rattle.command_answers.specs.Rests.{rest_status, AnswersRest}
 use Rattle.plan_verifier.specs.declared.verdict.Judged.{Judged}
@@ -27,16 +28,16 @@ check_bound p answer (inr (shaped, inl accepted)) = omega (arith, accepted.good)
 check_bound p answer (inr (shaped, inr (inl cycle))) = omega (arith, cycle.refused)
 check_bound p answer (inr (shaped, inr (inr late))) = omega (arith, late.refused)
 
-pub explanation_bound : (p : PlannedShop) (answer : Answer) → IsExplanation p answer → answer.status ≤ 1
-explanation_bound p answer (inl line) = omega (arith, line.line.refused)
-explanation_bound p answer (inr explained) = omega (arith, explained.explained.status, verdict_bound explained.verdict)
-
 rest_bound : (verdict : Judged) → rest_status verdict ≤ 1
 rest_bound (AcceptedRest times) = omega arith
 rest_bound (Refused why) = omega arith
 
 pub known_bound : (wanted : PlanAnswer) (p : PlannedShop) (c : Cell) (t : ℕ) (answer : Answer) → AnswersRest no_names wanted p c t answer → answer.status ≤ 1
 known_bound wanted p c t answer is = omega (arith, is.status, rest_bound is.verdict)
+
+pub explanation_bound : (p : PlannedShop) (answer : Answer) → IsExplanation p answer → answer.status ≤ 1
+explanation_bound p answer (inl line) = omega (arith, line.line.refused)
+explanation_bound p answer (inr explained) = known_bound (Reasons None) p (start p) 0 answer explained
 
 pub fault_bounds : (instance : List ℕ) (name : Option (List ℕ)) (plan : List ℕ) (fault : CommandFault)
     → IsRightOfBoth instance name plan fault → (3 ≤ status_of fault) × (status_of fault ≤ 4)

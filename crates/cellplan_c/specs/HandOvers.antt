@@ -14,20 +14,21 @@ use Rattle.plan_text.specs.Documents.{IsFirstPlanFault}
 use Rattle.command_answers.specs.declared.command_fault.CommandFault.{CommandFault}
 use Rattle.command_answers.specs.Instances.{IsFirstInstanceFault}
 use Rattle.command_answers.specs.Plans.{BothParse, ParsesAsShop}
-use Rattle.cell_control.specs.declared.rest_fault.RestFault.{RestFault}
-use Rattle.cell_control.specs.declared.rest_fault.RestFault.TheVariants.{MomentTooLarge, IncompatiblePlan, Backwards, Cycle, Memory}
-use Rattle.cell_control.specs.Kept.{KeepsSoFar}
+use Rattle.cell_tables.specs.declared.present_fault.PresentFault.TheVariants.{Past, TooLarge}
+use Rattle.cell_tables.specs.Kept.{KeepsSoFar}
+use Rattle.cell_control.specs.declared.hand_over_fault.HandOverFault.{HandOverFault}
+use Rattle.cell_control.specs.declared.hand_over_fault.HandOverFault.TheVariants.{Present, IncompatiblePlan, Cycle, Memory}
 use Rattle.cell_control.specs.HandedOver.{IsHandedOver}
 use Rattle.cell_control.specs.Control.{Control}
 use Rattle.cellplan_c.specs.Calls.{IsTextFault}
 
 -- the status of each reason for which another plan doesn't take over
-abbrev pub rest_fault_status : RestFault → ℕ
-rest_fault_status MomentTooLarge = 18
-rest_fault_status IncompatiblePlan = 10
-rest_fault_status (Backwards last) = 19
-rest_fault_status (Cycle nodes) = 1
-rest_fault_status Memory = 4
+abbrev pub hand_over_status : HandOverFault → ℕ
+hand_over_status (Present TooLarge) = 18
+hand_over_status (Present (Past last)) = 19
+hand_over_status IncompatiblePlan = 10
+hand_over_status (Cycle nodes) = 1
+hand_over_status Memory = 4
 
 -- all but a cycle lets plan q take over at moment t: it is well shaped, the run so far keeps it, and the moment can be the next
 pub record MayTakeOver (v : Control) (q : PlannedShop) (t : ℕ) : Type 0 where

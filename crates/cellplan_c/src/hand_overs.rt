@@ -7,7 +7,7 @@ ghost use Rattle.command_answers.specs.Shapes.{IsShapedOrNot};
 ghost use Rattle.cell_control.specs.HandedOver.{IsHandedOver};
 ghost use Rattle.cellplan_c.specs.Numbers.{named};
 ghost use Rattle.cellplan_c.specs.Cells.{Holding, GoesAsPromised, Handing, AreOrdersPut, IsKeptBehind};
-ghost use Rattle.cellplan_c.specs.HandOvers.{IsHandOver, IsHandOverStatus, rest_fault_status};
+ghost use Rattle.cellplan_c.specs.HandOvers.{IsHandOver, IsHandOverStatus, hand_over_status};
 
 use crate::cell::Cell;
 use crate::inner::Inner;
@@ -16,7 +16,8 @@ use crate::numbers::Order;
 use crate::promised::is_as_promised;
 use crate::rooms::put_orders;
 use crate::statuses::{BACKWARDS, GOOD, KEEPS_NOT, MOMENT_TOO_LARGE, NO_CELL, REFUSED};
-use cell_control::RestFault;
+use cell_control::HandOverFault;
+use cell_tables::PresentFault;
 use command_answers::load_shaped;
 use shop_base::limits::MAX_MOMENT;
 use shop_base::{ShapeFault, Shaped};
@@ -103,19 +104,19 @@ fn hand_over_plan(
     };
     match inner.controller.hand_over(alloc, shaped, at) {
         Ok(()) => GOOD,
-        Err((fault, _shaped)) => rest_fault_status(fault),
+        Err((fault, _shaped)) => hand_over_status(fault),
     }
 }
 
-/// The status of a reason why another plan doesn't take over.
-fn rest_fault_status(fault: RestFault) -> u32
-    ensures { result ≡ rest_fault_status fault }
+/// The status of a reason why another plan doesn't take over, or why there is no rest from a moment on.
+pub(crate) fn hand_over_status(fault: HandOverFault) -> u32
+    ensures { result ≡ hand_over_status fault }
 {
     match fault {
-        RestFault::MomentTooLarge => MOMENT_TOO_LARGE,
-        RestFault::IncompatiblePlan => KEEPS_NOT,
-        RestFault::Backwards { last: _ } => BACKWARDS,
-        RestFault::Cycle(_) => REFUSED,
-        RestFault::Memory => 4,
+        HandOverFault::Present(PresentFault::TooLarge) => MOMENT_TOO_LARGE,
+        HandOverFault::Present(PresentFault::Past { last: _ }) => BACKWARDS,
+        HandOverFault::IncompatiblePlan => KEEPS_NOT,
+        HandOverFault::Cycle(_) => REFUSED,
+        HandOverFault::Memory => 4,
     }
 }

@@ -7,12 +7,12 @@ ghost use Rattle.cellplan_c.specs.Cells.{Holding};
 ghost use Rattle.cellplan_c.specs.RestsAsked.{IsRestAsked};
 
 use crate::cell::Cell;
+use crate::hand_overs::hand_over_status;
 use crate::rooms::put_text;
-use crate::statuses::{BACKWARDS, MOMENT_TOO_LARGE, NO_CELL, status_of_refused};
+use crate::statuses::{NO_CELL, status_of_refused};
 use cell_control::{RestController, TourneyDues};
 use command_answers::{PlanAnswer, answer_rest};
 use people_names::Names;
-use shop_base::limits::MAX_MOMENT;
 use std::alloc::Global;
 
 /// The verdict on the rest of the cell's run by its plan, from a moment on, as the command `check` answers it of a log.
@@ -79,14 +79,18 @@ fn put_rest(
     ensures statuses { result ≢ 8 }
 {
     *needed = 0;
-    if at > MAX_MOMENT {
-        return MOMENT_TOO_LARGE;
-    }
-    if at < controller.now() {
-        return BACKWARDS;
-    }
+    // Called for its clause alone: the last moment is within the limit.
+    let _plan = controller.shaped();
+    let rest = match controller.rest_at(alloc, at) {
+        Ok(rest) => rest,
+        Err(fault) => return hand_over_status(fault),
+    };
+    // Called for its clause alone: the moment can be the next one.
+    let _present = rest.present();
     let names = Names::none(alloc);
-    match answer_rest(alloc, &names, controller.work_cell(), at, wanted) {
+    let answer = answer_rest(alloc, &names, &rest, wanted);
+    drop(rest);
+    match answer {
         Ok(answer) => put_text(&answer.text, u32::from(answer.status), room, needed),
         Err(error) => status_of_refused(error),
     }

@@ -11,7 +11,8 @@ use Rattle.alt_graph.specs.Evidence.{IsCycle}
 use Rattle.alt_graph.specs.Solved.{HasCycle}
 use Rattle.alt_graph.proofs.WholePlans.{cycle_has}
 use Rattle.run_log.specs.Audits.{ParseAsRun}
-use Rattle.run_log.specs.Present.{IsCellOf, present_of}
+use Rattle.cell_tables.specs.Rests.{present_of}
+use Rattle.run_log.specs.Present.{IsCellOf}
 use Rattle.plan_seek.specs.declared.search.TheConstants.{MAX_ROUNDS}
 use Rattle.plan_improve.specs.Settings.{rest_after}
 use Rattle.plan_improve.specs.Reordered.{IsReordered}

@@ -18,11 +18,10 @@ use Rattle.run_gantt.specs.DrawnVisits.{drawn_visits}
 use Rattle.run_gantt.specs.LeavingsSoFar.{leavings_so_far}
 use Rattle.plan_schedule.specs.declared.picture_visits.DrawnRun.{DrawnRun}
 use Rattle.plan_schedule.specs.DrawnVisits.{IsDrawnRun}
-use Rattle.plan_explain.specs.RestVerdicts.{IsRestJudged}
+use Rattle.plan_explain.specs.Known.{IsJudged}
 use Rattle.plan_verifier.specs.declared.verdict.Judged.{Judged}
 use Rattle.command_answers.specs.declared.pictures.Drawn.{Drawn}
-use Rattle.command_answers.specs.Rests.{present_at}
-use Rattle.command_answers.specs.Pictures.{log_sheet, run_sheet, line_at, IsRunPicture, IsVerdictDrawn, IsRestDrawn, IsCellDrawn, IsRestDrawing}
+use Rattle.command_answers.specs.Pictures.{log_sheet, run_sheet, IsRunPicture, IsVerdictDrawn, IsRestDrawn}
 
 -- a picture of the same
 same_picture : (names : NameBook) (sheet other : Sheet) (visits others : List DrawnVisit) (late lates : List (Option LateLeaving)) (picture : List ℕ) → sheet ≡ other → visits ≡ others → late ≡ lates
@@ -53,20 +52,6 @@ module _ (names : NameBook) (p : PlannedShop) (c : Cell) (t : ℕ) (line : Optio
   }
 
   -- the verdict is drawn
-  pub verdict_shown : {E : Type 0} (verdict : Judged) (came : Result Drawn E) → IsRestJudged p c t verdict → IfOk came (IsVerdictDrawn names p c t line visits verdict) → IfOk came (IsRestDrawn names p c t line visits)
+  pub verdict_shown : {E : Type 0} (verdict : Judged) (came : Result Drawn E) → IsJudged p c t verdict → IfOk came (IsVerdictDrawn names p c t line visits verdict) → IfOk came (IsRestDrawn names p c t line visits)
   verdict_shown verdict (Ok drawn) judged is = record { verdict = verdict; judged = judged; is = is }
   verdict_shown verdict (Err error) judged is = tt
-
--- the rest from a present moment on that isn't past
-pub rest_shown : {E : Type 0} (at : Option ℕ) (names : NameBook) (p : PlannedShop) (c : Cell) (entries : List Entry) (came : Result Drawn E) → c.last ≤ present_at at c
-    → IfOk came (IsRestDrawn names p c (present_at at c) (line_at at entries (present_at at c)) (drawn_visits p entries)) → IfOk came (IsCellDrawn at names p c entries)
-rest_shown at names p c entries (Ok drawn) later is = inr (later, is)
-rest_shown at names p c entries (Err error) later is = tt
-
--- what comes of the cell at the end of the run that a log records
-pub run_shown : (at : Option ℕ) (names : NameBook) (p : PlannedShop) (log : List ℕ) (run : ParseAsRun p (ended_lines log)) (q : PlannedShop) (c : Cell) (entries : List Entry) (drawn : Drawn)
-    → q ≡ p → c ≡ ends_in p (events_of run.0) → entries ≡ run.0 → IsCellDrawn at names q c entries drawn → IsRestDrawing at names p log drawn
-run_shown at names p log run q c entries drawn plan cell same is =
-    let of_entries : IsCellDrawn at names q c run.0 drawn = subst (λ (es : List Entry). IsCellDrawn at names q c es drawn) same is in
-    let at_end : IsCellDrawn at names q (ends_in p (events_of run.0)) run.0 drawn = subst (λ (d : Cell). IsCellDrawn at names q d run.0 drawn) cell of_entries in
-    inl (record { run = run; is = subst (λ (x : PlannedShop). IsCellDrawn at names x (ends_in p (events_of run.0)) run.0 drawn) plan at_end })

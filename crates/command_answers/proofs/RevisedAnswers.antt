@@ -20,7 +20,7 @@ use Rattle.command_answers.specs.declared.command_fault.CommandFault.{CommandFau
 use Rattle.command_answers.specs.declared.command_fault.CommandFault.TheVariants.{Instance, Plan, Names, Read, Write, InputTooLong, Log, LogInUse, Memory}
 use Rattle.command_answers.specs.declared.command_fault.Unrevised.{Unrevised}
 use Rattle.command_answers.specs.declared.revises.Revised.{Revised}
-use Rattle.command_answers.specs.Revising.{IsChangeRefused, IsInstanceAnswer, IsReviseAnswer, IsRevisedFrom, IsPlaced, IsUnread, IsUnrevised, unrevised_of, unwritten_fault}
+use Rattle.command_answers.specs.Revising.{IsChangeRefused, IsInstanceAnswer, IsPlaced, IsUnread, IsUnrevised, unrevised_of, unwritten_fault}
 use Rattle.command_answers.specs.Steps.{IsOrMemory}
 
 -- ---- a change that can't be
@@ -42,14 +42,6 @@ module _ (p : PlannedShop) (c : Cell) (t : ℕ) (changes : List Change) where
     pub refused_answered : (reason : NotRevised) (why : Unrevised) (outcome : Result Answer CommandFault) → IsReason p c t changes reason → why ≡ unrevised_of reason → IsUnrevised changes values why outcome
         → IsOrMemory (IsChangeRefused prints description changes values p c t) outcome
     refused_answered reason why outcome is same answered = refused_at reason outcome is (subst (λ (x : Unrevised). IsUnrevised changes values x outcome) same answered)
-
--- what is answered of the cell at the end of the run that a log records
-pub of_run : (prints : Revised) (description : List ℕ) (at : Option ℕ) (changes : List Change) (values : List (List ℕ)) (p : PlannedShop) (log : List ℕ) (run : ParseAsRun p (ended_lines log))
-    (q : PlannedShop) (c : Cell) (outcome : Result Answer CommandFault) → q ≡ p → c ≡ ends_in p (events_of run.0)
-    → IsRevisedFrom prints description at changes values q c outcome → IsReviseAnswer prints description at changes values p log outcome
-of_run prints description at changes values p log run q c outcome plan cell answered =
-    let at_end : IsRevisedFrom prints description at changes values q (ends_in p (events_of run.0)) outcome = subst (λ (d : Cell). IsRevisedFrom prints description at changes values q d outcome) cell answered in
-    inl (record { run = run; revised = subst (λ (x : PlannedShop). IsRevisedFrom prints description at changes values x (ends_in p (events_of run.0)) outcome) plan at_end })
 
 -- ---- the text of an instance
 

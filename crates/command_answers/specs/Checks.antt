@@ -2,11 +2,12 @@
 use Rattle.std.specs.Prelude.{◌≡◌, ℕ, List, ◌⊎◌, Result, Ok, Err}
 use Rattle.shop_base.specs.declared.node.Node.{Node}
 use Rattle.shop_base.specs.Plan.{PlannedShop, IsWellShaped}
-use Rattle.shop_base.specs.ShapeFault.{IsFirstShapeFault}
+use Rattle.shop_base.specs.{ShapeFault.IsFirstShapeFault, Cell.start}
 use Rattle.alt_graph.specs.Evidence.{IsCycle}
 use Rattle.plan_verifier.specs.declared.verdict.Verdict.{Verdict}
 use Rattle.plan_verifier.specs.declared.verdict.Verdict.TheVariants.{Accepted, Refused}
 use Rattle.plan_verifier.specs.Accepted.{VerifiedPlan, IsAcceptable}
+use Rattle.plan_verifier.specs.Seen.{judged, as_rest}
 use Rattle.plan_verifier.specs.Verdicts.{OnAccepted, OnRefused, IsFirstLate, IsReason}
 use Rattle.plan_explain.specs.FirstLines.{cycle_line, refused_late_line, IsAcceptedFirstLine, IsFirstLine}
 use Rattle.command_answers.specs.declared.answer.Answer.{Answer}
@@ -39,7 +40,7 @@ accepted_in (NotShaped fault) = Err (NotShaped fault)
 -- the line of an accepted plan
 pub record IsAcceptedLine (p : PlannedShop) (answer : Answer) : Type 0 where
   pub acceptable : IsAcceptable p
-  pub line : IsAcceptedFirstLine p answer.text.items
+  pub line : IsAcceptedFirstLine p (start p) 0 answer.text.items
   pub good : answer.status ≡ 0
 
 -- the line of a plan with a cycle
@@ -68,7 +69,7 @@ IsCheckLine p answer = IsNotShapedLine p answer ⊎ (IsWellShaped p × IsVerdict
 
 -- the first line of a verdict, with its status
 abbrev pub IsLineOfVerdict : Verdict → Answer → Type 0
-IsLineOfVerdict verdict answer = IsFirstLine verdict answer.text.items × (answer.status ≡ verdict_status verdict)
+IsLineOfVerdict verdict answer = IsFirstLine (judged verdict) (start (judged verdict)) 0 (as_rest verdict) answer.text.items × (answer.status ≡ verdict_status verdict)
 
 -- the line of what is said of a plan: the refusal of a plan that isn't well shaped, or the first line of the verdict, with its status
 abbrev pub IsLineOf : Loaded → Answer → Type 0

@@ -21,8 +21,6 @@ use Rattle.command_answers.specs.Naming.{ReadsNames}
 use Rattle.command_answers.specs.Readings.{IsInstanceRead, IsPlanRead, AreFactsAnswered}
 use Rattle.command_answers.specs.Checks.{IsCheckLine, IsLoaded}
 use Rattle.command_answers.specs.AskedJobs.{IsNoJobLine}
-use Rattle.command_answers.specs.Explains.{IsPlanExplained}
-use Rattle.command_answers.specs.Timetables.{IsPlanScheduled}
 use Rattle.command_answers.specs.Serial.{serially}
 use Rattle.command_answers.specs.BoundLines.{AreBoundLines, IsBadNumbersLine}
 use Rattle.command_answers.specs.Margins.{IsMarginAnswer}
@@ -37,7 +35,7 @@ use Rattle.command_answers.specs.declared.logs.LogAnswer.{LogAnswer}
 use Rattle.command_answers.specs.LogLines.{IsLogLine}
 use Rattle.command_answers.specs.declared.rests.PlanAnswer.{PlanAnswer}
 use Rattle.command_answers.specs.declared.rests.PlanAnswer.TheVariants.{Verdict, Reasons, Moments}
-use Rattle.command_answers.specs.Rests.{IsRestLine, job_asked}
+use Rattle.command_answers.specs.Rests.{AnswersPlan, IsRestLine, job_asked}
 use Rattle.command_answers.specs.ImprovingRests.{RestAsked, IsRestAnswer}
 use Rattle.text_lines.specs.Lines.{ended_lines}
 use Rattle.plan_revise.specs.declared.change.Change.{Change}
@@ -102,11 +100,11 @@ module _ {W : Type 0} (gives : W → List ℕ → Result (List ℕ) CommandFault
 
   -- `explain`: both are read, then the names, and the verdict is explained
   abbrev pub RunsExplain : InputPaths → Option (List ℕ) → Option ℕ → W → Result Answer CommandFault → W → Type 0
-  RunsExplain inputs names job = WithBoth inputs (λ p. IfShaped p (IfThere job p (WithNames names p (λ book. IsOrMemory (IsPlanExplained book job p)))))
+  RunsExplain inputs names job = WithBoth inputs (λ p. IfShaped p (IfThere job p (WithNames names p (λ book. IsOrMemory (AnswersPlan book (Reasons job) p)))))
 
   -- `schedule`: both are read, then the names, and the plan's schedule is printed
   abbrev pub RunsSchedule : InputPaths → Option (List ℕ) → W → Result Answer CommandFault → W → Type 0
-  RunsSchedule inputs names = WithBoth inputs (λ p. IfShaped p (WithNames names p (λ book. IsOrMemory (IsPlanScheduled book p))))
+  RunsSchedule inputs names = WithBoth inputs (λ p. IfShaped p (WithNames names p (λ book. IsOrMemory (AnswersPlan book Moments p))))
 
   -- `schedule --moves`: both are read, then the names, and the moves of the plan are printed
   abbrev pub RunsMoves : InputPaths → Option (List ℕ) → W → Result Answer CommandFault → W → Type 0

@@ -12,8 +12,7 @@ use Rattle.command_answers.specs.declared.answer.Answer.{Answer}
 use Rattle.command_answers.specs.declared.command_fault.CommandFault.{CommandFault}
 use Rattle.command_answers.specs.declared.command_fault.CommandFault.TheVariants.{Plan, Memory}
 use Rattle.command_answers.specs.Deciding.{IsDecisionText, IsFoundUnread}
-use Rattle.command_answers.specs.ImprovingRests.{IsRestPast}
-use Rattle.command_answers.specs.LogLines.{IsLogRefused}
+use Rattle.command_answers.specs.Rests.{IsRunRefused}
 use Rattle.command_answers.specs.Shapes.{IsLineOfFault}
 
 -- the words before the first fault of a plan: its orders don't fit, or its numbers are bad
@@ -36,7 +35,7 @@ module _ (names : NameBook) (at : Option ℕ) (lines : List (List ℕ)) (start :
   abbrev pub IsRestDecisionText : Answer → Type 0
   IsRestDecisionText answer =
       HoldsAfter lines at start (λ t. IsDecisionText names t aim answer)
-      ⊎ (IsLogRefused start lines answer ⊎ IsRestPast at lines start answer)
+      ⊎ IsRunRefused at lines start answer
 
   -- what is answered: that, or that the plan that was found isn't read back, or out of memory
   abbrev pub IsRestDecisionAnswer : Result Answer CommandFault → Type 0

@@ -2,7 +2,7 @@
 use Rattle.std.specs.Prelude.{◌≡◌, ◌⊎◌, ℕ, List, ◌++◌, codes}
 use Rattle.shop_base.specs.Plan.{PlannedShop, IsWellShaped}
 use Rattle.event_lines.specs.RunDigits.{digits_words}
-use Rattle.plan_digest.specs.Digits.{digits_of}
+use Rattle.run_log.specs.Digits.{digits_of}
 use Rattle.command_answers.specs.declared.answer.Answer.{Answer}
 use Rattle.command_answers.specs.Shapes.{IsNotShapedLine}
 

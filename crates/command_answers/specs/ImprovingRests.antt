@@ -6,7 +6,8 @@ use Rattle.shop_base.specs.Cell.{Cell}
 use Rattle.shop_base.specs.Report.{IsNextMoment}
 use Rattle.alt_graph.specs.Evidence.{IsCycle}
 use Rattle.alt_graph.specs.Solved.{HasCycle}
-use Rattle.run_log.specs.{Audits.ParseAsRun, Present.IsCellOf, Present.present_of}
+use Rattle.cell_tables.specs.Rests.{present_of}
+use Rattle.run_log.specs.{Audits.ParseAsRun, Present.IsCellOf}
 use Rattle.plan_text.specs.declared.plan_fault.PlanFault.TheVariants.{NotReadBack}
 use Rattle.plan_text.specs.Lines.{plan_lines}
 use Rattle.plan_text.specs.Documents.{IsPlanText}
@@ -28,8 +29,7 @@ use Rattle.command_answers.specs.declared.command_fault.CommandFault.{CommandFau
 use Rattle.command_answers.specs.declared.command_fault.CommandFault.TheVariants.{Plan, Memory}
 use Rattle.command_answers.specs.Documents.{IsDocumentOf, IsDocumentAnswer}
 use Rattle.command_answers.specs.Improving.{IsTooManyLine}
-use Rattle.command_answers.specs.LogLines.{IsLogRefused}
-use Rattle.command_answers.specs.Rests.{IsPastLine, HasLine, IsRunFaultAnswer}
+use Rattle.command_answers.specs.Rests.{HasLine, IsRunFaultAnswer, IsRunRefused}
 use Rattle.command_answers.specs.Steps.{IsOrMemory}
 
 -- what plans a search makes of one, for the rest of the run that these lines record, from a present moment on
@@ -87,17 +87,10 @@ pub record IsRestCycle (at : Option ℕ) (lines : List (List ℕ)) (start : Plan
   pub cycle : IsCycle start nodes
   pub line : IsLineOfCycle nodes answer
 
--- the line of a present moment that is given and is before the last one
-pub record IsRestPast (at : Option ℕ) (lines : List (List ℕ)) (start : PlannedShop) (answer : Answer) : Type 0 where
-  pub cell : Cell
-  pub run : IsCellOf lines start cell
-  pub before : present_of at cell.last < cell.last
-  pub line : IsPastLine cell.last answer
-
 -- what is answered after at most as many rounds as may be asked for: the text of the best plan; or a line, of a cycle, of the log's first fault, or of a moment that is past
 abbrev pub IsRestFound : RestAsked → Option ℕ → List (List ℕ) → PlannedShop → Answer → Type 0
 IsRestFound made at lines start answer =
-    IsBestRestText made at lines start answer ⊎ (IsRestCycle at lines start answer ⊎ (IsLogRefused start lines answer ⊎ IsRestPast at lines start answer))
+    IsBestRestText made at lines start answer ⊎ (IsRestCycle at lines start answer ⊎ IsRunRefused at lines start answer)
 
 -- what is answered of a plan that is well shaped: that, or the line of too many rounds; that the text isn't read as the best plan; or that memory ran out
 abbrev pub IsRestAnswer : RestAsked → Option ℕ → ℕ → List (List ℕ) → PlannedShop → Result Answer CommandFault → Type 0

@@ -11,13 +11,13 @@ use Rattle.run_picture.specs.declared.head.Head.{Head}
 use Rattle.run_picture.specs.declared.head.Head.TheVariants.{Accepted as InTime, Late as TooLate, Log}
 use Rattle.run_picture.specs.declared.head.Sheet.{Sheet}
 use Rattle.run_picture.specs.declared.visit.DrawnVisit.{DrawnVisit}
-use Rattle.run_picture.specs.Late.{late_leavings, lateness, latest}
+use Rattle.run_picture.specs.Late.{late_leavings, latest}
 use Rattle.run_picture.specs.LastMoments.{last_of}
 use Rattle.run_picture.specs.PictureText.{IsPicture}
 use Rattle.plan_verifier.specs.declared.verdict.Judged.{Judged}
 use Rattle.plan_verifier.specs.declared.verdict.Judged.TheVariants.{Accepted, Refused}
 use Rattle.plan_verifier.specs.declared.verdict.Why.TheVariants.{Cycle, Late}
-use Rattle.plan_explain.specs.RestVerdicts.{IsRestJudged}
+use Rattle.plan_explain.specs.Known.{IsJudged}
 use Rattle.plan_explain.specs.FirstLines.{cycle_line}
 use Rattle.plan_schedule.specs.declared.picture_visits.DrawnRun.{DrawnRun}
 use Rattle.plan_schedule.specs.DrawnVisits.{IsDrawnRun}
@@ -32,7 +32,7 @@ use Rattle.command_answers.specs.declared.pictures.Drawn.TheVariants.{Picture, L
 use Rattle.command_answers.specs.Steps.{Concludes, IsOrMemory}
 use Rattle.command_answers.specs.Shapes.{IsNotShapedLine}
 use Rattle.command_answers.specs.LogLines.{IsLogRefused}
-use Rattle.command_answers.specs.Rests.{IsPastLine, present_at}
+use Rattle.command_answers.specs.Rests.{IsOfRun, IsRunRefused}
 use Rattle.command_answers.specs.Commands.{InputPaths, WithBoth, WithNames, WithNamesAndLog}
 
 -- nothing is drawn, but there is such a line
@@ -67,17 +67,17 @@ IsLogDrawn names p log drawn = IsPictureAlone (IsLogPicture names p log) 0 drawn
 
 -- ---- the exact run, from any cell on
 
--- what stands above the rows: of a run in time when the last job leaves, else the greatest lateness
-abbrev pub run_head : Bool → PlannedShop → List (Option ℕ) → Head
-run_head true p leavings = InTime (latest leavings)
-run_head false p leavings = TooLate (lateness p leavings)
+-- what stands above the rows: of a run in time when the last job leaves, else the greatest lateness of a job that hasn't left
+abbrev pub run_head : Bool → DrawnRun → Head
+run_head true run = InTime (latest run.leavings.items)
+run_head false run = TooLate run.late_by
 
 -- what the picture of such a run is of: its axis goes up to its last moment, or to the present moment t if that is later
 abbrev pub run_sheet : PlannedShop → ℕ → Option ℕ → Bool → DrawnRun → Sheet
 run_sheet p t line in_time run = record {
   machines = machines p;
   last = max (last_of run.visits.items) t;
-  head = run_head in_time p run.leavings.items;
+  head = run_head in_time run;
   present = line;
 }
 
@@ -97,7 +97,7 @@ module _ (names : NameBook) (p : PlannedShop) (c : Cell) (t : ℕ) (line : Optio
   -- what comes of a cell: the verdict on the rest is drawn
   pub record IsRestDrawn (drawn : Drawn) : Type 0 where
     pub verdict : Judged
-    pub judged : IsRestJudged p c t verdict
+    pub judged : IsJudged p c t verdict
     pub is : IsVerdictDrawn verdict drawn
 
 -- what comes of a well-shaped plan: the whole of it is the rest of a run that hasn't begun
@@ -114,20 +114,11 @@ line_at None [] t = None
 line_at None (entry ∷ entries) t = Some t
 line_at (Some given) entries t = Some t
 
--- what comes of the cell at the end of these entries: that the present moment is past, or else the rest from there
-abbrev pub IsCellDrawn : Option ℕ → NameBook → PlannedShop → Cell → List Entry → Drawn → Type 0
-IsCellDrawn at names p c entries drawn =
-    ((present_at at c < c.last) × IsLineAlone (IsPastLine c.last) drawn)
-    ⊎ ((c.last ≤ present_at at c) × IsRestDrawn names p c (present_at at c) (line_at at entries (present_at at c)) (drawn_visits p entries) drawn)
-
--- what comes of a log whose whole lines record a run of the plan: the run that goes on from the cell at its end
-pub record IsRestOfLogDrawn (at : Option ℕ) (names : NameBook) (p : PlannedShop) (log : List ℕ) (drawn : Drawn) : Type 0 where
-  pub run : ParseAsRun p (ended_lines log)
-  pub is : IsCellDrawn at names p (ends_in p (events_of run.0)) run.0 drawn
-
--- what comes of a log: so, or the line of the first fault of its whole lines
+-- what comes of a log: the rest of the run that its whole lines record is drawn behind the visits so far, or there is the line that says why there is none
 abbrev pub IsRestDrawing : Option ℕ → NameBook → PlannedShop → List ℕ → Drawn → Type 0
-IsRestDrawing at names p log drawn = IsRestOfLogDrawn at names p log drawn ⊎ IsLineAlone (IsLogRefused p (ended_lines log)) drawn
+IsRestDrawing at names p log drawn =
+    IsOfRun (λ c entries t. IsRestDrawn names p c t (line_at at entries t) (drawn_visits p entries) drawn) at (ended_lines log) p
+    ⊎ IsLineAlone (IsRunRefused at (ended_lines log) p) drawn
 
 -- where a plan is well shaped there is this step; else the line of its first fault
 abbrev pub IfDrawable : {W : Type 0} → PlannedShop → (W → Result Drawn CommandFault → W → Type 0) → W → Result Drawn CommandFault → W → Type 0

@@ -1,20 +1,18 @@
--- The answers of `check`, `explain` and `schedule` of the rest of a run.
-use Rattle.std.specs.Prelude.{◌≡◌, ℕ, ◌<◌, ◌≤◌, List, ◌++◌, ◌⊎◌, Option, None, Result, codes, decimal, unwrap_or}
-use Rattle.shop_base.specs.Plan.{PlannedShop}
-use Rattle.shop_base.specs.Cell.{Cell}
-use Rattle.shop_base.specs.Run.{ends_in}
+-- The answers on a plan, and on the rest of a run: those of `check`, `explain` and `schedule`.
+use Rattle.std.specs.Prelude.{◌≡◌, ℕ, ◌<◌, List, ◌++◌, ◌⊎◌, Option, None, Result, codes, decimal}
+use Rattle.shop_base.specs.{Plan.PlannedShop, Cell.Cell, Cell.start}
 use Rattle.text_lines.specs.Lines.{ended_lines}
-use Rattle.cell_tables.specs.Events.{events_of}
-use Rattle.run_log.specs.Audits.{ParseAsRun}
+use Rattle.cell_tables.specs.Rests.{present_of}
+use Rattle.cell_tables.specs.declared.entry.Entry.{Entry}
+use Rattle.cell_tables.specs.declared.present_fault.PresentFault.TheVariants.{Past, TooLarge}
+use Rattle.run_log.specs.Present.{IsCellOf, IsRunAt}
 use Rattle.run_log.specs.declared.present_run.RunFault.{RunFault}
-use Rattle.run_log.specs.declared.present_run.RunFault.TheVariants.{Log, Past, MomentTooLarge}
+use Rattle.run_log.specs.declared.present_run.RunFault.TheVariants.{Log, Present}
 use Rattle.plan_verifier.specs.declared.verdict.Judged.{Judged}
 use Rattle.plan_verifier.specs.declared.verdict.Judged.TheVariants.{Accepted, Refused}
 use Rattle.people_names.specs.NameBooks.{NameBook}
-use Rattle.plan_explain.specs.RestVerdicts.{IsRestJudged}
-use Rattle.plan_explain.specs.RestFirstLines.{IsRestFirstLine}
-use Rattle.plan_explain.specs.RestExplained.{IsRestExplained}
-use Rattle.plan_schedule.specs.RestScheduled.{IsRestScheduled}
+use Rattle.plan_explain.specs.{Known.IsJudged, FirstLines.IsFirstLine, Explained.IsExplained}
+use Rattle.plan_schedule.specs.Scheduled.{IsScheduled}
 use Rattle.command_answers.specs.declared.answer.Answer.{Answer}
 use Rattle.command_answers.specs.declared.rests.PlanAnswer.{PlanAnswer}
 use Rattle.command_answers.specs.declared.rests.PlanAnswer.TheVariants.{Verdict, Reasons, Moments}
@@ -22,7 +20,7 @@ use Rattle.command_answers.specs.declared.command_fault.CommandFault.{CommandFau
 use Rattle.command_answers.specs.LogLines.{IsLogFaultAnswer, IsLogRefused}
 use Rattle.command_answers.specs.Steps.{IsOrMemory}
 
--- the status of a verdict on the rest
+-- the status of a verdict
 abbrev pub rest_status : Judged → ℕ
 rest_status (Accepted times) = 0
 rest_status (Refused why) = 1
@@ -33,18 +31,24 @@ job_asked Verdict = None
 job_asked (Reasons job) = job
 job_asked Moments = None
 
--- the text of a verdict on the rest: its first line, its explanation or its schedule
+-- the text of a verdict: its first line, its explanation or its schedule
 abbrev pub IsTextOf : NameBook → PlanAnswer → PlannedShop → Cell → ℕ → Judged → List ℕ → Type 0
-IsTextOf names Verdict p c t verdict text = IsRestFirstLine p c t verdict text
-IsTextOf names (Reasons job) p c t verdict text = IsRestExplained names job p c t verdict text
-IsTextOf names Moments p c t verdict text = IsRestScheduled names p c t verdict text
+IsTextOf names Verdict p c t = IsFirstLine p c t
+IsTextOf names (Reasons job) p c t = IsExplained names p c t job
+IsTextOf names Moments p c t = IsScheduled names p c t
 
 -- what is printed of the rest from a cell c and a present moment t on: the text of the verdict on it, with its status
 pub record AnswersRest (names : NameBook) (wanted : PlanAnswer) (p : PlannedShop) (c : Cell) (t : ℕ) (answer : Answer) : Type 0 where
   pub verdict : Judged
-  pub judged : IsRestJudged p c t verdict
+  pub judged : IsJudged p c t verdict
   pub text : IsTextOf names wanted p c t verdict answer.text.items
   pub status : answer.status ≡ rest_status verdict
+
+-- so of a whole plan, which is the rest of a run that hasn't begun
+abbrev pub AnswersPlan : NameBook → PlanAnswer → PlannedShop → Answer → Type 0
+AnswersPlan names wanted p = AnswersRest names wanted p (start p) 0
+
+-- ---- the rest of the run in a log
 
 -- `log past L`
 abbrev pub log_past_line : ℕ → List ℕ
@@ -56,32 +60,38 @@ IsPastLine last answer = (answer.text.items ≡ log_past_line last) × (answer.s
 
 -- there is a line for the fault: the moment isn't past the latest
 abbrev pub HasLine : RunFault → Type 0
-HasLine MomentTooLarge = ⊥
-HasLine fault = Unit {0}
+HasLine (Log fault) = Unit {0}
+HasLine (Present (Past last)) = Unit {0}
+HasLine (Present TooLarge) = ⊥
 
 -- what is answered where there is no run up to the present moment: the line of the log's first fault, or of a moment that is past
 abbrev pub IsRunFaultAnswer : RunFault → Result Answer CommandFault → Type 0
 IsRunFaultAnswer (Log fault) outcome = IsLogFaultAnswer fault outcome
-IsRunFaultAnswer (Past last) outcome = IsOrMemory (IsPastLine last) outcome
-IsRunFaultAnswer MomentTooLarge outcome = Unit {0}
+IsRunFaultAnswer (Present (Past last)) outcome = IsOrMemory (IsPastLine last) outcome
+IsRunFaultAnswer (Present TooLarge) outcome = ⊥
 
--- the present moment: the one that is given, or the last one of the run
-abbrev pub present_at : Option ℕ → Cell → ℕ
-present_at at c = unwrap_or at c.last
+-- the line of a present moment that is given and is before the last one
+pub record IsRestPast (at : Option ℕ) (lines : List (List ℕ)) (p : PlannedShop) (answer : Answer) : Type 0 where
+  pub cell : Cell
+  pub run : IsCellOf lines p cell
+  pub before : present_of at cell.last < cell.last
+  pub line : IsPastLine cell.last answer
 
--- what is printed from a cell on: that the present moment is past, or else this from there
-abbrev pub IsCellAnswer : (PlannedShop → Cell → ℕ → Answer → Type 0) → Option ℕ → PlannedShop → Cell → Answer → Type 0
-IsCellAnswer AnswersAt at p c answer =
-    ((present_at at c < c.last) × IsPastLine c.last answer) ⊎ ((c.last ≤ present_at at c) × AnswersAt p c (present_at at c) answer)
+-- the line of the lines' first fault, or of a moment that is past
+abbrev pub IsRunRefused : Option ℕ → List (List ℕ) → PlannedShop → Answer → Type 0
+IsRunRefused at lines p answer = IsLogRefused p lines answer ⊎ IsRestPast at lines p answer
 
--- what is answered of a log whose whole lines record a run of the plan: that of the cell at its end
-pub record IsRestOfLog (AnswersAt : PlannedShop → Cell → ℕ → Answer → Type 0) (at : Option ℕ) (p : PlannedShop) (log : List ℕ) (answer : Answer) : Type 0 where
-  pub run : ParseAsRun p (ended_lines log)
-  pub answered : IsCellAnswer AnswersAt at p (ends_in p (events_of run.0)) answer
+-- the lines record a run of the plan, and Comes holds of its cell, its entries and the present moment
+pub record IsOfRun (Comes : Cell → List Entry → ℕ → Type 0) (at : Option ℕ) (lines : List (List ℕ)) (p : PlannedShop) : Type 0 where
+  pub cell : Cell
+  pub entries : List Entry
+  pub present : ℕ
+  pub run : IsRunAt lines at p cell entries present
+  pub comes : Comes cell entries present
 
--- what is printed of a log: so, or the line of the first fault of its whole lines
+-- what is printed of a log: this of the rest of the run that its whole lines record, or why there is none
 abbrev pub IsLogAnswer : (PlannedShop → Cell → ℕ → Answer → Type 0) → Option ℕ → PlannedShop → List ℕ → Answer → Type 0
-IsLogAnswer AnswersAt at p log answer = IsRestOfLog AnswersAt at p log answer ⊎ IsLogRefused p (ended_lines log) answer
+IsLogAnswer AnswersAt at p log answer = IsOfRun (λ c entries t. AnswersAt p c t answer) at (ended_lines log) p ⊎ IsRunRefused at (ended_lines log) p answer
 
 -- so of the rest
 abbrev pub IsRestLine : NameBook → PlanAnswer → Option ℕ → PlannedShop → List ℕ → Answer → Type 0

@@ -4,12 +4,9 @@ use Rattle.shop_base.specs.declared.node.Node.{Node}
 use Rattle.shop_base.specs.Shop.{JobShop}
 use Rattle.shop_base.specs.Plan.{PlannedShop}
 use Rattle.shop_base.specs.Cell.{Cell}
-use Rattle.shop_base.specs.Run.{ends_in}
 use Rattle.alt_graph.specs.Evidence.{IsCycle}
 use Rattle.alt_graph.specs.Solved.{HasCycle}
 use Rattle.text_lines.specs.Lines.{ended_lines}
-use Rattle.cell_tables.specs.Events.{events_of}
-use Rattle.run_log.specs.Audits.{ParseAsRun}
 use Rattle.orlib_read.specs.Instance.{IsInstance}
 use Rattle.orlib_read.specs.Lines.{instance_lines}
 use Rattle.orlib_read.specs.declared.document.NotWritten.{NotWritten}
@@ -31,8 +28,7 @@ use Rattle.command_answers.specs.declared.revises.Revised.{Revised}
 use Rattle.command_answers.specs.declared.revises.Revised.TheVariants.{PlanText, InstanceText}
 use Rattle.command_answers.specs.Documents.{IsDocumentAnswer}
 use Rattle.command_answers.specs.ImprovingRests.{IsLineOfCycle}
-use Rattle.command_answers.specs.LogLines.{IsLogRefused}
-use Rattle.command_answers.specs.Rests.{IsPastLine, present_at}
+use Rattle.command_answers.specs.Rests.{IsOfRun, IsRunRefused}
 use Rattle.command_answers.specs.Steps.{IsOrMemory}
 
 -- ---- the line of a change that can't be
@@ -137,18 +133,8 @@ module _ (prints : Revised) (description : List ℕ) (changes : List Change) (va
   abbrev pub IsRevisedRest : Result Answer CommandFault → Type 0
   IsRevisedRest outcome = IsOrMemory IsCycleAnswer outcome ⊎ ((HasCycle p → ⊥) × IsChanged outcome)
 
-module _ (prints : Revised) (description : List ℕ) (at : Option ℕ) (changes : List Change) (values : List (List ℕ)) (p : PlannedShop) where
-  -- what is answered from a cell on: that the present moment is past, or what is changed from there
-  abbrev pub IsRevisedFrom : Cell → Result Answer CommandFault → Type 0
-  IsRevisedFrom c outcome =
-      ((present_at at c < c.last) × IsOrMemory (IsPastLine c.last) outcome)
-      ⊎ ((c.last ≤ present_at at c) × IsRevisedRest prints description changes values p c (present_at at c) outcome)
-
-  -- what is answered of a log whose whole lines record a run of the plan
-  pub record IsRevisedRun (log : List ℕ) (outcome : Result Answer CommandFault) : Type 0 where
-    pub run : ParseAsRun p (ended_lines log)
-    pub revised : IsRevisedFrom (ends_in p (events_of run.0)) outcome
-
-  -- what is answered of a log: so, or the line of the first fault of its whole lines
-  abbrev pub IsReviseAnswer : List ℕ → Result Answer CommandFault → Type 0
-  IsReviseAnswer log outcome = IsRevisedRun log outcome ⊎ IsOrMemory (IsLogRefused p (ended_lines log)) outcome
+-- what is answered of a log: what is changed from the rest of the run that its whole lines record on, or why there is none
+abbrev pub IsReviseAnswer : Revised → List ℕ → Option ℕ → List Change → List (List ℕ) → PlannedShop → List ℕ → Result Answer CommandFault → Type 0
+IsReviseAnswer prints description at changes values p log outcome =
+    IsOfRun (λ c entries t. IsRevisedRest prints description changes values p c t outcome) at (ended_lines log) p
+    ⊎ IsOrMemory (IsRunRefused at (ended_lines log) p) outcome

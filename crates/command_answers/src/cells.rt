@@ -90,11 +90,7 @@ fn add_loaded(alloc: Global, loaded: Loaded, cells: &mut Vec<Verified>) -> Optio
             Ok(()) => None,
             Err(error) => Some(Err(CommandFault::from(error))),
         },
-        Err(other) => {
-            let line = cell_line(alloc, cells.len() as u64, &other);
-            drop(other);
-            Some(line)
-        }
+        Err(other) => Some(cell_line(alloc, cells.len() as u64, other)),
     }
 }
 
@@ -114,8 +110,8 @@ fn load_one<T: Texts>(
 }
 
 /// The line of the plan of this number, which isn't accepted: the number, a space, and the line of the plan alone.
-fn cell_line(alloc: Global, number: u64, loaded: &Loaded) -> Outcome<Cells>
-    ensures { IsCellLine number loaded.now result }
+fn cell_line(alloc: Global, number: u64, loaded: Loaded) -> Outcome<Cells>
+    ensures { IsCellLine number loaded result }
 {
     let line = loaded_answer(alloc, loaded)?;
     let (mut text, status) = (Vec::new(alloc), line.status);

@@ -22,9 +22,7 @@ pub fn check(alloc: Global, instance: &[u8], name: Option<&[u8]>, plan: &[u8]) -
     ensures { AreTextsAnswered instance.now (option_copied name.entry) plan.now IsCheckLine result }
 {
     let loaded = load(alloc, instance, name, plan)?;
-    let answer = loaded_answer(alloc, &loaded);
-    drop(loaded);
-    Ok(answer?)
+    Ok(loaded_answer(alloc, loaded)?)
 }
 
 /// The verdict on the plan of a file for the instance of another.
@@ -33,32 +31,35 @@ pub fn check_answer<T: Texts>(alloc: Global, texts: &mut T, inputs: &InputPaths<
 {
     let parsed = read_inputs(alloc, texts, inputs)?;
     let loaded = judged(alloc, parsed)?;
-    let answer = loaded_answer(alloc, &loaded);
-    drop(loaded);
-    Ok(answer?)
+    Ok(loaded_answer(alloc, loaded)?)
 }
 
 /// The line of what is to be said of a plan.
-pub fn loaded_answer(alloc: Global, loaded: &Loaded) -> Result<Answer, AllocError>
-    ensures { IfOk result (IsLineOf loaded.now) }
+pub fn loaded_answer(alloc: Global, loaded: Loaded) -> Result<Answer, AllocError>
+    ensures { IfOk result (IsLineOf loaded) }
 {
     match loaded {
-        Loaded::NotShaped(fault) => not_shaped_answer(alloc, *fault),
+        Loaded::NotShaped(fault) => not_shaped_answer(alloc, fault),
         Loaded::Judged(verdict) => verdict_answer(alloc, verdict),
     }
 }
 
 /// The first line of a verdict, with its status.
-pub(crate) fn verdict_answer(alloc: Global, verdict: &Verdict) -> Result<Answer, AllocError>
-    ensures { IfOk result (IsLineOfVerdict verdict.now) }
+pub(crate) fn verdict_answer(alloc: Global, verdict: Verdict) -> Result<Answer, AllocError>
+    ensures { IfOk result (IsLineOfVerdict verdict) }
 {
-    let text = first_line(alloc, verdict)?;
-    let status = status_of(verdict);
+    let status = status_of(&verdict);
+    // No cell is made: the line is written of the plan alone.
+    let (shaped, said) = verdict.into_parts();
+    let text = first_line(alloc, &shaped, &said);
+    drop(shaped);
+    drop(said);
+    let text = text?;
     Ok(Answer { text, status })
 }
 
 /// The status of a verdict.
-pub(crate) fn status_of(verdict: &Verdict) -> u8
+fn status_of(verdict: &Verdict) -> u8
     ensures { result ≡ verdict_status verdict.now }
 {
     match verdict {

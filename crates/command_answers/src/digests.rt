@@ -10,7 +10,7 @@ use crate::lines::line_answer;
 use crate::shapes::unshaped_answer;
 use crate::texts::Texts;
 use event_lines::put_digits;
-use plan_digest::run_digits;
+use run_log::run_digits;
 use shop_base::Shaped;
 use std::alloc::{AllocError, Global};
 use text_lines::LineText;

@@ -1,23 +1,23 @@
 //! The command `explain`.
 
-ghost use Rattle.std.specs.Prelude.{◌<◌, None, IfOk, IfSome};
+ghost use Rattle.std.specs.Prelude.{IfOk};
 ghost use Rattle.std.specs.Option.{option_copied};
-ghost use Rattle.shop_base.specs.Plan.{jobs};
 ghost use Rattle.command_answers.specs.Readings.{AreTextsAnswered};
-ghost use Rattle.command_answers.specs.Explains.{IsExplanation, IsExplanationOf, IsPlanExplained, HasEvidence};
+ghost use Rattle.command_answers.specs.Explains.{IsExplanation, IsExplanationOf, HasEvidence};
+ghost use Rattle.command_answers.specs.declared.rests.PlanAnswer.TheVariants.{Reasons};
+ghost use Rattle.command_answers.specs.Rests.{AnswersPlan};
 ghost use Rattle.command_answers.specs.Steps.{IsOrMemory};
 ghost use Rattle.command_answers.specs.Commands.{IfThere, RunsExplain, WithNames};
 
 use crate::answer::{Answer, Answered};
 use crate::asked_job::{absent_job, no_job_answer};
-use crate::checks::status_of;
 use crate::inputs::{Files, shape_files};
 use crate::loading::{Loaded, load};
 use crate::naming::names_of;
+use crate::rests::{PlanAnswer, answer_plan, answer_verdict};
 use crate::shapes::{not_shaped_answer, unshaped_answer};
 use crate::texts::Texts;
 use people_names::Names;
-use plan_verifier::verify;
 use shop_base::{JobNo, Shaped};
 use std::alloc::{AllocError, Global};
 
@@ -28,9 +28,7 @@ pub fn explain(alloc: Global, instance: &[u8], name: Option<&[u8]>, plan: &[u8])
     ensures { AreTextsAnswered instance.now (option_copied name.entry) plan.now IsExplanation result }
 {
     let loaded = load(alloc, instance, name, plan)?;
-    let answer = loaded_explained(alloc, &loaded);
-    drop(loaded);
-    Ok(answer?)
+    Ok(loaded_explained(alloc, loaded)?)
 }
 
 /// Why the plan of a file is accepted or refused for the instance of another, with the names and the clock of a third,
@@ -58,7 +56,7 @@ fn shaped_explained<T: Texts>(
     job: Option<JobNo>,
 ) -> Answered
     ensures { IfThere T.gives job shaped (WithNames T.gives (option_copied names.entry) shaped
-        (λ book. IsOrMemory (IsPlanExplained book job shaped))) texts.old result texts.new }
+        (λ book. IsOrMemory (AnswersPlan book (Reasons job) shaped))) texts.old result texts.new }
 {
     if let Some(absent) = absent_job(&shaped, job) {
         drop(shaped);
@@ -66,7 +64,7 @@ fn shaped_explained<T: Texts>(
     }
     match names_of(alloc, texts, names, &shaped) {
         Ok(names) => {
-            let answer = plan_explained(alloc, &names, job, shaped);
+            let answer = answer_plan(alloc, &names, shaped, PlanAnswer::Reasons(job));
             drop(names);
             Ok(answer?)
         }
@@ -77,44 +75,20 @@ fn shaped_explained<T: Texts>(
     }
 }
 
-/// The explanation of the verdict on a plan.
-fn plan_explained(
-    alloc: Global,
-    names: &Names,
-    job: Option<JobNo>,
-    shaped: Shaped,
-) -> Result<Answer, AllocError>
-    requires { IfSome job (λ j. j < jobs shaped) }
-    ensures { IfOk result (IsPlanExplained names.now job shaped) }
-{
-    // Called for its clause alone: the plan is well shaped.
-    let _shop = shaped.shop();
-    match verify(alloc, shaped) {
-        Ok(verdict) => {
-            let text = plan_explain::explain(alloc, names, job, &verdict);
-            let status = status_of(&verdict);
-            drop(verdict);
-            let text = text?;
-            Ok(Answer { text, status })
-        }
-        Err((error, back)) => {
-            drop(back);
-            Err(error)
-        }
-    }
-}
-
 /// The explanation of what is said of a plan.
-fn loaded_explained(alloc: Global, loaded: &Loaded) -> Result<Answer, AllocError>
-    requires { HasEvidence loaded.now }
-    ensures { IfOk result (IsExplanationOf loaded.now) }
+fn loaded_explained(alloc: Global, loaded: Loaded) -> Result<Answer, AllocError>
+    requires { HasEvidence loaded }
+    ensures { IfOk result (IsExplanationOf loaded) }
 {
     match loaded {
-        Loaded::NotShaped(fault) => not_shaped_answer(alloc, *fault),
+        Loaded::NotShaped(fault) => not_shaped_answer(alloc, fault),
         Loaded::Judged(verdict) => {
-            let text = plan_explain::explain(alloc, &Names::none(alloc), None, verdict)?;
-            let status = status_of(verdict);
-            Ok(Answer { text, status })
+            answer_verdict(
+                alloc,
+                &Names::none(alloc),
+                verdict,
+                PlanAnswer::Reasons(None),
+            )
         }
     }
 }

@@ -63,7 +63,7 @@ pub use plans::answer_of_plan;
 pub use reading::read_whole;
 pub use rest_decides::decide_rest_answer;
 pub use rest_improves::improve_rest_answer;
-pub use rests::{PlanAnswer, answer_rest, past_answer, rest_answer};
+pub use rests::{PlanAnswer, answer_rest, rest_answer, run_fault_answer};
 pub use revises::{Revised, Revision, revise_answer};
 pub use schedules::schedule_answer;
 pub use search::plan_answer;

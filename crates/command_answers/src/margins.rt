@@ -59,11 +59,7 @@ fn plan_margin(alloc: Global, names: &Names, shaped: Shaped) -> Result<Answer, A
     // Called for its clause alone: the plan is well shaped.
     let _shop = shaped.shop();
     match verify(alloc, shaped) {
-        Ok(verdict) => {
-            let answer = verdict_margin(alloc, names, &verdict);
-            drop(verdict);
-            answer
-        }
+        Ok(verdict) => verdict_margin(alloc, names, verdict),
         Err((error, back)) => {
             drop(back);
             Err(error)
@@ -72,12 +68,16 @@ fn plan_margin(alloc: Global, names: &Names, shaped: Shaped) -> Result<Answer, A
 }
 
 /// The margin of a plan that is accepted, or the line of the verdict.
-fn verdict_margin(alloc: Global, names: &Names, verdict: &Verdict) -> Result<Answer, AllocError>
-    ensures { IfOk result (IsMarginAnswerOf names.now verdict.now) }
+fn verdict_margin(alloc: Global, names: &Names, verdict: Verdict) -> Result<Answer, AllocError>
+    ensures { IfOk result (IsMarginAnswerOf names.now verdict) }
 {
     match verdict {
-        Verdict::Accepted(verified) => verified_margin(alloc, names, verified),
-        Verdict::Refused(_, _) => verdict_answer(alloc, verdict),
+        Verdict::Accepted(verified) => {
+            let answer = verified_margin(alloc, names, &verified);
+            drop(verified);
+            answer
+        }
+        refused => verdict_answer(alloc, refused),
     }
 }
 

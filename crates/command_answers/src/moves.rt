@@ -4,26 +4,24 @@ ghost use Rattle.std.specs.Prelude.{◌≡◌, ◌≤◌, ◌++◌, List, ℕ, I
 ghost use Rattle.std.specs.Option.{option_copied};
 ghost use Rattle.shop_base.specs.declared.limits.TheConstants.{MAX_MOMENT};
 ghost use Rattle.shop_base.specs.Cell.{start};
-ghost use Rattle.shop_base.specs.Report.{IsNextMoment};
 ghost use Rattle.command_answers.specs.declared.command_fault.CommandFault.TheVariants.{Memory};
 ghost use Rattle.command_answers.specs.Moves.{AreLinesBelow, AreMovesOfLog, AreMovesOfPlan, IsMovesAnswer};
 ghost use Rattle.command_answers.specs.declared.rests.PlanAnswer.TheVariants.{Verdict};
-ghost use Rattle.command_answers.specs.Rests.{AnswersRest, IsCellAnswer};
+ghost use Rattle.command_answers.specs.Rests.{AnswersRest};
 ghost use Rattle.command_answers.specs.Steps.{IsOrMemory};
 ghost use Rattle.command_answers.specs.Commands.{RunsMoves, RunsRestMoves, WithNames, WithNamesAndLog};
 
 use crate::answer::{Answer, Answered, Outcome};
 use crate::command_fault::{CommandFault, Unanswered};
 use crate::inputs::{Ahead, Files, shape_files};
-use crate::logs::log_fault_answer;
 use crate::naming::{names_and_log, names_of};
-use crate::rests::{PlanAnswer, answer_rest, past_answer};
+use crate::rests::{PlanAnswer, answer_rest, run_fault_answer};
 use crate::shapes::unshaped_answer;
 use crate::texts::Texts;
-use cell_tables::WorkCell;
+use cell_tables::Rest;
 use people_names::Names;
 use plan_moves::{moves_from, push_move_lines};
-use run_log::{present_at, run_of_log};
+use run_log::{LoggedRest, rest_at};
 use shop_base::{Moment, Shaped};
 use std::alloc::Global;
 
@@ -102,8 +100,8 @@ fn shaped_rest_moves<T: Texts>(
 fn plan_moves(alloc: Global, names: &Names, shaped: Shaped) -> Answered
     ensures { IsOrMemory (IsMovesAnswer names.now shaped (start shaped) 0) result }
 {
-    match WorkCell::start(alloc, shaped) {
-        Ok(cell) => cell_moves(alloc, names, cell, 0),
+    match Rest::start(alloc, shaped) {
+        Ok(rest) => moves_ahead(alloc, names, rest),
         Err((error, back)) => {
             drop(back);
             Err(CommandFault::from(error))
@@ -122,72 +120,44 @@ fn log_moves(
     requires { IfSome at (λ present. present ≤ MAX_MOMENT) }
     ensures { IsOrMemory (AreMovesOfLog names.now at shaped log.now) result }
 {
-    match run_of_log(alloc, shaped, log) {
-        Ok(run) => moves_at(alloc, names, run.cell, at),
-        Err(fault) => log_fault_answer(alloc, fault),
+    match rest_at(alloc, shaped, log, at)? {
+        Ok(LoggedRest { rest, entries }) => {
+            drop(entries);
+            moves_ahead(alloc, names, rest)
+        }
+        Err(fault) => run_fault_answer(alloc, fault),
     }
 }
 
-/// The moves from a cell on, if the present moment isn't before its last one.
-fn moves_at(alloc: Global, names: &Names, cell: WorkCell<Shaped>, at: Option<Moment>) -> Answered
-    requires { IfSome at (λ present. present ≤ MAX_MOMENT) }
-    ensures { IsOrMemory (IsCellAnswer (IsMovesAnswer names.now) at cell.plan cell.cell) result }
+/// The moves of the rest of a run, below the line of the verdict on it.
+fn moves_ahead(alloc: Global, names: &Names, rest: Rest<Shaped>) -> Answered
+    ensures { IsOrMemory (IsMovesAnswer names.now rest.plan rest.cell rest.present) result }
 {
-    // Called for its clause alone: the cell is sound.
-    let _plan = cell.shaped();
-    let last = cell.last();
-    let present = present_at(at, last);
-    if present < last {
-        drop(cell);
-        return Ok(past_answer(alloc, last)?);
-    }
-    cell_moves(alloc, names, cell, present)
-}
-
-/// The moves from a cell and a present moment on.
-fn cell_moves(alloc: Global, names: &Names, cell: WorkCell<Shaped>, present: Moment) -> Answered
-    requires { IsNextMoment cell.cell present }
-    ensures { IsOrMemory (IsMovesAnswer names.now cell.plan cell.cell present) result }
-{
-    match answer_rest(alloc, names, &cell, present, PlanAnswer::Verdict) {
-        Ok(line) => moves_below(alloc, line, names, cell, present),
+    match answer_rest(alloc, names, &rest, PlanAnswer::Verdict) {
+        Ok(line) => moves_below(alloc, line, names, rest),
         Err(error) => {
-            drop(cell);
+            drop(rest);
             Err(CommandFault::from(error))
         }
     }
 }
 
-/// The moves from a cell and a present moment on, below the line of the verdict on the rest.
-fn moves_below(
-    alloc: Global,
-    mut line: Answer,
-    names: &Names,
-    cell: WorkCell<Shaped>,
-    present: Moment,
-) -> Answered
-    requires next { IsNextMoment cell.cell present }
-    requires line { AnswersRest names.now Verdict cell.plan cell.cell present line }
-    ensures { IsOrMemory (IsMovesAnswer names.now cell.plan cell.cell present) result }
+/// The moves of the rest of a run, below this line of the verdict on it.
+fn moves_below(alloc: Global, mut line: Answer, names: &Names, rest: Rest<Shaped>) -> Answered
+    requires { AnswersRest names.now Verdict rest.plan rest.cell rest.present line }
+    ensures { IsOrMemory (IsMovesAnswer names.now rest.plan rest.cell rest.present) result }
 {
-    push_moves(alloc, &mut line.text, names, cell, present)?;
+    push_moves(alloc, &mut line.text, names, rest)?;
     Ok(line)
 }
 
 /// Adds a line for each move. A plan with a cycle has none.
-fn push_moves(
-    alloc: Global,
-    text: &mut Vec<u8>,
-    names: &Names,
-    cell: WorkCell<Shaped>,
-    present: Moment,
-) -> Outcome<()>
-    requires { IsNextMoment cell.cell present }
-    ensures lines { OnOk result ((lines : List ℕ) × AreLinesBelow names.now cell.plan cell.cell present lines
+fn push_moves(alloc: Global, text: &mut Vec<u8>, names: &Names, rest: Rest<Shaped>) -> Outcome<()>
+    ensures lines { OnOk result ((lines : List ℕ) × AreLinesBelow names.now rest.plan rest.cell rest.present lines
         × (text.new.items ≡ text.old.items ++ lines)) }
     ensures fault { IfErr result (λ fault. fault ≡ Memory) }
 {
-    match moves_from(alloc, cell, present) {
+    match moves_from(alloc, rest) {
         Ok(moves) => {
             let pushed = push_move_lines(text, names, &moves);
             drop(moves);

@@ -4,17 +4,16 @@ ghost use Rattle.std.specs.Prelude.{◌≡◌, ◌≤◌, IfOk, IfSome};
 ghost use Rattle.std.specs.Option.{option_copied};
 ghost use Rattle.shop_base.specs.Plan.{jobs};
 ghost use Rattle.shop_base.specs.declared.limits.TheConstants.{MAX_MOMENT};
-ghost use Rattle.shop_base.specs.Report.{IsNextMoment};
 ghost use Rattle.plan_verifier.specs.Rest.{AreOrderedAhead};
 ghost use Rattle.run_picture.specs.Late.{late_leavings};
 ghost use Rattle.run_picture.specs.PictureText.{IsPicture};
 ghost use Rattle.run_gantt.specs.DrawnVisits.{drawn_visits};
 ghost use Rattle.run_gantt.specs.LeavingsSoFar.{leavings_so_far};
-ghost use Rattle.plan_explain.specs.RestVerdicts.{IsRestJudged};
+ghost use Rattle.plan_explain.specs.Known.{IsJudged};
 ghost use Rattle.command_answers.specs.Steps.{IsOrMemory};
 ghost use Rattle.command_answers.specs.Commands.{WithNames, WithNamesAndLog};
 ghost use Rattle.command_answers.specs.Shapes.{IsRefusedLine};
-ghost use Rattle.command_answers.specs.Pictures.{DrawsLog, DrawsRest, DrawsSchedule, IsCellDrawn, IsLineAlone, IsLogDrawn};
+ghost use Rattle.command_answers.specs.Pictures.{DrawsLog, DrawsRest, DrawsSchedule, IsLineAlone, IsLogDrawn};
 ghost use Rattle.command_answers.specs.Pictures.{IsPlanDrawn, IsRestDrawing, IsRestDrawn, IsRunPicture, IsVerdictDrawn};
 ghost use Rattle.command_answers.specs.Pictures.{line_at, log_sheet, run_head, run_sheet};
 
@@ -23,16 +22,16 @@ use crate::inputs::{Ahead, Files, shape_files};
 use crate::logs::log_fault_answer;
 use crate::naming::{names_and_log, names_of};
 use crate::rest_improves::cycle_answer;
-use crate::rests::past_answer;
+use crate::rests::run_fault_answer;
 use crate::shapes::not_shaped_answer;
 use crate::texts::Texts;
 use alt_graph::Times;
-use cell_tables::{Entry, WorkCell};
+use cell_tables::{Entry, Rest};
 use people_names::Names;
 use plan_schedule::{DrawnRun, drawn_run};
-use plan_verifier::{Judged, Why, verify_after};
-use run_log::{Audit, audit, present_at, run_of_log};
-use run_picture::{DrawnVisit, Head, Picture, Sheet, last_moment, late_leavings, lateness, latest};
+use plan_verifier::{Judged, Why, judge};
+use run_log::{Audit, audit, rest_at};
+use run_picture::{DrawnVisit, Head, Picture, Sheet, last_moment, late_leavings, latest};
 use shop_base::{Moment, ShapeFault, Shaped};
 use std::alloc::{AllocError, Global};
 
@@ -172,17 +171,10 @@ fn shaped_drawn<T: Texts>(
 fn plan_drawn(alloc: Global, names: Names, shaped: Shaped) -> Result<Drawn, AllocError>
     ensures { IfOk result (IsPlanDrawn names shaped) }
 {
-    match WorkCell::start(alloc, shaped) {
-        Ok(cell) => {
-            let rest = RestToDraw {
-                names,
-                cell: &cell,
-                present: 0,
-                line: None,
-                visits: &[],
-            };
-            let drawn = rest_drawn(alloc, rest);
-            drop(cell);
+    match Rest::start(alloc, shaped) {
+        Ok(rest) => {
+            let drawn = rest_drawn(alloc, names, &rest, None, &[]);
+            drop(rest);
             drawn
         }
         Err((error, back)) => {
@@ -243,46 +235,30 @@ fn rest_of_log(
     requires { IfSome at (λ present. present ≤ MAX_MOMENT) }
     ensures { IsOrMemory (IsRestDrawing at names shaped log.now) result }
 {
-    match run_of_log(alloc, shaped, log) {
+    match rest_at(alloc, shaped, log, at)? {
         Ok(run) => {
-            let drawn = cell_drawn(alloc, names, &run.cell, at, &run.entries);
+            let drawn = run_drawn(alloc, names, &run.rest, at, &run.entries);
             drop(run);
             Ok(drawn?)
         }
-        Err(fault) => Ok(Drawn::Line(log_fault_answer(alloc, fault)?)),
+        Err(fault) => Ok(Drawn::Line(run_fault_answer(alloc, fault)?)),
     }
 }
 
-/// Draws the run of these entries and its rest from their cell on, if the present moment isn't before its last one.
-fn cell_drawn(
+/// Draws the run of these entries and its rest.
+fn run_drawn(
     alloc: Global,
     names: Names,
-    cell: &WorkCell<Shaped>,
+    rest: &Rest<Shaped>,
     at: Option<Moment>,
     entries: &[Entry],
 ) -> Result<Drawn, AllocError>
-    requires { IfSome at (λ present. present ≤ MAX_MOMENT) }
-    ensures { IfOk result (IsCellDrawn at names cell.now.plan cell.now.cell entries.now) }
+    ensures { let r = rest.now in let p = r.plan in let line = line_at at entries.now r.present in
+        IfOk result (IsRestDrawn names p r.cell r.present line (drawn_visits p entries.now)) }
 {
-    // Called for its clause alone: the cell is sound.
-    let shaped = cell.shaped();
-    let last = cell.last();
-    let present = present_at(at, last);
-    if present < last {
-        return Ok(Drawn::Line(past_answer(alloc, last)?));
-    }
-    let visits = run_gantt::drawn_visits(alloc, shaped, entries)?;
-    let line = line_at(at, entries, present);
-    rest_drawn(
-        alloc,
-        RestToDraw {
-            names,
-            cell,
-            present,
-            line,
-            visits: &visits,
-        },
-    )
+    let visits = run_gantt::drawn_visits(alloc, rest.shaped(), entries)?;
+    let line = line_at(at, entries, rest.present());
+    rest_drawn(alloc, names, rest, line, &visits)
 }
 
 /// The moment that has a line: the present one, unless no moment is given and the log records nothing.
@@ -295,74 +271,72 @@ fn line_at(at: Option<Moment>, entries: &[Entry], present: Moment) -> Option<Mom
     Some(present)
 }
 
-/// The rest of a run, as it is to be drawn: by these names, from a cell and a present moment on, with the moment that
-/// has a line, and the visits that are known so far.
-#[derive(Drop)]
-struct RestToDraw<'a> {
+/// Draws the rest by the verdict on it: with these names, with a line at this moment, if there is one, and behind the
+/// visits that are known so far.
+fn rest_drawn(
+    alloc: Global,
     names: Names,
-    cell: &'a WorkCell<Shaped>,
-    present: Moment,
+    rest: &Rest<Shaped>,
     line: Option<Moment>,
-    visits: &'a [DrawnVisit],
-}
-
-/// Draws the rest by the verdict on it.
-fn rest_drawn(alloc: Global, rest: RestToDraw<'_>) -> Result<Drawn, AllocError>
-    requires { IsNextMoment rest.cell.now.cell rest.present }
-    ensures { let r = rest.entry in
-        IfOk result (IsRestDrawn r.names r.cell.now.plan r.cell.now.cell r.present r.line r.visits.now) }
+    visits: &[DrawnVisit],
+) -> Result<Drawn, AllocError>
+    ensures { let r = rest.now in IfOk result (IsRestDrawn names r.plan r.cell r.present line visits.now) }
 {
-    let verdict = verify_after(alloc, rest.cell, rest.present)?;
-    let drawn = verdict_drawn(alloc, rest, &verdict);
+    let verdict = judge(alloc, rest)?;
+    let drawn = verdict_drawn(alloc, names, rest, line, visits, &verdict);
     drop(verdict);
     drawn
 }
 
 /// Draws what the verdict on the rest is about, with its status. Of a cycle there is its line.
-fn verdict_drawn(alloc: Global, rest: RestToDraw<'_>, verdict: &Judged) -> Result<Drawn, AllocError>
-    requires present { IsNextMoment rest.cell.now.cell rest.present }
-    requires judged { IsRestJudged rest.cell.now.plan rest.cell.now.cell rest.present verdict.now }
-    ensures { let r = rest.entry in
-        IfOk result (IsVerdictDrawn r.names r.cell.now.plan r.cell.now.cell r.present r.line r.visits.now verdict.now) }
+fn verdict_drawn(
+    alloc: Global,
+    names: Names,
+    rest: &Rest<Shaped>,
+    line: Option<Moment>,
+    visits: &[DrawnVisit],
+    verdict: &Judged,
+) -> Result<Drawn, AllocError>
+    requires { IsJudged rest.now.plan rest.now.cell rest.now.present verdict.now }
+    ensures { let r = rest.now in
+        IfOk result (IsVerdictDrawn names r.plan r.cell r.present line visits.now verdict.now) }
 {
     match verdict {
         Judged::Accepted(times) => {
-            let picture = run_picture(alloc, rest, times, true)?;
+            let picture = run_picture(alloc, names, rest, line, visits, times, true)?;
             let status = GOOD;
             Ok(Drawn::Picture { picture, status })
         }
         Judged::Refused(Why::Late { times, .. }) => {
-            let picture = run_picture(alloc, rest, times, false)?;
+            let picture = run_picture(alloc, names, rest, line, visits, times, false)?;
             let status = REFUSED;
             Ok(Drawn::Picture { picture, status })
         }
-        Judged::Refused(Why::Cycle(nodes)) => Ok(Drawn::Line(cycle_answer(alloc, nodes)?)),
+        Judged::Refused(Why::Cycle(nodes)) => {
+            drop(names);
+            Ok(Drawn::Line(cycle_answer(alloc, nodes)?))
+        }
     }
 }
 
 /// The picture of the rest by its earliest moments.
 fn run_picture(
     alloc: Global,
-    rest: RestToDraw<'_>,
+    names: Names,
+    rest: &Rest<Shaped>,
+    line: Option<Moment>,
+    visits: &[DrawnVisit],
     times: &Times,
     in_time: bool,
 ) -> Result<Picture, AllocError>
-    requires present { IsNextMoment rest.cell.now.cell rest.present }
-    requires ordered { AreOrderedAhead rest.cell.now.plan rest.cell.now.cell rest.present times.now }
-    ensures { let r = rest.entry in
-        IfOk result (IsRunPicture r.names r.cell.now.plan r.cell.now.cell r.present r.line r.visits.now in_time) }
+    requires { AreOrderedAhead rest.now.plan rest.now.cell rest.now.present times.now }
+    ensures { let r = rest.now in
+        IfOk result (IsRunPicture names r.plan r.cell r.present line visits.now in_time) }
 {
-    let RestToDraw {
-        names,
-        cell,
-        present,
-        line,
-        visits,
-    } = rest;
-    let run = drawn_run(alloc, cell, present, times, visits)?;
-    let shaped = cell.shaped();
+    let run = drawn_run(alloc, rest, times, visits)?;
+    let shaped = rest.shaped();
     let late = late_leavings(alloc, shaped, &run.leavings)?;
-    let sheet = run_sheet(shaped, present, line, in_time, &run);
+    let sheet = run_sheet(shaped, rest.present(), line, in_time, &run);
     Ok(Picture::new(names, sheet, run.visits, late))
 }
 
@@ -379,22 +353,20 @@ fn run_sheet(
     Sheet {
         machines: shaped.machine_count(),
         last: last_moment(&run.visits).max(present),
-        head: run_head(in_time, shaped, &run.leavings),
+        head: run_head(in_time, run),
         present: line,
     }
 }
 
-/// What stands above the rows of such a run.
-fn run_head(in_time: bool, shaped: &Shaped, leavings: &[Option<Moment>]) -> Head
-    ensures { result ≡ run_head in_time shaped.now leavings.now }
+/// What stands above the rows of such a run, of whose rest this is the verdict.
+fn run_head(in_time: bool, run: &DrawnRun) -> Head
+    ensures { result ≡ run_head in_time run.now }
 {
     if in_time {
         Head::Accepted {
-            makespan: latest(leavings),
+            makespan: latest(&run.leavings),
         }
     } else {
-        Head::Late {
-            by: lateness(shaped, leavings),
-        }
+        Head::Late { by: run.late_by }
     }
 }

@@ -1,16 +1,15 @@
-//! The commands `check`, `explain` and `schedule` of the rest of a run.
+//! What is answered of a plan, and of the rest of a run: the commands `check`, `explain` and `schedule` of a log.
 
 ghost use Rattle.std.specs.Prelude.{◌≡◌, ◌<◌, ◌≤◌, IfOk, IfSome};
 ghost use Rattle.std.specs.Option.{option_copied};
 ghost use Rattle.shop_base.specs.Plan.{jobs};
 ghost use Rattle.shop_base.specs.declared.limits.TheConstants.{MAX_MOMENT};
-ghost use Rattle.shop_base.specs.Report.{IsNextMoment};
-ghost use Rattle.command_answers.specs.Rests.{IsRestLine, IsCellAnswer, IsPastLine, AnswersRest};
+ghost use Rattle.command_answers.specs.Rests.{IsRestLine, IsPastLine, AnswersPlan, AnswersRest};
 ghost use Rattle.command_answers.specs.Rests.{HasLine, IsRunFaultAnswer, IsTextOf, job_asked, rest_status};
 ghost use Rattle.command_answers.specs.Steps.{IsOrMemory};
 ghost use Rattle.command_answers.specs.Commands.{IfThere, RunsRest, WithNamesAndLog};
-ghost use Rattle.plan_explain.specs.RestVerdicts.{IsRestJudged};
-ghost use Rattle.plan_verifier.specs.Seen.{lent};
+ghost use Rattle.plan_explain.specs.Known.{IsJudged};
+ghost use Rattle.plan_verifier.specs.{Seen.judged, Verdicts.IsReason, Verdicts.OnRefused};
 
 use crate::answer::{Answer, Answered, GOOD, REFUSED};
 use crate::asked_job::{absent_job, no_job_answer};
@@ -20,12 +19,12 @@ use crate::logs::log_fault_answer;
 use crate::naming::names_and_log;
 use crate::shapes::unshaped_answer;
 use crate::texts::Texts;
-use cell_tables::WorkCell;
+use cell_tables::{PresentFault, Rest};
 use people_names::Names;
-use plan_explain::{explain_after, first_line_after};
-use plan_schedule::schedule_after;
-use plan_verifier::{Judged, Seen, verify_after};
-use run_log::{RunFault, present_at, run_of_log};
+use plan_explain::{explain, first_line};
+use plan_schedule::schedule;
+use plan_verifier::{Judged, Verdict, judge, verify};
+use run_log::{RunFault, rest_at};
 use shop_base::{JobNo, Moment, Planned, Shaped};
 use std::alloc::{AllocError, Global};
 
@@ -115,52 +114,30 @@ fn answer_rest_of_log(
     requires job { IfSome (job_asked wanted) (λ j. j < jobs shaped) }
     ensures { IsOrMemory (IsRestLine names.now wanted at shaped log.now) result }
 {
-    match run_of_log(alloc, shaped, log) {
+    match rest_at(alloc, shaped, log, at)? {
         Ok(run) => {
-            let answer = cell_answered(alloc, names, &run.cell, at, wanted);
+            let answer = answer_rest(alloc, names, &run.rest, wanted);
             drop(run);
             Ok(answer?)
         }
-        Err(fault) => log_fault_answer(alloc, fault),
+        Err(fault) => run_fault_answer(alloc, fault),
     }
-}
-
-/// What is answered for the rest from a cell on, if the present moment isn't before its last one.
-fn cell_answered(
-    alloc: Global,
-    names: &Names,
-    cell: &WorkCell<Shaped>,
-    at: Option<Moment>,
-    wanted: PlanAnswer,
-) -> Result<Answer, AllocError>
-    requires present { IfSome at (λ present. present ≤ MAX_MOMENT) }
-    requires job { IfSome (job_asked wanted) (λ j. j < jobs cell.now.plan) }
-    ensures { IfOk result (IsCellAnswer (AnswersRest names.now wanted) at cell.now.plan cell.now.cell) }
-{
-    // Called for its clause alone: the cell is sound.
-    let _plan = cell.shaped();
-    let last = cell.last();
-    let present = present_at(at, last);
-    if present < last {
-        return past_answer(alloc, last);
-    }
-    answer_rest(alloc, names, cell, present, wanted)
 }
 
 /// The line that says why there is no run up to the present moment: of the log's first fault, or of a moment that is past.
-pub(crate) fn run_fault_answer(alloc: Global, fault: RunFault) -> Answered
+pub fn run_fault_answer(alloc: Global, fault: RunFault) -> Answered
     requires { HasLine fault }
     ensures { IsRunFaultAnswer fault result }
 {
     match fault {
         RunFault::Log(fault) => log_fault_answer(alloc, fault),
-        RunFault::Past { last } => Ok(past_answer(alloc, last)?),
-        RunFault::MomentTooLarge => unreachable!(),
+        RunFault::Present(PresentFault::Past { last }) => Ok(past_answer(alloc, last)?),
+        RunFault::Present(PresentFault::TooLarge) => unreachable!(),
     }
 }
 
 /// The line of a present moment before the last one.
-pub fn past_answer(alloc: Global, last: Moment) -> Result<Answer, AllocError>
+fn past_answer(alloc: Global, last: Moment) -> Result<Answer, AllocError>
     ensures { IfOk result (IsPastLine last) }
 {
     let (mut text, status) = (Vec::new(alloc), REFUSED);
@@ -169,49 +146,106 @@ pub fn past_answer(alloc: Global, last: Moment) -> Result<Answer, AllocError>
     Ok(Answer { text, status })
 }
 
-/// What is answered for the rest from a cell and a present moment on: the text of the verdict on it, with its status.
-pub fn answer_rest<P: Planned>(
+/// What is answered for a whole plan, which is the rest of a run that hasn't begun.
+pub(crate) fn answer_plan(
     alloc: Global,
     names: &Names,
-    cell: &WorkCell<P>,
-    present: Moment,
+    shaped: Shaped,
     wanted: PlanAnswer,
 ) -> Result<Answer, AllocError>
-    requires present { IsNextMoment cell.now.cell present }
-    requires job { IfSome (job_asked wanted) (λ j. j < jobs cell.now.plan) }
-    ensures { IfOk result (AnswersRest names.now wanted cell.now.plan cell.now.cell present) }
+    requires { IfSome (job_asked wanted) (λ j. j < jobs shaped) }
+    ensures { IfOk result (AnswersPlan names.now wanted shaped) }
 {
-    let verdict = verify_after(alloc, cell, present)?;
-    let text = verdict_text(alloc, names, cell, present, verdict.seen(), wanted);
-    let status = rest_status(&verdict);
-    drop(verdict);
-    let text = text?;
-    Ok(Answer { text, status })
-}
-
-/// The text of a verdict on the rest.
-fn verdict_text<P: Planned>(
-    alloc: Global,
-    names: &Names,
-    cell: &WorkCell<P>,
-    present: Moment,
-    verdict: Seen<'_>,
-    wanted: PlanAnswer,
-) -> Result<Vec<u8>, AllocError>
-    requires present { IsNextMoment cell.now.cell present }
-    requires job { IfSome (job_asked wanted) (λ j. j < jobs cell.now.plan) }
-    requires judged { IsRestJudged cell.now.plan cell.now.cell present (lent verdict) }
-    ensures { let p = cell.now.plan in
-        IfOk result (λ text. IsTextOf names.now wanted p cell.now.cell present (lent verdict.entry) text.items) }
-{
-    match wanted {
-        PlanAnswer::Verdict => first_line_after(alloc, cell, verdict),
-        PlanAnswer::Reasons(job) => explain_after(alloc, names, job, cell, present, verdict),
-        PlanAnswer::Moments => schedule_after(alloc, names, cell, present, verdict),
+    match verify(alloc, shaped) {
+        Ok(verdict) => answer_verdict(alloc, names, verdict, wanted),
+        Err((error, back)) => {
+            drop(back);
+            Err(error)
+        }
     }
 }
 
-/// The status of a verdict on the rest.
+/// What is answered for a whole plan by the verdict on it.
+pub(crate) fn answer_verdict(
+    alloc: Global,
+    names: &Names,
+    verdict: Verdict,
+    wanted: PlanAnswer,
+) -> Result<Answer, AllocError>
+    requires job { IfSome (job_asked wanted) (λ j. j < jobs (judged verdict)) }
+    requires evidence { OnRefused IsReason verdict }
+    ensures { IfOk result (AnswersPlan names.now wanted (judged verdict)) }
+{
+    let (shaped, said) = verdict.into_parts();
+    match Rest::start(alloc, shaped) {
+        Ok(rest) => {
+            let answer = answer_judged(alloc, names, &rest, &said, wanted);
+            drop(rest);
+            drop(said);
+            answer
+        }
+        Err((error, back)) => {
+            drop(back);
+            drop(said);
+            Err(error)
+        }
+    }
+}
+
+/// What is answered for the rest of a run: the text of the verdict on it, with its status.
+pub fn answer_rest<P: Planned>(
+    alloc: Global,
+    names: &Names,
+    rest: &Rest<P>,
+    wanted: PlanAnswer,
+) -> Result<Answer, AllocError>
+    requires { IfSome (job_asked wanted) (λ j. j < jobs rest.now.plan) }
+    ensures { IfOk result (AnswersRest names.now wanted rest.now.plan rest.now.cell rest.now.present) }
+{
+    let verdict = judge(alloc, rest)?;
+    let answer = answer_judged(alloc, names, rest, &verdict, wanted);
+    drop(verdict);
+    answer
+}
+
+/// What is answered for the rest of a run by the verdict on it.
+fn answer_judged<P: Planned>(
+    alloc: Global,
+    names: &Names,
+    rest: &Rest<P>,
+    verdict: &Judged,
+    wanted: PlanAnswer,
+) -> Result<Answer, AllocError>
+    requires job { IfSome (job_asked wanted) (λ j. j < jobs rest.now.plan) }
+    requires judged { IsJudged rest.now.plan rest.now.cell rest.now.present verdict.now }
+    ensures { IfOk result (AnswersRest names.now wanted rest.now.plan rest.now.cell rest.now.present) }
+{
+    let text = verdict_text(alloc, names, rest, verdict, wanted)?;
+    let status = rest_status(verdict);
+    Ok(Answer { text, status })
+}
+
+/// The text of a verdict.
+fn verdict_text<P: Planned>(
+    alloc: Global,
+    names: &Names,
+    rest: &Rest<P>,
+    verdict: &Judged,
+    wanted: PlanAnswer,
+) -> Result<Vec<u8>, AllocError>
+    requires job { IfSome (job_asked wanted) (λ j. j < jobs rest.now.plan) }
+    requires judged { IsJudged rest.now.plan rest.now.cell rest.now.present verdict.now }
+    ensures { let r = rest.now in
+        IfOk result (λ text. IsTextOf names.now wanted r.plan r.cell r.present verdict.now text.items) }
+{
+    match wanted {
+        PlanAnswer::Verdict => first_line(alloc, rest, verdict),
+        PlanAnswer::Reasons(job) => explain(alloc, names, job, rest, verdict),
+        PlanAnswer::Moments => schedule(alloc, names, rest, verdict),
+    }
+}
+
+/// The status of a verdict.
 pub(crate) fn rest_status(verdict: &Judged) -> u8
     ensures { result ≡ rest_status verdict.now }
 {

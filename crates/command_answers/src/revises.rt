@@ -2,11 +2,10 @@
 
 ghost use Rattle.std.specs.Prelude.{◌≡◌, ◌≤◌, ◌++◌, [], IfOk, IfSome, OnOk, map, get_or};
 ghost use Rattle.shop_base.specs.declared.limits.TheConstants.{MAX_MOMENT};
-ghost use Rattle.shop_base.specs.Report.{IsNextMoment};
-ghost use Rattle.plan_explain.specs.RestVerdicts.{IsRestJudged};
+ghost use Rattle.plan_explain.specs.Known.{IsJudged};
 ghost use Rattle.command_answers.specs.Commands.{RunsRevise, WithLogOf};
 ghost use Rattle.command_answers.specs.Revising.{IsChanged, IsInstanceAnswer, IsPrinted, IsReviseAnswer, IsPlaced};
-ghost use Rattle.command_answers.specs.Revising.{IsRevisedFrom, IsRevisedRest, IsUnrevised, change_refused_line};
+ghost use Rattle.command_answers.specs.Revising.{IsRevisedRest, IsUnrevised, change_refused_line};
 ghost use Rattle.command_answers.specs.Revising.{flag_of, is_printable, printable_part};
 ghost use Rattle.command_answers.specs.Steps.{Concludes, IsOrMemory, Then};
 ghost use Rattle.command_answers.specs.Texts.{Asks};
@@ -15,17 +14,16 @@ use crate::answer::{Answer, Answered, GOOD, REFUSED};
 use crate::command_fault::{CommandFault, Unrevised};
 use crate::inputs::{InputPaths, ParsedInputs};
 use crate::lines::document_answer;
-use crate::logs::log_fault_answer;
 use crate::readings::{instance, plan};
 use crate::rest_improves::cycle_answer;
-use crate::rests::past_answer;
+use crate::rests::run_fault_answer;
 use crate::shapes::not_shaped_answer;
 use crate::texts::Texts;
-use cell_tables::WorkCell;
+use cell_tables::Rest;
 use orlib_read::{Named, NotWritten, instance_document};
 use plan_revise::{Change, ChangeFault, revise};
-use plan_verifier::{Judged, Why, verify_after};
-use run_log::{present_at, run_of_log};
+use plan_verifier::{Judged, Why, judge};
+use run_log::rest_at;
 use shop_base::{Moment, Shaped, Shop};
 use std::alloc::{AllocError, Global};
 
@@ -135,51 +133,28 @@ fn log_revised(
     ensures { IsReviseAnswer wanted.entry.prints description.now wanted.entry.at wanted.entry.changes.now
         (map (λ value. value.now) wanted.entry.values.now) shaped log.now result }
 {
-    match run_of_log(alloc, shaped, log) {
+    match rest_at(alloc, shaped, log, wanted.at)? {
         Ok(run) => {
-            let answer = cell_revised(alloc, &run.cell, description, wanted);
+            let answer = rest_revised(alloc, &run.rest, description, wanted);
             drop(run);
             answer
         }
-        Err(fault) => log_fault_answer(alloc, fault),
+        Err(fault) => run_fault_answer(alloc, fault),
     }
 }
 
-/// What is answered from a cell on, if the present moment isn't before its last one.
-fn cell_revised(
-    alloc: Global,
-    cell: &WorkCell<Shaped>,
-    description: &[u8],
-    wanted: Revision<'_>,
-) -> Answered
-    requires { IfSome wanted.at (λ present. present ≤ MAX_MOMENT) }
-    ensures { IsRevisedFrom wanted.entry.prints description.now wanted.entry.at wanted.entry.changes.now
-        (map (λ value. value.now) wanted.entry.values.now) cell.now.plan cell.now.cell result }
-{
-    // Called for its clause alone: the cell is sound.
-    let _plan = cell.shaped();
-    let last = cell.last();
-    let present = present_at(wanted.at, last);
-    if present < last {
-        return Ok(past_answer(alloc, last)?);
-    }
-    rest_revised(alloc, cell, present, description, wanted)
-}
-
-/// What is answered from a cell and a present moment on, if the plan has no cycle.
+/// What is answered for the rest of a run, if the plan has no cycle.
 fn rest_revised(
     alloc: Global,
-    cell: &WorkCell<Shaped>,
-    present: Moment,
+    rest: &Rest<Shaped>,
     description: &[u8],
     wanted: Revision<'_>,
 ) -> Answered
-    requires { IsNextMoment cell.now.cell present }
     ensures { IsRevisedRest wanted.entry.prints description.now wanted.entry.changes.now
-        (map (λ value. value.now) wanted.entry.values.now) cell.now.plan cell.now.cell present result }
+        (map (λ value. value.now) wanted.entry.values.now) rest.now.plan rest.now.cell rest.now.present result }
 {
-    let verdict = verify_after(alloc, cell, present)?;
-    let answer = verdict_revised(alloc, cell, present, &verdict, description, wanted);
+    let verdict = judge(alloc, rest)?;
+    let answer = verdict_revised(alloc, rest, &verdict, description, wanted);
     drop(verdict);
     answer
 }
@@ -187,37 +162,28 @@ fn rest_revised(
 /// What is answered by the verdict on the rest.
 fn verdict_revised(
     alloc: Global,
-    cell: &WorkCell<Shaped>,
-    present: Moment,
+    rest: &Rest<Shaped>,
     verdict: &Judged,
     description: &[u8],
     wanted: Revision<'_>,
 ) -> Answered
-    requires next { IsNextMoment cell.now.cell present }
-    requires judged { IsRestJudged cell.now.plan cell.now.cell present verdict.now }
+    requires { IsJudged rest.now.plan rest.now.cell rest.now.present verdict.now }
     ensures { IsRevisedRest wanted.entry.prints description.now wanted.entry.changes.now
-        (map (λ value. value.now) wanted.entry.values.now) cell.now.plan cell.now.cell present result }
+        (map (λ value. value.now) wanted.entry.values.now) rest.now.plan rest.now.cell rest.now.present result }
 {
     match verdict {
         Judged::Refused(Why::Cycle(nodes)) => Ok(cycle_answer(alloc, nodes)?),
-        Judged::Refused(Why::Late { .. }) => changed(alloc, cell, present, description, wanted),
-        Judged::Accepted(_) => changed(alloc, cell, present, description, wanted),
+        Judged::Refused(Why::Late { .. }) => changed(alloc, rest, description, wanted),
+        Judged::Accepted(_) => changed(alloc, rest, description, wanted),
     }
 }
 
 /// What is printed once the changes are made, or the line of the first that can't be.
-fn changed(
-    alloc: Global,
-    cell: &WorkCell<Shaped>,
-    present: Moment,
-    description: &[u8],
-    wanted: Revision<'_>,
-) -> Answered
-    requires { cell.now.cell.last ≤ present }
+fn changed(alloc: Global, rest: &Rest<Shaped>, description: &[u8], wanted: Revision<'_>) -> Answered
     ensures { IsChanged wanted.entry.prints description.now wanted.entry.changes.now
-        (map (λ value. value.now) wanted.entry.values.now) cell.now.plan cell.now.cell present result }
+        (map (λ value. value.now) wanted.entry.values.now) rest.now.plan rest.now.cell rest.now.present result }
 {
-    match revise(alloc, cell, present, wanted.changes) {
+    match revise(alloc, rest, wanted.changes) {
         Ok(shaped) => {
             let answer = printed(alloc, &shaped, description, wanted.prints);
             drop(shaped);

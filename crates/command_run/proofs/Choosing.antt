@@ -1,14 +1,15 @@
 -- What the command that was chosen runs, and what is answered of its log.
-use Rattle.std.proofs.Common.{◌≡◌, ℕ, List, Option, None, Some, IfSome, Result, sym, subst}
+use Rattle.std.proofs.Common.{◌≡◌, ◌==◌, ◌&&◌, if◌then◌else◌, ℕ, List, Bool, true, false, Option, None, Some, IfSome, Result, Err, sym, subst, refl}
 use Rattle.command_words.specs.Choice.{IsChoiceOf, found_in}
 use Rattle.command_words.specs.declared.words.Chosen.{Chosen}
 use Rattle.cell_drive.specs.declared.protocol.Protocol.{Protocol}
 use Rattle.command_answers.specs.Commands.{InputPaths}
 use Rattle.command_answers.specs.declared.answer.Answer.{Answer}
 use Rattle.command_answers.specs.declared.command_fault.CommandFault.{CommandFault}
+use Rattle.command_answers.specs.declared.command_fault.CommandFault.TheVariants.{Log}
 use Rattle.command_run.specs.Streams.{Devices, Streams}
 use Rattle.command_run.specs.Logs.{IsHistoryOfLog, LogEnd, step_of}
-use Rattle.command_run.specs.Program.{IsHistoryOfChosen, IsHistoryOfWords, NoLog, RunsChosen, RunsCommand, RunsLoggedDrive, kept_log_in, protocol_in, inputs_in}
+use Rattle.command_run.specs.Program.{IsHistoryOfChosen, IsHistoryOfWords, IsShown, NoLog, RunsChosen, RunsCommand, RunsLoggedDrive, kept_log_in, protocol_in, inputs_in, status_by}
 
 module _ {W : Type 0} (gives : W → List ℕ → Result (List ℕ) CommandFault → W → Type 0) where
   pub unlogged : (chosen : Chosen) (before after : Devices W) (outcome : Result Answer CommandFault) (mid : Streams) → kept_log_in chosen ≡ None
@@ -33,6 +34,19 @@ module _ {W : Type 0} (gives : W → List ℕ → Result (List ℕ) CommandFault
       → IfSome known (IsHistoryOfChosen gives chosen before)
   history_of_chosen words chosen before None choice is = tt
   history_of_chosen words chosen before (Some t) choice is = is chosen choice
+
+-- where the output goes is the same of devices that are seen the same
+pub shown_as : {W : Type 0} (log : Option (List ℕ)) (shown : Bool) (one other : Devices W) → one ≡ other → IsShown log one.folder shown → IsShown log other.folder shown
+shown_as {W} log shown one other same is = subst (λ (d : Devices W). IsShown log d.folder shown) same is
+
+-- where the output goes to the log that a command is given, its status is that of the fault, also where it keeps that log
+pub refused_status : (kept : Option (List ℕ)) (own : ℕ) → own ≡ status_by kept None (Err Log) own
+refused_status None own = refl
+refused_status (Some path) own = by (own == 5)
+  where
+    by : (five : Bool) → own ≡ (if five && false then 6 else own)
+    by true = refl
+    by false = refl
 
 -- what is answered of the rest of a run, and of a plan, as the words ask for it
 pub ahead_asked : (Is : Option ℕ → InputPaths → Option (List ℕ) → Option (List ℕ) → Type 0) (at present : Option ℕ) (inputs files : InputPaths) (names book : Option (List ℕ)) (log path : List ℕ) (kept : Option (List ℕ))

@@ -48,7 +48,7 @@ use Rattle.command_run.specs.Resumes.{IsRecovery, ResumesRecovered, ResumesText,
 use Rattle.command_run.specs.Hubs.{AreDrivesIn, DrivesAll}
 use Rattle.command_run.specs.Ending.{Ends, EndsBy, EndsAside, IsPrinted, IsFaultPrinted, IsPrintedAfter, IsOfText, IsLineOut, WasPrinted}
 use Rattle.command_run.specs.Logs.{LogEnd, is_driven, step_of}
-use Rattle.command_run.specs.Program.{AreWordsRead, RunsCommand, RunsChosen, Follows, starts_again, status_by, draws_in, file_at, form_in, kept_log_in, log_in, protocol_in, name_in, names_in, inputs_in, plans_in}
+use Rattle.command_run.specs.Program.{AreWordsRead, RunsApart, RunsBy, RunsCommand, RunsChosen, Follows, starts_again, status_by, draws_in, file_at, form_in, kept_log_in, log_in, protocol_in, name_in, names_in, inputs_in, plans_in}
 use Rattle.command_run.specs.Laws.{IsOutcomeOfWords, IsFailureOf, PrintsFaultsAlone, HoldsNothing, WereDriven, WereRefused, IsUnanswered, Ran, RanCommand, WroteNoMore}
 use Rattle.command_run.proofs.LowStatuses.{IsLow, low}
 use Rattle.command_run.proofs.Keepers.{keeper}
@@ -307,25 +307,40 @@ aside_no_more true (Err fault) before after printed_before printed_after status 
 
 module _ {W : Type 0} (gives : W → List ℕ → Result (List ℕ) CommandFault → W → Type 0) (chosen : Chosen) (before after : Devices W) (outcome : Result Answer CommandFault) (mid : Streams) (end : Option LogEnd) where
   -- what a command wrote, with a log of its own or without
-  chosen_written : (log : Option (List ℕ)) → kept_log_in chosen ≡ log → RunsChosen gives log chosen before outcome mid after end → WereDriven gives chosen.name chosen before.texts before.streams mid
-  chosen_written None none run = written gives chosen before.texts before.streams mid chosen.name after.texts outcome run.0
-  chosen_written (Some path) keeps run =
+  kept_written : (log : Option (List ℕ)) → kept_log_in chosen ≡ log → RunsChosen gives log chosen before outcome mid after end → WereDriven gives chosen.name chosen before.texts before.streams mid
+  kept_written None none run = written gives chosen before.texts before.streams mid chosen.name after.texts outcome run.0
+  kept_written (Some path) keeps run =
       elim (logged_written gives (inputs_in chosen) (protocol_in chosen) before.texts after.texts before.streams mid outcome end before.folder after.folder path chosen.start chosen.at run.shaped run.shapes run.drives) [
         | inl same ↦ inl same
         | inr drove ↦ inr (inl (keeper chosen.name (option_map string_bytes chosen.log) path keeps, inr drove))
       ]
 
+  -- nothing where the output goes to the log that it is given
+  chosen_written : RunsApart gives chosen before outcome mid after end → WereDriven gives chosen.name chosen before.texts before.streams mid
+  chosen_written run = by run.shown run.by
+    where
+      by : (shown : Bool) → RunsBy gives shown chosen before outcome mid after end → WereDriven gives chosen.name chosen before.texts before.streams mid
+      by true refused = inl (ap (λ (s : Streams). s.output) refused.1)
+      by false is = kept_written (kept_log_in chosen) refl is
+
   -- and its answer is a good one, or one that refuses
-  chosen_low : (log : Option (List ℕ)) → RunsChosen gives log chosen before outcome mid after end → IsLow outcome
-  chosen_low None run = low gives chosen.name chosen before.texts before.streams outcome after.texts mid run.0
-  chosen_low (Some path) run = low_logged before.folder after.folder path chosen.start (protocol_in chosen) chosen.at run.shaped (step_of before.streams outcome mid end) run.drives
+  kept_low : (log : Option (List ℕ)) → RunsChosen gives log chosen before outcome mid after end → IsLow outcome
+  kept_low None run = low gives chosen.name chosen before.texts before.streams outcome after.texts mid run.0
+  kept_low (Some path) run = low_logged before.folder after.folder path chosen.start (protocol_in chosen) chosen.at run.shaped (step_of before.streams outcome mid end) run.drives
+
+  chosen_low : RunsApart gives chosen before outcome mid after end → IsLow outcome
+  chosen_low run = by run.shown run.by
+    where
+      by : (shown : Bool) → RunsBy gives shown chosen before outcome mid after end → IsLow outcome
+      by true refused = subst IsLow (sym refused.0) tt
+      by false is = kept_low (kept_log_in chosen) is
 
 module _ {W : Type 0} (gives : W → List ℕ → Result (List ℕ) CommandFault → W → Type 0) (words : List (List ℕ)) (before : Devices W) (status : ℕ) (after : Devices W) (end : Option LogEnd) where
   -- a command that was run, as a part of the program's run
   ran : (chosen : Chosen) → reasons_in words ≡ [] → IsChoiceOf words (found_in words) chosen → (outcome : Result Answer CommandFault) (mid : Streams)
-      → RunsChosen gives (kept_log_in chosen) chosen before outcome mid after end → Ran gives words before outcome mid after end
+      → RunsApart gives chosen before outcome mid after end → Ran gives words before outcome mid after end
   ran chosen accepted is outcome mid runs =
-      inl (record { chosen = chosen; accepted = accepted; is = is; runs = runs; driven = chosen_written gives chosen before after outcome mid end (kept_log_in chosen) refl runs })
+      inl (record { chosen = chosen; accepted = accepted; is = is; runs = runs; driven = chosen_written gives chosen before after outcome mid end runs })
 
   -- words that choose no command
   chose_none : (fault : WordsFault) → NamesOneOf (reasons_in words) fault → (outcome : Result Answer CommandFault) → IsOutcomeOfWords fault outcome → Ran gives words before outcome before.streams after end
@@ -340,18 +355,17 @@ module _ {W : Type 0} (gives : W → List ℕ → Result (List ℕ) CommandFault
 
   -- of a command
   command_printed : (chosen : Chosen) (accepted : reasons_in words ≡ []) (is : IsChoiceOf words (found_in words) chosen) (outcome : Result Answer CommandFault) (mid : Streams) (own : ℕ) → IsOwnOr own status
-      → RunsChosen gives (kept_log_in chosen) chosen before outcome mid after end
+      → RunsApart gives chosen before outcome mid after end
       → EndsWellBy (draws_in chosen) outcome after.streams.output before.errors after.errors own → PrintsFaultsAlone gives words before status after end
   command_printed chosen accepted is outcome mid own rel runs (inl well) = ends_printed outcome mid own rel (ran chosen accepted is outcome mid runs) well
   command_printed chosen accepted is outcome mid own rel runs (inr (low, (answer, same, draws, printed, answered))) =
-      let run : RunsChosen gives (kept_log_in chosen) chosen before (Ok answer) mid after end =
-      subst (λ (o : Result Answer CommandFault). RunsChosen gives (kept_log_in chosen) chosen before o mid after end) same runs in
+      let run : RunsApart gives chosen before (Ok answer) mid after end = subst (λ (o : Result Answer CommandFault). RunsApart gives chosen before o mid after end) same runs in
       let here : RanCommand gives words before (Ok answer) mid after end = record {
         chosen = chosen;
         accepted = accepted;
         is = is;
         runs = run;
-        driven = chosen_written gives chosen before after (Ok answer) mid end (kept_log_in chosen) refl run;
+        driven = chosen_written gives chosen before after (Ok answer) mid end run;
       } in
       let status_is = low_own own status rel low in
       inr (subst (λ (n : ℕ). n ≤ 1) (sym status_is) low, inr (record { answer = answer; mid = mid; ran = here; draws = draws; printed = printed; own = status_is ∙ answered }))
@@ -359,7 +373,7 @@ module _ {W : Type 0} (gives : W → List ℕ → Result (List ℕ) CommandFault
   pub follows_ends : (read : Result Chosen WordsFault) → AreWordsRead words read → Follows gives read before status after end → PrintsFaultsAlone gives words before status after end
   follows_ends (Ok chosen) are is =
       command_printed chosen are.accepted are.chosen is.outcome is.mid is.own (own_or (kept_log_in chosen) end is.outcome is.own status is.status_is) is.runs
-      (by_ends (draws_in chosen) is.outcome is.mid.output after.streams.output before.errors after.errors is.own (chosen_low gives chosen before after is.outcome is.mid end (kept_log_in chosen) is.runs) is.ends)
+      (by_ends (draws_in chosen) is.outcome is.mid.output after.streams.output before.errors after.errors is.own (chosen_low gives chosen before after is.outcome is.mid end is.runs) is.ends)
   follows_ends (Err (Usage true text)) are is =
       ends_printed (Ok is.help) before.streams status (inl refl) (chose_none (Usage true text) are.refused (Ok is.help) (is.help, refl, is.text_is.0))
       (outcome_ends (Ok is.help) before.streams.output after.streams.output before.errors after.errors status (omega (arith, is.text_is.1)) is.ends)
@@ -372,7 +386,7 @@ module _ {W : Type 0} (gives : W → List ℕ → Result (List ℕ) CommandFault
   pub follows_shown : (read : Result Chosen WordsFault) → before.streams.output.pending ≡ [] → Follows gives read before status after end → HoldsNothing after.streams.output
   follows_shown (Ok chosen) none is =
       aside_shown (draws_in chosen) is.outcome is.mid.output after.streams.output before.errors after.errors is.own
-      (driven_shown gives chosen before.texts before.streams is.mid chosen.name (chosen_written gives chosen before after is.outcome is.mid end (kept_log_in chosen) refl is.runs) none) is.ends
+      (driven_shown gives chosen before.texts before.streams is.mid chosen.name (chosen_written gives chosen before after is.outcome is.mid end is.runs) none) is.ends
   follows_shown (Err (Usage true text)) none is = printed_shown is.help is.ends.printed before.streams.output after.streams.output is.ends.is
   follows_shown (Err (Usage false text)) none is = inl (ap (λ (s : Streams). s.output.pending) is.3 ∙ none)
   follows_shown (Err NoWordsMemory) none is = inl (ap (λ (o : Output). o.pending) is.0.0 ∙ none)
@@ -385,7 +399,7 @@ module _ {W : Type 0} (gives : W → List ℕ → Result (List ℕ) CommandFault
         mid = is.mid;
         ran = ran chosen are.accepted are.chosen is.outcome is.mid is.runs;
         unanswered = aside_no_more (draws_in chosen) is.outcome is.mid.output after.streams.output before.errors after.errors is.own
-            (chosen_low gives chosen before after is.outcome is.mid end (kept_log_in chosen) is.runs) (own_high is.own status (own_or (kept_log_in chosen) end is.outcome is.own status is.status_is) high) is.ends;
+            (chosen_low gives chosen before after is.outcome is.mid end is.runs) (own_high is.own status (own_or (kept_log_in chosen) end is.outcome is.own status is.status_is) high) is.ends;
       })
   follows_no_more (Err (Usage true text)) are high is =
       inr (record {

@@ -14,7 +14,7 @@ use Rattle.cell_drive.specs.declared.resume.RestEnd.{RestEnd}
 use Rattle.cell_tables.specs.declared.entry.Entry.{Entry}
 use Rattle.event_lines.specs.LogLines.{LinesParse}
 use Rattle.event_lines.specs.RunDigits.{plan_line}
-use Rattle.plan_digest.proofs.SixteenDigits.{digits_are}
+use Rattle.run_log.proofs.SixteenDigits.{digits_are}
 use Rattle.run_journal.specs.declared.file_fault.FileFault.{FileFault}
 use Rattle.run_journal.specs.declared.file_fault.FileFault.TheVariants.{Log}
 use Rattle.run_journal.specs.Folders.{Folder, NamedLog, IsOpenFault, handed, with_fault, with_log}

@@ -12,9 +12,13 @@ use Rattle.byte_streams.specs.declared.drive_fault.DriveFault.TheVariants.{Write
 use Rattle.byte_streams.specs.Lent.{Output, output_sink}
 use Rattle.cell_drive.specs.declared.protocol.Protocol.{Protocol}
 use Rattle.cell_drive.specs.Recovered.{Recovered, IsRecovered, plan_of, replayed_events as events_in}
+use Rattle.cell_drive.specs.{declared.resume_fault.ResumeFault.ResumeFault, ResumeFaults.IsResumeFault}
+use Rattle.cell_drive.specs.declared.resume_fault.ResumeFault.TheVariants.{Run, Refused, Memory as NoMemoryToResume}
+use Rattle.shop_base.specs.declared.limits.TheConstants.{MAX_MOMENT}
+use Rattle.command_answers.proofs.RunFaults.{has_line}
 use Rattle.cell_drive.specs.InProtocol.{IsContinuedIn, IsReplayedIn}
 use Rattle.event_lines.specs.declared.run_digits.RunDigits.{RunDigits}
-use Rattle.plan_digest.proofs.SixteenDigits.{digits_are}
+use Rattle.run_log.proofs.SixteenDigits.{digits_are}
 use Rattle.run_journal.specs.declared.file_fault.FileFault.{FileFault}
 use Rattle.run_journal.specs.Folders.{Folder, held, handed_if}
 use Rattle.run_journal.specs.LogFiles.{IsDurable}
@@ -26,7 +30,7 @@ use Rattle.logged_drive.specs.declared.recovered_log.RecoverFault.{RecoverFault}
 use Rattle.logged_drive.specs.declared.recovered_log.RecoverFault.TheVariants.{Resume, NoTornEnd, File}
 use Rattle.logged_drive.specs.RecoveredLogs.{IsRecoverFault}
 use Rattle.command_words.specs.declared.words.log_start.LogStart.{LogStart}
-use Rattle.command_run.specs.Resumes.{end_of_rest}
+use Rattle.command_run.specs.Resumes.{HasAnswer, end_of_rest}
 use Rattle.command_run.specs.Logs.{Begins, DrivesFitting, DrivesFound, DrivesWithLog, HasFewLines, IsEmptyLog, IsFoundLog, IsRecoveredFromLog, IsHistoryOf, IsHistoryOfFound, IsHistoryOfNew, IsHistoryOfOld, IsHistoryOfPath, Step, RecoversRun, digits_in}
 
 -- ---- what is replayed
@@ -87,10 +91,16 @@ old_named p protocol at text printed seen now (Some b) is named =
     let has = subst (λ (s : Option (List ℕ)). IfSome s (λ file. (base : List ℕ) × IsNamedFor (digits_in p) (whole_lines file) base × (now ≡ Some base))) is.0 named in
     has.2 ∙ ap Some (named_same (digits_in p) (whole_lines text) has.0 b.0 has.1 is.1.log)
 
-pub few_lines : (p : PlannedShop) (at : Option ℕ) (text : List ℕ) (fault : RecoverFault) → length text ≤ MAX_INPUT → IsRecoverFault p text at fault → HasFewLines fault
-few_lines p at text (Resume fault) few is = tt
-few_lines p at text (NoTornEnd lines) few is = (let count = lines_of-le (whole_lines text) in let whole = whole_length text in omega (arith, is.2, count, whole, few))
-few_lines p at text (File fault) few is = tt
+-- there is an answer for each fault, as the moment that is given isn't past the latest
+pub has_answer : (p : PlannedShop) (lines : List (List ℕ)) (at : Option ℕ) (fault : ResumeFault) → IfSome at (λ n. n ≤ MAX_MOMENT) → IsResumeFault p lines at fault → HasAnswer fault
+has_answer p lines at (Run fault) early is = has_line at lines p early fault is
+has_answer p lines at (Refused back why) early is = tt
+has_answer p lines at NoMemoryToResume early is = tt
+
+pub few_lines : (p : PlannedShop) (at : Option ℕ) (text : List ℕ) (fault : RecoverFault) → IfSome at (λ n. n ≤ MAX_MOMENT) → length text ≤ MAX_INPUT → IsRecoverFault p text at fault → HasFewLines fault
+few_lines p at text (Resume fault) early few is = has_answer p (ended_lines (whole_lines text)) at fault early is.0
+few_lines p at text (NoTornEnd lines) early few is = (let count = lines_of-le (whole_lines text) in let whole = whole_length text in omega (arith, is.2, count, whole, few))
+few_lines p at text (File fault) early few is = tt
 
 -- ---- what follows the opening of the log
 

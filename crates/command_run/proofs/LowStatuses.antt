@@ -28,12 +28,14 @@ use Rattle.command_words.specs.declared.words.changes.AskedChange.{AskedChange}
 use Rattle.command_answers.specs.declared.revises.Revised.{Revised}
 use Rattle.command_answers.specs.declared.revises.Revised.TheVariants.{PlanText, InstanceText}
 use Rattle.command_answers.specs.Documents.{IsDocumentAnswer}
-use Rattle.command_answers.specs.Revising.{IsInstanceAnswer, IsPrinted, IsReviseAnswer, IsRevisedFrom}
+use Rattle.command_answers.specs.Revising.{IsInstanceAnswer, IsPrinted, IsReviseAnswer, IsRevisedRest}
 use Rattle.command_run.specs.Revisions.{Revises, printed_for, values_asked}
 use Rattle.byte_streams.specs.declared.drive_fault.DriveFault.{DriveFault}
 use Rattle.cell_drive.specs.declared.protocol.Protocol.{Protocol}
 use Rattle.cell_drive.specs.declared.resume_fault.ResumeFault.{ResumeFault}
-use Rattle.cell_drive.specs.declared.resume_fault.ResumeFault.TheVariants.{Log, Past, Refused as RefusedRun, Memory as NoMemoryToResume}
+use Rattle.cell_drive.specs.declared.resume_fault.ResumeFault.TheVariants.{Run, Refused as RefusedRun, Memory as NoMemoryToResume}
+use Rattle.run_log.specs.declared.present_run.RunFault.TheVariants.{Log, Present}
+use Rattle.cell_tables.specs.declared.present_fault.PresentFault.TheVariants.{Past, TooLarge}
 use Rattle.cell_drive.specs.Recovered.{Recovered}
 use Rattle.run_log.specs.declared.audit_fault.AuditFault.{AuditFault}
 use Rattle.run_log.specs.declared.audit_fault.AuditFault.TheVariants.{BadLine, NotExpected, Backwards, NotReady, Occupied, OutOfOrder, WrongPlace, NotClean, Memory as NoMemoryToAudit}
@@ -54,8 +56,6 @@ use Rattle.command_answers.specs.AskedJobs.{IsNoJobLine}
 use Rattle.command_answers.specs.Texts.{Asks}
 use Rattle.command_answers.specs.Naming.{ReadsNames}
 use Rattle.command_answers.specs.Serial.{serially}
-use Rattle.command_answers.specs.Explains.{IsPlanExplained}
-use Rattle.command_answers.specs.Timetables.{IsPlanScheduled}
 use Rattle.people_names.specs.NameBooks.{NameBook}
 use Rattle.plan_bounds.specs.Bounds.{ShopTimes, times_of}
 use Rattle.command_answers.specs.BoundLines.{AreBoundLines, IsBadNumbersLine}
@@ -68,16 +68,16 @@ use Rattle.command_answers.specs.declared.logs.LogAnswer.TheVariants.{Numbers, D
 use Rattle.command_answers.specs.LogLines.{IsFaultLine, IsLogFaultAnswer, IsLogLine, IsLogRefused}
 use Rattle.command_answers.specs.declared.rests.PlanAnswer.{PlanAnswer}
 use Rattle.command_answers.specs.declared.rests.PlanAnswer.TheVariants.{Verdict as OfVerdict, Reasons, Moments}
-use Rattle.command_answers.specs.Rests.{IsPastLine, IsRestLine, job_asked}
+use Rattle.command_answers.specs.Rests.{AnswersPlan, IsPastLine, IsRunRefused, IsRestLine, job_asked}
 use Rattle.command_answers.specs.declared.pictures.Drawn.{Drawn}
 use Rattle.command_answers.specs.declared.pictures.Drawn.TheVariants.{Picture, Line as LineDrawn}
-use Rattle.command_answers.specs.Pictures.{IsCellDrawn, IsLogDrawn, IsPlanDrawn, IsRestDrawing, IsRestDrawn, IsUnshapedDrawn, IsVerdictDrawn, IfDrawable, DrawsLog, DrawsRest, DrawsSchedule}
+use Rattle.command_answers.specs.Pictures.{IsLogDrawn, IsPlanDrawn, IsRestDrawing, IsRestDrawn, IsUnshapedDrawn, IsVerdictDrawn, IfDrawable, DrawsLog, DrawsRest, DrawsSchedule}
 use Rattle.command_answers.specs.Commands.{InputPaths, IfShaped, IfSound, IfThere, WithBoth, WithDecision, WithLogOf, WithNames, WithNamesAndLog, WithRest, WithRestDecision, WithSoundNames}
 use Rattle.command_answers.specs.Cells.{IsCellLine, AfterPlan, LoadsEach}
 use Rattle.command_answers.specs.Digests.{IsDigestAnswer}
 use Rattle.command_answers.specs.Margins.{IsMarginAnswer}
 use Rattle.command_answers.specs.Moves.{AreMovesOfLog, AreMovesOfPlan}
-use Rattle.command_answers.proofs.RestAnswers.{low_log_moves, low_moves, low_rest}
+use Rattle.command_answers.proofs.RestAnswers.{low_answer, low_log_moves, low_moves, low_rest}
 use Rattle.command_run.specs.Streams.{Streams, Output}
 use Rattle.command_run.specs.Pictures.{Draws, DrawsTimetable, IsPictureOut, RunsTimetable, RunsDrawing, AnswersMoves}
 use Rattle.command_run.specs.declared.pictures.Timetable.{Timetable}
@@ -173,11 +173,8 @@ low_verdict : (verdict : Verdict) (status : ℕ) → status ≡ verdict_status v
 low_verdict (Accepted v) status is = zero_low status is
 low_verdict (Refused back why) status is = one_low status is
 
-low_explained : (names : NameBook) (job : Option ℕ) (p : PlannedShop) (answer : Answer) → IsPlanExplained names job p answer → answer.status ≤ 1
-low_explained names job p answer explained = low_verdict explained.verdict answer.status explained.explained.status
-
-low_scheduled : (names : NameBook) (p : PlannedShop) (answer : Answer) → IsPlanScheduled names p answer → answer.status ≤ 1
-low_scheduled names p answer scheduled = low_verdict scheduled.verdict answer.status scheduled.scheduled.status
+low_plan : (names : NameBook) (wanted : PlanAnswer) (p : PlannedShop) (answer : Answer) → AnswersPlan names wanted p answer → answer.status ≤ 1
+low_plan names wanted p answer answered = low_answer names wanted p (start p) 0 answer answered
 
 low_bounds : (names : NameBook) (t : ShopTimes) (budgets : List ℕ) (answer : Answer) → AreBoundLines names t budgets answer → answer.status ≤ 1
 low_bounds names t budgets answer are = elim are.status [
@@ -240,16 +237,21 @@ low_printed : (prints : Revised) (description : List ℕ) (q : PlannedShop) (out
 low_printed PlanText description q outcome is = low_document q.plan outcome is
 low_printed InstanceText description q outcome is = low_instance description q.shop outcome is
 
+-- why there is no run up to the present moment
+low_run_refused : (at : Option ℕ) (lines : List (List ℕ)) (p : PlannedShop) (answer : Answer) → IsRunRefused at lines p answer → answer.status ≤ 1
+low_run_refused at lines p answer (inl refused) = one_low answer.status refused.line.1
+low_run_refused at lines p answer (inr past) = one_low answer.status past.line.1
+
 low_revised : (prints : Revised) (description : List ℕ) (at : Option ℕ) (changes : List Change) (values : List (List ℕ)) (p : PlannedShop) (log : List ℕ) (outcome : Result Answer CommandFault)
     → IsReviseAnswer prints description at changes values p log outcome → IsLow outcome
-low_revised prints description at changes values p log outcome (inr refused) = low_or (IsLogRefused p (ended_lines log)) outcome (λ answer line. one_low answer.status line.line.1) refused
-low_revised prints description at changes values p log outcome (inl kept) = go kept.revised
+low_revised prints description at changes values p log outcome (inr refused) =
+    low_or (IsRunRefused at (ended_lines log) p) outcome (λ answer line. low_run_refused at (ended_lines log) p answer line) refused
+low_revised prints description at changes values p log outcome (inl rest) = go rest.comes
   where
-    go : IsRevisedFrom prints description at changes values p (ends_in p (events_of kept.run.0)) outcome → IsLow outcome
-    go (inl (before, past)) = low_or _ outcome (λ answer line. one_low answer.status line.1) past
-    go (inr (later, inl cycle)) = low_or _ outcome (λ answer line. one_low answer.status line.line.1) cycle
-    go (inr (later, inr (none, inl text))) = low_printed prints description text.revised outcome text.printed
-    go (inr (later, inr (none, inr refused))) = low_or _ outcome (λ answer line. one_low answer.status line.refused) refused
+    go : IsRevisedRest prints description changes values p rest.cell rest.present outcome → IsLow outcome
+    go (inl cycle) = low_or _ outcome (λ answer line. one_low answer.status line.line.1) cycle
+    go (inr (none, inl text)) = low_printed prints description text.revised outcome text.printed
+    go (inr (none, inr refused)) = low_or _ outcome (λ answer line. one_low answer.status line.refused) refused
 
 low_improved : (made : Asked) (rounds : ℕ) (start : PlannedShop) (outcome : Result Answer CommandFault) → IsImproveAnswer made rounds start outcome → IsLow outcome
 low_improved made rounds start outcome (inl best) = low_best made rounds start outcome best.1
@@ -281,15 +283,9 @@ low_verdict_drawn names p c t line visits (NotInTime (Cycle nodes)) (LineDrawn a
 low_rest_drawn : (names : NameBook) (p : PlannedShop) (c : Cell) (t : ℕ) (line : Option ℕ) (visits : List DrawnVisit) (drawn : Drawn) → IsRestDrawn names p c t line visits drawn → IsLowDrawn (Ok drawn)
 low_rest_drawn names p c t line visits drawn is = low_verdict_drawn names p c t line visits is.verdict drawn is.is
 
-low_cell_drawn : (at : Option ℕ) (names : NameBook) (p : PlannedShop) (c : Cell) (entries : List Entry) (drawn : Drawn) → IsCellDrawn at names p c entries drawn → IsLowDrawn (Ok drawn)
-low_cell_drawn at names p c entries (LineDrawn answer) (inl past) = one_low answer.status past.1.1
-low_cell_drawn at names p c entries (Picture picture status) (inl past) = absurd past.1
-low_cell_drawn at names p c entries drawn (inr rest) = low_rest_drawn names p c _ _ _ drawn rest.1
-
 low_rest_drawing : (at : Option ℕ) (names : NameBook) (p : PlannedShop) (log : List ℕ) (drawn : Result Drawn CommandFault) → IsOrMemory (IsRestDrawing at names p log) drawn → IsLowDrawn drawn
-low_rest_drawing at names p log (Ok (LineDrawn answer)) (inl run) = low_cell_drawn at names p _ _ (LineDrawn answer) run.is
-low_rest_drawing at names p log (Ok (LineDrawn answer)) (inr refused) = one_low answer.status refused.line.1
-low_rest_drawing at names p log (Ok (Picture picture status)) (inl run) = low_cell_drawn at names p _ _ (Picture picture status) run.is
+low_rest_drawing at names p log (Ok drawn) (inl run) = low_rest_drawn names p run.cell run.present _ _ drawn run.comes
+low_rest_drawing at names p log (Ok (LineDrawn answer)) (inr refused) = low_run_refused at (ended_lines log) p answer refused
 low_rest_drawing at names p log (Ok (Picture picture status)) (inr none) = absurd none
 low_rest_drawing at names p log (Err fault) is = tt
 
@@ -354,8 +350,9 @@ low_log_fault (WrongPlace line) outcome is = low_or (IsFaultLine (WrongPlace lin
 
 pub low_unrecovered : (fault : ResumeFault) (outcome : Result Answer CommandFault) → IsUnrecoveredAnswer fault outcome → IsLow outcome
 low_unrecovered NoMemoryToResume outcome is = subst IsLow (sym is) tt
-low_unrecovered (Log fault) outcome is = low_log_fault fault outcome is
-low_unrecovered (Past last) outcome is = low_or (IsPastLine last) outcome (λ answer line. one_low answer.status line.1) is
+low_unrecovered (Run (Log fault)) outcome is = low_log_fault fault outcome is
+low_unrecovered (Run (Present (Past last))) outcome is = low_or (IsPastLine last) outcome (λ answer line. one_low answer.status line.1) is
+low_unrecovered (Run (Present TooLarge)) outcome none = absurd none
 low_unrecovered (RefusedRun back why) outcome is = low_or (IsLineOf (Judged (Refused back why))) outcome (low_line_of (Judged (Refused back why))) is
 
 low_recovered : (protocol : Protocol) (recovered : Result Recovered ResumeFault) (before after : Streams) (outcome : Result Answer CommandFault) → ResumesRecovered protocol recovered before after outcome → IsLow outcome
@@ -466,11 +463,11 @@ module _ {W : Type 0} (gives : W → List ℕ → Result (List ℕ) CommandFault
   low_answer_by OfVerdict at inputs names None texts outcome after run =
       low_both inputs (λ p. Concludes (IsOrMemory (IsCheckLine p))) texts outcome after (λ p mid on. low_or (IsCheckLine p) outcome (low_check p) on.0) run
   low_answer_by (Reasons job) at inputs names None texts outcome after run =
-      low_both inputs (λ p. IfShaped gives p (IfThere gives job p (WithNames gives names p (λ book. IsOrMemory (IsPlanExplained book job p))))) texts outcome after
-      (λ p mid on. low_if_shaped (IfThere gives job p (WithNames gives names p (λ book. IsOrMemory (IsPlanExplained book job p)))) p mid outcome after
-      (low_if_there job (WithNames gives names p (λ book. IsOrMemory (IsPlanExplained book job p))) p mid outcome after
-      (low_with_names (λ book. IsOrMemory (IsPlanExplained book job p)) (λ book said. low_or (IsPlanExplained book job p) said (low_explained book job p)) names p mid outcome after)) on) run
-  low_answer_by Moments at inputs names None texts outcome after run = low_named IsPlanScheduled low_scheduled inputs names texts outcome after run
+      low_both inputs (λ p. IfShaped gives p (IfThere gives job p (WithNames gives names p (λ book. IsOrMemory (AnswersPlan book (Reasons job) p))))) texts outcome after
+      (λ p mid on. low_if_shaped (IfThere gives job p (WithNames gives names p (λ book. IsOrMemory (AnswersPlan book (Reasons job) p)))) p mid outcome after
+      (low_if_there job (WithNames gives names p (λ book. IsOrMemory (AnswersPlan book (Reasons job) p))) p mid outcome after
+      (low_with_names (λ book. IsOrMemory (AnswersPlan book (Reasons job) p)) (λ book said. low_or (AnswersPlan book (Reasons job) p) said (low_plan book (Reasons job) p)) names p mid outcome after)) on) run
+  low_answer_by Moments at inputs names None texts outcome after run = low_named (λ book. AnswersPlan book Moments) (λ book. low_plan book Moments) inputs names texts outcome after run
 
   low_moves_answered : (at : Option ℕ) (inputs : InputPaths) (names log : Option (List ℕ)) (texts : W) (outcome : Result Answer CommandFault) (after : W) → AnswersMoves gives at inputs names log texts outcome after → IsLow outcome
   low_moves_answered at inputs names None texts outcome after run = low_named AreMovesOfPlan (λ book p. low_moves book p (start p) 0) inputs names texts outcome after run

@@ -68,7 +68,7 @@ use Rattle.command_run.specs.Logs.{DrivesWithLog, GoesOnWithLog, LogEnd, step_of
 use Rattle.command_run.specs.Resumes.{ResumesText, IsRecovery}
 use Rattle.command_run.specs.Hubs.{AreDrivesIn, DrivesCells}
 use Rattle.command_run.specs.Ending.{WasPrinted, IsLineOut, IsOfText}
-use Rattle.command_run.specs.Program.{RunsDrive, RunsResume, RunsHub, RunsChosen, RunsProgram, draws_in, file_at, kept_log_in, log_in, protocol_in, name_in, names_in, inputs_in, plans_in}
+use Rattle.command_run.specs.Program.{RunsApart, RunsDrive, RunsResume, RunsHub, RunsProgram, draws_in, file_at, log_in, protocol_in, name_in, names_in, inputs_in, plans_in}
 
 -- ---- what is printed first where the files don't change
 
@@ -513,7 +513,7 @@ module _ {W : Type 0} (gives : W → List ℕ → Result (List ℕ) CommandFault
     pub chosen : Chosen
     pub accepted : reasons_in words ≡ []
     pub is : IsChoiceOf words (found_in words) chosen
-    pub runs : RunsChosen gives (kept_log_in chosen) chosen before outcome mid after log
+    pub runs : RunsApart gives chosen before outcome mid after log
     pub driven : WereDriven chosen.name chosen before.texts before.streams mid
 
   -- what the words come to, before it is printed

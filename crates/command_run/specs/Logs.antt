@@ -36,7 +36,7 @@ use Rattle.logged_drive.specs.declared.recovered_log.RecoverFault.TheVariants.{R
 use Rattle.logged_drive.specs.CrashLaw.{IsRecoveredAfter}
 use Rattle.logged_drive.specs.LoggedRuns.{IsAllInLog, KeepsShown, ShowsRun}
 use Rattle.logged_drive.specs.RecoveredLogs.{IsOfDevice, IsOfText, IsOnlyRecoverFault, IsRecoverFault, file_fault}
-use Rattle.plan_digest.specs.Digits.{digits_of}
+use Rattle.run_log.specs.Digits.{digits_of}
 use Rattle.command_words.specs.declared.words.log_start.LogStart.{LogStart}
 use Rattle.command_answers.specs.declared.answer.Answer.{Answer}
 use Rattle.command_answers.specs.declared.command_fault.CommandFault.{CommandFault}
@@ -47,7 +47,7 @@ use Rattle.command_answers.specs.LogLines.{IsLogFaultAnswer}
 use Rattle.command_run.specs.Streams.{Streams, Output}
 use Rattle.command_run.specs.Drives.{IsEnded, IsLineAnswer, drive_command_fault, end_of_drive}
 use Rattle.command_run.specs.Misfits.{IsMisfit, IsMisfitAnswer}
-use Rattle.command_run.specs.Resumes.{IsUnrecoveredAnswer, end_of_rest}
+use Rattle.command_run.specs.Resumes.{HasAnswer, IsUnrecoveredAnswer, end_of_rest}
 use Rattle.command_run.specs.declared.misfits.Misfit.{Misfit}
 
 -- ---- faults
@@ -78,9 +78,9 @@ IsLogFaultPrinted (Resume fault) outcome = IsUnrecoveredAnswer fault outcome
 IsLogFaultPrinted (NoTornEnd lines) outcome = IsLogFaultAnswer (BadLine (suc lines)) outcome
 IsLogFaultPrinted (File fault) outcome = outcome ≡ Err (log_command_fault fault)
 
--- the lines of which such an end is behind are no more than a log may have bytes
+-- there is an answer for the fault: the moment isn't past the latest, and the lines of which such an end is behind are no more than a log may have bytes
 abbrev pub HasFewLines : RecoverFault → Type 0
-HasFewLines (Resume fault) = Unit {0}
+HasFewLines (Resume fault) = HasAnswer fault
 HasFewLines (NoTornEnd lines) = lines ≤ MAX_INPUT
 HasFewLines (File fault) = Unit {0}
 

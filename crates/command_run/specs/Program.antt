@@ -1,10 +1,10 @@
 -- What the whole program does: what it answers to the words of its command line, and how it ends.
-use Rattle.std.specs.Prelude.{◌≡◌, ℕ, ◌==◌, ◌&&◌, if◌then◌else◌, Bool, List, [], Option, None, Some, true, false, Result, Ok, Err, IfOk, IfErr, get_or, map, option_map, unwrap_or, drop}
+use Rattle.std.specs.Prelude.{◌≡◌, ℕ, ◌==◌, ◌&&◌, if◌then◌else◌, Bool, List, [], Option, None, Some, true, false, Result, Ok, Err, IfOk, IfErr, IfSome, get_or, map, option_map, unwrap_or, drop}
 use Rattle.std.specs.String.{string_bytes}
 use Rattle.shop_base.specs.declared.shape_fault.ShapeFault.{ShapeFault}
 use Rattle.shop_base.specs.Plan.{PlannedShop}
 use Rattle.cell_drive.specs.declared.protocol.Protocol.{Protocol}
-use Rattle.run_journal.specs.Folders.{Folder}
+use Rattle.run_journal.specs.Folders.{Folder, is_one_of}
 use Rattle.plan_decide.specs.declared.aim.Aim.{Aim}
 use Rattle.plan_decide.specs.declared.aim.Aim.TheVariants.{Promises, Least}
 use Rattle.plan_decide.specs.declared.aim.Objective.TheVariants.{Makespan, Leaving}
@@ -20,7 +20,7 @@ use Rattle.command_words.specs.Choice.{IsChoiceOf, IsWithin, NamesOneOf, reasons
 use Rattle.command_answers.specs.declared.answer.Answer.{Answer}
 use Rattle.command_answers.specs.declared.cells.Cells.{Cells}
 use Rattle.command_answers.specs.declared.command_fault.CommandFault.{CommandFault}
-use Rattle.command_answers.specs.declared.command_fault.CommandFault.TheVariants.{Read, Write, InputTooLong, LogInUse, Memory as OutOfMemory}
+use Rattle.command_answers.specs.declared.command_fault.CommandFault.TheVariants.{Read, Write, InputTooLong, Log, LogInUse, Memory as OutOfMemory}
 use Rattle.command_answers.specs.declared.loading.Loaded.{Loaded}
 use Rattle.command_answers.specs.declared.logs.LogAnswer.TheVariants.{Numbers}
 use Rattle.command_answers.specs.declared.rests.PlanAnswer.TheVariants.{Verdict, Reasons}
@@ -112,6 +112,27 @@ log_kept_by false log = None
 
 abbrev pub kept_log_in : Chosen → Option (List ℕ)
 kept_log_in chosen = log_kept_by (keeps_log chosen.name) (option_map string_bytes chosen.log)
+
+-- the log that a command is given: that of whose rest is asked, a file of its own, or the one that it keeps
+abbrev pub log_given_to : CommandName → Chosen → Option (List ℕ)
+log_given_to Check chosen = log_in chosen
+log_given_to Explain chosen = log_in chosen
+log_given_to Schedule chosen = log_in chosen
+log_given_to Improve chosen = log_in chosen
+log_given_to Decide chosen = log_in chosen
+log_given_to Revise chosen = Some (file_at chosen 2)
+log_given_to Resume chosen = Some (file_at chosen 2)
+log_given_to Audit chosen = Some (file_at chosen 2)
+log_given_to Gantt chosen = Some (file_at chosen 2)
+log_given_to other chosen = kept_log_in chosen
+
+abbrev pub given_log_in : Chosen → Option (List ℕ)
+given_log_in chosen = log_given_to chosen.name chosen
+
+-- whether the standard output goes to this log: to none where none is given, else as the folder knows it
+abbrev pub IsShown : Option (List ℕ) → Folder → Bool → Type 0
+IsShown None folder shown = shown ≡ false
+IsShown (Some path) folder shown = IfSome folder.outputs (λ paths. shown ≡ is_one_of paths path)
 
 -- version 2
 abbrev pub is_second : Option Lines → Bool
@@ -217,11 +238,22 @@ module _ {W : Type 0} (gives : W → List ℕ → Result (List ℕ) CommandFault
   RunsChosen (Some path) chosen before outcome mid after log =
       RunsLoggedDrive before.folder after.folder path chosen.start (protocol_in chosen) chosen.at (inputs_in chosen) before.texts (step_of before.streams outcome mid log) after.texts
 
+  -- where the standard output goes to the log that the command is given, that is its fault: no file is asked for, no byte read or written, and no log touched; else it is run
+  abbrev pub RunsBy : Bool → Chosen → Devices W → Result Answer CommandFault → Streams → Devices W → Option LogEnd → Type 0
+  RunsBy true chosen before outcome mid after log = (outcome ≡ Err Log) × (mid ≡ before.streams) × (after.texts ≡ before.texts) × NoLog before after log
+  RunsBy false chosen before outcome mid after log = RunsChosen (kept_log_in chosen) chosen before outcome mid after log
+
+  -- that is asked before anything else
+  pub record RunsApart (chosen : Chosen) (before : Devices W) (outcome : Result Answer CommandFault) (mid : Streams) (after : Devices W) (log : Option LogEnd) : Type 0 where
+    pub shown : Bool
+    pub known : IsShown (given_log_in chosen) before.folder shown
+    pub by : RunsBy shown chosen before outcome mid after log
+
   -- the command is run, and then its answer printed, or its fault printed, with its own status; what is answered in place of a picture is printed too
   pub record Commands (chosen : Chosen) (before : Devices W) (status : ℕ) (after : Devices W) (log : Option LogEnd) : Type 0 where
     pub outcome : Result Answer CommandFault
     pub mid : Streams
-    pub runs : RunsChosen (kept_log_in chosen) chosen before outcome mid after log
+    pub runs : RunsApart chosen before outcome mid after log
     pub input : after.streams.input ≡ mid.input
     pub own : ℕ
     pub ends : EndsBy (draws_in chosen) outcome mid.output after.streams.output before.errors after.errors own

@@ -8,7 +8,7 @@ use Rattle.byte_streams.specs.declared.drive_fault.DriveFault.{DriveFault}
 use Rattle.cell_drive.specs.declared.protocol.Protocol.{Protocol}
 use Rattle.cell_drive.specs.declared.resume.RestEnd.{RestEnd}
 use Rattle.cell_drive.specs.declared.resume_fault.ResumeFault.{ResumeFault}
-use Rattle.cell_drive.specs.declared.resume_fault.ResumeFault.TheVariants.{Log, Past, Refused, Memory as OutOfMemory}
+use Rattle.cell_drive.specs.declared.resume_fault.ResumeFault.TheVariants.{Run, Refused, Memory as OutOfMemory}
 use Rattle.cell_drive.specs.Recovered.{Recovered, IsRecovered, IsRecoverable}
 use Rattle.cell_drive.specs.ResumeFaults.{IsResumeFault, IsOnlyLogFault}
 use Rattle.cell_drive.specs.InProtocol.{IsResumeIn}
@@ -16,10 +16,8 @@ use Rattle.command_answers.specs.declared.answer.Answer.{Answer}
 use Rattle.command_answers.specs.declared.command_fault.CommandFault.{CommandFault}
 use Rattle.command_answers.specs.declared.command_fault.CommandFault.TheVariants.{Memory}
 use Rattle.command_answers.specs.declared.loading.Loaded.TheVariants.{NotShaped, Judged}
-use Rattle.command_answers.specs.Steps.{IsOrMemory}
 use Rattle.command_answers.specs.Texts.{Asks}
-use Rattle.command_answers.specs.LogLines.{IsLogFaultAnswer}
-use Rattle.command_answers.specs.Rests.{IsPastLine}
+use Rattle.command_answers.specs.Rests.{HasLine, IsRunFaultAnswer}
 use Rattle.command_run.specs.Streams.{Streams}
 use Rattle.command_run.specs.Drives.{IsEndAnswer, IsLineAnswer}
 
@@ -30,11 +28,15 @@ pub record IsRecovery (p : PlannedShop) (at : Option ℕ) (text : List ℕ) (rec
   pub only : IfErr recovered (IsOnlyLogFault p (ended_lines text))
   pub can : IsRecoverable p (ended_lines text) at → IfErr recovered (λ fault. fault ≡ OutOfMemory)
 
+-- there is an answer for the fault: the moment isn't past the latest
+abbrev pub HasAnswer : ResumeFault → Type 0
+HasAnswer (Run fault) = HasLine fault
+HasAnswer fault = Unit {0}
+
 -- out of memory is a fault of the command; else the first fault of the log is answered by its line, a moment that is past by that, and a plan that is refused by the line of `check`, unless memory runs out
 abbrev pub IsUnrecoveredAnswer : ResumeFault → Result Answer CommandFault → Type 0
 IsUnrecoveredAnswer OutOfMemory outcome = outcome ≡ Err Memory
-IsUnrecoveredAnswer (Log fault) outcome = IsLogFaultAnswer fault outcome
-IsUnrecoveredAnswer (Past last) outcome = IsOrMemory (IsPastLine last) outcome
+IsUnrecoveredAnswer (Run fault) outcome = IsRunFaultAnswer fault outcome
 IsUnrecoveredAnswer (Refused back why) outcome = IsLineAnswer (Judged (RefusedPlan back why)) outcome
 
 -- whether the run has ended

@@ -28,11 +28,10 @@ use command_answers::{
 };
 use command_words::{Chosen, CommandName, Lines};
 use plan_decide::{Aim, Objective};
-use run_log::present_at;
 use std::alloc::Global;
 
 /// The file at a place of the command line.
-fn file(chosen: &Chosen, place: usize) -> &str
+pub(crate) fn file(chosen: &Chosen, place: usize) -> &str
     requires { place < length chosen.now.files.items }
     ensures { result.now ≡ file_at chosen.now place }
 {
@@ -144,10 +143,14 @@ fn is_second(version: Option<Lines>) -> bool
 pub(crate) fn protocol(chosen: &Chosen) -> Protocol
     ensures { result ≡ protocol_in chosen.now }
 {
+    let from = match chosen.at {
+        Some(at) => at,
+        None => 0,
+    };
     Protocol {
         version_2: is_second(chosen.lines),
         max_gap: chosen.leap,
-        from: present_at(chosen.at, 0),
+        from,
     }
 }
 

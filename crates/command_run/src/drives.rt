@@ -58,9 +58,7 @@ pub(crate) fn drive_answer<T: Texts, R: Source, W: BufferedSink>(
 pub(crate) fn line_answer(alloc: Global, loaded: Loaded) -> Answered
     ensures { IsLineAnswer loaded result }
 {
-    let answer = loaded_answer(alloc, &loaded);
-    drop(loaded);
-    Ok(answer?)
+    Ok(loaded_answer(alloc, loaded)?)
 }
 
 /// What is answered at the end of a run, whose lines are written already.

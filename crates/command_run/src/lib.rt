@@ -1,6 +1,7 @@
 //! The whole program of `cellplan`, over files and streams that are given to it.
 #![tactic(auto)]
 
+mod apart;
 mod choice_progress;
 mod choosers;
 mod command;

@@ -1,13 +1,14 @@
 //! The whole program.
 
-ghost use Rattle.std.specs.Prelude.{◌≡◌, ◌≤◌, ◌==◌, ◌&&◌, if◌then◌else◌, [], map, None, Some, Err, IfSome};
+ghost use Rattle.std.specs.Prelude.{◌≡◌, ◌≤◌, ◌==◌, ◌&&◌, if◌then◌else◌, [], map, None, Some, Err, IfSome, true, false};
 ghost use Rattle.command_words.specs.Choice.{IsWithin};
 ghost use Rattle.command_run.specs.Logs.{WithLog};
 ghost use Rattle.command_run.specs.Streams.{errors_of};
 ghost use Rattle.command_run.specs.Ending.{EndsBy};
 ghost use Rattle.command_run.specs.Program.{Commands, Follows, IsHistoryOfChosen, IsHistoryOfWords};
-ghost use Rattle.command_run.specs.Program.{RunsProgram, draws_in, kept_log_in, starts_again};
+ghost use Rattle.command_run.specs.Program.{IsShown, RunsProgram, draws_in, given_log_in, kept_log_in, starts_again};
 
+use crate::apart::is_shown;
 use crate::command::{command, inputs, kept_log, protocol};
 use crate::devices::{Devices, Screen, Streams};
 use crate::ending::{end, end_aside, print_line};
@@ -55,7 +56,8 @@ pub fn run<
     }
 }
 
-/// Runs the command that was chosen, and prints its answer, or says why there is none.
+/// Runs the command that was chosen, and prints its answer, or says why there is none. Before anything else it asks
+/// whether the output goes to the log that the command is given: no byte of an answer gets into that.
 fn follow<
     T: Texts,
     R: Source,
@@ -71,6 +73,65 @@ fn follow<
     before: B,
 ) -> (u8, Devices<T, R, W, E, S, L>, Option<L::Log>)
     requires within { IsWithin chosen.now }
+    requires shown { devices.streams.output.pending ≡ [] }
+    requires known { IfSome B.before (IsHistoryOfChosen T.gives chosen.now devices) }
+    ensures runs { WithLog L.Log.seen L.Log.crash_states L.Log.fault L.Log.written
+        B.before result.1.streams.output.written (result.0 ≤ 1) result.2
+        (Commands T.gives chosen.now devices result.0 result.1) }
+{
+    if is_shown(chosen, &devices.logs) {
+        let (status, devices) = end_shown(alloc, chosen, devices);
+        return (status, devices, None);
+    }
+    follow_apart(alloc, chosen, devices, before)
+}
+
+/// Says that the output goes to the log that the command is given.
+fn end_shown<T: Texts, R: Source, W: BufferedSink, E: Sink, S, L: Logs>(
+    alloc: Global,
+    chosen: &Chosen,
+    devices: Devices<T, R, W, E, S, L>,
+) -> (u8, Devices<T, R, W, E, S, L>)
+    requires shown { IsShown (given_log_in chosen.now) devices.folder true }
+    ensures { Commands T.gives chosen.now devices result.0 result.1 None }
+{
+    let Devices {
+        texts,
+        mut streams,
+        mut errors,
+        screen,
+        logs,
+    } = devices;
+    let fault = Err(CommandFault::Log);
+    let status = end_chosen(alloc, chosen, fault, &mut streams, &mut errors);
+    let devices = Devices {
+        texts,
+        streams,
+        errors,
+        screen,
+        logs,
+    };
+    (status, devices)
+}
+
+/// Runs the command that was chosen, where the output doesn't go to its log, and prints its answer, or says why there
+/// is none.
+fn follow_apart<
+    T: Texts,
+    R: Source,
+    W: BufferedSink + Drop,
+    E: Sink,
+    S: Screen,
+    L: Logs,
+    B: InitialState,
+>(
+    alloc: Global,
+    chosen: &Chosen,
+    devices: Devices<T, R, W, E, S, L>,
+    before: B,
+) -> (u8, Devices<T, R, W, E, S, L>, Option<L::Log>)
+    requires within { IsWithin chosen.now }
+    requires apart { IsShown (given_log_in chosen.now) devices.folder false }
     requires shown { devices.streams.output.pending ≡ [] }
     requires known { IfSome B.before (IsHistoryOfChosen T.gives chosen.now devices) }
     ensures runs { WithLog L.Log.seen L.Log.crash_states L.Log.fault L.Log.written
@@ -111,6 +172,7 @@ fn drive_logged<T: Texts, R: Source, W: BufferedSink + Drop, E: Sink, S, L: Logs
 ) -> (u8, Devices<T, R, W, E, S, L>, Option<L::Log>)
     requires within { IsWithin chosen.now }
     requires kept { kept_log_in chosen.now ≡ Some path.now }
+    requires apart { IsShown (given_log_in chosen.now) devices.folder false }
     requires shown { devices.streams.output.pending ≡ [] }
     requires known { IfSome B.before (IsHistoryOfChosen T.gives chosen.now devices) }
     ensures runs { WithLog L.Log.seen L.Log.crash_states L.Log.fault L.Log.written

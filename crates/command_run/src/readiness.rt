@@ -27,10 +27,9 @@ use command_answers::{
 use command_words::LogStart;
 use event_lines::RunDigits;
 use logged_drive::{RecoverFault, RecoveredLog, recover_log};
-use plan_digest::run_digits;
 use plan_verifier::{Verdict, Verified, verify};
 use run_journal::{LogFile, LogRun, LogText, Logs, WritingRoom, new_log, open_log};
-use run_log::AuditFault;
+use run_log::{AuditFault, run_digits};
 use shop_base::{Moment, Shaped};
 use std::alloc::{AllocError, Global};
 

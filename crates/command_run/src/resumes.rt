@@ -3,7 +3,7 @@
 ghost use Rattle.std.specs.Prelude.{◌≤◌, IfSome, Ok};
 ghost use Rattle.shop_base.specs.declared.limits.TheConstants.{MAX_MOMENT};
 ghost use Rattle.command_run.specs.Drives.{IsEndAnswer};
-ghost use Rattle.command_run.specs.Resumes.{IsRecovery, IsUnrecoveredAnswer, ResumesLog, ResumesText, end_of_rest};
+ghost use Rattle.command_run.specs.Resumes.{HasAnswer, IsRecovery, IsUnrecoveredAnswer, ResumesLog, ResumesText, end_of_rest};
 ghost use Rattle.command_run.specs.Program.{RunsResume};
 
 use crate::devices::Streams;
@@ -13,7 +13,7 @@ use cell_drive::{
     resume_in,
 };
 use command_answers::{
-    Answered, CommandFault, InputPaths, Loaded, Texts, log_fault_answer, past_answer, shape_files,
+    Answered, CommandFault, InputPaths, Loaded, Texts, run_fault_answer, shape_files,
 };
 use plan_verifier::Verdict;
 use shop_base::{Moment, Shaped};
@@ -100,11 +100,11 @@ fn recoverable(
 /// What is answered where a run isn't recovered: the line of the log's first fault, of a moment that is past, or of the
 /// plan.
 pub(crate) fn unrecovered_answer(alloc: Global, fault: ResumeFault) -> Answered
+    requires { HasAnswer fault }
     ensures { IsUnrecoveredAnswer fault result }
 {
     match fault {
-        ResumeFault::Log(fault) => log_fault_answer(alloc, fault),
-        ResumeFault::Past { last } => Ok(past_answer(alloc, last)?),
+        ResumeFault::Run(fault) => run_fault_answer(alloc, fault),
         ResumeFault::Refused(shaped, why) => {
             line_answer(alloc, Loaded::Judged(Verdict::Refused(shaped, why)))
         }
@@ -149,8 +149,7 @@ impl From<RecoverAllocFailure> for CommandFault {
     fn from(cause: RecoverAllocFailure) -> CommandFault {
         match cause.fault {
             ResumeFault::Memory => CommandFault::Memory,
-            ResumeFault::Log(_) | ResumeFault::Past { last: _ } | ResumeFault::Refused(_, _) =>
-                unreachable!(),
+            ResumeFault::Run(_) | ResumeFault::Refused(_, _) => unreachable!(),
         }
     }
 }

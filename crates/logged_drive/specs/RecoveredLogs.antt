@@ -4,8 +4,9 @@ use Rattle.shop_base.specs.{Plan.PlannedShop, Run.IsRun}
 use Rattle.text_lines.specs.Lines.{ended_lines, lines_of}
 use Rattle.cell_tables.specs.{declared.entry.Entry.Entry, Events.events_of}
 use Rattle.event_lines.specs.LogLines.{LinesParse}
+use Rattle.run_log.specs.declared.present_run.RunFault.TheVariants.{Log, Present}
 use Rattle.cell_drive.specs.declared.resume_fault.ResumeFault.{ResumeFault}
-use Rattle.cell_drive.specs.declared.resume_fault.ResumeFault.TheVariants.{Log, Past, Refused, Memory}
+use Rattle.cell_drive.specs.declared.resume_fault.ResumeFault.TheVariants.{Run, Refused, Memory}
 use Rattle.cell_drive.specs.ResumeFaults.{IsResumeFault, IsOnlyLogFault}
 use Rattle.run_journal.specs.{declared.file_fault.FileFault.FileFault, WholeLines.torn_end, WholeLines.whole_lines}
 use Rattle.run_journal.specs.{declared.file_fault.FileFault.TheVariants.Log as LogFault, TornEnds.is_torn}
@@ -24,8 +25,8 @@ out_of_memory = Resume Memory
 
 -- after bad lines nothing is asked of the end; before any other fault a crash can have left it
 abbrev pub IsAfterEnd : ResumeFault → Bool → Type 0
-IsAfterEnd (Log fault) torn = Unit {0}
-IsAfterEnd (Past last) torn = torn ≡ true
+IsAfterEnd (Run (Log fault)) torn = Unit {0}
+IsAfterEnd (Run (Present fault)) torn = torn ≡ true
 IsAfterEnd (Refused back why) torn = torn ≡ true
 IsAfterEnd Memory torn = Unit {0}
 

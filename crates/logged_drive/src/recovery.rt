@@ -14,6 +14,7 @@ use crate::recovered_log::{RecoverFault, RecoveredLog};
 use cell_drive::{RecoveredRun, ResumeFault, recover};
 use event_lines::RunDigits;
 use run_journal::{FileFault, LogFile, LogText, WritingRoom, cut_end, is_torn_end, name_plan};
+use run_log::RunFault;
 use shop_base::{Moment, Shaped};
 use std::alloc::Global;
 use text_lines::line_count;
@@ -53,11 +54,11 @@ fn recover_text(
                 Err(no_torn_end(text))
             }
         }
-        Err(ResumeFault::Log(fault)) => Err(RecoverFault::Resume(ResumeFault::Log(fault))),
+        Err(fault @ ResumeFault::Run(RunFault::Log(_))) => Err(RecoverFault::Resume(fault)),
         Err(fault @ ResumeFault::Memory) => Err(RecoverFault::Resume(fault)),
-        Err(ResumeFault::Past { last }) => {
+        Err(fault @ ResumeFault::Run(RunFault::Present(_))) => {
             if torn {
-                Err(RecoverFault::Resume(ResumeFault::Past { last }))
+                Err(RecoverFault::Resume(fault))
             } else {
                 Err(no_torn_end(text))
             }

@@ -28,7 +28,8 @@ use Rattle.plan_limits.specs.declared.asking.Answer.TheVariants.{Never, Orders, 
 use Rattle.plan_limits.specs.Stages.{stage_of}
 use Rattle.plan_limits.specs.Limits.{NoPlanKeepsFrom}
 use Rattle.plan_limits.specs.Answered.{OnNever}
-use Rattle.run_log.specs.Present.{IsCellOf, IsRunAt, present_of}
+use Rattle.cell_tables.specs.Rests.{present_of}
+use Rattle.run_log.specs.Present.{IsCellOf, IsRunAt}
 use Rattle.plan_improve.proofs.OneCell.{parses_run}
 use Rattle.plan_decide.specs.declared.aim.Objective.{Objective}
 use Rattle.plan_decide.specs.declared.aim.Objective.TheVariants.{Makespan, Leaving}

@@ -4,7 +4,8 @@ use Rattle.shop_base.specs.Plan.{PlannedShop}
 use Rattle.shop_base.specs.Cell.{Cell}
 use Rattle.shop_base.specs.Report.{IsNextMoment}
 use Rattle.event_lines.specs.LogLines.{LinesParse}
-use Rattle.run_log.specs.Present.{IsCellOf, present_of, IsRunFault}
+use Rattle.cell_tables.specs.Rests.{present_of}
+use Rattle.run_log.specs.Present.{IsCellOf, IsRunFault}
 use Rattle.plan_seek.specs.Tasks.{task_in}
 use Rattle.plan_decide.specs.declared.aim.Aim.{Aim}
 use Rattle.plan_decide.specs.declared.decide_fault.DecideFault.{DecideFault}

@@ -1,8 +1,8 @@
 -- What arcs are printed as, and how long paths are.
-use Rattle.std.proofs.Common.{◌≡◌, ◌≢◌, ◌==◌, ℕ, ◌+◌, ◌<◌, ◌≤◌, List, [], ◌∷◌, ◌++◌, if◌then◌else◌, arith, refl, sym, ap, subst, ◌∙◌}
+use Rattle.std.proofs.Common.{◌≡◌, ◌≢◌, ◌==◌, ℕ, ◌+◌, ◌<◌, ◌≤◌, List, [], ◌∷◌, ◌++◌, if◌then◌else◌, arith, refl, sym, ap, ◌∙◌}
 use Rattle.std.proofs.lemmas.Bool.{eq-eqb, eqb-true, false_from_ne_true}
-use Rattle.shop_base.specs.{declared.node.Node.Node, Plan.{PlannedShop, jobs, release, steps, clean, Stands, IsWellShaped}}
-use Rattle.shop_base.specs.Graph.{node, Arc, job_arc, blocking_arc, HasArc, Path, begins, follows}
+use Rattle.shop_base.specs.{declared.node.Node.Node, Plan.{PlannedShop, steps, clean, Stands, IsWellShaped}}
+use Rattle.shop_base.specs.Graph.{node, Arc, job_arc, blocking_arc, HasArc}
 use Rattle.shop_base.proofs.Visits.{visits-order}
 use Rattle.plan_explain.specs.{Arcs.{time_of, arc_kind, job_arc_kind, blocking_arc_kind}, Chains.{AreAlong, reached_at, length_from}}
 
@@ -17,6 +17,11 @@ blocking_arc_kind_same p u v differ =
 pub length_grows : (p : PlannedShop) (t : ℕ) (u : Node) (vs : List Node) → t ≤ length_from p t u vs
 length_grows p t u [] = omega arith
 length_grows p t u (v ∷ vs) = omega (arith, length_grows p (reached_at p t u v) v vs)
+
+-- a later beginning leads to no lesser length
+pub length_rises : (p : PlannedShop) (s t : ℕ) (u : Node) (vs : List Node) → s ≤ t → length_from p s u vs ≤ length_from p t u vs
+length_rises p s t u [] le = le
+length_rises p s t u (v ∷ vs) le = length_rises p (reached_at p s u v) (reached_at p t u v) v vs (omega (arith, le))
 
 -- the last of the nodes from u on
 abbrev pub last_from : Node → List Node → Node
@@ -56,29 +61,3 @@ module _ (p : PlannedShop) (shaped : IsWellShaped p) where
   arc_time _ _ _ (job_arc j k within) = ap time_of (job_arc_kind_same p (node j k) (node j (k + 1)) refl)
   arc_time _ _ _ (blocking_arc m a i k j l one other) =
       ap time_of (blocking_arc_kind_same p (node i (k + 1)) (node j l) (apart m a i k j l one other)) ∙ ap (clean p) other.visits.here
-
--- what a path to v of length n is, from its first node on
-pub record IsLed (p : PlannedShop) (u : Node) (us : List Node) (v : Node) (n : ℕ) : Type 0 where
-  pub inside : u.job < jobs p
-  pub along : AreAlong p u us
-  pub ends : last_from u us ≡ v
-  pub size : length_from p (release p u.job) u us ≡ n
-
-abbrev pub IsLedPath : PlannedShop → List Node → Node → ℕ → Type 0
-IsLedPath p [] v n = ⊥
-IsLedPath p (u ∷ us) v n = IsLed p u us v n
-
-module _ (p : PlannedShop) (shaped : IsWellShaped p) where
-  led_more : (nodes : List Node) (u v : Node) (n d : ℕ) → Arc p u v d → IsLedPath p nodes u n → IsLedPath p (nodes ++ v ∷ []) v (n + d)
-  led_more [] u v n d arc led = absurd led
-  led_more (w ∷ ws) u v n d arc led = record {
-    inside = led.inside;
-    along = along_more p w ws v led.along (subst (λ (x : Node). HasArc p x v) (sym led.ends) (d, arc));
-    ends = last_more w ws v;
-    size = omega (arith, length_more p (release p w.job) w ws v, led.size, ap (λ (x : Node). time_of (arc_kind p x v)) led.ends, arc_time p shaped u v d arc);
-  }
-
-  -- a path, from its first node on
-  pub path_led : (nodes : List Node) (v : Node) (n : ℕ) → Path p nodes v n → IsLedPath p nodes v n
-  path_led _ _ _ (begins j inside) = record { inside = inside; along = tt; ends = refl; size = refl }
-  path_led _ _ _ (follows nodes u v n d path arc) = led_more nodes u v n d arc (path_led nodes u n path)

@@ -3,7 +3,5 @@ pub mod Printed
 pub mod Moments
 pub mod Texts
 pub mod LineLaws
-pub mod RestTexts
-pub mod RestPaths
-pub mod AtStart
-pub mod StartTexts
+pub mod ChainTexts
+pub mod AheadPaths

@@ -1,17 +1,18 @@
 -- What the lines of explanations say.
-use Rattle.std.proofs.Common.{◌≡◌, ℕ, ◌+◌, List, [], ◌∷◌, ◌++◌, inl, inr, arith, refl, sym, ap, ◌∙◌}
-use Rattle.std.proofs.lemmas.List.{append-nil, append_assoc}
-use Rattle.shop_base.specs.{declared.node.Node.Node, Plan.{PlannedShop, jobs, release, clean, IsWellShaped}}
-use Rattle.shop_base.specs.Graph.{node, leaving, Arc, HasArc, ArcsLead, Path, begins, follows, IsSimpleCycle}
+use Rattle.std.proofs.Common.{◌≡◌, ℕ, ◌+◌, ◌<◌, ◌≤◌, List, [], ◌∷◌, ◌++◌, inl, inr, arith, refl, sym, ap, subst, ◌∙◌}
+use Rattle.std.proofs.lemmas.{Bool.cases_lt, List.{append-nil, append_assoc}}
+use Rattle.shop_base.specs.{declared.node.Node.Node, Plan.{PlannedShop, jobs, steps, clean, IsWellShaped}}
+use Rattle.shop_base.specs.{Cell.{Cell, made, IsGone}, Sound.IsSound, Graph.{node, Arc, HasArc, ArcsLead, IsSimpleCycle}}
 use Rattle.alt_graph.specs.Evidence.{EndsIn}
 use Rattle.people_names.specs.NameBooks.{NameBook}
-use Rattle.plan_verifier.specs.{declared.verdict.Verdict.Verdict, declared.verdict.Verdict.TheVariants.{Accepted, Refused}}
-use Rattle.plan_verifier.proofs.Reasons.{greatest_once, makespan_le}
+use Rattle.plan_verifier.specs.{declared.verdict.Judged.Judged, declared.verdict.Judged.TheVariants.{Accepted, Refused}}
+use Rattle.plan_verifier.specs.Leavings.{AreLeavingsAhead, IsLastLeaving}
 use Rattle.plan_explain.specs.FirstLines.{accepted_line, moments_below, IsAcceptedFirstLine, IsFirstLine}
-use Rattle.plan_explain.specs.{declared.arcs.ArcKind.TheVariants.Blocking, Arcs.arc_kind, Cycles.{arc_line, arc_lines, cycle_lines}}
-use Rattle.plan_explain.specs.Chains.{reached_at, length_from, release_line, reached_line, reached_lines, chain_lines}
-use Rattle.plan_explain.specs.LineLaws.{AreExactArcs, IsLastLine}
-use Rattle.plan_explain.proofs.{Moments.moments_same, ArcFacts.{job_arc_kind_same, blocking_arc_kind_same, apart, arc_time, last_from, IsLedPath, path_led}}
+use Rattle.plan_explain.specs.{declared.arcs.ArcKind.TheVariants.Blocking, Arcs.arc_kind, Cycles.{arc_line, arc_lines, cycle_lines}, Holds.bound_line}
+use Rattle.plan_explain.specs.Chains.{reached_at, length_from, reached_line, reached_lines, IsLongestTo, AreChainLines}
+use Rattle.plan_explain.specs.LineLaws.{AreExactArcs, IsBoundLine, IsLastLine}
+use Rattle.plan_explain.proofs.{Moments.moments_same, AheadPaths.{led, bound_length}}
+use Rattle.plan_explain.proofs.ArcFacts.{job_arc_kind_same, blocking_arc_kind_same, apart, arc_time, last_from}
 
 pub exact_arcs : (p : PlannedShop) → IsWellShaped p → AreExactArcs p
 exact_arcs p shaped = record {
@@ -30,36 +31,59 @@ module _ (names : NameBook) (p : PlannedShop) where
       let line = reached_line names (reached_at p t u w) w (arc_kind p u w) in
       ap (λ l. line ++ l) (lines_behind (reached_at p t u w) w ws v vs) ∙ sym (append_assoc line _ _)
 
-  line_printed : (shaped : IsWellShaped p) (path nodes : List Node) (u v : Node) (n d : ℕ) → IsLedPath p path u n → Arc p u v d
-      → chain_lines names p (path ++ v ∷ nodes) ≡ chain_lines names p path ++ (reached_line names (n + d) v (arc_kind p u v) ++ reached_lines names p (n + d) v nodes)
-  line_printed shaped [] nodes u v n d led arc = absurd led
-  line_printed shaped (w ∷ ws) nodes u v n d led arc =
-      let first = release_line names (release p w.job) w in
-      ap (λ l. first ++ l) (lines_behind (release p w.job) w ws v nodes)
-      ∙ sym (append_assoc first (reached_lines names p (release p w.job) w ws) _)
-      ∙ ap (λ k. chain_lines names p (w ∷ ws) ++ reached_lines names p k (last_from w ws) (v ∷ nodes)) led.size
-      ∙ ap (λ (x : Node). chain_lines names p (w ∷ ws) ++ reached_lines names p n x (v ∷ nodes)) led.ends
-      ∙ ap (λ k. chain_lines names p (w ∷ ws) ++ (reached_line names (n + k) v (arc_kind p u v) ++ reached_lines names p (n + k) v nodes)) (arc_time p shaped u v d arc)
-
-  pub each_line : (path nodes : List Node) (u v : Node) (n d : ℕ) → IsWellShaped p → Path p path u n → Arc p u v d
-      → chain_lines names p (path ++ v ∷ nodes) ≡ chain_lines names p path ++ (reached_line names (n + d) v (arc_kind p u v) ++ reached_lines names p (n + d) v nodes)
-  each_line path nodes u v n d shaped is arc = line_printed shaped path nodes u v n d (path_led p shaped path u n is) arc
-
-  -- a path ends in its last node
-  path_end : (nodes : List Node) (v : Node) (n : ℕ) → Path p nodes v n → EndsIn nodes v
-  path_end _ _ _ (begins j inside) = ([], refl)
-  path_end _ _ _ (follows nodes u v n d path arc) = (nodes, refl)
-
-  pub last_line : (nodes : List Node) (v : Node) (n : ℕ) → IsWellShaped p → Path p nodes v n → (lines last : List ℕ) × (chain_lines names p nodes ≡ lines ++ last) × IsLastLine names p nodes v n last
-  last_line _ _ _ shaped (begins j inside) = ([], release_line names (release p j) (node j 0), append-nil _, inr (refl, refl))
-  last_line _ _ _ shaped (follows nodes u v n d path arc) =
-      let (front, ends) = path_end nodes u n path in (
-        chain_lines names p nodes,
-        reached_line names (n + d) v (arc_kind p u v),
-        each_line nodes [] u v n d shaped path arc ∙ ap (λ l. chain_lines names p nodes ++ l) (append-nil _),
-        inl (front, u, ap (λ (l : List Node). l ++ v ∷ []) ends ∙ append_assoc front (u ∷ []) (v ∷ []), refl),
+module _ (names : NameBook) (p : PlannedShop) (c : Cell) (t : ℕ) (shaped : IsWellShaped p) (sound : IsSound p c) where
+  pub each_line : (path nodes : List Node) (u v : Node) (n d : ℕ) (lines : List ℕ) → IsLongestTo p c t path u n → Arc p u v d → AreChainLines names p c t (path ++ v ∷ nodes) lines
+      → (front : List ℕ) × AreChainLines names p c t path front × (lines ≡ front ++ (reached_line names (n + d) v (arc_kind p u v) ++ reached_lines names p (n + d) v nodes))
+  each_line [] nodes u v n d lines is arc are = absurd is.begins
+  each_line (w ∷ ws) nodes u v n d lines is arc (b, bound, written) =
+      let first = bound_line names w b in
+      let ends = (led p c t w ws u n is shaped).ends in
+      let size = bound_length p c t w ws u n is shaped b sound bound in (
+        first ++ reached_lines names p b.moment w ws,
+        (b, bound, refl),
+        written
+            ∙ ap (λ l. first ++ l) (lines_behind names p b.moment w ws v nodes)
+            ∙ sym (append_assoc first (reached_lines names p b.moment w ws) _)
+            ∙ ap (λ k. (first ++ reached_lines names p b.moment w ws) ++ reached_lines names p k (last_from w ws) (v ∷ nodes)) size
+            ∙ ap (λ (x : Node). (first ++ reached_lines names p b.moment w ws) ++ reached_lines names p n x (v ∷ nodes)) ends
+            ∙ ap (λ k. (first ++ reached_lines names p b.moment w ws) ++ (reached_line names (n + k) v (arc_kind p u v) ++ reached_lines names p (n + k) v nodes)) (arc_time p shaped u v d arc),
       )
 
+  -- the lines of the nodes behind the first one end with that of the last
+  reached_last : (m : ℕ) (w x : Node) (xs : List Node) → (front : List ℕ) × (nodes : List Node) × (u : Node) × (w ∷ x ∷ xs ≡ nodes ++ u ∷ last_from x xs ∷ [])
+      × (reached_lines names p m w (x ∷ xs) ≡ front ++ reached_line names (length_from p m w (x ∷ xs)) (last_from x xs) (arc_kind p u (last_from x xs)))
+  reached_last m w x [] = ([], [], w, refl, append-nil _)
+  reached_last m w x (y ∷ ys) =
+      let line = reached_line names (reached_at p m w x) x (arc_kind p w x) in
+      let (front, nodes, u, are, written) = reached_last (reached_at p m w x) x y ys in
+      (line ++ front, w ∷ nodes, u, ap (λ (l : List Node). w ∷ l) are, ap (λ l. line ++ l) written ∙ sym (append_assoc line front _))
+
+  pub last_line : (nodes : List Node) (v : Node) (n : ℕ) (lines : List ℕ) → IsLongestTo p c t nodes v n → AreChainLines names p c t nodes lines
+      → (front last : List ℕ) × (lines ≡ front ++ last) × IsLastLine names p c t nodes v n last
+  last_line [] v n lines is are = absurd is.begins
+  last_line (w ∷ []) v n lines is (b, bound, written) =
+      let ends : w ≡ v = (led p c t w [] v n is shaped).ends in
+      let size : b.moment ≡ n = bound_length p c t w [] v n is shaped b sound bound in (
+        [],
+        bound_line names w b,
+        written ∙ append-nil _,
+        inr (ap (λ (x : Node). x ∷ []) ends, subst (λ (x : Node). IsBoundLine names p c t x n (bound_line names w b)) ends (b, bound, size, refl)),
+      )
+  last_line (w ∷ x ∷ xs) v n lines is (b, bound, written) =
+      let ends : last_from x xs ≡ v = (led p c t w (x ∷ xs) v n is shaped).ends in
+      let (front, nodes, u, are, lasts) = reached_last b.moment w x xs in
+      let first = bound_line names w b in (
+        first ++ front,
+        reached_line names n v (arc_kind p u v),
+        written
+            ∙ ap (λ l. first ++ l) (lasts
+            ∙ ap (λ k. front ++ reached_line names k (last_from x xs) (arc_kind p u (last_from x xs))) (bound_length p c t w (x ∷ xs) v n is shaped b sound bound)
+            ∙ ap (λ (y : Node). front ++ reached_line names n y (arc_kind p u y)) ends)
+            ∙ sym (append_assoc first front _),
+        inl (nodes, u, are ∙ ap (λ (y : Node). nodes ++ u ∷ y ∷ []) ends, refl),
+      )
+
+module _ (names : NameBook) (p : PlannedShop) where
   lines_close : (u : Node) (us : List Node) (v : Node) → ArcsLead p u us v
       → (lines : List ℕ) × (last : Node) × (arc_lines names p u us v ≡ lines ++ arc_line names p last v) × EndsIn (u ∷ us) last × HasArc p last v
   lines_close u [] v arc = ([], u, refl, ([], refl), arc)
@@ -76,13 +100,27 @@ module _ (names : NameBook) (p : PlannedShop) where
       → (lines : List ℕ) × (last : Node) × (cycle_lines names p (first ∷ rest) ≡ lines ++ arc_line names p last first) × EndsIn (first ∷ rest) last × HasArc p last first
   cycle_closes first rest cycle = lines_close first rest first cycle.1
 
--- what an accepted plan is printed by is the plan's alone
-accepted_once : (p : PlannedShop) (one other : List ℕ) → IsAcceptedFirstLine p one → IsAcceptedFirstLine p other → one ≡ other
-accepted_once p one other here there =
-    let makespans : here.makespan ≡ there.makespan = omega (arith, makespan_le p here.makespan there.makespan here.is there.is, makespan_le p there.makespan here.makespan there.is here.is) in
-    here.words ∙ ap (λ n. accepted_line n (moments_below here.leaves (jobs p))) makespans
-    ∙ ap (accepted_line there.makespan) (moments_same here.leaves there.leaves (jobs p) (λ j inside. greatest_once p (leaving p j) _ _ (here.leavings j inside) (there.leavings j inside))) ∙ sym there.words
+-- a job leaves once
+leaves_once : (p : PlannedShop) (c : Cell) (t : ℕ) (one other : ℕ → ℕ) → AreLeavingsAhead p c t one → AreLeavingsAhead p c t other → (j : ℕ) → j < jobs p → one j ≡ other j
+leaves_once p c t one other here there j inside = elim (cases_lt (steps p j) (made c j)) [
+  | inl gone ↦ here.left j inside gone ∙ sym (there.left j inside gone)
+  | inr still ↦ (
+      let first = here.ahead j inside (λ gone. omega (arith, still, (let is : IsGone p c j = gone in is))) in
+      let second = there.ahead j inside (λ gone. omega (arith, still, (let is : IsGone p c j = gone in is))) in
+      omega (arith, second.longest first.reached.0 (one j) first.reached.1, first.longest second.reached.0 (other j) second.reached.1))
+]
 
-pub first_line_once : (verdict : Verdict) (one other : List ℕ) → IsFirstLine verdict one → IsFirstLine verdict other → one ≡ other
-first_line_once (Accepted verified) one other here there = accepted_once verified.planned one other here there
-first_line_once (Refused back why) one other here there = here ∙ sym there
+last_le : (p : PlannedShop) (one other : ℕ → ℕ) (m n : ℕ) → ((j : ℕ) → j < jobs p → one j ≡ other j) → IsLastLeaving p one m → IsLastLeaving p other n → m ≤ n
+last_le p one other m n same here there = (let (j, inside, is) = here.reached in omega (arith, is, same j inside, there.bound j inside))
+
+accepted_once : (p : PlannedShop) (c : Cell) (t : ℕ) (one other : List ℕ) → IsAcceptedFirstLine p c t one → IsAcceptedFirstLine p c t other → one ≡ other
+accepted_once p c t one other here there =
+    let same = leaves_once p c t here.leaves there.leaves here.leavings there.leavings in
+    let (m, last, written) = here.text in
+    let (n, end, so) = there.text in
+    let makespans : m ≡ n = omega (arith, last_le p here.leaves there.leaves m n same last end, last_le p there.leaves here.leaves n m (λ j inside. sym (same j inside)) end last) in
+    written ∙ ap (λ k. accepted_line k (moments_below here.leaves (jobs p))) makespans ∙ ap (accepted_line n) (moments_same here.leaves there.leaves (jobs p) same) ∙ sym so
+
+pub first_line_once : (p : PlannedShop) (c : Cell) (t : ℕ) (verdict : Judged) (one other : List ℕ) → IsFirstLine p c t verdict one → IsFirstLine p c t verdict other → one ≡ other
+first_line_once p c t (Accepted times) one other here there = accepted_once p c t one other here there
+first_line_once p c t (Refused why) one other here there = here ∙ sym there

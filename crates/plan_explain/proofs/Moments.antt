@@ -2,13 +2,7 @@
 use native.Mathlib.Numerals.{unary_clauses}
 use Rattle.std.proofs.Common.{◌≡◌, ℕ, zero, suc, ◌+◌, ◌<◌, List, [], ◌∷◌, ◌++◌, decimal, codes, arith, refl, sym, ap, ◌∙◌}
 use Rattle.std.proofs.{lemmas.Grind.flat_map-append, lemmas.List.{append-nil, append_assoc}}
-use Rattle.shop_base.specs.Plan.{PlannedShop}
-use Rattle.alt_graph.proofs.WholePlans.{times_ranks}
-use Rattle.plan_verifier.specs.{Accepted.IsVerified, Leavings.{leaves_in, AreLeavings}, Seen.{judged, as_rest}, Verdicts.OnAccepted}
-use Rattle.plan_verifier.specs.{declared.verdict.Verdict.Verdict, declared.verdict.Verdict.TheVariants.{Accepted, Refused}}
-use Rattle.plan_verifier.proofs.Reasons.{verified_greatest, makespan_is}
-use Rattle.plan_explain.specs.FirstLines.{moment_words, moments_below, IsAcceptedText, IsAcceptedFirstLine, IsFirstLine}
-use Rattle.plan_explain.specs.{RestFirstLines.IsLineByTimes, RestVerdicts.HasRanks}
+use Rattle.plan_explain.specs.FirstLines.{moment_words, moments_below}
 
 -- one more moment
 pub moments_more : (f : ℕ → ℕ) (n : ℕ) → moments_below f (n + 1) ≡ moments_below f n ++ f n ∷ []
@@ -30,16 +24,3 @@ words_more old text new f n moment written is added =
 pub moments_same : (f g : ℕ → ℕ) (n : ℕ) → ((j : ℕ) → j < n → f j ≡ g j) → moments_below f n ≡ moments_below g n
 moments_same f g zero same = refl
 moments_same f g (suc n) same = ap (λ l. l ++ f n ∷ []) (moments_same f g n (λ j lt. same j (omega arith))) ∙ ap (λ m. moments_below g n ++ m ∷ []) (same n (omega arith))
-
--- a line that gives the greatest lengths of the paths to the leavings gives the plan's
-pub accepted_line_is : (p : PlannedShop) (leaves : ℕ → ℕ) (line : List ℕ) → AreLeavings p leaves → IsAcceptedText p leaves line → IsAcceptedFirstLine p line
-accepted_line_is p leaves line are (n, last, words) = record { makespan = n; is = makespan_is p leaves n are last; leaves = leaves; leavings = are; words = words }
-
--- so does that of a verdict, by its earliest moments or its evidence
-pub first_line_is : (verdict : Verdict) (line : List ℕ) → OnAccepted IsVerified verdict → IsLineByTimes (judged verdict) (as_rest verdict) line → IsFirstLine verdict line
-first_line_is (Accepted v) line sound is = accepted_line_is v.planned (leaves_in v.planned v.times) line (verified_greatest v sound) is
-first_line_is (Refused p why) line sound is = is
-
-pub verdict_ranks : (verdict : Verdict) → OnAccepted IsVerified verdict → HasRanks (judged verdict) (as_rest verdict)
-verdict_ranks (Accepted v) sound = times_ranks v.planned v.times sound.ordered.times
-verdict_ranks (Refused p why) sound = tt

@@ -1,6 +1,6 @@
 -- Texts from their parts.
 use native.Mathlib.Numerals.{unary_clauses}
-use Rattle.std.proofs.Common.{◌≡◌, ℕ, zero, suc, ◌+◌, ◌<◌, List, [], ◌++◌, Result, Ok, Err, OnOk, arith, refl, sym, ap, ◌∙◌}
+use Rattle.std.proofs.Common.{◌≡◌, ℕ, ◌+◌, ◌<◌, List, [], ◌++◌, Result, Ok, Err, OnOk, arith, refl, sym, ap, ◌∙◌}
 use Rattle.std.proofs.lemmas.List.{append-nil, append_assoc}
 use Rattle.plan_explain.specs.{Added.Adds, Parts.{AreBoth, AreTextsFrom, no_text, next_text, texts_below}}
 
@@ -48,10 +48,6 @@ text_more of old text new n written added = added_twice old text new (texts_belo
   where
     more : texts_below of (n + 1) ≡ texts_below of n ++ of n
     more = simp unary_clauses refl
-
-pub texts_same : (of other : ℕ → List ℕ) (n : ℕ) → ((j : ℕ) → j < n → of j ≡ other j) → texts_below of n ≡ texts_below other n
-texts_same of other zero same = refl
-texts_same of other (suc n) same = ap (λ l. l ++ of n) (texts_same of other n (λ j lt. same j (omega arith))) ∙ ap (λ l. texts_below other n ++ l) (same n (omega arith))
 
 -- ---- texts of one kind that are texts of another
 

@@ -1,8 +1,8 @@
--- The lines of a chain.
-use Rattle.std.specs.Prelude.{ℕ, ◌+◌, None, List, [], ◌∷◌, ◌++◌, codes}
-use Rattle.shop_base.specs.{declared.node.Node.Node, NodeText.node_text, Plan.PlannedShop, Plan.release, Graph.HasArc}
+-- The lines of a chain ahead.
+use Rattle.std.specs.Prelude.{◌≡◌, ℕ, ◌+◌, ◌^◌, ◌<◌, ◌≤◌, List, [], ◌∷◌, ◌++◌, codes}
+use Rattle.shop_base.specs.{declared.node.Node.Node, NodeText.node_text, Plan.PlannedShop, Cell.Cell, Graph.HasArc, Ahead.PathAhead}
 use Rattle.people_names.specs.{NameBooks.NameBook, Words.moment_word}
-use Rattle.plan_verifier.specs.declared.node_bound.Hold.TheVariants.{Awaited}
+use Rattle.plan_verifier.specs.{Held.BeginHeldUp, Held.IsBoundOf, declared.node_bound.NodeBound.NodeBound}
 use Rattle.plan_explain.specs.{declared.arcs.ArcKind.ArcKind, Arcs.before, Arcs.time_of, Arcs.arc_words, Arcs.arc_kind, Holds.bound_line}
 
 -- when v is reached over the arc from u, which is reached at moment t
@@ -20,10 +20,6 @@ AreAlong p u [] = Unit {0}
 AreAlong p u (v ∷ vs) = HasArc p u v × AreAlong p v vs
 
 module _ (names : NameBook) where
-  -- `R j.0 release of job J`, of the first node of a chain of a whole plan, which its job's release holds up
-  abbrev pub release_line : ℕ → Node → List ℕ
-  release_line release u = bound_line names u (record { moment = release; holds = Awaited u.job; overdue = None })
-
   -- `T B WORDS`, of a node that is reached at moment t over the arc
   abbrev pub reached_line : ℕ → Node → ArcKind → List ℕ
   reached_line t v arc = before (moment_word names t ∷ codes " " ∷ node_text v ∷ codes " " ∷ []) (before (arc_words names arc) (codes "\n"))
@@ -33,7 +29,26 @@ module _ (names : NameBook) where
   reached_lines p t u [] = []
   reached_lines p t u (v ∷ vs) = reached_line (reached_at p t u v) v (arc_kind p u v) ++ reached_lines p (reached_at p t u v) v vs
 
-  -- the lines of a chain: the release of the first job, and each further node, with the length of the path up to it
-  abbrev pub chain_lines : PlannedShop → List Node → List ℕ
-  chain_lines p [] = []
-  chain_lines p (u ∷ us) = release_line (release p u.job) u ++ reached_lines p (release p u.job) u us
+module _ (p : PlannedShop) (c : Cell) (t : ℕ) where
+  -- along these nodes leads a path ahead to v of length n, the longest one, from a node that is held up
+  pub record IsLongestTo (nodes : List Node) (v : Node) (n : ℕ) : Type 0 where
+    pub path : PathAhead p c t nodes v n
+    pub begins : BeginHeldUp p c nodes
+    pub greatest : (w : Node) (k : ℕ) → PathAhead p c t nodes w k → k ≤ n
+
+  -- they are such a path, whose length is a moment
+  pub record IsLongest (nodes : List Node) : Type 0 where
+    pub last : Node
+    pub size : ℕ
+    pub is : IsLongestTo nodes last size
+    pub small : size < 2 ^ 64
+
+  -- there are no nodes, or they are such a path
+  abbrev pub IsChainOrNone : List Node → Type 0
+  IsChainOrNone [] = Unit {0}
+  IsChainOrNone (u ∷ us) = IsLongest (u ∷ us)
+
+-- the lines of a chain: what its first node waits for, and each further node, with the length of the path up to it
+abbrev pub AreChainLines : NameBook → PlannedShop → Cell → ℕ → List Node → List ℕ → Type 0
+AreChainLines names p c t [] lines = lines ≡ []
+AreChainLines names p c t (u ∷ us) lines = (bound : NodeBound) × IsBoundOf p c t u bound × (lines ≡ bound_line names u bound ++ reached_lines names p bound.moment u us)

@@ -1,11 +1,11 @@
 -- The first lines of verdicts.
 use Rattle.std.specs.Prelude.{◌≡◌, ℕ, zero, suc, List, [], ◌∷◌, ◌++◌, codes, decimal}
 use Rattle.std.specs.List.{flat_map}
-use Rattle.shop_base.specs.{declared.node.Node.Node, NodeText.node_text, Plan.PlannedShop, Plan.jobs}
-use Rattle.plan_verifier.specs.declared.verdict.Verdict.{Verdict}
-use Rattle.plan_verifier.specs.declared.verdict.Verdict.TheVariants.{Accepted, Refused}
+use Rattle.shop_base.specs.{declared.node.Node.Node, NodeText.node_text, Plan.PlannedShop, Plan.jobs, Cell.Cell}
+use Rattle.plan_verifier.specs.declared.verdict.Judged.{Judged}
+use Rattle.plan_verifier.specs.declared.verdict.Judged.TheVariants.{Accepted, Refused}
 use Rattle.plan_verifier.specs.{declared.verdict.Why.Why, declared.verdict.Why.TheVariants.Cycle, declared.verdict.Why.TheVariants.Late}
-use Rattle.plan_verifier.specs.{Accepted.IsMakespan, Leavings.AreLeavings, Leavings.IsLastLeaving}
+use Rattle.plan_verifier.specs.Leavings.{leaves_in, AreLeavingsAhead, IsLastLeaving}
 
 -- the nodes, with a blank before each
 abbrev pub node_words : List Node → List ℕ
@@ -15,7 +15,7 @@ node_words nodes = flat_map (λ v. codes " " ++ node_text v) nodes
 abbrev pub moment_words : List ℕ → List ℕ
 moment_words moments = flat_map (λ n. codes " " ++ decimal n) moments
 
--- the line of an accepted plan, by its makespan and the jobs' leavings
+-- the line of what is accepted, by its makespan and the jobs' leavings
 abbrev pub accepted_line : ℕ → List ℕ → List ℕ
 accepted_line makespan leaves = codes "accepted makespan " ++ decimal makespan ++ codes " leaves" ++ moment_words leaves ++ codes "\n"
 
@@ -45,15 +45,18 @@ moments_below leaves (suc n) = moments_below leaves n ++ leaves n ∷ []
 abbrev pub IsAcceptedText : PlannedShop → (ℕ → ℕ) → List ℕ → Type 0
 IsAcceptedText p leaves line = (n : ℕ) × IsLastLeaving p leaves n × (line ≡ accepted_line n (moments_below leaves (jobs p)))
 
--- the line gives the makespan and the leavings of the plan
-pub record IsAcceptedFirstLine (p : PlannedShop) (line : List ℕ) : Type 0 where
-  pub makespan : ℕ
-  pub is : IsMakespan p makespan
+-- the line of a verdict, by its earliest moments or its evidence
+abbrev pub IsLineByTimes : PlannedShop → Judged → List ℕ → Type 0
+IsLineByTimes p (Accepted times) line = IsAcceptedText p (leaves_in p times) line
+IsLineByTimes p (Refused why) line = line ≡ refused_line why
+
+-- the line gives the makespan and the leavings of the rest
+pub record IsAcceptedFirstLine (p : PlannedShop) (c : Cell) (t : ℕ) (line : List ℕ) : Type 0 where
   pub leaves : ℕ → ℕ
-  pub leavings : AreLeavings p leaves
-  pub words : line ≡ accepted_line makespan (moments_below leaves (jobs p))
+  pub leavings : AreLeavingsAhead p c t leaves
+  pub text : IsAcceptedText p leaves line
 
 -- the first line of a verdict
-abbrev pub IsFirstLine : Verdict → List ℕ → Type 0
-IsFirstLine (Accepted verified) line = IsAcceptedFirstLine verified.planned line
-IsFirstLine (Refused back why) line = line ≡ refused_line why
+abbrev pub IsFirstLine : PlannedShop → Cell → ℕ → Judged → List ℕ → Type 0
+IsFirstLine p c t (Accepted times) line = IsAcceptedFirstLine p c t line
+IsFirstLine p c t (Refused why) line = line ≡ refused_line why

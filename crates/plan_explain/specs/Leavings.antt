@@ -1,16 +1,8 @@
--- The lines of the jobs of a plan without a cycle, and which of them leaves last.
-use Rattle.std.specs.Prelude.{ℕ, ◌-◌, ◌<◌, nat_lt, if◌then◌else◌, List, [], ◌∷◌, codes, decimal}
-use Rattle.shop_base.specs.{declared.node.Node.Node, Plan.PlannedShop, Plan.jobs, Plan.budget, Graph.leaving, Graph.Path}
+-- The lines of the jobs of a plan without a cycle.
+use Rattle.std.specs.Prelude.{ℕ, ◌-◌, nat_lt, if◌then◌else◌, List, [], ◌∷◌, codes, decimal}
+use Rattle.shop_base.specs.{Plan.PlannedShop, Plan.jobs, Plan.steps, Plan.budget, Cell.Cell, Cell.made}
 use Rattle.people_names.specs.{NameBooks.NameBook, Words.job_word, Words.moment_word, Words.is_budget_printed}
-use Rattle.plan_verifier.specs.Accepted.{IsMakespan}
 use Rattle.plan_explain.specs.{Arcs.before, Parts.texts_below}
-
--- the least job that leaves last, and when: at the makespan, before which each job with a lesser number leaves
-pub record IsLastToLeave (p : PlannedShop) (j n : ℕ) : Type 0 where
-  pub makespan : IsMakespan p n
-  pub inside : j < jobs p
-  pub reached : (nodes : List Node) × Path p nodes (leaving p j) n
-  pub first : (i : ℕ) (nodes : List Node) (k : ℕ) → i < j → Path p nodes (leaving p i) k → k < n
 
 module _ (names : NameBook) where
   -- ` budget B`, with these words behind it; ` no budget` of one that nobody gave
@@ -27,6 +19,15 @@ module _ (names : NameBook) where
   abbrev pub leaving_line : ℕ → ℕ → ℕ → List ℕ
   leaving_line j leaves budget = before (codes "job " ∷ job_word names j ∷ codes " leaves " ∷ moment_word names leaves ∷ []) (before (margin_words leaves budget) (codes "\n"))
 
+  -- `job J left L budget B`
+  abbrev pub gone_line : ℕ → ℕ → ℕ → List ℕ
+  gone_line j left budget = before (codes "job " ∷ job_word names j ∷ codes " left " ∷ moment_word names left ∷ []) (before (budget_words budget []) (codes "\n"))
+
+module _ (names : NameBook) (p : PlannedShop) (c : Cell) where
+  -- the line of job j: when it left, or when it leaves and what is left to its budget
+  abbrev pub job_line : ℕ → ℕ → List ℕ
+  job_line j leaves = if nat_lt (steps p j) (made c j) then gone_line names j leaves (budget p j) else leaving_line names j leaves (budget p j)
+
   -- the lines of all jobs, in ascending order
-  abbrev pub leaving_lines : PlannedShop → (ℕ → ℕ) → List ℕ
-  leaving_lines p leaves = texts_below (λ j. leaving_line j (leaves j) (budget p j)) (jobs p)
+  abbrev pub job_lines : (ℕ → ℕ) → List ℕ
+  job_lines leaves = texts_below (λ j. job_line j (leaves j)) (jobs p)

@@ -2,13 +2,14 @@
 use Rattle.std.specs.Prelude.{◌≡◌, ℕ, ◌+◌, ◌<◌, ◌⊎◌, List, [], ◌∷◌, ◌++◌}
 use Rattle.shop_base.specs.declared.node.Node.{Node}
 use Rattle.shop_base.specs.Plan.{PlannedShop, steps, machine_of, nominal, clean, Stands, IsWellShaped}
-use Rattle.shop_base.specs.Graph.{node, Arc, HasArc, Path, IsSimpleCycle}
+use Rattle.shop_base.specs.{Cell.Cell, Sound.IsSound, Graph.node, Graph.Arc, Graph.HasArc, Graph.IsSimpleCycle}
 use Rattle.alt_graph.specs.Evidence.{EndsIn}
 use Rattle.people_names.specs.NameBooks.{NameBook}
-use Rattle.plan_verifier.specs.declared.verdict.Verdict.{Verdict}
+use Rattle.plan_verifier.specs.declared.verdict.Judged.{Judged}
+use Rattle.plan_verifier.specs.{Held.IsBoundOf, declared.node_bound.NodeBound.NodeBound}
 use Rattle.plan_explain.specs.declared.arcs.ArcKind.TheVariants.{Job, Blocking}
-use Rattle.plan_explain.specs.{Arcs.time_of, Arcs.arc_kind, Cycles.arc_line, Cycles.cycle_lines}
-use Rattle.plan_explain.specs.{Chains.release_line, Chains.reached_line, Chains.reached_lines, Chains.chain_lines, FirstLines.IsFirstLine}
+use Rattle.plan_explain.specs.{Arcs.time_of, Arcs.arc_kind, Cycles.arc_line, Cycles.cycle_lines, FirstLines.IsFirstLine, Holds.bound_line}
+use Rattle.plan_explain.specs.Chains.{reached_line, reached_lines, IsLongestTo, AreChainLines}
 
 -- each arc of the plan is printed as it is, and takes the time that is printed
 pub record AreExactArcs (p : PlannedShop) : Type 0 where
@@ -20,20 +21,25 @@ pub record AreExactArcs (p : PlannedShop) : Type 0 where
 abbrev pub ArcsAreExact : Type 0
 ArcsAreExact = (p : PlannedShop) → IsWellShaped p → AreExactArcs p
 
--- the line of a node behind a path gives the length of the path up to it, which is that of the path before and the arc between
+-- the line of a node behind a longest path gives the length of the path up to it, which is that of the path before and the arc between
 abbrev pub EachLineIsItsPath : Type 0
-EachLineIsItsPath = (names : NameBook) (p : PlannedShop) (path nodes : List Node) (u v : Node) (n d : ℕ) → IsWellShaped p → Path p path u n → Arc p u v d
-    → chain_lines names p (path ++ v ∷ nodes) ≡ chain_lines names p path ++ (reached_line names (n + d) v (arc_kind p u v) ++ reached_lines names p (n + d) v nodes)
+EachLineIsItsPath = (names : NameBook) (p : PlannedShop) (c : Cell) (t : ℕ) (path nodes : List Node) (u v : Node) (n d : ℕ) (lines : List ℕ)
+    → IsWellShaped p → IsSound p c → IsLongestTo p c t path u n → Arc p u v d → AreChainLines names p c t (path ++ v ∷ nodes) lines
+    → (front : List ℕ) × AreChainLines names p c t path front × (lines ≡ front ++ (reached_line names (n + d) v (arc_kind p u v) ++ reached_lines names p (n + d) v nodes))
 
--- the last line of a path to v of length n: of the arc to v from the node before it, or, where there is none, of the release of v's job
-abbrev pub IsLastLine : NameBook → PlannedShop → List Node → Node → ℕ → List ℕ → Type 0
-IsLastLine names p nodes v n line =
-    ((front : List Node) × (u : Node) × (nodes ≡ front ++ u ∷ v ∷ []) × (line ≡ reached_line names n v (arc_kind p u v))) ⊎ ((nodes ≡ v ∷ []) × (line ≡ release_line names n v))
+-- what holds up the node is due at moment n, and this line says so
+abbrev pub IsBoundLine : NameBook → PlannedShop → Cell → ℕ → Node → ℕ → List ℕ → Type 0
+IsBoundLine names p c t v n line = (bound : NodeBound) × IsBoundOf p c t v bound × (bound.moment ≡ n) × (line ≡ bound_line names v bound)
 
--- the last line of a path's lines is of its last node, and gives its length
+-- the last line of a path to v of length n: of the arc to v from the node before it, or, where there is none, of what holds v up
+abbrev pub IsLastLine : NameBook → PlannedShop → Cell → ℕ → List Node → Node → ℕ → List ℕ → Type 0
+IsLastLine names p c t nodes v n line =
+    ((front : List Node) × (u : Node) × (nodes ≡ front ++ u ∷ v ∷ []) × (line ≡ reached_line names n v (arc_kind p u v))) ⊎ ((nodes ≡ v ∷ []) × IsBoundLine names p c t v n line)
+
+-- the last line of a longest path's lines is of its last node, and gives its length
 abbrev pub TheLastLineIsTheLength : Type 0
-TheLastLineIsTheLength = (names : NameBook) (p : PlannedShop) (nodes : List Node) (v : Node) (n : ℕ) → IsWellShaped p → Path p nodes v n
-    → (lines last : List ℕ) × (chain_lines names p nodes ≡ lines ++ last) × IsLastLine names p nodes v n last
+TheLastLineIsTheLength = (names : NameBook) (p : PlannedShop) (c : Cell) (t : ℕ) (nodes : List Node) (v : Node) (n : ℕ) (lines : List ℕ)
+    → IsWellShaped p → IsSound p c → IsLongestTo p c t nodes v n → AreChainLines names p c t nodes lines → (front last : List ℕ) × (lines ≡ front ++ last) × IsLastLine names p c t nodes v n last
 
 -- the last line of a cycle's lines is of the arc from its last node to its first
 abbrev pub TheLinesOfACycleClose : Type 0
@@ -42,4 +48,4 @@ TheLinesOfACycleClose = (names : NameBook) (p : PlannedShop) (first : Node) (res
 
 -- a verdict has one first line: so what `check` says of a verdict and what `explain` says of it begin with the same line
 abbrev pub AVerdictHasOneFirstLine : Type 0
-AVerdictHasOneFirstLine = (verdict : Verdict) (one other : List ℕ) → IsFirstLine verdict one → IsFirstLine verdict other → one ≡ other
+AVerdictHasOneFirstLine = (p : PlannedShop) (c : Cell) (t : ℕ) (verdict : Judged) (one other : List ℕ) → IsFirstLine p c t verdict one → IsFirstLine p c t verdict other → one ≡ other

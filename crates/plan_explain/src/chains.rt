@@ -1,19 +1,18 @@
 //! The lines of a chain.
 
 ghost use Rattle.std.specs.Prelude.{◌≡◌, ◌+◌, ◌^◌, ◌<◌, ◌≤◌, [], ◌∷◌, ◌++◌, length, codes, decimal, OnOk};
-ghost use Rattle.shop_base.specs.{declared.limits.TheConstants.MAX_MOMENT, NodeText.node_text};
-ghost use Rattle.plan_explain.specs.{Added.Adds, Arcs.before};
-ghost use Rattle.plan_explain.specs.{Chains.AreAlong, Chains.length_from, Chains.reached_lines};
-ghost use Rattle.plan_explain.specs.{Holds.overdue_words, Holds.hold_words};
-ghost use Rattle.plan_explain.specs.RestChains.{IsRestChain, IsChainOrNone, AreRestChainLines};
+ghost use Rattle.shop_base.specs.NodeText.{node_text};
+ghost use Rattle.plan_explain.specs.{Added.Adds, Arcs.before, Holds.overdue_words, Holds.hold_words};
+ghost use Rattle.plan_explain.specs.Chains.{AreAlong, length_from, reached_lines};
+ghost use Rattle.plan_explain.specs.Chains.{IsLongest, IsChainOrNone, AreChainLines};
 ghost use Rattle.people_names.specs.declared.names.TheConstants.{LONGEST_MOMENT};
 ghost use Rattle.people_names.specs.Words.{machine_word, moment_word};
 
 use crate::arcs::arc_kind;
 use crate::words::{Line, push_line, put_arc, put_job, put_node};
-use cell_tables::WorkCell;
+use cell_tables::Rest;
 use people_names::Names;
-use plan_verifier::{Hold, bound_after};
+use plan_verifier::{Hold, bound_of};
 use shop_base::{JobNo, MachineNo, Moment, Node, Planned, Shaped};
 use std::alloc::AllocError;
 
@@ -22,17 +21,15 @@ use std::alloc::AllocError;
 pub(crate) fn push_chain_lines<P: Planned>(
     text: &mut Vec<u8>,
     names: &Names,
-    cell: &WorkCell<P>,
-    present: Moment,
+    rest: &Rest<P>,
     nodes: &[Node],
 ) -> Result<(), AllocError>
-    requires present { present ≤ MAX_MOMENT }
-    requires chain { IsChainOrNone cell.now.plan cell.now.cell present nodes.now }
-    ensures { OnOk result (Adds (AreRestChainLines names.now cell.now.plan cell.now.cell present nodes.now)
+    requires { IsChainOrNone rest.now.plan rest.now.cell rest.now.present nodes.now }
+    ensures { OnOk result (Adds (AreChainLines names.now rest.now.plan rest.now.cell rest.now.present nodes.now)
         text.old.items text.new.items) }
 {
     match nodes.split_first() {
-        Some((first, rest)) => push_from(text, names, cell, present, *first, rest),
+        Some((first, along)) => push_from(text, names, rest, *first, along),
         None => Ok(()),
     }
 }
@@ -40,25 +37,24 @@ pub(crate) fn push_chain_lines<P: Planned>(
 fn push_from<P: Planned>(
     text: &mut Vec<u8>,
     names: &Names,
-    cell: &WorkCell<P>,
-    present: Moment,
+    rest: &Rest<P>,
     first: Node,
-    rest: &[Node],
+    along: &[Node],
 ) -> Result<(), AllocError>
-    requires present { present ≤ MAX_MOMENT }
-    requires chain { IsRestChain cell.now.plan cell.now.cell present (first ∷ rest.now) }
-    ensures { OnOk result (Adds (AreRestChainLines names.now cell.now.plan cell.now.cell present (first ∷ rest.now))
+    requires { IsLongest rest.now.plan rest.now.cell rest.now.present (first ∷ along.now) }
+    ensures { let r = rest.now in
+        OnOk result (Adds (AreChainLines names.now r.plan r.cell r.present (first ∷ along.now))
         text.old.items text.new.items) }
 {
-    let shaped = cell.shaped();
-    let Some(bound) = bound_after(cell, present, first) else {
+    let shaped = rest.shaped();
+    let Some(bound) = bound_of(rest, first) else {
         unreachable!()
     };
     let mut line = Line::ended();
     put_overdue(&mut line, names, bound.overdue);
     put_hold(&mut line, names, bound.holds);
     push_node_at(text, names, &mut line, first, bound.moment)?;
-    push_reached_lines(text, names, shaped, bound.moment, first, rest)
+    push_reached_lines(text, names, shaped, bound.moment, first, along)
 }
 
 /// Writes since when that is overdue, if it is.

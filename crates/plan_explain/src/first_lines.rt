@@ -1,49 +1,31 @@
 //! The first line of a verdict on a plan, or on the rest of a run.
 
 ghost use Rattle.std.specs.Prelude.{◌≡◌, ℕ, ◌++◌, IfOk, OnOk, codes, decimal};
-ghost use Rattle.shop_base.specs.{NodeText.node_text, Plan.jobs};
+ghost use Rattle.shop_base.specs.{NodeText.node_text, Plan.jobs, Cell.Cell};
 ghost use Rattle.alt_graph.specs.Times.{AreRanks};
-ghost use Rattle.plan_verifier.specs.{Leavings.leaves_in, Seen.lent};
-ghost use Rattle.plan_explain.specs.Added.{Adds};
+ghost use Rattle.plan_verifier.specs.Leavings.{leaves_in};
+ghost use Rattle.plan_verifier.specs.RestVerdicts.{IsAcceptedAhead};
+ghost use Rattle.plan_explain.specs.{Added.Adds, Known.HasRanks};
 ghost use Rattle.plan_explain.specs.FirstLines.{node_words, moment_words, cycle_line, late_words, refused_late_line};
-ghost use Rattle.plan_explain.specs.FirstLines.{refused_line, moments_below, IsAcceptedText, IsFirstLine};
-ghost use Rattle.plan_explain.specs.RestFirstLines.{IsLineByTimes, IsRestFirstLine};
-ghost use Rattle.plan_explain.specs.RestVerdicts.{HasRanks, IsRestJudged};
+ghost use Rattle.plan_explain.specs.FirstLines.{refused_line, moments_below, IsAcceptedText, IsLineByTimes, IsFirstLine};
 
 use crate::words::{Line, push_line, put_node};
 use alt_graph::Times;
-use cell_tables::WorkCell;
-use plan_verifier::{Seen, Verdict, Why, leave_time, makespan};
+use plan_verifier::{Judged, Why, leave_time, makespan};
 use shop_base::{JobNo, Moment, Node, Planned};
 use std::alloc::{AllocError, Global};
 
-/// The line of a verdict: `accepted makespan M leaves L0 L1 ..` with each job's earliest leaving,
-/// `refused cycle n0 n1 ..` with the cycle's nodes, or `refused late J L n0 n1 ..` with the nodes of the chain to
-/// the late job's leaving.
-pub fn first_line(alloc: Global, verdict: &Verdict) -> Result<Vec<u8>, AllocError>
-    ensures { IfOk result (λ line. IsFirstLine verdict.now line.items) }
-{
-    line_of(alloc, verdict.shaped(), verdict.seen())
-}
-
-/// The line of a verdict on the rest of a run, in the same words. Of a job that is gone it gives the moment at which it
-/// left.
-pub fn first_line_after<P: Planned>(
+/// The line of a verdict on a plan, or on the rest of a run: `accepted makespan M leaves L0 L1 ..` with each job's
+/// earliest leaving, of one that is gone the moment at which it left; `refused cycle n0 n1 ..` with the cycle's nodes; or
+/// `refused late J L n0 n1 ..` with the nodes of the chain to the late job's leaving.
+pub fn first_line<P: Planned>(
     alloc: Global,
-    cell: &WorkCell<P>,
-    verdict: Seen<'_>,
+    plan: &P,
+    verdict: &Judged,
 ) -> Result<Vec<u8>, AllocError>
-    requires { HasRanks cell.now.plan (lent verdict) }
-    ensures { (t : ℕ) → IsRestJudged cell.now.plan cell.now.cell t (lent verdict.entry)
-        → IfOk result (λ line. IsRestFirstLine cell.now.plan cell.now.cell t (lent verdict.entry) line.items) }
-{
-    line_of(alloc, cell, verdict)
-}
-
-/// The line of a verdict on a plan, by its earliest moments or its evidence.
-fn line_of<P: Planned>(alloc: Global, plan: &P, verdict: Seen<'_>) -> Result<Vec<u8>, AllocError>
-    requires { HasRanks (P.planned plan.now) (lent verdict) }
-    ensures { IfOk result (λ line. IsLineByTimes (P.planned plan.now) (lent verdict.entry) line.items) }
+    requires { HasRanks (P.planned plan.now) verdict.now }
+    ensures { (c : Cell) (t : ℕ) → let p = P.planned plan.now in
+        IsAcceptedAhead p c t verdict.now → IfOk result (λ line. IsFirstLine p c t verdict.now line.items) }
 {
     let mut line = Vec::new(alloc);
     push_first_line(&mut line, plan, verdict)?;
@@ -53,15 +35,14 @@ fn line_of<P: Planned>(alloc: Global, plan: &P, verdict: Seen<'_>) -> Result<Vec
 fn push_first_line<P: Planned>(
     text: &mut Vec<u8>,
     plan: &P,
-    verdict: Seen<'_>,
+    verdict: &Judged,
 ) -> Result<(), AllocError>
-    requires { HasRanks (P.planned plan.now) (lent verdict) }
-    ensures { let p = P.planned plan.now in
-        OnOk result (Adds (IsLineByTimes p (lent verdict.entry)) text.old.items text.new.items) }
+    requires { HasRanks (P.planned plan.now) verdict.now }
+    ensures { OnOk result (Adds (IsLineByTimes (P.planned plan.now) verdict.now) text.old.items text.new.items) }
 {
     match verdict {
-        Seen::Accepted(times) => push_accepted_line(text, plan, times),
-        Seen::Refused(why) => push_refused_line(text, why),
+        Judged::Accepted(times) => push_accepted_line(text, plan, times),
+        Judged::Refused(why) => push_refused_line(text, why),
     }
 }
 

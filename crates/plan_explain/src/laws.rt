@@ -1,9 +1,8 @@
-//! The laws of explanations: of the lines that `check` and `explain` write, of every well shaped plan and every
+//! The laws of explanations: of the lines that `check` and `explain` write, of every rest of a run and every
 //! verdict.
 
 // Nothing is done here: a function's contract is the law, so a check of this crate proves it.
 
-ghost use Rattle.plan_explain.specs.StartTexts.{TheStartIsExplainedAsThePlan};
 ghost use Rattle.plan_explain.specs.LineLaws.{ArcsAreExact, EachLineIsItsPath, TheLastLineIsTheLength};
 ghost use Rattle.plan_explain.specs.LineLaws.{TheLinesOfACycleClose, AVerdictHasOneFirstLine};
 
@@ -14,16 +13,16 @@ pub fn arcs_are_exact()
     ensures { ArcsAreExact }
 {}
 
-/// The line of a node after a path gives the length of the path up to it: the length of the path before, plus the arc
-/// between. So the moments never fall along a chain.
+/// The line of a node after a longest path gives the length of the path up to it: the length of the path before, plus
+/// the arc between. So the moments never fall along a chain.
 #[tactic(auto, using(crate::proofs::LineLaws::each_line))]
 pub fn each_line_is_its_path()
     ensures { EachLineIsItsPath }
 {}
 
-/// The last line of a path is the line of the arc to its last node or, for a path of one node, of its job's release.
-/// Its moment is the path's length: for a late plan the moment at which the late job leaves, for an accepted one the
-/// makespan.
+/// The last line of a longest path is the line of the arc to its last node or, for a path of one node, of what holds that
+/// up. Its moment is the path's length: for what is late the moment at which the late job leaves, for what is accepted
+/// the last leaving.
 #[tactic(auto, using(crate::proofs::LineLaws::last_line))]
 pub fn the_last_line_is_the_length()
     ensures { TheLastLineIsTheLength }
@@ -40,10 +39,4 @@ pub fn the_lines_of_a_cycle_close()
 #[tactic(auto, using(crate::proofs::LineLaws::first_line_once))]
 pub fn a_verdict_has_one_first_line()
     ensures { AVerdictHasOneFirstLine }
-{}
-
-/// From the cell at the start and moment 0 on, just what is printed of the plan is printed of the rest of a run: the
-/// same first line, and the same explanations.
-pub fn the_start_is_explained_as_the_plan()
-    ensures { TheStartIsExplainedAsThePlan }
 {}

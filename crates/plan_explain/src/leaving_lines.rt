@@ -5,8 +5,8 @@ ghost use Rattle.shop_base.specs.Plan.{jobs, budget};
 ghost use Rattle.alt_graph.specs.Times.{AreRanks};
 ghost use Rattle.people_names.specs.Words.{moment_word};
 ghost use Rattle.plan_verifier.specs.Leavings.{leaves_in};
-ghost use Rattle.plan_explain.specs.{Arcs.before, Leavings.budget_words, Leavings.margin_words};
-ghost use Rattle.plan_explain.specs.RestLeavings.{rest_leaving_line, rest_leaving_lines};
+ghost use Rattle.plan_explain.specs.Arcs.{before};
+ghost use Rattle.plan_explain.specs.Leavings.{budget_words, margin_words, job_line, job_lines};
 
 use crate::words::{Line, push_job_at};
 use alt_graph::Times;
@@ -25,8 +25,7 @@ pub(crate) fn push_leaving_lines<P: Planned>(
 ) -> Result<(), AllocError>
     requires { AreRanks cell.now.plan times.now }
     ensures { let p = cell.now.plan in
-        OnOk result
-        (text.new.items ≡ text.old.items ++ rest_leaving_lines names.now p cell.now.cell (leaves_in p times.now)) }
+        OnOk result (text.new.items ≡ text.old.items ++ job_lines names.now p cell.now.cell (leaves_in p times.now)) }
 {
     for job in 0..cell.job_count() {
         let leaves = leave_time(cell, times, job);
@@ -46,7 +45,7 @@ fn push_job_line<P: Planned>(
 ) -> Result<(), AllocError>
     requires { job < jobs cell.now.plan }
     ensures { OnOk result
-        (text.new.items ≡ text.old.items ++ rest_leaving_line names.now cell.now.plan cell.now.cell job leaves) }
+        (text.new.items ≡ text.old.items ++ job_line names.now cell.now.plan cell.now.cell job leaves) }
 {
     let budget = cell.shaped().budget_of(job);
     let mut line = Line::ended();

@@ -24,7 +24,8 @@ pub use Rattle.plan_verifier.proofs.Reasons.{evident, greatest_once, judged_same
 pub use Rattle.plan_verifier.specs.{Accepted.{IsAcceptable, IsMakespan}, Leavings.{AreLeavingsAhead, IsLastLeaving, leaves_in}}
 pub use Rattle.plan_verifier.specs.{Rest.{AreOrderedAhead, IsGreatestAhead}, RestVerdicts.{IsAcceptableAhead, IsRestAccepted}, Seen.judged}
 pub use Rattle.plan_verifier.specs.Verdicts.{SaysAccepted}
-pub use Rattle.run_log.specs.{Audits.{IsReplayed, ParseAsRun}, Present.{IsCellOf, present_of}}
+pub use Rattle.cell_tables.specs.Rests.{present_of}
+pub use Rattle.run_log.specs.{Audits.{IsReplayed, ParseAsRun}, Present.IsCellOf}
 pub use Rattle.text_lines.specs.Lines.{ended_lines}
 pub use Rattle.plan_improve.specs.{AtBound.{IsBound, Meets}, Costs.{IsAtMost, IsCost, IsLateness, IsLess}}
 pub use Rattle.plan_improve.specs.Improved.{HasNoBegin, HasNoRestBegin, IsBegin, IsFound, IsNeverWorse, IsVerdictOn}

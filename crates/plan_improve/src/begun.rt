@@ -3,7 +3,7 @@
 ghost use Rattle.std.specs.Prelude.{◌≡◌, IfOk, IfErr};
 ghost use Rattle.text_lines.specs.Lines.{ended_lines};
 ghost use Rattle.cell_tables.specs.Tables.{cell_of};
-ghost use Rattle.run_log.specs.Present.{present_of};
+ghost use Rattle.cell_tables.specs.Rests.{present_of};
 ghost use Rattle.plan_improve.specs.{Faults.IsBeginFault, RestKeeping.IsBegun};
 
 use crate::improve_fault::ImproveFault;

@@ -3,7 +3,8 @@
 ghost use Rattle.std.specs.Prelude.{◌≡◌, ◌≤◌, ◌⊎◌, OnOk, IfOk, IfErr};
 ghost use Rattle.shop_base.specs.{Cell.Cell, Report.IsNextMoment};
 ghost use Rattle.text_lines.specs.Lines.{ended_lines};
-ghost use Rattle.run_log.specs.{Audits.ParseAsRun, Present.IsCellOf, Present.present_of};
+ghost use Rattle.cell_tables.specs.Rests.{present_of};
+ghost use Rattle.run_log.specs.{Audits.ParseAsRun, Present.IsCellOf};
 ghost use Rattle.alt_graph.specs.Solved.{HasCycle};
 ghost use Rattle.plan_verifier.specs.RestVerdicts.{IsAcceptableAhead, IsRestAccepted};
 ghost use Rattle.plan_improve.specs.{declared.improve_fault.ImproveFault.TheVariants.Memory, Reordered.IsReordered};

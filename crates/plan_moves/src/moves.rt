@@ -7,32 +7,28 @@ ghost use Rattle.plan_moves.specs.{MovesFrom.AreMovesFrom, NextReports.IsOver, R
 
 use crate::next_report::next_report;
 use cell_control::{Dues, RestController, RestFault, TourneyDues};
-use cell_tables::WorkCell;
+use cell_tables::Rest;
 use shop_base::{Moment, MoveOrder, Shaped};
 use std::alloc::{AllocError, Global};
 
-/// The moves from a cell and a present moment on, where every report comes when its activity is due, and what is
-/// overdue at the present moment ends at it, in the order in which a controller gives them. Of reports at one moment
-/// that of the least job comes first, and behind those of all jobs that of the least machine that is being cleaned.
-/// They end with the latest moment that a report may have. The plan must have no cycle; budgets aren't asked for. Of a
-/// whole plan the cell is the start and the present moment 0.
-pub fn moves_from(
-    alloc: Global,
-    cell: WorkCell<Shaped>,
-    present: Moment,
-) -> Result<Vec<MoveOrder>, RestFault>
-    ensures moves { IfOk result (λ moves. AreMovesFrom cell.plan cell.cell present moves.items) }
-    ensures acyclic { OnOk result (HasCycle cell.plan → ⊥) }
-    ensures fault { IfErr result (IsRestFault cell.plan cell.cell present) }
+/// The moves of the rest of a run, where every report comes when its activity is due, and what is overdue at the present
+/// moment ends at it, in the order in which a controller gives them. Of reports at one moment that of the least job comes
+/// first, and behind those of all jobs that of the least machine that is being cleaned. They end with the latest moment
+/// that a report may have. The plan must have no cycle; budgets aren't asked for.
+pub fn moves_from(alloc: Global, rest: Rest<Shaped>) -> Result<Vec<MoveOrder>, RestFault>
+    ensures moves { IfOk result (λ moves. AreMovesFrom rest.plan rest.cell rest.present moves.items) }
+    ensures acyclic { OnOk result (HasCycle rest.plan → ⊥) }
+    ensures fault { IfErr result (IsRestFault rest.plan) }
 {
-    match RestController::<TourneyDues>::begin(alloc, cell, present) {
+    let present = rest.present();
+    match RestController::<TourneyDues>::begin(alloc, rest) {
         Ok(mut controller) => {
             let moves = all_moves(alloc, &mut controller, present);
             drop(controller);
             Ok(moves?)
         }
-        Err((fault, cell)) => {
-            drop(cell);
+        Err((fault, rest)) => {
+            drop(rest);
             Err(fault)
         }
     }

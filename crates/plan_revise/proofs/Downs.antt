@@ -8,8 +8,8 @@ use Rattle.shop_base.specs.Plan.{PlannedShop, jobs, route, Visits}
 use Rattle.shop_base.specs.Cell.{made, job_in}
 use Rattle.shop_base.specs.Run.{ends_in}
 use Rattle.shop_base.proofs.Visits.{visits_job}
-use Rattle.cell_control.specs.Carried.{carried_job}
-use Rattle.control_laws.specs.KeptLaw.{AKeptRunIsOneOfTheOtherPlan}
+use Rattle.cell_tables.specs.Carried.{carried_job}
+use Rattle.cell_tables.specs.KeptLaw.{AKeptRunIsOneOfTheOtherPlan}
 use Rattle.plan_revise.specs.declared.change.Change.{Change}
 use Rattle.plan_revise.specs.declared.change.Change.TheVariants.{Until, Add, Scrap, Down}
 use Rattle.plan_revise.specs.Ended.{ended}

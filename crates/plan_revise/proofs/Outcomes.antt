@@ -13,9 +13,9 @@ use Rattle.shop_base.specs.Ahead.{PathAhead, now, held, onward}
 use Rattle.shop_base.proofs.Keeping.{run-sound}
 use Rattle.shop_base.proofs.Cycles.{source_node}
 use Rattle.plan_verifier.specs.Accepted.{HasNoCycle}
-use Rattle.cell_control.specs.Kept.{KeepsSoFar}
-use Rattle.cell_control.specs.Carried.{IsCarried, carried_cleaning}
-use Rattle.control_laws.specs.KeptLaw.{AKeptRunIsOneOfTheOtherPlan}
+use Rattle.cell_tables.specs.Kept.{KeepsSoFar}
+use Rattle.cell_tables.specs.Carried.{IsCarried, carried_cleaning}
+use Rattle.cell_tables.specs.KeptLaw.{AKeptRunIsOneOfTheOtherPlan}
 use Rattle.plan_revise.specs.declared.change.Change.{Change}
 use Rattle.plan_revise.specs.declared.change.Change.TheVariants.{Until, Add, Scrap, Down}
 use Rattle.plan_revise.specs.Settings.{Setting, setting}

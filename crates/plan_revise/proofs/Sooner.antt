@@ -7,8 +7,8 @@ use Rattle.shop_base.specs.Cell.{made}
 use Rattle.shop_base.specs.Run.{Event, ends_in}
 use Rattle.shop_base.proofs.Cycles.{source_node}
 use Rattle.shop_base.proofs.Deadlines.{deadlines_are_the_latest-holds}
-use Rattle.cell_control.specs.Carried.{carried_job}
-use Rattle.control_laws.specs.KeptLaw.{AKeptRunIsOneOfTheOtherPlan}
+use Rattle.cell_tables.specs.Carried.{carried_job}
+use Rattle.cell_tables.specs.KeptLaw.{AKeptRunIsOneOfTheOtherPlan}
 use Rattle.plan_revise.specs.declared.change.Change.{Change}
 use Rattle.plan_revise.specs.Settings.{setting, moves_made}
 use Rattle.plan_revise.specs.RevisedLaw.{IsRevisedRun, NoDeadlineComesSooner}

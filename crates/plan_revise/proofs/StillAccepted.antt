@@ -13,7 +13,7 @@ use Rattle.shop_base.specs.Ahead.{PathAhead, now, held, onward}
 use Rattle.shop_base.specs.Sound.{IsSound}
 use Rattle.shop_base.proofs.Keeping.{run-sound}
 use Rattle.shop_base.proofs.Visits.{visits_job, visits_or_not}
-use Rattle.control_laws.specs.KeptLaw.{AKeptRunIsOneOfTheOtherPlan}
+use Rattle.cell_tables.specs.KeptLaw.{AKeptRunIsOneOfTheOtherPlan}
 use Rattle.plan_revise.specs.declared.change.Change.{Change}
 use Rattle.plan_revise.specs.declared.change.Change.TheVariants.{Until, Add, Scrap, Down}
 use Rattle.plan_revise.specs.Ended.{ended}

@@ -10,7 +10,7 @@ use Rattle.shop_base.specs.Ahead.{PathAhead, IsAhead}
 use Rattle.shop_base.specs.Deadlines.{AreDeadlines}
 use Rattle.plan_verifier.specs.Accepted.{HasNoCycle}
 use Rattle.plan_verifier.specs.RestVerdicts.{IsAcceptableAhead}
-use Rattle.cell_control.specs.Carried.{IsCarried}
+use Rattle.cell_tables.specs.Carried.{IsCarried}
 use Rattle.plan_revise.specs.declared.change.Change.{Change}
 use Rattle.plan_revise.specs.declared.change.Change.TheVariants.{Until, Add, Scrap, Down}
 use Rattle.plan_revise.specs.Aside.{IsPlant}

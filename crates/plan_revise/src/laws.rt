@@ -6,7 +6,7 @@ ghost use Rattle.plan_revise.specs.RevisedLaw.{TheRunSoFarStays, NoCycleComes, N
 ghost use Rattle.plan_revise.specs.RevisedLaw.{NoPartComesToAMachineThatIsDown, NoDeadlineComesSooner};
 ghost use Rattle.plan_revise.specs.RevisedLaw.{AcceptedRestsStayAccepted};
 
-use control_laws::laws::a_kept_run_is_one_of_the_other_plan;
+use cell_tables::laws::a_kept_run_is_one_of_the_other_plan;
 
 /// The run so far is a run of the revised plan in the revised shop, and ends there in the same cell but for what is
 /// ahead.

@@ -1,34 +1,31 @@
 //! Changes one after another.
 
-ghost use Rattle.std.specs.Prelude.{◌≡◌, ◌<◌, ◌≤◌, IfOk, OnOk, IfErr, length, slice_get, Some};
+ghost use Rattle.std.specs.Prelude.{◌≡◌, ◌<◌, IfOk, OnOk, IfErr, length, slice_get, Some};
 ghost use Rattle.plan_revise.specs.{Revised.AreMade, Revised.IsRevised, Revised.IsReason, Fits.IsRevision};
 ghost use Rattle.plan_revise.specs.Answers.{refused_at, ParsesFirst};
 
 use crate::change::{Change, NotRevised, Refusal};
 use crate::draft::Draft;
 use crate::run_so_far::RunSoFar;
-use cell_tables::WorkCell;
-use shop_base::{Moment, Planned, Shaped};
+use cell_tables::Rest;
+use shop_base::{Planned, Shaped};
 use std::alloc::Global;
 
-/// The shop and its plan after these changes, each of what those before it made: by the cell at the end of the run so
-/// far, and the present moment, which isn't before the last one of that run. What is given stays as it is. With no
-/// change the answer is a copy of it.
+/// The shop and its plan after these changes, each of what those before it made, by the rest of the run. What is given
+/// stays as it is. With no change the answer is a copy of it.
 ///
 /// Whoever has changes of several kinds gives all [`Change::Until`] first, then all [`Change::Add`], all
 /// [`Change::Scrap`] and all [`Change::Down`].
 pub fn revise<P: Planned>(
     alloc: Global,
-    cell: &WorkCell<P>,
-    present: Moment,
+    rest: &Rest<P>,
     changes: &[Change],
 ) -> Result<Shaped, NotRevised>
-    requires { cell.now.cell.last ≤ present }
-    ensures revised { IfOk result (IsRevised cell.now.plan cell.now.cell present changes.now) }
-    ensures refused { IfErr result (IsReason cell.now.plan cell.now.cell present changes.now) }
+    ensures revised { IfOk result (IsRevised rest.now.plan rest.now.cell rest.now.present changes.now) }
+    ensures refused { IfErr result (IsReason rest.now.plan rest.now.cell rest.now.present changes.now) }
 {
-    let run = RunSoFar::of(cell, present);
-    match Draft::of(alloc, cell.shaped()) {
+    let run = RunSoFar::of(rest);
+    match Draft::of(alloc, rest.shaped()) {
         Ok(draft) => draft.revised_by(alloc, &run, changes),
         Err(error) => Err(NotRevised::from(error)),
     }

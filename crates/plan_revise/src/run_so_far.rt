@@ -6,15 +6,14 @@ ghost use Rattle.shop_base.specs.Cell.{made, since};
 ghost use Rattle.plan_revise.specs.{Settings.setting, Settings.moves_made, Answers.IsWorker};
 
 use crate::aside::plant_machines;
-use cell_tables::WorkCell;
+use cell_tables::Rest;
 use shop_base::{JobNo, MachineNo, Moment, Planned};
 use std::marker::Model;
 
-/// The cell at the end of the run so far, the present moment, and how many machines the plant has.
+/// The rest of the run, and how many machines the plant has.
 #[derive(Drop)]
 pub(crate) struct RunSoFar<'a, P: Planned> {
-    cell: &'a WorkCell<P>,
-    pub(crate) present: Moment,
+    rest: &'a Rest<P>,
     pub(crate) plant: u32,
 }
 
@@ -24,27 +23,24 @@ impl<'a, P: Planned> Model for RunSoFar<'a, P> {
 
     ghost Value = { Setting };
 
-    ghost view = { λ r. setting r.cell.now.plan r.cell.now.cell r.present r.plant };
+    ghost view = { λ r. setting r.rest.now.plan r.rest.now.cell r.rest.now.present r.plant };
 
-    ghost invariant = { λ r. IsSetting (setting r.cell.now.plan r.cell.now.cell r.present r.plant) };
+    ghost invariant = { λ r. IsSetting (setting r.rest.now.plan r.rest.now.cell r.rest.now.present r.plant) };
 }
 
 impl<'a, P: Planned> RunSoFar<'a, P> {
     ghost use Rattle.plan_revise.specs.Aside.{IsPlant};
     ghost use Rattle.plan_revise.specs.Fits.{IsSetting};
 
-    /// The run so far, whose cell this is, from the present moment on.
-    pub(crate) fn of(cell: &'a WorkCell<P>, present: Moment) -> RunSoFar<'a, P>
-        requires { cell.now.cell.last ≤ present }
-        ensures is { result ≡ setting cell.now.plan cell.now.cell present result.plant }
+    /// The run so far, of which this is the rest.
+    pub(crate) fn of(rest: &'a Rest<P>) -> RunSoFar<'a, P>
+        ensures is { result ≡ setting rest.now.plan rest.now.cell rest.now.present result.plant }
         ensures sound { IsSetting result }
     {
-        let plant = plant_machines(cell.shaped());
-        RunSoFar {
-            cell,
-            present,
-            plant,
-        }
+        // Called for its clause alone: the moment isn't before the last one.
+        let _present = rest.present();
+        let plant = plant_machines(rest.shaped());
+        RunSoFar { rest, plant }
     }
 
     /// The present moment.
@@ -52,7 +48,7 @@ impl<'a, P: Planned> RunSoFar<'a, P> {
         ensures present { result ≡ self.now.present }
         ensures sound { IsSetting self.now }
     {
-        self.present
+        self.rest.present()
     }
 
     /// How many machines the plant has.
@@ -61,7 +57,7 @@ impl<'a, P: Planned> RunSoFar<'a, P> {
         ensures few { result ≤ MAX_MACHINES }
         ensures sound { IsSetting self.now }
     {
-        let _plan = self.cell.shaped();
+        let _plan = self.rest.shaped();
         self.plant
     }
 
@@ -70,8 +66,9 @@ impl<'a, P: Planned> RunSoFar<'a, P> {
         ensures count { result ≡ moves_made self.now job }
         ensures sound { IsSetting self.now }
     {
-        if job < self.cell.job_count() {
-            self.cell.job_state(job).made
+        let cell = self.rest.cell();
+        if job < cell.job_count() {
+            cell.job_state(job).made
         } else {
             0
         }
@@ -83,8 +80,9 @@ impl<'a, P: Planned> RunSoFar<'a, P> {
         ensures worker { IsWorker self.now machine result }
         ensures sound { IsSetting self.now }
     {
-        let job = self.cell.holder(machine)?;
-        if self.cell.job_state(job).ready {
+        let cell = self.rest.cell();
+        let job = cell.holder(machine)?;
+        if cell.job_state(job).ready {
             None
         } else {
             Some(job)
@@ -97,6 +95,6 @@ impl<'a, P: Planned> RunSoFar<'a, P> {
         ensures since { result ≡ since self.now.cell job }
         ensures begun { result ≤ self.now.cell.last }
     {
-        self.cell.job_state(job).since
+        self.rest.cell().job_state(job).since
     }
 }

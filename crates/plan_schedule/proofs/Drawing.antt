@@ -1,16 +1,14 @@
 -- The visits of a run, one after another.
-use Rattle.std.proofs.Common.{◌≡◌, ℕ, zero, suc, subst, inl, inr, ◌+◌, ◌-◌, ◌<◌, ◌≤◌, List, [], ◌∷◌, ◌++◌, length, map, drop, drop-cons, get_or, Option, None, Some, refl, sym, ap, ◌∙◌, append-nil, append_assoc, add-one, arith}
+use Rattle.std.proofs.Common.{◌≡◌, ℕ, inl, inr, ◌+◌, ◌-◌, ◌<◌, ◌≤◌, List, [], ◌∷◌, ◌++◌, length, map, drop, drop-cons, get_or, Option, None, Some, refl, sym, ap, ◌∙◌, append-nil, append_assoc, add-one, arith}
 use Rattle.std.proofs.{lemmas.List.{map-id, flat_map_more, get_or_past}, lemmas.List.FromFn.map-range_with_len_more}
 use Rattle.std.proofs.{lemmas.Bool.{cases_lt, eq-eqb, ne_eqb, le-leb, lt-leb}, Math.ListN.drop_of_length-le}
 use Rattle.std.specs.{Prelude.flat_map, List.range_with_len}
 use Rattle.shop_base.specs.{declared.node.Node.Node, Plan.{PlannedShop, jobs, machines, steps, machine_of, clean}}
 use Rattle.shop_base.specs.{Cell.{Cell, MachineState, absent, unused, made, start}, declared.job_state.JobState.JobState, Sound.IsSound}
 use Rattle.shop_base.specs.Graph.{leaving}
-use Rattle.shop_base.proofs.Keeping.{start-made}
-use Rattle.plan_verifier.proofs.AtStart.{greatest_to}
 use Rattle.run_picture.specs.{declared.visit.Cleaned.TheVariants.By, declared.visit.DrawnVisit.DrawnVisit}
 use Rattle.plan_schedule.specs.{declared.lines.Cleaning.Cleaning, Schedules.IsCleaningBehind}
-use Rattle.plan_schedule.specs.DrawnVisits.{known_cleaning, cleaned_behind, drawn_visit, job_visits, place_behind, place_inside, cleaning_end, job_ahead, visits_ahead, leavings_by, TheRunOfTheStartIsDrawnAsThePlan}
+use Rattle.plan_schedule.specs.DrawnVisits.{known_cleaning, cleaned_behind, drawn_visit, job_visits, place_behind, place_inside, cleaning_end, job_ahead, visits_ahead, leavings_by}
 
 range-more : (n : ℕ) → range_with_len 0 (n + 1) ≡ range_with_len 0 n ++ n ∷ []
 range-more n =
@@ -110,33 +108,3 @@ past_uncleaned p c t m sound past =
 -- those that are known, and then those ahead
 pub run_visits : (start mid new drawn ahead : List DrawnVisit) → start ≡ [] → mid ≡ start ++ drawn → new ≡ mid ++ ahead → new ≡ drawn ++ ahead
 run_visits start mid new drawn ahead none ended added = added ∙ ap (λ (l : List DrawnVisit). l ++ ahead) (ended ∙ ap (λ (l : List DrawnVisit). l ++ drawn) none)
-
--- ---- of a whole plan
-
--- what one number more adds
-more_of : (of : ℕ → List DrawnVisit) (n : ℕ) → flat_map of (range_with_len 0 (n + 1)) ≡ flat_map of (range_with_len 0 n) ++ of n
-more_of of n = ap (flat_map of) (range-more n) ∙ sym (flat_map_more of [] (range_with_len 0 n) n)
-
--- what is the same for each number
-same_each : (of other : ℕ → List DrawnVisit) (n : ℕ) → ((j : ℕ) → j < n → of j ≡ other j) → flat_map of (range_with_len 0 n) ≡ flat_map other (range_with_len 0 n)
-same_each of other zero each = refl
-same_each of other (suc n) each =
-    subst (λ (k : ℕ). flat_map of (range_with_len 0 k) ≡ flat_map other (range_with_len 0 k)) (add-one n)
-    (more_of of n
-    ∙ ap (λ (l : List DrawnVisit). l ++ of n) (same_each of other n (λ j below. each j (omega (arith, below))))
-    ∙ ap (λ (l : List DrawnVisit). flat_map other (range_with_len 0 n) ++ l) (each n (omega arith))
-    ∙ sym (more_of other n))
-
--- at the start all visits of a job are ahead
-all_ahead : (p : PlannedShop) (at : Node → ℕ) (j : ℕ) → j < jobs p → job_ahead p (start p) at j ≡ job_visits p at j 0 (steps p j)
-all_ahead p at j inside =
-    let none : made (start p) j ≡ 0 = start-made p j inside in
-    let count : steps p j - made (start p) j ≡ steps p j = omega (arith, none) in
-    ap (λ (n : ℕ). job_visits p at j n (steps p j - made (start p) j)) none ∙ ap (λ (n : ℕ). job_visits p at j 0 n) count
-
-pub start_drawn : TheRunOfTheStartIsDrawnAsThePlan
-start_drawn p run shaped is = record {
-  moments = is.moments;
-  earliest = λ v node. greatest_to p shaped v (is.moments v) (is.earliest v node (omega (arith, start-made p v.job node.job)));
-  are = is.visits ∙ same_each (job_ahead p (start p) is.moments) (λ j. job_visits p is.moments j 0 (steps p j)) (jobs p) (all_ahead p is.moments);
-}

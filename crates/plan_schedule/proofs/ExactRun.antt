@@ -4,7 +4,7 @@ use Rattle.std.proofs.lemmas.Bool.{cases_lt, cases_eq}
 use Rattle.shop_base.specs.{declared.node.Node.Node, declared.job_state.JobState.JobState, declared.report.Report.Report}
 use Rattle.shop_base.specs.Plan.{PlannedShop, jobs, nominal, release, clean, IsWellShaped}
 use Rattle.shop_base.specs.Cell.{Cell, MachineState, made, since, entries, cleaning, start, IsOn}
-use Rattle.shop_base.specs.{Activity.{Activity, Arrival, Operation, Cleaning, GoesOn}, Report.{ended, at, IsNextMoment, after_report}}
+use Rattle.shop_base.specs.{Activity.{Activity, Arrival, Operation, Cleaning, GoesOn}, Report.{ended, at, after_report}}
 use Rattle.shop_base.specs.{Move.{CanMove, after_move}, Run.{Event, Reported, Moved, AreEvents, ends_in, IsRun}, Controlled.IsControlledRun}
 use Rattle.shop_base.specs.Punctual.{IsPunctual, ArePunctualFrom, AreExact, AreNotEarly}
 use Rattle.shop_base.specs.{Graph.{node, IsNode, Arc, job_arc, blocking_arc, Path, begins, follows, RanksRise, MomentsFit}, Sound.IsSound}
@@ -16,6 +16,8 @@ use Rattle.shop_base.proofs.{ControlledRuns.{after_all_join, controlled_to_run},
 use Rattle.shop_base.proofs.Within.{each_move_is_in_time-holds, punctual_reports_are_within-holds, punctual-from}
 use Rattle.shop_base.proofs.StartAhead.{the_start_is_a_case-holds, start-keeps_moments, from_start, no_exact_move_is_earlier-holds}
 use Rattle.shop_base.proofs.SomeExact.{some_continuation_is_exact-holds}
+use Rattle.plan_verifier.specs.Accepted.{IsGreatest}
+use Rattle.plan_verifier.proofs.AtStart.{at_once, greatest_to}
 use Rattle.plan_schedule.specs.{Scheduled.AreEarliest, OnTime.{IsLastVisit, EndsOnTime, AreOnTime}}
 use Rattle.plan_schedule.specs.ScheduleLaw.{ScheduleIsTheExactRun, SomeRunIsExact}
 
@@ -23,10 +25,6 @@ use Rattle.plan_schedule.specs.ScheduleLaw.{ScheduleIsTheExactRun, SomeRunIsExac
 target_node : (p : PlannedShop) (u v : Node) (d : ℕ) → Arc p u v d → IsNode p v
 target_node p _ _ _ (job_arc j k within) = record { job = steps_job p j k within; place = omega (arith, within) }
 target_node p _ _ _ (blocking_arc m a i k j l one other) = record { job = visits_job p j l m other.visits; place = omega (arith, other.visits.within) }
-
--- moment 0 can be the next moment of the start
-at_once : (p : PlannedShop) → IsNextMoment (start p) 0
-at_once p = record { in_order = omega arith; in_range = omega arith }
 
 -- reports that are neither early nor later than anything is due are exact
 reports_exact : (p : PlannedShop) (c : Cell) (es : List Event) → ArePunctualFrom p 0 c es → AreNotEarly p c es → AreExact p c es
@@ -40,7 +38,15 @@ reports_exact p c (Reported r ∷ es) punctual not_early = (
     soon : IsPunctual p c r
     soon a due going = elim (punctual.0 a due going) [ inl now ↦ omega arith | inr before ↦ before ]
 
-module _ (p : PlannedShop) (rank moments : Node → ℕ) (shaped : IsWellShaped p) (ranks : RanksRise p rank) (earliest : AreEarliest p moments) where
+-- the moment of each node is the greatest length of a path to it
+abbrev AreGreatest : PlannedShop → (Node → ℕ) → Type 0
+AreGreatest p moments = (v : Node) → IsNode p v → IsGreatest p v (moments v)
+
+-- so it is with those ahead of the start
+all_greatest : (p : PlannedShop) (moments : Node → ℕ) → IsWellShaped p → AreEarliest p (start p) 0 moments → AreGreatest p moments
+all_greatest p moments shaped are v is = greatest_to p shaped v (moments v) (are v is (omega (arith, start-made p v.job is.job)))
+
+module _ (p : PlannedShop) (rank moments : Node → ℕ) (shaped : IsWellShaped p) (ranks : RanksRise p rank) (earliest : AreGreatest p moments) where
   -- the earliest moments fit
   moments_fit : MomentsFit p moments
   moments_fit = record {
@@ -157,12 +163,14 @@ module _ (p : PlannedShop) (rank moments : Node → ℕ) (shaped : IsWellShaped 
             omega (arith, no_earlier, by.0)
 
 pub schedule_is_exact_run : ScheduleIsTheExactRun
-schedule_is_exact_run p rank moments due rs es end shaped ranks earliest run exact =
+schedule_is_exact_run p rank moments due rs es end shaped ranks are run exact =
+    let earliest = all_greatest p moments shaped are in
     let events : IsRun p es = (controlled_to_run p rs es end shaped run).0 in
     behind_on_time p rank moments shaped ranks earliest due [] es (start p) refl events exact (start-sound p shaped) events exact
     (made_by p rank moments shaped ranks earliest rs es end run exact) (start_on_time p rank moments shaped ranks earliest)
 
 pub some_exact_run : SomeRunIsExact
-some_exact_run p rank moments shaped ranks earliest =
+some_exact_run p rank moments shaped ranks are =
+    let earliest = all_greatest p moments shaped are in
     let (rs, es, end, goes, punctual, not_early, from, gone) = some_continuation_is_exact-holds p rank moments [] 0 tt (at_once p) (from_there p rank moments shaped ranks earliest) in
     (rs, es, end, ((the_start_is_a_case-holds p shaped).goes_on 0 rs es end).0 goes, reports_exact p (start p) es punctual not_early, gone)

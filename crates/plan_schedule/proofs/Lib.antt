@@ -1,4 +1,3 @@
 pub mod Behind
 pub mod Drawing
 pub mod ExactRun
-pub mod StartSchedule

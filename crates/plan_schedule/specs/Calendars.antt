@@ -6,7 +6,7 @@ use Rattle.shop_base.specs.{Plan.PlannedShop, Cell.Cell, Graph.IsNode, Ahead.IsA
 use Rattle.alt_graph.specs.{Bounds.MAX_BOUND, Times.NodeTimes, Times.earliest_of, Times.AreRanks}
 use Rattle.alt_graph.specs.Latest.{NodeMoments, HasMoment, moment_of}
 use Rattle.people_names.specs.NameBooks.{NameBook}
-use Rattle.plan_schedule.specs.{declared.lines.ScheduledVisit.ScheduledVisit, Schedules.IsVisitText, RestSchedules.IsRestJobText, RestSchedules.IsCleanedText}
+use Rattle.plan_schedule.specs.{declared.lines.ScheduledVisit.ScheduledVisit, Schedules.IsVisitText, ScheduleLines.IsJobText, ScheduleLines.IsCleanedText}
 
 -- the moments of the rest of a run, and its deadlines, if it has any
 pub record PlanCalendar : Type 0 where
@@ -58,7 +58,7 @@ module _ (names : NameBook) (k : PlanCalendar) where
   IsVisitTextBy = IsVisitText names k.plan (at_of k) (due_at k)
 
   abbrev pub IsJobTextBy : ℕ → List ℕ → Type 0
-  IsJobTextBy = IsRestJobText names k.plan k.cell k.present (at_of k) (due_at k)
+  IsJobTextBy = IsJobText names k.plan k.cell k.present (at_of k) (due_at k)
 
   abbrev pub IsCleanedTextBy : ℕ → List ℕ → Type 0
   IsCleanedTextBy = IsCleanedText names k.plan k.cell k.present (due_at k)

@@ -1,14 +1,14 @@
 -- The visits of a run, as a picture draws them: those that are known so far, and those ahead.
-use Rattle.std.specs.Prelude.{◌≡◌, ℕ, zero, suc, ◌+◌, ◌-◌, ◌<◌, ◌==◌, nat_le, if◌then◌else◌, List, [], ◌++◌, map, flat_map, Option, None, Some, unwrap_or}
+use Rattle.std.specs.Prelude.{◌≡◌, ℕ, zero, suc, ◌+◌, ◌-◌, ◌<◌, ◌==◌, nat_le, if◌then◌else◌, List, ◌++◌, map, flat_map, Option, None, Some, unwrap_or}
 use Rattle.std.specs.List.{range_with_len}
 use Rattle.shop_base.specs.declared.node.Node.{Node}
-use Rattle.shop_base.specs.Plan.{PlannedShop, jobs, steps, machine_of, nominal, clean, IsWellShaped}
-use Rattle.shop_base.specs.{Cell.Cell, Cell.made, Cell.since, Cell.cleaning, Cell.start, Cell.IsGone, Graph.node, Graph.leaving}
+use Rattle.shop_base.specs.Plan.{PlannedShop, jobs, steps, machine_of, nominal, clean}
+use Rattle.shop_base.specs.{Cell.Cell, Cell.made, Cell.since, Cell.cleaning, Cell.IsGone, Graph.node, Graph.leaving}
 use Rattle.run_picture.specs.declared.visit.Cleaned.{Cleaned}
 use Rattle.run_picture.specs.declared.visit.Cleaned.TheVariants.{Never, NotYet, By}
 use Rattle.run_picture.specs.declared.visit.DrawnVisit.{DrawnVisit}
-use Rattle.plan_schedule.specs.{declared.lines.Cleaning.Cleaning, declared.picture_visits.DrawnRun.DrawnRun, Scheduled.AreEarliest}
-use Rattle.plan_schedule.specs.{RestSchedules.operation_end, RestSchedules.cleaned_by, RestScheduled.AreRestMoments}
+use Rattle.plan_schedule.specs.{declared.lines.Cleaning.Cleaning, declared.picture_visits.DrawnRun.DrawnRun}
+use Rattle.plan_schedule.specs.{ScheduleLines.operation_end, ScheduleLines.cleaned_by, Scheduled.AreEarliest, Lateness.lateness}
 
 -- the end of a cleaning, if there is one
 abbrev pub known_cleaning : Option Cleaning → Cleaned
@@ -111,26 +111,11 @@ module _ (p : PlannedShop) (c : Cell) (at : Node → ℕ) where
 abbrev pub leavings_by : PlannedShop → (Node → ℕ) → ℕ → List (Option ℕ)
 leavings_by p at count = map (λ j. Some (at (leaving p j))) (range_with_len 0 count)
 
--- the run that goes on from a cell c and a present moment t, of which these visits are known so far: they end, and those ahead follow, by the earliest moments; a job that is gone leaves when it left
+-- the run that goes on from a cell c and a present moment t, of which these visits are known so far: they end, and those ahead follow, by the earliest moments; a job that is gone leaves when it left, and doesn't count as late
 pub record IsDrawnRun (p : PlannedShop) (c : Cell) (t : ℕ) (drawn : List DrawnVisit) (run : DrawnRun) : Type 0 where
   pub moments : Node → ℕ
-  pub earliest : AreRestMoments p c t moments
+  pub earliest : AreEarliest p c t moments
   pub left : (j : ℕ) → j < jobs p → IsGone p c j → moments (leaving p j) ≡ since c j
   pub visits : run.visits.items ≡ map (ended_visit p c t moments) drawn ++ visits_ahead p c moments (jobs p)
   pub leavings : run.leavings.items ≡ leavings_by p moments (jobs p)
-
--- ---- of a whole plan
-
--- the visits of the first jobs, ascending
-abbrev pub all_visits : PlannedShop → (Node → ℕ) → ℕ → List DrawnVisit
-all_visits p at count = flat_map (λ j. job_visits p at j 0 (steps p j)) (range_with_len 0 count)
-
--- the visits of all jobs, by the moments of the exact run
-pub record AreDrawnVisits (p : PlannedShop) (visits : List DrawnVisit) : Type 0 where
-  pub moments : Node → ℕ
-  pub earliest : AreEarliest p moments
-  pub are : visits ≡ all_visits p moments (jobs p)
-
--- from the start and moment 0 on, with nothing known, the visits are those of the plan
-abbrev pub TheRunOfTheStartIsDrawnAsThePlan : Type 0
-TheRunOfTheStartIsDrawnAsThePlan = (p : PlannedShop) (run : DrawnRun) → IsWellShaped p → IsDrawnRun p (start p) 0 [] run → AreDrawnVisits p run.visits.items
+  pub late_by : run.late_by ≡ lateness p c moments (jobs p)

@@ -1,12 +1,12 @@
--- Which lines a schedule has, by the moment of each node in the exact run, and its deadline where there is one.
+-- The visits and the cleanings ahead, by the moment of each node, and its deadline where there is one.
 use Rattle.std.specs.Prelude.{◌≡◌, ℕ, false, ◌+◌, ◌<◌, List, codes, Option, None, Some, MatchOption}
 use Rattle.shop_base.specs.declared.node.Node.{Node}
-use Rattle.shop_base.specs.{Plan.PlannedShop, Plan.jobs, Plan.steps, Plan.machine_of, Plan.nominal, Plan.release, Plan.clean, Graph.node}
+use Rattle.shop_base.specs.{Plan.PlannedShop, Plan.machine_of, Plan.nominal, Plan.clean, Graph.node}
 use Rattle.people_names.specs.NameBooks.{NameBook}
 use Rattle.alt_graph.specs.Sources.{IsBlockingArc, IsTarget}
 use Rattle.plan_explain.specs.Parts.{AreBoth, AreTextsFrom}
 use Rattle.plan_schedule.specs.{declared.lines.ScheduledVisit.ScheduledVisit, declared.lines.Cleaning.Cleaning}
-use Rattle.plan_schedule.specs.Lines.{arrival_line, visit_line, cleaning_line}
+use Rattle.plan_schedule.specs.Lines.{visit_line, cleaning_line}
 
 -- the deadline of a node, if there is a node
 abbrev pub due_if : (Node → Option ℕ) → Option Node → Option ℕ
@@ -58,11 +58,3 @@ module _ (names : NameBook) (p : PlannedShop) (at : Node → ℕ) (due : Node �
   -- the lines of job j's visits from one place of its route up to another
   abbrev pub AreVisitsFrom : ℕ → ℕ → ℕ → List ℕ → Type 0
   AreVisitsFrom j = AreTextsFrom (λ k. IsVisitText (codes " from ") (visit_of p at due j k) k)
-
-  -- the lines of job j
-  abbrev pub IsJobText : ℕ → List ℕ → Type 0
-  IsJobText j = AreBoth (λ line. line ≡ arrival_line names j (release p j) (due (node j 0))) (AreVisitsFrom j 0 (steps p j))
-
-  -- the lines of all jobs, ascending
-  abbrev pub AreScheduleLines : List ℕ → Type 0
-  AreScheduleLines = AreTextsFrom IsJobText 0 (jobs p)

@@ -1,18 +1,18 @@
 //! The moments that a schedule shows.
 
 ghost use Rattle.std.specs.Prelude.{◌≡◌, ℕ, ◌+◌, ◌<◌, ◌≤◌, max, IfOk, IfSome};
-ghost use Rattle.shop_base.specs.{declared.limits.TheConstants.MAX_MOMENT, Report.IsNextMoment, Shop.step_at};
+ghost use Rattle.shop_base.specs.{declared.limits.TheConstants.MAX_MOMENT, Shop.step_at};
 ghost use Rattle.shop_base.specs.Plan.{jobs, machines, steps, route, release, Visits};
 ghost use Rattle.shop_base.specs.{Cell.job_in, Cell.made, Cell.cleaning, Graph.IsNode, Sound.IsSound};
 ghost use Rattle.alt_graph.specs.Sources.{IsBlockingArc, IsTarget};
 ghost use Rattle.plan_verifier.specs.Rest.{AreOrderedAhead};
 ghost use Rattle.plan_schedule.specs.Schedules.{visit_of, IsCleaningDue, IsCleaningBehind};
-ghost use Rattle.plan_schedule.specs.RestSchedules.{operation_end, cleaned_by, entered_of, IsNextDue, IsCleaningOn};
+ghost use Rattle.plan_schedule.specs.ScheduleLines.{operation_end, cleaned_by, entered_of, IsNextDue, IsCleaningOn};
 ghost use Rattle.plan_schedule.specs.Calendars.{IsCalendar, calendar_of, seen, at_of, due_at, HasDeadlines};
 
 use crate::lines::{Cleaning, ScheduledVisit};
 use alt_graph::{Deadlines, Graph, Times};
-use cell_tables::WorkCell;
+use cell_tables::{Rest, WorkCell};
 use plan_verifier::cleanings_in_range;
 use shop_base::{JobNo, JobState, MachineNo, Moment, Node, Planned, Step};
 use std::alloc::{AllocError, Global};
@@ -46,17 +46,17 @@ impl<'a, P: Planned> Calendar<'a, P> {
     /// The calendar of the rest of a run by these moments and deadlines. Fails only when out of memory.
     pub(crate) fn new(
         alloc: Global,
-        cell: &'a WorkCell<P>,
-        present: Moment,
+        rest: &'a Rest<P>,
         times: &'a Times,
         deadlines: Option<&'a Deadlines>,
     ) -> Result<Calendar<'a, P>, AllocError>
-        requires present { IsNextMoment cell.now.cell present }
-        requires ordered { AreOrderedAhead cell.now.plan cell.now.cell present times.now }
-        requires deadlines { HasDeadlines cell.now.plan (seen deadlines (λ d. d.now)) }
-        ensures { IfOk result
-            (λ k. k ≡ calendar_of cell.now.plan cell.now.cell present times.now (seen deadlines.entry (λ d. d.now))) }
+        requires ordered { AreOrderedAhead rest.now.plan rest.now.cell rest.now.present times.now }
+        requires deadlines { HasDeadlines rest.now.plan (seen deadlines (λ d. d.now)) }
+        ensures { let r = rest.now in IfOk result
+            (λ k. k ≡ calendar_of r.plan r.cell r.present times.now (seen deadlines.entry (λ d. d.now))) }
     {
+        let cell = rest.cell();
+        let present = rest.present();
         // Called for its clause alone: sums with these moments fit.
         cleanings_in_range(cell);
         let graph = Graph::new(alloc, cell.shaped())?;

@@ -1,7 +1,7 @@
 //! The visits of a run, as a picture draws them: those known so far with their ends, and those ahead.
 
 ghost use Rattle.std.specs.Prelude.{◌≡◌, ◌+◌, ◌<◌, ◌≤◌, ◌++◌, map, IfOk, IfSome, OnOk, unwrap_or};
-ghost use Rattle.shop_base.specs.{Report.IsNextMoment, Plan.jobs, Plan.steps, Cell.made};
+ghost use Rattle.shop_base.specs.{Plan.jobs, Plan.steps, Cell.made};
 ghost use Rattle.alt_graph.specs.Times.{earliest_of, AreRanks};
 ghost use Rattle.plan_verifier.specs.Rest.{AreOrderedAhead};
 ghost use Rattle.plan_schedule.specs.Calendars.{at_of};
@@ -10,59 +10,64 @@ ghost use Rattle.plan_schedule.specs.DrawnVisits.{ended_cleaning, left_visit, go
 ghost use Rattle.plan_schedule.specs.DrawnVisits.{job_ahead, visits_ahead, leavings_by, IsDrawnRun};
 
 use crate::calendar::Calendar;
+use crate::late_rest::lateness;
 use crate::lines::Cleaning;
 use alt_graph::Times;
-use cell_tables::WorkCell;
+use cell_tables::Rest;
 use plan_verifier::leave_time;
 use run_picture::{Cleaned, DrawnVisit};
 use shop_base::{JobNo, MachineNo, Moment, Planned};
 use std::alloc::{AllocError, Global};
 
-/// The visits of a run, and when each job leaves or has left.
+/// The visits of a run, when each job leaves or has left, and how late its rest is.
 #[derive(Debug, Drop)]
 pub struct DrawnRun {
     /// The visits, as a picture draws them.
     pub visits: Vec<DrawnVisit>,
     /// The jobs' leavings, by job.
     pub leavings: Vec<Option<Moment>>,
+    /// The greatest lateness of a job that hasn't left, in time units.
+    pub late_by: Moment,
 }
 
-/// The run that goes on from a cell and the present moment, by the earliest moments ahead: first the visits that are
-/// known so far, in their order, with their ends, and then those ahead, the jobs ascending, each job's visits in the
+/// The run that goes on, by the earliest moments ahead: first the visits that are known so far, in their order, with
+/// their ends, and then those ahead, the jobs ascending, each job's visits in the
 /// order of its route. What is overdue is assumed to end at the present moment. A whole plan is such a run from the start
 /// on, of which nothing is known. Fails only when out of memory.
 pub fn drawn_run<'a, P: Planned>(
     alloc: Global,
-    cell: &'a WorkCell<P>,
-    present: Moment,
+    rest: &'a Rest<P>,
     times: &'a Times,
     drawn: &[DrawnVisit],
 ) -> Result<DrawnRun, AllocError>
-    requires present { IsNextMoment cell.now.cell present }
-    requires ordered { AreOrderedAhead cell.now.plan cell.now.cell present times.now }
-    ensures { IfOk result (IsDrawnRun cell.now.plan cell.now.cell present drawn.now) }
+    requires { AreOrderedAhead rest.now.plan rest.now.cell rest.now.present times.now }
+    ensures { IfOk result (IsDrawnRun rest.now.plan rest.now.cell rest.now.present drawn.now) }
 {
-    let calendar = Calendar::new(alloc, cell, present, times, None)?;
+    let calendar = Calendar::new(alloc, rest, times, None)?;
     let mut visits = Vec::new(alloc);
     push_drawn(&mut visits, &calendar, drawn)?;
     push_ahead(&mut visits, &calendar)?;
-    let leavings = leavings_by(alloc, cell, times)?;
-    Ok(DrawnRun { visits, leavings })
+    let leavings = leavings_by(alloc, rest, times)?;
+    Ok(DrawnRun {
+        visits,
+        leavings,
+        late_by: lateness(rest.cell(), times),
+    })
 }
 
 /// When each job leaves, or has left.
 fn leavings_by<P: Planned>(
     alloc: Global,
-    cell: &WorkCell<P>,
+    rest: &Rest<P>,
     times: &Times,
 ) -> Result<Vec<Option<Moment>>, AllocError>
-    requires { AreRanks cell.now.plan times.now }
-    ensures { IfOk result
-        (λ leavings. leavings.items ≡ leavings_by cell.now.plan (earliest_of times.now) (jobs cell.now.plan)) }
+    requires { AreRanks rest.now.plan times.now }
+    ensures { let p = rest.now.plan in
+        IfOk result (λ leavings. leavings.items ≡ leavings_by p (earliest_of times.now) (jobs p)) }
 {
     let mut leavings = Vec::new(alloc);
-    for job in 0..cell.job_count() {
-        leavings.push(Some(leave_time(cell, times, job)))?;
+    for job in 0..rest.shaped().job_count() {
+        leavings.push(Some(leave_time(rest, times, job)))?;
     }
     Ok(leavings)
 }

@@ -3,7 +3,7 @@
 ghost use Rattle.std.specs.Prelude.{◌≡◌, ◌+◌, ◌<◌, ◌≤◌, OnOk, length, ◌++◌};
 ghost use Rattle.shop_base.specs.{Plan.jobs, Plan.machines, Plan.steps, Cell.made};
 ghost use Rattle.plan_explain.specs.{Added.Adds, Parts.AreTextsFrom};
-ghost use Rattle.plan_schedule.specs.{Schedules.AreVisitsFrom, RestSchedules.arrival_after, RestSchedules.AreRestLines};
+ghost use Rattle.plan_schedule.specs.{Schedules.AreVisitsFrom, ScheduleLines.arrival_after, ScheduleLines.AreScheduleLines};
 ghost use Rattle.plan_schedule.specs.Calendars.{at_of, due_at, IsVisitTextBy, IsJobTextBy, IsCleanedTextBy};
 
 use crate::calendar::Calendar;
@@ -23,7 +23,7 @@ pub(crate) fn push_all<P: Planned>(
 ) -> Result<(), AllocError>
     ensures { let k = calendar.now in
         OnOk result
-        (Adds (AreRestLines names.now k.plan k.cell k.present (at_of k) (due_at k)) text.old.items text.new.items) }
+        (Adds (AreScheduleLines names.now k.plan k.cell k.present (at_of k) (due_at k)) text.old.items text.new.items) }
 {
     push_jobs(text, names, calendar)?;
     push_cleanings(text, names, calendar)

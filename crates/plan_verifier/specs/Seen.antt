@@ -1,16 +1,9 @@
--- Verdicts that are lent, one on a whole plan as that on the rest of a run that hasn't begun.
+-- A verdict on a whole plan, as that on the rest of a run that hasn't begun.
 use Rattle.shop_base.specs.Plan.{PlannedShop}
 use Rattle.plan_verifier.specs.declared.verdict.Judged.{Judged}
 use Rattle.plan_verifier.specs.declared.verdict.Judged.TheVariants.{Accepted as AcceptedRest, Refused as RefusedRest}
-use Rattle.plan_verifier.specs.declared.verdict.Seen.{Seen}
-use Rattle.plan_verifier.specs.declared.verdict.Seen.TheVariants.{Accepted as AcceptedSeen, Refused as RefusedSeen}
 use Rattle.plan_verifier.specs.declared.verdict.Verdict.{Verdict}
 use Rattle.plan_verifier.specs.declared.verdict.Verdict.TheVariants.{Accepted, Refused}
-
--- the verdict that is lent
-abbrev pub lent : Seen → Judged
-lent (AcceptedSeen times) = AcceptedRest times.now
-lent (RefusedSeen why) = RefusedRest why.now
 
 -- the plan that is judged
 abbrev pub judged : Verdict → PlannedShop

@@ -13,7 +13,7 @@ use shop_base::{JobNo, Shaped};
 use std::alloc::{AllocError, Global};
 
 /// Judges a plan whose graph is solved from these bounds. Jobs whose leavings aren't ahead aren't judged.
-pub(crate) fn judge<B: Bounds>(
+pub(crate) fn judge_from<B: Bounds>(
     alloc: Global,
     shaped: &Shaped,
     bounds: &B,

@@ -5,6 +5,7 @@
 //! moment, and what is held up not before what holds it up is due. A whole plan is that of a run that hasn't begun.
 #![tactic(auto)]
 
+mod ahead;
 mod cell_bounds;
 mod chain_check;
 mod deadlines;
@@ -18,12 +19,13 @@ mod verdict;
 mod verified;
 mod verifying;
 
+pub use ahead::{bound_of, check_chain_ahead, deadlines_of, earliest_moments, judge};
 pub use chain_check::check_chain_after;
 pub use deadlines::deadlines_after;
 pub use in_range::cleanings_in_range;
 pub use leavings::{last_to_leave, later, leave_time, leaving_of, makespan};
-pub use node_bound::{Hold, NodeBound, bound_after};
+pub use node_bound::{Hold, NodeBound};
 pub use solving::solve_after;
-pub use verdict::{Judged, Seen, Verdict, Why};
+pub use verdict::{Judged, Verdict, Why};
 pub use verified::Verified;
 pub use verifying::{verify, verify_after};

@@ -57,7 +57,11 @@ pub struct NodeBound {
 /// The bound of a node, from a cell and a present moment: of all that holds it up what lasts longest. If several last
 /// equally long, the bound names what goes on with the job, else the cleaning of the machine, else that the job waits.
 /// `None` for a node that only nodes before it hold up, and for one that is passed.
-pub fn bound_after<P: Planned>(cell: &WorkCell<P>, present: Moment, node: Node) -> Option<NodeBound>
+pub(crate) fn bound_after<P: Planned>(
+    cell: &WorkCell<P>,
+    present: Moment,
+    node: Node,
+) -> Option<NodeBound>
     requires node { IsNode cell.now.plan node }
     requires in_range { present ≤ MAX_MOMENT }
     ensures { MatchOption result (IsHeldUp cell.now.plan cell.now.cell node → ⊥)

@@ -1,5 +1,5 @@
 ghost use Rattle.std.specs.Prelude.{◌≡◌};
-ghost use Rattle.plan_verifier.specs.{Accepted.IsVerified, Seen.lent, Seen.judged, Seen.as_rest, Verdicts.OnAccepted};
+ghost use Rattle.plan_verifier.specs.{Accepted.IsVerified, Seen.judged, Seen.as_rest, Verdicts.OnAccepted};
 
 use crate::verified::Verified;
 use alt_graph::Times;
@@ -45,30 +45,7 @@ pub enum Why {
     },
 }
 
-/// A verdict, lent: one on a whole plan is lent as that on the rest of a run that hasn't begun.
-#[derive(Clone, Copy)]
-pub enum Seen<'a> {
-    /// The ranks of all nodes, and the earliest moments of those ahead.
-    Accepted(&'a Times),
-    Refused(&'a Why),
-}
-
 impl Verdict {
-    /// The verdict, lent.
-    pub fn seen(&self) -> Seen<'_>
-        ensures same { lent result ≡ as_rest self.now }
-        ensures verified { OnAccepted IsVerified self.now }
-    {
-        match self {
-            Verdict::Accepted(verified) => {
-                // Called for its clause alone: the plan is verified.
-                let _plan = verified.shaped();
-                Seen::Accepted(verified.times())
-            }
-            Verdict::Refused(_, why) => Seen::Refused(why),
-        }
-    }
-
     /// The plan that is judged.
     pub fn shaped(&self) -> &Shaped
         ensures { result.now ≡ judged self.now }
@@ -78,16 +55,19 @@ impl Verdict {
             Verdict::Refused(shaped, _) => shaped,
         }
     }
-}
 
-impl Judged {
-    /// The verdict, lent.
-    pub fn seen(&self) -> Seen<'_>
-        ensures { lent result ≡ self.now }
+    /// The plan that is judged, and what is said of it as of the rest of a run that hasn't begun.
+    pub fn into_parts(self) -> (Shaped, Judged)
+        ensures plan { result.0 ≡ judged self }
+        ensures same { result.1 ≡ as_rest self }
+        ensures verified { OnAccepted IsVerified self }
     {
         match self {
-            Judged::Accepted(times) => Seen::Accepted(times),
-            Judged::Refused(why) => Seen::Refused(why),
+            Verdict::Accepted(verified) => {
+                let (shaped, times) = verified.into_parts();
+                (shaped, Judged::Accepted(times))
+            }
+            Verdict::Refused(shaped, why) => (shaped, Judged::Refused(why)),
         }
     }
 }

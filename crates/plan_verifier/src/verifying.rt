@@ -16,7 +16,7 @@ ghost use Rattle.plan_verifier.specs.RestVerdicts.{IsAcceptableAhead, IsAccepted
 ghost use Rattle.plan_verifier.specs.RestVerdicts.{OnRestRefused, OnRestCycle, OnRestTimes};
 
 use crate::cell_bounds::CellBounds;
-use crate::judging::judge;
+use crate::judging::judge_from;
 use crate::verdict::{Judged, Verdict};
 use crate::verified::Verified;
 use alt_graph::{Whole, solve_from};
@@ -51,7 +51,7 @@ fn judge_whole(alloc: Global, shaped: &Shaped) -> Result<Judged, AllocError>
     // Called for its clause alone: the plan is well shaped.
     let _shop = shaped.shop();
     let solved = solve_from(alloc, shaped, Whole { shaped })?;
-    judge(alloc, shaped, &Whole { shaped }, solved)
+    judge_from(alloc, shaped, &Whole { shaped }, solved)
 }
 
 /// Judges the rest of a run, from a cell at the end of any run that keeps its plan, and a present moment that isn't
@@ -85,5 +85,5 @@ pub fn verify_after<P: Planned>(
 {
     let shaped = cell.shaped();
     let solved = solve_from(alloc, shaped, CellBounds { cell, present })?;
-    judge(alloc, shaped, &CellBounds { cell, present }, solved)
+    judge_from(alloc, shaped, &CellBounds { cell, present }, solved)
 }

@@ -3,6 +3,7 @@ pub mod GoodFiles
 pub mod GoodHubs
 pub mod GoodInputs
 mod CommandNames
+mod ShownLogs
 pub mod SameWriting
 pub mod SameResuming
 mod SameHubs

@@ -1,5 +1,5 @@
 -- A log is driven by no plan with other digits than its last line of a plan has.
-use Rattle.std.proofs.Common.{◌≡◌, ℕ, List, [], ◌∷◌, Option, None, Some, IfSome, Result, Ok, Err, IfOk, is_some, option_map, MatchOption, true, false, inl, inr, sym, ap, ◌∙◌, subst, refl}
+use Rattle.std.proofs.Common.{◌≡◌, ℕ, List, [], ◌∷◌, Bool, Option, None, Some, IfSome, Result, Ok, Err, IfOk, is_some, option_map, MatchOption, true, false, inl, inr, sym, ap, ◌∙◌, subst, refl}
 use Rattle.shop_base.specs.declared.shape_fault.ShapeFault.{ShapeFault}
 use Rattle.shop_base.specs.Plan.{PlannedShop}
 use Rattle.text_lines.specs.Lines.{lines_of}
@@ -30,7 +30,7 @@ use Rattle.command_run.specs.Misfits.{IsMisfit}
 use Rattle.command_run.specs.declared.misfits.Misfit.{Misfit}
 use Rattle.command_run.specs.declared.misfits.Misfit.TheVariants.{NotNew, OtherPlan}
 use Rattle.command_run.specs.Logs.{Driven, Found, DrivesAs, DrivesFitting, DrivesFound, DrivesOpened, DrivesShaped, GoesOnAfter, ContinuesRecovered, LogEnd, Step, RecoversLog, bytes_in, digits_in}
-use Rattle.command_run.specs.Program.{Follows, RunsChosen, kept_log_in}
+use Rattle.command_run.specs.Program.{Follows, RunsBy, RunsChosen, kept_log_in}
 use Rattle.program_laws.specs.PlanLaw.{NoPlanWithOtherDigitsDrives}
 use Rattle.program_laws.proofs.KnownHistories.{asked_path}
 
@@ -115,8 +115,13 @@ no_plan_with_other_digits {W} gives words before after status logs path bytes di
         let here : at_path ≡ path = (let both : Some at_path ≡ Some path = sym (asked_path words chosen at_path choice keeps) ∙ kept in cc both) in
         shaped p digits bytes named other before.folder after.folder logs at_path chosen.start _ chosen.at runs.shaped _ there (ap (held logs) here ∙ has) (λ is. asked (sym choice.start ∙ is)) runs.drives (events, run, refl)
 
+    by_output : (chosen : Chosen) (shown : Bool) (outcome : Result Answer CommandFault) (mid : Streams) → IsChoiceOf words (found_in words) chosen
+        → RunsBy gives shown chosen before outcome mid after (Some (Driven p events run)) → ⊥
+    by_output chosen true outcome mid choice refused = absurd (cc refused.3.1)
+    by_output chosen false outcome mid choice runs = by_log chosen (kept_log_in chosen) outcome mid choice refl runs
+
     follows : (read : Result Chosen WordsFault) → IfOk read (IsChoiceOf words (found_in words)) → Follows gives read before status after (Some (Driven p events run)) → ⊥
-    follows (Ok chosen) choice is = by_log chosen (kept_log_in chosen) is.outcome is.mid choice refl is.runs
+    follows (Ok chosen) choice is = by_output chosen is.runs.shown is.outcome is.mid choice is.runs.by
     follows (Err (Usage true text)) choice is = absurd (cc is.logs.1)
     follows (Err (Usage false text)) choice is = absurd (cc is.4.1)
     follows (Err NoWordsMemory) choice is = absurd (cc is.3.1)

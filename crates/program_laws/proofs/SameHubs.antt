@@ -32,12 +32,13 @@ use Rattle.command_run.specs.Streams.{Streams}
 use Rattle.command_run.specs.Drives.{IsEndAnswer, status_at}
 use Rattle.command_run.specs.Hubs.{end_of_hub}
 use Rattle.command_run.specs.Ending.{Ends, EndsBy}
-use Rattle.command_run.specs.Program.{AreWordsRead, Follows, RunsChosen, RunsCommand, RunsHub, draws, file_at, keeps_log, kept_log_in, log_kept_by, name_in, plans_in, protocol_in}
+use Rattle.command_run.specs.Program.{AreWordsRead, Follows, RunsChosen, RunsCommand, RunsHub, draws, file_at, given_log_in, keeps_log, kept_log_in, log_given_to, log_kept_by, name_in, plans_in, protocol_in}
 use Rattle.command_run.specs.Laws.{Shelf, DrivesPlans, ParseAsAcceptedPlans, RunsWell}
 use Rattle.program_laws.specs.HistoryLaw.{protocol_of}
 use Rattle.program_laws.specs.HubLaw.{AskForHub, HubWritesTheSame}
 use Rattle.program_laws.proofs.CommandNames.{same_command}
 use Rattle.program_laws.proofs.GoodHubs.{good_hub, plans_of}
+use Rattle.program_laws.proofs.ShownLogs.{apart_runs}
 use Rattle.program_laws.proofs.SameWriting.{ended_well, memory_ends, memory_status, never_broke, own_ends, same_manner, same_truth}
 
 -- ---- cells by the same plans, whose evidence may differ
@@ -226,8 +227,10 @@ module _ (content : List ℕ → Result (List ℕ) CommandFault) (words : List (
         let choice : IsChoiceOf words (found_in words) chosen = are.chosen in
         let is_hub : chosen.name ≡ Hub = same_command chosen.name Hub (choice.name ∙ ask.hub) in
         let no_log : kept_log_in chosen ≡ None = ap (λ (n : CommandName). log_kept_by (keeps_log n) (option_map string_bytes chosen.log)) is_hub in
+        let none_given : given_log_in chosen ≡ None = ap (λ (n : CommandName). log_given_to n chosen) is_hub ∙ no_log in
         let unlogged : RunsCommand (Shelf content) chosen.name chosen well.before.texts well.before.streams follows.outcome well.after.texts follows.mid =
-        (subst (λ (l : Option (List ℕ)). RunsChosen (Shelf content) l chosen well.before follows.outcome follows.mid well.after well.log) no_log follows.runs).0 in
+        (subst (λ (l : Option (List ℕ)). RunsChosen (Shelf content) l chosen well.before follows.outcome follows.mid well.after well.log) no_log
+        (apart_runs (Shelf content) chosen well.before follows.outcome follows.mid well.after well.log none_given follows.runs)).0 in
         let runs : RunsHub (Shelf content) (protocol_in chosen) (file_at chosen 0) (name_in chosen) (plans_in chosen) well.before.texts well.before.streams follows.outcome well.after.texts follows.mid =
         subst (λ (n : CommandName). RunsCommand (Shelf content) n chosen well.before.texts well.before.streams follows.outcome well.after.texts follows.mid) is_hub unlogged in
         let path_is : file_at chosen 0 ≡ path = ap (λ (fs : List (List ℕ)). get_or fs 0 []) choice.files ∙ sym ask.path_is in

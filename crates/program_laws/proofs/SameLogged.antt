@@ -1,5 +1,5 @@
 -- A driven cell with a log of its own writes the same.
-use Rattle.std.proofs.Common.{◌≡◌, ℕ, ◌≤◌, ◌++◌, List, [], ◌∷◌, Bool, true, false, Option, Some, None, Result, Ok, Err, IfSome, IfOk, MatchOption, is_some, length, append_assoc, append-nil, option_map, inl, inr, ap, sym, ◌∙◌, subst, arith, refl}
+use Rattle.std.proofs.Common.{◌≡◌, ℕ, ◌≤◌, ◌⊎◌, ◌++◌, List, [], ◌∷◌, Bool, true, false, Option, Some, None, Result, Ok, Err, IfSome, IfOk, MatchOption, is_some, length, append_assoc, append-nil, option_map, inl, inr, ap, sym, ◌∙◌, subst, arith, refl}
 use Rattle.std.specs.Io.KnownBytes.{Appends, append_known}
 use Rattle.std.specs.String.{string_bytes}
 use Rattle.std.proofs.KnownBytes.{Appends-trans}
@@ -50,7 +50,7 @@ use Rattle.command_words.specs.declared.words.WordsFault.TheVariants.{Usage, Mem
 use Rattle.command_words.specs.Choice.{IsChoiceOf, NamesOneOf, found_in, rows_found, start_in}
 use Rattle.command_answers.specs.declared.answer.Answer.{Answer}
 use Rattle.command_answers.specs.declared.command_fault.CommandFault.{CommandFault}
-use Rattle.command_answers.specs.declared.command_fault.CommandFault.TheVariants.{Write, Memory}
+use Rattle.command_answers.specs.declared.command_fault.CommandFault.TheVariants.{Write, Log as ShownFault, Memory}
 use Rattle.command_answers.specs.Commands.{InputPaths}
 use Rattle.command_answers.specs.Shapes.{IsShapedOrNot}
 use Rattle.command_run.specs.Streams.{Streams, Output}
@@ -60,14 +60,15 @@ use Rattle.command_run.specs.Ending.{Ends, EndsBy}
 use Rattle.command_run.specs.Misfits.{IsMisfit}
 use Rattle.command_run.specs.declared.misfits.Misfit.{Misfit}
 use Rattle.command_run.specs.Logs.{BeginsAccepted, BeginsBy, Begins, ContinuesRecovered, Driven, DrivesAs, DrivesFitting, DrivesFound, DrivesOpened, DrivesShaped, DrivesWithLog, GoesOnAfter, IsLogFaultPrinted, IsLoggedAnswer, IsNewLogFault, IsVerdict, LogEnd, NotRecovered, Unlined, Unread, RecoversLog, bytes_in, digits_in, fault_of, logged_command_fault, step_of, with_output}
-use Rattle.command_run.specs.Program.{AreWordsRead, Follows, RunsChosen, RunsLoggedDrive, draws, inputs_in, keeps_log, kept_log_in, log_kept_by, protocol_in, status_by}
+use Rattle.command_run.specs.Program.{AreWordsRead, Follows, IsShown, RunsChosen, RunsLoggedDrive, draws, given_log_in, inputs_in, keeps_log, kept_log_in, log_given_to, log_kept_by, protocol_in, status_by}
 use Rattle.command_run.specs.Laws.{IsAnswered, ParseAsPlan, Shelf}
 use Rattle.program_laws.specs.HistoryLaw.{protocol_of}
 use Rattle.program_laws.specs.LoggedLaw.{AskForLoggedDrive, CanBeDriven, IsAsAsked, LoggedDriveWritesTheSame, RunsWellWithLog}
-use Rattle.program_laws.specs.ResumeLaw.{moment_given}
+use Rattle.program_laws.specs.ResumeLaw.{GoesToLog, moment_given}
 use Rattle.program_laws.proofs.CommandNames.{same_command}
 use Rattle.program_laws.proofs.GoodFiles.{good_plan}
 use Rattle.program_laws.proofs.KnownHistories.{asked_pair}
+use Rattle.program_laws.proofs.ShownLogs.{kept_status, log_ends, run_or_shown, wrote_nothing}
 use Rattle.program_laws.proofs.SameResuming.{Resumed, resumed_from, resumed_the_same}
 use Rattle.program_laws.proofs.SameWriting.{Wrote, all_read, ended_as, fewer, memory_ends, memory_status, same_manner, so_far_of, write_ends, written_is, wrote_the_same}
 
@@ -346,27 +347,47 @@ module _ (content : List ℕ → Result (List ℕ) CommandFault) (words : List (
               let same : found ≡ held run.logs path = subst (λ (o : Option (List NamedLog)). IfSome o (λ ls. found ≡ held ls path)) run.known known in
               same ∙ run.was
 
-  follows_logged : (inputs : InputPaths) (p : PlannedShop) (read : Result Chosen WordsFault) → AskForLoggedDrive words inputs path → ParseAsPlan content inputs p → IsWellShaped p → IsAsAsked words p there
-      → CanBeDriven p (moment_given words) there → AreWordsRead words read → Follows (Shelf content) read run.well.before status run.well.after run.well.log → LogWrote p (protocol_of words) (moment_given words) there input status written
-  follows_logged inputs p (Ok chosen) ask good shaped as_asked can are follows =
-      let choice : IsChoiceOf words (found_in words) chosen = are.chosen in
-      let is_drive : chosen.name ≡ Drive = same_command chosen.name Drive (choice.name ∙ ask.drive) in
-      let kept : kept_log_in chosen ≡ Some path = ap (λ (n : CommandName). log_kept_by (keeps_log n) (option_map string_bytes chosen.log)) is_drive ∙ choice.log ∙ ask.files.kept in
-      let step = step_of run.well.before.streams follows.outcome follows.mid run.well.log in
+  -- where its output goes to the log
+  shown_so : (outcome : Result Answer CommandFault) (mid : Streams) (own : ℕ) → IsShown (Some path) run.well.before.folder true → outcome ≡ Err ShownFault → mid ≡ run.well.before.streams
+      → Ends outcome mid.output run.well.after.streams.output run.well.before.errors run.well.after.errors own → status ≡ status_by (Some path) run.well.log outcome own → GoesToLog content words input status written run.well path
+  shown_so outcome mid own shown is same ends status_is =
+      let ended = log_ends outcome mid.output run.well.after.streams.output run.well.before.errors run.well.after.errors own is ends in
+      record { shown = shown; status_is = status_is ∙ kept_status path run.well.log outcome own is ended.1; nothing = wrote_nothing content words input status written run.well mid same ended.0 }
+
+  -- where it doesn't
+  run_logged : (inputs : InputPaths) (p : PlannedShop) (chosen : Chosen) (outcome : Result Answer CommandFault) (mid : Streams) (own : ℕ) → ParseAsPlan content inputs p → IsWellShaped p → IsAsAsked words p there
+      → CanBeDriven p (moment_given words) there → AskForLoggedDrive words inputs path → IsChoiceOf words (found_in words) chosen → kept_log_in chosen ≡ Some path → run.well.after.streams.input ≡ mid.input
+      → Ends outcome mid.output run.well.after.streams.output run.well.before.errors run.well.after.errors own → status ≡ status_by (Some path) run.well.log outcome own
+      → RunsChosen (Shelf content) (kept_log_in chosen) chosen run.well.before outcome mid run.well.after run.well.log → LogWrote p (protocol_of words) (moment_given words) there input status written
+  run_logged inputs p chosen outcome mid own good shaped as_asked can ask choice kept same_input ends status_is chosen_runs =
+      let step = step_of run.well.before.streams outcome mid run.well.log in
       let logged : RunsLoggedDrive (Shelf content) run.well.before.folder run.well.after.folder path chosen.start (protocol_in chosen) chosen.at (inputs_in chosen) run.well.before.texts step run.well.after.texts =
-      subst (λ (l : Option (List ℕ)). RunsChosen (Shelf content) l chosen run.well.before follows.outcome follows.mid run.well.after run.well.log) kept follows.runs in
+      subst (λ (l : Option (List ℕ)). RunsChosen (Shelf content) l chosen run.well.before outcome mid run.well.after run.well.log) kept chosen_runs in
       let runs : RunsLoggedDrive (Shelf content) run.well.before.folder run.well.after.folder path (start_in (rows_found (found_in words))) (protocol_of words) (moment_given words) inputs [] step run.well.after.texts =
       subst (λ (s : LogStart). RunsLoggedDrive (Shelf content) run.well.before.folder run.well.after.folder path s (protocol_of words) (moment_given words) inputs [] step run.well.after.texts) choice.start
       (subst (λ (m : Protocol). RunsLoggedDrive (Shelf content) run.well.before.folder run.well.after.folder path chosen.start m (moment_given words) inputs [] step run.well.after.texts) (same_manner words chosen choice)
       (subst (λ (a : Option ℕ). RunsLoggedDrive (Shelf content) run.well.before.folder run.well.after.folder path chosen.start (protocol_in chosen) a inputs [] step run.well.after.texts) choice.at
       (subst (λ (i : InputPaths). RunsLoggedDrive (Shelf content) run.well.before.folder run.well.after.folder path chosen.start (protocol_in chosen) chosen.at i [] step run.well.after.texts) (asked_pair words inputs path chosen ask.files choice)
       (subst (λ (asked : List (List ℕ)). RunsLoggedDrive (Shelf content) run.well.before.folder run.well.after.folder path chosen.start (protocol_in chosen) chosen.at (inputs_in chosen) asked step run.well.after.texts) run.well.unasked logged)))) in
+      shaped_so outcome mid own same_input ends status_is p (protocol_of words) _ (start_in (rows_found (found_in words))) (moment_given words) shaped can as_asked runs.shaped run.well.after.texts
+      (good_plan content inputs p good IsShapedOrNot runs.shaped run.well.after.texts runs.shapes) runs.drives
+
+  follows_logged : (inputs : InputPaths) (p : PlannedShop) (read : Result Chosen WordsFault) → AskForLoggedDrive words inputs path → ParseAsPlan content inputs p → IsWellShaped p → IsAsAsked words p there
+      → CanBeDriven p (moment_given words) there → AreWordsRead words read → Follows (Shelf content) read run.well.before status run.well.after run.well.log
+      → GoesToLog content words input status written run.well path ⊎ LogWrote p (protocol_of words) (moment_given words) there input status written
+  follows_logged inputs p (Ok chosen) ask good shaped as_asked can are follows =
+      let choice : IsChoiceOf words (found_in words) chosen = are.chosen in
+      let is_drive : chosen.name ≡ Drive = same_command chosen.name Drive (choice.name ∙ ask.drive) in
+      let kept : kept_log_in chosen ≡ Some path = ap (λ (n : CommandName). log_kept_by (keeps_log n) (option_map string_bytes chosen.log)) is_drive ∙ choice.log ∙ ask.files.kept in
+      let given : given_log_in chosen ≡ Some path = ap (λ (n : CommandName). log_given_to n chosen) is_drive ∙ kept in
       let ends : Ends follows.outcome follows.mid.output run.well.after.streams.output run.well.before.errors run.well.after.errors follows.own =
       subst (λ (n : CommandName). EndsBy (draws n chosen.svg) follows.outcome follows.mid.output run.well.after.streams.output run.well.before.errors run.well.after.errors follows.own) is_drive follows.ends in
       let status_is : status ≡ status_by (Some path) run.well.log follows.outcome follows.own =
       subst (λ (l : Option (List ℕ)). status ≡ status_by l run.well.log follows.outcome follows.own) kept follows.status_is in
-      shaped_so follows.outcome follows.mid follows.own follows.input ends status_is p (protocol_of words) _ (start_in (rows_found (found_in words))) (moment_given words) shaped can as_asked runs.shaped run.well.after.texts
-      (good_plan content inputs p good IsShapedOrNot runs.shaped run.well.after.texts runs.shapes) runs.drives
+      elim (run_or_shown content words input status written run.well chosen path follows.outcome follows.mid given follows.runs) [
+        | inl shown ↦ inl (shown_so follows.outcome follows.mid follows.own shown.0 shown.1 shown.2 ends status_is)
+        | inr runs ↦ inr (run_logged inputs p chosen follows.outcome follows.mid follows.own good shaped as_asked can ask choice kept follows.input ends status_is runs)
+      ]
   follows_logged inputs p (Err (Usage help text)) ask good shaped as_asked can are follows =
       absurd (let named = subst (λ kinds. NamesOneOf kinds (Usage help text)) ask.accepted are.refused in named.1)
   follows_logged inputs p (Err NoWordsMemory) ask good shaped as_asked can are follows =
@@ -383,6 +404,12 @@ log_wrote_the_same p protocol at (Some (byte ∷ bytes)) input status other_stat
 
 pub logged_drive_writes_the_same : LoggedDriveWritesTheSame
 logged_drive_writes_the_same content words inputs log there p input status other_status written other ask good shaped as_asked can few one two =
-    log_wrote_the_same p (protocol_of words) (moment_given words) there input status other_status written other shaped
-    (follows_logged content words log there input few status written one inputs p one.well.run.read ask good shaped as_asked can one.well.run.is one.well.run.follows)
-    (follows_logged content words log there input few other_status other two inputs p two.well.run.read ask good shaped as_asked can two.well.run.is two.well.run.follows)
+    let first = follows_logged content words log there input few status written one inputs p one.well.run.read ask good shaped as_asked can one.well.run.is one.well.run.follows in
+    let second = follows_logged content words log there input few other_status other two inputs p two.well.run.read ask good shaped as_asked can two.well.run.is two.well.run.follows in
+    elim first [
+      | inl shown ↦ inl shown
+      | inr here ↦ elim second [
+        | inl shown ↦ inr (inl shown)
+        | inr there_too ↦ inr (inr (log_wrote_the_same p (protocol_of words) (moment_given words) there input status other_status written other shaped here there_too))
+      ]
+    ]

@@ -1,5 +1,5 @@
 -- A run that is recovered writes the same, and behind a log without events what `drive` writes.
-use Rattle.std.proofs.Common.{◌≡◌, ℕ, ◌≤◌, ◌++◌, List, [], ◌∷◌, Bool, true, false, Option, None, Result, Ok, Err, length, get_or, map, option_map, inl, inr, ap, sym, ◌∙◌, subst, arith}
+use Rattle.std.proofs.Common.{◌≡◌, ℕ, ◌≤◌, ◌⊎◌, ◌++◌, List, [], ◌∷◌, Bool, true, false, Option, Some, None, Result, Ok, Err, length, get_or, map, option_map, inl, inr, ap, sym, ◌∙◌, subst, arith}
 use Rattle.std.specs.Prelude.{unwrap_or}
 use Rattle.std.specs.Io.KnownBytes.{Appends}
 use Rattle.std.specs.String.{string_bytes}
@@ -33,17 +33,19 @@ use Rattle.command_words.specs.declared.words.WordsFault.TheVariants.{Usage, Mem
 use Rattle.command_words.specs.Choice.{IsChoiceOf, NamesOneOf, found_in, rows_found, lines_in, leap_in}
 use Rattle.command_answers.specs.declared.answer.Answer.{Answer}
 use Rattle.command_answers.specs.declared.command_fault.CommandFault.{CommandFault}
+use Rattle.command_answers.specs.declared.command_fault.CommandFault.TheVariants.{Log as LogFault}
 use Rattle.command_answers.specs.Commands.{InputPaths}
 use Rattle.command_run.specs.Streams.{Streams, Output}
 use Rattle.command_run.specs.Drives.{IsEndAnswer, status_at}
 use Rattle.command_run.specs.Resumes.{IsRecovery, IsUnrecoveredAnswer, ResumesRecovered, end_of_rest}
 use Rattle.command_run.specs.Ending.{Ends, EndsBy}
-use Rattle.command_run.specs.Program.{AreWordsRead, RunsResume, RunsCommand, RunsChosen, Follows, draws, file_at, is_second, keeps_log, kept_log_in, log_kept_by, protocol_in, inputs_in}
+use Rattle.command_run.specs.Program.{AreWordsRead, RunsResume, RunsCommand, RunsChosen, Follows, IsShown, draws, file_at, given_log_in, is_second, keeps_log, kept_log_in, log_given_to, log_kept_by, protocol_in, inputs_in}
 use Rattle.command_run.specs.Laws.{Shelf, ParseAsPlan, RunsWell}
-use Rattle.program_laws.specs.ResumeLaw.{AskForResume, AskForOneManner, moment_given, ResumeWritesTheSame, ResumeWritesAsDrive}
+use Rattle.program_laws.specs.ResumeLaw.{AskForResume, AskForOneManner, GoesToLog, moment_given, ResumeWritesTheSame, ResumeWritesAsDrive}
 use Rattle.program_laws.specs.HistoryLaw.{protocol_of}
 use Rattle.program_laws.proofs.CommandNames.{same_command}
 use Rattle.program_laws.proofs.GoodFiles.{good_resume}
+use Rattle.program_laws.proofs.ShownLogs.{log_ends, run_or_shown, wrote_nothing}
 use Rattle.program_laws.proofs.SameWriting.{Wrote, same_manner, all_read, fewer, written_is, memory_status, memory_ends, own_ends, write_ends, ended_as, same_done, follows_wrote}
 
 -- ---- the words
@@ -154,28 +156,47 @@ module _ (content : List ℕ → Result (List ℕ) CommandFault) (words : List (
     log_resumed protocol at text can (Err fault) is on =
         absurd (never_out (subst (λ (f : ResumeFault). IsUnrecoveredAnswer f outcome) (is.can can) on.0))
 
+  -- where its output goes to the log
+  shown_so : (log : List ℕ) (outcome : Result Answer CommandFault) (mid : Streams) → IsShown (Some log) well.before.folder true → outcome ≡ Err LogFault → mid ≡ well.before.streams
+      → Ends outcome mid.output well.after.streams.output well.before.errors well.after.errors status → GoesToLog content words input status written well log
+  shown_so log outcome mid shown is same ends =
+      let ended = log_ends outcome mid.output well.after.streams.output well.before.errors well.after.errors status is ends in
+      record { shown = shown; status_is = ended.1; nothing = wrote_nothing content words input status written well mid same ended.0 }
+
+  -- where it doesn't
+  run_resumed : (inputs : InputPaths) (log text : List ℕ) (chosen : Chosen) (outcome : Result Answer CommandFault) (mid : Streams) → AskForResume words inputs log → ParseAsPlan content inputs p → IsWellShaped p → content log ≡ Ok text
+      → IsRecoverable p (ended_lines text) (moment_given words) → IsChoiceOf words (found_in words) chosen → chosen.name ≡ Resume → kept_log_in chosen ≡ None → well.after.streams.input ≡ mid.input
+      → Ends outcome mid.output well.after.streams.output well.before.errors well.after.errors status → RunsChosen (Shelf content) (kept_log_in chosen) chosen well.before outcome mid well.after well.log
+      → Resumed p (protocol_of words) (ended_lines text) (moment_given words) input status written
+  run_resumed inputs log text chosen outcome mid ask good shaped came can choice name no_log same_input ends run =
+      let unlogged : RunsCommand (Shelf content) chosen.name chosen well.before.texts well.before.streams outcome well.after.texts mid =
+      (subst (λ (l : Option (List ℕ)). RunsChosen (Shelf content) l chosen well.before outcome mid well.after well.log) no_log run).0 in
+      let runs : RunsResume (Shelf content) (protocol_in chosen) chosen.at (inputs_in chosen) (file_at chosen 2) well.before.texts well.before.streams outcome well.after.texts mid =
+      subst (λ n. RunsCommand (Shelf content) n chosen well.before.texts well.before.streams outcome well.after.texts mid) name unlogged in
+      let resume : RunsResume (Shelf content) (protocol_of words) (moment_given words) inputs log [] well.before.streams outcome well.after.texts mid =
+      subst (λ (l : List ℕ). RunsResume (Shelf content) (protocol_of words) (moment_given words) inputs l [] well.before.streams outcome well.after.texts mid) (asked_log words inputs log chosen ask choice)
+      (subst (λ (q : InputPaths). RunsResume (Shelf content) (protocol_of words) (moment_given words) q (file_at chosen 2) [] well.before.streams outcome well.after.texts mid) (asked_pair words inputs log chosen ask choice)
+      (subst (λ (a : Option ℕ). RunsResume (Shelf content) (protocol_of words) a (inputs_in chosen) (file_at chosen 2) [] well.before.streams outcome well.after.texts mid) choice.at
+      (subst (λ (m : Protocol). RunsResume (Shelf content) m chosen.at (inputs_in chosen) (file_at chosen 2) [] well.before.streams outcome well.after.texts mid) (same_manner words chosen choice)
+      (subst (λ (asked : List (List ℕ)). RunsResume (Shelf content) (protocol_in chosen) chosen.at (inputs_in chosen) (file_at chosen 2) asked well.before.streams outcome well.after.texts mid) well.unasked runs)))) in
+      elim (good_resume content inputs p good (protocol_of words) (moment_given words) well.before.streams mid log text outcome well.after.texts shaped came resume) [
+        | inl resumes ↦ log_resumed mid outcome same_input ends (protocol_of words) (moment_given words) text can resumes.1.0 resumes.1.1 resumes.1.2
+        | inr none ↦ absurd (never_out mid outcome same_input ends none.0)
+      ]
+
   follows_resumed : (inputs : InputPaths) (log text : List ℕ) (read : Result Chosen WordsFault) → AskForResume words inputs log → ParseAsPlan content inputs p → IsWellShaped p → content log ≡ Ok text
       → IsRecoverable p (ended_lines text) (moment_given words) → AreWordsRead words read → Follows (Shelf content) read well.before status well.after well.log
-      → Resumed p (protocol_of words) (ended_lines text) (moment_given words) input status written
+      → GoesToLog content words input status written well log ⊎ Resumed p (protocol_of words) (ended_lines text) (moment_given words) input status written
   follows_resumed inputs log text (Ok chosen) ask good shaped came can are follows =
       let name : chosen.name ≡ Resume = same_command chosen.name Resume (are.chosen.name ∙ ask.resume) in
       let no_log : kept_log_in chosen ≡ None = ap (λ (n : CommandName). log_kept_by (keeps_log n) (option_map string_bytes chosen.log)) name in
-      let unlogged : RunsCommand (Shelf content) chosen.name chosen well.before.texts well.before.streams follows.outcome well.after.texts follows.mid =
-      (subst (λ (l : Option (List ℕ)). RunsChosen (Shelf content) l chosen well.before follows.outcome follows.mid well.after well.log) no_log follows.runs).0 in
-      let runs : RunsResume (Shelf content) (protocol_in chosen) chosen.at (inputs_in chosen) (file_at chosen 2) well.before.texts well.before.streams follows.outcome well.after.texts follows.mid =
-      subst (λ n. RunsCommand (Shelf content) n chosen well.before.texts well.before.streams follows.outcome well.after.texts follows.mid) name unlogged in
-      let resume : RunsResume (Shelf content) (protocol_of words) (moment_given words) inputs log [] well.before.streams follows.outcome well.after.texts follows.mid =
-      subst (λ (l : List ℕ). RunsResume (Shelf content) (protocol_of words) (moment_given words) inputs l [] well.before.streams follows.outcome well.after.texts follows.mid) (asked_log words inputs log chosen ask are.chosen)
-      (subst (λ (q : InputPaths). RunsResume (Shelf content) (protocol_of words) (moment_given words) q (file_at chosen 2) [] well.before.streams follows.outcome well.after.texts follows.mid) (asked_pair words inputs log chosen ask are.chosen)
-      (subst (λ (a : Option ℕ). RunsResume (Shelf content) (protocol_of words) a (inputs_in chosen) (file_at chosen 2) [] well.before.streams follows.outcome well.after.texts follows.mid) are.chosen.at
-      (subst (λ (m : Protocol). RunsResume (Shelf content) m chosen.at (inputs_in chosen) (file_at chosen 2) [] well.before.streams follows.outcome well.after.texts follows.mid) (same_manner words chosen are.chosen)
-      (subst (λ (asked : List (List ℕ)). RunsResume (Shelf content) (protocol_in chosen) chosen.at (inputs_in chosen) (file_at chosen 2) asked well.before.streams follows.outcome well.after.texts follows.mid) well.unasked runs)))) in
+      let given : given_log_in chosen ≡ Some log = ap (λ (n : CommandName). log_given_to n chosen) name ∙ ap Some (asked_log words inputs log chosen ask are.chosen) in
       let ends : Ends follows.outcome follows.mid.output well.after.streams.output well.before.errors well.after.errors status =
       subst (λ (n : CommandName). EndsBy (draws n chosen.svg) follows.outcome follows.mid.output well.after.streams.output well.before.errors well.after.errors status) name
       (own_ends chosen follows.outcome _ _ _ _ follows.own status well.log no_log follows.status_is follows.ends) in
-      elim (good_resume content inputs p good (protocol_of words) (moment_given words) well.before.streams follows.mid log text follows.outcome well.after.texts shaped came resume) [
-        | inl resumes ↦ log_resumed follows.mid follows.outcome follows.input ends (protocol_of words) (moment_given words) text can resumes.1.0 resumes.1.1 resumes.1.2
-        | inr none ↦ absurd (never_out follows.mid follows.outcome follows.input ends none.0)
+      elim (run_or_shown content words input status written well chosen log follows.outcome follows.mid given follows.runs) [
+        | inl shown ↦ inl (shown_so log follows.outcome follows.mid shown.0 shown.1 shown.2 ends)
+        | inr run ↦ inr (run_resumed inputs log text chosen follows.outcome follows.mid ask good shaped came can are.chosen name no_log follows.input ends run)
       ]
   follows_resumed inputs log text (Err (Usage help message)) ask good shaped came can are follows =
       absurd (let named = subst (λ kinds. NamesOneOf kinds (Usage help message)) ask.accepted are.refused in named.1)
@@ -195,7 +216,13 @@ resume_writes_the_same content words inputs log text p input status other_status
     let protocol = protocol_of words in
     let one = follows_resumed content words p input few status written well inputs log text well.run.read ask good shaped came can well.run.is well.run.follows in
     let two = follows_resumed content words p input few other_status other also inputs log text also.run.read ask good shaped came can also.run.is also.run.follows in
-    resumed_the_same p protocol (ended_lines text) (moment_given words) input status other_status written other one two
+    elim one [
+      | inl shown ↦ inl shown
+      | inr here ↦ elim two [
+        | inl shown ↦ inr (inl shown)
+        | inr there ↦ inr (inr (resumed_the_same p protocol (ended_lines text) (moment_given words) input status other_status written other here there))
+      ]
+    ]
 
 one_manner : (words others : List (List ℕ)) → AskForOneManner words others → protocol_of words ≡ protocol_of others
 one_manner words others one =
@@ -206,21 +233,29 @@ one_manner words others one =
 
 pub resume_writes_as_drive : ResumeWritesAsDrive
 resume_writes_as_drive content words others inputs log text p input status other_status written other ask ask_drive one_of good shaped acceptable came none few well also =
-    let protocol = protocol_of words in
-    let can : IsRecoverable p (ended_lines text) (moment_given words) = record {
+    elim (follows_resumed content words p input few status written well inputs log text well.run.read ask good shaped came can well.run.is well.run.follows) [
+      | inl shown ↦ inl shown
+      | inr one ↦ inr (as_drive one)
+    ]
+  where
+    can : IsRecoverable p (ended_lines text) (moment_given words)
+    can = record {
       recorded = [];
       parses = none;
       is_run = tt;
       not_past = omega arith;
       acyclic = acceptable.acyclic;
       accepted = λ nothing. acceptable;
-    } in
-    let one = follows_resumed content words p input few status written well inputs log text well.run.read ask good shaped came can well.run.is well.run.follows in
-    let up : IsRecovered p (ended_lines text) None one.recovered = subst (λ (a : Option ℕ). IsRecovered p (ended_lines text) a one.recovered) one_of.none_given one.up in
-    let (answer, is_text, whole) = a_log_without_events_is_driven p protocol (ended_lines text) one.recovered input written one.state none up one.is_text in
-    let two : Wrote p protocol input other_status other =
-    subst (λ (m : Protocol). Wrote p m input other_status other) (sym (one_manner words others one_of))
-    (follows_wrote content others p input few other_status other also inputs also.run.read ask_drive good shaped acceptable also.run.is also.run.follows) in
-    let same = one_answer_text p protocol input other answer two.state one.state shaped two.is_text is_text in
-    let done : one.done ≡ two.done = same_done p two.state one.state two.done one.done two.last one.last two.left one.left two.so_far one.so_far same.1 in
-    (one.own ∙ ap status_at done ∙ sym two.own, whole ∙ ap (λ xs. 10 ∷ xs) same.0)
+    }
+
+    as_drive : Resumed p (protocol_of words) (ended_lines text) (moment_given words) input status written → (status ≡ other_status) × (written ≡ 10 ∷ other)
+    as_drive one =
+        let protocol = protocol_of words in
+        let up : IsRecovered p (ended_lines text) None one.recovered = subst (λ (a : Option ℕ). IsRecovered p (ended_lines text) a one.recovered) one_of.none_given one.up in
+        let (answer, is_text, whole) = a_log_without_events_is_driven p protocol (ended_lines text) one.recovered input written one.state none up one.is_text in
+        let two : Wrote p protocol input other_status other =
+        subst (λ (m : Protocol). Wrote p m input other_status other) (sym (one_manner words others one_of))
+        (follows_wrote content others p input few other_status other also inputs also.run.read ask_drive good shaped acceptable also.run.is also.run.follows) in
+        let same = one_answer_text p protocol input other answer two.state one.state shaped two.is_text is_text in
+        let done : one.done ≡ two.done = same_done p two.state one.state two.done one.done two.last one.last two.left one.left two.so_far one.so_far same.1 in
+        (one.own ∙ ap status_at done ∙ sym two.own, whole ∙ ap (λ xs. 10 ∷ xs) same.0)

@@ -38,11 +38,12 @@ use Rattle.command_run.specs.Streams.{Streams, Output, Errors}
 use Rattle.command_run.specs.Drives.{IsEnded, IsEndAnswer, IsDriveIn, DrivesCell, status_at, end_of_drive}
 use Rattle.command_run.specs.Ending.{IsFaultPrinted, IsPrinted, IsPrintedAfter, Ends, EndsBy}
 use Rattle.command_run.specs.Logs.{LogEnd}
-use Rattle.command_run.specs.Program.{AreWordsRead, RunsDrive, RunsCommand, RunsChosen, Follows, draws, draws_in, is_second, keeps_log, kept_log_in, log_kept_by, protocol_in, inputs_in, status_by}
+use Rattle.command_run.specs.Program.{AreWordsRead, RunsDrive, RunsCommand, RunsChosen, Follows, draws, draws_in, given_log_in, is_second, keeps_log, kept_log_in, log_given_to, log_kept_by, protocol_in, inputs_in, status_by}
 use Rattle.command_run.specs.Laws.{Shelf, ParseAsPlan, AskForDrive, RunsWell}
 use Rattle.program_laws.specs.HistoryLaw.{protocol_of}
 use Rattle.program_laws.proofs.CommandNames.{same_command}
 use Rattle.program_laws.proofs.GoodFiles.{good_drive}
+use Rattle.program_laws.proofs.ShownLogs.{apart_runs}
 
 driven_or_not : {P Q R S : Type 0} → (P × Q) ⊎ (R × S) → Q ⊎ R
 driven_or_not (inl both) = inl both.1
@@ -72,6 +73,9 @@ none_kept false log none = refl
 
 no_log : (words : List (List ℕ)) (inputs : InputPaths) (chosen : Chosen) → AskForDrive words inputs → IsChoiceOf words (found_in words) chosen → kept_log_in chosen ≡ None
 no_log words inputs chosen ask is = none_kept (keeps_log chosen.name) (option_map string_bytes chosen.log) (is.log ∙ ask.log)
+
+no_log_given : (words : List (List ℕ)) (inputs : InputPaths) (chosen : Chosen) → AskForDrive words inputs → chosen.name ≡ Drive → IsChoiceOf words (found_in words) chosen → given_log_in chosen ≡ None
+no_log_given words inputs chosen ask name is = ap (λ (n : CommandName). log_given_to n chosen) name ∙ no_log words inputs chosen ask is
 
 -- ---- the bytes
 
@@ -197,10 +201,11 @@ module _ (content : List ℕ → Result (List ℕ) CommandFault) (words : List (
   pub follows_wrote : (inputs : InputPaths) (read : Result Chosen WordsFault) → AskForDrive words inputs → ParseAsPlan content inputs p → IsWellShaped p → IsAcceptable p → AreWordsRead words read
       → Follows (Shelf content) read well.before status well.after well.log → Wrote p (protocol_of words) input status written
   follows_wrote inputs (Ok chosen) ask good shaped acceptable are follows =
-      let name = same_command chosen.name Drive (are.chosen.name ∙ ask.drive) in
+      let name : chosen.name ≡ Drive = same_command chosen.name Drive (are.chosen.name ∙ ask.drive) in
       let protocol = protocol_of words in
       let unlogged : RunsCommand (Shelf content) chosen.name chosen well.before.texts well.before.streams follows.outcome well.after.texts follows.mid =
-      (subst (λ (l : Option (List ℕ)). RunsChosen (Shelf content) l chosen well.before follows.outcome follows.mid well.after well.log) (no_log words inputs chosen ask are.chosen) follows.runs).0 in
+      (subst (λ (l : Option (List ℕ)). RunsChosen (Shelf content) l chosen well.before follows.outcome follows.mid well.after well.log) (no_log words inputs chosen ask are.chosen)
+      (apart_runs (Shelf content) chosen well.before follows.outcome follows.mid well.after well.log (no_log_given words inputs chosen ask name are.chosen) follows.runs)).0 in
       let runs : RunsDrive (Shelf content) (protocol_in chosen) (inputs_in chosen) well.before.texts well.before.streams follows.outcome well.after.texts follows.mid =
       subst (λ n. RunsCommand (Shelf content) n chosen well.before.texts well.before.streams follows.outcome well.after.texts follows.mid) name unlogged in
       let drive : RunsDrive (Shelf content) protocol inputs [] well.before.streams follows.outcome well.after.texts follows.mid =

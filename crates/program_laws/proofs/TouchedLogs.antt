@@ -29,7 +29,7 @@ use Rattle.command_run.specs.Resumes.{end_of_rest}
 use Rattle.command_run.specs.Ending.{Ends, EndsBy, IsPrinted, IsFaultPrinted, IsPrintedAfter}
 use Rattle.command_run.specs.declared.misfits.Misfit.{Misfit}
 use Rattle.command_run.specs.Logs.{Begins, DrivesAs, DrivesFitting, DrivesOpened, DrivesShaped, GoesOnAfter, ContinuesRecovered, IsLoggedAnswer, IsNewLogFault, IsUntouched, LogEnd, Driven, NotRecovered, Left, Found, Unread, Unlined, Step, RecoversLog, ReplaysEvents, left_if, log_command_fault}
-use Rattle.command_run.specs.Program.{Follows, RunsChosen, draws, draws_in, kept_log_in}
+use Rattle.command_run.specs.Program.{Follows, RunsBy, RunsChosen, draws, draws_in, kept_log_in}
 use Rattle.command_run.proofs.Endings.{IsOwnOr, own_or}
 use Rattle.command_run.proofs.Keepers.{keeper}
 use Rattle.program_laws.specs.MemoryLaw.{OutOfMemoryChangesNoLog}
@@ -207,8 +207,13 @@ no_log_changed {W} gives words before after end written runs untouched = follows
         ends_four outcome mid.output after.streams.output before.errors after.errors (logged_has before.folder after.folder path chosen.start _ chosen.at ran.shaped _ ran.drives changed)
         (subst (λ (n : ℕ). Ends outcome mid.output after.streams.output before.errors after.errors n) four drive_ends))
 
+    by_output : (chosen : Chosen) (shown : Bool) (outcome : Result Answer CommandFault) (mid : Streams) → RunsBy gives shown chosen before outcome mid after (Some end)
+        → (own : ℕ) → own ≡ 4 → EndsBy (draws_in chosen) outcome mid.output after.streams.output before.errors after.errors own → written ≡ false
+    by_output chosen true outcome mid refused own four ends = absurd (cc refused.3.1)
+    by_output chosen false outcome mid runs own four ends = by_log chosen (kept_log_in chosen) outcome mid refl runs own four ends
+
     follows : (read : Result Chosen WordsFault) → Follows gives read before 4 after (Some end) → written ≡ false
-    follows (Ok chosen) is = by_log chosen (kept_log_in chosen) is.outcome is.mid refl is.runs is.own (own_four is.own 4 (own_or _ _ _ _ _ is.status_is) refl) is.ends
+    follows (Ok chosen) is = by_output chosen is.runs.shown is.outcome is.mid is.runs.by is.own (own_four is.own 4 (own_or _ _ _ _ _ is.status_is) refl) is.ends
     follows (Err (Usage true text)) is = absurd (cc is.logs.1)
     follows (Err (Usage false text)) is = absurd (cc is.4.1)
     follows (Err NoWordsMemory) is = absurd (cc is.3.1)

@@ -1,5 +1,5 @@
 -- The law that a driven cell with a log of its own writes the same.
-use Rattle.std.specs.Prelude.{◌≡◌, ℕ, ◌≤◌, List, [], ◌∷◌, length, Option, None, Some, true, IfSome, Result}
+use Rattle.std.specs.Prelude.{◌≡◌, ℕ, ◌≤◌, ◌⊎◌, List, [], ◌∷◌, length, Option, None, Some, true, IfSome, Result}
 use Rattle.shop_base.specs.Plan.{PlannedShop, IsWellShaped}
 use Rattle.text_lines.specs.declared.limits.TheConstants.{MAX_INPUT}
 use Rattle.text_lines.specs.Lines.{ended_lines, lines_of}
@@ -19,7 +19,7 @@ use Rattle.command_run.specs.Misfits.{IsMisfit}
 use Rattle.command_run.specs.declared.misfits.Misfit.{Misfit}
 use Rattle.command_run.specs.Laws.{ParseAsPlan, RunsWell}
 use Rattle.program_laws.specs.HistoryLaw.{AskForLog}
-use Rattle.program_laws.specs.ResumeLaw.{moment_given}
+use Rattle.program_laws.specs.ResumeLaw.{GoesToLog, moment_given}
 
 -- the words ask for `drive` with these files, and with this log of its own
 pub record AskForLoggedDrive (words : List (List ℕ)) (inputs : InputPaths) (log : List ℕ) : Type 0 where
@@ -46,8 +46,9 @@ pub record RunsWellWithLog (content : List ℕ → Result (List ℕ) CommandFaul
   pub folder_unfailed : well.after.folder.fault ≡ None
   pub log_unfailed : IfSome well.log (λ end. fault_of end ≡ None)
 
--- `drive` with such a log writes the same, and ends with the same status, whenever it is run on the same words, files, log and input, of no more bytes than the limit
+-- `drive` with such a log writes the same, and ends with the same status, whenever it is run on the same words, files, log and input, of no more bytes than the limit; unless the output of one of the runs goes to the log
 abbrev pub LoggedDriveWritesTheSame : Type 0
 LoggedDriveWritesTheSame = (content : List ℕ → Result (List ℕ) CommandFault) (words : List (List ℕ)) (inputs : InputPaths) (log : List ℕ) (there : Option (List ℕ)) (p : PlannedShop) (input : List ℕ) (status other_status : ℕ) (written other : List ℕ)
     → AskForLoggedDrive words inputs log → ParseAsPlan content inputs p → IsWellShaped p → IsAsAsked words p there → CanBeDriven p (moment_given words) there → length input ≤ MAX_INPUT
-    → RunsWellWithLog content words log there input status written → RunsWellWithLog content words log there input other_status other → (other_status ≡ status) × (other ≡ written)
+    → (one : RunsWellWithLog content words log there input status written) (other_one : RunsWellWithLog content words log there input other_status other)
+    → GoesToLog content words input status written one.well log ⊎ GoesToLog content words input other_status other other_one.well log ⊎ ((other_status ≡ status) × (other ≡ written))

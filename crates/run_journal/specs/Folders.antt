@@ -9,11 +9,17 @@ pub record NamedLog : Type 0 where
   pub bytes : List ℕ
   pub named : Bool
 
--- the logs that are there, where they are known; the fault of the last call that has failed, if one has; and whether a log was opened or made
+-- the logs that are there, where they are known; the fault of the last call that has failed, if one has; whether a log was opened or made; and the paths of the files that the standard output goes to, where they are known
 pub record Folder : Type 0 where
   pub logs : Option (List NamedLog)
   pub fault : Option FileFault
   pub given : Bool
+  pub outputs : Option (List (List ℕ))
+
+-- whether a path is one of these
+abbrev pub is_one_of : List (List ℕ) → List ℕ → Bool
+is_one_of [] path = false
+is_one_of (one ∷ others) path = if bytes_eq one path then true else is_one_of others path
 
 -- the bytes of the log of a path, if there is one
 abbrev pub held : List NamedLog → List ℕ → Option (List ℕ)

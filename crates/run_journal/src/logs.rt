@@ -1,5 +1,5 @@
 ghost use Rattle.std.specs.Prelude.{◌≡◌, ◌⊎◌, [], None, Some, is_some, option_map, true, false, IfOk, IfErr, IfSome, OnOk};
-ghost use Rattle.run_journal.specs.Folders.{Folder, handed, handed_if, held, is_named, IsDiskFault, IsOpenFault, with_fault, with_made, with_name};
+ghost use Rattle.run_journal.specs.Folders.{Folder, handed, handed_if, held, is_named, is_one_of, IsDiskFault, IsOpenFault, with_fault, with_made, with_name};
 ghost use Rattle.run_journal.specs.LogFiles.{IsDurable};
 
 use crate::file_fault::FileFault;
@@ -12,6 +12,10 @@ pub trait Logs {
 
     // The logs that are there, and what was done here.
     ghost folder: { Self → Folder };
+
+    /// Whether the standard output goes to the file of this path, so that what is written there would stand in it.
+    fn is_shown_in(&self, path: &str) -> bool
+        ensures { IfSome (folder self.now).outputs (λ paths. result ≡ is_one_of paths path.now) };
 
     /// Opens the log of this path, and locks it; none where there isn't one. No byte of it is changed.
     fn open(&mut self, path: &str) -> Result<Option<Self::Log>, FileFault>

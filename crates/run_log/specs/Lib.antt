@@ -3,5 +3,6 @@ pub mod Log
 pub mod Audits
 pub mod AuditNames
 pub mod Present
+pub mod Digits
 -- Of proofs and private contracts alone.
 pub mod Auditing

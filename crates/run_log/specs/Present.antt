@@ -1,24 +1,20 @@
--- The run that a log records, and the present moment.
-use Rattle.std.specs.Prelude.{◌≡◌, ℕ, ◌<◌, ◌≤◌, List, Option, None, Some}
+-- The rest of the run that a log records.
+use Rattle.std.specs.Prelude.{◌≡◌, ℕ, ◌≤◌, List, Option}
 use Rattle.shop_base.specs.declared.limits.TheConstants.{MAX_MOMENT}
-use Rattle.shop_base.specs.Plan.{PlannedShop}
-use Rattle.shop_base.specs.Cell.{Cell}
+use Rattle.shop_base.specs.{Plan.PlannedShop, Cell.Cell}
 use Rattle.cell_tables.specs.declared.entry.Entry.{Entry}
+use Rattle.cell_tables.specs.declared.present_fault.PresentFault.{PresentFault}
+use Rattle.cell_tables.specs.Rests.{present_of, IsPresentFault}
 use Rattle.event_lines.specs.LogLines.{LinesParse}
 use Rattle.run_log.specs.Audits.{IsReplayed, IsFirstBad}
 use Rattle.run_log.specs.declared.present_run.RunFault.{RunFault}
-use Rattle.run_log.specs.declared.present_run.RunFault.TheVariants.{Log, Past, MomentTooLarge}
+use Rattle.run_log.specs.declared.present_run.RunFault.TheVariants.{Log, Present}
 
 -- the lines record a run of the plan, and this is the cell at its end
 pub record IsCellOf (lines : List (List ℕ)) (p : PlannedShop) (c : Cell) : Type 0 where
   pub entries : List Entry
   pub parse : LinesParse p lines entries
   pub run : IsReplayed p c entries
-
--- the present moment: the one that is given, else the last one
-abbrev pub present_of : Option ℕ → ℕ → ℕ
-present_of None last = last
-present_of (Some at) last = at
 
 -- this is the present moment after the last one
 abbrev pub IsPresent : Option ℕ → ℕ → ℕ → Type 0
@@ -30,13 +26,12 @@ pub record IsRunAt (lines : List (List ℕ)) (at : Option ℕ) (p : PlannedShop)
   pub replayed : IsReplayed p c recorded
   pub present_is : IsPresent at c.last present
 
--- why the moment that is given can't be the present one after the last
-abbrev pub IsMomentFault : Option ℕ → ℕ → RunFault → Type 0
-IsMomentFault (Some at) last (Past moment) = (at < last) × (moment ≡ last)
-IsMomentFault (Some at) last MomentTooLarge = (last ≤ at) × (MAX_MOMENT < at)
-IsMomentFault at last fault = ⊥
-
 -- why there is no run up to the present moment: the first bad line of the log, or else the moment
 abbrev pub IsRunFault : List (List ℕ) → Option ℕ → PlannedShop → RunFault → Type 0
 IsRunFault lines at p (Log fault) = IsFirstBad p lines fault
-IsRunFault lines at p fault = (c : Cell) × IsCellOf lines p c × IsMomentFault at c.last fault
+IsRunFault lines at p (Present fault) = (c : Cell) × IsCellOf lines p c × IsPresentFault at c.last fault
+
+-- where there is a run, but the moment can't be the present one
+abbrev pub OnPresent : (PresentFault → Type 0) → RunFault → Type 0
+OnPresent P (Log fault) = ⊥
+OnPresent P (Present fault) = P fault

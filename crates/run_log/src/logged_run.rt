@@ -26,29 +26,7 @@ pub struct LoggedRun<P: Planned> {
     pub entries: Vec<Entry>,
 }
 
-/// The run of the plan that the whole lines of a log record, and the cell at its end. What comes after the last line
-/// feed is torn, and isn't looked at. Whole lines are accepted exactly if an audit keeps them, and the first fault of
-/// others is the audit's: the plan needn't be accepted, nor be the one by which the log was written. There is room for
-/// all entries of a run, so that it can go on.
-pub fn run_of_log<P: Planned>(
-    alloc: Global,
-    basis: P,
-    text: &[u8],
-) -> Result<LoggedRun<P>, AuditFault>
-    ensures basis { IfOk result (λ run. run.cell.basis ≡ basis) }
-    ensures plan { IfOk result (λ run. run.cell.plan ≡ P.planned basis) }
-    ensures parses { IfOk result (λ run. LinesParse (P.planned basis) (ended_lines text.now) run.entries.items) }
-    ensures replayed { IfOk result (λ run. IsReplayed (P.planned basis) run.cell.cell run.entries.items) }
-    ensures fault { IfErr result (IsAuditFault (P.planned basis) (ended_lines text.now)) }
-    ensures only { ParseAsRun (P.planned basis) (ended_lines text.now)
-        → IfErr result (λ fault. fault ≡ AuditFault.Memory) }
-    ensures room { IfOk result (λ run. vec_capacity run.entries ≡ 2 * stated_number (P.planned basis)) }
-{
-    let room = most_entries(basis.shaped());
-    read_log(alloc, basis, ended_part(text), room)
-}
-
-/// The same, if the whole lines of the log record a run of the plan; `None` if they don't.
+/// The run of the plan that the whole lines of a log record, and the cell at its end; `None` if they record none.
 pub fn run_if_replayed<P: Planned>(
     alloc: Global,
     basis: P,
@@ -67,7 +45,10 @@ pub fn run_if_replayed<P: Planned>(
     }
 }
 
-/// The same, or the first fault of the lines; fails only when out of memory.
+/// The run of the plan that the whole lines of a log record, and the cell at its end, or the first fault of the lines.
+/// What comes after the last line feed is torn, and isn't looked at. Whole lines are accepted exactly if an audit keeps
+/// them, and the first fault of others is the audit's: the plan needn't be accepted, nor be the one by which the log was
+/// written. There is room for all entries of a run, so that it can go on. Fails only when out of memory.
 pub(crate) fn run_or_fault<P: Planned>(
     alloc: Global,
     basis: P,
@@ -80,6 +61,8 @@ pub(crate) fn run_or_fault<P: Planned>(
     ensures replayed { IfOk result
         (λ found. IfOk found (λ run. IsReplayed (P.planned basis) run.cell.cell run.entries.items)) }
     ensures fault { IfOk result (λ found. IfErr found (IsFirstBad (P.planned basis) (ended_lines text.now))) }
+    ensures room { IfOk result
+        (λ found. IfOk found (λ run. vec_capacity run.entries ≡ 2 * stated_number (P.planned basis))) }
 {
     let room = most_entries(basis.shaped());
     let mut run = LoggedRun::with_room(alloc, basis, room)?;

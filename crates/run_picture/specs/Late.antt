@@ -1,5 +1,5 @@
 -- The jobs that leave past their budgets.
-use Rattle.std.specs.Prelude.{ℕ, zero, suc, ◌-◌, nat_lt, if◌then◌else◌, max, Bool, List, [], ◌∷◌, map, slice_index_or, is_some, Option, None, Some}
+use Rattle.std.specs.Prelude.{ℕ, ◌-◌, nat_lt, if◌then◌else◌, max, Bool, List, [], ◌∷◌, map, slice_index_or, is_some, Option, None, Some}
 use Rattle.std.specs.List.{range_with_len}
 use Rattle.run_picture.specs.LastMoments.{moment_or_none}
 use Rattle.shop_base.specs.Plan.{PlannedShop, jobs, steps, machine_of, budget}
@@ -21,20 +21,6 @@ late_leavings p leavings = map (λ j. late_leaving p j (slice_index_or leavings 
 -- whether job j is among them
 abbrev pub is_late : List (Option LateLeaving) → ℕ → Bool
 is_late late j = is_some (slice_index_or late j None)
-
--- by how much a leaving of job j is past its budget
-abbrev pub lateness_of : PlannedShop → ℕ → Option ℕ → ℕ
-lateness_of p j None = 0
-lateness_of p j (Some t) = t - budget p j
-
--- the greatest of the first n jobs
-abbrev pub lateness_below : PlannedShop → List (Option ℕ) → ℕ → ℕ
-lateness_below p leavings zero = 0
-lateness_below p leavings (suc n) = max (lateness_below p leavings n) (lateness_of p n (slice_index_or leavings n None))
-
--- the greatest lateness of a job (Pinedo, Scheduling: T_max)
-abbrev pub lateness : PlannedShop → List (Option ℕ) → ℕ
-lateness p leavings = lateness_below p leavings (jobs p)
 
 -- the latest of the leavings that are known, 0 where none is (Pinedo, Scheduling: C_max)
 abbrev pub latest : List (Option ℕ) → ℕ

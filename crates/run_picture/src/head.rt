@@ -8,7 +8,7 @@ pub enum Head {
         /// When the last job leaves.
         makespan: Moment,
     },
-    /// Of a late one: the greatest lateness of a job.
+    /// Of a late one: the greatest lateness of a job that its verdict judges.
     Late {
         /// In time units.
         by: Moment,

@@ -2,7 +2,7 @@
 
 ghost use Rattle.std.specs.Prelude.{◌≡◌, ◌<◌, IfOk, slice_index_or, None};
 ghost use Rattle.shop_base.specs.Plan.{jobs};
-ghost use Rattle.run_picture.specs.Late.{late_leavings, late_leaving, last_machine, lateness, lateness_of, latest};
+ghost use Rattle.run_picture.specs.Late.{late_leavings, late_leaving, last_machine, latest};
 
 use crate::visit::moment_or_none;
 use shop_base::{JobNo, MachineNo, Moment, Shaped};
@@ -32,18 +32,6 @@ pub fn late_leavings(
         late.push(late_leaving(shaped, job, leaving_at(leavings, job)))?;
     }
     Ok(late)
-}
-
-/// By how much the latest leaving is past its job's budget, in time units: the greatest lateness of a job, 0 if none is
-/// late.
-pub fn lateness(shaped: &Shaped, leavings: &[Option<Moment>]) -> Moment
-    ensures { result ≡ lateness shaped.now leavings.now }
-{
-    let mut most = 0;
-    for job in 0..shaped.job_count() {
-        most = most.max(lateness_of(shaped, job, leaving_at(leavings, job)));
-    }
-    most
 }
 
 /// The latest of the leavings that are known, 0 if none is: the makespan, if all are.
@@ -89,16 +77,5 @@ fn last_machine(shaped: &Shaped, job: JobNo) -> MachineNo
     match shaped.step_of(job, last) {
         Some(step) => step.machine,
         None => unreachable!(),
-    }
-}
-
-/// By how much a leaving is past its job's budget.
-fn lateness_of(shaped: &Shaped, job: JobNo, leaving: Option<Moment>) -> Moment
-    requires { job < jobs shaped.now }
-    ensures { result ≡ lateness_of shaped.now job leaving }
-{
-    match leaving {
-        Some(at) => at.saturating_sub(shaped.budget_of(job)),
-        None => 0,
     }
 }

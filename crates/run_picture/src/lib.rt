@@ -15,6 +15,6 @@ mod visit;
 mod words;
 
 pub use head::{Head, Sheet};
-pub use late_leaving::{LateLeaving, late_leavings, lateness, latest};
+pub use late_leaving::{LateLeaving, late_leavings, latest};
 pub use picture::Picture;
 pub use visit::{Cleaned, DrawnVisit, last_moment};

@@ -72,6 +72,10 @@ impl Logs for MemoryLogs {
 
     ghost folder = { folder_of };
 
+    fn is_shown_in(&self, _path: &str) -> bool {
+        false
+    }
+
     fn open(&mut self, path: &str) -> Result<Option<MemoryLog>, FileFault> {
         if !passes(&mut self.calls) {
             self.fault = Some(FileFault::Log);

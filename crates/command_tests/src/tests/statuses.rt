@@ -2,6 +2,7 @@
 
 use super::shelf::{LATE, TWO};
 use cell_drive::ResumeFault;
+use cell_tables::PresentFault;
 use command_answers::{CommandFault, Loaded, load};
 use command_words::WordsFault;
 use orlib_read::OrFault;
@@ -9,7 +10,7 @@ use people_names::NamesFault;
 use plan_seek::SeekFault;
 use plan_text::PlanFault;
 use plan_verifier::{Verdict, Why};
-use run_log::AuditFault;
+use run_log::{AuditFault, RunFault};
 use shop_base::{ShapeFault, Shaped, ShopFault};
 use std::alloc::{AllocError, Global};
 use std::fmt::Display;
@@ -56,9 +57,10 @@ fn of_devices(alloc: Global) -> Result<[bool; 6], AllocError> {
 
 /// Whether each of these faults, which end the program by the status of another one, has its text.
 fn are_written(alloc: Global) -> Result<[bool; 5], AllocError> {
-    let log = ResumeFault::Log(AuditFault::NotReady { line: 4567 });
+    let log = ResumeFault::Run(RunFault::Log(AuditFault::NotReady { line: 4567 }));
     let log = says(alloc, &log, "Log NotReady line 4567")?;
-    let past = says(alloc, &ResumeFault::Past { last: 45 }, "Past 45")?;
+    let past = ResumeFault::Run(RunFault::Present(PresentFault::Past { last: 45 }));
+    let past = says(alloc, &past, "Past 45")?;
     let of_resume = says(alloc, &ResumeFault::Memory, "Memory")?;
     let of_words = says(alloc, &WordsFault::Memory, "Memory")?;
     let of_seek = says(alloc, &SeekFault::Memory, "Memory")?;

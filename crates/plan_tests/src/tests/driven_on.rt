@@ -1,8 +1,8 @@
 //! A run that is driven on from a cell, and handed over to a plan, where there is memory enough.
 
 use super::plans::{CLEANED, TWO, planned};
-use super::rests::begun;
 use cell_control::{Report, RestController, TourneyDues};
+use cell_tables::Rest;
 use shop_base::Shaped;
 use std::alloc::Global;
 use std::test::Fail;
@@ -24,9 +24,10 @@ fn takes_over(alloc: Global, controller: &mut RestController<TourneyDues>, shape
         && controller.reports_left() == 7
 }
 
-/// A controller that begins with the cell at moment 0.
+/// A controller that begins with the rest of a run that hasn't begun.
 fn resting(alloc: Global) -> Result<RestController<TourneyDues>, Fail> {
-    Ok(RestController::begin(alloc, begun(alloc)?, 0)?)
+    let rest = Rest::start(alloc, planned(alloc, TWO, CLEANED)?)?;
+    Ok(RestController::begin(alloc, rest)?)
 }
 
 /// Whether it does both.

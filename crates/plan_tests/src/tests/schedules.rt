@@ -1,13 +1,11 @@
 //! What a schedule answers of an accepted plan, of a late one, and of one with a cycle, and what is drawn, where there
 //! is memory enough.
 
-ghost use Rattle.std.specs.Prelude.{◌≡◌, IfOk};
-ghost use Rattle.plan_verifier.specs.Verdicts.{OnRefused, IsReason};
-
 use super::plans::{CLEANED, CROSSED, TWO, planned};
+use cell_tables::Rest;
 use people_names::Names;
 use plan_schedule::schedule;
-use plan_verifier::{Verdict, verify};
+use plan_verifier::judge;
 use shop_base::Shaped;
 use std::alloc::{AllocError, Global};
 use std::test::Fail;
@@ -42,23 +40,21 @@ const SCHEDULES: &[(&[u8], &[u8])] = &[
     (CROSSED, b"refused cycle 0.1 1.1\n"),
 ];
 
-fn judged(alloc: Global, shaped: Shaped) -> Result<Verdict, AllocError>
-    ensures { IfOk result (OnRefused (λ back why. (back ≡ shaped) × IsReason shaped why)) }
-{
-    match verify(alloc, shaped) {
-        Ok(verdict) => Ok(verdict),
-        Err(refused) => Err(refused.0),
-    }
-}
-
-/// Whether the plan's schedule is this text.
-fn answers(alloc: Global, plan: &[u8], text: &[u8]) -> Result<bool, Fail> {
-    let shaped = planned(alloc, TWO, plan)?;
-    let verdict = judged(alloc, shaped)?;
+/// The schedule of the rest of a run.
+fn scheduled(alloc: Global, rest: &Rest<Shaped>) -> Result<Vec<u8>, AllocError> {
+    let verdict = judge(alloc, rest)?;
     let names = Names::none(alloc);
-    let answer = schedule(alloc, &names, &verdict);
+    let answer = schedule(alloc, &names, rest, &verdict);
     drop(names);
     drop(verdict);
+    answer
+}
+
+/// Whether the schedule of the plan, from its start on, is this text.
+fn answers(alloc: Global, plan: &[u8], text: &[u8]) -> Result<bool, Fail> {
+    let rest = Rest::start(alloc, planned(alloc, TWO, plan)?)?;
+    let answer = scheduled(alloc, &rest);
+    drop(rest);
     Ok(answer?.as_slice() == text)
 }
 

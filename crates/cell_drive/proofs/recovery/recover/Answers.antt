@@ -1,17 +1,24 @@
-use Rattle.std.proofs.Common.{sym, subst}
-use Rattle.std.specs.Prelude.{IfErr}
-use Rattle.shop_base.specs.Plan.{PlannedShop}
+use Rattle.std.proofs.Common.{◌≡◌, []}
+use Rattle.std.proofs.lemmas.Result.{IfErr-weaker}
 use Rattle.text_lines.specs.Lines.{ended_lines}
-use Rattle.cell_drive.specs.ResumeFaults.{IsOnlyLogFault, IsRunFault}
-use Rattle.cell_drive.proofs.{OneFault.only_log_fault, Recovering.only_memory_of}
+use Rattle.cell_drive.specs.ResumeFaults.{IsStartRefusal}
+use Rattle.cell_drive.specs.declared.resume_fault.ResumeFault.TheVariants.{Run, Memory}
+use Rattle.cell_drive.proofs.{OneFault.only_run_fault, Recovering.{refused_by_lines, only_memory}}
 use Rattle.cell_drive.proofs.recovery.recover.Goals as goal
 
-pub returns-in-Ok-run_of_log-clause-only : goal.returns-in-Ok-run_of_log-clause-only
-returns-in-Ok-run_of_log-clause-only c can =
-    only_memory_of c.args.shaped (ended_lines c.args.text.now) c.args.at c.in-Ok-run_of_log.run'.entries.items c.recover_run.result c.in-Ok-run_of_log.ensures.parses c.in-Ok-run_of_log.ensures.replayed.run
-    (subst (λ (p : PlannedShop). IfErr c.recover_run.result (IsRunFault p c.in-Ok-run_of_log.run'.entries.items c.args.at)) c.in-Ok-run_of_log.ensures.plan c.recover_run.ensures.fault) can
-
-pub returns-in-Err-run_of_log-clause-only_fault : goal.returns-in-Err-run_of_log-clause-only_fault
-returns-in-Err-run_of_log-clause-only_fault c =
+pub returns-in-Ok-Ok-clause-only : goal.returns-in-Ok-Ok-clause-only
+returns-in-Ok-Ok-clause-only c low can =
+    let p = c.args.shaped in
     let lines = ended_lines c.args.text.now in
-    subst (IsOnlyLogFault c.args.shaped lines) (sym c.from-in-Err-run_of_log.ensures) (only_log_fault c.args.shaped lines c.in-Err-run_of_log.fault c.in-Err-run_of_log.ensures.fault)
+    let run = c.in-Ok-Ok.run' in
+    let plan = rw c.in-Ok-Ok.field-0-is at c.in-Ok-Ok.ensures.plan in
+    let at_present = rw c.in-Ok-Ok.field-0-is at c.in-Ok-Ok.ensures.run in
+    let fault = rw plan at c.recover_run.ensures.fault in
+    IfErr-weaker c.recover_run.result (IsStartRefusal p (run.entries.items ≡ [])) (λ fault. fault ≡ Memory)
+    (λ fault is. only_memory p lines c.args.at fault low (refused_by_lines p lines c.args.at run.rest.cell run.entries.items run.rest.present at_present fault is) can) fault
+
+pub returns-in-Ok-Err-clause-only_fault : goal.returns-in-Ok-Err-clause-only_fault
+returns-in-Ok-Err-clause-only_fault c = only_run_fault c.args.shaped (ended_lines c.args.text.now) c.args.at c.in-Ok-Err.fault (rw c.in-Ok-Err.field-0-is at c.in-Ok-Err.ensures.fault)
+
+pub returns-in-Ok-Err-clause-only : goal.returns-in-Ok-Err-clause-only
+returns-in-Ok-Err-clause-only c low can = only_memory c.args.shaped (ended_lines c.args.text.now) c.args.at (Run c.in-Ok-Err.fault) low (rw c.in-Ok-Err.field-0-is at c.in-Ok-Err.ensures.fault) can

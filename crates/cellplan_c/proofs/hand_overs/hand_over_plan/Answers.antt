@@ -8,4 +8,4 @@ pub returns-in-Ok-hand_over-clause-status : goal.returns-in-Ok-hand_over-clause-
 returns-in-Ok-hand_over-clause-status c = rw c.in-Ok.is (handed_over_status _ _ c.in-Ok.shaped _ c.in-Ok-hand_over.ensures.handed_over)
 
 pub returns-in-Err-clause-status : goal.returns-in-Err-clause-status
-returns-in-Err-clause-status c = rw (c.in-Ok.is, c.rest_fault_status.ensures) (refused_status _ _ c.in-Ok.shaped c.in-Err.fault c.requires c.in-Err.ensures.fault)
+returns-in-Err-clause-status c = rw (c.in-Ok.is, c.hand_over_status.ensures) (refused_status _ _ c.in-Ok.shaped c.in-Err.fault c.requires c.in-Err.ensures.fault)

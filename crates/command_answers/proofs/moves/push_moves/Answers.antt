@@ -4,5 +4,5 @@ use Rattle.command_answers.proofs.moves.push_moves.Goals as goal
 
 pub returns-in-None : goal.returns-in-None
 returns-in-None c =
-    let cycle = no_moves c.args.cell.plan c.args.cell.cell c.args.present c.in-Err.fault c.requires c.in-Err.ensures.fault (sym c.from.ensures ∙ c.in-None.is) in
+    let cycle = no_moves c.args.rest.plan c.in-Err.fault c.in-Err.ensures.fault (sym c.from.ensures ∙ c.in-None.is) in
     record { lines = ([], inl (cycle, refl), sym (append-nil c.args.text.now.items)); fault = tt }

@@ -1,18 +1,27 @@
-use Rattle.std.proofs.Common.{inr, map}
+use Rattle.std.proofs.Common.{inl, inr}
 use Rattle.text_lines.specs.Lines.{ended_lines}
-use Rattle.command_answers.specs.LogLines.{IsLogRefused}
-use Rattle.command_answers.proofs.LogAnswers.{refused_log}
-use Rattle.command_answers.proofs.RevisedAnswers.{of_run}
+use Rattle.command_answers.specs.Rests.{IsRunRefused}
+use Rattle.command_answers.proofs.RunFaults.{has_line, run_fault_is}
 use Rattle.command_answers.proofs.revises.log_revised.Goals as goal
+
+pub run_fault_answer-requires : goal.run_fault_answer-requires
+run_fault_answer-requires c =
+    has_line c.args.wanted.at (ended_lines c.args.log.now) c.args.shaped c.requires c.in-Err.fault (rw c.in-Err.is at c.in_ok-run.ensures.fault)
 
 pub returns-in-Ok : goal.returns-in-Ok
 returns-in-Ok c =
     let run = c.in-Ok.run' in
-    let is = c.in-Ok.ensures in
-    of_run c.args.wanted.prints c.args.description.now c.args.wanted.at c.args.wanted.changes.now (map (λ value. value.now) c.args.wanted.values.now) c.args.shaped c.args.log.now
-    (run.entries.items, is.parses, is.replayed.run) run.cell.plan run.cell.cell c.cell_revised-answer.result is.plan is.replayed.cell c.cell_revised-answer.ensures
+    let plan = rw c.in-Ok.is at c.in_ok-run.ensures.plan in
+    inl (record {
+      cell = run.rest.cell;
+      entries = run.entries.items;
+      present = run.rest.present;
+      run = rw c.in-Ok.is at c.in_ok-run.ensures.run;
+      comes = rw plan at c.rest_revised-answer.ensures;
+    })
 
 pub returns-in-Err : goal.returns-in-Err
 returns-in-Err c =
-    inr (refused_log c.args.shaped (ended_lines c.args.log.now) (IsLogRefused c.args.shaped (ended_lines c.args.log.now)) (λ answer refused. refused)
-    c.in-Err.fault c.log_fault_answer.result c.in-Err.ensures.fault c.log_fault_answer.ensures)
+    let lines = ended_lines c.args.log.now in
+    inr (run_fault_is c.args.wanted.at lines c.args.shaped c.requires (IsRunRefused c.args.wanted.at lines c.args.shaped) c.in-Err.fault c.run_fault_answer.result (λ answer line. inl line)
+    (λ answer line. inr line) (rw c.in-Err.is at c.in_ok-run.ensures.fault) c.run_fault_answer.ensures)

@@ -1,8 +1,8 @@
-use Rattle.std.proofs.Common.{◌≡◌, ◌==◌, ◌&&◌, if◌then◌else◌, ℕ, List, Bool, Option, IfSome, ap, sym, ◌∙◌, subst}
+use Rattle.std.proofs.Common.{◌≡◌, ◌==◌, ◌&&◌, if◌then◌else◌, ℕ, List, Bool, false, Option, IfSome, ap, sym, ◌∙◌, subst}
 use Rattle.command_run.specs.Streams.{Devices}
 use Rattle.command_run.specs.Logs.{IsHistoryOfLog, is_driven}
 use Rattle.command_run.specs.Program.{kept_log_in, protocol_in, inputs_in, starts_again, status_by}
-use Rattle.command_run.proofs.Choosing.{history_of_path, logged}
+use Rattle.command_run.proofs.Choosing.{history_of_path, logged, shown_as}
 use Rattle.command_run.proofs.Endings.{own_or}
 use Rattle.command_run.proofs.Keepers.{kept_ends}
 use Rattle.command_run.proofs.LoggedEndings.{silent_logged}
@@ -30,8 +30,12 @@ returns g c =
         is = record {
           outcome = c.logged_answer-outcome.result.outcome;
           mid = c.logged_answer-outcome.result.streams;
-          runs = logged g.T.Texts.gives c.args.chosen.now _ _ c.logged_answer-outcome.result.outcome c.logged_answer-outcome.result.streams run.end c.args.path.now c.inputs-inputs.result c.protocol-protocol.result c.requires.kept
-              c.inputs-inputs.ensures c.protocol-protocol.ensures run.is.1;
+          runs = record {
+            shown = false;
+            known = shown_as _ false _ _ (sym c.devices.view_is) c.requires.apart;
+            by = logged g.T.Texts.gives c.args.chosen.now _ _ c.logged_answer-outcome.result.outcome c.logged_answer-outcome.result.streams run.end c.args.path.now c.inputs-inputs.result c.protocol-protocol.result c.requires.kept
+                c.inputs-inputs.ensures c.protocol-protocol.ensures run.is.1;
+          };
           input = c.end-own.ensures.input;
           own = c.end-own.result;
           ends = kept_ends c.args.chosen.now c.args.path.now c.logged_answer-outcome.result.outcome _ _ _ _ c.end-own.result c.requires.kept c.end-own.ensures.ends;

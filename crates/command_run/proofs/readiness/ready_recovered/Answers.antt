@@ -1,7 +1,7 @@
 use Rattle.std.proofs.Common.{◌≡◌, ℕ, List, true, Ok, Err, Some, IfSome, ap, sym, ◌∙◌, subst, refl}
 use Rattle.event_lines.specs.RunDigits.{AreDigits}
 use Rattle.event_lines.specs.declared.run_digits.RunDigits.{RunDigits}
-use Rattle.plan_digest.proofs.SixteenDigits.{digits_are}
+use Rattle.run_log.proofs.SixteenDigits.{digits_are}
 use Rattle.run_journal.specs.LogFiles.{IsDurable}
 use Rattle.run_journal.specs.LogRuns.{IsNamedFor, IsNamedOrNot}
 use Rattle.run_journal.specs.TornEnds.{is_torn}
@@ -15,7 +15,7 @@ pub recover_log-requires-clause-digits : goal.recover_log-requires-clause-digits
 recover_log-requires-clause-digits g c = subst AreDigits (sym c.requires.digits) (digits_are c.args.shaped.shop c.args.shaped.plan)
 
 pub unrecovered_log_answer-requires : goal.unrecovered_log_answer-requires
-unrecovered_log_answer-requires g c = few_lines c.args.shaped c.args.asked.at c.args.text.now c.in-Err.fault c.requires.within c.in-Err.ensures.fault
+unrecovered_log_answer-requires g c = few_lines c.args.shaped c.args.asked.at c.args.text.now c.in-Err.fault c.requires.at_most c.requires.within c.in-Err.ensures.fault
 
 pub returns-in-Ok : goal.returns-in-Ok
 returns-in-Ok g c =

@@ -1,4 +1,6 @@
 use Rattle.std.proofs.Common.{Ok}
+use Rattle.text_lines.specs.Lines.{ended_lines}
+use Rattle.command_run.proofs.KnownLogs.{has_answer}
 use Rattle.command_run.proofs.resumes.resume_text.Goals as goal
 
 pub returns-in-Ok : goal.returns-in-Ok
@@ -11,3 +13,6 @@ returns-in-Ok g c = (
     answer = c.rest_answer.ensures;
   }),
 )
+
+pub unrecovered_answer-requires : goal.unrecovered_answer-requires
+unrecovered_answer-requires g c = has_answer c.args.shaped (ended_lines c.args.text.items) c.args.at c.in-Err.fault c.requires c.in-Err.ensures.fault

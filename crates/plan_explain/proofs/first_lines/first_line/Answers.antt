@@ -1,9 +1,10 @@
-use Rattle.plan_verifier.proofs.Answers.{ok_each}
-use Rattle.plan_explain.proofs.Moments.{first_line_is, verdict_ranks}
+use Rattle.std.proofs.Common.{List, ℕ, sym, subst}
+use Rattle.plan_explain.specs.FirstLines.{IsLineByTimes}
+use Rattle.plan_explain.proofs.ChainTexts.{first_line_by_times}
 use Rattle.plan_explain.proofs.first_lines.first_line.Goals as goal
 
-pub line_of-requires : goal.line_of-requires
-line_of-requires c = rw (c.shaped.ensures, c.seen.ensures.same) (verdict_ranks c.args.verdict.now c.seen.ensures.verified)
-
 pub returns : goal.returns
-returns c = ok_each c.line_of.result (λ line is. first_line_is c.args.verdict.now line.items c.seen.ensures.verified is) (rw (c.shaped.ensures, c.seen.ensures.same) at c.line_of.ensures)
+returns g c at t accepted =
+    let p = g.P.Planned.planned c.args.plan.now in
+    let (added, is, same) = rw c.new-line.ensures.items at c.in_ok-push_first_line.ensures in
+    first_line_by_times p at t c.args.verdict.now _ accepted (subst (λ (l : List ℕ). IsLineByTimes p c.args.verdict.now l) (sym same) is)

@@ -2,7 +2,7 @@ use Rattle.std.proofs.Common.{◌≡◌, ◌+◌, ◌-◌, ℕ, List, codes, inr
 use Rattle.shop_base.specs.Plan.{steps}
 use Rattle.plan_explain.specs.Added.{Adds}
 use Rattle.plan_explain.proofs.Texts.{both_added, on_ok_each}
-use Rattle.plan_schedule.specs.{Calendars.{at_of, due_at, IsVisitTextBy}, Schedules.AreVisitsFrom, RestSchedules.entered_of}
+use Rattle.plan_schedule.specs.{Calendars.{at_of, due_at, IsVisitTextBy}, Schedules.AreVisitsFrom, ScheduleLines.entered_of}
 use Rattle.plan_schedule.proofs.scheduling.push_job.Goals as goal
 
 pub returns : goal.returns

@@ -12,8 +12,8 @@ returns g c =
     let p = c.args.cell.now.plan in
     let cell = c.args.cell.now.cell in
     let t = c.args.present in
-    let judged = c.judge.result in
-    let known = rw c.shaped-shaped.ensures.plan at c.judge.ensures in
+    let judged = c.judge_from.result in
+    let known = rw c.shaped-shaped.ensures.plan at c.judge_from.ensures in
     let is = ok_each judged (judged_accepted p cell t c.shaped-shaped.ensures.sound) known in
     let why = ok_each judged (judged_reason p cell t c.shaped-shaped.ensures.sound) known in
     record {

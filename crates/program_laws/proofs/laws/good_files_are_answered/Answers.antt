@@ -1,8 +1,8 @@
 use Rattle.std.proofs.Common.{None}
 use Rattle.command_answers.specs.Shapes.{IsShapeLine}
 use Rattle.command_answers.specs.Checks.{IsCheckLine}
-use Rattle.command_answers.specs.Explains.{IsPlanExplained}
-use Rattle.command_answers.specs.Timetables.{IsPlanScheduled}
+use Rattle.command_answers.specs.declared.rests.PlanAnswer.TheVariants.{Reasons, Moments}
+use Rattle.command_answers.specs.Rests.{AnswersPlan}
 use Rattle.command_answers.specs.Digests.{IsDigestAnswer}
 use Rattle.command_answers.specs.LogLines.{IsLogLine}
 use Rattle.command_answers.specs.Margins.{IsMarginAnswer}
@@ -25,10 +25,10 @@ pub returns-clause-check : goal.returns-clause-check
 returns-clause-check c = λ content inputs p outcome asked good run. good_plan content inputs p good IsCheckLine outcome asked run
 
 pub returns-clause-explain : goal.returns-clause-explain
-returns-clause-explain c = λ content inputs p outcome asked good run. good_named content inputs p good (λ book. IsPlanExplained book None) outcome asked run
+returns-clause-explain c = λ content inputs p outcome asked good run. good_named content inputs p good (λ book. AnswersPlan book (Reasons None)) outcome asked run
 
 pub returns-clause-schedule : goal.returns-clause-schedule
-returns-clause-schedule c = λ content inputs p outcome asked good run. good_named content inputs p good IsPlanScheduled outcome asked run
+returns-clause-schedule c = λ content inputs p outcome asked good run. good_named content inputs p good (λ book. AnswersPlan book Moments) outcome asked run
 
 pub returns-clause-bounds : goal.returns-clause-bounds
 returns-clause-bounds c = λ content inputs p outcome asked good run. good_bounds content inputs p good outcome asked run

@@ -1,8 +1,0 @@
-use Rattle.command_answers.proofs.schedules.plan_scheduled.Goals as goal
-
-pub returns-in_ok-text-in-Ok : goal.returns-in_ok-text-in-Ok
-returns-in_ok-text-in-Ok c = record {
-  verdict = c.in-Ok.verdict;
-  judged = record { well_shaped = c.shop-shop.ensures.well_shaped; accepted = c.in-Ok.ensures.accepted; refused = c.in-Ok.ensures.refused };
-  scheduled = record { text = c.in_ok-text-in-Ok.ensures; status = c.status_of-status.ensures };
-}

@@ -1,3 +1,0 @@
-pub mod KeptByBoth
-pub mod KeptBefore
-pub mod KeptRuns

@@ -1,5 +1,0 @@
-use Rattle.control_laws.proofs.KeptByBoth.{a_run_of_both_plans_is_kept}
-use Rattle.control_laws.proofs.laws.a_run_of_both_plans_is_kept.Goals as goal
-
-pub returns : goal.returns
-returns c = a_run_of_both_plans_is_kept

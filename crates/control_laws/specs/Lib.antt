@@ -1,3 +1,0 @@
--- Reached by public clauses: to be read and believed.
-pub mod KeptLaw
-pub mod HandOverLaw

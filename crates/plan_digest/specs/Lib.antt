@@ -1,2 +1,0 @@
--- Reached by public clauses: to be read and believed.
-pub mod Digits
