@@ -4,7 +4,7 @@ use Rattle.std.proofs.Common.{◌≡◌, ℕ, ◌<◌, ◌≤◌, arith, ◌++�
 use Rattle.shop_base.specs.Shop.{JobShop}
 use Rattle.shop_base.specs.declared.shape_fault.ShapeFault.{ShapeFault}
 use Rattle.shop_base.specs.Plan.{ShopPlan, PlannedShop, IsWellShaped}
-use Rattle.shop_base.specs.Run.{IsRun}
+use Rattle.shop_base.specs.{Cell.Cell, Run.IsRun}
 use Rattle.shop_base.proofs.Cycles.{ranks_exclude_cycle}
 use Rattle.shop_base.proofs.Refusals.{shape_fault_refutes}
 use Rattle.orlib_read.specs.declared.named.Named.{Named}
@@ -24,7 +24,10 @@ use Rattle.event_lines.proofs.Readings.{one_reading}
 use Rattle.run_log.proofs.Audits.{first_bad-no_run}
 use Rattle.cell_drive.specs.declared.protocol.Protocol.{Protocol}
 use Rattle.cell_drive.specs.declared.resume_fault.ResumeFault.{ResumeFault}
-use Rattle.cell_drive.specs.declared.resume_fault.ResumeFault.TheVariants.{Log, Past, Refused as RefusedRun, Memory as OutOfMemory}
+use Rattle.cell_drive.specs.declared.resume_fault.ResumeFault.TheVariants.{Run, Refused as RefusedRun, Memory as OutOfMemory}
+use Rattle.cell_tables.specs.declared.present_fault.PresentFault.TheVariants.{Past, TooLarge}
+use Rattle.run_log.specs.declared.present_run.RunFault.TheVariants.{Log, Present}
+use Rattle.cell_drive.proofs.Recovering.{past_before}
 use Rattle.cell_drive.specs.OneRun.{cell_after}
 use Rattle.cell_drive.specs.Recovered.{Recovered, IsRecovered}
 use Rattle.cell_drive.specs.ResumeFaults.{IsResumeFault, IsRefusedFor}
@@ -375,17 +378,18 @@ module _ (content : List ℕ → Result (List ℕ) CommandFault) (inputs : Input
     unrecovered_answered : (fault : ResumeFault) (files asked : List (List ℕ)) (outcome : Result Answer CommandFault) → asked ≡ files → IsResumeFault p (ended_lines text) at fault → IsUnrecoveredAnswer fault outcome
         → IsAnswered (IsCheckLine p) files outcome asked
     unrecovered_answered OutOfMemory files asked outcome same is answered_so = no_memory (IsCheckLine p) files outcome asked answered_so
-    unrecovered_answered (Log fault) files asked outcome same is answered_so = absurd (first_bad-no_run p (ended_lines text) fault is (recorded, parses, run))
-    unrecovered_answered (Past last) files asked outcome same (others, also, events, is_past) answered_so =
-        let one : others ≡ recorded = one_reading p (ended_lines text) others recorded also parses in
-        let here : last ≡ (cell_after p recorded).last = is_past.0 ∙ ap (λ (es : List Entry). (cell_after p es).last) one in
-        let past_there : unwrap_or at (cell_after p recorded).last < (cell_after p recorded).last = subst (λ n. unwrap_or at n < n) here is_past.1 in
+    unrecovered_answered (Run (Log fault)) files asked outcome same is answered_so = absurd (first_bad-no_run p (ended_lines text) fault is (recorded, parses, run))
+    unrecovered_answered (Run (Present (Past last))) files asked outcome same (c, there, is_past) answered_so =
+        let one : there.entries ≡ recorded = one_reading p (ended_lines text) there.entries recorded there.parse parses in
+        let here : c.last ≡ (cell_after p recorded).last = ap (λ (x : Cell). x.last) there.run.cell ∙ ap (λ (es : List Entry). (cell_after p es).last) one in
+        let past_there : unwrap_or at (cell_after p recorded).last < (cell_after p recorded).last = subst (λ n. unwrap_or at n < n) here (past_before at c.last last is_past) in
         absurd (omega (arith, past_there, not_past))
+    unrecovered_answered (Run (Present TooLarge)) files asked outcome same is answered_so = absurd answered_so
     unrecovered_answered (RefusedRun back why) files asked outcome same (others, also, events, is_refused) answered_so =
         answered_line outcome answered_so
       where
         judged : IsLoaded p (Judged (Refused back why))
-        judged = record { well_shaped = well; accepted = tt; refused = (is_refused.1, reason_of why is_refused.2) }
+        judged = record { well_shaped = well; accepted = tt; refused = (is_refused.1.0, reason_of why is_refused.1.1) }
           where
             reason_of : (y : Why) → IsRefusedFor p (others ≡ []) y → IsReason p y
             reason_of (Cycle nodes) cycle = cycle

@@ -10,7 +10,7 @@ use Rattle.byte_streams.specs.declared.drive_fault.DriveFault.{DriveFault}
 use Rattle.event_lines.specs.declared.run_digits.RunDigits.{RunDigits}
 use Rattle.run_journal.specs.declared.file_fault.FileFault.{FileFault}
 use Rattle.run_journal.specs.declared.log_run.LogRun.{LogRun}
-use Rattle.run_journal.specs.declared.log_run.LogRun.TheVariants.{Unbegun, Unnamed, Named}
+use Rattle.run_journal.specs.declared.log_run.LogRun.TheVariants.{Named}
 use Rattle.run_journal.specs.Folders.{Folder, NamedLog, held, handed_if}
 use Rattle.run_journal.specs.Logged.{Held}
 use Rattle.run_journal.specs.LogRuns.{IsRunOf, NameLast}
@@ -22,14 +22,14 @@ use Rattle.command_words.specs.declared.words.log_start.LogStart.{LogStart}
 use Rattle.command_words.specs.declared.words.log_start.LogStart.TheVariants.{Any, New, Continue, HandOver}
 use Rattle.command_words.specs.declared.words.WordsFault.{WordsFault}
 use Rattle.command_words.specs.declared.words.WordsFault.TheVariants.{Usage, Memory as NoWordsMemory}
-use Rattle.command_words.specs.Choice.{IsChoiceOf, kept_in, start_in, rows_found, found_in}
+use Rattle.command_words.specs.Choice.{IsChoiceOf, found_in}
 use Rattle.command_answers.specs.declared.answer.Answer.{Answer}
 use Rattle.command_answers.specs.declared.command_fault.CommandFault.{CommandFault}
-use Rattle.command_run.specs.Streams.{Devices, Streams, Output}
+use Rattle.command_run.specs.Streams.{Streams, Output}
 use Rattle.command_run.specs.Misfits.{IsMisfit}
 use Rattle.command_run.specs.declared.misfits.Misfit.{Misfit}
 use Rattle.command_run.specs.declared.misfits.Misfit.TheVariants.{NotNew, OtherPlan}
-use Rattle.command_run.specs.Logs.{Driven, Found, DrivesAs, DrivesFitting, DrivesFound, DrivesOpened, DrivesShaped, GoesOnAfter, ContinuesRecovered, LogEnd, Step, RecoversLog, bytes_in, digits_in}
+use Rattle.command_run.specs.Logs.{Driven, Found, DrivesAs, DrivesFitting, DrivesFound, DrivesOpened, DrivesShaped, GoesOnAfter, ContinuesRecovered, LogEnd, Step, RecoversLog, digits_in}
 use Rattle.command_run.specs.Program.{Follows, RunsBy, RunsChosen, kept_log_in}
 use Rattle.program_laws.specs.PlanLaw.{NoPlanWithOtherDigitsDrives}
 use Rattle.program_laws.proofs.KnownHistories.{asked_path}

@@ -1,5 +1,5 @@
 -- No byte of a log is changed where memory runs out.
-use Rattle.std.proofs.Common.{◌≡◌, ◌≤◌, ◌⊎◌, ℕ, List, [], ◌∷◌, Bool, true, false, Option, None, Some, option_map, is_some, string_bytes, Result, Ok, Err, IfOk, inl, inr, arith, ap, sym, ◌∙◌, subst, refl}
+use Rattle.std.proofs.Common.{◌≡◌, ◌≤◌, ℕ, List, [], ◌∷◌, Bool, true, false, Option, None, Some, option_map, is_some, string_bytes, Result, Ok, Err, inl, inr, arith, ap, sym, ◌∙◌, subst, refl}
 use Rattle.std.specs.Prelude.{◌≢◌}
 use Rattle.shop_base.specs.declared.shape_fault.ShapeFault.{ShapeFault}
 use Rattle.shop_base.specs.Plan.{PlannedShop}
@@ -23,7 +23,7 @@ use Rattle.command_words.specs.declared.words.WordsFault.TheVariants.{Usage, Mem
 use Rattle.command_answers.specs.declared.answer.Answer.{Answer}
 use Rattle.command_answers.specs.declared.command_fault.CommandFault.{CommandFault}
 use Rattle.command_answers.specs.declared.command_fault.CommandFault.TheVariants.{Instance, Plan, Names, Read, Write, InputTooLong, Log, LogInUse, Memory}
-use Rattle.command_run.specs.Streams.{Devices, Errors, Output, Streams}
+use Rattle.command_run.specs.Streams.{Errors, Output, Streams}
 use Rattle.command_run.specs.Drives.{IsEnded, end_of_drive}
 use Rattle.command_run.specs.Resumes.{end_of_rest}
 use Rattle.command_run.specs.Ending.{Ends, EndsBy, IsPrinted, IsFaultPrinted, IsPrintedAfter}
