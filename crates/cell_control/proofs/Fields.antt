@@ -39,14 +39,15 @@ start_control v verified = record {
 }
 
 -- a cell at the start, with no orders, is the start of a controller
-pub start_is : (v : VerifiedPlan) (c : PlannedCell VerifiedPlan) (orders : List MoveOrder) → c ≡ planned.at_start v v.planned → orders ≡ [] → begun_with c c.basis.times orders 0 ≡ at_start v
-start_is v c orders is none =
-    ap (λ (x : PlannedCell VerifiedPlan). begun_with x x.basis.times orders 0) is
-    ∙ ap (λ (os : List MoveOrder). begun_with (planned.at_start v v.planned) v.times os 0) none
-    ∙ ap (λ n. control_of (planned.at_start v v.planned) v.times [] n 0 true) (start-reports_left v.planned)
+module _ {P : Type 0} (times_of : P → NodeTimes) (basis : P) (p : PlannedShop) (c : PlannedCell P) (orders : List MoveOrder) (is : c ≡ planned.at_start basis p) (none : orders ≡ []) where
+  pub start_is : begun_with c (times_of c.basis) orders 0 ≡ at_start (record { planned = p; times = times_of basis })
+  start_is =
+      ap (λ (x : PlannedCell P). begun_with x (times_of x.basis) orders 0) is
+      ∙ ap (λ (os : List MoveOrder). begun_with (planned.at_start basis p) (times_of basis) os 0) none
+      ∙ ap (λ n. control_of (planned.at_start basis p) (times_of basis) [] n 0 true) (start-reports_left p)
 
-pub started : (v : VerifiedPlan) (c : PlannedCell VerifiedPlan) (orders : List MoveOrder) → IsVerified v → c ≡ planned.at_start v v.planned → orders ≡ [] → IsControl (begun_with c c.basis.times orders 0)
-started v c orders verified is none = subst IsControl (sym (start_is v c orders is none)) (start_control v verified)
+  pub started : IsVerified (record { planned = p; times = times_of basis }) → IsControl (begun_with c (times_of c.basis) orders 0)
+  started verified = subst IsControl (sym start_is) (start_control (record { planned = p; times = times_of basis }) verified)
 
 -- ---- in mid-run
 

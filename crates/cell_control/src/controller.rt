@@ -5,6 +5,7 @@ ghost use Rattle.cell_control.specs.Control.{at_start, verified_in, IsControl};
 use crate::core_controller::Core;
 use crate::dues::Dues;
 use crate::room::take_room;
+use crate::timed::Timed;
 use cell_tables::WorkCell;
 use plan_verifier::Verified;
 use std::alloc::{AllocError, Global};
@@ -24,11 +25,7 @@ impl<D: Dues> Core<Verified, D> {
     {
         // Called for its clause alone: the plan is an accepted one.
         let _plan = verified.shaped();
-        let cell = WorkCell::start(alloc, verified)?;
-        match take_room(alloc, &cell) {
-            Ok(room) => Ok(Core::begin_at_rest(cell, room, 0)),
-            Err(error) => Err((error, cell.into_basis())),
-        }
+        begin_with(alloc, verified)
     }
 
     /// The plan.
@@ -50,5 +47,22 @@ impl<D: Dues> Core<Verified, D> {
         let Core { cell, .. } = self;
         let (verified, _tables) = cell.into_parts();
         verified
+    }
+}
+
+/// The controller of a plan before the first report, or the plan again where a request for memory is refused.
+pub(crate) fn begin_with<P: Timed, D: Dues>(
+    alloc: Global,
+    basis: P,
+) -> Result<Core<P, D>, (AllocError, P)>
+    requires { IsVerified (record { planned = P.planned basis; times = P.times basis }) }
+    ensures start { IfOk result
+        (λ controller. controller ≡ at_start (record { planned = P.planned basis; times = P.times basis })) }
+    ensures handed_back { IfErr result (λ refused. refused.1 ≡ basis) }
+{
+    let cell = WorkCell::start(alloc, basis)?;
+    match take_room(alloc, &cell) {
+        Ok(room) => Ok(Core::begin_at_rest(cell, room, 0)),
+        Err(error) => Err((error, cell.into_basis())),
     }
 }

@@ -23,7 +23,7 @@ use crate::releasing::Orders;
 use crate::report_fault::ReportFault;
 use crate::room::Room;
 use crate::step::{is_past_due, make_step, still_punctual};
-use crate::timed::Timed;
+use crate::timed::{Ranked, Timed};
 use cell_tables::{Rest, WorkCell};
 use plan_verifier::leave_time;
 use shop_base::{JobNo, MachineNo, Moment, MoveOrder, Report, Shaped};
@@ -290,19 +290,6 @@ impl<P: Timed, D: Dues> Core<P, D> {
         self.punctual
     }
 
-    /// The moment kept for the job's leaving: while no report is late it is out by then. Of a job that was gone where
-    /// the controller began it is that at which it left. `None` for a number that is no job's.
-    pub fn leave_by(&self, job: JobNo) -> Option<Moment>
-        ensures { let p = self.now.planned in
-            MatchOption result (jobs p ≤ job) (λ n. (job < jobs p) × (n ≡ earliest_of self.now.times (leaving p job))) }
-    {
-        if job < self.cell.job_count() {
-            Some(leave_time(&self.cell, self.cell.basis().times(), job))
-        } else {
-            None
-        }
-    }
-
     /// How many reports are still to come: an arrival of each job, an end of each operation, and an end
     /// of each cleaning.
     pub fn reports_left(&self) -> u64
@@ -326,5 +313,20 @@ impl<P: Timed, D: Dues> Core<P, D> {
         ensures control { IsControl self.now }
     {
         self.cell.shaped()
+    }
+}
+
+impl<P: Ranked, D: Dues> Core<P, D> {
+    /// The moment kept for the job's leaving: while no report is late it is out by then. Of a job that was gone where
+    /// the controller began it is that at which it left. `None` for a number that is no job's.
+    pub fn leave_by(&self, job: JobNo) -> Option<Moment>
+        ensures { let p = self.now.planned in
+            MatchOption result (jobs p ≤ job) (λ n. (job < jobs p) × (n ≡ earliest_of self.now.times (leaving p job))) }
+    {
+        if job < self.cell.job_count() {
+            Some(leave_time(&self.cell, self.cell.basis().times(), job))
+        } else {
+            None
+        }
     }
 }

@@ -10,7 +10,8 @@
 //! what `judge` of `plan_verifier` says of the same rest.
 //!
 //! Moments are whole time units, counted from moment 0. Only [`Controller::new`], [`RestController::begin`],
-//! [`RestController::hand_over`], [`Core::rest_at`] and [`Dues::sized`] take memory.
+//! [`RestController::hand_over`], [`Core::rest_at`], [`LeanPlan::of`], [`LeanController::start`] and [`Dues::sized`]
+//! take memory.
 #![tactic(auto)]
 
 mod ack;
@@ -26,6 +27,7 @@ mod ending;
 mod hand_over_fault;
 mod handing;
 pub mod laws;
+mod lean;
 mod phase;
 mod possible;
 mod preparing;
@@ -47,6 +49,7 @@ pub use due_moments::note_all;
 pub use dues::Dues;
 pub use ending::end_activity;
 pub use hand_over_fault::HandOverFault;
+pub use lean::{LeanController, LeanPlan};
 pub use phase::Phase;
 pub use possible::Possible;
 pub use releasing::advance;
@@ -56,5 +59,5 @@ pub use rest_fault::RestFault;
 pub use scan_dues::ScanDues;
 pub use shop_base::{MoveOrder, Report, Spot};
 pub use step::is_past_due;
-pub use timed::{Held, Timed};
+pub use timed::{Held, Ranked, Timed};
 pub use tourney_dues::TourneyDues;

@@ -5,19 +5,24 @@ use alt_graph::Times;
 use plan_verifier::Verified;
 use shop_base::{Planned, Shaped};
 
-/// A plan with a rank and a moment for each node of its graph: what a controller is made of.
+/// A plan for each node of whose graph a rank and a moment were found: what a controller is made of.
 pub trait Timed: Planned {
     // The ranks and moments of the nodes.
     ghost times: { Self → NodeTimes };
+}
 
+/// A plan that keeps them.
+pub trait Ranked: Timed {
     /// The ranks and moments of the nodes.
     fn times(&self) -> &Times
-        ensures { result.now ≡ times self.now };
+        ensures { result.now ≡ Self.times self.now };
 }
 
 impl Timed for Verified {
     ghost times = { λ v. v.times };
+}
 
+impl Ranked for Verified {
     fn times(&self) -> &Times {
         Verified::times(self)
     }
@@ -41,7 +46,9 @@ impl Planned for Held {
 
 impl Timed for Held {
     ghost times = { λ h. h.times };
+}
 
+impl Ranked for Held {
     fn times(&self) -> &Times {
         &self.times
     }

@@ -1,5 +1,5 @@
 -- What several cells answer to a line.
-use Rattle.std.proofs.Common.{◌≡◌, ℕ, zero, suc, ◌<◌, List, [], ◌∷◌, ◌++◌, codes, set, length, get_or, Option, Some, None, refl, sym, ap, ◌∙◌, subst, arith}
+use Rattle.std.proofs.Common.{◌≡◌, ℕ, zero, suc, ◌<◌, List, [], ◌∷◌, ◌++◌, codes, set, length, Option, Some, None, refl, sym, ap, ◌∙◌, subst, arith}
 use Rattle.std.specs.Prelude.{slice_get}
 use Rattle.shop_base.specs.declared.report.Report.{Report}
 use Rattle.plan_verifier.specs.Accepted.{VerifiedPlan}
@@ -17,14 +17,6 @@ pub none_there : (controls : List Control) (k : ℕ) → (k < length controls �
 none_there [] k past = refl
 none_there (v ∷ controls) zero past = absurd (past (omega arith))
 none_there (v ∷ controls) (suc k) past = none_there controls k (λ below. past (omega (arith, below)))
-
-pub there_at : (controls : List Control) (k : ℕ) (d : Control) → k < length controls → slice_get (planned_cells controls) k ≡ Some (planned_cell (get_or controls k d))
-there_at [] k d below = absurd (omega (arith, below))
-there_at (v ∷ controls) zero d below = refl
-there_at (v ∷ controls) (suc k) d below = there_at controls k d (omega (arith, below))
-
-pub one_there : (controls : List Control) (k : ℕ) (v : Control) → k < length controls → v ≡ get_or controls k v → slice_get (planned_cells controls) k ≡ Some (planned_cell v)
-one_there controls k v below is = there_at controls k v below ∙ ap (λ (x : Control). Some (planned_cell x)) (sym is)
 
 set_there : (controls : List Control) (k : ℕ) (v : Control) → planned_cells (set controls k v) ≡ set (planned_cells controls) k (planned_cell v)
 set_there [] k v = refl

@@ -26,3 +26,5 @@ pub mod OnTime
 pub mod Overdues
 pub mod Hubs
 pub mod GoneOn
+pub mod SeatedCells
+pub mod SeatedReplies

@@ -1,15 +1,16 @@
 -- What a cell replies, as an answer to what it is asked.
-use Rattle.std.proofs.Common.{◌≡◌, ◌↔◌, ℕ, ◌+◌, ◌≤◌, List, [], ◌∷◌, map, length, Bool, cond, true, false, Option, Some, None, refl, sym, ap, ◌∙◌, subst, append-nil, arith}
+use Rattle.std.proofs.Common.{◌≡◌, ◌↔◌, inr, ℕ, ◌+◌, ◌≤◌, List, [], ◌∷◌, map, length, Bool, cond, true, false, Option, Some, None, refl, sym, ap, ◌∙◌, subst, append-nil, arith}
 use Rattle.shop_base.specs.{declared.move_order.MoveOrder.MoveOrder, declared.report.Report.Report, Plan.PlannedShop}
 use Rattle.shop_base.specs.{Punctual.IsPunctual, Controlled.step_orders}
 use Rattle.cell_tables.specs.{declared.entry.Entry.Entry, declared.entry.Entry.TheVariants.{Report as ReportEntry, Order as OrderEntry}}
 use Rattle.cell_control.specs.{declared.ack.Ack.Ack, Control.{Control, IsAnswered, IsControl, verified_in}}
 use Rattle.cell_control.proofs.Fields.{plan_stays}
 use Rattle.run_log.specs.Log.{Noted, Notes}
-use Rattle.event_lines.specs.{declared.requests.Claim.Claim, Requests.claimed}
+use Rattle.event_lines.specs.{declared.details.Overdue.Overdue, declared.requests.Claim.Claim, declared.requests.Request.Request, Requests.claimed}
 use Rattle.cell_drive.specs.{declared.protocol.Protocol.Protocol, Session.IsKept, Refusals.IsAdmissible}
-use Rattle.cell_drive.specs.ProtocolText.{acceptance_lines, printed_overdue, prints_end, refusal_prefix}
-use Rattle.cell_drive.specs.Replies.{AcceptedBy, HasAccepted, accepted_events}
+use Rattle.cell_drive.specs.{declared.requests.Acceptance.Acceptance, Acceptances.{IsToAccept, accepted_lines}}
+use Rattle.cell_drive.specs.ProtocolText.{IsClaimAccepted, acceptance_lines, printed_overdue, prints_end, refusal_prefix}
+use Rattle.cell_drive.specs.Replies.{AcceptedBy, HasAccepted, RepliesBy, accepted_events, reported_lines}
 use Rattle.cell_drive.proofs.Rooms.{kept_more, never_full, room_for}
 
 either_way : (version_2 : Bool) (prefix : List ℕ) → cond version_2 prefix prefix ≡ prefix
@@ -36,6 +37,20 @@ accepts protocol prefix v new claim late ack accepted late_is answered =
       events_are = ap (λ (orders : List MoveOrder). ReportEntry (claimed claim) ∷ map OrderEntry orders) answered.orders;
       next_is = answered.cell;
     }
+
+-- and so is what is to be accepted, once it is
+pub acceptance_replies : (protocol : Protocol) (prefix : List ℕ) (v new : Control) (number : ℕ) (request : Request) (acceptance : Acceptance) (ack : Ack) → IsToAccept protocol v request acceptance
+    → IsAnswered v acceptance.possible.report ack new → RepliesBy protocol prefix v number request (Some acceptance.possible.report) new (accepted_lines protocol prefix new acceptance)
+acceptance_replies protocol prefix v new number request acceptance ack to answered =
+    let claim = to.claim in
+    let own = claimed claim in
+    let late = acceptance.possible.late in
+    let is = to.judged.0 in
+    let late_is = subst (λ (r : Report). (late ≡ false) ↔ IsPunctual v.planned v.cell r) is to.judged.1.late in
+    let by_own = accepts protocol prefix v new claim late ack to.admissible late_is (subst (λ (r : Report). IsAnswered v r ack new) is answered) in
+    let with_overdue = subst (λ (o : Option Overdue). AcceptedBy protocol prefix v claim new (reported_lines protocol prefix new own late o)) (sym to.overdue_is) by_own in
+    let as_judged = subst (λ (r : Report). IsClaimAccepted v.planned protocol prefix v.cell claim (reported_lines protocol prefix new r late acceptance.overdue) (accepted_events new (Some r)) new.cell) (sym is) with_overdue in
+    subst (λ (q : Request). RepliesBy protocol prefix v number q (Some acceptance.possible.report) new (accepted_lines protocol prefix new acceptance)) (sym to.asked) (inr as_judged)
 
 -- the plan stays
 pub plan_after : (v : Control) (accepted : Option Report) (new : Control) → HasAccepted v accepted new → verified_in new ≡ verified_in v

@@ -23,5 +23,7 @@ pub mod ProtocolCells
 pub mod ProtocolCellsLaw
 -- Of proofs and private contracts alone.
 pub mod Replies
+pub mod Acceptances
 pub mod StateRows
 pub mod Numbers
+pub mod Tickets

@@ -6,7 +6,8 @@ use Rattle.cell_tables.specs.declared.entry.Entry.TheVariants.{Report as ReportE
 use Rattle.cell_control.specs.Control.{Control, IsAnswered}
 use Rattle.event_lines.specs.{declared.requests.Claim.Claim, declared.requests.Request.Request, Requests.claimed}
 use Rattle.cell_drive.specs.declared.protocol.Protocol.{Protocol}
-use Rattle.cell_drive.specs.ProtocolText.{IsClaimAccepted, IsClaimRefused, RequestAnswer, refusal_prefix}
+use Rattle.event_lines.specs.declared.details.Overdue.{Overdue}
+use Rattle.cell_drive.specs.ProtocolText.{IsClaimAccepted, IsClaimRefused, RequestAnswer, acceptance_lines, prints_end, refusal_prefix}
 
 -- a controller accepts this report, late or not, or nothing changes
 abbrev pub HasAccepted : Control → Option Report → Control → Type 0
@@ -17,6 +18,10 @@ HasAccepted v (Some report) new = (late : Bool) × IsAnswered v report (record {
 abbrev pub accepted_events : Control → Option Report → List Entry
 accepted_events new None = []
 accepted_events new (Some report) = ReportEntry report ∷ map OrderEntry new.orders
+
+-- the lines of a report that was accepted, late or not, with this before each, where the controller is such behind it
+abbrev pub reported_lines : Protocol → List ℕ → Control → Report → Bool → Option Overdue → List ℕ
+reported_lines protocol prefix new report late overdue = acceptance_lines prefix report late overdue new.orders (prints_end protocol new.planned new.cell)
 
 -- the texts by which the claim is accepted, with this before each line, where the controller is such before it and behind it
 abbrev pub AcceptedBy : Protocol → List ℕ → Control → Claim → Control → List ℕ → Type 0

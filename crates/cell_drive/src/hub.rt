@@ -1,23 +1,26 @@
 //! Several cells, in the order of their numbers, that are driven by the lines of one input.
 
-ghost use Rattle.std.specs.Prelude.{◌≡◌, ◌↔◌, [], ◌∷◌, ◌++◌, vec_len, Err, IfOk, IsTrue, MatchOption, OnOk};
-ghost use Rattle.shop_base.specs.Ends.{HasEnded};
+ghost use Rattle.std.specs.Prelude.{◌≡◌, ◌≤◌, ◌↔◌, [], ◌∷◌, ◌++◌, vec_len, length, Err, Some, IfOk, IsTrue, MatchOption, OnOk};
 ghost use Rattle.byte_streams.specs.{declared.rooms.TheConstants.MAX_PIECE, Streams.IsStreamed};
 ghost use Rattle.byte_streams.specs.Lent.{WroteTo, WroteOneTo, streams_of};
 ghost use Rattle.plan_verifier.specs.Accepted.{IsVerified};
+ghost use Rattle.cell_hub.specs.{declared.slots.Ticket.Ticket, Hub.cell_at, Calls.IsAdmitted, Calls.IsPossibleAt};
 ghost use Rattle.cell_drive.specs.Protocols.{plain_from};
-ghost use Rattle.cell_drive.specs.ManyCells.{AreAllDone, AreVerified, cell_start, hub_start};
+ghost use Rattle.cell_drive.specs.ManyCells.{AreAllDone, AreVerified, hub_start};
 ghost use Rattle.cell_drive.specs.ProtocolCells.{AreDrivesIn, AsksCell, AsksNoCell, HubAnswer, HubCloses, HubOfCells};
-ghost use Rattle.cell_drive.specs.ProtocolCells.{hub_of};
-ghost use Rattle.cell_drive.specs.Numbers.{AnsweredByCells, AreInRun, closing_text, planned_cells};
+ghost use Rattle.cell_drive.specs.{declared.replies.TheConstants.MAX_PREFIX, Numbers.closing_text};
+ghost use Rattle.cell_drive.specs.Tickets.{AnsweredByHub, AreSeatedInRun, HasCell, RepliesAt, Takes, cells_of};
+ghost use Rattle.cell_drive.specs.Acceptances.{accepted_lines};
+ghost use Rattle.cell_control.specs.Control.{IsControl};
 
 use crate::protocol::Protocol;
 use crate::replies::{put_closing, put_refused};
-use crate::requests::reply_to;
+use crate::requests::{Acceptance, Written, consider, put_acceptance};
 use byte_streams::{
     BufferedSink, DriveFault, LineHandler, Sink, Source, WriteFault, reading_room, stream,
 };
-use cell_control::{Controller, Dues, TourneyDues};
+use cell_control::{Dues, LeanController, LeanPlan, TourneyDues};
+use cell_hub::{HubFault, HubOf, Ticket};
 use event_lines::{Claim, Request, cell_prefix, cell_report_of, cell_request_of};
 use plan_verifier::Verified;
 use std::alloc::{AllocError, Global};
@@ -30,62 +33,67 @@ pub struct HubEnd {
     pub all_done: bool,
 }
 
-/// The cells, and the protocol by which their lines are read and answered.
+/// A hub, the tickets of its cells in the order of their numbers, and the protocol by which their lines are read and
+/// answered.
 #[derive(Drop)]
-struct Cells<D: Dues> {
+struct HubSession<D: Dues> {
     protocol: Protocol,
-    controllers: Vec<Controller<D>>,
+    hub: HubOf<LeanPlan, D>,
+    tickets: Vec<Ticket>,
 }
 
-impl<D: Dues> Model for Cells<D> {
+impl<D: Dues> Model for HubSession<D> {
     ghost use Rattle.cell_drive.specs.ProtocolCells.{HubOfCells, hub_of};
-    ghost use Rattle.cell_drive.specs.Numbers.{AreInRun, planned_cells};
+    ghost use Rattle.cell_drive.specs.Tickets.{AreSeatedInRun, cells_of};
 
     ghost Value = { HubOfCells };
 
-    ghost view = { λ s. hub_of s.protocol (planned_cells s.controllers.items) };
+    ghost view = { λ s. hub_of s.protocol (cells_of s.hub s.tickets.items) };
 
-    ghost invariant = { λ s. AreInRun (planned_cells s.controllers.items) };
+    ghost invariant = { λ s. AreSeatedInRun s.hub s.tickets.items };
 }
 
-/// The cells of the plans before the first line, in their order.
-fn begin<D: Dues>(alloc: Global, plans: Vec<Verified>) -> Result<Vec<Controller<D>>, AllocError>
-    ensures started { IfOk result (λ cells. planned_cells cells.items ≡ hub_start plans.items) }
-    ensures verified { OnOk result (AreVerified plans.items) }
-    ensures in_run { IfOk result (λ cells. AreInRun (planned_cells cells.items)) }
-{
-    let mut cells = Vec::new(alloc);
-    for verified in plans {
-        begin_cell(alloc, verified, &mut cells)?;
-    }
-    Ok(cells)
-}
-
-/// Begins the cell of a plan before the first line, behind these.
-fn begin_cell<D: Dues>(
+/// A hub with the cells of the plans before the first line, and their tickets in order.
+fn begin<D: Dues>(
     alloc: Global,
-    verified: Verified,
-    cells: &mut Vec<Controller<D>>,
-) -> Result<(), AllocError>
-    ensures started { OnOk result
-        (planned_cells cells.new.items ≡ planned_cells cells.old.items ++ cell_start verified ∷ []) }
-    ensures verified { OnOk result (IsVerified verified) }
+    plans: Vec<LeanPlan>,
+) -> Result<(HubOf<LeanPlan, D>, Vec<Ticket>), AllocError>
+    ensures started { IfOk result (λ begun. cells_of begun.0 begun.1.items ≡ hub_start plans.items) }
+    ensures verified { OnOk result (AreVerified plans.items) }
+    ensures seated { IfOk result (λ begun. AreSeatedInRun begun.0 begun.1.items) }
 {
-    if let Err(error) = cells.reserve(1) {
-        drop(verified);
+    let mut hub = HubOf::new(alloc);
+    let mut tickets = Vec::new(alloc);
+    for plan in plans {
+        seat(plan, &mut hub, &mut tickets)?;
+    }
+    Ok((hub, tickets))
+}
+
+/// Makes one more cell, behind these.
+fn seat<D: Dues>(
+    plan: LeanPlan,
+    hub: &mut HubOf<LeanPlan, D>,
+    tickets: &mut Vec<Ticket>,
+) -> Result<(), AllocError>
+    requires { hub.old.next_serial ≡ length tickets.old.items }
+    ensures seated { OnOk result ((ticket : Ticket) × IsAdmitted hub.old plan ticket hub.new
+        × (tickets.new.items ≡ tickets.old.items ++ ticket ∷ [])) }
+    ensures verified { OnOk result (IsVerified plan) }
+{
+    // Called for its clause alone: the plan is an accepted one.
+    let _plan = plan.shaped();
+    if let Err(error) = tickets.reserve(1) {
+        drop(plan);
         return Err(error);
     }
-    match Controller::new(alloc, verified) {
-        Ok(controller) => {
-            // Called for its clauses alone: the plan is an accepted one.
-            let _plan = controller.verified();
-            cells.push_reserved(controller);
+    match hub.admit_lean(plan) {
+        Ok(ticket) => {
+            tickets.push_reserved(ticket);
             Ok(())
         }
-        Err((error, verified)) => {
-            drop(verified);
-            Err(error)
-        }
+        Err(HubFault::Memory) => Err(AllocError),
+        Err(_) => unreachable!(),
     }
 }
 
@@ -101,18 +109,79 @@ fn asked_of(version_2: bool, line: &[u8]) -> Option<(u32, Request)>
     Some((cell, Request::Claim(Claim::Report(report))))
 }
 
+/// The controller of the ticket's cell.
+fn controller_of<D: Dues>(hub: &HubOf<LeanPlan, D>, ticket: Ticket) -> &LeanController<D>
+    requires { HasCell hub.now ticket }
+    ensures { cell_at hub.now ticket ≡ Some result.now }
+{
+    match hub.cell(ticket) {
+        Some(controller) => controller,
+        None => unreachable!(),
+    }
+}
+
+/// Accepts what is to be accepted in the ticket's cell, and writes its lines.
+#[inline(always)]
+fn accept<D: Dues, W: Sink>(
+    protocol: Protocol,
+    prefix: &[u8],
+    hub: &mut HubOf<LeanPlan, D>,
+    ticket: Ticket,
+    acceptance: Acceptance,
+    writer: &mut W,
+) -> Written
+    requires possible { IsPossibleAt hub.old ticket acceptance.possible }
+    requires prefix { length prefix.now ≤ MAX_PREFIX }
+    ensures { (is : Takes hub.old ticket acceptance.possible.report hub.new) × IsControl is.1.after
+        × WroteTo W.Sink result writer.old writer.new (accepted_lines protocol prefix.now is.1.after acceptance)
+        × OnOk result (W.failed writer.new ≡ W.failed writer.old) }
+{
+    let Acceptance { possible, overdue } = acceptance;
+    let (late, report) = (possible.is_late(), possible.report());
+    hub.accept(ticket, possible);
+    let controller = controller_of(hub, ticket);
+    // Called for its clause alone: what holds of every such controller.
+    let _plan = controller.shaped();
+    put_acceptance(protocol, prefix, controller, report, late, overdue, writer)
+}
+
+/// Answers the request of the line of this number, in the ticket's cell.
+fn reply_in<D: Dues, W: Sink>(
+    protocol: Protocol,
+    prefix: &[u8],
+    hub: &mut HubOf<LeanPlan, D>,
+    ticket: Ticket,
+    number: u64,
+    request: Request,
+    writer: &mut W,
+) -> Written
+    requires there { HasCell hub.old ticket }
+    requires prefix { length prefix.now ≤ MAX_PREFIX }
+    ensures { WroteOneTo W.Sink result writer.old writer.new
+        (RepliesAt protocol prefix.now hub.old ticket number request hub.new) }
+{
+    let controller = controller_of(hub, ticket);
+    // Called for its clause alone: what holds of every such controller.
+    let _plan = controller.shaped();
+    match consider(protocol, prefix, number, controller, request, writer) {
+        Ok(acceptance) => accept(protocol, prefix, hub, ticket, acceptance, writer),
+        Err(written) => written,
+    }
+}
+
 /// Answers a line. An empty one has no answer.
 fn answer_line<D: Dues, W: Sink>(
     protocol: Protocol,
-    cells: &mut [Controller<D>],
+    hub: &mut HubOf<LeanPlan, D>,
+    tickets: &[Ticket],
     number: u64,
     line: &[u8],
     writer: &mut W,
-) -> Result<(), WriteFault>
-    requires { AreInRun (planned_cells cells.old) }
-    ensures in_run { AreInRun (planned_cells cells.new) }
+) -> Written
+    requires { AreSeatedInRun hub.old tickets.now }
+    ensures in_run { AreSeatedInRun hub.new tickets.now }
     ensures answered { WroteOneTo W.Sink result writer.old writer.new
-        (AnsweredByCells protocol cells.old number line.now cells.new) }
+        (AnsweredByHub protocol hub.old tickets.now number line.now hub.new) }
 {
     if line.is_empty() {
         return Ok(());
@@ -121,47 +190,53 @@ fn answer_line<D: Dues, W: Sink>(
         return put_refused(number, b"BadLine", writer);
     };
     let place = cell as usize;
-    if place >= cells.len() {
+    if place >= tickets.len() {
         return put_refused(number, b"NoSuchCell", writer);
     }
-    let controller = &mut cells[place];
     let prefix = cell_prefix(u64::from(cell));
-    reply_to(
+    reply_in(
         protocol,
         prefix.bytes(),
+        hub,
+        tickets[place],
         number,
-        controller,
         request,
         writer,
     )
-    .written
 }
 
 /// Writes the closing line of each cell.
-fn put_closings<D: Dues, W: Sink>(cells: &[Controller<D>], writer: &mut W) -> Result<(), WriteFault>
-    ensures wrote { WroteTo W.Sink result writer.old writer.new (closing_text 0 (planned_cells cells.now)) }
+fn put_closings<D: Dues, W: Sink>(
+    hub: &HubOf<LeanPlan, D>,
+    tickets: &[Ticket],
+    writer: &mut W,
+) -> Written
+    requires { AreSeatedInRun hub.now tickets.now }
+    ensures wrote { WroteTo W.Sink result writer.old writer.new (closing_text 0 (cells_of hub.now tickets.now)) }
     ensures unfailed { OnOk result (W.failed writer.new ≡ W.failed writer.old) }
 {
-    for cell in 0..cells.len() {
+    for cell in 0..tickets.len() {
         let prefix = cell_prefix(cell as u64);
-        put_closing(prefix.bytes(), &cells[cell], writer)?;
+        let controller = controller_of(hub, tickets[cell]);
+        put_closing(prefix.bytes(), controller, writer)?;
     }
     Ok(())
 }
 
 /// Whether the run of each cell has ended.
-fn all_done<D: Dues>(cells: &[Controller<D>]) -> bool
-    ensures { IsTrue result ↔ AreAllDone (planned_cells cells.now) }
+fn all_done<D: Dues>(hub: &HubOf<LeanPlan, D>, tickets: &[Ticket]) -> bool
+    requires { AreSeatedInRun hub.now tickets.now }
+    ensures { IsTrue result ↔ AreAllDone (cells_of hub.now tickets.now) }
 {
-    for cell in cells {
-        if !cell.is_done() {
+    for cell in 0..tickets.len() {
+        if !controller_of(hub, tickets[cell]).is_done() {
             return false;
         }
     }
     true
 }
 
-impl<D: Dues> LineHandler for Cells<D> {
+impl<D: Dues> LineHandler for HubSession<D> {
     ghost use Rattle.cell_drive.specs.ProtocolCells.{HubAnswer, HubCloses};
 
     ghost answers = { HubAnswer };
@@ -175,28 +250,35 @@ impl<D: Dues> LineHandler for Cells<D> {
         writer: &mut W,
     ) -> Result<(), WriteFault> {
         match line {
-            Some(line) => answer_line(self.protocol, &mut self.controllers, number, line, writer),
+            Some(line) => answer_line(
+                self.protocol,
+                &mut self.hub,
+                &self.tickets,
+                number,
+                line,
+                writer,
+            ),
             None => put_refused(number, b"LongLine", writer),
         }
     }
 
     fn put_closing<W: Sink>(&self, writer: &mut W) -> Result<(), WriteFault> {
-        put_closings(&self.controllers, writer)
+        put_closings(&self.hub, &self.tickets, writer)
     }
 }
 
 /// What the runs have come to.
-fn end<D: Dues>(driven: Cells<D>) -> HubEnd
+fn end<D: Dues>(driven: HubSession<D>) -> HubEnd
     ensures { IsTrue result.all_done ↔ AreAllDone driven.cells }
 {
     HubEnd {
-        all_done: all_done(&driven.controllers),
+        all_done: all_done(&driven.hub, &driven.tickets),
     }
 }
 
 /// Drives these cells to the end of their input, of which each piece is read into the room.
 fn drive_cells<R: Source, W: BufferedSink>(
-    driven: Cells<TourneyDues>,
+    driven: HubSession<TourneyDues>,
     room: Vec<u8>,
     reader: &mut R,
     writer: &mut W,
@@ -233,7 +315,20 @@ pub fn drive_hub<R: Source, W: BufferedSink>(
         (streams_of R.Source W.Sink W.pending reader.new writer.new) result }
     ensures untouched { result ≡ Err DriveFault.Memory → (reader.new ≡ reader.old) × (writer.new ≡ writer.old) }
 {
+    let cells = lean_plans(alloc, cells)?;
     drive_hub_in(alloc, cells, Protocol::plain(), reader, writer)
+}
+
+/// The same plans, whose ranks and lengths are freed.
+fn lean_plans(alloc: Global, plans: Vec<Verified>) -> Result<Vec<LeanPlan>, AllocError>
+    ensures { IfOk result (λ lean. lean.items ≡ plans.items) }
+{
+    let mut lean = Vec::with_capacity(alloc, plans.len())?;
+    for verified in plans {
+        lean.push(LeanPlan::of(alloc, verified)?)
+            .map_err(AllocError::from)?;
+    }
+    Ok(lean)
 }
 
 /// Drives a cell for each accepted plan, as [`drive_hub`] does, by this protocol.
@@ -243,7 +338,7 @@ pub fn drive_hub<R: Source, W: BufferedSink>(
 /// of the same cell, or from `from` where that is later.
 pub fn drive_hub_in<R: Source, W: BufferedSink>(
     alloc: Global,
-    cells: Vec<Verified>,
+    cells: Vec<LeanPlan>,
     protocol: Protocol,
     reader: &mut R,
     writer: &mut W,
@@ -259,10 +354,12 @@ pub fn drive_hub_in<R: Source, W: BufferedSink>(
             return Err(DriveFault::from(error));
         }
     };
-    let controllers: Vec<Controller<TourneyDues>> = begin(alloc, cells)?;
-    let driven = Cells {
+    let begun: (HubOf<LeanPlan, TourneyDues>, Vec<Ticket>) = begin(alloc, cells)?;
+    let (hub, tickets) = begun;
+    let driven = HubSession {
         protocol,
-        controllers,
+        hub,
+        tickets,
     };
     drive_cells(driven, room, reader, writer)
 }

@@ -1,12 +1,13 @@
 //! How a cell answers a request: what it takes, and what it writes.
 
-ghost use Rattle.std.specs.Prelude.{◌≡◌, ◌≤◌, Some, length, true};
-ghost use Rattle.byte_streams.specs.Lent.{WroteOneTo};
-ghost use Rattle.cell_control.specs.{Control.IsControl, Judged.IsJudged};
-ghost use Rattle.event_lines.specs.{declared.requests.Request.TheVariants.Claim as ClaimRequest, Requests.claimed};
-ghost use Rattle.cell_drive.specs.{declared.replies.TheConstants.MAX_PREFIX, Refusals.IsAdmissible, Refusals.IsRefusal};
+ghost use Rattle.std.specs.Prelude.{◌≡◌, ◌≤◌, None, Some, length, true, IfOk, IfErr, OnOk};
+ghost use Rattle.byte_streams.specs.Lent.{WroteTo, WroteOneTo};
+ghost use Rattle.cell_control.specs.{declared.ack.Ack.Ack, Control.IsAnswered, Control.IsControl, Judged.IsPossible};
+ghost use Rattle.event_lines.specs.{declared.requests.Request.TheVariants.Claim as ClaimRequest};
+ghost use Rattle.cell_drive.specs.{declared.replies.TheConstants.MAX_PREFIX, Refusals.IsRefusal};
 ghost use Rattle.cell_drive.specs.ProtocolText.{refusal_prefix};
-ghost use Rattle.cell_drive.specs.Replies.{AcceptedBy, RepliesBy, HasAccepted, RefusedBy};
+ghost use Rattle.cell_drive.specs.Replies.{RepliesBy, HasAccepted, RefusedBy, reported_lines};
+ghost use Rattle.cell_drive.specs.Acceptances.{IsToAccept, accepted_lines};
 
 use crate::judging::{judge, printed_overdue, prints_end};
 use crate::protocol::Protocol;
@@ -15,7 +16,10 @@ use crate::replies::{put_accepted, put_refusal};
 use crate::states::put_state;
 use byte_streams::{Sink, WriteFault};
 use cell_control::{Core, Dues, Possible, Report, Timed};
-use event_lines::{Claim, Request};
+use event_lines::{Claim, Overdue, Request};
+
+/// How the writing of an answer went.
+pub(crate) type Written = Result<(), WriteFault>;
 
 /// What a request came to.
 #[derive(Clone, Copy)]
@@ -23,31 +27,32 @@ pub(crate) struct Reply {
     /// The report that was accepted, if one was. The moves that it released are the controller's last orders.
     pub accepted: Option<Report>,
     /// Whether all of the answer was written.
-    pub written: Result<(), WriteFault>,
+    pub written: Written,
 }
 
-/// Accepts what was judged late or not.
+/// A report that is to be accepted, and what the line that it was late says to be overdue.
+#[derive(Drop)]
+pub(crate) struct Acceptance {
+    pub possible: Possible,
+    pub overdue: Option<Overdue>,
+}
+
+/// Writes the lines of what was accepted, late or not, with the moves that it released: the controller's last orders.
 #[inline(always)]
-fn accept_judged<P: Timed, D: Dues, W: Sink>(
+fn put_reported<P: Timed, D: Dues, W: Sink>(
     protocol: Protocol,
     prefix: &[u8],
-    controller: &mut Core<P, D>,
-    claim: Claim,
-    possible: Possible,
+    controller: &Core<P, D>,
+    report: Report,
     late: bool,
+    overdue: Option<Overdue>,
     writer: &mut W,
-) -> Result<(), WriteFault>
-    requires accepted { IsAdmissible protocol controller.old.planned controller.old.cell claim }
-    requires judged { IsJudged controller.old.planned controller.old.cell (claimed claim) possible }
-    requires late { late ≡ possible.late }
-    requires prefix { length prefix.now ≤ MAX_PREFIX }
-    ensures done { HasAccepted controller.old (Some (claimed claim)) controller.new }
-    ensures answered { WroteOneTo W.Sink result writer.old writer.new
-        (AcceptedBy protocol prefix.now controller.old claim controller.new) }
+) -> Written
+    requires { length prefix.now ≤ MAX_PREFIX }
+    ensures wrote { WroteTo W.Sink result writer.old writer.new
+        (reported_lines protocol prefix.now controller.now report late overdue) }
+    ensures unfailed { OnOk result (W.failed writer.new ≡ W.failed writer.old) }
 {
-    let report = possible.report();
-    let overdue = printed_overdue(protocol, controller.work_cell(), late, report);
-    controller.accept(possible);
     let ended = prints_end(protocol, controller);
     put_accepted(
         prefix,
@@ -60,49 +65,45 @@ fn accept_judged<P: Timed, D: Dues, W: Sink>(
     )
 }
 
-/// Accepts what is late. It is seldom so.
+/// Writes the lines of what was accepted late. It is seldom so.
 #[cold]
 #[inline(never)]
-fn accept_late<P: Timed, D: Dues, W: Sink>(
+fn put_reported_late<P: Timed, D: Dues, W: Sink>(
     protocol: Protocol,
     prefix: &[u8],
-    controller: &mut Core<P, D>,
-    claim: Claim,
-    possible: Possible,
+    controller: &Core<P, D>,
+    report: Report,
+    overdue: Option<Overdue>,
     writer: &mut W,
-) -> Result<(), WriteFault>
-    requires late { possible.late ≡ true }
-    requires accepted { IsAdmissible protocol controller.old.planned controller.old.cell claim }
-    requires judged { IsJudged controller.old.planned controller.old.cell (claimed claim) possible }
-    requires prefix { length prefix.now ≤ MAX_PREFIX }
-    ensures done { HasAccepted controller.old (Some (claimed claim)) controller.new }
-    ensures answered { WroteOneTo W.Sink result writer.old writer.new
-        (AcceptedBy protocol prefix.now controller.old claim controller.new) }
+) -> Written
+    requires { length prefix.now ≤ MAX_PREFIX }
+    ensures wrote { WroteTo W.Sink result writer.old writer.new
+        (reported_lines protocol prefix.now controller.now report true overdue) }
+    ensures unfailed { OnOk result (W.failed writer.new ≡ W.failed writer.old) }
 {
-    accept_judged(protocol, prefix, controller, claim, possible, true, writer)
+    put_reported(protocol, prefix, controller, report, true, overdue, writer)
 }
 
-/// Takes what was claimed and judged, and writes the lines of the report and of the moves that it released.
+/// Writes the lines of what was accepted.
 #[inline(always)]
-fn accept<P: Timed, D: Dues, W: Sink>(
+pub(crate) fn put_acceptance<P: Timed, D: Dues, W: Sink>(
     protocol: Protocol,
     prefix: &[u8],
-    controller: &mut Core<P, D>,
-    claim: Claim,
-    possible: Possible,
+    controller: &Core<P, D>,
+    report: Report,
+    late: bool,
+    overdue: Option<Overdue>,
     writer: &mut W,
-) -> Result<(), WriteFault>
-    requires accepted { IsAdmissible protocol controller.old.planned controller.old.cell claim }
-    requires judged { IsJudged controller.old.planned controller.old.cell (claimed claim) possible }
-    requires prefix { length prefix.now ≤ MAX_PREFIX }
-    ensures done { HasAccepted controller.old (Some (claimed claim)) controller.new }
-    ensures answered { WroteOneTo W.Sink result writer.old writer.new
-        (AcceptedBy protocol prefix.now controller.old claim controller.new) }
+) -> Written
+    requires { length prefix.now ≤ MAX_PREFIX }
+    ensures wrote { WroteTo W.Sink result writer.old writer.new
+        (reported_lines protocol prefix.now controller.now report late overdue) }
+    ensures unfailed { OnOk result (W.failed writer.new ≡ W.failed writer.old) }
 {
-    if possible.is_late() {
-        accept_late(protocol, prefix, controller, claim, possible, writer)
+    if late {
+        put_reported_late(protocol, prefix, controller, report, overdue, writer)
     } else {
-        accept_judged(protocol, prefix, controller, claim, possible, false, writer)
+        put_reported(protocol, prefix, controller, report, false, overdue, writer)
     }
 }
 
@@ -139,30 +140,82 @@ fn refuse<P: Timed, D: Dues, W: Sink>(
     )
 }
 
-/// Replies to what is claimed: takes it, if it is possible and doesn't leap.
+/// Looks at what is claimed: it is to be accepted, if it is possible and doesn't leap, or is refused at once.
 #[inline(always)]
-fn reply_to_claim<P: Timed, D: Dues, W: Sink>(
+fn consider_claim<P: Timed, D: Dues, W: Sink>(
     protocol: Protocol,
     prefix: &[u8],
     number: u64,
-    controller: &mut Core<P, D>,
+    controller: &Core<P, D>,
     claim: Claim,
     writer: &mut W,
-) -> Reply
-    requires { length prefix.now ≤ MAX_PREFIX }
-    ensures accepted { HasAccepted controller.old result.accepted controller.new }
-    ensures answered { WroteOneTo W.Sink result.written writer.old writer.new
-        (RepliesBy protocol prefix.now controller.old number (ClaimRequest claim) result.accepted controller.new) }
+) -> Result<Acceptance, Written>
+    ensures accepted { IfOk result (IsToAccept protocol controller.now (ClaimRequest claim)) }
+    ensures unwritten { OnOk result (writer.new ≡ writer.old) }
+    ensures answered { IfErr result (λ written. WroteOneTo W.Sink written writer.old writer.new
+        (RepliesBy protocol prefix.now controller.now number (ClaimRequest claim) None controller.now)) }
 {
     match judge(protocol, controller, claim) {
-        Ok(possible) => Reply {
-            accepted: Some(claim.report()),
-            written: accept(protocol, prefix, controller, claim, possible, writer),
-        },
-        Err(refusal) => Reply {
-            accepted: None,
-            written: refuse(protocol, prefix, number, controller, claim, refusal, writer),
-        },
+        Ok(possible) => {
+            let (late, report) = (possible.is_late(), possible.report());
+            let overdue = printed_overdue(protocol, controller.work_cell(), late, report);
+            Ok(Acceptance { possible, overdue })
+        }
+        Err(refusal) => Err(refuse(protocol, prefix, number, controller, claim, refusal, writer)),
+    }
+}
+
+/// Looks at the request of the line of this number: a report is to be accepted, or it is answered at once, and the
+/// cell stays as it is.
+#[inline(always)]
+pub(crate) fn consider<P: Timed, D: Dues, W: Sink>(
+    protocol: Protocol,
+    prefix: &[u8],
+    number: u64,
+    controller: &Core<P, D>,
+    request: Request,
+    writer: &mut W,
+) -> Result<Acceptance, Written>
+    ensures accepted { IfOk result (IsToAccept protocol controller.now request) }
+    ensures unwritten { OnOk result (writer.new ≡ writer.old) }
+    ensures answered { IfErr result (λ written. WroteOneTo W.Sink written writer.old writer.new
+        (RepliesBy protocol prefix.now controller.now number request None controller.now)) }
+{
+    match request {
+        Request::Claim(claim) => {
+            consider_claim(protocol, prefix, number, controller, claim, writer)
+        }
+        Request::Status => Err(put_state(prefix, controller, writer)),
+    }
+}
+
+/// Accepts what is to be accepted, and writes its lines.
+#[inline(always)]
+fn reply_accepting<P: Timed, D: Dues, W: Sink>(
+    protocol: Protocol,
+    prefix: &[u8],
+    controller: &mut Core<P, D>,
+    acceptance: Acceptance,
+    writer: &mut W,
+) -> Reply
+    requires possible { IsPossible controller.old.planned controller.old.cell acceptance.possible }
+    requires prefix { length prefix.now ≤ MAX_PREFIX }
+    ensures accepted { result.accepted ≡ Some acceptance.possible.report }
+    ensures answered { (ack : Ack) × IsAnswered controller.old acceptance.possible.report ack controller.new }
+    ensures control { IsControl controller.new }
+    ensures wrote { WroteTo W.Sink result.written writer.old writer.new
+        (accepted_lines protocol prefix.now controller.new acceptance) }
+    ensures unfailed { OnOk result.written (W.failed writer.new ≡ W.failed writer.old) }
+{
+    let Acceptance { possible, overdue } = acceptance;
+    let (late, report) = (possible.is_late(), possible.report());
+    controller.accept(possible);
+    // Called for its clause alone: what holds of every such controller.
+    let _plan = controller.shaped();
+    let written = put_acceptance(protocol, prefix, controller, report, late, overdue, writer);
+    Reply {
+        accepted: Some(report),
+        written,
     }
 }
 
@@ -182,16 +235,15 @@ pub(crate) fn reply_to<P: Timed, D: Dues, W: Sink>(
     ensures answered { WroteOneTo W.Sink result.written writer.old writer.new
         (RepliesBy protocol prefix.now controller.old number request result.accepted controller.new) }
 {
-    let reply = match request {
-        Request::Claim(claim) => {
-            reply_to_claim(protocol, prefix, number, controller, claim, writer)
+    match consider(protocol, prefix, number, controller, request, writer) {
+        Ok(acceptance) => reply_accepting(protocol, prefix, controller, acceptance, writer),
+        Err(written) => {
+            // Called for its clause alone: what holds of every such controller.
+            let _plan = controller.shaped();
+            Reply {
+                accepted: None,
+                written,
+            }
         }
-        Request::Status => Reply {
-            accepted: None,
-            written: put_state(prefix, controller, writer),
-        },
-    };
-    // Called for its clause alone: what holds of every such controller.
-    let _plan = controller.shaped();
-    reply
+    }
 }

@@ -2,35 +2,35 @@
 use Rattle.std.proofs.Common.{◌≡◌, ◌↔◌, ℕ, ◌+◌, ◌<◌, Some, None, IfOk, IfErr, OnErr, refl, sym, ap, ◌∙◌, subst}
 use Rattle.std.specs.{Prelude.Result, declared.result.Result.TheVariants.{Ok, Err}}
 use Rattle.shop_base.specs.declared.report.Report.{Report}
-use Rattle.slab.specs.Slab.{Slab, get, Updates}
+use Rattle.slab.specs.Slab.{Slab, get, with_value, Updates}
 use Rattle.plan_verifier.specs.Accepted.{VerifiedPlan}
-use Rattle.cell_control.specs.{Control.{Control, at_start}, Reports.IsFirstReason, declared.ack.Ack.Ack}
+use Rattle.cell_control.specs.{Control.{Control, IsAnswered, at_start}, Reports.IsFirstReason, declared.ack.Ack.Ack}
+use Rattle.cell_control.specs.Judged.{JudgedReport, IsPossible}
 use Rattle.cell_control.proofs.OneReason.{only_reason}
-use Rattle.cell_hub.specs.{declared.slots.Ticket.Ticket, declared.slots.Placed.Placed, Hub.{HubState, cell_at, Puts}}
+use Rattle.cell_hub.specs.{declared.slots.Ticket.Ticket, declared.slots.Placed.Placed, Hub.{HubState, cell_at}}
 use Rattle.cell_hub.specs.declared.hub_fault.HubFault.{HubFault, TheVariants.{NoSuchCell, SerialsSpent, Memory, Cell}}
 use Rattle.cell_hub.specs.Slots.{hub_of}
-use Rattle.cell_hub.specs.Calls.{Reported, Dismissed, no_serial, IsAdmitted, IsReported, IsNotReported, IsOnlyRefusal, IsDismissed, IsCall}
-use Rattle.cell_hub.proofs.{Puts.HasSerial, Hubs.{none_there, puts_there}}
+use Rattle.cell_hub.specs.Calls.{Reported, Dismissed, no_serial, IsAdmitted, IsPossibleAt, IsSeated, IsReported, IsNotReported, IsOnlyRefusal, IsDismissed, IsCall}
+use Rattle.cell_hub.proofs.{Puts.HasSerial, Hubs.{its_serial, none_there, puts_there, reports_there, stands_there}}
 
-module _ {D : Type 0} (s new : Slab (Placed D)) (next : ℕ) (now : HubState) (seen : hub_of s next ≡ now) (t : Ticket) where
+module _ {P D : Type 0} (s new : Slab (Placed P D)) (next : ℕ) (now : HubState) (seen : hub_of s next ≡ now) (t : Ticket) where
   pub report_called : (r : Report) (result : Result Ack HubFault) → IfOk result (λ ack. (n : ℕ) → IsReported (hub_of s n) t r ack (hub_of new n)) → IfErr result (λ fault. (n : ℕ) → IsNotReported (hub_of s n) t r fault) → OnErr result (new ≡ s) → IsCall now (Reported t r result) (hub_of new next)
   report_called r (Ok ack) reported refused unchanged = subst (λ h. IsReported h t r ack (hub_of new next)) seen (reported next)
-  report_called r (Err fault) reported refused unchanged = (subst (λ h. IsNotReported h t r fault) seen (refused next), ap (λ (x : Slab (Placed D)). hub_of x next) unchanged ∙ seen)
+  report_called r (Err fault) reported refused unchanged = (subst (λ h. IsNotReported h t r fault) seen (refused next), ap (λ (x : Slab (Placed P D)). hub_of x next) unchanged ∙ seen)
 
   pub dismissal_called : (result : Result Control HubFault) → IfOk result (λ content. (n : ℕ) → IsDismissed (hub_of s n) t content (hub_of new n)) → OnErr result ((n : ℕ) → cell_at (hub_of s n) t ≡ None) → IfErr result (λ fault. fault ≡ NoSuchCell) → OnErr result (new ≡ s) → IsCall now (Dismissed t result) (hub_of new next)
   dismissal_called (Ok content) removed none fault unchanged = subst (λ h. IsDismissed h t content (hub_of new next)) seen (removed next)
-  dismissal_called (Err _) removed none fault unchanged = (fault, subst (λ (h : HubState). cell_at h t ≡ None) seen (none next), ap (λ (x : Slab (Placed D)). hub_of x next) unchanged ∙ seen)
+  dismissal_called (Err _) removed none fault unchanged = (fault, subst (λ (h : HubState). cell_at h t ≡ None) seen (none next), ap (λ (x : Slab (Placed P D)). hub_of x next) unchanged ∙ seen)
 
-module _ {D : Type 0} (s reserved new : Slab (Placed D)) (next : ℕ) (now : HubState) (seen : hub_of s next ≡ now) where
-  -- a cell is put into a slot that was reserved
-  pub is_admitted : (slot : ℕ) (plan : VerifiedPlan) (controller : Control) → reserved ≡ record s { capacity = reserved.capacity } → get reserved slot ≡ None → Updates reserved new slot (Some (record { serial = next; controller = controller })) → controller ≡ at_start plan → next < no_serial → IsAdmitted now plan (record { slot = slot; serial = next }) (hub_of new (next + 1))
-  is_admitted slot plan controller room vacant updates start left =
-      subst (λ h. IsAdmitted h plan t (hub_of new (next + 1))) seen (record {
+module _ {P D : Type 0} (s reserved new : Slab (Placed P D)) (next : ℕ) (now : HubState) (seen : hub_of s next ≡ now) where
+  -- a controller is put into a slot that was reserved
+  pub is_seated : (slot : ℕ) (controller : Control) → reserved ≡ record s { capacity = reserved.capacity } → get reserved slot ≡ None → Updates reserved new slot (Some (record { serial = next; controller = controller })) → next < no_serial → IsSeated now controller (record { slot = slot; serial = next }) (hub_of new (next + 1))
+  is_seated slot controller room vacant updates left =
+      subst (λ h. IsSeated h controller t (hub_of new (next + 1))) seen (record {
         left = left;
         serial = refl;
         vacant = none_there s t (sym empty) next;
-        cells = subst (λ x. Puts (hub_of s next) (hub_of new (next + 1)) t (Some x)) start
-            (puts_there s t new next (next + 1) _ (record { changed = updates.changed; others = λ other differ. updates.others other differ ∙ as_before other }) (subst (λ o. HasSerial o next) (sym empty) tt) refl);
+        cells = puts_there s t new next (next + 1) _ (record { changed = updates.changed; others = λ other differ. updates.others other differ ∙ as_before other }) (subst (λ o. HasSerial o next) (sym empty) tt) refl;
         next_serial = refl;
       })
     where
@@ -38,10 +38,14 @@ module _ {D : Type 0} (s reserved new : Slab (Placed D)) (next : ℕ) (now : Hub
       t = record { slot = slot; serial = next }
 
       as_before : (key : ℕ) → get reserved key ≡ get s key
-      as_before key = ap (λ (x : Slab (Placed D)). get x key) room
+      as_before key = ap (λ (x : Slab (Placed P D)). get x key) room
 
       empty : get s slot ≡ None
       empty = sym (as_before slot) ∙ vacant
+
+-- one that has just begun is made of its plan
+pub is_admitted : (old new : HubState) (plan : VerifiedPlan) (t : Ticket) (controller : Control) → IsSeated old controller t new → controller ≡ at_start plan → IsAdmitted old plan t new
+is_admitted old new plan t controller seated start = subst (λ (c : Control). IsSeated old c t new) start seated
 
 -- a report finds no cell exactly where the ticket has none
 pub report_finds : (old new : HubState) (t : Ticket) (r : Report) (result : Result Ack HubFault) → IsCall old (Reported t r result) new → (result ≡ Err NoSuchCell) ↔ (cell_at old t ≡ None)
@@ -81,3 +85,34 @@ dismissal_finds old new t (Err fault) is = ((λ same. is.1), λ none. ap Err is.
 pub dismissal_takes : (old new : HubState) (t : Ticket) (result : Result Control HubFault) → IsCall old (Dismissed t result) new → IfOk result (λ content. IsDismissed old t content new)
 dismissal_takes old new t (Ok content) is = is
 dismissal_takes old new t (Err fault) is = tt
+
+-- a ticket with a cell isn't without one
+pub there_not_none : (h : HubState) (t : Ticket) (v : Control) → cell_at h t ≡ Some v → cell_at h t ≡ None → ⊥
+there_not_none h t v is none = absurd (cc)
+
+-- and it has one
+pub same_content : (h : HubState) (t : Ticket) (v w : Control) → cell_at h t ≡ Some v → cell_at h t ≡ Some w → v ≡ w
+same_content h t v w is also = cc
+
+-- a report that was judged possible in the ticket's cell was so whatever the next serial is
+pub possible_there : {P D : Type 0} (s : Slab (Placed P D)) (next : ℕ) (now : HubState) → hub_of s next ≡ now → (t : Ticket) (judged : JudgedReport) → IsPossibleAt now t judged → (n : ℕ) → IsPossibleAt (hub_of s n) t judged
+possible_there s next now seen t judged is n =
+    let there = subst (λ (h : HubState). IsPossibleAt h t judged) (sym seen) is in
+    record { control = there.control; cell = there.cell; possible = there.possible }
+
+-- the slot of a ticket in whose cell a report was judged possible
+module _ {P D : Type 0} (s : Slab (Placed P D)) (t : Ticket) (judged : JudgedReport) (there : (n : ℕ) → IsPossibleAt (hub_of s n) t judged) where
+  its_own : (placed : Placed P D) → Some placed ≡ get s t.slot → placed.serial ≡ t.serial
+  its_own placed found = its_serial s t placed found (λ none. there_not_none (hub_of s 0) t (there 0).control (there 0).cell none)
+
+  pub possible_in : (placed : Placed P D) → Some placed ≡ get s t.slot → IsPossible placed.controller.planned placed.controller.cell judged
+  possible_in placed found =
+      subst (λ (v : Control). IsPossible v.planned v.cell judged)
+      (same_content (hub_of s 0) t (there 0).control placed.controller (there 0).cell (stands_there s t placed found (its_own placed found) 0)) (there 0).possible
+
+  pub not_empty : None ≡ get s t.slot → ⊥
+  not_empty none = there_not_none (hub_of s 0) t (there 0).control (there 0).cell (none_there s t none 0)
+
+  pub accepts_there : (placed : Placed P D) (ack : Ack) (after : Control) → Some placed ≡ get s t.slot → IsAnswered placed.controller judged.report ack after → (next : ℕ)
+      → IsReported (hub_of s next) t judged.report ack (hub_of (with_value s t.slot (record placed { controller = after })) next)
+  accepts_there placed ack after found is next = reports_there s t placed judged.report ack after found (its_own placed found) is next

@@ -7,15 +7,19 @@ use Rattle.plan_verifier.specs.Accepted.{VerifiedPlan}
 use Rattle.cell_control.specs.{declared.ack.Ack.Ack, Control.{Control, at_start, IsAnswered}, Reports.IsFirstReason}
 use Rattle.cell_hub.specs.{declared.slots.Ticket.Ticket, Hub.{HubState, hub_from, cell_at, Puts, AreSerialsBelow}}
 use Rattle.cell_hub.specs.declared.hub_fault.HubFault.{HubFault, TheVariants.{NoSuchCell, SerialsSpent, Memory, Cell}}
-use Rattle.cell_hub.specs.Calls.{HubCall, Admitted, Reported, Shown, Dismissed, IsCall, AreCalls, IsAdmitted, IsReported, IsNotReported, IsDismissed}
+use Rattle.cell_hub.specs.Calls.{HubCall, Admitted, Reported, Shown, Dismissed, IsCall, AreCalls, IsAdmitted, IsSeated, IsReported, IsNotReported, IsDismissed}
 use Rattle.cell_hub.specs.Laws.{DismissedNeverAnswers, CellsAreApart, Life, not_given, stands, dismissed, content_in, Lives, AreLived, FindsNoCell, IsOnTicket}
 use Rattle.cell_hub.specs.Calls as call
 use Rattle.cell_hub.specs.Laws as law
 use Rattle.cell_hub.proofs.{Tickets.same_ticket, Puts.serials_below}
 
+-- so they are after a controller got a cell
+pub seated_serials : (old new : HubState) (c : Control) (t : Ticket) → IsSeated old c t new → AreSerialsBelow old → AreSerialsBelow new
+seated_serials old new c t is below = serials_below old new t _ is.cells (omega (arith, is.next_serial)) (λ c some. omega (arith, is.serial, is.next_serial)) below
+
 -- after any call the serials are still below the next one
 pub call_serials : (old new : HubState) (call : HubCall) → IsCall old call new → AreSerialsBelow old → AreSerialsBelow new
-call_serials old new (Admitted plan (Ok t)) is below = serials_below old new t _ is.cells (omega (arith, is.next_serial)) (λ c some. omega (arith, is.serial, is.next_serial)) below
+call_serials old new (Admitted plan (Ok t)) is below = seated_serials old new _ t is below
 call_serials old new (Admitted plan (Err refused)) is below = subst AreSerialsBelow (sym is.2) below
 call_serials old new (Reported t r (Ok ack)) is below = serials_below old new t _ is.cells (omega (arith, is.next_serial)) (λ c some. let so = below t is.before is.cell in omega (arith, so, is.next_serial)) below
 call_serials old new (Reported t r (Err fault)) is below = subst AreSerialsBelow (sym is.1) below

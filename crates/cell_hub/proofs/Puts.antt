@@ -15,18 +15,18 @@ serials_below old new t content puts up own below other c found =
       | inr differ ↦ let so = below other c (sym (puts.others other differ) ∙ found) in omega arith
     ]
 
-module _ {D : Type 0} where
+module _ {P D : Type 0} where
   -- a slot is empty, or has a cell with this serial
-  abbrev pub HasSerial : Option (Placed D) → ℕ → Type 0
+  abbrev pub HasSerial : Option (Placed P D) → ℕ → Type 0
   HasSerial None serial = Unit {0}
   HasSerial (Some placed) serial = serial ≡ placed.serial
 
-  in_own_slot : (slot : Option (Placed D)) (serial other : ℕ) → HasSerial slot serial → other ≢ serial → in_slot slot other ≡ None
+  in_own_slot : (slot : Option (Placed P D)) (serial other : ℕ) → HasSerial slot serial → other ≢ serial → in_slot slot other ≡ None
   in_own_slot None serial other has differ = refl
   in_own_slot (Some placed) serial other has differ = rw (ne_eqb other placed.serial (λ same. differ (same ∙ sym has))) refl
 
   -- a change of a ticket's slot, which had no cell of another ticket and has none, is one of the ticket's cell alone
-  pub slot_puts : (old new : Slab (Placed D)) (before after : ℕ) (t : Ticket) (slot : Option (Placed D)) → Updates old new t.slot slot → HasSerial (get old t.slot) t.serial → HasSerial slot t.serial → Puts (hub_of old before) (hub_of new after) t (in_slot slot t.serial)
+  pub slot_puts : (old new : Slab (Placed P D)) (before after : ℕ) (t : Ticket) (slot : Option (Placed P D)) → Updates old new t.slot slot → HasSerial (get old t.slot) t.serial → HasSerial slot t.serial → Puts (hub_of old before) (hub_of new after) t (in_slot slot t.serial)
   slot_puts old new before after t slot updates had has = record {
     changed = cell_at-slot new after t ∙ ap (λ s. in_slot s t.serial) updates.changed;
     others = others;

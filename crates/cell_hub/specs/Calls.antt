@@ -6,6 +6,7 @@ use Rattle.shop_base.specs.declared.report.Report.TheVariants.{Clean}
 use Rattle.plan_verifier.specs.Accepted.{VerifiedPlan}
 use Rattle.cell_control.specs.{declared.ack.Ack.Ack, Control.Control, Control.at_start, Control.IsAnswered}
 use Rattle.cell_control.specs.Reports.{IsFirstReason, IsFirstCleanReason}
+use Rattle.cell_control.specs.Judged.{JudgedReport, IsPossible}
 use Rattle.cell_hub.specs.{declared.slots.Ticket.Ticket, declared.hub_fault.HubFault.HubFault}
 use Rattle.cell_hub.specs.declared.hub_fault.HubFault.TheVariants.{NoSuchCell, SerialsSpent, Memory, Cell}
 use Rattle.cell_hub.specs.Hub.{HubState, cell_at, Puts}
@@ -14,13 +15,17 @@ use Rattle.cell_hub.specs.Hub.{HubState, cell_at, Puts}
 abbrev pub no_serial : ℕ
 no_serial = 2 ^ 64 - 1
 
--- a cell is made of the plan: it has a controller before the first report, and a ticket with the next serial
-pub record IsAdmitted (old : HubState) (plan : VerifiedPlan) (t : Ticket) (new : HubState) : Type 0 where
+-- a controller gets a cell, and a ticket with the next serial
+pub record IsSeated (old : HubState) (c : Control) (t : Ticket) (new : HubState) : Type 0 where
   pub left : old.next_serial < no_serial
   pub serial : t.serial ≡ old.next_serial
   pub vacant : cell_at old t ≡ None
-  pub cells : Puts old new t (Some (at_start plan))
+  pub cells : Puts old new t (Some c)
   pub next_serial : new.next_serial ≡ old.next_serial + 1
+
+-- a cell is made of the plan: it has a controller before the first report, and a ticket with the next serial
+abbrev pub IsAdmitted : HubState → VerifiedPlan → Ticket → HubState → Type 0
+IsAdmitted old plan t new = IsSeated old (at_start plan) t new
 
 -- why no cell is made: the serials are spent, or else out of memory
 abbrev pub IsNotAdmitted : HubState → HubFault → Type 0
@@ -37,6 +42,12 @@ pub record IsReported (old : HubState) (t : Ticket) (r : Report) (ack : Ack) (ne
   pub answered : IsAnswered before r ack after
   pub cells : Puts old new t (Some after)
   pub next_serial : new.next_serial ≡ old.next_serial
+
+-- the report was judged possible in the cell of the ticket
+pub record IsPossibleAt (h : HubState) (t : Ticket) (judged : JudgedReport) : Type 0 where
+  pub control : Control
+  pub cell : cell_at h t ≡ Some control
+  pub possible : IsPossible control.planned control.cell judged
 
 -- why a report isn't accepted: the ticket has no cell, or its controller refuses the report by the first reason
 abbrev pub IsNotReported : HubState → Ticket → Report → HubFault → Type 0

@@ -4,10 +4,11 @@ ghost use Rattle.std.specs.Prelude.{◌≡◌, ◌↔◌, ℕ, None, option_copi
 ghost use Rattle.slab.specs.Slab.{HasRoomFor};
 ghost use Rattle.shop_base.specs.Report.{CanReport};
 ghost use Rattle.cell_hub.specs.{Hub.cell_at, Slots.hub_of, Slots.IfCell, Slots.IsReportedIn, Slots.IsDismissedFrom};
+ghost use Rattle.cell_hub.specs.Slots.{IsPossibleIn};
 ghost use Rattle.cell_hub.specs.Calls.{IsNotReported, EndsNow};
 
 use crate::hub_fault::HubFault;
-use cell_control::{Ack, Controller, Dues, Report};
+use cell_control::{Ack, Core, Dues, Possible, Report, Timed};
 use slab::Slab;
 use std::alloc::AllocError;
 
@@ -24,13 +25,15 @@ pub struct Ticket {
 
 /// A cell, with the serial of its ticket.
 #[derive(Drop)]
-pub(crate) struct Placed<D: Dues> {
+pub(crate) struct Placed<P: Timed, D: Dues> {
     pub serial: u64,
-    pub controller: Controller<D>,
+    pub controller: Core<P, D>,
 }
 
 /// Makes sure that a slot is vacant for one more cell. Where one is, it asks for no memory.
-pub(crate) fn reserve_slot<D: Dues>(cells: &mut Slab<Placed<D>>) -> Result<(), AllocError>
+pub(crate) fn reserve_slot<P: Timed, D: Dues>(
+    cells: &mut Slab<Placed<P, D>>,
+) -> Result<(), AllocError>
     ensures room { OnOk result (HasRoomFor cells.new 1) }
     ensures no_more { HasRoomFor cells.old 1 → IsOk result × (cells.new ≡ cells.old) }
     ensures kept { cells.new ≡ record cells.old { capacity = cells.new.capacity } }
@@ -39,7 +42,10 @@ pub(crate) fn reserve_slot<D: Dues>(cells: &mut Slab<Placed<D>>) -> Result<(), A
 }
 
 /// The ticket's cell, if it has one.
-pub(crate) fn cell_in<D: Dues>(cells: &Slab<Placed<D>>, ticket: Ticket) -> Option<&Controller<D>>
+pub(crate) fn cell_in<P: Timed, D: Dues>(
+    cells: &Slab<Placed<P, D>>,
+    ticket: Ticket,
+) -> Option<&Core<P, D>>
     ensures { (next : ℕ) → option_copied result ≡ cell_at (hub_of cells.now next) ticket }
 {
     match cells.get(ticket.slot) {
@@ -49,8 +55,8 @@ pub(crate) fn cell_in<D: Dues>(cells: &Slab<Placed<D>>, ticket: Ticket) -> Optio
 }
 
 /// Takes a report on the ticket's cell.
-pub(crate) fn report_in<D: Dues>(
-    cells: &mut Slab<Placed<D>>,
+pub(crate) fn report_in<P: Timed, D: Dues>(
+    cells: &mut Slab<Placed<P, D>>,
     ticket: Ticket,
     report: Report,
 ) -> Result<Ack, HubFault>
@@ -71,11 +77,26 @@ pub(crate) fn report_in<D: Dues>(
     Err(HubFault::NoSuchCell)
 }
 
-/// Takes the ticket's cell out.
-pub(crate) fn take_from<D: Dues>(
-    cells: &mut Slab<Placed<D>>,
+/// Accepts a report that was judged possible in the ticket's cell.
+pub(crate) fn accept_in<P: Timed, D: Dues>(
+    cells: &mut Slab<Placed<P, D>>,
     ticket: Ticket,
-) -> Result<Controller<D>, HubFault>
+    possible: Possible,
+) -> Ack
+    requires { IsPossibleIn cells.old ticket possible }
+    ensures { IsReportedIn cells.old ticket possible.report result cells.new }
+{
+    match cells.get_mut(ticket.slot) {
+        Some(placed) => placed.controller.accept(possible),
+        None => unreachable!(),
+    }
+}
+
+/// Takes the ticket's cell out.
+pub(crate) fn take_from<P: Timed, D: Dues>(
+    cells: &mut Slab<Placed<P, D>>,
+    ticket: Ticket,
+) -> Result<Core<P, D>, HubFault>
     ensures dismissed { IfOk result (λ content. IsDismissedFrom cells.old ticket content cells.new) }
     ensures none { OnErr result ((next : ℕ) → cell_at (hub_of cells.old next) ticket ≡ None) }
     ensures fault { IfErr result (λ fault. fault ≡ HubFault.NoSuchCell) }

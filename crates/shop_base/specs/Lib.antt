@@ -1,6 +1,7 @@
 -- Reached by public clauses: to be read and believed.
 pub mod Shop
 pub mod Vectors
+pub mod Routes
 pub mod Work
 pub mod ShopFault
 pub mod Plan

@@ -8,6 +8,7 @@ ghost use Rattle.shop_base.specs.ShopFault.{AreRoutes, IsFirstFault, IsReached, 
 ghost use Rattle.shop_base.specs.Marks.{AreMarks, IsVisitedBefore};
 
 use crate::limits::{MAX_JOBS, MAX_MACHINES, MAX_NOMINAL};
+use crate::routes::Routes;
 use crate::shop_fault::ShopFault;
 use std::marker::Model;
 
@@ -31,19 +32,18 @@ pub struct Step {
 /// (Pinedo, Scheduling: `Jm`, here without recirculation).
 #[derive(Debug, Drop)]
 pub struct Shop {
-    machines: u32,
-    routes: Vec<Vec<Step>>,
+    pub(crate) machines: u32,
+    pub(crate) routes: Routes,
 }
 
 impl Model for Shop {
-    ghost use Rattle.shop_base.specs.Shop.{JobShop, IsShop};
-    ghost use Rattle.shop_base.specs.Vectors.{lists_of};
+    ghost use Rattle.shop_base.specs.{Routes.routes_in, Shop.JobShop, Shop.IsShop};
 
     ghost Value = { JobShop };
 
-    ghost view = { λ s. record { machines = s.machines; routes = lists_of s.routes.items } };
+    ghost view = { λ s. record { machines = s.machines; routes = routes_in s.routes } };
 
-    ghost invariant = { λ s. IsShop (record { machines = s.machines; routes = lists_of s.routes.items }) };
+    ghost invariant = { λ s. IsShop (record { machines = s.machines; routes = routes_in s.routes }) };
 }
 
 impl Shop {
@@ -58,7 +58,10 @@ impl Shop {
     {
         check_size(machines, &routes)?;
         check_routes(machines, &routes)?;
-        Ok(Shop { machines, routes })
+        Ok(Shop {
+            machines,
+            routes: Routes::Own(routes),
+        })
     }
 
     /// How many jobs there are.
@@ -66,7 +69,7 @@ impl Shop {
         ensures count { result ≡ length self.now.routes }
         ensures sound { IsShop self.now }
     {
-        self.routes.len() as u32
+        self.routes.rows().len() as u32
     }
 
     /// How many machines there are.
@@ -81,14 +84,14 @@ impl Shop {
     pub fn operations(&self) -> u64
         ensures { result ≡ operations_of self.now }
     {
-        operation_count(&self.routes)
+        operation_count(self.routes.rows())
     }
 
     /// The sum of all nominal times.
     pub fn work(&self) -> Moment
         ensures { result ≡ work_of self.now }
     {
-        total_work(&self.routes)
+        total_work(self.routes.rows())
     }
 
     /// The route of a job, none for a number that is no job's.
@@ -96,7 +99,7 @@ impl Shop {
         ensures { MatchOption result (length self.now.routes ≤ job)
             (λ route. slice_get self.now.routes job ≡ Some route.now) }
     {
-        self.routes.get(job as usize).map(|route| route.as_slice())
+        self.routes.row(job)
     }
 }
 

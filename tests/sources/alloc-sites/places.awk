@@ -280,7 +280,7 @@ function type_of(i, end, depth, name) {
 # whether out of memory may be made here: from an AllocError, in the arm of a fault of ours that says so, or where a fault is made of one of a
 # library that does
 function may_make(i, m) {
-  if (may_answer()) return 1
+  if (may_answer() || may_pass_on()) return 1
   if (from[open] == "") return 0
   if (from[open] == "AllocError") return token[i - 2] == into[open] || token[i - 2] == "Self"
   for (m = open; m > 0 && kind[m] != "match"; m--) continue
@@ -290,9 +290,14 @@ function may_make(i, m) {
 }
 
 # whether out of memory may be answered here: in the arm of a fault that says so
-function may_answer(m) {
+function may_answer() { return in_arm("^[A-Za-z]+::Memory$") }
+
+# whether it may be passed on here: in the arm of a result whose error says so, alone or before what is handed back
+function may_pass_on() { return in_arm("^}?Err\\(([A-Za-z]+::Memory|\\([A-Za-z]+::Memory,_\\))\\)$") }
+
+function in_arm(wanted, m) {
   for (m = open; m > 0 && kind[m] != "match"; m--) continue
-  return m > 0 && state[m] == "body" && guard[m] == "" && pattern[m] ~ /^[A-Za-z]+::Memory$/
+  return m > 0 && state[m] == "body" && guard[m] == "" && pattern[m] ~ wanted
 }
 
 function look_at_alloc_error(i) {
@@ -303,7 +308,7 @@ function look_at_alloc_error(i) {
   } else if (item == "type") {
     if (token[i + 1] == ";") report(i, "AllocError under another name")
   } else if (!in_pattern() && (item == "value" || in_function[open])) {
-    if (!(token[i + 1] == "::" && token[i + 2] == "from") && token[i + 1] !~ /^[>|]$/) report(i, "AllocError as a value")
+    if (!(token[i + 1] == "::" && token[i + 2] == "from") && token[i + 1] !~ /^[>|]$/ && !may_pass_on()) report(i, "AllocError as a value")
   }
 }
 

@@ -1,7 +1,7 @@
 use Rattle.std.proofs.Common.{drop}
 use Rattle.std.specs.Prelude.{◌↔◌}
-use Rattle.cell_drive.specs.{ManyCells.AreAllDone, Numbers.planned_cells}
+use Rattle.cell_drive.specs.{ManyCells.AreAllDone, Tickets.cells_of}
 use Rattle.cell_drive.proofs.hub.all_done.Given as goal
 
 abbrev pub invariant-loop-cell : goal.invariant-loop-cell
-invariant-loop-cell g l = AreAllDone (planned_cells l.cells) ↔ AreAllDone (drop l.cell-index (planned_cells l.cells))
+invariant-loop-cell g l = AreAllDone (cells_of l.hub l.tickets) ↔ AreAllDone (drop l.cell (cells_of l.hub l.tickets))

@@ -3,4 +3,4 @@ use Rattle.shop_base.proofs.Bounds.{work_of-le}
 use Rattle.shop_base.proofs.shop.Shop.work.Goals as goal
 
 pub total_work-requires : goal.total_work-requires
-total_work-requires c = rw c.deref.ensures.value (omega (arith, work_of-le _ c.self.invariant))
+total_work-requires c = rw c.rows.ensures (omega (arith, work_of-le _ c.self.invariant))

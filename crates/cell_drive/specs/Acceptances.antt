@@ -1,0 +1,19 @@
+-- What is to be accepted. No public clause cites this module.
+use Rattle.std.specs.Prelude.{◌≡◌, ℕ, List}
+use Rattle.cell_control.specs.{Control.Control, Judged.IsJudged}
+use Rattle.event_lines.specs.{declared.requests.Claim.Claim, declared.requests.Request.Request, Requests.claimed}
+use Rattle.event_lines.specs.declared.requests.Request.TheVariants.{Claim as ClaimRequest}
+use Rattle.cell_drive.specs.{declared.protocol.Protocol.Protocol, declared.requests.Acceptance.Acceptance}
+use Rattle.cell_drive.specs.{Refusals.IsAdmissible, ProtocolText.printed_overdue, Replies.reported_lines}
+
+-- the request claims what is accepted: so it was judged, and this is what the line that it was late says to be overdue
+pub record IsToAccept (protocol : Protocol) (v : Control) (request : Request) (acceptance : Acceptance) : Type 0 where
+  pub claim : Claim
+  pub asked : request ≡ ClaimRequest claim
+  pub admissible : IsAdmissible protocol v.planned v.cell claim
+  pub judged : IsJudged v.planned v.cell (claimed claim) acceptance.possible
+  pub overdue_is : acceptance.overdue ≡ printed_overdue protocol v.planned v.cell (claimed claim)
+
+-- its lines, with this before each, where the controller is such behind it
+abbrev pub accepted_lines : Protocol → List ℕ → Control → Acceptance → List ℕ
+accepted_lines protocol prefix new acceptance = reported_lines protocol prefix new acceptance.possible.report acceptance.possible.late acceptance.overdue

@@ -1,5 +1,0 @@
-use Rattle.std.proofs.Common.{rules}
-use Rattle.cell_hub.proofs.hub.Hub.with_serial.Goals as goal
-
-pub returns : goal.returns
-returns g c = search rules depth 2

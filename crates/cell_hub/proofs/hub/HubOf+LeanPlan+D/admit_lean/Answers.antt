@@ -1,0 +1,5 @@
+use Rattle.cell_hub.proofs.Called.{is_admitted}
+use Rattle.cell_hub.proofs.hub.HubOf+LeanPlan+D.admit_lean.Goals as goal
+
+pub returns-in-Ok-seat-clause-admitted : goal.returns-in-Ok-seat-clause-admitted
+returns-in-Ok-seat-clause-admitted g c = is_admitted _ _ c.args.plan _ c.in-Ok.controller c.in-Ok-seat.ensures.seated c.in-Ok.ensures.start

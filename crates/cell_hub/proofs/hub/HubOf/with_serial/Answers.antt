@@ -1,0 +1,5 @@
+use Rattle.std.proofs.Common.{rules}
+use Rattle.cell_hub.proofs.hub.HubOf.with_serial.Goals as goal
+
+pub returns : goal.returns
+returns g c = search rules depth 2
