@@ -12,3 +12,6 @@ pub mod KeptRuns
 pub mod KeptByBoth
 pub mod OneCarried
 pub mod Reaching
+pub mod Copies
+pub mod SameFronts
+pub mod Reorders

@@ -8,6 +8,7 @@ pub mod KeptLaw
 pub mod Readings
 pub mod Recasts
 pub mod Rests
+pub mod Reordered
 pub mod Standings
 pub mod Tables
 -- Of proofs and private contracts alone.

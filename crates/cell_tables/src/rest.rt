@@ -21,8 +21,8 @@ use std::marker::Model;
 /// searches, and whatever goes on with the cell.
 #[derive(Debug, Drop)]
 pub struct Rest<P: Planned> {
-    cell: WorkCell<P>,
-    present: Moment,
+    pub(crate) cell: WorkCell<P>,
+    pub(crate) present: Moment,
 }
 
 impl<P: Planned> Model for Rest<P> {

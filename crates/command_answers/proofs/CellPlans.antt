@@ -1,12 +1,16 @@
 -- Plans that are loaded one after another.
 use Rattle.std.proofs.Common.{◌≡◌, ℕ, ◌+◌, ◌<◌, List, [], ◌∷◌, ◌++◌, Option, None, Some, Result, Ok, Err, length, inl, inr, refl, subst, sym, ap, ◌∙◌, map, drop, get_or, string_bytes, String, Global}
 use Rattle.std.proofs.lemmas.List.{at_drop_more}
+use Rattle.shop_base.specs.Shop.{JobShop}
+use Rattle.orlib_read.specs.declared.named.Named.{Named}
 use Rattle.plan_verifier.specs.Accepted.{VerifiedPlan}
 use Rattle.command_answers.specs.declared.cells.Cells.{Cells}
 use Rattle.command_answers.specs.declared.command_fault.CommandFault.{CommandFault}
 use Rattle.command_answers.specs.declared.loading.Loaded.{Loaded}
 use Rattle.command_answers.specs.Checks.{accepted_in}
-use Rattle.command_answers.specs.Cells.{AddsCell, AfterPlan, IsAdded, LoadsOne, LoadsEach}
+use Rattle.command_answers.specs.declared.command_fault.CommandFault.TheVariants.{Memory}
+use Rattle.command_answers.specs.{Readings.IsInstanceRead, Steps.IsOrMemory}
+use Rattle.command_answers.specs.Cells.{AddsCell, AfterPlan, IsAdded, IsReadBefore, IsShopRead, LoadsFor, LoadsOne, LoadsEach}
 
 -- what the plans that are left come to, all plans come to
 abbrev pub Carries : {W : Type 0} → (W → List ℕ → Result (List ℕ) CommandFault → W → Type 0) → List ℕ → Option (List ℕ) → List VerifiedPlan → List (List ℕ) → W → List (List ℕ) → W → Type 0
@@ -72,3 +76,44 @@ module _ {W : Type 0} (gives : W → List ℕ → Result (List ℕ) CommandFault
     pub ended_here : (outcome : Result Cells CommandFault) → ended ≡ Some outcome → LoadsEach gives text name [] all start outcome mid
     ended_here outcome some = from_here outcome mid
         (subst (λ (e : Option (Result Cells CommandFault)). AddsCell gives text name cells path now e more mid) some adds (map string_bytes (drop (i + 1) paths)))
+
+-- ---- the instance, which is read once
+
+memory_read : (text : List ℕ) (name : Option (List ℕ)) → IsInstanceRead text name (Err Memory)
+memory_read text name = record { found = tt; only = λ description shop parses. refl; fault = tt; first = λ fault first. tt }
+
+-- the shop that was read is given once more, unless memory ran out
+pub read_again : (text : List ℕ) (name : Option (List ℕ)) (read : JobShop) (one : Result JobShop CommandFault) → IsReadBefore text name (Some read) → IsOrMemory (λ (s : JobShop). s ≡ read) one → IsShopRead text name one
+read_again text name read (Ok shop) (named, is, same) again = (Ok named, is, same ∙ sym again)
+read_again text name read (Err fault) before memory = (Err Memory, memory_read text name, sym memory)
+
+-- one that is read now is read before the next plan
+pub read_before : (text : List ℕ) (name : Option (List ℕ)) (shop : JobShop) → IsShopRead text name (Ok shop) → IsReadBefore text name (Some shop)
+read_before text name shop (Ok named, is, same) = (named, is, same)
+read_before text name shop (Err fault, is, wrong) = absurd wrong
+
+-- its routes are laid where others can read them, unless memory ran out
+pub now_shared : (text : List ℕ) (name : Option (List ℕ)) (named : Named) (shared : JobShop) → IsInstanceRead text name (Ok named) → shared ≡ named.shop → IsShopRead text name (Ok shared)
+now_shared text name named shared is same = (Ok named, is, sym same)
+
+pub not_shared : (text : List ℕ) (name : Option (List ℕ)) (fault : CommandFault) → fault ≡ Memory → IsShopRead text name (Err fault)
+not_shared text name fault memory = (Err Memory, memory_read text name, sym memory)
+
+pub not_read : (text : List ℕ) (name : Option (List ℕ)) (fault : CommandFault) → IsInstanceRead text name (Err fault) → IsShopRead text name (Err fault)
+not_read text name fault is = (Err fault, is, refl)
+
+module _ {W : Type 0} (gives : W → List ℕ → Result (List ℕ) CommandFault → W → Type 0) (text : List ℕ) (name : Option (List ℕ)) (path : List ℕ) (before : W) where
+  -- what comes of a plan for the shop of the instance
+  pub loads_for : (shop : JobShop) (outcome : Result Loaded CommandFault) (after : W) → IsShopRead text name (Ok shop) → LoadsFor gives shop path before outcome after → LoadsOne gives text name path before outcome after
+  loads_for shop outcome after (Ok named, is, same) loads = record {
+    came = Ok named;
+    mid = before;
+    is = (is, refl);
+    goes_on = subst (λ (s : JobShop). LoadsFor gives s path before outcome after) (sym same) loads;
+  }
+  loads_for shop outcome after (Err fault, is, wrong) loads = absurd wrong
+
+  -- and where that can't be read
+  pub loads_none : (fault : CommandFault) → IsShopRead text name (Err fault) → LoadsOne gives text name path before (Err fault) before
+  loads_none fault (Ok named, is, wrong) = absurd wrong
+  loads_none fault (Err same, is, which) = record { came = Err same; mid = before; is = (is, refl); goes_on = (ap Err (sym which), refl) }

@@ -5,21 +5,18 @@ use Rattle.people_names.specs.NameBooks.{NameBook}
 use Rattle.plan_decide.specs.declared.aim.Aim.{Aim}
 use Rattle.plan_decide.specs.declared.aim.Aim.TheVariants.{Promises, Least}
 use Rattle.plan_decide.specs.declared.aim.Objective.TheVariants.{Makespan, Leaving}
-use Rattle.plan_decide.specs.declared.decide_fault.DecideFault.{DecideFault}
-use Rattle.plan_decide.specs.declared.decide_fault.DecideFault.TheVariants.{JobOutOfRange, Run, Memory as OutOfMemory}
 use Rattle.plan_decide.specs.declared.decided.Decided.{Decided}
 use Rattle.plan_decide.specs.declared.decided.Decided.TheVariants.{Kept, Best, Never, Cyclic, Open}
 use Rattle.plan_decide.specs.declared.decided.Within.{Within}
 use Rattle.plan_decide.specs.Cases.{Case}
 use Rattle.plan_decide.specs.Pasts.{whole_case}
-use Rattle.plan_decide.specs.Promises.{asked_for, IsInRange}
-use Rattle.plan_decide.specs.Excluding.{AreAllCyclic, AreExclusions, NoneIsAlone}
-use Rattle.plan_decide.specs.Decisions.{IsBest, IsDecideFault, IsKept, OnBest, OnCyclic, OnKept, OnNever, OnOpen}
+use Rattle.plan_decide.specs.Promises.{IsInRange}
+use Rattle.plan_decide.specs.Decisions.{IsBest, IsDecided, IsKept}
 use Rattle.command_answers.specs.declared.answer.Answer.{Answer}
 use Rattle.command_answers.specs.declared.command_fault.CommandFault.{CommandFault}
 use Rattle.command_answers.specs.declared.command_fault.CommandFault.TheVariants.{Instance, Plan, Names, Read, Write, InputTooLong, Log, LogInUse, Memory}
 use Rattle.command_answers.specs.DecisionLines.{within_line}
-use Rattle.command_answers.specs.Deciding.{IsAnswerable, IsDecidedAnswer, IsDecisionAnswer, IsUndecidedAnswer, job_of}
+use Rattle.command_answers.specs.Deciding.{IsDecidedAnswer, IsDecisionAnswer, job_of}
 use Rattle.command_answers.specs.Documents.{IsDocumentAnswer, IsHeadedAnswer}
 
 module _ (names : NameBook) (t : Case) (aim : Aim) where
@@ -51,34 +48,18 @@ module _ (names : NameBook) (t : Case) (aim : Aim) where
   best_is plan within (Err Memory) is text = tt
 
   -- what is answered of a decision
-  pub decided_is : {K : Type 0} (planned : K → PlannedShop) (decided : Decided K) (outcome : Result Answer CommandFault) → OnKept (λ k. IsKept t aim (planned k)) decided → OnBest (λ k within. IsBest t aim (planned k) within) decided
-      → OnNever (AreExclusions (asked_for t aim)) decided → OnCyclic (AreAllCyclic t) decided → OnOpen (NoneIsAlone (asked_for t aim)) decided
-      → IsDecidedAnswer names planned decided outcome → IsDecisionAnswer names t aim outcome
-  decided_is planned (Kept plan) outcome kept best never cyclic left_open text = kept_is (planned plan) outcome kept text
-  decided_is planned (Best plan within) outcome kept best never cyclic left_open text = best_is (planned plan) within outcome best text
-  decided_is planned (Never found back) (Ok answer) kept best never cyclic left_open text =
-      inr (inr (inl (record { found = found; are = never; lines = text.0; refused = text.1 })))
-  decided_is planned (Never found back) (Err fault) kept best never cyclic left_open text = rw text tt
-  decided_is planned (Cyclic back) (Ok answer) kept best never cyclic left_open text = inr (inr (inr (inl (record { cyclic = cyclic; line = text.0; refused = text.1 }))))
-  decided_is planned (Cyclic back) (Err fault) kept best never cyclic left_open text = rw text tt
-  decided_is planned (Open back) (Ok answer) kept best never cyclic left_open text = inr (inr (inr (inr (record { none_alone = left_open; line = text.0; refused = text.1 }))))
-  decided_is planned (Open back) (Err fault) kept best never cyclic left_open text = rw text tt
+  pub decided_is : (decided : Decided) (outcome : Result Answer CommandFault) → IsDecided t aim decided → IsDecidedAnswer names decided outcome → IsDecisionAnswer names t aim outcome
+  decided_is (Kept plan) outcome is text = kept_is plan outcome is.kept text
+  decided_is (Best plan within) outcome is text = best_is plan within outcome is.best text
+  decided_is (Never found) (Ok answer) is text = inr (inr (inl (record { found = found; are = is.never; lines = text.0; refused = text.1 })))
+  decided_is (Never found) (Err fault) is text = rw text tt
+  decided_is Cyclic (Ok answer) is text = inr (inr (inr (inl (record { cyclic = is.cyclic; line = text.0; refused = text.1 }))))
+  decided_is Cyclic (Err fault) is text = rw text tt
+  decided_is Open (Ok answer) is text = inr (inr (inr (inr (record { none_alone = is.undecided; line = text.0; refused = text.1 }))))
+  decided_is Open (Err fault) is text = rw text tt
 
 -- the job whose leaving is asked for is one of the shop
 pub in_range : (p : PlannedShop) (aim : Aim) → IfSome (job_of aim) (λ j. j < jobs p) → IsInRange (whole_case p) aim
 in_range p Promises there = tt
 in_range p (Least Makespan) there = tt
 in_range p (Least (Leaving j)) there = there
-
--- why nothing is decided can be said
-pub is_answerable : (t : Case) (aim : Aim) (fault : DecideFault) → IsInRange t aim → IsDecideFault t aim fault → IsAnswerable fault
-is_answerable t aim JobOutOfRange range is = is range
-is_answerable t aim OutOfMemory range is = tt
-is_answerable t aim (Run fault) range is = absurd is
-
--- what is answered where nothing is decided
-pub undecided_is : (names : NameBook) (t : Case) (aim : Aim) (fault : DecideFault) (outcome : Result Answer CommandFault) → IsDecideFault t aim fault → IsUndecidedAnswer fault outcome
-    → IsDecisionAnswer names t aim outcome
-undecided_is names t aim JobOutOfRange outcome is text = absurd text
-undecided_is names t aim OutOfMemory outcome is text = rw text tt
-undecided_is names t aim (Run fault) outcome is text = absurd is

@@ -7,11 +7,11 @@ use Rattle.plan_verifier.specs.declared.verdict.Verdict.TheVariants.{Accepted, R
 use Rattle.plan_verifier.specs.Verdicts.{SaysAccepted}
 use Rattle.plan_seek.specs.declared.search.TheConstants.{MAX_ROUNDS}
 use Rattle.plan_improve.specs.declared.improve_fault.ImproveFault.{ImproveFault}
-use Rattle.plan_improve.specs.declared.improve_fault.ImproveFault.TheVariants.{TooManyRounds, Run, Memory as OutOfMemory}
+use Rattle.plan_improve.specs.declared.improve_fault.ImproveFault.TheVariants.{TooManyRounds, Memory as OutOfMemory}
 use Rattle.plan_improve.specs.Runs.{Asked}
 use Rattle.plan_verifier.specs.Seen.{judged}
 use Rattle.plan_improve.specs.Faults.{IsImproveFault}
-use Rattle.command_answers.specs.ImprovingRests.{HasAnswer, IsUnfoundAnswer}
+use Rattle.command_answers.specs.ImprovingRests.{IsUnfoundAnswer}
 use Rattle.command_answers.specs.declared.answer.Answer.{Answer}
 use Rattle.command_answers.specs.declared.command_fault.CommandFault.{CommandFault}
 use Rattle.command_answers.specs.declared.command_fault.CommandFault.TheVariants.{Instance, Plan, Names, Read, Write, InputTooLong, Log, LogInUse, Memory}
@@ -22,12 +22,6 @@ use Rattle.command_answers.specs.Improving.{IsBest, IsStatusOf, IsBestAnswer}
 status_is : (verdict : Verdict) → SaysAccepted verdict ↔ IsAcceptable (judged verdict) → IsStatusOf (judged verdict) (verdict_status verdict)
 status_is (Accepted verified) exact = inl (exact.0 tt, refl)
 status_is (Refused back why) exact = inr ((λ accepted. exact.1 accepted), refl)
-
--- there is an answer for why no plan is given
-pub no_best_answered : (rounds : ℕ) (fault : ImproveFault) → IsImproveFault rounds fault → HasAnswer fault
-no_best_answered rounds TooManyRounds is = tt
-no_best_answered rounds (Run fault) is = absurd is
-no_best_answered rounds OutOfMemory is = tt
 
 module _ (made : Asked) (rounds : ℕ) (start : PlannedShop) where
   -- the text of a plan that was judged is the answer
@@ -55,4 +49,3 @@ module _ (made : Asked) (rounds : ℕ) (start : PlannedShop) where
   no_best_is TooManyRounds (Ok answer) many line = inr (record { many_rounds = many; line = line.0; refused = line.1 })
   no_best_is TooManyRounds (Err fault) many line = rw line tt
   no_best_is OutOfMemory outcome many line = rw line tt
-  no_best_is (Run fault) outcome many line = absurd many

@@ -8,6 +8,7 @@ pub mod NamesAndLogs
 pub mod RestAnswers
 pub mod RevisedAnswers
 pub mod RunFaults
+pub mod KeptLogs
 pub mod ImproveRestLines
 pub mod PictureAnswers
 pub mod CellPlans

@@ -1,5 +1,7 @@
 -- What loading the plans of several cells comes to.
 use Rattle.std.specs.Prelude.{◌≡◌, ◌⊎◌, ◌++◌, ◌∷◌, [], ℕ, List, map, Option, None, Some, Result, Ok, Err, String, string_bytes, length, codes, decimal}
+use Rattle.shop_base.specs.Shop.{JobShop}
+use Rattle.orlib_read.specs.declared.named.Named.{Named}
 use Rattle.plan_verifier.specs.Accepted.{VerifiedPlan}
 use Rattle.command_answers.specs.declared.answer.Answer.{Answer}
 use Rattle.command_answers.specs.declared.cells.Cells.{Cells}
@@ -42,10 +44,30 @@ IsAdded cells (Err other) (Some outcome) more = IsCellLine (length cells) other 
 abbrev pub paths_of : {A : Type 0} → List (String A) → List (List ℕ)
 paths_of paths = map string_bytes paths
 
+-- the shop that was read of the text before, if one was
+abbrev pub IsReadBefore : List ℕ → Option (List ℕ) → Option JobShop → Type 0
+IsReadBefore text name None = Unit {0}
+IsReadBefore text name (Some shop) = (named : Named) × IsInstanceRead text name (Ok named) × (named.shop ≡ shop)
+
+-- the shop of an instance that is read, or the fault
+abbrev pub IsShopOf : Result Named CommandFault → Result JobShop CommandFault → Type 0
+IsShopOf (Ok named) (Ok shop) = named.shop ≡ shop
+IsShopOf (Ok named) (Err fault) = ⊥
+IsShopOf (Err fault) (Ok shop) = ⊥
+IsShopOf (Err fault) (Err same) = fault ≡ same
+
+-- the shop of the instance in the text is read, or refused as that is
+abbrev pub IsShopRead : List ℕ → Option (List ℕ) → Result JobShop CommandFault → Type 0
+IsShopRead text name read = (came : Result Named CommandFault) × IsInstanceRead text name came × IsShopOf came read
+
 module _ {W : Type 0} (gives : W → List ℕ → Result (List ℕ) CommandFault → W → Type 0) where
+  -- for this shop the plan's file is asked for
+  abbrev pub LoadsFor : JobShop → List ℕ → W → Result Loaded CommandFault → W → Type 0
+  LoadsFor shop path = Then (ReadsPlan gives path) (λ plan. Concludes (IsOrMemory (IsLoaded (record { shop = shop; plan = plan }))))
+
   -- the instance is read from its text, and then the plan's file is asked for
   abbrev pub LoadsOne : List ℕ → Option (List ℕ) → List ℕ → W → Result Loaded CommandFault → W → Type 0
-  LoadsOne text name path = Then (Concludes (IsInstanceRead text name)) (λ named. Then (ReadsPlan gives path) (λ plan. Concludes (IsOrMemory (IsLoaded (record { shop = named.shop; plan = plan })))))
+  LoadsOne text name path = Then (Concludes (IsInstanceRead text name)) (λ named. LoadsFor named.shop path)
 
   -- the plans are loaded one after another, after these
   abbrev pub LoadsEach : List ℕ → Option (List ℕ) → List VerifiedPlan → List (List ℕ) → W → Result Cells CommandFault → W → Type 0

@@ -8,8 +8,6 @@ use Rattle.plan_text.specs.Documents.{IsPlanText}
 use Rattle.plan_decide.specs.declared.aim.Aim.{Aim}
 use Rattle.plan_decide.specs.declared.aim.Aim.TheVariants.{Promises, Least}
 use Rattle.plan_decide.specs.declared.aim.Objective.TheVariants.{Makespan, Leaving}
-use Rattle.plan_decide.specs.declared.decide_fault.DecideFault.{DecideFault}
-use Rattle.plan_decide.specs.declared.decide_fault.DecideFault.TheVariants.{JobOutOfRange, Run, Memory as OutOfMemory}
 use Rattle.plan_decide.specs.declared.decided.Decided.{Decided}
 use Rattle.plan_decide.specs.declared.decided.Decided.TheVariants.{Kept, Best, Never, Cyclic, Open}
 use Rattle.plan_decide.specs.declared.decided.Within.{Within}
@@ -23,7 +21,6 @@ use Rattle.command_answers.specs.declared.command_fault.CommandFault.{CommandFau
 use Rattle.command_answers.specs.declared.command_fault.CommandFault.TheVariants.{Plan, Memory}
 use Rattle.command_answers.specs.DecisionLines.{never_lines, within_line}
 use Rattle.command_answers.specs.Documents.{IsDocumentOf, IsDocumentAnswer, IsHeadedBy, IsHeadedAnswer}
-use Rattle.command_answers.specs.Rests.{HasLine, IsRunFaultAnswer}
 use Rattle.command_answers.specs.Steps.{IsOrMemory}
 
 -- the text of an accepted plan that keeps all budgets
@@ -64,11 +61,6 @@ job_of Promises = None
 job_of (Least Makespan) = None
 job_of (Least (Leaving j)) = Some j
 
--- the fault of a command that the decision's is, if memory ran out
-abbrev pub decide_command_fault : DecideFault → Option CommandFault
-decide_command_fault OutOfMemory = Some Memory
-decide_command_fault fault = None
-
 -- what is printed where the numbers are sound, and the job that is asked for is one of the shop
 abbrev pub IsDecisionText : NameBook → Case → Aim → Answer → Type 0
 IsDecisionText names t aim answer =
@@ -93,21 +85,9 @@ abbrev pub IsLineRefused : List ℕ → Answer → Type 0
 IsLineRefused text answer = (answer.text.items ≡ text) × (answer.status ≡ 1)
 
 -- what is answered of a decision: its lines, its plan's text, that this isn't read as that plan, or that memory ran out
-abbrev pub IsDecidedAnswer : {K : Type 0} → NameBook → (K → PlannedShop) → Decided K → Result Answer CommandFault → Type 0
-IsDecidedAnswer names planned (Kept plan) = IsDocumentAnswer (planned plan).plan 0
-IsDecidedAnswer names planned (Best plan within) = IsHeadedAnswer (within_line within) (planned plan).plan 0
-IsDecidedAnswer names planned (Never found back) = IsOrMemory (IsLineRefused (never_lines names found.listed.items))
-IsDecidedAnswer names planned (Cyclic back) = IsOrMemory (IsLineRefused (codes "never without a cycle\n"))
-IsDecidedAnswer names planned (Open back) = IsOrMemory (IsLineRefused (codes "open\n"))
-
--- that nothing is decided is answered once the job that is asked for is known to be one of the shop
-abbrev pub IsAnswerable : DecideFault → Type 0
-IsAnswerable JobOutOfRange = ⊥
-IsAnswerable (Run fault) = HasLine fault
-IsAnswerable OutOfMemory = Unit {0}
-
--- what is answered where nothing is decided: the line of the log's first fault, or of a moment that is past; or that memory ran out
-abbrev pub IsUndecidedAnswer : DecideFault → Result Answer CommandFault → Type 0
-IsUndecidedAnswer JobOutOfRange outcome = ⊥
-IsUndecidedAnswer (Run fault) outcome = IsRunFaultAnswer fault outcome
-IsUndecidedAnswer OutOfMemory outcome = outcome ≡ Err Memory
+abbrev pub IsDecidedAnswer : NameBook → Decided → Result Answer CommandFault → Type 0
+IsDecidedAnswer names (Kept plan) = IsDocumentAnswer plan.plan 0
+IsDecidedAnswer names (Best plan within) = IsHeadedAnswer (within_line within) plan.plan 0
+IsDecidedAnswer names (Never found) = IsOrMemory (IsLineRefused (never_lines names found.listed.items))
+IsDecidedAnswer names Cyclic = IsOrMemory (IsLineRefused (codes "never without a cycle\n"))
+IsDecidedAnswer names Open = IsOrMemory (IsLineRefused (codes "open\n"))

@@ -1,7 +1,7 @@
 -- A plan with the orders of the serial one.
 use Rattle.shop_base.specs.Plan.{PlannedShop}
 use Rattle.plan_seek.specs.Orders.{serial_order}
-use Rattle.plan_improve.specs.Reordered.{reordered}
+use Rattle.cell_tables.specs.Reordered.{reordered}
 
 -- the serial plan with the numbers of this one
 abbrev pub serially : PlannedShop → PlannedShop

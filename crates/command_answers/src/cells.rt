@@ -1,9 +1,10 @@
 //! The plans of the command `hub`.
 
-ghost use Rattle.std.specs.Prelude.{[]};
+ghost use Rattle.std.specs.Prelude.{◌≡◌, [], ◌∷◌, ◌++◌, OnOk};
 ghost use Rattle.std.specs.Option.{option_copied};
-ghost use Rattle.command_answers.specs.Checks.{accepted_in};
-ghost use Rattle.command_answers.specs.Cells.{IsCellLine, paths_of, AddsCell, IsAdded, LoadsOne, LoadsEach, LoadsCells};
+ghost use Rattle.command_answers.specs.{Checks.accepted_in, Steps.IsOrMemory};
+ghost use Rattle.command_answers.specs.Cells.{IsCellLine, paths_of, AddsCell, IsAdded, LoadsOne, LoadsFor, LoadsEach};
+ghost use Rattle.command_answers.specs.Cells.{IsReadBefore, IsShopRead, LoadsCells};
 
 use crate::answer::{Answer, Outcome};
 use crate::checks::loaded_answer;
@@ -13,14 +14,16 @@ use crate::lines::push_fact;
 use crate::loading::{Loaded, judged};
 use crate::readings::{load_instance, plan};
 use crate::texts::Texts;
+use cell_control::LeanPlan;
 use plan_verifier::Verified;
+use shop_base::{SharedShop, Shop};
 use std::alloc::{AllocError, Global};
 
 /// Several plans that are accepted, or the line of one that isn't.
 #[derive(Drop)]
 pub enum Cells {
     /// All are accepted.
-    Accepted(Vec<Verified>),
+    Accepted(Vec<LeanPlan>),
     /// The line of the first that isn't.
     Line(Answer),
 }
@@ -50,9 +53,17 @@ fn load_each<T: Texts>(
 ) -> Outcome<Cells>
     ensures { LoadsEach T.gives text.now (option_copied name.entry) [] (paths_of plans.now) texts.old result texts.new }
 {
-    let mut cells = Vec::new(alloc);
+    let (mut shop, mut cells) = (None, Vec::new(alloc));
     for path in plans {
-        match add_cell(alloc, texts, text, name, path.as_str(), &mut cells) {
+        match add_cell(
+            alloc,
+            texts,
+            text,
+            name,
+            path.as_str(),
+            &mut shop,
+            &mut cells,
+        ) {
             None => {}
             Some(ended) => {
                 drop(cells);
@@ -63,35 +74,47 @@ fn load_each<T: Texts>(
     Ok(Cells::Accepted(cells))
 }
 
-/// Adds the plan of a file, if it is accepted, for the instance in the text; else gives what the loading ends with.
+/// Adds the plan of a file, if it is accepted, for the instance in the text, which is read once; else gives what the
+/// loading ends with.
 fn add_cell<T: Texts>(
     alloc: Global,
     texts: &mut T,
     text: &[u8],
     name: Option<&[u8]>,
     path: &str,
-    cells: &mut Vec<Verified>,
+    shop: &mut Option<SharedShop>,
+    cells: &mut Vec<LeanPlan>,
 ) -> Option<Outcome<Cells>>
-    ensures { AddsCell T.gives text.now (option_copied name.entry) cells.old.items path.now
+    requires { IsReadBefore text.now (option_copied name) shop.old }
+    ensures read { IsReadBefore text.now (option_copied name.entry) shop.new }
+    ensures added { AddsCell T.gives text.now (option_copied name.entry) cells.old.items path.now
         texts.old result cells.new.items texts.new }
 {
-    match load_one(alloc, texts, text, name, path) {
+    match load_one(alloc, texts, text, name, path, shop) {
         Ok(loaded) => add_loaded(alloc, loaded, cells),
         Err(fault) => Some(Err(fault)),
     }
 }
 
 /// Adds a plan, if it is accepted; else gives what the loading ends with: its line, or that memory ran out.
-fn add_loaded(alloc: Global, loaded: Loaded, cells: &mut Vec<Verified>) -> Option<Outcome<Cells>>
+fn add_loaded(alloc: Global, loaded: Loaded, cells: &mut Vec<LeanPlan>) -> Option<Outcome<Cells>>
     ensures { IsAdded cells.old.items (accepted_in loaded) result cells.new.items }
 {
     match loaded.accepted() {
-        Ok(verified) => match cells.push(verified).map_err(AllocError::from) {
+        Ok(verified) => match add_lean(alloc, verified, cells) {
             Ok(()) => None,
             Err(error) => Some(Err(CommandFault::from(error))),
         },
         Err(other) => Some(cell_line(alloc, cells.len() as u64, other)),
     }
+}
+
+/// Adds an accepted plan, of which no more is kept than its cell needs.
+fn add_lean(alloc: Global, verified: Verified, cells: &mut Vec<LeanPlan>) -> Result<(), AllocError>
+    ensures { OnOk result (cells.new.items ≡ cells.old.items ++ verified ∷ []) }
+{
+    let plan = LeanPlan::of(alloc, verified)?;
+    cells.push(plan).map_err(AllocError::from)
 }
 
 /// The verdict on the plan of a file, for the instance in the text.
@@ -101,12 +124,63 @@ fn load_one<T: Texts>(
     text: &[u8],
     name: Option<&[u8]>,
     path: &str,
+    shop: &mut Option<SharedShop>,
 ) -> Outcome<Loaded>
-    ensures { LoadsOne T.gives text.now (option_copied name.entry) path.now texts.old result texts.new }
+    requires { IsReadBefore text.now (option_copied name) shop.old }
+    ensures read { IsReadBefore text.now (option_copied name.entry) shop.new }
+    ensures loaded { LoadsOne T.gives text.now (option_copied name.entry) path.now texts.old result texts.new }
 {
-    let shop = load_instance(alloc, text, name)?.shop;
+    let shop = shop_of(alloc, text, name, shop)?;
+    load_for(alloc, texts, shop, path)
+}
+
+/// The verdict on the plan of a file, for this shop.
+fn load_for<T: Texts>(alloc: Global, texts: &mut T, shop: Shop, path: &str) -> Outcome<Loaded>
+    ensures { LoadsFor T.gives shop path.now texts.old result texts.new }
+{
     let plan = plan(alloc, texts, path)?;
     judged(alloc, ParsedInputs { shop, plan })
+}
+
+/// The shop of the instance in the text, which is read only if it hasn't been. All plans' shops read the same routes.
+fn shop_of(
+    alloc: Global,
+    text: &[u8],
+    name: Option<&[u8]>,
+    shop: &mut Option<SharedShop>,
+) -> Outcome<Shop>
+    requires { IsReadBefore text.now (option_copied name) shop.old }
+    ensures kept { IsReadBefore text.now (option_copied name.entry) shop.new }
+    ensures read { IsShopRead text.now (option_copied name.entry) result }
+{
+    if let Some(shared) = shop.as_ref() {
+        return one_of(shared);
+    }
+    let shared = read_shared(alloc, text, name)?;
+    let one = one_of(&shared);
+    *shop = Some(shared);
+    one
+}
+
+/// The shared shop once more.
+fn one_of(shared: &SharedShop) -> Outcome<Shop>
+    ensures { IsOrMemory (λ shop. shop ≡ shared.now) result }
+{
+    match shared.shop() {
+        Ok(shop) => Ok(shop),
+        Err(error) => Err(CommandFault::from(error)),
+    }
+}
+
+/// The shop of the instance in the text, ready to be shared.
+fn read_shared(alloc: Global, text: &[u8], name: Option<&[u8]>) -> Outcome<SharedShop>
+    ensures { IsShopRead text.now (option_copied name.entry) result }
+{
+    let named = load_instance(alloc, text, name)?;
+    match SharedShop::new(alloc, named.shop) {
+        Ok(shared) => Ok(shared),
+        Err(error) => Err(CommandFault::from(error)),
+    }
 }
 
 /// The line of the plan of this number, which isn't accepted: the number, a space, and the line of the plan alone.

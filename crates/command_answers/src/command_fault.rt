@@ -6,7 +6,6 @@ ghost use Rattle.command_answers.specs.Plans.{plan_command_fault};
 ghost use Rattle.command_answers.specs.Naming.{names_command_fault};
 ghost use Rattle.command_answers.specs.Search.{search_command_fault};
 ghost use Rattle.command_answers.specs.ImprovingRests.{improve_command_fault};
-ghost use Rattle.command_answers.specs.Deciding.{decide_command_fault};
 ghost use Rattle.command_answers.specs.LogLines.{audit_command_fault};
 ghost use Rattle.command_answers.specs.Moves.{moves_command_fault};
 ghost use Rattle.command_answers.specs.Revising.{unrevised_of, unwritten_fault};
@@ -15,7 +14,6 @@ ghost use Rattle.command_answers.specs.Statuses.{status_of};
 use cell_control::RestFault;
 use orlib_read::{NotWritten, OrFault};
 use people_names::NamesFault;
-use plan_decide::DecideFault;
 use plan_improve::ImproveFault;
 use plan_revise::{ChangeFault, NotRevised};
 use plan_seek::SeekFault;
@@ -160,17 +158,6 @@ impl From<ImproveFault> for Unanswered {
     fn from(cause: ImproveFault) -> Unanswered {
         match cause {
             ImproveFault::Memory => Unanswered(Some(CommandFault::Memory)),
-            _ => Unanswered(None),
-        }
-    }
-}
-
-impl From<DecideFault> for Unanswered {
-    ghost from_gives = { λ cause unanswered. unanswered.0 ≡ decide_command_fault cause };
-
-    fn from(cause: DecideFault) -> Unanswered {
-        match cause {
-            DecideFault::Memory => Unanswered(Some(CommandFault::Memory)),
             _ => Unanswered(None),
         }
     }

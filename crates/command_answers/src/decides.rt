@@ -1,11 +1,11 @@
 //! The command `decide`.
 
-ghost use Rattle.std.specs.Prelude.{◌≡◌, IfOk, None};
+ghost use Rattle.std.specs.Prelude.{◌≡◌, IfOk};
 ghost use Rattle.std.specs.Option.{option_copied};
 ghost use Rattle.plan_decide.specs.Pasts.{whole_case};
 ghost use Rattle.plan_decide.specs.Promises.{IsInRange};
-ghost use Rattle.command_answers.specs.Deciding.{IsAnswerable, IsDecidedAnswer, IsDecisionAnswer};
-ghost use Rattle.command_answers.specs.Deciding.{IsLineRefused, IsUndecidedAnswer, decide_command_fault, job_of};
+ghost use Rattle.command_answers.specs.Deciding.{IsDecidedAnswer, IsDecisionAnswer};
+ghost use Rattle.command_answers.specs.Deciding.{IsLineRefused, job_of};
 ghost use Rattle.command_answers.specs.DecisionLines.{never_lines, within_line};
 ghost use Rattle.command_answers.specs.Documents.{IsHeadedAnswer};
 ghost use Rattle.command_answers.specs.Commands.{IfSound, RunsDecide, WithDecision};
@@ -13,18 +13,17 @@ ghost use Rattle.command_answers.specs.Serial.{serially as made_serial};
 
 use crate::answer::{Answer, Answered, GOOD, REFUSED};
 use crate::asked_job::{absent_job, no_job_answer};
-use crate::command_fault::Unanswered;
+use crate::command_fault::CommandFault;
 use crate::decision_lines::{push_never_lines, push_within_line};
 use crate::inputs::{Files, ParsedInputs, read_inputs, serially};
 use crate::lines::{document_answer, headed_answer, line_answer};
 use crate::naming::names_of;
-use crate::rests::run_fault_answer;
 use crate::shape_faults::bad_numbers_answer;
 use crate::texts::Texts;
 use arc_choice::Choose;
 use people_names::Names;
 use plan_decide::{Aim, DecideFault, Decided, Excluded, Objective, Watch, Within, decide};
-use shop_base::{JobNo, Plan, Planned, Shaped};
+use shop_base::{JobNo, Plan, Shaped};
 use std::alloc::{AllocError, Global};
 
 /// Whether any plan with the releases, budgets and cleaning times of the one in a file keeps all budgets, for the
@@ -121,30 +120,29 @@ fn shaped_decided<C: Choose, W: Watch>(
     requires { IsInRange (whole_case shaped) aim }
     ensures { IsDecisionAnswer names.now (whole_case shaped) aim result }
 {
-    match decide(alloc, shaped, aim, choices, chooser, watch) {
+    let decided = decide(alloc, &shaped, aim, choices, chooser, watch);
+    drop(shaped);
+    match decided {
         Ok(decided) => {
             let answer = decided_answer(alloc, names, &decided);
             drop(decided);
             answer
         }
-        Err(undecided) => undecided_answer(alloc, undecided.fault),
+        Err(DecideFault::Memory) => Err(CommandFault::Memory),
+        Err(DecideFault::JobOutOfRange) => unreachable!(),
     }
 }
 
 /// The text of a decision.
-pub(crate) fn decided_answer<K: Planned>(
-    alloc: Global,
-    names: &Names,
-    decided: &Decided<K>,
-) -> Answered
-    ensures { IsDecidedAnswer names.now (λ plan. K.planned plan) decided.now result }
+pub(crate) fn decided_answer(alloc: Global, names: &Names, decided: &Decided) -> Answered
+    ensures { IsDecidedAnswer names.now decided.now result }
 {
     match decided {
-        Decided::Kept(kept) => document_answer(alloc, kept.shaped().plan(), GOOD),
-        Decided::Best(best, within) => best_answer(alloc, best.shaped().plan(), *within),
-        Decided::Never(found, _) => Ok(never_answer(alloc, names, &found.listed)?),
-        Decided::Cyclic(_) => Ok(line_answer(alloc, b"never without a cycle\n", REFUSED)?),
-        Decided::Open(_) => Ok(line_answer(alloc, b"open\n", REFUSED)?),
+        Decided::Kept(kept) => document_answer(alloc, kept.plan(), GOOD),
+        Decided::Best(best, within) => best_answer(alloc, best.plan(), *within),
+        Decided::Never(found) => Ok(never_answer(alloc, names, &found.listed)?),
+        Decided::Cyclic => Ok(line_answer(alloc, b"never without a cycle\n", REFUSED)?),
+        Decided::Open => Ok(line_answer(alloc, b"open\n", REFUSED)?),
     }
 }
 
@@ -164,29 +162,6 @@ fn never_answer(alloc: Global, names: &Names, excluded: &[Excluded]) -> Result<A
     let (mut text, status) = (Vec::new(alloc), REFUSED);
     push_never_lines(&mut text, names, excluded)?;
     Ok(Answer { text, status })
-}
-
-/// Why nothing is decided: the line of the log's first fault or of a moment that is past, or that memory ran out.
-pub(crate) fn undecided_answer(alloc: Global, fault: DecideFault) -> Answered
-    requires { IsAnswerable fault }
-    ensures { IsUndecidedAnswer fault result }
-{
-    match Unanswered::from(fault).0 {
-        Some(fault) => Err(fault),
-        None => refused_answer(alloc, fault),
-    }
-}
-
-/// The line that says why nothing is decided.
-fn refused_answer(alloc: Global, fault: DecideFault) -> Answered
-    requires answerable { IsAnswerable fault }
-    requires memory { decide_command_fault fault ≡ None }
-    ensures { IsUndecidedAnswer fault result }
-{
-    match fault {
-        DecideFault::Run(fault) => run_fault_answer(alloc, fault),
-        DecideFault::JobOutOfRange | DecideFault::Memory => unreachable!(),
-    }
 }
 
 /// The job whose leaving is asked for, if one is.

@@ -5,22 +5,26 @@ ghost use Rattle.std.specs.Option.{option_copied};
 ghost use Rattle.shop_base.specs.declared.limits.TheConstants.{MAX_MOMENT};
 ghost use Rattle.text_lines.specs.Lines.{ended_lines};
 ghost use Rattle.command_answers.specs.Shapes.{IsLineOfFault};
-ghost use Rattle.command_answers.specs.DecidingRests.{IsRestDecisionAnswer, refusal};
+ghost use Rattle.command_answers.specs.DecidingRests.{IsDecisionFrom, IsRestDecisionAnswer, refusal};
 ghost use Rattle.plan_decide.specs.{Pasts.whole_case, Promises.IsInRange};
 ghost use Rattle.command_answers.specs.Commands.{OnRestDecision, RunsDecideRest, WithRestDecision};
 
 use crate::answer::{Answer, Answered};
 use crate::asked_job::{absent_job, no_job_answer};
-use crate::decides::{decided_answer, job_of, undecided_answer};
+use crate::command_fault::CommandFault;
+use crate::decides::{decided_answer, job_of};
 use crate::improves::with_orders;
 use crate::inputs::{Ahead, ParsedInputs, read_inputs};
 use crate::naming::names_and_log;
+use crate::rests::run_fault_answer;
 use crate::shape_faults::{bad_numbers_answer, fault_answer};
 use crate::texts::Texts;
 use arc_choice::Choose;
+use cell_tables::Rest;
 use people_names::Names;
-use plan_decide::{Aim, Watch, decide_after};
-use shop_base::{Moment, ShapeFault, Shaped};
+use plan_decide::{Aim, DecideFault, Watch, decide_rest};
+use run_log::rest_at;
+use shop_base::{Moment, Planned, ShapeFault, Shaped};
 use std::alloc::{AllocError, Global};
 
 /// Whether any plan with the releases, budgets and cleaning times of the one in a file keeps all budgets of the jobs
@@ -121,13 +125,37 @@ fn rest_decided<C: Choose, W: Watch>(
     requires job { IsInRange (whole_case shaped) aim }
     ensures { IsRestDecisionAnswer names.now at (ended_lines log.now) shaped aim result }
 {
-    match decide_after(alloc, shaped, log, at, aim, choices, chooser, watch) {
+    match rest_at(alloc, shaped, log, at)? {
+        Ok(run) => {
+            let answer = answer_decided(alloc, names, &run.rest, aim, choices, chooser, watch);
+            drop(run);
+            answer
+        }
+        Err(fault) => run_fault_answer(alloc, fault),
+    }
+}
+
+/// What is decided of the rest of a run.
+fn answer_decided<P: Planned, C: Choose, W: Watch>(
+    alloc: Global,
+    names: &Names,
+    rest: &Rest<P>,
+    aim: Aim,
+    choices: u64,
+    chooser: &mut C,
+    watch: &mut W,
+) -> Answered
+    requires { IsInRange (whole_case rest.now.plan) aim }
+    ensures { let r = rest.now in IsDecisionFrom names.now aim r.plan r.cell r.present result }
+{
+    match decide_rest(alloc, rest, aim, choices, chooser, watch) {
         Ok(decided) => {
             let answer = decided_answer(alloc, names, &decided);
             drop(decided);
             answer
         }
-        Err(undecided) => undecided_answer(alloc, undecided.fault),
+        Err(DecideFault::Memory) => Err(CommandFault::Memory),
+        Err(DecideFault::JobOutOfRange) => unreachable!(),
     }
 }
 

@@ -4,7 +4,7 @@ ghost use Rattle.std.specs.Prelude.{◌≡◌, ◌≤◌, IfOk, IfSome, None};
 ghost use Rattle.shop_base.specs.declared.limits.TheConstants.{MAX_MOMENT};
 ghost use Rattle.text_lines.specs.Lines.{ended_lines};
 ghost use Rattle.command_answers.specs.ImprovingRests.{RestRoundsOf, IsRestAnswer, IsJudgedAnswer, IsUnfoundAnswer};
-ghost use Rattle.command_answers.specs.ImprovingRests.{HasAnswer, IsLineOfCycle, improve_command_fault};
+ghost use Rattle.command_answers.specs.ImprovingRests.{IsLineOfCycle, IsSearchAnswer, improve_command_fault};
 ghost use Rattle.command_answers.specs.Commands.{RunsImproveRest, WithRest};
 ghost use Rattle.command_answers.specs.Steps.{Concludes, Then};
 ghost use Rattle.command_answers.specs.Texts.{Asks};
@@ -18,8 +18,9 @@ use crate::rests::run_fault_answer;
 use crate::shapes::not_shaped_answer;
 use crate::texts::Texts;
 use plan_explain::push_cycle_line;
-use plan_improve::{ImproveFault, Improved, Improver, Watch, improve_after};
+use plan_improve::{ImproveFault, Improved, Improver, MAX_ROUNDS, NotImproved, Watch, better_rest};
 use plan_verifier::{Judged, Why};
+use run_log::{LoggedRest, rest_at};
 use shop_base::{Moment, Node, Shaped};
 use std::alloc::{AllocError, Global};
 
@@ -27,7 +28,7 @@ use std::alloc::{AllocError, Global};
 /// for the instance of a third: its rest accepted, or with a job that is still late. A plan without any orders gets
 /// the serial ones. What comes after the log's last line feed isn't looked at. A log that records no run of that
 /// plan is answered by its first bad line, a present moment before the log's last one by `log past L`, and a plan with
-/// a cycle, if the log records an event, by the line of `check`.
+/// a cycle, if a job has arrived, by the line of `check`. More than 1000 rounds are answered first, by `too many rounds`.
 pub fn improve_rest_answer<T: Texts, W: Watch>(
     alloc: Global,
     texts: &mut T,
@@ -107,8 +108,30 @@ fn found_answer<W: Watch>(
     ensures { IsRestAnswer (RestRoundsOf rounds (λ b. may b) improvers.now) at rounds
         (ended_lines log.now) start result }
 {
-    match improve_after(alloc, start, log, at, improvers, rounds, watch) {
+    if rounds > MAX_ROUNDS {
+        drop(start);
+        return unfound_answer(alloc, ImproveFault::TooManyRounds);
+    }
+    match rest_at(alloc, start, log, at)? {
+        Ok(LoggedRest { rest, entries }) => {
+            drop(entries);
+            // Called for its clause alone: the plan is well shaped.
+            let _plan = rest.shaped();
+            let found = better_rest(alloc, rest, improvers, rounds, watch);
+            search_answer(alloc, found)
+        }
+        Err(fault) => run_fault_answer(alloc, fault),
+    }
+}
+
+/// What is answered where a search has ended so.
+fn search_answer(alloc: Global, found: Result<Improved, NotImproved>) -> Answered
+    ensures { IsSearchAnswer found result }
+{
+    match found {
         Ok(found) => {
+            // Called for its clause alone: the plan is well shaped.
+            let _plan = found.shaped.plan();
             let answer = judged_answer(alloc, &found);
             drop(found);
             answer
@@ -139,7 +162,6 @@ pub(crate) fn cycle_answer(alloc: Global, nodes: &[Node]) -> Result<Answer, Allo
 
 /// What is answered if no plan is given, unless memory ran out.
 pub(crate) fn unfound_answer(alloc: Global, fault: ImproveFault) -> Answered
-    requires { HasAnswer fault }
     ensures { IsUnfoundAnswer fault result }
 {
     match Unanswered::from(fault).0 {
@@ -150,13 +172,11 @@ pub(crate) fn unfound_answer(alloc: Global, fault: ImproveFault) -> Answered
 
 /// The line that says why no plan is given.
 fn refused_answer(alloc: Global, fault: ImproveFault) -> Answered
-    requires moment { HasAnswer fault }
-    requires memory { improve_command_fault fault ≡ None }
+    requires { improve_command_fault fault ≡ None }
     ensures { IsUnfoundAnswer fault result }
 {
     match fault {
         ImproveFault::TooManyRounds => Ok(line_answer(alloc, b"too many rounds\n", REFUSED)?),
-        ImproveFault::Run(fault) => run_fault_answer(alloc, fault),
         ImproveFault::Memory => unreachable!(),
     }
 }

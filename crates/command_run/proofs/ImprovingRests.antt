@@ -4,7 +4,7 @@ use Rattle.shop_base.specs.Plan.{PlannedShop}
 use Rattle.shop_base.specs.Cell.{Cell}
 use Rattle.text_lines.specs.Lines.{ended_lines}
 use Rattle.plan_seek.specs.Orders.{Proposal}
-use Rattle.plan_improve.specs.Settings.{Left, rest_after}
+use Rattle.plan_improve.specs.Settings.{Left, rest_from}
 use Rattle.command_answers.specs.declared.answer.Answer.{Answer}
 use Rattle.command_answers.specs.declared.command_fault.CommandFault.{CommandFault}
 use Rattle.command_answers.specs.declared.command_fault.CommandFault.TheVariants.{Instance, Plan, Names, Read, Write, InputTooLong, Log, LogInUse, Memory}
@@ -17,36 +17,43 @@ use Rattle.command_run.specs.Improvers.{MayImprove, AsksOneForRest}
 use Rattle.command_run.proofs.Improving.{all_more}
 use Rattle.command_run.proofs.Planning.{then_more}
 
-module _ (made more : RestAsked) (less : (lines : List (List ℕ)) (t : ℕ) (p q : PlannedShop) → made lines t p q → more lines t p q) (at : Option ℕ) (rounds : ℕ) where
-  best_more : (lines : List (List ℕ)) (t : ℕ) (c : Cell) (start best : PlannedShop) → IsBestRest made lines t c start best → IsBestRest more lines t c start best
-  best_more lines t c start best is = record {
+module _ (made more : RestAsked) (less : (c : Cell) (t : ℕ) (p q : PlannedShop) → made c t p q → more c t p q) (at : Option ℕ) (rounds : ℕ) where
+  best_more : (lines : List (List ℕ)) (c : Cell) (t : ℕ) (start best : PlannedShop) → IsBestRest made lines c t start best → IsBestRest more lines c t start best
+  best_more lines c t start best is = record {
     same = is.same;
     kept = is.kept;
     acyclic = is.acyclic;
     never_worse = is.never_worse;
-    found = record { begin = is.found.begin; begins_at = is.found.begins_at; run = less lines t is.found.begin best is.found.run };
+    found = record { begin = is.found.begin; begins_at = is.found.begins_at; run = less c t is.found.begin best is.found.run };
     stays_accepted = is.stays_accepted;
   }
 
   answer_more : (lines : List (List ℕ)) (start : PlannedShop) (outcome : Result Answer CommandFault) → IsRestAnswer made at rounds lines start outcome → IsRestAnswer more at rounds lines start outcome
-  answer_more lines start (Ok answer) (inl (few, inl text)) = inl (
+  answer_more lines start (Ok answer) (inl (few, inl run)) = inl (
     few,
     inl (record {
-      cell = text.cell;
-      run = text.run;
-      present = text.present;
-      best = text.best;
-      is = best_more lines _ text.cell start text.best text.is;
-      text = text.text;
-      status = text.status;
+      cell = run.cell;
+      entries = run.entries;
+      present = run.present;
+      run = run.run;
+      comes = elim run.comes [
+        | inl text ↦ inl (record { best = text.best; is = best_more lines run.cell run.present start text.best text.is; text = text.text; status = text.status })
+        | inr line ↦ inr line
+      ];
     }),
   )
   answer_more lines start (Ok answer) (inl (few, inr line)) = inl (few, inr line)
   answer_more lines start (Ok answer) (inr line) = inr line
-  answer_more lines start (Err (Plan fault)) (is, few, text) = (
+  answer_more lines start (Err (Plan fault)) (is, few, run) = (
     is,
     few,
-    record { cell = text.cell; run = text.run; present = text.present; best = text.best; is = best_more lines _ text.cell start text.best text.is; unreadable = text.unreadable },
+    record {
+      cell = run.cell;
+      entries = run.entries;
+      present = run.present;
+      run = run.run;
+      comes = record { best = run.comes.best; is = best_more lines run.cell run.present start run.comes.best run.comes.is; unreadable = run.comes.unreadable };
+    },
   )
   answer_more lines start (Err Memory) is = is
   answer_more lines start (Err (Instance fault)) is = is
@@ -79,4 +86,4 @@ pub improves_rest : {W B : Type 0} (gives : W → List ℕ → Result (List ℕ)
     → (at : Option ℕ) (rounds : ℕ) (inputs : InputPaths) (log : List ℕ) (before : W) (outcome : Result Answer CommandFault) (after : W)
     → RunsImproveRest gives (RestRoundsOf rounds may improvers) at rounds inputs log before outcome after → RunsImproveRest gives (AsksOneForRest rounds) at rounds inputs log before outcome after
 improves_rest gives may improvers alone at rounds inputs log before outcome after =
-    runs_more (RestRoundsOf rounds may improvers) (AsksOneForRest rounds) (λ lines t. all_more (rest_after lines t) may improvers alone rounds) at rounds gives inputs log before outcome after
+    runs_more (RestRoundsOf rounds may improvers) (AsksOneForRest rounds) (λ c t. all_more (rest_from c t) may improvers alone rounds) at rounds gives inputs log before outcome after

@@ -60,7 +60,7 @@ use Rattle.people_names.specs.NameBooks.{NameBook}
 use Rattle.plan_bounds.specs.Bounds.{ShopTimes, times_of}
 use Rattle.command_answers.specs.BoundLines.{AreBoundLines, IsBadNumbersLine}
 use Rattle.command_answers.specs.Deciding.{IsDecisionAnswer, IsDecisionText, job_of}
-use Rattle.command_answers.specs.DecidingRests.{IsUnfitLine, IsRestDecisionText, IsRestDecisionAnswer}
+use Rattle.command_answers.specs.DecidingRests.{IsUnfitLine, IsDecisionFrom, IsRestDecisionAnswer}
 use Rattle.command_answers.specs.Improving.{IsStatusOf, IsBestAnswer, IsImproveAnswer, ordered}
 use Rattle.command_answers.specs.Search.{IsSearchLine, IsSearchAnswer, IsNoPlanLine}
 use Rattle.command_answers.specs.declared.logs.LogAnswer.{LogAnswer}
@@ -182,6 +182,11 @@ low_bounds names t budgets answer are = elim are.status [
   | inr never ↦ one_low answer.status never.2
 ]
 
+-- why there is no run up to the present moment
+low_run_refused : (at : Option ℕ) (lines : List (List ℕ)) (p : PlannedShop) (answer : Answer) → IsRunRefused at lines p answer → answer.status ≤ 1
+low_run_refused at lines p answer (inl refused) = one_low answer.status refused.line.1
+low_run_refused at lines p answer (inr past) = one_low answer.status past.line.1
+
 module _ (names : NameBook) where
   low_decision : (t : Case) (aim : Aim) (answer : Answer) → IsDecisionText names t aim answer → answer.status ≤ 1
   low_decision t aim answer (inl kept) = zero_low answer.status kept.text.ends
@@ -194,14 +199,13 @@ module _ (names : NameBook) where
   low_decided t aim (Ok answer) is = low_decision t aim answer is
   low_decided t aim (Err fault) is = tt
 
-  low_rest_decision : (at : Option ℕ) (lines : List (List ℕ)) (start : PlannedShop) (aim : Aim) (answer : Answer) → IsRestDecisionText names at lines start aim answer → answer.status ≤ 1
-  low_rest_decision at lines start aim answer (inl held) = low_decision _ aim answer held.says
-  low_rest_decision at lines start aim answer (inr (inl refused)) = one_low answer.status refused.line.1
-  low_rest_decision at lines start aim answer (inr (inr past)) = one_low answer.status past.line.1
+  low_decided_from : (aim : Aim) (p : PlannedShop) (c : Cell) (t : ℕ) (outcome : Result Answer CommandFault) → IsDecisionFrom names aim p c t outcome → IsLow outcome
+  low_decided_from aim p c t (Ok answer) held = low_decision _ aim answer held.says
+  low_decided_from aim p c t (Err fault) is = tt
 
   low_rest_decided : (at : Option ℕ) (lines : List (List ℕ)) (start : PlannedShop) (aim : Aim) (outcome : Result Answer CommandFault) → IsRestDecisionAnswer names at lines start aim outcome → IsLow outcome
-  low_rest_decided at lines start aim (Ok answer) is = low_rest_decision at lines start aim answer is
-  low_rest_decided at lines start aim (Err fault) is = tt
+  low_rest_decided at lines start aim outcome (inl run) = low_decided_from aim start run.cell run.present outcome run.comes
+  low_rest_decided at lines start aim outcome (inr refused) = low_or (IsRunRefused at lines start) outcome (low_run_refused at lines start) refused
 
 low_status : (best : PlannedShop) (status : ℕ) → IsStatusOf best status → status ≤ 1
 low_status best status (inl accepted) = zero_low status accepted.1
@@ -214,13 +218,15 @@ low_best made rounds start (Err fault) is = tt
 
 low_rest_answer : (made : RestAsked) (at : Option ℕ) (rounds : ℕ) (lines : List (List ℕ)) (start : PlannedShop) (outcome : Result Answer CommandFault)
     → IsRestAnswer made at rounds lines start outcome → IsLow outcome
-low_rest_answer made at rounds lines start (Ok answer) (inl (few, inl text)) = elim text.status [
-  | inl good ↦ zero_low answer.status good.1
-  | inr late ↦ one_low answer.status late.1
+low_rest_answer made at rounds lines start (Ok answer) (inl (few, inl run)) = elim run.comes [
+  | inl text ↦ elim text.status [
+    | inl good ↦ zero_low answer.status good.1
+    | inr late ↦ one_low answer.status late.1
+  ]
+  | inr cycle ↦ one_low answer.status cycle.line.1
 ]
-low_rest_answer made at rounds lines start (Ok answer) (inl (few, inr (inl cycle))) = one_low answer.status cycle.line.1
-low_rest_answer made at rounds lines start (Ok answer) (inl (few, inr (inr (inl refused)))) = one_low answer.status refused.line.1
-low_rest_answer made at rounds lines start (Ok answer) (inl (few, inr (inr (inr past)))) = one_low answer.status past.line.1
+low_rest_answer made at rounds lines start (Ok answer) (inl (few, inr (inl refused))) = one_low answer.status refused.line.1
+low_rest_answer made at rounds lines start (Ok answer) (inl (few, inr (inr past))) = one_low answer.status past.line.1
 low_rest_answer made at rounds lines start (Ok answer) (inr many) = one_low answer.status many.refused
 low_rest_answer made at rounds lines start (Err fault) is = tt
 
@@ -236,11 +242,6 @@ low_document plan (Err fault) is = tt
 low_printed : (prints : Revised) (description : List ℕ) (q : PlannedShop) (outcome : Result Answer CommandFault) → IsPrinted prints description q outcome → IsLow outcome
 low_printed PlanText description q outcome is = low_document q.plan outcome is
 low_printed InstanceText description q outcome is = low_instance description q.shop outcome is
-
--- why there is no run up to the present moment
-low_run_refused : (at : Option ℕ) (lines : List (List ℕ)) (p : PlannedShop) (answer : Answer) → IsRunRefused at lines p answer → answer.status ≤ 1
-low_run_refused at lines p answer (inl refused) = one_low answer.status refused.line.1
-low_run_refused at lines p answer (inr past) = one_low answer.status past.line.1
 
 low_revised : (prints : Revised) (description : List ℕ) (at : Option ℕ) (changes : List Change) (values : List (List ℕ)) (p : PlannedShop) (log : List ℕ) (outcome : Result Answer CommandFault)
     → IsReviseAnswer prints description at changes values p log outcome → IsLow outcome

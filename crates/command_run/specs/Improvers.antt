@@ -2,7 +2,7 @@
 use Rattle.std.specs.Prelude.{◌≡◌, ◌⊎◌, ℕ, List, [], ◌∷◌, Option, None, Some, Result, Err}
 use Rattle.shop_base.specs.Plan.{PlannedShop}
 use Rattle.plan_seek.specs.Orders.{Proposal}
-use Rattle.plan_improve.specs.Settings.{Left, whole_plan, rest_after}
+use Rattle.plan_improve.specs.Settings.{Left, whole_plan, rest_from}
 use Rattle.plan_improve.specs.Runs.{Asked, Rounds}
 use Rattle.command_answers.specs.declared.answer.Answer.{Answer}
 use Rattle.command_answers.specs.declared.command_fault.CommandFault.{CommandFault}
@@ -25,7 +25,7 @@ ImprovesPlan gives rounds inputs before outcome after =
 
 -- the same for the rest of a run
 abbrev pub AsksOneForRest : ℕ → RestAsked
-AsksOneForRest rounds lines t = Rounds (rest_after lines t) MayImprove (tt ∷ []) rounds
+AsksOneForRest rounds c t = Rounds (rest_from c t) MayImprove (tt ∷ []) rounds
 
 -- a better plan for the rest of the run in a log is sought by the one improver, unless memory runs out before any file is asked for
 abbrev pub ImprovesRest : {W : Type 0} → (W → List ℕ → Result (List ℕ) CommandFault → W → Type 0) → Option ℕ → ℕ → InputPaths → List ℕ → W → Result Answer CommandFault → W → Type 0

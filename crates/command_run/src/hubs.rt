@@ -8,9 +8,9 @@ ghost use Rattle.command_run.specs.Program.{RunsHub};
 
 use crate::devices::Streams;
 use crate::drives::{CommandFaultOf, ended};
+use cell_control::LeanPlan;
 use cell_drive::{BufferedSink, Protocol, Source, drive_hub_in};
 use command_answers::{Answered, Cells, Texts, load_cells};
-use plan_verifier::Verified;
 use std::alloc::Global;
 
 /// Loads several plans, and drives their cells by this protocol if all are accepted; else the line of the first that
@@ -37,7 +37,7 @@ pub(crate) fn hub_answer<T: Texts, R: Source, W: BufferedSink>(
 /// Drives the cells of accepted plans to the end of the input.
 fn drive_cells<R: Source, W: BufferedSink>(
     alloc: Global,
-    cells: Vec<Verified>,
+    cells: Vec<LeanPlan>,
     protocol: Protocol,
     streams: &mut Streams<R, W>,
 ) -> Answered

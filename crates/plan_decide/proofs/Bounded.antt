@@ -1,20 +1,19 @@
 -- What is known of all plans of a case: they lead to one cell, are out at their jobs' bounds at the earliest, and what each value says.
-use Rattle.std.proofs.Common.{◌≡◌, ℕ, max, zero, suc, ◌+◌, ◌-◌, ◌<◌, ◌≤◌, ◌⊎◌, inl, inr, true, false, List, [], ◌∷◌, ◌++◌, drop, length, arith, refl, sym, ap, subst, ◌∙◌, drop_of_length-le, true≢false}
+use Rattle.std.proofs.Common.{◌≡◌, ℕ, max, zero, suc, ◌+◌, ◌-◌, ◌<◌, ◌≤◌, ◌⊎◌, inl, inr, true, false, List, [], ◌∷◌, ◌++◌, drop, length, arith, refl, sym, ap, subst, ◌∙◌, drop_of_length-le, true≢false, Option, None, Some, if◌then◌else◌, lt-ltb, le-ltb}
 use Rattle.std.proofs.lemmas.Bool.{cases_lt, leb-true, le-leb}
 use Rattle.std.proofs.lemmas.List.Sums.{sum_by-drop_more}
 use Rattle.shop_base.specs.declared.node.Node.{Node}
 use Rattle.shop_base.specs.declared.shop.Step.{Step}
 use Rattle.shop_base.specs.Shop.{no_step}
 use Rattle.shop_base.specs.Work.{route_work}
-use Rattle.shop_base.specs.Plan.{PlannedShop, jobs, steps, route, nominal, budget, IsWellShaped}
-use Rattle.shop_base.specs.Cell.{Cell, job_in, made, since, IsGone}
+use Rattle.shop_base.specs.Plan.{PlannedShop, jobs, steps, route, nominal, budget, clean, clean_in, IsWellShaped}
+use Rattle.shop_base.specs.Cell.{Cell, job_in, made, since, cleaning, IsGone}
 use Rattle.shop_base.specs.Movers.{due_of_job}
 use Rattle.shop_base.specs.Sound.{IsSound}
 use Rattle.shop_base.specs.Graph.{node, leaving, job_arc}
 use Rattle.shop_base.specs.Ahead.{next_node, PathAhead, onward}
-use Rattle.shop_base.proofs.Keeping.{run-sound}
-use Rattle.cell_tables.specs.Events.{events_of}
-use Rattle.run_log.specs.Audits.{ParseAsRun}
+use Rattle.cell_tables.specs.{Carried.{awaited, carried_cleaning, IsCarried}, Kept.KeepsSoFar, Rests.IsReached}
+use Rattle.cell_tables.proofs.{Reaching.recast_reached, Reorders.reached_sound}
 use Rattle.plan_verifier.specs.Accepted.{HasNoCycle}
 use Rattle.plan_verifier.specs.Held.{later_than}
 use Rattle.plan_verifier.proofs.Tables.{later_is}
@@ -22,67 +21,69 @@ use Rattle.plan_bounds.specs.Bounds.{ShopTimes, times_of, job_bound}
 use Rattle.plan_bounds.specs.Makespan.{IsLeastMakespan}
 use Rattle.plan_bounds.specs.declared.makespan.LeastMakespan.{LeastMakespan}
 use Rattle.plan_bounds.proofs.Bounded.{no_plan_is_sooner-holds}
-use Rattle.plan_limits.specs.Stages.{GoesOnFrom, stage_of}
 use Rattle.plan_verifier.proofs.Rests.{next_path}
 use Rattle.plan_seek.specs.Tasks.{with_order}
-use Rattle.run_log.specs.Present.{IsCellOf}
-use Rattle.plan_improve.specs.Reordered.{IsReordered}
-use Rattle.plan_improve.proofs.OneCell.{one_cell}
 use Rattle.plan_decide.specs.declared.aim.Objective.{Objective}
 use Rattle.plan_decide.specs.declared.aim.Objective.TheVariants.{Makespan, Leaving}
 use Rattle.plan_decide.specs.Cases.{Past, nothing, run_to, Case, KeepsPast, IsOutWithin, IsGood, HasValue, IsPlanOf, IsAccepted, is_waiting, bound_in, job_count, times_in}
 use Rattle.plan_decide.specs.Objectives.{IsLeastValue}
-use Rattle.plan_decide.proofs.Budgets.{rebudgeted, cell_again}
 
--- what has happened leads to its cell by some plan with these times
+-- what has happened has led to its cell by a plan with these times
+pub record IsLed (t : ShopTimes) (base : PlannedShop) (c : Cell) : Type 0 where
+  pub shaped : IsWellShaped base
+  pub same : times_of base ≡ t
+  pub reached : IsReached base c
+
 abbrev pub IsRootedIn : ShopTimes → Past → Type 0
 IsRootedIn t nothing = Unit {0}
-IsRootedIn t (run_to lines c present) = (p : PlannedShop) × (times_of p ≡ t) × IsCellOf lines p c
+IsRootedIn t (run_to base c present) = IsLed t base c
 
 abbrev pub IsRooted : Case → Type 0
 IsRooted t = IsRootedIn (times_in t) t.past
 
--- by all plans with the same times lines lead to one cell
-pub same_cell : (lines : List (List ℕ)) (p q : PlannedShop) (c d : Cell) → times_of p ≡ times_of q → IsCellOf lines p c → IsCellOf lines q d → c ≡ d
-same_cell lines p q c d same one other = one_cell lines p (rebudgeted q p.plan.budget) c d reordered one (cell_again q p.plan.budget lines d other)
-  where
-    reordered : IsReordered p (rebudgeted q p.plan.budget)
-    reordered = λ i. record {
-      shop = ap (λ (t : ShopTimes). t.shop) (sym same) i;
-      plan = record {
-        release = ap (λ (t : ShopTimes). t.release) (sym same) i;
-        budget = p.plan.budget;
-        order = q.plan.order;
-        clean = ap (λ (t : ShopTimes). t.clean) (sym same) i;
-      };
-    }
+module _ (p q : PlannedShop) (c : Cell) (same : times_of q ≡ times_of p) (sound : IsSound p c) where
+  same_clean : (m : ℕ) → clean q m ≡ clean p m
+  same_clean m = ap (λ (t : ShopTimes). clean_in t.clean m) same
 
-pub cell_of_run : (lines : List (List ℕ)) (p q : PlannedShop) (c : Cell) → times_of p ≡ times_of q → IsCellOf lines p c → ParseAsRun q lines → IsCellOf lines q c
-cell_of_run lines p q c same one (entries, parse, run) =
-    let other : IsCellOf lines q _ = record { entries = entries; parse = parse; run = record { run = run; cell = refl } } in
-    subst (IsCellOf lines q) (sym (same_cell lines p q c _ same one other)) other
+  -- a machine without a cleaning time isn't being cleaned
+  uncleaned : (m : ℕ) (o : Option ℕ) → cleaning c m ≡ o → clean p m ≡ 0 → o ≡ None
+  uncleaned m None is untimed = refl
+  uncleaned m (Some s) is untimed = absurd (omega (arith, sound.cleaned_timed m s is, untimed))
 
--- a plan that keeps what has happened goes on from the cell
-pub goes_on : (lines : List (List ℕ)) (p q : PlannedShop) (c : Cell) (t : ℕ) → times_of p ≡ times_of q → IsCellOf lines p c → IsWellShaped q → ParseAsRun q lines → GoesOnFrom (stage_of p c t) q
-goes_on lines p q c t same one shaped run =
-    let is = cell_of_run lines p q c same one run in
-    record { shaped = shaped; same = sym same; run = events_of is.entries; is_run = is.run.run; cell = is.run.cell }
+  cleaning_kept : (m : ℕ) → cleaning c m ≡ carried_cleaning c q m
+  cleaning_kept m = elim (cases_lt 0 (clean q m)) [
+    | inl timed ↦ sym (ap (λ b. if b then cleaning c m else None) (lt-ltb 0 (clean q m) timed))
+    | inr untimed ↦ uncleaned m (cleaning c m) refl (omega (arith, untimed, same_clean m)) ∙ sym (ap (λ b. if b then cleaning c m else None) (le-ltb 0 (clean q m) untimed))
+  ]
 
-pub sound_in : (lines : List (List ℕ)) (q : PlannedShop) (c : Cell) → IsWellShaped q → IsCellOf lines q c → IsSound q c
-sound_in lines q c shaped is = subst (IsSound q) (sym is.run.cell) (run-sound q (events_of is.entries) shaped is.run.run)
+  -- by a plan with the same times a cell is the same
+  pub carried_same : IsCarried p c q c
+  carried_same = record {
+    job_count = sound.job_count ∙ sym (ap (λ (t : ShopTimes). length t.shop.routes) same);
+    machine_count = sound.machine_count ∙ sym (ap (λ (t : ShopTimes). t.shop.machines) same);
+    jobs_same = λ j inside. sym (ap (λ b. if b then job_in c j else awaited) (lt-ltb j (jobs p) (omega (arith, inside, ap (λ (t : ShopTimes). length t.shop.routes) same))));
+    entries_same = λ m inside. refl;
+    cleaning_is = λ m inside. cleaning_kept m;
+    last_same = refl;
+  }
+
+-- a plan with the same times that what has happened keeps goes on from the cell: a run of it leads there too
+pub led_on : (base q : PlannedShop) (c : Cell) → IsWellShaped base → IsWellShaped q → times_of q ≡ times_of base → IsReached base c → KeepsSoFar base c q → IsReached q c
+led_on base q c shaped fits same reached keeps =
+    recast_reached base c q c shaped fits reached (record { kept = keeps; carried = carried_same base q c same (reached_sound base c shaped reached) })
 
 -- a job waits where it isn't gone
-pub waiting_here : (p : PlannedShop) (lines : List (List ℕ)) (c : Cell) (t j : ℕ) → is_waiting (times_of p) (run_to lines c t) j ≡ true → IsGone p c j → ⊥
-waiting_here p lines c t j waits gone = (let le = leb-true (made c j) (steps p j) waits in omega (arith, le, gone))
+pub waiting_here : (p : PlannedShop) (base : PlannedShop) (c : Cell) (t j : ℕ) → is_waiting (times_of p) (run_to base c t) j ≡ true → IsGone p c j → ⊥
+waiting_here p base c t j waits gone = (let le = leb-true (made c j) (steps p j) waits in omega (arith, le, gone))
 
-pub here_waits : (p : PlannedShop) (lines : List (List ℕ)) (c : Cell) (t j : ℕ) → (IsGone p c j → ⊥) → is_waiting (times_of p) (run_to lines c t) j ≡ true
-here_waits p lines c t j here = elim (cases_lt (steps p j) (made c j)) [
+pub here_waits : (p : PlannedShop) (base : PlannedShop) (c : Cell) (t j : ℕ) → (IsGone p c j → ⊥) → is_waiting (times_of p) (run_to base c t) j ≡ true
+here_waits p base c t j here = elim (cases_lt (steps p j) (made c j)) [
   | inl gone ↦ absurd (here gone)
   | inr le ↦ le-leb (made c j) (steps p j) le
 ]
 
-pub gone_unless : (p : PlannedShop) (lines : List (List ℕ)) (c : Cell) (t j : ℕ) → is_waiting (times_of p) (run_to lines c t) j ≡ false → IsGone p c j
-gone_unless p lines c t j not = elim (cases_lt (steps p j) (made c j)) [
+pub gone_unless : (p : PlannedShop) (base : PlannedShop) (c : Cell) (t j : ℕ) → is_waiting (times_of p) (run_to base c t) j ≡ false → IsGone p c j
+gone_unless p base c t j not = elim (cases_lt (steps p j) (made c j)) [
   | inl gone ↦ gone
   | inr le ↦ absurd (true≢false (sym (le-leb (made c j) (steps p j) le) ∙ not))
 ]
@@ -125,39 +126,38 @@ bound_le t p j n rooted plan inside waits out = go t.past rooted plan.keeps wait
         let found = (no_plan_is_sooner-holds p plan.shaped).0 j here in
         let bound : job_bound (times_of p) j ≡ job_bound (times_in t) j = ap (λ (s : ShopTimes). job_bound s j) plan.same in
         omega (arith, bound, found.long, is found.nodes found.size found.path)
-    go (run_to lines c present) (q, times, root) keeps waiting is =
-        let cell = cell_of_run lines q p c (times ∙ sym plan.same) root keeps in
-        let sound = sound_in lines p c plan.shaped cell in
-        let there : is_waiting (times_of p) (run_to lines c present) j ≡ true = ap (λ (s : ShopTimes). is_waiting s (run_to lines c present) j) plan.same ∙ waiting in
+    go (run_to base c present) led keeps waiting is =
+        let sound = reached_sound p c plan.shaped (led_on base p c led.shaped plan.shaped (plan.same ∙ sym led.same) led.reached keeps) in
+        let there : is_waiting (times_of p) (run_to base c present) j ≡ true = ap (λ (s : ShopTimes). is_waiting s (run_to base c present) j) plan.same ∙ waiting in
         let le : made c j ≤ steps p j = leb-true (made c j) (steps p j) there in
         let found = bound_path p c present j sound here le in
-        let bound : bound_in (times_of p) (run_to lines c present) j ≡ bound_in (times_in t) (run_to lines c present) j = ap (λ (s : ShopTimes). bound_in s (run_to lines c present) j) plan.same in
+        let bound : bound_in (times_of p) (run_to base c present) j ≡ bound_in (times_in t) (run_to base c present) j = ap (λ (s : ShopTimes). bound_in s (run_to base c present) j) plan.same in
         omega (arith, bound, is found.0 _ found.1)
 
 -- ---- what a value says
 
 pub makespan_out : (past : Past) (p : PlannedShop) (j n : ℕ) → j < jobs p → HasValue past Makespan p n → IsOutWithin past p j n
 makespan_out nothing p j n inside is = λ nodes k path. is.bound j nodes k inside path
-makespan_out (run_to lines c present) p j n inside is = λ nodes k path. is.bound j nodes k inside path
+makespan_out (run_to base c present) p j n inside is = λ nodes k path. is.bound j nodes k inside path
 
 pub leaving_out : (past : Past) (p : PlannedShop) (j n : ℕ) → is_waiting (times_of p) past j ≡ true → HasValue past (Leaving j) p n → IsOutWithin past p j n
 leaving_out nothing p j n waits is = λ nodes k path. is.longest nodes k path
-leaving_out (run_to lines c present) p j n waits is = λ nodes k path. (is.ahead (waiting_here p lines c present j waits)).longest nodes k path
+leaving_out (run_to base c present) p j n waits is = λ nodes k path. (is.ahead (waiting_here p base c present j waits)).longest nodes k path
 
 -- of a plan to be accepted
 pub good_acyclic : (past : Past) (p : PlannedShop) → IsGood past p → HasNoCycle p
 good_acyclic nothing p good = good.acyclic
-good_acyclic (run_to lines c present) p good = λ nodes cycle. good.acyclic (nodes, cycle)
+good_acyclic (run_to base c present) p good = λ nodes cycle. good.acyclic (nodes, cycle)
 
 pub good_out : (past : Past) (p : PlannedShop) (j : ℕ) → IsGood past p → j < jobs p → is_waiting (times_of p) past j ≡ true → IsOutWithin past p j (budget p j)
 good_out nothing p j good inside waits = λ nodes k path. good.budgets j inside nodes k path
-good_out (run_to lines c present) p j good inside waits = λ nodes k path. good.budgets j inside (waiting_here p lines c present j waits) nodes k path
+good_out (run_to base c present) p j good inside waits = λ nodes k path. good.budgets j inside (waiting_here p base c present j waits) nodes k path
 
 pub good_from : (past : Past) (p : PlannedShop) → HasNoCycle p → ((j : ℕ) → j < jobs p → is_waiting (times_of p) past j ≡ true → IsOutWithin past p j (budget p j)) → IsGood past p
 good_from nothing p acyclic out = record { acyclic = acyclic; budgets = λ j inside nodes k path. out j inside refl nodes k path }
-good_from (run_to lines c present) p acyclic out = record {
+good_from (run_to base c present) p acyclic out = record {
   acyclic = λ cycle. acyclic cycle.0 cycle.1;
-  budgets = λ j inside here nodes k path. out j inside (here_waits p lines c present j here) nodes k path;
+  budgets = λ j inside here nodes k path. out j inside (here_waits p base c present j here) nodes k path;
 }
 
 -- a plan that is accepted is one of the case
@@ -182,13 +182,13 @@ bound_least t objective j rooted inside waits which = λ order value accepted re
     go p value here waiting reached (inr is) = leaving_out t.past p j value waiting (subst (λ (o : Objective). HasValue t.past o p value) is reached)
 
 -- and one that is gone left when it did
-pub gone_least : (t : Case) (lines : List (List ℕ)) (c : Cell) (present : ℕ) (objective : Objective) (j : ℕ) → t.past ≡ run_to lines c present → j < job_count t → is_waiting (times_in t) (run_to lines c present) j ≡ false
+pub gone_least : (t : Case) (base : PlannedShop) (c : Cell) (present : ℕ) (objective : Objective) (j : ℕ) → t.past ≡ run_to base c present → j < job_count t → is_waiting (times_in t) (run_to base c present) j ≡ false
     → (objective ≡ Makespan) ⊎ (objective ≡ Leaving j) → IsLeastValue t objective (since c j)
-gone_least t lines c present objective j past inside not which = λ order value accepted reached. go (with_order t.task order) value inside (gone_unless (with_order t.task order) lines c present j not) (subst (λ (x : Past). HasValue x objective (with_order t.task order) value) past reached) which
+gone_least t base c present objective j past inside not which = λ order value accepted reached. go (with_order t.task order) value inside (gone_unless (with_order t.task order) base c present j not) (subst (λ (x : Past). HasValue x objective (with_order t.task order) value) past reached) which
   where
-    go : (p : PlannedShop) (value : ℕ) → j < jobs p → IsGone p c j → HasValue (run_to lines c present) objective p value → (objective ≡ Makespan) ⊎ (objective ≡ Leaving j) → since c j ≤ value
-    go p value here gone reached (inl is) = (subst (λ (o : Objective). HasValue (run_to lines c present) o p value) is reached).left j here gone
-    go p value here gone reached (inr is) = (let at = (subst (λ (o : Objective). HasValue (run_to lines c present) o p value) is reached).left gone in omega (arith, at))
+    go : (p : PlannedShop) (value : ℕ) → j < jobs p → IsGone p c j → HasValue (run_to base c present) objective p value → (objective ≡ Makespan) ⊎ (objective ≡ Leaving j) → since c j ≤ value
+    go p value here gone reached (inl is) = (subst (λ (o : Objective). HasValue (run_to base c present) o p value) is reached).left j here gone
+    go p value here gone reached (inr is) = (let at = (subst (λ (o : Objective). HasValue (run_to base c present) o p value) is reached).left gone in omega (arith, at))
 
 -- the later of two moments below which none is
 pub later_least : (t : Case) (objective : Objective) (m n k : ℕ) → k ≡ max m n → IsLeastValue t objective m → IsLeastValue t objective n → IsLeastValue t objective k

@@ -1,28 +1,15 @@
--- A plan with other budgets: its graph is the same, and so are its runs.
-use Rattle.std.proofs.Common.{◌≡◌, ℕ, ◌+◌, ◌<◌, ◌≤◌, ◌⊎◌, List, [], ◌∷◌, length, slice_index, zero, suc, arith, refl, sym, ap, subst, ◌∙◌, inl, inr}
+-- A plan with other budgets: its graph is the same, and what has happened keeps it just as well.
+use Rattle.std.proofs.Common.{◌≡◌, ℕ, ◌+◌, ◌<◌, ◌≤◌, List, [], ◌∷◌, length, slice_index, arith}
 use Rattle.shop_base.specs.declared.node.Node.{Node}
 use Rattle.shop_base.specs.declared.limits.TheConstants.{MAX_MOMENT}
-use Rattle.shop_base.specs.declared.move_order.Spot.{Spot}
-use Rattle.shop_base.specs.declared.move_order.Spot.TheVariants.{Out, At}
-use Rattle.shop_base.specs.declared.move_order.MoveOrder.{MoveOrder}
-use Rattle.shop_base.specs.declared.report.Report.TheVariants.{Arrive, Finish, Clean}
-use Rattle.shop_base.specs.Plan.{PlannedShop, jobs, Visits, Stands, IsOrder, IsWellShaped}
-use Rattle.shop_base.specs.Cell.{Cell, made, start, IsOn}
+use Rattle.shop_base.specs.Plan.{PlannedShop, jobs, machine_of, Visits, Stands, IsOrder, IsWellShaped}
+use Rattle.shop_base.specs.Cell.{Cell, IsOn}
 use Rattle.shop_base.specs.Activity.{Activity, Arrival, Operation, Cleaning, GoesOn}
-use Rattle.shop_base.specs.Report.{ended}
-use Rattle.shop_base.specs.Move.{CanLeave, CanEnter, source, target, spot_after, after_leaving, with_entry, with_moved}
-use Rattle.shop_base.specs.Run.{Event, Reported, Moved, CanHappen, AreEvents, after, after_all}
 use Rattle.shop_base.specs.Graph.{leaving, Arc, job_arc, blocking_arc, ArcsLead, Path, begins, follows, IsSimpleCycle}
 use Rattle.shop_base.specs.Ahead.{HoldsUp, PathAhead, now, held, onward}
-use Rattle.cell_tables.specs.Events.{events_of}
-use Rattle.cell_tables.specs.Moving.{IsSpotOf}
-use Rattle.cell_tables.specs.declared.entry.Entry.{Entry}
-use Rattle.cell_tables.specs.declared.entry.Entry.TheVariants.{Report as ReportEntry, Order as OrderEntry}
-use Rattle.event_lines.specs.LogLines.{IsEntryOf, LineParses, LinesParse}
-use Rattle.run_log.specs.Audits.{ParseAsRun}
+use Rattle.cell_tables.specs.Kept.{KeepsSoFar}
 use Rattle.plan_verifier.specs.Accepted.{HasNoCycle, IsGreatest}
 use Rattle.plan_verifier.specs.Rest.{IsGreatestAhead}
-use Rattle.run_log.specs.Present.{IsCellOf}
 use Rattle.plan_decide.specs.declared.aim.Objective.TheVariants.{Leaving}
 use Rattle.plan_decide.specs.Cases.{Past, nothing, run_to, KeepsPast, IsOutWithin, HasValue}
 
@@ -94,7 +81,7 @@ module _ (p : PlannedShop) (budgets : List ℕ) where
   pub acyclic_again : HasNoCycle p → HasNoCycle (rebudgeted p budgets)
   acyclic_again acyclic nodes cycle = acyclic nodes (cycle_as_before nodes cycle)
 
-  -- ---- what happens hangs on no budget
+  -- ---- what goes on hangs on no budget
 
   on_again : (c : Cell) (j k m : ℕ) → IsOn p c j k m → IsOn (rebudgeted p budgets) c j k m
   on_again c j k m is = record { entered = is.entered; visits = visits_again j k m is.visits }
@@ -118,80 +105,26 @@ module _ (p : PlannedShop) (budgets : List ℕ) where
   ahead_again c t _ _ _ (held a due v going holds) = held a due v (goes_again c a due going) (holds_again c a v holds)
   ahead_again c t _ _ _ (onward nodes u v n d path arc) = onward nodes u v n d (ahead_again c t nodes u n path) (arc_again u v d arc)
 
-  way_again : (c : Cell) (j : ℕ) → CanLeave p c j ⊎ ((m : ℕ) × CanEnter p c j m) → CanLeave (rebudgeted p budgets) c j ⊎ ((m : ℕ) × CanEnter (rebudgeted p budgets) c j m)
-  way_again c j (inl leaves) = inl leaves
-  way_again c j (inr (m, can)) = inr (m, record { next = visits_again j (made c j) m can.next; free = λ i k on. can.free i k (on_as_before c i k m on); is_clean = can.is_clean })
-
-  source_again : (j n : ℕ) → spot_after (rebudgeted p budgets) j n ≡ spot_after p j n
-  source_again j zero = refl
-  source_again j (suc k) = refl
-
-  left_again : (c : Cell) (s : Spot) (t : ℕ) → after_leaving (rebudgeted p budgets) c s t ≡ after_leaving p c s t
-  left_again c Out t = refl
-  left_again c (At m) t = refl
-
-  after_again : (c : Cell) (e : Event) → after (rebudgeted p budgets) c e ≡ after p c e
-  after_again c (Reported r) = refl
-  after_again c (Moved o) = ap (λ (x : Cell). with_moved (with_entry x o.job (target p c o.job)) o.job o.at)
-      (ap (λ (s : Spot). after_leaving (rebudgeted p budgets) c s o.at) (source_again o.job (made c o.job)) ∙ left_again c (source p c o.job) o.at)
-
-  happens_again : (c : Cell) (e : Event) → CanHappen p c e → CanHappen (rebudgeted p budgets) c e
-  happens_again c (Reported r) can = record { going = (can.going.0, goes_again c (ended r) can.going.0 can.going.1); moment = can.moment }
-  happens_again c (Moved o) (can, keeps) = (
-    record {
-      can = record { is_ready = can.can.is_ready; way = way_again c o.job can.can.way; moment = can.can.moment };
-      is_move = can.is_move ∙ ap (λ (s : Spot). let x : MoveOrder = record { job = o.job; source = s; target = target p c o.job; at = o.at } in x) (sym (source_again o.job (made c o.job)));
-    },
-    λ m visits. keeps m (visits_as_before o.job (made c o.job) m visits),
-  )
-
-  events_again : (c : Cell) (es : List Event) → AreEvents p c es → AreEvents (rebudgeted p budgets) c es
-  events_again c [] events = tt
-  events_again c (e ∷ es) (first, rest) = (happens_again c e first, subst (λ (x : Cell). AreEvents (rebudgeted p budgets) x es) (sym (after_again c e)) (events_again (after p c e) es rest))
-
-  all_again : (c : Cell) (es : List Event) → after_all (rebudgeted p budgets) c es ≡ after_all p c es
-  all_again c [] = refl
-  all_again c (e ∷ es) = ap (λ (x : Cell). after_all (rebudgeted p budgets) x es) (after_again c e) ∙ all_again (after p c e) es
-
-  spot_again : (s : Spot) → IsSpotOf p s → IsSpotOf (rebudgeted p budgets) s
-  spot_again Out is = tt
-  spot_again (At m) is = is
-
-  entry_again : (e : Entry) → IsEntryOf p e → IsEntryOf (rebudgeted p budgets) e
-  entry_again (ReportEntry (Arrive j at)) is = is
-  entry_again (ReportEntry (Finish j m at)) is = is
-  entry_again (ReportEntry (Clean m at)) is = is
-  entry_again (OrderEntry o) is = (is.0, spot_again o.source is.1, spot_again o.target is.2, is.3)
-
-  line_again : (line : List ℕ) (es : List Entry) → LineParses p line es → LineParses (rebudgeted p budgets) line es
-  line_again line [] is = is
-  line_again line (e ∷ []) is = (is.0, is.1, entry_again e is.2)
-  line_again line (e ∷ f ∷ es) is = is
-
-  lines_again : (lines : List (List ℕ)) (es : List Entry) → LinesParse p lines es → LinesParse (rebudgeted p budgets) lines es
-  lines_again [] es is = is
-  lines_again (line ∷ lines) es is = (is.0, is.1, line_again line is.0 is.2, lines_again lines is.1 is.3, is.4)
-
-  -- so lines record a run of it too, and lead to the same cell
-  pub run_again : (lines : List (List ℕ)) → ParseAsRun p lines → ParseAsRun (rebudgeted p budgets) lines
-  run_again lines (entries, parse, run) = (entries, lines_again lines entries parse, events_again (start p) (events_of entries) run)
-
-  pub cell_again : (lines : List (List ℕ)) (c : Cell) → IsCellOf lines p c → IsCellOf lines (rebudgeted p budgets) c
-  cell_again lines c is = record {
-    entries = is.entries;
-    parse = lines_again lines is.entries is.parse;
-    run = record { run = events_again (start p) (events_of is.entries) is.run.run; cell = is.run.cell ∙ sym (all_again (start p) (events_of is.entries)) };
-  }
+-- and what has happened keeps it too
+pub kept_again : (base : PlannedShop) (c : Cell) (p : PlannedShop) (budgets : List ℕ) → KeepsSoFar base c p → KeepsSoFar base c (rebudgeted p budgets)
+kept_again base c p budgets keeps = record {
+  jobs_keep = λ j inside. (
+      let job = keeps.jobs_keep j inside in
+      record { lacking = job.lacking; entered = λ k done here. visits_again p budgets j k (machine_of base j k) (job.entered k done here); gone = job.gone });
+  machines_keep = λ m inside. (
+      let machine = keeps.machines_keep m inside in
+      record { in_order = machine.in_order; cleanings = record { cleaned = machine.cleanings.cleaned; uncleaned = machine.cleanings.uncleaned } });
+}
 
 -- ---- what is said of a plan, and of one with other budgets
 
 pub keeps_again : (past : Past) (p : PlannedShop) (budgets : List ℕ) → KeepsPast past p → KeepsPast past (rebudgeted p budgets)
 keeps_again nothing p budgets keeps = tt
-keeps_again (run_to lines c present) p budgets keeps = run_again p budgets lines keeps
+keeps_again (run_to base c present) p budgets keeps = kept_again base c p budgets keeps
 
 pub out_again : (past : Past) (p : PlannedShop) (budgets : List ℕ) (j n : ℕ) → IsOutWithin past p j n → IsOutWithin past (rebudgeted p budgets) j n
 out_again nothing p budgets j n is = λ nodes k path. is nodes k (path_as_before p budgets nodes (leaving p j) k path)
-out_again (run_to lines c present) p budgets j n is = λ nodes k path. is nodes k (ahead_again (rebudgeted p budgets) p.plan.budget c present nodes (leaving p j) k path)
+out_again (run_to base c present) p budgets j n is = λ nodes k path. is nodes k (ahead_again (rebudgeted p budgets) p.plan.budget c present nodes (leaving p j) k path)
 
 greatest_ahead_again : (p : PlannedShop) (budgets : List ℕ) (c : Cell) (t : ℕ) (v : Node) (n : ℕ) → IsGreatestAhead p c t v n → IsGreatestAhead (rebudgeted p budgets) c t v n
 greatest_ahead_again p budgets c t v n is = record {
@@ -201,9 +134,9 @@ greatest_ahead_again p budgets c t v n is = record {
 
 pub leaving_value_again : (past : Past) (p : PlannedShop) (budgets : List ℕ) (j n : ℕ) → HasValue past (Leaving j) p n → HasValue past (Leaving j) (rebudgeted p budgets) n
 leaving_value_again nothing p budgets j n is = greatest_again p budgets (leaving p j) n is
-leaving_value_again (run_to lines c present) p budgets j n is = record { left = is.left; ahead = λ here. greatest_ahead_again p budgets c present (leaving p j) n (is.ahead here) }
+leaving_value_again (run_to base c present) p budgets j n is = record { left = is.left; ahead = λ here. greatest_ahead_again p budgets c present (leaving p j) n (is.ahead here) }
 
 -- what is out by a moment is out by a later one
 pub out_later : (past : Past) (p : PlannedShop) (j m n : ℕ) → m ≤ n → IsOutWithin past p j m → IsOutWithin past p j n
 out_later nothing p j m n le is = λ nodes k path. omega (arith, le, is nodes k path)
-out_later (run_to lines c present) p j m n le is = λ nodes k path. omega (arith, le, is nodes k path)
+out_later (run_to base c present) p j m n le is = λ nodes k path. omega (arith, le, is nodes k path)

@@ -1,7 +1,7 @@
 -- What is listed of promises that can't be kept, as it is collected.
 use Rattle.std.proofs.Common.{◌≡◌, ◌≢◌, ℕ, ◌+◌, ◌<◌, ◌≤◌, ◌==◌, Bool, true, false, true≢false, eqb-true, List, [], ◌∷◌, ◌++◌, length, All, AllPairs, Contains, arith, refl, sym, ap, subst, inl, inr, ◌⊎◌, ◌∙◌}
 use Rattle.std.proofs.lemmas.Bool.{cases_eq, cases_lt}
-use Rattle.std.proofs.lemmas.List.{get_or_past}
+use Rattle.std.proofs.lemmas.List.{get_or_past, get_or_append_left, get_or_push, length_push}
 use Rattle.std.proofs.lemmas.List.Elements.{All-nil, All-cons, All-push, All-weaker, All-contains, Contains-append_left, Contains-push}
 use Rattle.std.proofs.lemmas.List.Kept.{AllPairs-cons}
 use Rattle.plan_decide.specs.declared.decided.Excluded.{Excluded}
@@ -11,8 +11,8 @@ use Rattle.plan_decide.specs.declared.standing.Standing.{Standing}
 use Rattle.plan_decide.specs.declared.standing.Standing.TheVariants.{Unpromised, Late, Doubt}
 use Rattle.plan_decide.specs.Cases.{Past, nothing, run_to, Case, job_count, budget_in}
 use Rattle.plan_decide.specs.Promises.{IsPromised}
-use Rattle.plan_decide.specs.Excluding.{AreExcluded, HasPlanFor, AreNeeded, AreNeededUnless, IsNeverInTime, IsInDoubt, IsLateAlone, IsExclusion, ComesBefore, IsSettled, one_alone, other_alone, as_pair, together, IsApart, AreExclusions, NoneIsAlone}
-use Rattle.plan_decide.specs.Listed.{standing_of, exclusions_of, IsStanding, AreStandings, IsPairSettled, IsFrom, AreListedBefore, AreAllAlone, ArePairedTo}
+use Rattle.plan_decide.specs.Excluding.{AreExcluded, HasPlanFor, AreNeeded, AreNeededUnless, IsNeverInTime, IsInDoubt, IsLateAlone, IsExclusion, ComesBefore, IsSettled, one_alone, other_alone, as_pair, together, IsApart, IsNotOf, HasUnlistedPair, AreExclusions, NoneIsAlone}
+use Rattle.plan_decide.specs.Listed.{standing_of, exclusions_of, AreTwoInDoubt, AreCounted, IsLeftBefore, IsSeveral, IsStanding, AreStandings, IsPairSettled, IsFrom, AreListedBefore, AreAllAlone, ArePairedTo}
 use Rattle.plan_decide.proofs.Bounded.{IsRooted, bound_le}
 use Rattle.plan_decide.proofs.Pushing.{pairs_push}
 
@@ -37,7 +37,7 @@ late_exclusion t j rooted never = alone_exclusion t j never.promised (alone_excl
   where
     said : (past : Past) → IsLateAlone past t j
     said nothing = never
-    said (run_to lines c present) = tt
+    said (run_to base c present) = tt
 
 pub pair_exclusion : (t : Case) (i j : ℕ) (or_fewer : Bool) → i < j → IsInDoubt t i → IsInDoubt t j → AreExcluded t (i ∷ j ∷ []) → AreNeededUnless or_fewer t (i ∷ j ∷ []) → IsExclusion t (Pair i j or_fewer)
 pair_exclusion t i j or_fewer below one other excluded needed = record {
@@ -128,6 +128,37 @@ doubt_inside standings j doubt = elim (cases_lt j (length standings)) [
   | inl inside ↦ inside
   | inr past ↦ absurd (true≢false (sym (ap is_doubt doubt) ∙ ap is_doubt (get_or_past standings j Unpromised past)))
 ]
+
+-- what is listed before two jobs in doubt, or before some pair before them, is neither one of them alone nor both
+not_of : (standings : List Standing) (i j : ℕ) → standing_of standings i ≡ Doubt → standing_of standings j ≡ Doubt → (e : Excluded) → IsFrom standings e → ComesBefore e (Pair i j false) → IsNotOf i j e
+not_of standings i j one other (Alone k) late before =
+    (λ same. doubt_not_late (standing_of standings k) (subst (λ l. standing_of standings l ≡ Doubt) (sym same) one) late, λ same. doubt_not_late (standing_of standings k) (subst (λ l. standing_of standings l ≡ Doubt) (sym same) other) late)
+not_of standings i j one other (Pair k l fewer) from (inl less) = λ first second. omega (arith, first, less)
+not_of standings i j one other (Pair k l fewer) from (inr (same, less)) = λ first second. omega (arith, second, less)
+not_of standings i j one other (Several js fewer) from before = tt
+
+-- of so many jobs one, or two, are in doubt
+pub counted_none : (standings : List Standing) → AreCounted standings 0 0
+counted_none standings = record { one = λ some. absurd (omega (arith, some)); two = λ some. absurd (omega (arith, some)) }
+
+pub counted_more : (standings : List Standing) (n count more : ℕ) → more ≤ count + 1 → standing_of standings n ≡ Doubt → AreCounted standings n count → AreCounted standings (n + 1) more
+counted_more standings n count more few doubt known = record {
+  one = λ some. (n, omega arith, doubt);
+  two = λ some. (let earlier = known.one (omega (arith, some, few)) in record { lesser = earlier.0; greater = n; ascending = earlier.1; doubt = (earlier.2, doubt) });
+}
+
+pub counted_passed : (standings : List Standing) (n count : ℕ) → AreCounted standings n count → AreCounted standings (n + 1) count
+counted_passed standings n count known = record { one = λ some. (let earlier = known.one some in (earlier.0, omega (arith, earlier.1), earlier.2)); two = known.two }
+
+-- how one more job's promise stands
+pub standings_more : (t : Case) (n : ℕ) (found more : List Standing) (s : Standing) → more ≡ found ++ s ∷ [] → IsStanding t n s → AreStandings t n found → AreStandings t (n + 1) more
+standings_more t n found more s is stands known = subst (AreStandings t (n + 1)) (sym is) (record {
+  count = omega (arith, length_push found s, known.count);
+  each = λ j lt. elim (cases_eq j n) [
+    | inl same ↦ subst (λ k. IsStanding t k (standing_of (found ++ s ∷ []) k)) (sym same) (subst (IsStanding t n) (sym (get_or_push found s Unpromised n (known.count))) stands)
+    | inr apart ↦ subst (IsStanding t j) (sym (get_or_append_left found (s ∷ []) Unpromised j (omega (arith, lt, apart, known.count)))) (known.each j (omega (arith, lt, apart)))
+  ];
+})
 
 module _ (t : Case) (n : ℕ) (standings : List Standing) (are : AreStandings t n standings) where
   pub late_is : (j : ℕ) → standing_of standings j ≡ Late → IsExclusion t (Alone j)
@@ -256,16 +287,32 @@ module _ (t : Case) (standings : List Standing) where
 
   -- ---- pairs
 
-  pub paired_begin : (n : ℕ) (found : Listing) (es : List Excluded) → found.listed.items ≡ es → length standings ≡ n → AreAllAlone t standings n es → ArePairedTo t standings 0 0 found
-  paired_begin n found es is count known = record {
+  pub paired_begin : (n : ℕ) (found : Listing) (es : List Excluded) → found.listed.items ≡ es → found.pairs_open ≡ false → length standings ≡ n → AreAllAlone t standings n es → ArePairedTo t standings 0 0 found
+  paired_begin n found es is closed count known = record {
     listed = subst (AreListedBefore t standings (Pair 0 0 false)) (sym is) (all_before (Alone n) (Pair 0 0 false) es (λ e before. before_pairs e n before) known.listed);
     alone = λ j late. subst (λ (list : List Excluded). Contains list (Alone j)) (sym is) (known.alone j (omega (arith, late_inside standings j late, count)) late);
     settled = λ closed k l below before. absurd (nothing_before k l before);
+    left = λ opened. absurd (true≢false (sym opened ∙ closed));
   }
     where
       nothing_before : (k l : ℕ) → (k < 0) ⊎ ((k ≡ 0) × (l < 0)) → ⊥
       nothing_before k l (inl less) = omega (arith, less)
       nothing_before k l (inr (same, less)) = omega (arith, less)
+
+  -- what is before a pair is before a later one
+  left_later : (i j k l : ℕ) (es : List Excluded) → (i < k) ⊎ ((i ≡ k) × (j ≤ l)) → IsLeftBefore standings i j es → IsLeftBefore standings k l es
+  left_later i j k l es later is = record { two = is.two; before = go later is.before; unlisted = is.unlisted }
+    where
+      go : (i < k) ⊎ ((i ≡ k) × (j ≤ l)) → (is.two.lesser < i) ⊎ ((is.two.lesser ≡ i) × (is.two.greater < j)) → (is.two.lesser < k) ⊎ ((is.two.lesser ≡ k) × (is.two.greater < l))
+      go (inl more) (inl less) = inl (omega (arith, more, less))
+      go (inl more) (inr (same, less)) = inl (omega (arith, more, same))
+      go (inr (is_same, more)) (inl less) = inl (omega (arith, is_same, less))
+      go (inr (is_same, more)) (inr (same, less)) = inr (omega (arith, is_same, same), omega (arith, more, less))
+
+  -- two jobs in doubt behind what is listed aren't
+  pub two_left : (i j : ℕ) (found : Listing) (two : AreTwoInDoubt standings) → (i < two.lesser) ⊎ ((i ≡ two.lesser) × (j ≤ two.greater)) → ArePairedTo t standings i j found → All (IsNotOf two.lesser two.greater) found.listed.items
+  two_left i j found two later known k d inside =
+      not_of standings two.lesser two.greater two.doubt.0 two.doubt.1 _ (known.listed.from k d inside) (before_pair _ i j two.lesser two.greater later (known.listed.before k d inside))
 
   -- the next pair is looked at, and nothing more listed
   pub paired_passed : (i j k l : ℕ) (found : Listing) → (i < k) ⊎ ((i ≡ k) × (j ≤ l))
@@ -278,6 +325,7 @@ module _ (t : Case) (standings : List Standing) where
       | inl earlier ↦ known.settled closed a b below earlier one other
       | inr is ↦ is
     ];
+    left = λ opened. left_later i j k l found.listed.items later (known.left opened);
   }
 
   -- what is left of a row begins behind its job
@@ -322,26 +370,69 @@ module _ (t : Case) (standings : List Standing) where
       ]
 
   -- one that is open is passed over
-  pub pair_open : (i j k l : ℕ) (found more : Listing) → (i < k) ⊎ ((i ≡ k) × (j ≤ l)) → more.listed.items ≡ found.listed.items → more.pairs_open ≡ true → ArePairedTo t standings i j found → ArePairedTo t standings k l more
-  pair_open i j k l found more later same opened known = record {
+  pub pair_open : (i j k l : ℕ) (found more : Listing) → (i < k) ⊎ ((i ≡ k) × (j ≤ l)) → more.listed.items ≡ found.listed.items → more.pairs_open ≡ true → IsLeftBefore standings k l found.listed.items → ArePairedTo t standings i j found → ArePairedTo t standings k l more
+  pair_open i j k l found more later same opened left known = record {
     listed = subst (AreListedBefore t standings (Pair k l false)) (sym same) (all_before (Pair i j false) (Pair k l false) found.listed.items (λ e before. before_pair e i j k l later before) known.listed);
     alone = λ a late. subst (λ (list : List Excluded). Contains list (Alone a)) (sym same) (known.alone a late);
     settled = λ closed. absurd (true≢false (sym opened ∙ closed));
+    left = λ is. subst (IsLeftBefore standings k l) (sym same) left;
   }
+
+  -- two jobs in doubt that are asked about in vain
+  pub this_left : (i j : ℕ) (found : Listing) → i < j → standing_of standings i ≡ Doubt → standing_of standings j ≡ Doubt → ArePairedTo t standings i j found → IsLeftBefore standings i (j + 1) found.listed.items
+  this_left i j found below one other known =
+      let two : AreTwoInDoubt standings = record { lesser = i; greater = j; ascending = below; doubt = (one, other) } in
+      record { two = two; before = inr (refl, omega arith); unlisted = two_left i j found two (inr (refl, omega arith)) known }
+
+  -- more are in doubt than are asked about together
+  pub many_left : (n : ℕ) (found : Listing) → length standings ≡ n → AreTwoInDoubt standings → ArePairedTo t standings 0 0 found → IsLeftBefore standings n 0 found.listed.items
+  many_left n found count two known = record {
+    two = two;
+    before = inl (omega (arith, count, doubt_inside standings two.lesser two.doubt.0));
+    unlisted = two_left 0 0 found two (first two.lesser) known;
+  }
+    where
+      first : (i : ℕ) → (0 < i) ⊎ ((0 ≡ i) × (0 ≤ two.greater))
+      first i = elim (cases_eq 0 i) [
+        | inl same ↦ inr (same, omega arith)
+        | inr apart ↦ inl (omega (arith, apart))
+      ]
+
+  pub many_open : (n : ℕ) (found more : Listing) → length standings ≡ n → AreTwoInDoubt standings → more.listed.items ≡ found.listed.items → more.pairs_open ≡ true → ArePairedTo t standings 0 0 found → ArePairedTo t standings n 0 more
+  many_open n found more count two same opened known = pair_open 0 0 n 0 found more (first n) same opened (many_left n found count two known) known
+    where
+      first : (i : ℕ) → (0 < i) ⊎ ((0 ≡ i) × (0 ≤ 0))
+      first i = elim (cases_eq 0 i) [
+        | inl is ↦ inr (is, omega arith)
+        | inr apart ↦ inl (omega (arith, apart))
+      ]
 
   -- a pair that excludes each other is listed
   pub pair_more : (i j : ℕ) (or_fewer : Bool) (found more : Listing) → more.listed.items ≡ found.listed.items ++ Pair i j or_fewer ∷ [] → more.pairs_open ≡ found.pairs_open
       → IsExclusion t (Pair i j or_fewer) → standing_of standings i ≡ Doubt → standing_of standings j ≡ Doubt → ArePairedTo t standings i j found → ArePairedTo t standings i (j + 1) more
+  unfolding left_later
   pair_more i j or_fewer found more is same exclusion one_doubt other_doubt known = record {
     listed = subst (AreListedBefore t standings (Pair i (j + 1) false)) (sym is)
         (one_more_before (Pair i j or_fewer) (Pair i (j + 1) false) es exclusion (one_doubt, other_doubt) (λ e before. before_pair e i j i (j + 1) (inr (refl, omega arith)) (any_pair e before)) (inr (refl, omega arith)) (all_before (Pair i j false) (Pair i j or_fewer) es (λ e before. this_pair e before) known.listed));
     alone = λ a late. subst (λ (list : List Excluded). Contains list (Alone a)) (sym is) (Contains-append_left es (Pair i j or_fewer ∷ []) (Alone a) (known.alone a late));
     settled = λ closed a b below before one other. (
         subst (λ list. IsPairSettled t list a b) (sym is) (settled_before a b below before (λ earlier. known.settled (sym same ∙ closed) a b below earlier one other)));
+    left = λ opened. left_still (known.left (sym same ∙ opened));
   }
     where
       es : List Excluded
       es = found.listed.items
+
+      left_still : IsLeftBefore standings i j es → IsLeftBefore standings i (j + 1) more.listed.items
+      left_still left = subst (IsLeftBefore standings i (j + 1)) (sym is) (record {
+        two = left.two;
+        before = (left_later i j i (j + 1) es (inr (refl, omega arith)) left).before;
+        unlisted = All-push (IsNotOf left.two.lesser left.two.greater) es (Pair i j or_fewer) left.unlisted (apart left.before);
+      })
+        where
+          apart : (left.two.lesser < i) ⊎ ((left.two.lesser ≡ i) × (left.two.greater < j)) → i ≡ left.two.lesser → j ≡ left.two.greater → ⊥
+          apart (inl less) first second = omega (arith, less, first)
+          apart (inr (same_one, less)) first second = omega (arith, less, second)
 
       any_pair : (e : Excluded) → ComesBefore e (Pair i j or_fewer) → ComesBefore e (Pair i j false)
       any_pair (Alone a) before = before
@@ -388,6 +479,18 @@ module _ (t : Case) (standings : List Standing) where
         go (inr doubt) (inl late) = other_alone (known.alone j late)
         go (inr doubt) (inr doubt_too) = settled_pair (known.settled closed i j below (inl (omega (arith, all, one.promised.inside))) doubt doubt_too)
 
+    -- where a pair is open, two jobs in doubt aren't listed
+    left_all : found.pairs_open ≡ true → HasUnlistedPair t found.listed.items
+    left_all opened =
+        let left = known.left opened in
+        record {
+          lesser = left.two.lesser;
+          greater = left.two.greater;
+          ascending = left.two.ascending;
+          doubt = (doubt_is t n standings are left.two.lesser left.two.doubt.0, doubt_is t n standings are left.two.greater left.two.doubt.1);
+          unlisted = left.unlisted;
+        }
+
     never_listed : (j : ℕ) → IsNeverInTime t j → Contains found.listed.items (Alone j)
     never_listed j never = known.alone j (never_is_late t n standings are j (omega (arith, all, never.promised.inside)) never)
 
@@ -401,11 +504,12 @@ module _ (t : Case) (standings : List Standing) where
       apart = All-weaker (IsFrom standings) (IsApart found.listed.items) (λ e is. pair_apart found.listed.items known.listed.from e is) found.listed.items known.listed.from;
       acyclic = λ closed. absurd (true≢false closed);
       pairs = settled_all;
+      left = left_all;
     }
 
     -- one exclusion, where nothing else is listed
-    pub exclusions_one : (e : Excluded) (more : Listing) → length found.listed.items ≡ 0 → more.listed.items ≡ found.listed.items ++ e ∷ [] → more.pairs_open ≡ found.pairs_open → IsExclusion t e → AreExclusions t (exclusions_of more true)
-    exclusions_one e more empty is same exclusion = go found.listed.items empty is never_listed settled_all
+    pub exclusions_one : (e : Excluded) (more : Listing) → length found.listed.items ≡ 0 → more.listed.items ≡ found.listed.items ++ e ∷ [] → more.pairs_open ≡ found.pairs_open → IsExclusion t e → IsSeveral e → AreExclusions t (exclusions_of more true)
+    exclusions_one e more empty is same exclusion are_several = go found.listed.items empty is never_listed settled_all left_all
       where
         settled_more : (i j : ℕ) → IsSettled t [] i j → IsSettled t (e ∷ []) i j
         settled_more i j (one_alone has) = absurd (omega (arith, has.1))
@@ -413,10 +517,18 @@ module _ (t : Case) (standings : List Standing) where
         settled_more i j (as_pair fewer has) = absurd (omega (arith, has.1))
         settled_more i j (together plan) = together plan
 
+        not_it : (i j : ℕ) (x : Excluded) → IsSeveral x → IsNotOf i j x
+        not_it i j (Alone k) several = absurd several
+        not_it i j (Pair k l fewer) several = absurd several
+        not_it i j (Several js fewer) several = tt
+
+        left_more : HasUnlistedPair t [] → HasUnlistedPair t (e ∷ [])
+        left_more left = record { lesser = left.lesser; greater = left.greater; ascending = left.ascending; doubt = left.doubt; unlisted = All-cons (IsNotOf left.lesser left.greater) e [] (not_it left.lesser left.greater e are_several) left.unlisted }
+
         go : (es : List Excluded) → length es ≡ 0 → more.listed.items ≡ es ++ e ∷ [] → ((j : ℕ) → IsNeverInTime t j → Contains es (Alone j))
-            → (found.pairs_open ≡ false → (i j : ℕ) → i < j → IsInDoubt t i → IsInDoubt t j → IsSettled t es i j) → AreExclusions t (exclusions_of more true)
-        go (x ∷ es) none is_more never pairs = absurd (omega (arith, none))
-        go [] none is_more never pairs = record {
+            → (found.pairs_open ≡ false → (i j : ℕ) → i < j → IsInDoubt t i → IsInDoubt t j → IsSettled t es i j) → (found.pairs_open ≡ true → HasUnlistedPair t es) → AreExclusions t (exclusions_of more true)
+        go (x ∷ es) none is_more never pairs left = absurd (omega (arith, none))
+        go [] none is_more never pairs left = record {
           some = omega (arith, ap length is_more);
           each = subst (All (IsExclusion t)) (sym is_more) (All-cons (IsExclusion t) e [] exclusion (All-nil (IsExclusion t)));
           order = subst (AllPairs ComesBefore) (sym is_more) (λ a b d one two. absurd (omega (arith, one, two)));
@@ -424,4 +536,5 @@ module _ (t : Case) (standings : List Standing) where
           apart = subst (λ list. All (IsApart list) list) (sym is_more) (All-cons (IsApart (e ∷ [])) e [] (alone_only e) (All-nil (IsApart (e ∷ []))));
           acyclic = λ open_not. absurd (true≢false open_not);
           pairs = λ closed i j below one other. subst (λ list. IsSettled t list i j) (sym is_more) (settled_more i j (pairs (sym same ∙ closed) i j below one other));
+          left = λ opened. subst (HasUnlistedPair t) (sym is_more) (left_more (left (sym same ∙ opened)));
         }

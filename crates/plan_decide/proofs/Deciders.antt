@@ -1,24 +1,23 @@
 -- What is decided by what is found.
-use Rattle.std.proofs.Common.{◌≡◌, ℕ, false, true, List, Option, sym, subst, refl, arith, true≢false}
+use Rattle.std.proofs.Common.{◌≡◌, ◌↔◌, IsTrue, Bool, ℕ, false, true, Option, sym, ap, ◌∙◌, subst, refl, arith, true≢false}
 use Rattle.std.proofs.lemmas.List.{set-set, get_or-set_same}
 use Rattle.shop_base.specs.declared.limits.TheConstants.{MAX_MOMENT}
 use Rattle.shop_base.specs.Plan.{PlannedShop, IsWellShaped}
+use Rattle.shop_base.specs.Cell.{Cell, start}
 use Rattle.plan_decide.specs.declared.aim.Aim.{Aim}
 use Rattle.plan_decide.specs.declared.aim.Aim.TheVariants.{Promises, Least}
 use Rattle.plan_decide.specs.declared.aim.Objective.{Objective}
 use Rattle.plan_decide.specs.declared.aim.Objective.TheVariants.{Makespan, Leaving}
-use Rattle.plan_decide.specs.declared.decided.Decided.{Decided}
-use Rattle.plan_decide.specs.declared.decided.Decided.TheVariants.{Kept as IsKeptOne, Best as IsBestOne, Never as IsNever, Cyclic as IsCyclic, Open as IsOpen}
 use Rattle.plan_decide.specs.declared.decided.Within.{Within}
 use Rattle.plan_decide.specs.declared.kept.Kept.{Kept}
 use Rattle.plan_decide.specs.Cases.{Past, Case, with_budgets}
-use Rattle.plan_decide.specs.Pasts.{case_of, whole_case, IsPastOf, HoldsAfter}
+use Rattle.plan_decide.specs.Pasts.{case_of, whole_case, HasNotBegun, IsPastOf, unbegun, begun, HoldsFrom}
 use Rattle.plan_decide.specs.Promises.{asked_for, IsInRange}
-use Rattle.plan_decide.specs.Decisions.{OnKept, OnBest, OnNever, OnCyclic, OnOpen, IsAcceptedWith, IsKept, IsBest}
-use Rattle.plan_decide.specs.Excluding.{AreAllCyclic, HasAcyclicPlan, AreExclusions, NoneIsAlone}
+use Rattle.plan_decide.specs.Decisions.{IsAcceptedWith, IsKept, IsBest}
+use Rattle.plan_decide.specs.Excluding.{AreAllCyclic, HasAcyclicPlan, AreExclusions}
 use Rattle.plan_decide.specs.declared.listing.Listing.{Listing}
 use Rattle.plan_decide.specs.Listed.{exclusions_of}
-use Rattle.plan_decide.specs.Settings.{plan_of, free_in, freed}
+use Rattle.plan_decide.specs.Settings.{AskedRest, asked_rest, case_in, IsSet, past_by, past_in, plan_of, free_in, freed}
 use Rattle.plan_decide.specs.Halves.{IsHalved}
 use Rattle.plan_decide.specs.declared.cycles.Acyclic.{Acyclic}
 use Rattle.plan_decide.specs.declared.cycles.Acyclic.TheVariants.{Never as NoneIs, Found as OneIs, Open as ItIsOpen}
@@ -60,47 +59,37 @@ all_cyclic t (Least (Leaving j)) none = λ p plan acyclic. none p (record { shap
 
 -- what is listed, with what is found of plans without a cycle
 pub never_known : (t : Case) (found : Listing) (acyclic : Acyclic) → AreExclusions t (exclusions_of found true) → IsAcyclic t acyclic → AreExclusions t (exclusions_of found (is_unfound acyclic))
-never_known t found acyclic are is = record { some = are.some; each = are.each; order = are.order; alone = are.alone; apart = are.apart; acyclic = go acyclic is; pairs = are.pairs }
+never_known t found acyclic are is = record { some = are.some; each = are.each; order = are.order; alone = are.alone; apart = are.apart; acyclic = go acyclic is; pairs = are.pairs; left = are.left }
   where
     go : (a : Acyclic) → IsAcyclic t a → is_unfound a ≡ false → HasAcyclicPlan t
     go NoneIs none closed = absurd (true≢false closed)
     go OneIs has closed = has
     go ItIsOpen none closed = absurd (true≢false closed)
 
--- ---- what is decided after what has happened
+-- ---- what is decided by what is found
 
-module _ {lines : List (List ℕ)} {at : Option ℕ} {p : PlannedShop} {past : Past} (aim : Aim) where
-  pub kept_after : (decided : Decided PlannedShop) → IsPastOf lines at p past → OnKept (λ plan. IsKept (case_of p past) aim plan) decided → OnKept (λ plan. HoldsAfter lines at p (λ t. IsKept t aim plan)) decided
-  kept_after (IsKeptOne plan) is says = record { past = past; is = is; says = says }
-  kept_after (IsBestOne plan within) is says = tt
-  kept_after (IsNever found back) is says = tt
-  kept_after (IsCyclic back) is says = tt
-  kept_after (IsOpen back) is says = tt
+pub found_kept : (t : Case) (aim : Aim) (plan : PlannedShop) → (aim ≡ Promises) × IsAcceptedWith (asked_for t aim) plan → IsKept t aim plan
+found_kept t aim plan (asked, is) = record { asked = asked; plan = subst (λ a. IsAcceptedWith (asked_for t a) plan) asked is }
 
-  pub best_after : (decided : Decided PlannedShop) → IsPastOf lines at p past → OnBest (λ plan within. IsBest (case_of p past) aim plan within) decided → OnBest (λ plan within. HoldsAfter lines at p (λ t. IsBest t aim plan within)) decided
-  best_after (IsKeptOne plan) is says = tt
-  best_after (IsBestOne plan within) is says = record { past = past; is = is; says = says }
-  best_after (IsNever found back) is says = tt
-  best_after (IsCyclic back) is says = tt
-  best_after (IsOpen back) is says = tt
+-- of a run that hasn't begun it is what is decided of the whole plan
+pub of_start : (p : PlannedShop) (holds : Case → Type 0) → HoldsFrom p (start p) 0 holds → holds (whole_case p)
+of_start p holds from = go from.past from.is from.says
+  where
+    go : (past : Past) → IsPastOf p (start p) 0 past → holds (case_of p past) → holds (whole_case p)
+    go _ (unbegun is) says = says
+    go _ (begun not) says = absurd (not (refl, refl))
 
-  pub never_after : (decided : Decided PlannedShop) → IsPastOf lines at p past → OnNever (AreExclusions (asked_for (case_of p past) aim)) decided → OnNever (λ found. HoldsAfter lines at p (λ t. AreExclusions (asked_for t aim) found)) decided
-  never_after (IsKeptOne plan) is says = tt
-  never_after (IsBestOne plan within) is says = tt
-  never_after (IsNever found back) is says = record { past = past; is = is; says = says }
-  never_after (IsCyclic back) is says = tt
-  never_after (IsOpen back) is says = tt
+-- the rest of a run has begun, or is a whole plan
+pub past_is : (s : AskedRest) → IsSet s → IsPastOf s.plan s.cell s.present (past_in s)
+past_is s set = go s.is_whole set.whole
+  where
+    go : (b : Bool) → IsTrue b ↔ HasNotBegun s.plan s.cell s.present → IsPastOf s.plan s.cell s.present (past_by b s.plan s.cell s.present)
+    go true is = unbegun (is.0 refl)
+    go false is = begun (λ not. true≢false (sym (is.1 not)))
 
-  pub cyclic_after : (decided : Decided PlannedShop) → IsPastOf lines at p past → OnCyclic (AreAllCyclic (case_of p past)) decided → OnCyclic (HoldsAfter lines at p AreAllCyclic) decided
-  cyclic_after (IsKeptOne plan) is says = tt
-  cyclic_after (IsBestOne plan within) is says = tt
-  cyclic_after (IsNever found back) is says = tt
-  cyclic_after (IsCyclic back) is says = record { past = past; is = is; says = says }
-  cyclic_after (IsOpen back) is says = tt
-
-  pub open_after : (decided : Decided PlannedShop) → IsPastOf lines at p past → OnOpen (NoneIsAlone (asked_for (case_of p past) aim)) decided → OnOpen (HoldsAfter lines at p (λ t. NoneIsAlone (asked_for t aim))) decided
-  open_after (IsKeptOne plan) is says = tt
-  open_after (IsBestOne plan within) is says = tt
-  open_after (IsNever found back) is says = tt
-  open_after (IsCyclic back) is says = tt
-  open_after (IsOpen back) is says = record { past = past; is = is; says = says }
+pub setting_holds : (p : PlannedShop) (c : Cell) (t : ℕ) (b : Bool) (free : Option ℕ) (aim : Aim) → IsSet (asked_rest p c t b free) → free ≡ free_in aim → HoldsFrom p c t (λ x. case_in (asked_rest p c t b free) ≡ asked_for x aim)
+setting_holds p c t b free aim set same = record {
+  past = past_by b p c t;
+  is = past_is (asked_rest p c t b free) set;
+  says = ap (λ (f : Option ℕ). with_budgets (case_of p (past_by b p c t)) (freed f p.plan.budget)) same ∙ asked_case p (past_by b p c t) aim;
+}

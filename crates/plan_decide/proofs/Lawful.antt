@@ -16,7 +16,7 @@ no_exact_run_keeps_them-holds t js p es excluded plan run exact keeps = excluded
 })
 
 pub no_continuation_keeps_them-holds : NoContinuationKeepsThem
-no_continuation_keeps_them-holds t lines c present js p es fs excluded plan run end more from late keeps = excluded p plan (record {
+no_continuation_keeps_them-holds t base c present js p es fs excluded plan run end more from late keeps = excluded p plan (record {
   acyclic = λ nodes cycle. (let stuck = cycle_never_done p nodes plan.shaped cycle (es ++ fs) more in stuck.2 (keeps.gone stuck.0 stuck.1));
   out = λ j named nodes k path. (
       let there = subst (λ (d : Cell). PathAhead p d present nodes (leaving p j) k) (sym end) path in

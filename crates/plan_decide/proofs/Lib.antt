@@ -1,6 +1,7 @@
 mod Lawful
 mod Budgets
 mod Bounded
+mod Beginnings
 mod Limits
 mod Collecting
 mod Leaving

@@ -2,13 +2,13 @@
 use Rattle.std.proofs.Common.{◌≡◌, ℕ, ◌<◌, ◌≤◌, nat_lt, ◌==◌, ◌||◌, if◌then◌else◌, Bool, true, false, List, [], ◌∷◌, length, Contains, Option, None, Some, is_some, arith, refl, sym, ap, ◌∙◌, subst, inl, inr, true≢false, eqb-true, ltb-true}
 use Rattle.std.proofs.lemmas.Bool.{or_cases, cond_above, lt-ltb}
 use Rattle.shop_base.specs.declared.limits.TheConstants.{MAX_MOMENT}
-use Rattle.shop_base.specs.Plan.{PlannedShop, jobs}
+use Rattle.shop_base.specs.Plan.{PlannedShop, jobs, IsWellShaped}
 use Rattle.shop_base.specs.Cell.{Cell, IsGone, start}
 use Rattle.plan_bounds.specs.Bounds.{times_of}
 use Rattle.plan_limits.specs.Stages.{stage_of}
 use Rattle.plan_limits.specs.Limits.{NoPlanKeepsFrom}
 use Rattle.plan_limits.proofs.Acceptance.{the_start_is_every_plan-holds}
-use Rattle.run_log.specs.Present.{IsCellOf}
+use Rattle.cell_tables.specs.{Kept.KeepsSoFar, Rests.IsReached}
 use Rattle.plan_decide.specs.declared.asked.Asked.{Asked}
 use Rattle.plan_decide.specs.declared.asked.Asked.TheVariants.{Nobody, Both}
 use Rattle.plan_decide.specs.Cases.{Past, nothing, run_to, Case, is_waiting, job_count, budget_in, times_in, with_budgets}
@@ -18,7 +18,7 @@ use Rattle.plan_decide.specs.Excluding.{AreAllCyclic, AreExcluded}
 use Rattle.plan_decide.specs.Asking.{promise_in, AreLimits, IsImpossible, NoPlanKeeps}
 use Rattle.plan_decide.specs.LeftOut.{cap}
 use Rattle.plan_decide.proofs.Budgets.{out_later}
-use Rattle.plan_decide.proofs.Bounded.{goes_on, here_waits}
+use Rattle.plan_decide.proofs.Bounded.{led_on, here_waits}
 
 -- a limit that depends on a test
 pub limit_if : (b : Bool) (limit : Option ℕ) (n : ℕ) → (if b then limit else None) ≡ Some n → (b ≡ true) × (limit ≡ Some n)
@@ -48,23 +48,24 @@ promise_past t j budget same past = go (is_waiting (times_in t) t.past j)
 -- what has happened leads to the cell and the present moment by the plan
 abbrev pub IsReachedBy : PlannedShop → Past → Cell → ℕ → Type 0
 IsReachedBy p nothing c present = (c ≡ start p) × (present ≡ 0)
-IsReachedBy p (run_to lines d t) c present = IsCellOf lines p d × (c ≡ d) × (present ≡ t)
+IsReachedBy p (run_to base d t) c present = IsWellShaped p × IsReached p c × (base ≡ p) × (c ≡ d) × (present ≡ t)
 
 -- where no plan that goes on from a cell keeps limits none of the case does
 pub none_keeps : (p : PlannedShop) (past : Past) (budget : List ℕ) (limits : List (Option ℕ)) (c : Cell) (present : ℕ) → IsReachedBy p past c present → NoPlanKeepsFrom (stage_of p c present) limits → NoPlanKeeps (with_budgets (case_of p past) budget) limits
 none_keeps p nothing budget limits c present (begins, zero) none q plan keeps =
     let never = the_start_is_every_plan-holds (times_of p) limits (subst (λ (x : Cell). NoPlanKeepsFrom (stage_of p x 0) limits) begins (subst (λ (n : ℕ). NoPlanKeepsFrom (stage_of p c n) limits) zero none)) in
     never q plan.shaped plan.same (record { acyclic = keeps.acyclic; jobs = λ j n inside is. keeps.out j n inside refl is })
-none_keeps p (run_to lines d t) budget limits c present (cell, same, moment) none q plan keeps =
+none_keeps p (run_to base d t) budget limits c present (shaped, reached, of_it, same, moment) none q plan keeps =
     let stage = stage_of p d t in
     let none_there : NoPlanKeepsFrom stage limits = subst (λ (x : Cell). NoPlanKeepsFrom (stage_of p x t) limits) same (subst (λ (n : ℕ). NoPlanKeepsFrom (stage_of p c n) limits) moment none) in
-    none_there q (goes_on lines p q d t (sym plan.same) cell plan.shaped plan.keeps) (record {
+    let there = led_on p q d shaped plan.shaped plan.same (subst (IsReached p) same reached) (subst (λ (x : PlannedShop). KeepsSoFar x d q) of_it plan.keeps) in
+    none_there q (record { shaped = plan.shaped; same = plan.same; run = there.events; is_run = there.run; cell = sym there.ends }) (record {
       acyclic = keeps.acyclic;
       jobs = λ j n inside here is. keeps.out j n inside (waits q plan.same j here) is;
     })
   where
-    waits : (q : PlannedShop) → times_of q ≡ times_of p → (j : ℕ) → (IsGone q d j → ⊥) → is_waiting (times_of p) (run_to lines d t) j ≡ true
-    waits q same j here = sym (ap (λ s. is_waiting s (run_to lines d t) j) same) ∙ here_waits q lines d t j here
+    waits : (q : PlannedShop) → times_of q ≡ times_of p → (j : ℕ) → (IsGone q d j → ⊥) → is_waiting (times_of p) (run_to base d t) j ≡ true
+    waits q same j here = sym (ap (λ s. is_waiting s (run_to base d t) j) same) ∙ here_waits q base d t j here
 
 module _ (t : Case) (asked : Asked) where
   -- where no plan keeps the limits, none keeps what is asked for

@@ -15,14 +15,14 @@ use Rattle.plan_bounds.specs.Bounds.{ShopTimes, times_of, route_in, job_bound}
 use Rattle.plan_limits.specs.Stages.{bare}
 use Rattle.plan_limits.specs.Limits.{IsOutBy}
 use Rattle.plan_seek.specs.Tasks.{PlanTask}
-use Rattle.run_log.specs.Audits.{ParseAsRun}
+use Rattle.cell_tables.specs.Kept.{KeepsSoFar}
 use Rattle.plan_decide.specs.declared.aim.Objective.{Objective}
 use Rattle.plan_decide.specs.declared.aim.Objective.TheVariants.{Makespan, Leaving}
 
--- what has happened: nothing, or the run that these lines record, which has led to a cell; and then the present moment
+-- what has happened: nothing, or a run of a plan, which has led to a cell; and then the present moment
 pub data Past : Type 0 where
   nothing : Past
-  run_to : (lines : List (List ℕ)) (cell : Cell) (present : ℕ) → Past
+  run_to : (plan : PlannedShop) (cell : Cell) (present : ℕ) → Past
 
 -- the numbers of plans, and what has happened
 pub record Case : Type 0 where
@@ -40,37 +40,37 @@ pub record IsLeavingAhead (p : PlannedShop) (c : Cell) (present j n : ℕ) : Typ
   pub left : IsGone p c j → n ≡ since c j
   pub ahead : (IsGone p c j → ⊥) → IsGreatestAhead p c present (leaving p j) n
 
--- the plan keeps what has happened: the lines record a run of it too
+-- what has happened keeps the plan: all that was done in the cell does, so the run is one of that plan too
 abbrev pub KeepsPast : Past → PlannedShop → Type 0
 KeepsPast nothing p = Unit {0}
-KeepsPast (run_to lines c present) p = ParseAsRun p lines
+KeepsPast (run_to base c present) p = KeepsSoFar base c p
 
 -- no path to the leaving of job j is longer than n: no path ahead, where something has happened
 abbrev pub IsOutWithin : Past → PlannedShop → ℕ → ℕ → Type 0
 IsOutWithin nothing p j n = IsOutBy p j n
-IsOutWithin (run_to lines c present) p j n = (nodes : List Node) (k : ℕ) → PathAhead p c present nodes (leaving p j) k → k ≤ n
+IsOutWithin (run_to base c present) p j n = (nodes : List Node) (k : ℕ) → PathAhead p c present nodes (leaving p j) k → k ≤ n
 
 -- the plan is to be accepted: the whole of it, or the rest
 abbrev pub IsGood : Past → PlannedShop → Type 0
 IsGood nothing p = IsAcceptable p
-IsGood (run_to lines c present) p = IsAcceptableAhead p c present
+IsGood (run_to base c present) p = IsAcceptableAhead p c present
 
 -- n is the plan's makespan, or the earliest leaving of the job: the greatest length of a path to it; or those of the rest
 abbrev pub HasValue : Past → Objective → PlannedShop → ℕ → Type 0
 HasValue nothing Makespan p n = IsMakespan p n
 HasValue nothing (Leaving j) p n = IsGreatest p (leaving p j) n
-HasValue (run_to lines c present) Makespan p n = IsMakespanAhead p c present n
-HasValue (run_to lines c present) (Leaving j) p n = IsLeavingAhead p c present j n
+HasValue (run_to base c present) Makespan p n = IsMakespanAhead p c present n
+HasValue (run_to base c present) (Leaving j) p n = IsLeavingAhead p c present j n
 
 -- whether job j isn't gone
 abbrev pub is_waiting : ShopTimes → Past → ℕ → Bool
 is_waiting t nothing j = true
-is_waiting t (run_to lines c present) j = nat_le (made c j) (length (route_in t j))
+is_waiting t (run_to base c present) j = nat_le (made c j) (length (route_in t j))
 
 -- job j's bound: its release and its nominal times; or, where something has happened, the present moment, or that at which what goes on with it is due, if that is later, and the nominal times of the steps that it hasn't entered
 abbrev pub bound_in : ShopTimes → Past → ℕ → ℕ
 bound_in t nothing j = job_bound t j
-bound_in t (run_to lines c present) j = later_than present (due_of_job (bare t) j (job_in c j)) + route_work (drop (made c j) (route_in t j))
+bound_in t (run_to base c present) j = later_than present (due_of_job (bare t) j (job_in c j)) + route_work (drop (made c j) (route_in t j))
 
 module _ (t : Case) where
   -- the number of jobs
@@ -93,13 +93,13 @@ module _ (t : Case) where
   abbrev pub with_budget : ℕ → ℕ → Case
   with_budget j n = with_budgets (slice_set t.task.budget j n)
 
--- a plan of the same shop with the same releases and cleaning times, which are given or left out alike, whatever its orders and budgets, that keeps what has happened
+-- a plan of the same shop with the same releases and cleaning times, which are given or left out alike, whatever its orders and budgets, that what has happened keeps
 pub record IsPlanOf (t : Case) (p : PlannedShop) : Type 0 where
   pub shaped : IsWellShaped p
   pub same : times_of p ≡ times_in t
   pub keeps : KeepsPast t.past p
 
--- the plan is accepted: it is well shaped, keeps what has happened, and is to be accepted
+-- the plan is accepted: it is well shaped, what has happened keeps it, and it is to be accepted
 pub record IsAccepted (past : Past) (p : PlannedShop) : Type 0 where
   pub shaped : IsWellShaped p
   pub keeps : KeepsPast past p

@@ -7,7 +7,7 @@ use Rattle.plan_decide.specs.declared.aim.Aim.TheVariants.{Promises, Least}
 use Rattle.plan_decide.specs.declared.aim.Objective.{Objective}
 use Rattle.plan_decide.specs.declared.aim.Objective.TheVariants.{Makespan, Leaving}
 use Rattle.plan_decide.specs.declared.decide_fault.DecideFault.{DecideFault}
-use Rattle.plan_decide.specs.declared.decide_fault.DecideFault.TheVariants.{JobOutOfRange, Run, Memory}
+use Rattle.plan_decide.specs.declared.decide_fault.DecideFault.TheVariants.{JobOutOfRange, Memory}
 use Rattle.plan_decide.specs.declared.decided.Decided.{Decided}
 use Rattle.plan_decide.specs.declared.decided.Decided.TheVariants.{Kept, Best, Never, Cyclic, Open}
 use Rattle.plan_decide.specs.declared.decided.Within.{Within}
@@ -15,54 +15,47 @@ use Rattle.plan_decide.specs.declared.decided.Exclusions.{Exclusions}
 use Rattle.plan_decide.specs.Cases.{Case, IsAccepted, HasValue, with_budget}
 use Rattle.plan_decide.specs.Promises.{asked_for, IsInRange}
 use Rattle.plan_decide.specs.Objectives.{IsLeastValue}
+use Rattle.plan_decide.specs.Excluding.{AreAllCyclic, AreExclusions, NoneIsAlone}
 
 -- where all promises can be kept
-abbrev pub OnKept : {K : Type 0} → (K → Type 0) → Decided K → Type 0
+abbrev pub OnKept : (PlannedShop → Type 0) → Decided → Type 0
 OnKept P (Kept plan) = P plan
 OnKept P (Best plan within) = Unit {0}
-OnKept P (Never found back) = Unit {0}
-OnKept P (Cyclic back) = Unit {0}
-OnKept P (Open back) = Unit {0}
+OnKept P (Never found) = Unit {0}
+OnKept P Cyclic = Unit {0}
+OnKept P Open = Unit {0}
 
 -- where the best plan that was found is given
-abbrev pub OnBest : {K : Type 0} → (K → Within → Type 0) → Decided K → Type 0
+abbrev pub OnBest : (PlannedShop → Within → Type 0) → Decided → Type 0
 OnBest P (Kept plan) = Unit {0}
 OnBest P (Best plan within) = P plan within
-OnBest P (Never found back) = Unit {0}
-OnBest P (Cyclic back) = Unit {0}
-OnBest P (Open back) = Unit {0}
+OnBest P (Never found) = Unit {0}
+OnBest P Cyclic = Unit {0}
+OnBest P Open = Unit {0}
 
 -- where they can't be kept
-abbrev pub OnNever : {K : Type 0} → (Exclusions → Type 0) → Decided K → Type 0
+abbrev pub OnNever : (Exclusions → Type 0) → Decided → Type 0
 OnNever P (Kept plan) = Unit {0}
 OnNever P (Best plan within) = Unit {0}
-OnNever P (Never found back) = P found
-OnNever P (Cyclic back) = Unit {0}
-OnNever P (Open back) = Unit {0}
+OnNever P (Never found) = P found
+OnNever P Cyclic = Unit {0}
+OnNever P Open = Unit {0}
 
 -- where no plan is without a cycle
-abbrev pub OnCyclic : {K : Type 0} → Type 0 → Decided K → Type 0
+abbrev pub OnCyclic : Type 0 → Decided → Type 0
 OnCyclic P (Kept plan) = Unit {0}
 OnCyclic P (Best plan within) = Unit {0}
-OnCyclic P (Never found back) = Unit {0}
-OnCyclic P (Cyclic back) = P
-OnCyclic P (Open back) = Unit {0}
+OnCyclic P (Never found) = Unit {0}
+OnCyclic P Cyclic = P
+OnCyclic P Open = Unit {0}
 
 -- where it isn't decided
-abbrev pub OnOpen : {K : Type 0} → Type 0 → Decided K → Type 0
+abbrev pub OnOpen : Type 0 → Decided → Type 0
 OnOpen P (Kept plan) = Unit {0}
 OnOpen P (Best plan within) = Unit {0}
-OnOpen P (Never found back) = Unit {0}
-OnOpen P (Cyclic back) = Unit {0}
-OnOpen P (Open back) = P
-
--- where no plan is found, this one comes back
-abbrev pub GivesBack : {K : Type 0} → PlannedShop → Decided K → Type 0
-GivesBack p (Kept plan) = Unit {0}
-GivesBack p (Best plan within) = Unit {0}
-GivesBack p (Never found back) = back ≡ p
-GivesBack p (Cyclic back) = back ≡ p
-GivesBack p (Open back) = back ≡ p
+OnOpen P (Never found) = Unit {0}
+OnOpen P Cyclic = Unit {0}
+OnOpen P Open = P
 
 -- the plan has these numbers, and is accepted
 pub record IsAcceptedWith (t : Case) (p : PlannedShop) : Type 0 where
@@ -89,8 +82,15 @@ pub record IsBest (t : Case) (aim : Aim) (p : PlannedShop) (within : Within) : T
   pub apart : within.at_least ≤ within.at_most
   pub exact : within.ended_open ≡ false → within.at_least ≡ within.at_most
 
--- why nothing is decided of whole plans: the job isn't of the shop, or else out of memory
+-- what is decided of a case: where a plan is found, it keeps all promises, and has the objective that is known; else what is listed excludes each other, no plan is without a cycle, or no job is never in time by its bound
+pub record IsDecided (t : Case) (aim : Aim) (decided : Decided) : Type 0 where
+  pub kept : OnKept (IsKept t aim) decided
+  pub best : OnBest (IsBest t aim) decided
+  pub never : OnNever (AreExclusions (asked_for t aim)) decided
+  pub cyclic : OnCyclic (AreAllCyclic t) decided
+  pub undecided : OnOpen (NoneIsAlone (asked_for t aim)) decided
+
+-- why nothing is decided: the job isn't of the shop, or else out of memory
 abbrev pub IsDecideFault : Case → Aim → DecideFault → Type 0
 IsDecideFault t aim JobOutOfRange = IsInRange t aim → ⊥
 IsDecideFault t aim Memory = IsInRange t aim
-IsDecideFault t aim (Run fault) = ⊥

@@ -3,6 +3,7 @@ use Rattle.std.specs.Prelude.{◌≡◌, ◌≢◌, ◌⊎◌, ℕ, ◌<◌, Boo
 use Rattle.shop_base.specs.declared.limits.TheConstants.{MAX_MOMENT}
 use Rattle.shop_base.specs.Plan.{PlannedShop, jobs, budget}
 use Rattle.plan_verifier.specs.Accepted.{HasNoCycle}
+use Rattle.alt_graph.specs.Solved.{HasCycle}
 use Rattle.plan_bounds.specs.Bounds.{times_of}
 use Rattle.plan_decide.specs.declared.decided.Exclusions.{Exclusions}
 use Rattle.plan_decide.specs.declared.decided.Excluded.{Excluded}
@@ -65,7 +66,7 @@ AreNeededUnless false t js = AreNeeded t js
 -- of whole plans, a job alone is late by its bound
 abbrev pub IsLateAlone : Past → Case → ℕ → Type 0
 IsLateAlone nothing t j = IsNeverInTime t j
-IsLateAlone (run_to lines c present) t j = Unit {0}
+IsLateAlone (run_to base c present) t j = Unit {0}
 
 -- what else is said of them: one alone is late by its bound, in whole plans; neither of a pair is; and of a pair or of several each is needed, where no fewer may do
 abbrev pub IsSaidOf : Case → Excluded → Type 0
@@ -104,7 +105,25 @@ IsApart es (Alone j) = Unit {0}
 IsApart es (Pair i j or_fewer) = (Contains es (Alone i) → ⊥) × (Contains es (Alone j) → ⊥)
 IsApart es (Several js or_fewer) = Unit {0}
 
--- what is listed where no plan keeps all promises, though some plan is without a cycle, where that isn't open: some such jobs; each job that is never in time by its bound; and pairs of others, all of them that exclude each other, where none is open
+-- this is neither one of the two alone, nor both as a pair
+abbrev pub IsNotOf : ℕ → ℕ → Excluded → Type 0
+IsNotOf i j (Alone k) = (k ≢ i) × (k ≢ j)
+IsNotOf i j (Pair k l or_fewer) = k ≡ i → l ≡ j → ⊥
+IsNotOf i j (Several js or_fewer) = Unit {0}
+
+-- two jobs in doubt are listed neither alone nor as a pair
+pub record HasUnlistedPair (t : Case) (es : List Excluded) : Type 0 where
+  pub lesser : ℕ
+  pub greater : ℕ
+  pub ascending : lesser < greater
+  pub doubt : IsInDoubt t lesser × IsInDoubt t greater
+  pub unlisted : All (IsNotOf lesser greater) es
+
+-- it is open if any plan is without a cycle only where the one that was given has a cycle
+abbrev pub HasCycleIfOpen : PlannedShop → Exclusions → Type 0
+HasCycleIfOpen p found = found.cycles_open ≡ true → HasCycle p
+
+-- what is listed where no plan keeps all promises, though some plan is without a cycle, where that isn't open: some such jobs; each job that is never in time by its bound; and pairs of others, all of them that exclude each other, where none is open, which it is only where some pair isn't listed
 pub record AreExclusions (t : Case) (found : Exclusions) : Type 0 where
   pub some : 0 < length found.listed.items
   pub each : All (IsExclusion t) found.listed.items
@@ -113,6 +132,7 @@ pub record AreExclusions (t : Case) (found : Exclusions) : Type 0 where
   pub apart : All (IsApart found.listed.items) found.listed.items
   pub acyclic : found.cycles_open ≡ false → HasAcyclicPlan t
   pub pairs : found.pairs_open ≡ false → (i j : ℕ) → i < j → IsInDoubt t i → IsInDoubt t j → IsSettled t found.listed.items i j
+  pub left : found.pairs_open ≡ true → HasUnlistedPair t found.listed.items
 
 -- no job is never in time by its bound
 abbrev pub NoneIsAlone : Case → Type 0

@@ -1,21 +1,19 @@
 -- What is found with some numbers, before the plan that was given is handed back.
 use Rattle.std.specs.Prelude.{◌≡◌, Bool, true, false}
-use Rattle.shop_base.specs.Plan.{PlannedShop}
 use Rattle.plan_decide.specs.declared.aim.Aim.{Aim}
 use Rattle.plan_decide.specs.declared.aim.Aim.TheVariants.{Promises, Least}
 use Rattle.plan_decide.specs.declared.aim.Objective.{Objective}
-use Rattle.plan_decide.specs.declared.decided.Decided.{Decided}
 use Rattle.plan_decide.specs.declared.decided.Within.{Within}
+use Rattle.plan_decide.specs.declared.decided.Exclusions.{Exclusions}
 use Rattle.plan_decide.specs.declared.deciding.Found.{Found}
 use Rattle.plan_decide.specs.declared.deciding.Found.TheVariants.{Kept, Best, Never, Cyclic, Open}
 use Rattle.plan_decide.specs.declared.kept.Kept.{Kept as KeptPlan}
 use Rattle.plan_decide.specs.Settings.{plan_of, FitsPast}
 use Rattle.plan_decide.specs.Cases.{Case}
-use Rattle.plan_decide.specs.Promises.{asked_for}
 use Rattle.plan_decide.specs.declared.cycles.Acyclic.{Acyclic}
 use Rattle.plan_decide.specs.declared.cycles.Acyclic.TheVariants.{Never as NoneIs, Found as OneIs, Open as ItIsOpen}
 use Rattle.plan_decide.specs.Excluding.{AreAllCyclic, HasAcyclicPlan, AreExclusions, NoneIsAlone}
-use Rattle.plan_decide.specs.Decisions.{OnKept, OnBest, OnNever, OnCyclic, OnOpen, GivesBack, IsAcceptedWith, IsKept, IsBest}
+use Rattle.plan_decide.specs.Decisions.{IsAcceptedWith}
 use Rattle.plan_decide.specs.Halves.{IsFree, IsHalved}
 
 -- the job whose leaving is asked for has no promise
@@ -49,11 +47,10 @@ IsFound t aim (Never found) = AreExclusions t found
 IsFound t aim Cyclic = AreAllCyclic t
 IsFound t aim Open = NoneIsAlone t
 
--- what is decided, where its plans are seen as planned shops, and the plan that was given comes back
-pub record IsDecided {K : Type 0} (plan : K → PlannedShop) (t : Case) (aim : Aim) (p : PlannedShop) (decided : Decided K) : Type 0 where
-  pub kept : OnKept (λ k. IsKept t aim (plan k)) decided
-  pub best : OnBest (λ k within. IsBest t aim (plan k) within) decided
-  pub never : OnNever (AreExclusions (asked_for t aim)) decided
-  pub cyclic : OnCyclic (AreAllCyclic t) decided
-  pub left : OnOpen (NoneIsAlone (asked_for t aim)) decided
-  pub given_back : GivesBack p decided
+-- where what excludes each other is found, it is so
+abbrev pub OnFoundNever : (Exclusions → Type 0) → Found → Type 0
+OnFoundNever P (Kept plan) = Unit {0}
+OnFoundNever P (Best plan within) = Unit {0}
+OnFoundNever P (Never found) = P found
+OnFoundNever P Cyclic = Unit {0}
+OnFoundNever P Open = Unit {0}

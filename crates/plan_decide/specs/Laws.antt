@@ -19,9 +19,9 @@ pub record KeepsThemAll (t : Case) (js : List ℕ) (p : PlannedShop) (es : List 
 abbrev pub whole : PlanTask → Case
 whole t = record { task = t; past = nothing }
 
--- the numbers of plans that go on from a cell, to which these lines lead, and a present moment
-abbrev pub from_there : PlanTask → List (List ℕ) → Cell → ℕ → Case
-from_there t lines c present = record { task = t; past = run_to lines c present }
+-- the numbers of plans that go on from a cell, to which a run of this plan has led, and a present moment
+abbrev pub from_there : PlanTask → PlannedShop → Cell → ℕ → Case
+from_there t base c present = record { task = t; past = run_to base c present }
 
 -- where no plan is without a cycle, no run of any such plan has all jobs out, whatever its moments and whoever controls it
 abbrev pub NoRunEndsWhereAllAreCyclic : Type 0
@@ -34,6 +34,6 @@ NoExactRunKeepsThem = (t : PlanTask) (js : List ℕ) (p : PlannedShop) (es : Lis
 
 -- where they do from a cell on, no run of any such plan that goes on from there, by any controller, keeps them all in which no move is before the present moment and no report since is early
 abbrev pub NoContinuationKeepsThem : Type 0
-NoContinuationKeepsThem = (t : PlanTask) (lines : List (List ℕ)) (c : Cell) (present : ℕ) (js : List ℕ) (p : PlannedShop) (es fs : List Event)
-    → AreExcluded (from_there t lines c present) js → IsPlanOf (from_there t lines c present) p → IsRun p es → ends_in p es ≡ c → IsRun p (es ++ fs) → MoveFrom present fs → AreNotEarly p c fs
-    → KeepsThemAll (from_there t lines c present) js p (es ++ fs) → ⊥
+NoContinuationKeepsThem = (t : PlanTask) (base : PlannedShop) (c : Cell) (present : ℕ) (js : List ℕ) (p : PlannedShop) (es fs : List Event)
+    → AreExcluded (from_there t base c present) js → IsPlanOf (from_there t base c present) p → IsRun p es → ends_in p es ≡ c → IsRun p (es ++ fs) → MoveFrom present fs → AreNotEarly p c fs
+    → KeepsThemAll (from_there t base c present) js p (es ++ fs) → ⊥

@@ -12,7 +12,7 @@ use Rattle.plan_decide.specs.declared.promises.Reply.{Reply}
 use Rattle.plan_decide.specs.declared.promises.Reply.TheVariants.{Orders, Never as Excluding, Cyclic, Open as Undecided}
 use Rattle.plan_decide.specs.Cases.{Case}
 use Rattle.plan_decide.specs.Promises.{IsPromised}
-use Rattle.plan_decide.specs.Excluding.{AreAllCyclic, AreExcluded, HasPlanFor, IsInDoubt, IsExclusion, ComesBefore, AreExclusions, NoneIsAlone}
+use Rattle.plan_decide.specs.Excluding.{AreAllCyclic, AreExcluded, HasPlanFor, IsInDoubt, IsExclusion, ComesBefore, IsNotOf, AreExclusions, NoneIsAlone}
 
 -- how the promise of job j stands
 abbrev pub standing_of : List Standing → ℕ → Standing
@@ -57,6 +57,30 @@ IsFrom standings (Alone j) = standing_of standings j ≡ Late
 IsFrom standings (Pair i j or_fewer) = (standing_of standings i ≡ Doubt) × (standing_of standings j ≡ Doubt)
 IsFrom standings (Several js or_fewer) = ⊥
 
+-- two jobs that are in doubt
+pub record AreTwoInDoubt (standings : List Standing) : Type 0 where
+  pub lesser : ℕ
+  pub greater : ℕ
+  pub ascending : lesser < greater
+  pub doubt : (standing_of standings lesser ≡ Doubt) × (standing_of standings greater ≡ Doubt)
+
+-- so many of the first n jobs are in doubt that one is, or two are
+pub record AreCounted (standings : List Standing) (n count : ℕ) : Type 0 where
+  pub one : 0 < count → (i : ℕ) × (i < n) × (standing_of standings i ≡ Doubt)
+  pub two : 1 < count → AreTwoInDoubt standings
+
+-- two jobs in doubt before i and j are listed neither alone nor as a pair
+pub record IsLeftBefore (standings : List Standing) (i j : ℕ) (es : List Excluded) : Type 0 where
+  pub two : AreTwoInDoubt standings
+  pub before : (two.lesser < i) ⊎ ((two.lesser ≡ i) × (two.greater < j))
+  pub unlisted : All (IsNotOf two.lesser two.greater) es
+
+-- several jobs
+abbrev pub IsSeveral : Excluded → Type 0
+IsSeveral (Alone j) = ⊥
+IsSeveral (Pair i j or_fewer) = ⊥
+IsSeveral (Several js or_fewer) = Unit {0}
+
 module _ (t : Case) (standings : List Standing) where
   -- such jobs that exclude each other, in order, and all of them come before this one
   pub record AreListedBefore (next : Excluded) (es : List Excluded) : Type 0 where
@@ -76,3 +100,4 @@ module _ (t : Case) (standings : List Standing) where
     pub alone : (k : ℕ) → standing_of standings k ≡ Late → Contains found.listed.items (Alone k)
     pub settled : found.pairs_open ≡ false → (k l : ℕ) → k < l → (k < i) ⊎ ((k ≡ i) × (l < j)) → standing_of standings k ≡ Doubt → standing_of standings l ≡ Doubt
         → IsPairSettled t found.listed.items k l
+    pub left : found.pairs_open ≡ true → IsLeftBefore standings i j found.listed.items

@@ -9,13 +9,13 @@ ghost use Rattle.plan_decide.specs.Listed.{AreAllAlone, AreStandings};
 use crate::decided::Excluded;
 use crate::setting::Setting;
 use crate::standing::{Standing, standing_of};
-use shop_base::JobNo;
+use shop_base::{JobNo, Planned};
 use std::alloc::{AllocError, Global};
 
 /// All jobs that are late alone, in ascending order.
-pub(crate) fn all_alone(
+pub(crate) fn all_alone<P: Planned>(
     alloc: Global,
-    setting: &Setting<'_>,
+    setting: &Setting<'_, P>,
     standings: &[Standing],
 ) -> Result<Vec<Excluded>, AllocError>
     requires { let t = case_in setting.now in AreStandings t (job_count t) standings.now }
@@ -23,20 +23,20 @@ pub(crate) fn all_alone(
         IfOk result (λ listed. AreAllAlone t standings.now (job_count t) listed.items) }
 {
     let mut listed = Vec::new(alloc);
-    for job in 0..setting.cell.job_count() {
+    for job in 0..setting.cell().job_count() {
         add_alone(setting, standings, job, &mut listed)?;
     }
     Ok(listed)
 }
 
 /// Adds the job, if it is late alone.
-fn add_alone(
-    setting: &Setting<'_>,
+fn add_alone<P: Planned>(
+    setting: &Setting<'_, P>,
     standings: &[Standing],
     job: JobNo,
     listed: &mut Vec<Excluded>,
 ) -> Result<(), AllocError>
-    requires job { job < jobs setting.now.cell.plan }
+    requires job { job < jobs setting.now.plan }
     requires standings { let t = case_in setting.now in AreStandings t (job_count t) standings.now }
     requires known { AreAllAlone (case_in setting.now) standings.now job listed.old.items }
     ensures { OnOk result (AreAllAlone (case_in setting.now) standings.now (job + 1) listed.new.items) }

@@ -9,7 +9,7 @@ ghost use Rattle.plan_decide.specs.Settings.{case_in};
 use crate::aim::Objective;
 use crate::setting::{Setting, budget_for, is_waiting};
 use shop_base::limits::MAX_MOMENT;
-use shop_base::{JobNo, Moment};
+use shop_base::{JobNo, Moment, Planned};
 use std::alloc::{AllocError, Global};
 
 /// Which promises are asked for.
@@ -26,8 +26,8 @@ pub(crate) enum Asked {
 }
 
 /// The budget of a job that has a promise.
-pub(crate) fn promise_to(setting: &Setting<'_>, job: JobNo) -> Option<Moment>
-    requires { job < jobs setting.now.cell.plan }
+pub(crate) fn promise_to<P: Planned>(setting: &Setting<'_, P>, job: JobNo) -> Option<Moment>
+    requires { job < jobs setting.now.plan }
     ensures { result ≡ promise_in (case_in setting.now) job }
 {
     if !is_waiting(setting, job) {
@@ -39,8 +39,8 @@ pub(crate) fn promise_to(setting: &Setting<'_>, job: JobNo) -> Option<Moment>
 }
 
 /// The limit of a job, if the job is asked for.
-fn limit_for(setting: &Setting<'_>, asked: Asked, job: JobNo) -> Option<Moment>
-    requires { job < jobs setting.now.cell.plan }
+fn limit_for<P: Planned>(setting: &Setting<'_, P>, asked: Asked, job: JobNo) -> Option<Moment>
+    requires { job < jobs setting.now.plan }
     ensures { result ≡ limit_asked (case_in setting.now) asked job }
 {
     match asked {
@@ -65,15 +65,15 @@ fn limit_for(setting: &Setting<'_>, asked: Asked, job: JobNo) -> Option<Moment>
 }
 
 /// The limits of all jobs.
-pub(crate) fn limits_for(
+pub(crate) fn limits_for<P: Planned>(
     alloc: Global,
-    setting: &Setting<'_>,
+    setting: &Setting<'_, P>,
     asked: Asked,
 ) -> Result<Vec<Option<Moment>>, AllocError>
     ensures { let t = case_in setting.now in IfOk result (λ limits. AreLimits t asked (job_count t) limits.items) }
 {
     let mut limits = Vec::new(alloc);
-    for job in 0..setting.cell.job_count() {
+    for job in 0..setting.cell().job_count() {
         limits.push(limit_for(setting, asked, job))?;
     }
     Ok(limits)

@@ -4,14 +4,14 @@ ghost use Rattle.std.specs.Prelude.{◌≡◌, IfOk, length};
 ghost use Rattle.shop_base.specs.Plan.{jobs};
 ghost use Rattle.plan_limits.specs.Answered.{OnNever};
 ghost use Rattle.plan_decide.specs.Asking.{IsImpossible, NoPlanKeeps};
-ghost use Rattle.plan_decide.specs.Settings.{IsSet, case_in};
+ghost use Rattle.plan_decide.specs.Settings.{case_in};
 
 use crate::asked::{Asked, limits_for};
 use crate::decided::Within;
-use crate::setting::{Past, Setting};
+use crate::setting::Setting;
 use arc_choice::{Choose, Question, Side, State};
 use plan_limits::{Answer, ask};
-use shop_base::Moment;
+use shop_base::{Moment, Planned};
 use std::alloc::{AllocError, Global};
 
 /// A watcher that gets how far the searches have come. It changes nothing in them.
@@ -58,13 +58,12 @@ impl<C: Choose, W: Watch> Asker<'_, C, W> {
     }
 
     /// Whether any plan keeps what is asked for.
-    pub(crate) fn ask(
+    pub(crate) fn ask<P: Planned>(
         &mut self,
         alloc: Global,
-        setting: &Setting<'_>,
+        setting: &Setting<'_, P>,
         asked: Asked,
     ) -> Result<Answer, AllocError>
-        requires { IsSet setting.now }
         ensures { IfOk result (OnNever (IsImpossible (case_in setting.now) asked)) }
     {
         let limits = limits_for(alloc, setting, asked)?;
@@ -72,52 +71,45 @@ impl<C: Choose, W: Watch> Asker<'_, C, W> {
     }
 
     /// Whether any plan keeps these limits.
-    pub(crate) fn ask_limits(
+    pub(crate) fn ask_limits<P: Planned>(
         &mut self,
         alloc: Global,
-        setting: &Setting<'_>,
+        setting: &Setting<'_, P>,
         limits: &[Option<Moment>],
     ) -> Result<Answer, AllocError>
-        requires count { length limits.now ≡ jobs setting.now.cell.plan }
-        requires set { IsSet setting.now }
+        requires { length limits.now ≡ jobs setting.now.plan }
         ensures { IfOk result (OnNever (NoPlanKeeps (case_in setting.now) limits.now)) }
     {
         self.search(alloc, setting, limits, self.choices)
     }
 
     /// The same by few choices.
-    pub(crate) fn ask_few(
+    pub(crate) fn ask_few<P: Planned>(
         &mut self,
         alloc: Global,
-        setting: &Setting<'_>,
+        setting: &Setting<'_, P>,
         limits: &[Option<Moment>],
     ) -> Result<Answer, AllocError>
-        requires count { length limits.now ≡ jobs setting.now.cell.plan }
-        requires set { IsSet setting.now }
+        requires { length limits.now ≡ jobs setting.now.plan }
         ensures { IfOk result (OnNever (NoPlanKeeps (case_in setting.now) limits.now)) }
     {
         self.search(alloc, setting, limits, self.choices.min(PAIR_CHOICES))
     }
 
     /// The same by at most so many choices.
-    fn search(
+    fn search<P: Planned>(
         &mut self,
         alloc: Global,
-        setting: &Setting<'_>,
+        setting: &Setting<'_, P>,
         limits: &[Option<Moment>],
         choices: u64,
     ) -> Result<Answer, AllocError>
-        requires count { length limits.now ≡ jobs setting.now.cell.plan }
-        requires set { IsSet setting.now }
+        requires { length limits.now ≡ jobs setting.now.plan }
         ensures { IfOk result (OnNever (NoPlanKeeps (case_in setting.now) limits.now)) }
     {
         self.limit = choices;
-        match setting.past {
-            Past::Nothing => ask(alloc, &setting.cell, 0, limits, self, choices),
-            Past::Run { log: _, present } => {
-                ask(alloc, &setting.cell, present, limits, self, choices)
-            }
-        }
+        let present = setting.present();
+        ask(alloc, setting.cell(), present, limits, self, choices)
     }
 }
 

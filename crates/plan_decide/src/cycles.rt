@@ -1,21 +1,21 @@
 //! Whether any plan is without a cycle.
 
-ghost use Rattle.std.specs.Prelude.{◌≡◌, ◌≤◌, IfOk, IsTrue};
-ghost use Rattle.shop_base.specs.declared.limits.TheConstants.{MAX_MOMENT};
+ghost use Rattle.std.specs.Prelude.{◌≡◌, IfOk, IsTrue, true, false};
+ghost use Rattle.alt_graph.specs.Solved.{HasCycle};
 ghost use Rattle.plan_verifier.specs.Accepted.{HasNoCycle};
-ghost use Rattle.plan_decide.specs.Settings.{IsSet, case_in};
+ghost use Rattle.plan_decide.specs.Settings.{case_in};
 ghost use Rattle.plan_decide.specs.Found.{IsAcyclic, is_unfound};
 
 use crate::asked::{Asked, limits_for};
 use crate::asker::{Asker, Watch};
 use crate::keeping::keeps;
-use crate::setting::{Past, Setting};
+use crate::setting::Setting;
 use alt_graph::Solved;
 use arc_choice::Choose;
-use cell_tables::WorkCell;
+use cell_tables::Rest;
 use plan_limits::Answer;
-use plan_verifier::solve_after;
-use shop_base::{Moment, Shaped};
+use plan_verifier::earliest_moments;
+use shop_base::Planned;
 use std::alloc::{AllocError, Global};
 
 /// What is found of plans without a cycle.
@@ -41,17 +41,15 @@ pub(crate) fn is_unfound(acyclic: Acyclic) -> bool
 }
 
 /// Asks for a plan without a cycle: for the given one, and where it has one, for any.
-pub(crate) fn ask_acyclic<C: Choose, W: Watch>(
+pub(crate) fn ask_acyclic<P: Planned, C: Choose, W: Watch>(
     alloc: Global,
-    setting: &Setting<'_>,
+    setting: &Setting<'_, P>,
     asker: &mut Asker<'_, C, W>,
 ) -> Result<Acyclic, AllocError>
-    requires { IsSet setting.now }
-    ensures { IfOk result (IsAcyclic (case_in setting.now)) }
+    ensures is { IfOk result (IsAcyclic (case_in setting.now)) }
+    ensures given { IfOk result (λ acyclic. is_unfound acyclic ≡ true → HasCycle setting.now.plan) }
 {
-    // Called for its clause alone: the plan is well shaped.
-    let _plan = setting.cell.shaped();
-    let is_found = is_acyclic(alloc, &setting.cell, present_of(setting))?;
+    let is_found = is_acyclic(alloc, setting.rest())?;
     if is_found {
         return Ok(Acyclic::Found);
     }
@@ -59,12 +57,11 @@ pub(crate) fn ask_acyclic<C: Choose, W: Watch>(
 }
 
 /// Asks for any plan without a cycle, by a search in which nobody's promise is asked for.
-fn ask_any_acyclic<C: Choose, W: Watch>(
+fn ask_any_acyclic<P: Planned, C: Choose, W: Watch>(
     alloc: Global,
-    setting: &Setting<'_>,
+    setting: &Setting<'_, P>,
     asker: &mut Asker<'_, C, W>,
 ) -> Result<Acyclic, AllocError>
-    requires { IsSet setting.now }
     ensures { IfOk result (IsAcyclic (case_in setting.now)) }
 {
     let limits = limits_for(alloc, setting, Asked::Nobody)?;
@@ -81,23 +78,12 @@ fn ask_any_acyclic<C: Choose, W: Watch>(
     }
 }
 
-/// The present moment.
-fn present_of(setting: &Setting<'_>) -> Moment
-    requires { IsSet setting.now }
-    ensures { result ≤ MAX_MOMENT }
+/// Whether the plan of the rest has no cycle.
+fn is_acyclic<P: Planned>(alloc: Global, rest: &Rest<P>) -> Result<bool, AllocError>
+    ensures none { IfOk result (λ is. IsTrue is → HasNoCycle rest.now.plan) }
+    ensures some { IfOk result (λ is. is ≡ false → HasCycle rest.now.plan) }
 {
-    match setting.past {
-        Past::Nothing => 0,
-        Past::Run { log: _, present } => present,
-    }
-}
-
-/// Whether the plan has no cycle.
-fn is_acyclic(alloc: Global, cell: &WorkCell<&Shaped>, present: Moment) -> Result<bool, AllocError>
-    requires { present ≤ MAX_MOMENT }
-    ensures { IfOk result (λ is. IsTrue is → HasNoCycle cell.now.plan) }
-{
-    match solve_after(alloc, cell, present)? {
+    match earliest_moments(alloc, rest)? {
         Solved::Ordered(times) => {
             drop(times);
             Ok(true)

@@ -1,7 +1,5 @@
 //! Why nothing is decided.
 
-use run_log::RunFault;
-use shop_base::Shaped;
 use std::alloc::AllocError;
 use thiserror::Error;
 
@@ -11,19 +9,9 @@ pub enum DecideFault {
     /// The job whose leaving is asked for isn't of the shop.
     #[error("JobOutOfRange")]
     JobOutOfRange,
-    /// There is no run up to the present moment.
-    #[error("{0}")]
-    Run(RunFault),
     /// Out of memory, here or in the chooser.
     #[error("Memory")]
     Memory,
-}
-
-/// The plan that came in, given back as it was, with the reason why nothing is decided.
-#[derive(Drop)]
-pub struct Undecided {
-    pub fault: DecideFault,
-    pub shaped: Shaped,
 }
 
 impl From<AllocError> for DecideFault {

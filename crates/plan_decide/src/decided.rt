@@ -2,21 +2,20 @@
 
 use shop_base::{JobNo, Moment, Shaped};
 
-/// What is decided. A plan is given as `K`: a whole one as `Verified`, one for the rest of a run as `Shaped`.
+/// What is decided.
 #[derive(Drop)]
-pub enum Decided<K> {
+pub enum Decided {
     /// All promises can be kept: an accepted plan.
-    Kept(K),
+    Kept(Shaped),
     /// They can, and this is the best plan that was found, with what is known of the objective. Where the least leaving
     /// of a job was asked for, the plan has the job's leaving as its budget.
-    Best(K, Within),
-    /// They can't: the jobs that exclude each other, and the plan that was given.
-    Never(Exclusions, Shaped),
-    /// No plan is without a cycle, whatever its orders: none gets all jobs out. The plan that was given comes back.
-    Cyclic(Shaped),
-    /// Whether they can isn't decided, within the choices that were allowed or since the question is too large. The
-    /// plan that was given comes back.
-    Open(Shaped),
+    Best(Shaped, Within),
+    /// They can't: the jobs that exclude each other.
+    Never(Exclusions),
+    /// No plan is without a cycle, whatever its orders: none gets all jobs out.
+    Cyclic,
+    /// Whether they can isn't decided, within the choices that were allowed or since the question is too large.
+    Open,
 }
 
 /// Between which moments the least value of an objective lies, in whole time units. Where they are the same, it is

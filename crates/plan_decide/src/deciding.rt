@@ -2,34 +2,32 @@
 
 ghost use Rattle.std.specs.Prelude.{◌≡◌, IfOk, IfErr, OnOk};
 ghost use Rattle.shop_base.specs.Plan.{PlannedShop};
-ghost use Rattle.text_lines.specs.Lines.{ended_lines};
 ghost use Rattle.plan_decide.specs.declared.aim.Aim.{Aim};
 ghost use Rattle.plan_decide.specs.declared.aim.Aim.TheVariants.{Promises, Least};
 ghost use Rattle.plan_decide.specs.Cases.{Case};
-ghost use Rattle.plan_decide.specs.Pasts.{whole_case, HoldsAfter, IsDecideRestFault};
+ghost use Rattle.plan_decide.specs.Pasts.{whole_case, HoldsFrom};
 ghost use Rattle.plan_decide.specs.Promises.{asked_for, IsInRange};
-ghost use Rattle.plan_decide.specs.Excluding.{AreAllCyclic, AreExclusions, NoneIsAlone};
-ghost use Rattle.plan_decide.specs.Decisions.{OnKept, OnBest, OnNever, OnCyclic, OnOpen, GivesBack};
-ghost use Rattle.plan_decide.specs.Decisions.{IsKept, IsBest, IsDecideFault};
-ghost use Rattle.plan_decide.specs.Settings.{IsSet, case_in};
-ghost use Rattle.plan_decide.specs.Found.{IsReady, IsFound, IsDecided};
+ghost use Rattle.plan_decide.specs.Excluding.{HasCycleIfOpen, NoneIsAlone};
+ghost use Rattle.plan_decide.specs.Decisions.{IsDecided, IsDecideFault, OnNever};
+ghost use Rattle.plan_decide.specs.Settings.{case_in};
+ghost use Rattle.plan_decide.specs.Found.{IsReady, IsFound, OnFoundNever};
 ghost use Rattle.plan_decide.specs.Halves.{IsFree};
 ghost use Rattle.plan_decide.specs.Listed.{exclusions_of};
 
 use crate::aim::{Aim, Objective, is_in_range};
 use crate::asker::{Asker, Watch};
 use crate::cycles::{Acyclic, ask_acyclic, is_unfound};
-use crate::decide_fault::{DecideFault, Undecided};
+use crate::decide_fault::DecideFault;
 use crate::decided::{Decided, Exclusions, Within};
 use crate::halving::{halve, plan_by};
 use crate::judging::accepted_by;
 use crate::kept::Kept;
 use crate::listing::Listing;
 use crate::promises::{Reply, ask_all};
-use crate::setting::{Setting, after_log, whole};
+use crate::setting::Setting;
 use arc_choice::Choose;
-use plan_verifier::Verified;
-use shop_base::{JobNo, Moment, Shaped};
+use cell_tables::Rest;
+use shop_base::{JobNo, Moment, Planned, Shaped};
 use std::alloc::{AllocError, Global};
 
 /// What is found, before the plan that was given is handed back.
@@ -43,9 +41,9 @@ pub(crate) enum Found {
 }
 
 /// Decides whether any plan with the numbers of this one is accepted, whatever its orders; those that it has aren't
-/// used. A job whose budget is `MAX_MOMENT` has no promise. Each search makes at most so many choices: a pair of jobs
-/// on a machine that is decided one way and, where that fails, the other, is one. The chooser and the watch need not be
-/// trusted.
+/// used. This is the rest of a run that hasn't begun, and is decided as such. A job whose budget is `MAX_MOMENT` has no
+/// promise. Each search makes at most so many choices: a pair of jobs on a machine that is decided one way and, where
+/// that fails, the other, is one. The chooser and the watch need not be trusted.
 ///
 /// Where all promises together can't be kept, they exclude each other: each job that its bound excludes is listed,
 /// before anything is searched; then each pair of others, where these are at most `PAIRED_JOBS`; and where nothing is
@@ -56,182 +54,89 @@ pub(crate) enum Found {
 /// found first.
 pub fn decide<C: Choose, W: Watch>(
     alloc: Global,
-    shaped: Shaped,
-    aim: Aim,
-    choices: u64,
-    chooser: &mut C,
-    watch: &mut W,
-) -> Result<Decided<Verified>, Undecided>
-    ensures in_range { OnOk result (IsInRange (whole_case shaped) aim) }
-    ensures kept { IfOk result (OnKept (λ verified. IsKept (whole_case shaped) aim verified.planned)) }
-    ensures best { IfOk result (OnBest (λ verified within. IsBest (whole_case shaped) aim verified.planned within)) }
-    ensures never { IfOk result (OnNever (AreExclusions (asked_for (whole_case shaped) aim))) }
-    ensures cyclic { IfOk result (OnCyclic (AreAllCyclic (whole_case shaped))) }
-    ensures open { IfOk result (OnOpen (NoneIsAlone (asked_for (whole_case shaped) aim))) }
-    ensures given_back { IfOk result (GivesBack shaped) }
-    ensures refused { IfErr result (λ undecided. IsDecideFault (whole_case shaped) aim undecided.fault) }
-    ensures handed_back { IfErr result (λ undecided. undecided.shaped ≡ shaped) }
-{
-    let found = find_whole(
-        alloc,
-        &shaped,
-        aim,
-        &mut Asker::new(chooser, watch, choices),
-    );
-    match found {
-        Ok(found) => Ok(whole_back(found, shaped)),
-        Err(fault) => Err(Undecided { fault, shaped }),
-    }
-}
-
-/// Decides the same of the rest of the run that the log's whole lines record by this plan, from a moment on, or else
-/// from its last one: of all plans with its releases and cleaning times of which they record a run too. Entries that
-/// were made stay, and jobs that are gone aren't asked for. What goes on ends when it is due, and what is overdue at
-/// the present moment. The bound of a job is then that moment, or the one at which what goes on with it is due, and its
-/// nominal times from there on. It is asked first whether any of these plans is without a cycle: this one, or else one
-/// that a search finds; and each promised job is asked for alone, by at most `PAIR_CHOICES` choices, before all of them
-/// are. Where the log records no event and the moment is 0, that is what `decide` decides.
-pub fn decide_after<C: Choose, W: Watch>(
-    alloc: Global,
-    shaped: Shaped,
-    log: &[u8],
-    at: Option<Moment>,
-    aim: Aim,
-    choices: u64,
-    chooser: &mut C,
-    watch: &mut W,
-) -> Result<Decided<Shaped>, Undecided>
-    ensures in_range { OnOk result (IsInRange (whole_case shaped) aim) }
-    ensures kept { IfOk result (OnKept (λ plan. HoldsAfter (ended_lines log.now) at shaped (λ t. IsKept t aim plan))) }
-    ensures best { IfOk result (OnBest (λ plan within.
-        HoldsAfter (ended_lines log.now) at shaped (λ t. IsBest t aim plan within))) }
-    ensures never { IfOk result (OnNever (λ found.
-        HoldsAfter (ended_lines log.now) at shaped (λ t. AreExclusions (asked_for t aim) found))) }
-    ensures cyclic { IfOk result (OnCyclic (HoldsAfter (ended_lines log.now) at shaped AreAllCyclic)) }
-    ensures open { IfOk result (OnOpen
-        (HoldsAfter (ended_lines log.now) at shaped (λ t. NoneIsAlone (asked_for t aim)))) }
-    ensures given_back { IfOk result (GivesBack shaped) }
-    ensures refused { IfErr result (λ undecided.
-        IsDecideRestFault (ended_lines log.now) at shaped aim undecided.fault) }
-    ensures handed_back { IfErr result (λ undecided. undecided.shaped ≡ shaped) }
-{
-    let found = find_after(
-        alloc,
-        &shaped,
-        log,
-        at,
-        aim,
-        &mut Asker::new(chooser, watch, choices),
-    );
-    match found {
-        Ok(found) => Ok(rest_back(found, shaped)),
-        Err(fault) => Err(Undecided { fault, shaped }),
-    }
-}
-
-/// What is found of whole plans.
-fn find_whole<C: Choose, W: Watch>(
-    alloc: Global,
     shaped: &Shaped,
     aim: Aim,
-    asker: &mut Asker<'_, C, W>,
-) -> Result<Found, DecideFault>
+    choices: u64,
+    chooser: &mut C,
+    watch: &mut W,
+) -> Result<Decided, DecideFault>
     ensures in_range { OnOk result (IsInRange (whole_case shaped.now) aim) }
-    ensures found { IfOk result (IsFound (asked_for (whole_case shaped.now) aim) aim) }
+    ensures decided { IfOk result (IsDecided (whole_case shaped.now) aim) }
+    ensures given { IfOk result (OnNever (HasCycleIfOpen shaped.now)) }
     ensures refused { IfErr result (IsDecideFault (whole_case shaped.now) aim) }
 {
     if !is_in_range(shaped, aim) {
         return Err(DecideFault::JobOutOfRange);
     }
-    // Called for its clause alone: the plan is well shaped.
-    let _shop = shaped.shop();
-    let setting = whole(alloc, shaped, aim)?;
-    let found = find(alloc, &setting, aim, asker);
-    drop(setting);
-    Ok(found?)
+    match Rest::start(alloc, shaped) {
+        Ok(rest) => {
+            let decided = decide_rest(alloc, &rest, aim, choices, chooser, watch);
+            drop(rest);
+            decided
+        }
+        Err((error, _)) => Err(DecideFault::from(error)),
+    }
 }
 
-/// What is found of plans for the rest of the run in a log.
-fn find_after<C: Choose, W: Watch>(
+/// Decides the same of the rest of a run: of all plans with the releases and cleaning times of its plan that what has
+/// happened keeps. Entries that were made stay, and jobs that are gone aren't asked for. What goes on ends when it is
+/// due, and what is overdue at the present moment. The bound of a job is then that moment, or the one at which what goes
+/// on with it is due, and its nominal times from there on. It is asked first whether any of these plans is without a
+/// cycle: this one, or else one that a search finds; and each promised job is asked for alone, by at most `PAIR_CHOICES`
+/// choices, before all of them are.
+pub fn decide_rest<P: Planned, C: Choose, W: Watch>(
     alloc: Global,
-    shaped: &Shaped,
-    log: &[u8],
-    at: Option<Moment>,
+    rest: &Rest<P>,
     aim: Aim,
-    asker: &mut Asker<'_, C, W>,
-) -> Result<Found, DecideFault>
-    ensures in_range { OnOk result (IsInRange (whole_case shaped.now) aim) }
-    ensures found { IfOk result (λ found.
-        HoldsAfter (ended_lines log.now) at shaped.now (λ t. IsFound (asked_for t aim) aim found)) }
-    ensures refused { IfErr result (IsDecideRestFault (ended_lines log.now) at shaped.now aim) }
+    choices: u64,
+    chooser: &mut C,
+    watch: &mut W,
+) -> Result<Decided, DecideFault>
+    ensures in_range { OnOk result (IsInRange (whole_case rest.now.plan) aim) }
+    ensures decided { let r = rest.now in
+        IfOk result (λ decided. HoldsFrom r.plan r.cell r.present (λ t. IsDecided t aim decided)) }
+    ensures given { IfOk result (OnNever (HasCycleIfOpen rest.now.plan)) }
+    ensures refused { IfErr result (IsDecideFault (whole_case rest.now.plan) aim) }
 {
-    if !is_in_range(shaped, aim) {
+    // The plan is well shaped, by a clause of this call.
+    if !is_in_range(rest.shaped(), aim) {
         return Err(DecideFault::JobOutOfRange);
     }
-    // Called for its clause alone: the plan is well shaped.
-    let _shop = shaped.shop();
-    let setting = after_log(alloc, shaped, log, at, aim)?;
-    let found = find(alloc, &setting, aim, asker);
+    let setting = Setting::of(rest, aim);
+    let found = find(
+        alloc,
+        &setting,
+        aim,
+        &mut Asker::new(chooser, watch, choices),
+    );
     drop(setting);
-    Ok(found?)
+    Ok(decided_by(found?))
 }
 
-/// What is found of whole plans, with the plan that was given.
-fn whole_back(found: Found, shaped: Shaped) -> Decided<Verified>
-    ensures { (p : PlannedShop) (aim : Aim) → IsFound (asked_for (whole_case p) aim) aim found
-        → IsDecided (λ verified. verified.planned) (whole_case p) aim shaped result }
+/// What is decided by what is found.
+fn decided_by(found: Found) -> Decided
+    ensures decided { (t : Case) (aim : Aim) → IsFound (asked_for t aim) aim found → IsDecided t aim result }
+    ensures given { (p : PlannedShop) → OnFoundNever (HasCycleIfOpen p) found → OnNever (HasCycleIfOpen p) result }
 {
     match found {
-        Found::Kept(kept) => match kept.into_verified() {
-            Some(verified) => {
-                drop(shaped);
-                Decided::Kept(verified)
-            }
-            None => Decided::Open(shaped),
-        },
-        Found::Best(kept, within) => match kept.into_verified() {
-            Some(verified) => {
-                drop(shaped);
-                Decided::Best(verified, within)
-            }
-            None => Decided::Open(shaped),
-        },
-        Found::Never(found) => Decided::Never(found, shaped),
-        Found::Cyclic => Decided::Cyclic(shaped),
-        Found::Open => Decided::Open(shaped),
-    }
-}
-
-/// What is found of plans for the rest of a run, with the plan that was given.
-fn rest_back(found: Found, shaped: Shaped) -> Decided<Shaped>
-    ensures { (t : Case) (aim : Aim) → IsFound (asked_for t aim) aim found
-        → IsDecided (λ plan. plan) t aim shaped result }
-{
-    match found {
-        Found::Kept(kept) => {
-            drop(shaped);
-            Decided::Kept(kept.into_shaped())
-        }
-        Found::Best(kept, within) => {
-            drop(shaped);
-            Decided::Best(kept.into_shaped(), within)
-        }
-        Found::Never(found) => Decided::Never(found, shaped),
-        Found::Cyclic => Decided::Cyclic(shaped),
-        Found::Open => Decided::Open(shaped),
+        Found::Kept(kept) => Decided::Kept(kept.into_shaped()),
+        Found::Best(kept, within) => Decided::Best(kept.into_shaped(), within),
+        Found::Never(found) => Decided::Never(found),
+        Found::Cyclic => Decided::Cyclic,
+        Found::Open => Decided::Open,
     }
 }
 
 /// What is found of the promises of a setting.
-fn find<C: Choose, W: Watch>(
+fn find<P: Planned, C: Choose, W: Watch>(
     alloc: Global,
-    setting: &Setting<'_>,
+    setting: &Setting<'_, P>,
     aim: Aim,
     asker: &mut Asker<'_, C, W>,
 ) -> Result<Found, AllocError>
-    requires set { IsSet setting.now }
-    requires ready { IsReady (case_in setting.now) aim }
-    ensures { IfOk result (IsFound (case_in setting.now) aim) }
+    requires { IsReady (case_in setting.now) aim }
+    ensures found { IfOk result (IsFound (case_in setting.now) aim) }
+    ensures given { IfOk result (OnFoundNever (HasCycleIfOpen setting.now.plan)) }
 {
     let acyclic = ask_acyclic(alloc, setting, asker)?;
     if let Acyclic::Never = acyclic {
@@ -261,10 +166,14 @@ fn never_of(found: Listing, cycles_open: bool) -> Exclusions
 }
 
 /// The plan with these orders, if it is accepted.
-fn keep(alloc: Global, setting: &Setting<'_>, order: Vec<Vec<JobNo>>) -> Result<Found, AllocError>
-    requires set { IsSet setting.now }
-    requires none_alone { NoneIsAlone (case_in setting.now) }
-    ensures { IfOk result (IsFound (case_in setting.now) Promises) }
+fn keep<P: Planned>(
+    alloc: Global,
+    setting: &Setting<'_, P>,
+    order: Vec<Vec<JobNo>>,
+) -> Result<Found, AllocError>
+    requires { NoneIsAlone (case_in setting.now) }
+    ensures found { IfOk result (IsFound (case_in setting.now) Promises) }
+    ensures given { IfOk result (OnFoundNever (HasCycleIfOpen setting.now.plan)) }
 {
     match accepted_by(alloc, setting, order)? {
         Some(kept) => Ok(Found::Kept(kept)),
@@ -273,17 +182,17 @@ fn keep(alloc: Global, setting: &Setting<'_>, order: Vec<Vec<JobNo>>) -> Result<
 }
 
 /// The best plan for the objective, where the one with these orders is accepted.
-fn least<C: Choose, W: Watch>(
+fn least<P: Planned, C: Choose, W: Watch>(
     alloc: Global,
-    setting: &Setting<'_>,
+    setting: &Setting<'_, P>,
     objective: Objective,
     asker: &mut Asker<'_, C, W>,
     order: Vec<Vec<JobNo>>,
 ) -> Result<Found, AllocError>
-    requires set { IsSet setting.now }
     requires free { IsFree (case_in setting.now) objective }
     requires none_alone { NoneIsAlone (case_in setting.now) }
-    ensures { IfOk result (IsFound (case_in setting.now) (Least objective)) }
+    ensures found { IfOk result (IsFound (case_in setting.now) (Least objective)) }
+    ensures given { IfOk result (OnFoundNever (HasCycleIfOpen setting.now.plan)) }
 {
     match plan_by(alloc, setting, objective, order)? {
         Some(best) => {

@@ -4,7 +4,7 @@ ghost use Rattle.std.specs.Prelude.{◌≡◌, ◌-◌, ◌<◌, ◌≤◌, IfOk
 ghost use Rattle.shop_base.specs.{Plan.jobs, Vectors.lists_of};
 ghost use Rattle.plan_decide.specs.declared.aim.Objective.TheVariants.{Makespan, Leaving};
 ghost use Rattle.plan_decide.specs.Objectives.{IsLeastValue};
-ghost use Rattle.plan_decide.specs.Settings.{IsSet, case_in};
+ghost use Rattle.plan_decide.specs.Settings.{case_in};
 ghost use Rattle.plan_decide.specs.Halves.{IsFree, IsFoundWith, IsLeavingBy, IsLooked, IsHalfway, IsNarrowed, IsHalved};
 
 use crate::aim::Objective;
@@ -13,14 +13,14 @@ use crate::asker::{Asker, Watch};
 use crate::decided::Within;
 use crate::judging::{accepted_at, accepted_by};
 use crate::kept::{Kept, leaving_in, makespan_of};
-use crate::setting::{Past, Setting, bound_of_job, is_waiting};
+use crate::setting::{Setting, bound_of_job, is_waiting};
 use arc_choice::Choose;
+use cell_tables::copy_orders;
 use plan_bounds::least_makespan;
-use plan_improve::copy_orders;
 use plan_limits::Answer;
 use plan_verifier::later;
 use shop_base::limits::MAX_MOMENT;
-use shop_base::{JobNo, Moment};
+use shop_base::{JobNo, Moment, Planned};
 use std::alloc::{AllocError, Global};
 
 /// An accepted plan, with its value of the objective. Where that is a job's leaving, it is the job's budget.
@@ -40,55 +40,55 @@ pub(crate) enum Looked {
 }
 
 /// The moment below which no plan has a value.
-fn bound_of(setting: &Setting<'_>, objective: Objective) -> Moment
-    requires set { IsSet setting.now }
-    requires free { IsFree (case_in setting.now) objective }
+fn bound_of<P: Planned>(setting: &Setting<'_, P>, objective: Objective) -> Moment
+    requires { IsFree (case_in setting.now) objective }
     ensures { IsLeastValue (case_in setting.now) objective result }
 {
     match objective {
-        Objective::Makespan => match setting.past {
-            Past::Nothing => least_makespan(setting.cell.shaped()).at_least,
-            Past::Run { log: _, present: _ } => latest_bound(setting),
-        },
+        Objective::Makespan => {
+            if setting.is_whole() {
+                least_makespan(setting.cell().shaped()).at_least
+            } else {
+                latest_bound(setting)
+            }
+        }
         Objective::Leaving(job) => earliest_out(setting, job),
     }
 }
 
 /// The latest of the moments before which the jobs aren't out.
-fn latest_bound(setting: &Setting<'_>) -> Moment
-    requires { IsSet setting.now }
+fn latest_bound<P: Planned>(setting: &Setting<'_, P>) -> Moment
     ensures { IsLeastValue (case_in setting.now) Makespan result }
 {
     let mut bound = 0;
-    for job in 0..setting.cell.job_count() {
+    for job in 0..setting.cell().job_count() {
         bound = later(bound, earliest_out(setting, job));
     }
     bound
 }
 
 /// Before which moment the job isn't out: its bound or, where it is gone, the moment at which it left.
-fn earliest_out(setting: &Setting<'_>, job: JobNo) -> Moment
-    requires job { job < jobs setting.now.cell.plan }
-    requires set { IsSet setting.now }
+fn earliest_out<P: Planned>(setting: &Setting<'_, P>, job: JobNo) -> Moment
+    requires { job < jobs setting.now.plan }
     ensures leaving { IsLeastValue (case_in setting.now) (Leaving job) result }
     ensures makespan { IsLeastValue (case_in setting.now) Makespan result }
 {
+    let cell = setting.cell();
     if is_waiting(setting, job) {
         bound_of_job(setting, job)
     } else {
-        setting.cell.job_state(job).since
+        cell.job_state(job).since
     }
 }
 
 /// The plan with these orders, if it is accepted.
-pub(crate) fn plan_by(
+pub(crate) fn plan_by<P: Planned>(
     alloc: Global,
-    setting: &Setting<'_>,
+    setting: &Setting<'_, P>,
     objective: Objective,
     order: Vec<Vec<JobNo>>,
 ) -> Result<Option<Best>, AllocError>
-    requires set { IsSet setting.now }
-    requires free { IsFree (case_in setting.now) objective }
+    requires { IsFree (case_in setting.now) objective }
     ensures { IfOk result (λ found. IfSome found (IsFoundWith (case_in setting.now) objective)) }
 {
     match objective {
@@ -104,14 +104,13 @@ pub(crate) fn plan_by(
 }
 
 /// The plan with these orders and the job's leaving as its budget, if it is accepted.
-fn plan_at(
+fn plan_at<P: Planned>(
     alloc: Global,
-    setting: &Setting<'_>,
+    setting: &Setting<'_, P>,
     job: JobNo,
     order: Vec<Vec<JobNo>>,
 ) -> Result<Option<Best>, AllocError>
-    requires job { job < jobs setting.now.cell.plan }
-    requires set { IsSet setting.now }
+    requires { job < jobs setting.now.plan }
     ensures { IfOk result (λ found. IfSome found (IsFoundWith (case_in setting.now) (Leaving job))) }
 {
     let Some(value) = leaving_by(alloc, setting, job, &order)? else {
@@ -124,14 +123,13 @@ fn plan_at(
 }
 
 /// The job's leaving by these orders, if the plan with them and no promise to the job is accepted.
-fn leaving_by(
+fn leaving_by<P: Planned>(
     alloc: Global,
-    setting: &Setting<'_>,
+    setting: &Setting<'_, P>,
     job: JobNo,
     order: &[Vec<JobNo>],
 ) -> Result<Option<Moment>, AllocError>
-    requires job { job < jobs setting.now.cell.plan }
-    requires set { IsSet setting.now }
+    requires { job < jobs setting.now.plan }
     ensures { IfOk result (λ found. IfSome found (IsLeavingBy (case_in setting.now) job (lists_of order.now))) }
 {
     let same = copy_orders(alloc, order)?;
@@ -146,16 +144,15 @@ fn leaving_by(
 }
 
 /// Looks for a plan with a value of at most the limit, which is better than a plan with this value.
-fn look<C: Choose, W: Watch>(
+fn look<P: Planned, C: Choose, W: Watch>(
     alloc: Global,
-    setting: &Setting<'_>,
+    setting: &Setting<'_, P>,
     asker: &mut Asker<'_, C, W>,
     objective: Objective,
     limit: Moment,
     value: Moment,
 ) -> Result<Looked, AllocError>
-    requires set { IsSet setting.now }
-    requires free { IsFree (case_in setting.now) objective }
+    requires { IsFree (case_in setting.now) objective }
     ensures { IfOk result (IsLooked (case_in setting.now) objective limit value) }
 {
     match asker.ask(alloc, setting, Asked::AtMost(objective, limit))? {
@@ -186,14 +183,13 @@ pub(crate) struct Halfway {
 }
 
 /// Halves what lies between the bound and the value of a plan, and gives the best plan that it finds.
-pub(crate) fn halve<C: Choose, W: Watch>(
+pub(crate) fn halve<P: Planned, C: Choose, W: Watch>(
     alloc: Global,
-    setting: &Setting<'_>,
+    setting: &Setting<'_, P>,
     asker: &mut Asker<'_, C, W>,
     objective: Objective,
     best: Best,
 ) -> Result<(Kept, Within), AllocError>
-    requires set { IsSet setting.now }
     requires free { IsFree (case_in setting.now) objective }
     requires best { IsFoundWith (case_in setting.now) objective best }
     ensures { IfOk result (IsHalved (case_in setting.now) objective) }
@@ -229,14 +225,13 @@ fn known(halfway: &Halfway) -> Within
 }
 
 /// Asks for the middle of what is left.
-fn halve_once<C: Choose, W: Watch>(
+fn halve_once<P: Planned, C: Choose, W: Watch>(
     alloc: Global,
-    setting: &Setting<'_>,
+    setting: &Setting<'_, P>,
     asker: &mut Asker<'_, C, W>,
     objective: Objective,
     halfway: Halfway,
 ) -> Result<Halfway, AllocError>
-    requires set { IsSet setting.now }
     requires free { IsFree (case_in setting.now) objective }
     requires halfway { IsHalfway (case_in setting.now) objective halfway }
     requires more { halfway.low < halfway.best.value }

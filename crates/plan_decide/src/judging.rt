@@ -1,38 +1,35 @@
 //! Orders that are put to the test.
 
 ghost use Rattle.std.specs.Prelude.{◌≡◌, ◌<◌, IfOk, IfSome};
-ghost use Rattle.shop_base.specs.{Plan.jobs, Vectors.lists_of, Report.IsNextMoment};
+ghost use Rattle.shop_base.specs.{Plan.jobs, Vectors.lists_of};
 ghost use Rattle.plan_verifier.specs.{Rest.AreOrderedAhead, RestVerdicts.IsAcceptableAhead};
-ghost use Rattle.text_lines.specs.Lines.{ended_lines};
 ghost use Rattle.plan_bounds.specs.Bounds.{times_of};
-ghost use Rattle.plan_decide.specs.{Cases.nothing, Cases.with_budgets, Cases.with_budget, Decisions.IsAcceptedWith};
-ghost use Rattle.plan_decide.specs.Settings.{IsSet, case_in, plan_of, FitsPast, IsKeptAs};
-ghost use Rattle.plan_decide.specs.Settings.{IsKeptAfter, IsTimely, AreTimesAfter};
+ghost use Rattle.plan_decide.specs.{Cases.nothing, Cases.run_to, Cases.with_budgets, Cases.with_budget, Decisions.IsAcceptedWith};
+ghost use Rattle.plan_decide.specs.Settings.{case_in, plan_of, FitsPast, IsKeptAs};
+ghost use Rattle.plan_decide.specs.Settings.{AreTimesAhead};
 
 use crate::copying::{copy_cleanings, copy_moments, copy_shop};
 use crate::kept::Kept;
-use crate::setting::{Past, Setting, budgets_of};
+use crate::setting::{Setting, budgets_of};
 use alt_graph::Times;
-use cell_tables::WorkCell;
-use plan_verifier::{Judged, Verdict, verify, verify_after};
-use run_log::run_if_replayed;
+use cell_tables::{RecastFault, Rest};
+use plan_verifier::{Judged, Verdict, judge, verify};
 use shop_base::{JobNo, Moment, Plan, Planned, Shaped, Shop, shape};
 use std::alloc::{AllocError, Global};
 
 /// The plan with these budgets and orders, if it is accepted.
-pub(crate) fn accepted_with(
+pub(crate) fn accepted_with<P: Planned>(
     alloc: Global,
-    setting: &Setting<'_>,
+    setting: &Setting<'_, P>,
     budget: Vec<Moment>,
     order: Vec<Vec<JobNo>>,
 ) -> Result<Option<Kept>, AllocError>
-    requires { IsSet setting.now }
     ensures accepted { let t = with_budgets (case_in setting.now) budget.items in
         IfOk result (λ found. IfSome found (λ kept. IsAcceptedWith t (plan_of kept))) }
     ensures fits { IfOk result (λ found. IfSome found (FitsPast (case_in setting.now).past)) }
     ensures order { IfOk result (λ found. IfSome found (λ kept. (plan_of kept).plan.order ≡ lists_of order.items)) }
 {
-    let shaped = setting.cell.shaped();
+    let shaped = setting.cell().shaped();
     let plan = plan_with(alloc, shaped.plan(), budget, order)?;
     match copy_shop(alloc, shaped) {
         Ok(shop) => accepted_plan(alloc, setting, shop, plan),
@@ -64,16 +61,15 @@ fn plan_with(
 }
 
 /// The shop and the plan, if they fit and it is accepted.
-fn accepted_plan(
+fn accepted_plan<P: Planned>(
     alloc: Global,
-    setting: &Setting<'_>,
+    setting: &Setting<'_, P>,
     shop: Shop,
     plan: Plan,
 ) -> Result<Option<Kept>, AllocError>
-    requires set { IsSet setting.now }
-    requires shop { shop ≡ setting.now.cell.plan.shop }
-    requires release { plan.release ≡ setting.now.cell.plan.plan.release }
-    requires clean { plan.clean ≡ setting.now.cell.plan.plan.clean }
+    requires shop { shop ≡ setting.now.plan.shop }
+    requires release { plan.release ≡ setting.now.plan.plan.release }
+    requires clean { plan.clean ≡ setting.now.plan.plan.clean }
     ensures { IfOk result (λ found. IfSome found
         (IsKeptAs (case_in setting.now).past (record { shop = shop; plan = plan }))) }
 {
@@ -87,20 +83,20 @@ fn accepted_plan(
 }
 
 /// The plan, if it is accepted.
-fn accepted(
+fn accepted<P: Planned>(
     alloc: Global,
-    setting: &Setting<'_>,
+    setting: &Setting<'_, P>,
     shaped: Shaped,
 ) -> Result<Option<Kept>, AllocError>
-    requires set { IsSet setting.now }
-    requires same { times_of shaped ≡ times_of setting.now.cell.plan }
+    requires { times_of shaped ≡ times_of setting.now.plan }
     ensures { IfOk result (λ found. IfSome found (IsKeptAs (case_in setting.now).past shaped)) }
 {
     // Called for its clause alone: the plan is well shaped.
     let _shop = shaped.shop();
-    match setting.past {
-        Past::Nothing => accepted_whole(alloc, shaped),
-        Past::Run { log, present } => accepted_after(alloc, shaped, log, present),
+    if setting.is_whole() {
+        accepted_whole(alloc, shaped)
+    } else {
+        accepted_ahead(alloc, setting.rest(), shaped)
     }
 }
 
@@ -122,17 +118,19 @@ fn accepted_whole(alloc: Global, shaped: Shaped) -> Result<Option<Kept>, AllocEr
     }
 }
 
-/// The plan, if the log records a run of it too and its rest is accepted.
-fn accepted_after(
+/// The plan, if what has happened keeps it too, and what is left is accepted.
+fn accepted_ahead<P: Planned>(
     alloc: Global,
+    rest: &Rest<P>,
     shaped: Shaped,
-    log: &[u8],
-    present: Moment,
 ) -> Result<Option<Kept>, AllocError>
-    requires { IsTimely (ended_lines log.now) present shaped }
-    ensures { IfOk result (λ found. IfSome found (IsKeptAfter (ended_lines log.now) present shaped)) }
+    requires { times_of shaped ≡ times_of rest.now.plan }
+    ensures { let r = rest.now in
+        IfOk result (λ found. IfSome found (IsKeptAs (run_to r.plan r.cell r.present) shaped)) }
 {
-    match times_after(alloc, &shaped, log, present) {
+    // Called for its clause alone: the plan is well shaped.
+    let _shop = shaped.shop();
+    match times_ahead(alloc, rest, &shaped) {
         Ok(Some(times)) => Ok(Some(Kept::Rest(shaped, times))),
         Ok(None) => {
             drop(shaped);
@@ -145,38 +143,37 @@ fn accepted_after(
     }
 }
 
-/// The moments of the rest, if it is accepted.
-fn times_after(
+/// The moments of what is left by the plan, if what has happened keeps it too, and that is accepted.
+fn times_ahead<P: Planned>(
     alloc: Global,
+    rest: &Rest<P>,
     shaped: &Shaped,
-    log: &[u8],
-    present: Moment,
 ) -> Result<Option<Times>, AllocError>
-    requires { IsTimely (ended_lines log.now) present shaped.now }
-    ensures { IfOk result (λ found. IfSome found (AreTimesAfter (ended_lines log.now) present shaped.now)) }
+    requires { times_of shaped.now ≡ times_of rest.now.plan }
+    ensures { let r = rest.now in
+        IfOk result (λ found. IfSome found (AreTimesAhead r.plan r.cell r.present shaped.now)) }
 {
-    match run_if_replayed(alloc, shaped, log)? {
-        Some(run) => {
-            let times = accepted_times(alloc, &run.cell, present);
-            drop(run);
+    // Called for their clauses alone: the plan is well shaped, and a run leads to the cell.
+    let _plan = rest.shaped();
+    let _cell = rest.cell();
+    match rest.recast(alloc, shaped) {
+        Ok(other) => {
+            let times = accepted_times(alloc, &other);
+            drop(other);
             times
         }
-        None => Ok(None),
+        Err((RecastFault::IncompatiblePlan, _)) => Ok(None),
+        Err((RecastFault::Memory, _)) => Err(AllocError),
     }
 }
 
-/// The moments from a cell on, if the rest from there is accepted.
-fn accepted_times<P: Planned>(
-    alloc: Global,
-    cell: &WorkCell<P>,
-    present: Moment,
-) -> Result<Option<Times>, AllocError>
-    requires { IsNextMoment cell.now.cell present }
-    ensures { let p = cell.now.plan in let c = cell.now.cell in
-        IfOk result
-        (λ found. IfSome found (λ times. IsAcceptableAhead p c present × AreOrderedAhead p c present times)) }
+/// The moments of what is left, if that is accepted.
+fn accepted_times<P: Planned>(alloc: Global, rest: &Rest<P>) -> Result<Option<Times>, AllocError>
+    ensures { let r = rest.now in
+        IfOk result (λ found. IfSome found (λ times.
+        IsAcceptableAhead r.plan r.cell r.present × AreOrderedAhead r.plan r.cell r.present times)) }
 {
-    match verify_after(alloc, cell, present)? {
+    match judge(alloc, rest)? {
         Judged::Accepted(times) => Ok(Some(times)),
         Judged::Refused(why) => {
             drop(why);
@@ -186,12 +183,11 @@ fn accepted_times<P: Planned>(
 }
 
 /// The plan with these orders, if it is accepted.
-pub(crate) fn accepted_by(
+pub(crate) fn accepted_by<P: Planned>(
     alloc: Global,
-    setting: &Setting<'_>,
+    setting: &Setting<'_, P>,
     order: Vec<Vec<JobNo>>,
 ) -> Result<Option<Kept>, AllocError>
-    requires { IsSet setting.now }
     ensures accepted { IfOk result
         (λ found. IfSome found (λ kept. IsAcceptedWith (case_in setting.now) (plan_of kept))) }
     ensures fits { IfOk result (λ found. IfSome found (FitsPast (case_in setting.now).past)) }
@@ -201,22 +197,21 @@ pub(crate) fn accepted_by(
 }
 
 /// The plan with these orders and this budget of a job, if it is accepted.
-pub(crate) fn accepted_at(
+pub(crate) fn accepted_at<P: Planned>(
     alloc: Global,
-    setting: &Setting<'_>,
+    setting: &Setting<'_, P>,
     job: JobNo,
     budget: Moment,
     order: Vec<Vec<JobNo>>,
 ) -> Result<Option<Kept>, AllocError>
-    requires job { job < jobs setting.now.cell.plan }
-    requires set { IsSet setting.now }
+    requires { job < jobs setting.now.plan }
     ensures accepted { let t = with_budget (case_in setting.now) job budget in
         IfOk result (λ found. IfSome found (λ kept. IsAcceptedWith t (plan_of kept))) }
     ensures fits { IfOk result (λ found. IfSome found (FitsPast (case_in setting.now).past)) }
     ensures order { IfOk result (λ found. IfSome found (λ kept. (plan_of kept).plan.order ≡ lists_of order.items)) }
 {
     // Called for its clause alone: there is a budget for each job.
-    let _plan = setting.cell.shaped();
+    let _cell = setting.cell();
     let mut budgets = budgets_of(alloc, setting)?;
     budgets[job as usize] = budget;
     accepted_with(alloc, setting, budgets, order)

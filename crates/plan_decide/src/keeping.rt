@@ -2,24 +2,23 @@
 
 ghost use Rattle.std.specs.Prelude.{◌≡◌, IfOk, IsTrue, length, map};
 ghost use Rattle.shop_base.specs.Plan.{jobs};
-ghost use Rattle.plan_decide.specs.Settings.{IsSet, case_in};
+ghost use Rattle.plan_decide.specs.Settings.{case_in};
 ghost use Rattle.plan_decide.specs.LeftOut.{CanKeep, cap};
 
 use crate::judging::accepted_with;
 use crate::setting::Setting;
 use shop_base::limits::MAX_MOMENT;
-use shop_base::{JobNo, Moment};
+use shop_base::{JobNo, Moment, Planned};
 use std::alloc::{AllocError, Global};
 
 /// Whether the plan with these orders keeps the limits, and has all other jobs out.
-pub(crate) fn keeps(
+pub(crate) fn keeps<P: Planned>(
     alloc: Global,
-    setting: &Setting<'_>,
+    setting: &Setting<'_, P>,
     limits: &[Option<Moment>],
     order: Vec<Vec<JobNo>>,
 ) -> Result<bool, AllocError>
-    requires count { length limits.now ≡ jobs setting.now.cell.plan }
-    requires set { IsSet setting.now }
+    requires { length limits.now ≡ jobs setting.now.plan }
     ensures { IfOk result (λ does. IsTrue does → CanKeep (case_in setting.now) limits.now) }
 {
     let budget = caps(alloc, limits)?;

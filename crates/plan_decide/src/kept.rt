@@ -1,15 +1,15 @@
 //! A plan that is accepted, with the moments of its nodes.
 
-ghost use Rattle.std.specs.Prelude.{◌≡◌, ◌<◌, MatchOption};
+ghost use Rattle.std.specs.Prelude.{◌≡◌, ◌<◌};
 ghost use Rattle.shop_base.specs.Plan.{jobs};
 ghost use Rattle.plan_decide.specs.declared.aim.Objective.TheVariants.{Makespan, Leaving};
-ghost use Rattle.plan_decide.specs.Cases.{nothing, HasValue};
+ghost use Rattle.plan_decide.specs.Cases.{HasValue};
 ghost use Rattle.plan_decide.specs.Settings.{case_in, plan_of, FitsPast};
 
 use crate::setting::Setting;
 use alt_graph::Times;
 use plan_verifier::{Verified, leave_time, makespan};
-use shop_base::{JobNo, Moment, Shaped};
+use shop_base::{JobNo, Moment, Planned, Shaped};
 
 /// An accepted plan: as a whole, or for the rest of a run.
 #[derive(Drop)]
@@ -19,7 +19,7 @@ pub(crate) enum Kept {
 }
 
 /// The plan's makespan.
-pub(crate) fn makespan_of(setting: &Setting<'_>, kept: &Kept) -> Moment
+pub(crate) fn makespan_of<P: Planned>(setting: &Setting<'_, P>, kept: &Kept) -> Moment
     requires { FitsPast (case_in setting.now).past kept.now }
     ensures { HasValue (case_in setting.now).past Makespan (plan_of kept.now) result }
 {
@@ -30,7 +30,7 @@ pub(crate) fn makespan_of(setting: &Setting<'_>, kept: &Kept) -> Moment
 }
 
 /// The leaving of a job.
-pub(crate) fn leaving_in(setting: &Setting<'_>, kept: &Kept, job: JobNo) -> Moment
+pub(crate) fn leaving_in<P: Planned>(setting: &Setting<'_, P>, kept: &Kept, job: JobNo) -> Moment
     requires fits { FitsPast (case_in setting.now).past kept.now }
     requires job { job < jobs (plan_of kept.now) }
     ensures { HasValue (case_in setting.now).past (Leaving job) (plan_of kept.now) result }
@@ -45,20 +45,6 @@ pub(crate) fn leaving_in(setting: &Setting<'_>, kept: &Kept, job: JobNo) -> Mome
 }
 
 impl Kept {
-    /// The accepted plan, if it is a whole one.
-    pub(crate) fn into_verified(self) -> Option<Verified>
-        ensures { MatchOption result (FitsPast nothing self → ⊥) (λ verified. verified.planned ≡ plan_of self) }
-    {
-        match self {
-            Kept::Whole(verified) => Some(verified),
-            Kept::Rest(shaped, times) => {
-                drop(shaped);
-                drop(times);
-                None
-            }
-        }
-    }
-
     /// The plan, taken out.
     pub(crate) fn into_shaped(self) -> Shaped
         ensures { result ≡ plan_of self }

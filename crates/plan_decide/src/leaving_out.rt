@@ -1,10 +1,11 @@
 //! Promised jobs left out in turn, where the others still exclude each other.
 
-ghost use Rattle.std.specs.Prelude.{◌≡◌, ◌+◌, ◌<◌, IfOk, MatchOption, OnOk, length, slice_set, None};
+ghost use Rattle.std.specs.Prelude.{◌≡◌, ◌+◌, ◌<◌, IfOk, IfSome, MatchOption, OnOk, length, slice_set, None};
 ghost use Rattle.shop_base.specs.Plan.{jobs};
 ghost use Rattle.plan_decide.specs.Asking.{NoPlanKeeps};
-ghost use Rattle.plan_decide.specs.Settings.{IsSet, case_in};
+ghost use Rattle.plan_decide.specs.Settings.{case_in};
 ghost use Rattle.plan_decide.specs.Excluding.{AreAllCyclic, IsExclusion};
+ghost use Rattle.plan_decide.specs.Listed.{IsSeveral};
 ghost use Rattle.plan_decide.specs.LeftOut.{ArePromised, IsSpared, IsLeft, AreLimited};
 
 use crate::asker::{Asker, Watch};
@@ -13,7 +14,7 @@ use crate::keeping::keeps;
 use crate::setting::Setting;
 use arc_choice::Choose;
 use plan_limits::Answer;
-use shop_base::{JobNo, Moment};
+use shop_base::{JobNo, Moment, Planned};
 use std::alloc::{AllocError, Global};
 
 /// What comes of the question whether a job can be left out.
@@ -37,23 +38,23 @@ pub(crate) struct Left {
 
 /// The jobs that are left of those with limits, where all together exclude each other: from the greatest number down
 /// each is left out without which the others still do. Where none is left, no plan is without a cycle.
-pub(crate) fn leave_out<C: Choose, W: Watch>(
+pub(crate) fn leave_out<P: Planned, C: Choose, W: Watch>(
     alloc: Global,
-    setting: &Setting<'_>,
+    setting: &Setting<'_, P>,
     asker: &mut Asker<'_, C, W>,
     limits: Vec<Option<Moment>>,
 ) -> Result<Option<Excluded>, AllocError>
-    requires set { IsSet setting.now }
     requires promised { ArePromised (case_in setting.now) limits.items }
     requires none { NoPlanKeeps (case_in setting.now) limits.items }
-    ensures { let t = case_in setting.now in
+    ensures found { let t = case_in setting.now in
         IfOk result (λ found. MatchOption found (AreAllCyclic t) (IsExclusion t)) }
+    ensures several { IfOk result (λ found. IfSome found IsSeveral) }
 {
     let mut left = Left {
         limits,
         or_fewer: false,
     };
-    for job in (0..setting.cell.job_count()).rev() {
+    for job in (0..setting.cell().job_count()).rev() {
         left = leave_one(alloc, setting, asker, left, job)?;
     }
     let Left { limits, or_fewer } = left;
@@ -65,15 +66,14 @@ pub(crate) fn leave_out<C: Choose, W: Watch>(
 }
 
 /// What is left once this job was asked about too.
-fn leave_one<C: Choose, W: Watch>(
+fn leave_one<P: Planned, C: Choose, W: Watch>(
     alloc: Global,
-    setting: &Setting<'_>,
+    setting: &Setting<'_, P>,
     asker: &mut Asker<'_, C, W>,
     left: Left,
     job: JobNo,
 ) -> Result<Left, AllocError>
-    requires job { job < jobs setting.now.cell.plan }
-    requires set { IsSet setting.now }
+    requires job { job < jobs setting.now.plan }
     requires left { IsLeft (case_in setting.now) left (job + 1) }
     ensures { IfOk result (λ left. IsLeft (case_in setting.now) left job) }
 {
@@ -91,15 +91,14 @@ fn leave_one<C: Choose, W: Watch>(
 }
 
 /// Whether the job can be left out. One without a limit already is.
-fn spare<C: Choose, W: Watch>(
+fn spare<P: Planned, C: Choose, W: Watch>(
     alloc: Global,
-    setting: &Setting<'_>,
+    setting: &Setting<'_, P>,
     asker: &mut Asker<'_, C, W>,
     limits: &[Option<Moment>],
     job: JobNo,
 ) -> Result<Spared, AllocError>
-    requires job { job < jobs setting.now.cell.plan }
-    requires set { IsSet setting.now }
+    requires job { job < jobs setting.now.plan }
     requires promised { ArePromised (case_in setting.now) limits.now }
     requires none { NoPlanKeeps (case_in setting.now) limits.now }
     ensures { IfOk result (IsSpared (case_in setting.now) limits.now job) }
@@ -136,16 +135,16 @@ fn without(
 }
 
 /// The jobs that have limits, in ascending order.
-fn limited_jobs(
+fn limited_jobs<P: Planned>(
     alloc: Global,
-    setting: &Setting<'_>,
+    setting: &Setting<'_, P>,
     limits: &[Option<Moment>],
 ) -> Result<Vec<JobNo>, AllocError>
-    requires { length limits.now ≡ jobs setting.now.cell.plan }
-    ensures { IfOk result (λ found. AreLimited limits.now (jobs setting.now.cell.plan) found.items) }
+    requires { length limits.now ≡ jobs setting.now.plan }
+    ensures { IfOk result (λ found. AreLimited limits.now (jobs setting.now.plan) found.items) }
 {
     let mut found = Vec::new(alloc);
-    for job in 0..setting.cell.job_count() {
+    for job in 0..setting.cell().job_count() {
         add_limited(limits, job, &mut found)?;
     }
     Ok(found)

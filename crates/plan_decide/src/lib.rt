@@ -6,6 +6,7 @@ mod aim;
 mod alone;
 mod asked;
 mod asker;
+mod begun;
 mod copying;
 mod cycles;
 mod decide_fault;
@@ -25,7 +26,7 @@ mod standing;
 
 pub use aim::{Aim, Objective};
 pub use asker::{PAIR_CHOICES, Watch};
-pub use decide_fault::{DecideFault, Undecided};
+pub use decide_fault::DecideFault;
 pub use decided::{Decided, Excluded, Exclusions, Within};
-pub use deciding::{decide, decide_after};
+pub use deciding::{decide, decide_rest};
 pub use pairs::PAIRED_JOBS;

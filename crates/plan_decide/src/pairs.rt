@@ -4,8 +4,8 @@ ghost use Rattle.std.specs.Prelude.{◌≡◌, ◌+◌, ◌<◌, ◌≤◌, IfOk
 ghost use Rattle.shop_base.specs.Plan.{jobs};
 ghost use Rattle.plan_decide.specs.declared.standing.Standing.TheVariants.{Doubt};
 ghost use Rattle.plan_decide.specs.{Cases.job_count, Promises.IsPromised, Excluding.AreNeededUnless};
-ghost use Rattle.plan_decide.specs.Settings.{IsSet, case_in};
-ghost use Rattle.plan_decide.specs.Listed.{ArePairedTo, AreStandings, IsBoth, standing_of};
+ghost use Rattle.plan_decide.specs.Settings.{case_in};
+ghost use Rattle.plan_decide.specs.Listed.{AreCounted, ArePairedTo, AreStandings, IsBoth, standing_of};
 
 use crate::asked::{Asked, limits_for};
 use crate::asker::{Asker, Watch};
@@ -16,7 +16,7 @@ use crate::setting::Setting;
 use crate::standing::{Standing, standing_of};
 use arc_choice::Choose;
 use plan_limits::Answer;
-use shop_base::JobNo;
+use shop_base::{JobNo, Planned};
 use std::alloc::{AllocError, Global};
 
 /// The most promised jobs of which each two are asked for together.
@@ -34,51 +34,60 @@ pub(crate) enum Both {
 }
 
 /// Adds each pair of jobs in doubt that exclude each other.
-pub(crate) fn add_pairs<C: Choose, W: Watch>(
+pub(crate) fn add_pairs<P: Planned, C: Choose, W: Watch>(
     alloc: Global,
-    setting: &Setting<'_>,
+    setting: &Setting<'_, P>,
     asker: &mut Asker<'_, C, W>,
     standings: &[Standing],
     found: &mut Listing,
 ) -> Result<(), AllocError>
-    requires set { IsSet setting.now }
     requires standings { let t = case_in setting.now in AreStandings t (job_count t) standings.now }
     requires found { ArePairedTo (case_in setting.now) standings.now 0 0 found.old }
     ensures found { let t = case_in setting.now in OnOk result (ArePairedTo t standings.now (job_count t) 0 found.new) }
     ensures more { OnOk result (length found.old.listed.items ≤ length found.new.listed.items) }
 {
-    if doubtful_jobs(standings) > PAIRED_JOBS {
+    if doubtful_jobs(setting.cell().job_count(), standings) > PAIRED_JOBS {
         found.pairs_open = true;
         return Ok(());
     }
-    for one in 0..setting.cell.job_count() {
+    for one in 0..setting.cell().job_count() {
         add_pairs_of(alloc, setting, asker, standings, one, found)?;
     }
     Ok(())
 }
 
-/// How many jobs are in doubt.
-fn doubtful_jobs(standings: &[Standing]) -> u32 {
+/// How many of so many jobs are in doubt.
+fn doubtful_jobs(jobs: u32, standings: &[Standing]) -> u32
+    ensures { AreCounted standings.now jobs result }
+{
     let mut count = 0u32;
-    for standing in standings {
-        if let Standing::Doubt = *standing {
-            count = count.saturating_add(1);
-        }
+    for job in 0..jobs {
+        count = counted_to(standings, job, count);
     }
     count
 }
 
+/// How many jobs are in doubt up to this one, where so many before it are.
+fn counted_to(standings: &[Standing], job: JobNo, count: u32) -> u32
+    requires { AreCounted standings.now job count }
+    ensures { AreCounted standings.now (job + 1) result }
+{
+    match standing_of(standings, job) {
+        Standing::Doubt => count.saturating_add(1),
+        _ => count,
+    }
+}
+
 /// Adds each pair of the job with one of a greater number.
-fn add_pairs_of<C: Choose, W: Watch>(
+fn add_pairs_of<P: Planned, C: Choose, W: Watch>(
     alloc: Global,
-    setting: &Setting<'_>,
+    setting: &Setting<'_, P>,
     asker: &mut Asker<'_, C, W>,
     standings: &[Standing],
     one: JobNo,
     found: &mut Listing,
 ) -> Result<(), AllocError>
-    requires one { one < jobs setting.now.cell.plan }
-    requires set { IsSet setting.now }
+    requires one { one < jobs setting.now.plan }
     requires standings { let t = case_in setting.now in AreStandings t (job_count t) standings.now }
     requires found { ArePairedTo (case_in setting.now) standings.now one 0 found.old }
     ensures found { OnOk result (ArePairedTo (case_in setting.now) standings.now (one + 1) 0 found.new) }
@@ -87,7 +96,7 @@ fn add_pairs_of<C: Choose, W: Watch>(
     let Standing::Doubt = standing_of(standings, one) else {
         return Ok(());
     };
-    let jobs = setting.cell.job_count();
+    let jobs = setting.cell().job_count();
     for other in one + 1..jobs {
         add_pair(alloc, setting, asker, standings, one, other, found)?;
     }
@@ -95,17 +104,16 @@ fn add_pairs_of<C: Choose, W: Watch>(
 }
 
 /// Adds the pair, if the other is in doubt too and the two exclude each other.
-fn add_pair<C: Choose, W: Watch>(
+fn add_pair<P: Planned, C: Choose, W: Watch>(
     alloc: Global,
-    setting: &Setting<'_>,
+    setting: &Setting<'_, P>,
     asker: &mut Asker<'_, C, W>,
     standings: &[Standing],
     one: JobNo,
     other: JobNo,
     found: &mut Listing,
 ) -> Result<(), AllocError>
-    requires other { other < jobs setting.now.cell.plan }
-    requires set { IsSet setting.now }
+    requires other { other < jobs setting.now.plan }
     requires standings { let t = case_in setting.now in AreStandings t (job_count t) standings.now }
     requires ascending { one < other }
     requires doubt { standing_of standings.now one ≡ Doubt }
@@ -135,17 +143,16 @@ fn add_pair<C: Choose, W: Watch>(
 }
 
 /// Whether one of the two may do: no search has found that the promise to each can be kept without the other.
-fn may_fewer_do<C: Choose, W: Watch>(
+fn may_fewer_do<P: Planned, C: Choose, W: Watch>(
     alloc: Global,
-    setting: &Setting<'_>,
+    setting: &Setting<'_, P>,
     asker: &mut Asker<'_, C, W>,
     one: JobNo,
     other: JobNo,
 ) -> Result<bool, AllocError>
     requires ascending { one < other }
-    requires other { other < jobs setting.now.cell.plan }
+    requires other { other < jobs setting.now.plan }
     requires promised { IsPromised (case_in setting.now) one × IsPromised (case_in setting.now) other }
-    requires set { IsSet setting.now }
     ensures { IfOk result (λ or_fewer. AreNeededUnless or_fewer (case_in setting.now) (one ∷ other ∷ [])) }
 {
     let Both::Kept = ask_both(alloc, setting, asker, one, one)? else {
@@ -158,17 +165,16 @@ fn may_fewer_do<C: Choose, W: Watch>(
 }
 
 /// Asks for the promises to two jobs, or to one that is given twice.
-fn ask_both<C: Choose, W: Watch>(
+fn ask_both<P: Planned, C: Choose, W: Watch>(
     alloc: Global,
-    setting: &Setting<'_>,
+    setting: &Setting<'_, P>,
     asker: &mut Asker<'_, C, W>,
     one: JobNo,
     other: JobNo,
 ) -> Result<Both, AllocError>
-    requires one { one < jobs setting.now.cell.plan }
-    requires other { other < jobs setting.now.cell.plan }
+    requires one { one < jobs setting.now.plan }
+    requires other { other < jobs setting.now.plan }
     requires promised { IsPromised (case_in setting.now) one × IsPromised (case_in setting.now) other }
-    requires set { IsSet setting.now }
     ensures { IfOk result (IsBoth (case_in setting.now) one other) }
 {
     let limits = limits_for(alloc, setting, Asked::Both(one, other))?;

@@ -1,7 +1,7 @@
 //! Whether all promises can be kept, and where they can't, which exclude each other.
 
 ghost use Rattle.std.specs.Prelude.{◌≡◌, ◌≤◌, ◌++◌, IfOk, length, [], ◌∷◌};
-ghost use Rattle.plan_decide.specs.{Asking.NoPlanKeeps, Settings.IsSet, Settings.case_in, LeftOut.ArePromised};
+ghost use Rattle.plan_decide.specs.{Asking.NoPlanKeeps, Settings.case_in, LeftOut.ArePromised};
 ghost use Rattle.plan_decide.specs.Cases.{job_count};
 ghost use Rattle.plan_decide.specs.Listed.{AreAllAlone, ArePairedTo, AreStandings, IsReply};
 
@@ -16,7 +16,7 @@ use crate::setting::Setting;
 use crate::standing::{Standing, standings};
 use arc_choice::Choose;
 use plan_limits::Answer;
-use shop_base::{JobNo, Moment};
+use shop_base::{JobNo, Moment, Planned};
 use std::alloc::{AllocError, Global};
 
 /// What is found of all promises together.
@@ -33,12 +33,11 @@ pub(crate) enum Reply {
 }
 
 /// Asks for all promises, if no job is late alone; else for each pair of the others.
-pub(crate) fn ask_all<C: Choose, W: Watch>(
+pub(crate) fn ask_all<P: Planned, C: Choose, W: Watch>(
     alloc: Global,
-    setting: &Setting<'_>,
+    setting: &Setting<'_, P>,
     asker: &mut Asker<'_, C, W>,
 ) -> Result<Reply, AllocError>
-    requires { IsSet setting.now }
     ensures { IfOk result (IsReply (case_in setting.now)) }
 {
     let standings = standings(alloc, setting, asker)?;
@@ -51,14 +50,13 @@ pub(crate) fn ask_all<C: Choose, W: Watch>(
 }
 
 /// What is listed of jobs alone, with the pairs of others that exclude each other.
-fn with_pairs<C: Choose, W: Watch>(
+fn with_pairs<P: Planned, C: Choose, W: Watch>(
     alloc: Global,
-    setting: &Setting<'_>,
+    setting: &Setting<'_, P>,
     asker: &mut Asker<'_, C, W>,
     standings: &[Standing],
     listed: Vec<Excluded>,
 ) -> Result<Listing, AllocError>
-    requires set { IsSet setting.now }
     requires standings { let t = case_in setting.now in AreStandings t (job_count t) standings.now }
     requires alone { let t = case_in setting.now in AreAllAlone t standings.now (job_count t) listed.items }
     ensures found { let t = case_in setting.now in IfOk result (ArePairedTo t standings.now (job_count t) 0) }
@@ -73,13 +71,12 @@ fn with_pairs<C: Choose, W: Watch>(
 }
 
 /// Asks for all promises, where no job is late alone.
-fn ask_promises<C: Choose, W: Watch>(
+fn ask_promises<P: Planned, C: Choose, W: Watch>(
     alloc: Global,
-    setting: &Setting<'_>,
+    setting: &Setting<'_, P>,
     asker: &mut Asker<'_, C, W>,
     standings: &[Standing],
 ) -> Result<Reply, AllocError>
-    requires set { IsSet setting.now }
     requires standings { let t = case_in setting.now in AreStandings t (job_count t) standings.now }
     requires none { let t = case_in setting.now in AreAllAlone t standings.now (job_count t) [] }
     ensures { IfOk result (IsReply (case_in setting.now)) }
@@ -93,14 +90,13 @@ fn ask_promises<C: Choose, W: Watch>(
 }
 
 /// The pairs that exclude each other where all promises do, or if there is none, those that are left of all.
-fn exclusions<C: Choose, W: Watch>(
+fn exclusions<P: Planned, C: Choose, W: Watch>(
     alloc: Global,
-    setting: &Setting<'_>,
+    setting: &Setting<'_, P>,
     asker: &mut Asker<'_, C, W>,
     standings: &[Standing],
     limits: Vec<Option<Moment>>,
 ) -> Result<Reply, AllocError>
-    requires set { IsSet setting.now }
     requires promised { ArePromised (case_in setting.now) limits.items }
     requires none { NoPlanKeeps (case_in setting.now) limits.items }
     requires standings { let t = case_in setting.now in AreStandings t (job_count t) standings.now }

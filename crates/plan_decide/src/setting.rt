@@ -1,97 +1,103 @@
-//! What is asked about: whole plans with given numbers, or those that go on with a run.
+//! What is asked about: the rest of a run, of which a whole plan is the start, and whose promises are asked for.
 
-ghost use Rattle.std.specs.Prelude.{◌≡◌, ◌*◌, ◌^◌, ◌<◌, ◌≤◌, drop, slice_set, IfOk, IfErr};
+ghost use Rattle.std.specs.Prelude.{◌≡◌, ◌*◌, ◌^◌, ◌<◌, ◌≤◌, drop, slice_set, IfOk};
 ghost use Rattle.shop_base.specs.{declared.limits.TheConstants.MAX_MOMENT, Plan.jobs, Plan.route, Cell.made};
 ghost use Rattle.shop_base.specs.Work.{route_work};
-ghost use Rattle.text_lines.specs.Lines.{ended_lines};
 ghost use Rattle.plan_decide.specs.Cases.{is_waiting, times_in, budget_in, bound_in};
-ghost use Rattle.plan_decide.specs.{Promises.asked_for, Pasts.HoldsAfter, Pasts.IsBeginFault, Pasts.whole_case};
-ghost use Rattle.plan_decide.specs.Settings.{IsSet, IsPastBy, case_in, free_in, bound_ahead};
+ghost use Rattle.plan_decide.specs.{Promises.asked_for, Pasts.HoldsFrom};
+ghost use Rattle.plan_decide.specs.Settings.{IsSet, case_in, free_in, bound_ahead};
 
 use crate::aim::{Aim, Objective};
+use crate::begun::has_not_begun;
 use crate::copying::copy_moments;
-use crate::decide_fault::DecideFault;
-use cell_tables::WorkCell;
+use cell_tables::{Rest, WorkCell};
 use plan_bounds::job_bound;
 use plan_verifier::later;
-use run_log::run_at;
 use shop_base::limits::MAX_MOMENT;
-use shop_base::{JobNo, Moment, Shaped, Step};
+use shop_base::{JobNo, Moment, Planned, Step};
 use std::alloc::{AllocError, Global};
+use std::marker::Model;
 
-/// What has happened.
-#[derive(Clone, Copy)]
-pub(crate) enum Past<'a> {
-    /// Nothing, and the present moment is 0.
-    Nothing,
-    /// The run that a log's whole lines record.
-    Run { log: &'a [u8], present: Moment },
-}
-
-/// A plan with the numbers that are asked about, and the cell to which what has happened leads by it.
+/// The rest of a run, and whose promises are asked for.
 #[derive(Drop)]
-pub(crate) struct Setting<'a> {
-    pub cell: WorkCell<&'a Shaped>,
-    pub past: Past<'a>,
+pub(crate) struct Setting<'a, P: Planned> {
+    rest: &'a Rest<P>,
+    /// Whether it is a whole plan: nothing has happened, and the present moment is 0.
+    is_whole: bool,
     /// A job whose promise isn't asked for.
-    pub free: Option<JobNo>,
+    free: Option<JobNo>,
 }
 
-/// That of whole plans.
-pub(crate) fn whole<'a>(
-    alloc: Global,
-    shaped: &'a Shaped,
-    aim: Aim,
-) -> Result<Setting<'a>, AllocError>
-    ensures set { IfOk result IsSet }
-    ensures case { IfOk result (λ setting. case_in setting ≡ asked_for (whole_case shaped.now) aim) }
-{
-    match WorkCell::start(alloc, shaped) {
-        Ok(cell) => Ok(Setting {
-            cell,
-            past: Past::Nothing,
+impl<'a, P: Planned> Model for Setting<'a, P> {
+    ghost use Rattle.plan_decide.specs.Settings.{AskedRest, asked_rest, IsSet};
+
+    ghost Value = { AskedRest };
+
+    ghost view = { λ s. asked_rest s.rest.now.plan s.rest.now.cell s.rest.now.present s.is_whole s.free };
+
+    ghost invariant = { λ s.
+        IsSet (asked_rest s.rest.now.plan s.rest.now.cell s.rest.now.present s.is_whole s.free) };
+}
+
+impl<'a, P: Planned> Setting<'a, P> {
+    /// That of the rest of a run.
+    pub(crate) fn of(rest: &'a Rest<P>, aim: Aim) -> Setting<'a, P>
+        ensures plan { result.plan ≡ rest.now.plan }
+        ensures past { let r = rest.now in
+            HoldsFrom r.plan r.cell r.present (λ t. case_in result ≡ asked_for t aim) }
+    {
+        // Called for their clauses alone: the plan is well shaped, and a run leads to the cell.
+        let _plan = rest.shaped();
+        let _cell = rest.cell();
+        let _present = rest.present();
+        Setting {
+            rest,
+            is_whole: has_not_begun(rest),
             free: free_by(aim),
-        }),
-        Err(refused) => Err(refused.0),
+        }
     }
-}
 
-/// That of the run that the log's whole lines record by the plan, and the moment that is given or else its last one.
-pub(crate) fn after_log<'a>(
-    alloc: Global,
-    shaped: &'a Shaped,
-    log: &'a [u8],
-    at: Option<Moment>,
-    aim: Aim,
-) -> Result<Setting<'a>, DecideFault>
-    ensures set { IfOk result IsSet }
-    ensures past { IfOk result (λ setting.
-        HoldsAfter (ended_lines log.now) at shaped.now (λ t. case_in setting ≡ asked_for t aim)) }
-    ensures refused { IfErr result (IsBeginFault (ended_lines log.now) at shaped.now) }
-{
-    let (run, present) = match run_at(alloc, shaped, log, at)? {
-        Ok(found) => found,
-        Err(fault) => return Err(DecideFault::Run(fault)),
-    };
-    let past = past_by(log, present, run.entries.as_slice().len());
-    Ok(Setting {
-        cell: run.cell,
-        past,
-        free: free_by(aim),
-    })
-}
+    /// The rest of the run.
+    pub(crate) fn rest(&self) -> &'a Rest<P>
+        ensures plan { result.now.plan ≡ self.now.plan }
+        ensures cell { result.now.cell ≡ self.now.cell }
+        ensures present { result.now.present ≡ self.now.present }
+        ensures set { IsSet self.now }
+    {
+        self.rest
+    }
 
-/// What has happened by a log of so many events.
-fn past_by(log: &[u8], present: Moment, events: usize) -> Past<'_>
-    ensures { IsPastBy log.now present events result }
-{
-    if events > 0 {
-        return Past::Run { log, present };
+    /// Its cell.
+    pub(crate) fn cell(&self) -> &'a WorkCell<P>
+        ensures plan { result.now.plan ≡ self.now.plan }
+        ensures cell { result.now.cell ≡ self.now.cell }
+        ensures set { IsSet self.now }
+    {
+        self.rest.cell()
     }
-    if present > 0 {
-        return Past::Run { log, present };
+
+    /// The present moment.
+    pub(crate) fn present(&self) -> Moment
+        ensures present { result ≡ self.now.present }
+        ensures in_range { result ≤ MAX_MOMENT }
+    {
+        self.rest.present()
     }
-    Past::Nothing
+
+    /// Whether it is a whole plan: nothing has happened, and the present moment is 0.
+    pub(crate) fn is_whole(&self) -> bool
+        ensures whole { result ≡ self.now.is_whole }
+        ensures set { IsSet self.now }
+    {
+        self.is_whole
+    }
+
+    /// The job whose promise isn't asked for, if there is one.
+    fn free(&self) -> Option<JobNo>
+        ensures { result ≡ self.now.free }
+    {
+        self.free
+    }
 }
 
 /// The job whose own promise isn't asked for, if there is one.
@@ -105,23 +111,26 @@ fn free_by(aim: Aim) -> Option<JobNo>
 }
 
 /// The budget of the job, as it is asked for.
-pub(crate) fn budget_for(setting: &Setting<'_>, job: JobNo) -> Moment
-    requires { job < jobs setting.now.cell.plan }
+pub(crate) fn budget_for<P: Planned>(setting: &Setting<'_, P>, job: JobNo) -> Moment
+    requires { job < jobs setting.now.plan }
     ensures { result ≡ budget_in (case_in setting.now) job }
 {
-    let budget = setting.cell.shaped().budget_of(job);
-    match setting.free {
+    let budget = setting.cell().shaped().budget_of(job);
+    match setting.free() {
         Some(free) => { if free == job { MAX_MOMENT } else { budget } }
         None => budget,
     }
 }
 
 /// The budgets of all jobs, as they are asked for.
-pub(crate) fn budgets_of(alloc: Global, setting: &Setting<'_>) -> Result<Vec<Moment>, AllocError>
+pub(crate) fn budgets_of<P: Planned>(
+    alloc: Global,
+    setting: &Setting<'_, P>,
+) -> Result<Vec<Moment>, AllocError>
     ensures { IfOk result (λ budgets. budgets.items ≡ (case_in setting.now).task.budget) }
 {
-    let budgets = copy_moments(alloc, &setting.cell.shaped().plan().budget)?;
-    match setting.free {
+    let budgets = copy_moments(alloc, &setting.cell().shaped().plan().budget)?;
+    match setting.free() {
         Some(free) => Ok(with_no_promise(budgets, free)),
         None => Ok(budgets),
     }
@@ -139,33 +148,31 @@ fn with_no_promise(budgets: Vec<Moment>, job: JobNo) -> Vec<Moment>
 }
 
 /// Whether the job isn't gone.
-pub(crate) fn is_waiting(setting: &Setting<'_>, job: JobNo) -> bool
-    requires { job < jobs setting.now.cell.plan }
+pub(crate) fn is_waiting<P: Planned>(setting: &Setting<'_, P>, job: JobNo) -> bool
+    requires { job < jobs setting.now.plan }
     ensures { let t = case_in setting.now in result ≡ is_waiting (times_in t) t.past job }
 {
-    match setting.past {
-        Past::Nothing => true,
-        Past::Run { log: _, present: _ } => {
-            setting.cell.job_state(job).made <= setting.cell.step_count(job)
-        }
+    if setting.is_whole() {
+        return true;
     }
+    let cell = setting.cell();
+    cell.job_state(job).made <= cell.step_count(job)
 }
 
 /// The job's bound: before this moment it isn't out.
-pub(crate) fn bound_of_job(setting: &Setting<'_>, job: JobNo) -> Moment
-    requires job { job < jobs setting.now.cell.plan }
-    requires set { IsSet setting.now }
+pub(crate) fn bound_of_job<P: Planned>(setting: &Setting<'_, P>, job: JobNo) -> Moment
+    requires { job < jobs setting.now.plan }
     ensures { let t = case_in setting.now in result ≡ bound_in (times_in t) t.past job }
 {
-    match setting.past {
-        Past::Nothing => job_bound(setting.cell.shaped(), job),
-        Past::Run { log: _, present } => rest_bound(&setting.cell, present, job),
+    if setting.is_whole() {
+        return job_bound(setting.cell().shaped(), job);
     }
+    rest_bound(setting.cell(), setting.present(), job)
 }
 
 /// The bound of a job that isn't gone: the present moment, or that at which what goes on with it is due, and the
 /// nominal times of the steps that it hasn't entered.
-fn rest_bound(cell: &WorkCell<&Shaped>, present: Moment, job: JobNo) -> Moment
+fn rest_bound<P: Planned>(cell: &WorkCell<P>, present: Moment, job: JobNo) -> Moment
     requires job { job < jobs cell.now.plan }
     requires in_range { present ≤ MAX_MOMENT }
     ensures { result ≡ bound_ahead cell.now.plan cell.now.cell present job }
@@ -178,7 +185,7 @@ fn rest_bound(cell: &WorkCell<&Shaped>, present: Moment, job: JobNo) -> Moment
 }
 
 /// The nominal times of the steps that the job hasn't entered.
-fn work_left(cell: &WorkCell<&Shaped>, job: JobNo) -> Moment
+fn work_left<P: Planned>(cell: &WorkCell<P>, job: JobNo) -> Moment
     requires { job < jobs cell.now.plan }
     ensures work { let p = cell.now.plan in result ≡ route_work (drop (made cell.now.cell job) (route p job)) }
     ensures few { result ≤ 100 * 1000000 }

@@ -3,16 +3,16 @@
 ghost use Rattle.std.specs.Prelude.{◌≡◌, ◌<◌, IfOk};
 ghost use Rattle.shop_base.specs.Plan.{jobs};
 ghost use Rattle.plan_decide.specs.Cases.{job_count};
-ghost use Rattle.plan_decide.specs.Settings.{IsSet, case_in};
+ghost use Rattle.plan_decide.specs.Settings.{case_in};
 ghost use Rattle.plan_decide.specs.Excluding.{IsInDoubt};
 ghost use Rattle.plan_decide.specs.Listed.{AreStandings, IsStanding, standing_of};
 
 use crate::asked::{Asked, limits_for, promise_to};
 use crate::asker::{Asker, Watch};
-use crate::setting::{Past, Setting, bound_of_job};
+use crate::setting::{Setting, bound_of_job};
 use arc_choice::Choose;
 use plan_limits::Answer;
-use shop_base::JobNo;
+use shop_base::{JobNo, Planned};
 use std::alloc::{AllocError, Global};
 
 /// How a job's promise stands.
@@ -27,16 +27,15 @@ pub(crate) enum Standing {
 }
 
 /// How the promise of each job stands.
-pub(crate) fn standings<C: Choose, W: Watch>(
+pub(crate) fn standings<P: Planned, C: Choose, W: Watch>(
     alloc: Global,
-    setting: &Setting<'_>,
+    setting: &Setting<'_, P>,
     asker: &mut Asker<'_, C, W>,
 ) -> Result<Vec<Standing>, AllocError>
-    requires { IsSet setting.now }
     ensures { let t = case_in setting.now in IfOk result (λ found. AreStandings t (job_count t) found.items) }
 {
     let mut found = Vec::new(alloc);
-    for job in 0..setting.cell.job_count() {
+    for job in 0..setting.cell().job_count() {
         found.push(found_standing(alloc, setting, asker, job)?)?;
     }
     Ok(found)
@@ -53,16 +52,17 @@ pub(crate) fn standing_of(standings: &[Standing], job: JobNo) -> Standing
 }
 
 /// Finds how the promise of a job stands.
-fn found_standing<C: Choose, W: Watch>(
+fn found_standing<P: Planned, C: Choose, W: Watch>(
     alloc: Global,
-    setting: &Setting<'_>,
+    setting: &Setting<'_, P>,
     asker: &mut Asker<'_, C, W>,
     job: JobNo,
 ) -> Result<Standing, AllocError>
-    requires job { job < jobs setting.now.cell.plan }
-    requires set { IsSet setting.now }
+    requires { job < jobs setting.now.plan }
     ensures { IfOk result (IsStanding (case_in setting.now) job) }
 {
+    // Called for its clause alone: a run leads to the cell.
+    let _cell = setting.cell();
     let Some(budget) = promise_to(setting, job) else {
         return Ok(Standing::Unpromised);
     };
@@ -74,19 +74,18 @@ fn found_standing<C: Choose, W: Watch>(
 
 /// How the promise of a job stands that its bound leaves possible. That of a whole plan can be kept by one in which the
 /// job goes first.
-fn doubted<C: Choose, W: Watch>(
+fn doubted<P: Planned, C: Choose, W: Watch>(
     alloc: Global,
-    setting: &Setting<'_>,
+    setting: &Setting<'_, P>,
     asker: &mut Asker<'_, C, W>,
     job: JobNo,
 ) -> Result<Standing, AllocError>
-    requires doubt { IsInDoubt (case_in setting.now) job }
-    requires set { IsSet setting.now }
+    requires { IsInDoubt (case_in setting.now) job }
     ensures { IfOk result (IsStanding (case_in setting.now) job) }
 {
-    let Past::Run { log: _, present: _ } = setting.past else {
+    if setting.is_whole() {
         return Ok(Standing::Doubt);
-    };
+    }
     let limits = limits_for(alloc, setting, Asked::Both(job, job))?;
     match asker.ask_few(alloc, setting, &limits)? {
         Answer::Never => Ok(Standing::Late),

@@ -2,7 +2,7 @@
 use Rattle.std.proofs.Common.{◌≡◌, ℕ, ◌-◌, ◌<◌, ◌≤◌, Option, None, Some, inl, inr, arith, refl, ◌∙◌, le-ltb, lt-ltb, subst}
 use Rattle.plan_bounds.proofs.Bounded.{no_plan_is_sooner-holds}
 use Rattle.plan_improve.proofs.Common.{ASecondSearchIsNoWorse, AcceptedPlansStayAccepted, AcceptedRestsStayAccepted, Cell, Cost, IsAcceptable, IsAcceptableAhead, IsAtMost, IsBound, IsBoundThere, IsCost, IsCostFrom, IsGone, IsLess, IsMakespan, IsReordered, IsWellShaped, Meets, NoWorseIsPassedOn, NobodyBettersIt, PlannedShop, TheirMakespansNeverGrow, budget, cases_lt, jobs, late_by, made, makespan_le, steps, sum_below, sum_below-le, sum_below_zero}
-use Rattle.plan_improve.proofs.{Comparing.{most_of_most, zero_most}, OneCell.cell_once, Once.{same_cost, same_bound}}
+use Rattle.plan_improve.proofs.{Comparing.{most_of_most, zero_most}, Once.{same_cost, same_bound}}
 
 -- a plan to be accepted is never late
 plan_never_late : (p : PlannedShop) (c : Cost) → IsAcceptable p → IsCost p c → c.late ≡ 0
@@ -107,10 +107,5 @@ module _ (p : PlannedShop) (c : Cell) where
   }
 
 pub rest_accepted : AcceptedRestsStayAccepted
-rest_accepted lines t p q c d no_worse one other acceptable =
-    let before : IsAcceptableAhead p no_worse.than.cell t =
-    subst (λ (x : Cell). IsAcceptableAhead p x t) (cell_once lines p c no_worse.than.cell one no_worse.than.run) acceptable in
-    let zero : no_worse.other.late ≡ 0 = never_late p no_worse.than.cell t no_worse.other before no_worse.than.costs in
-    let now : IsAcceptableAhead q no_worse.is.cell t =
-    all_in_time q no_worse.is.cell t no_worse.cost no_worse.is.costs (zero_most no_worse.cost no_worse.other no_worse.most zero) in
-    subst (λ (x : Cell). IsAcceptableAhead q x t) (cell_once lines q no_worse.is.cell d no_worse.is.run other) now
+rest_accepted c t p q no_worse acceptable = all_in_time q c t no_worse.cost no_worse.is.costs
+    (zero_most no_worse.cost no_worse.other no_worse.most (never_late p c t no_worse.other acceptable no_worse.than.costs))

@@ -1,8 +1,8 @@
 -- Each plan has one cost; and what is fixed is so for all plans that differ in their orders alone.
-use Rattle.std.proofs.Common.{◌≡◌, ℕ, ◌-◌, ◌≤◌, List, Some, arith, refl, sym, ap, ◌∙◌, subst}
+use Rattle.std.proofs.Common.{◌≡◌, ℕ, ◌-◌, arith, refl, sym, ap, ap₂, ◌∙◌, subst}
 use Rattle.plan_bounds.specs.{Bounds.times_of, Makespan.IsBy}
-use Rattle.plan_improve.proofs.Common.{Cell, Cost, Fixed, HasCycle, IsBound, IsCellOf, IsCost, IsFixed, IsLateness, IsReordered, IsRestOf, IsRestThere, MAX_MOMENT, Nothing, PlannedShop, Rest, Run, Setting, budget, ended_lines, greatest_once, jobs, leaving, makespan_le, reordered, setting_of, sum_below, sum_below_same}
-use Rattle.plan_improve.proofs.{Comparing.cost_same, OneCell.one_cell, RestCosts.same_rest_cost}
+use Rattle.plan_improve.proofs.Common.{Cost, Fixed, HasCycle, IsBound, IsCost, IsFixed, IsLateness, IsReordered, IsRestOf, Nothing, PlannedShop, RestOfRun, Run, Setting, Stands, budget, greatest_once, jobs, leaving, makespan_le, bound_in, reordered, rest_from, rest_in, setting_of, sum_below, sum_below_same}
+use Rattle.plan_improve.proofs.{Comparing.cost_same, RestCosts.same_rest_cost}
 
 -- a plan has one cost
 abbrev pub OneCost : Setting → Type 0
@@ -19,9 +19,14 @@ pub same_cost : (p : PlannedShop) (c d : Cost) → IsCost p c → IsCost p d →
 same_cost p c d one other = cost_same c d (lateness_once p c.late d.late one.late other.late)
     (omega (arith, makespan_le p c.makespan d.makespan one.makespan other.makespan, makespan_le p d.makespan c.makespan other.makespan one.makespan))
 
-pub fixed_once : (fixed : Fixed) → OneCost (setting_of fixed)
-fixed_once (Nothing at_least) p c d one other = same_cost p c d one other
-fixed_once (Run log present rest) p c d one other = same_rest_cost (ended_lines log.now) present p c d one other
+pub fixed_once : (fixed : Fixed) (r : RestOfRun PlannedShop) → OneCost (setting_of fixed r)
+fixed_once (Nothing at_least) r p c d one other = same_cost p c d one other
+fixed_once (Run left) r p c d one other = same_rest_cost r.cell r.present p c d one other
+
+-- what is fixed of a rest is fixed of one to which that leads
+pub setting_same : (fixed : Fixed) (r x : RestOfRun PlannedShop) → Stands (setting_of fixed r) x → setting_of fixed x ≡ setting_of fixed r
+setting_same (Nothing at_least) r x stands = refl
+setting_same (Run left) r x stands = ap₂ rest_from stands.1 stands.2
 
 -- plans that differ in their orders alone have one bound
 pub same_bound : (p q : PlannedShop) (n : ℕ) → IsReordered p q → IsBound p n → IsBound q n
@@ -31,38 +36,33 @@ same_bound p q n same (by, is) = (by, subst (λ t. IsBy t n by) (sym (ap times_o
 pub reordered_on : (p q r : PlannedShop) → IsReordered p q → IsReordered q r → IsReordered p r
 reordered_on p q r one next = next ∙ ap (λ x. reordered x r.plan.order) one
 
--- what is fixed for a plan is so for one that differs in its orders alone
-pub fixed_on : (fixed : Fixed) (p q : PlannedShop) → IsFixed fixed p → IsReordered p q → IsFixed fixed q
-fixed_on fixed p q is same = record {
-  early = is.early;
-  left = λ r cost next costs. is.left r cost (reordered_on p q r same next) costs;
-  bound = λ r next. is.bound r (reordered_on p q r same next);
-}
+-- what is fixed for a rest is so for one by a plan that differs in its orders alone
+pub fixed_on : (fixed : Fixed) (r x : RestOfRun PlannedShop) → IsFixed fixed r → Stands (setting_of fixed r) x → IsReordered r.plan x.plan → IsFixed fixed x
+fixed_on fixed r x is stands same =
+    let there : setting_of fixed x ≡ setting_of fixed r = setting_same fixed r x stands in
+    record {
+      left = λ q cost next costs. subst (λ (s : Setting). s.leaves q (rest_in fixed)) (sym there)
+          (is.left q cost (reordered_on r.plan x.plan q same next) (subst (λ (s : Setting). s.costs q cost) there costs));
+      bound = λ q next. subst (λ (s : Setting). s.bounds q (bound_in fixed)) (sym there) (is.bound q (reordered_on r.plan x.plan q same next));
+    }
 
 -- of a whole plan
-pub nothing_fixed : (p : PlannedShop) (n : ℕ) → IsBound p n → IsFixed (Nothing n) p
-nothing_fixed p n is = record { early = omega arith; left = λ q cost same costs. refl; bound = λ q same. same_bound p q n same is }
+pub nothing_fixed : (r : RestOfRun PlannedShop) (n : ℕ) → IsBound r.plan n → IsFixed (Nothing n) r
+nothing_fixed r n is = record { left = λ q cost same costs. refl; bound = λ q same. same_bound r.plan q n same is }
 
--- what is left of a plan is left of one with other orders
-rest_on : (lines : List (List ℕ)) (t : ℕ) (p q : PlannedShop) (rest : Rest) (c d : Cell) → IsReordered p q → IsCellOf lines p c → IsRestOf p c t rest → IsCellOf lines q d → IsRestOf q d t rest
-rest_on lines t p q rest c d same one is other =
-    subst (λ (x : Cell). IsRestOf q x t rest) (one_cell lines p q c d same one other)
-    (subst (λ (x : PlannedShop). IsRestOf x c t rest) (sym same) (record { each_job = is.each_job; each_machine = is.each_machine }))
+abbrev pub FitsRun : RestOfRun PlannedShop → Fixed → Type 0
+FitsRun r (Nothing at_least) = ⊥
+FitsRun r (Run left) = IsRestOf r.plan r.cell r.present left.now
 
--- of the rest of a run
-abbrev pub FitsRun : Fixed → PlannedShop → Type 0
-FitsRun (Nothing at_least) p = ⊥
-FitsRun (Run log present rest) p = (present ≤ MAX_MOMENT) × IsRestThere (ended_lines log.now) present p (Some rest.now)
-
-pub run_fixed : (fixed : Fixed) (p : PlannedShop) → FitsRun fixed p → IsFixed fixed p
-run_fixed (Nothing at_least) p is = absurd is
-run_fixed (Run log present rest) p (early, (c, one, is)) = record {
-  early = early;
-  left = λ q cost same known. (known.cell, known.run, rest_on (ended_lines log.now) present p q rest.now c known.cell same one is known.run);
+-- of the rest of a run: what is left of a plan is left of one with other orders
+pub run_fixed : (r : RestOfRun PlannedShop) (fixed : Fixed) → FitsRun r fixed → IsFixed fixed r
+run_fixed r (Nothing at_least) is = absurd is
+run_fixed r (Run left) is = record {
+  left = λ q cost same known. subst (λ (x : PlannedShop). IsRestOf x r.cell r.present left.now) (sym same) (record { each_job = is.each_job; each_machine = is.each_machine });
   bound = λ q same. refl;
 }
 
 -- a plan with a cycle costs nothing
-pub no_cost : (fixed : Fixed) (p : PlannedShop) → HasCycle p → (c : Cost) → (setting_of fixed).costs p c → ⊥
-no_cost (Nothing at_least) p cycle c is = is.acyclic cycle.0 cycle.1
-no_cost (Run log present rest) p cycle c is = is.costs.acyclic cycle
+pub no_cost : (fixed : Fixed) (r : RestOfRun PlannedShop) (p : PlannedShop) → HasCycle p → (c : Cost) → (setting_of fixed r).costs p c → ⊥
+no_cost (Nothing at_least) r p cycle c is = is.acyclic cycle.0 cycle.1
+no_cost (Run left) r p cycle c is = is.costs.acyclic cycle

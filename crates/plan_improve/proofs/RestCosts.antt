@@ -1,10 +1,10 @@
 -- What a rest costs, from the moments of its nodes; it is the only cost.
-use Rattle.std.proofs.Common.{◌≡◌, ℕ, suc, ◌+◌, ◌*◌, ◌-◌, ◌<◌, ◌≤◌, if◌then◌else◌, nat_lt, lt-ltb, le-ltb, List, inl, inr, arith, refl, sym, ap, ◌∙◌, subst}
+use Rattle.std.proofs.Common.{◌≡◌, ℕ, suc, ◌+◌, ◌*◌, ◌-◌, ◌<◌, ◌≤◌, if◌then◌else◌, nat_lt, lt-ltb, le-ltb, inl, inr, arith, refl, sym, ap, ◌∙◌, subst}
 use Rattle.shop_base.specs.declared.node.Node.{Node}
 use Rattle.plan_verifier.specs.Held.{AreBegun}
 use Rattle.plan_verifier.proofs.Soon.{node_soon}
 use Rattle.plan_improve.proofs.Common.{AreLeavingsAhead, AreOrderedAhead, Cell, Cost, IsCostFrom, IsGreatestAhead, IsLastLeaving, IsRestCost, IsSound, LeaveSoon, MAX_MOMENT, NodeTimes, PlannedShop, acyclic, budget, cases_lt, jobs, late_by, leaves_in, leaving, leaving_ahead, leaving_node, leavings_ahead, made, rank_of, steps, sum_below, sum_below_same, the_last_leaving}
-use Rattle.plan_improve.proofs.{Comparing.cost_same, OneCell.cell_once}
+use Rattle.plan_improve.proofs.Comparing.{cost_same}
 
 module _ (p : PlannedShop) (c : Cell) (t : ℕ) where
   greatest_once : (v : Node) (m n : ℕ) → IsGreatestAhead p c t v m → IsGreatestAhead p c t v n → m ≡ n
@@ -61,9 +61,8 @@ late_more p c leaves n late x below is few =
       few = omega (arith, below.few, is, few);
     }
 
-pub same_rest_cost : (lines : List (List ℕ)) (t : ℕ) (p : PlannedShop) (a b : Cost) → IsRestCost lines t p a → IsRestCost lines t p b → a ≡ b
-same_rest_cost lines t p a b one other = once_from p one.cell t a b one.costs
-    (subst (λ (x : Cell). IsCostFrom p x t b) (cell_once lines p other.cell one.cell other.run one.run) other.costs)
+pub same_rest_cost : (c : Cell) (t : ℕ) (p : PlannedShop) (a b : Cost) → IsRestCost c t p a → IsRestCost c t p b → a ≡ b
+same_rest_cost c t p a b one other = once_from p c t a b one.costs other.costs
 
 -- how late the jobs of a rest can leave
 pub leave_soon : (p : PlannedShop) (c : Cell) (t : ℕ) (times : NodeTimes) → IsSound p c → AreBegun c → t ≤ MAX_MOMENT → AreOrderedAhead p c t times → LeaveSoon p c (leaves_in p times)

@@ -23,10 +23,10 @@ module _ (s : Setting) where
 
   module _ (made : Asked) (start : PlannedShop) where
     -- a search that has begun
-    pub searched : (p : PlannedShop) (first : Cost) (kept : Best) → IsBegin s start p → s.costs p first → IsLast s made p first kept → IsSearched s made start kept.cell.plan
+    pub searched : (p : PlannedShop) (first : Cost) (kept : Best) → IsBegin s start p → s.costs p first → IsLast s made p first kept → IsSearched s made start kept.rest.plan
     searched p first kept begins cost last = record {
       found = record { begin = p; begins_at = begins; run = last.run };
-      same = reordered_on start p kept.cell.plan (begin_same start p begins) last.same;
+      same = reordered_on start p kept.rest.plan (begin_same start p begins) last.same;
       no_worse = record { cost = kept.cost; other = first; is = last.is; than = cost; most = last.most };
     }
 

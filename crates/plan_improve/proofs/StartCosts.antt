@@ -1,7 +1,7 @@
 -- The rest of a run that hasn't begun costs what the whole plan does; and what a cell's plan costs where something is fixed.
 use Rattle.std.proofs.Common.{◌≡◌, ℕ, ◌-◌, if◌then◌else◌, le-ltb, Option, None, Some, Result, Ok, Err, IfOk, arith, sym, ap, ◌∙◌, subst}
 use Rattle.plan_verifier.proofs.AtStart.{leavings_to, leavings_from}
-use Rattle.plan_improve.proofs.Common.{Cell, Cost, Fixed, HasCycle, IsCost, IsCostFrom, IsWellShaped, MatchOption, Nothing, PlannedShop, Run, TheRestOfTheStartCostsThePlan, budget, jobs, late_by, made, makespan_is, makespan_last, present_in, setting_of, start, start-made, steps, sum_below, sum_below_same}
+use Rattle.plan_improve.proofs.Common.{Cell, Cost, Fixed, HasCycle, IsCost, IsCostFrom, IsWellShaped, MatchOption, Nothing, PlannedShop, RestOfRun, Run, Stands, TheRestOfTheStartCostsThePlan, budget, jobs, late_by, made, makespan_is, makespan_last, setting_of, start, start-made, steps, sum_below, sum_below_same}
 
 late_whole : (p : PlannedShop) (leaves : ℕ → ℕ) → sum_below (late_by p (start p) leaves) (jobs p) ≡ sum_below (λ j. leaves j - budget p j) (jobs p)
 late_whole p leaves = sum_below_same _ _ (jobs p) (λ j inside.
@@ -28,10 +28,11 @@ rest_cost p c shaped is = record {
 pub start_law : TheRestOfTheStartCostsThePlan
 start_law p cost shaped = (plan_cost p cost shaped, rest_cost p cost shaped)
 
--- the cost from a cell to which what is fixed leads is the plan's
-pub costs_there : {E : Type 0} (fixed : Fixed) (p : PlannedShop) (c : Cell) (r : Result (Option Cost) E) → IsWellShaped p → (setting_of fixed).cells p c
-    → IfOk r (λ cost. MatchOption cost (HasCycle p) (IsCostFrom p c (present_in fixed))) → IfOk r (λ cost. MatchOption cost (HasCycle p) ((setting_of fixed).costs p))
-costs_there fixed p c (Ok None) shaped stands cycle = cycle
-costs_there (Nothing at_least) p c (Ok (Some cost)) shaped stands is = plan_cost p cost shaped (subst (λ (x : Cell). IsCostFrom p x 0 cost) stands is)
-costs_there (Run log present rest) p c (Ok (Some cost)) shaped stands is = record { cell = c; run = stands; costs = is }
-costs_there fixed p c (Err e) shaped stands is = tt
+-- the cost of a rest to which what is fixed leads is the plan's
+pub costs_there : {E : Type 0} (fixed : Fixed) (r : RestOfRun PlannedShop) (a : Result (Option Cost) E) → IsWellShaped r.plan → Stands (setting_of fixed r) r
+    → IfOk a (λ cost. MatchOption cost (HasCycle r.plan) (IsCostFrom r.plan r.cell r.present)) → IfOk a (λ cost. MatchOption cost (HasCycle r.plan) ((setting_of fixed r).costs r.plan))
+costs_there fixed r (Ok None) shaped stands cycle = cycle
+costs_there (Nothing at_least) r (Ok (Some cost)) shaped stands is =
+    plan_cost r.plan cost shaped (subst (λ (x : Cell). IsCostFrom r.plan x 0 cost) stands.0 (subst (λ n. IsCostFrom r.plan r.cell n cost) stands.1 is))
+costs_there (Run left) r (Ok (Some cost)) shaped stands is = record { begins = stands.0; costs = is }
+costs_there fixed r (Err e) shaped stands is = tt

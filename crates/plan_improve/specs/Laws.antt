@@ -1,11 +1,11 @@
--- The laws of better plans: what is no worse stays accepted, a second search gives nothing worse than the first, nobody betters a plan that meets its bound, and a log has one cell.
-use Rattle.std.specs.Prelude.{◌≡◌, ◌↔◌, ℕ, ◌≤◌, List}
-use Rattle.shop_base.specs.{Plan.PlannedShop, Plan.order, Plan.IsWellShaped, Cell.Cell, Cell.entries, Cell.start, Move.IsPrefix}
-use Rattle.run_log.specs.{Audits.ParseAsRun, Present.IsCellOf}
+-- The laws of better plans: what is no worse stays accepted, a second search gives nothing worse than the first, and nobody betters a plan that meets its bound.
+use Rattle.std.specs.Prelude.{◌↔◌, ℕ, ◌≤◌}
+use Rattle.shop_base.specs.{Plan.PlannedShop, Plan.IsWellShaped, Cell.Cell, Cell.start}
+use Rattle.cell_tables.specs.Reordered.{IsReordered}
 use Rattle.plan_verifier.specs.{Accepted.HasNoCycle, Accepted.IsAcceptable, Accepted.IsMakespan, RestVerdicts.IsAcceptableAhead}
 use Rattle.plan_improve.specs.{declared.cost.Cost.Cost, Costs.IsCost, RestCosts.IsCostFrom}
-use Rattle.plan_improve.specs.Settings.{whole_plan, rest_after, IsBetter, IsNoWorse, IsAtBound}
-use Rattle.plan_improve.specs.{Reordered.IsReordered, Improved.IsNeverWorse}
+use Rattle.plan_improve.specs.Settings.{whole_plan, rest_from, IsBetter, IsNoWorse, IsAtBound}
+use Rattle.plan_improve.specs.Improved.{IsNeverWorse}
 
 -- a plan that is no worse than one to be accepted is to be accepted itself
 abbrev pub AcceptedPlansStayAccepted : Type 0
@@ -27,23 +27,9 @@ NoWorseIsPassedOn = (p q r : PlannedShop) → IsNoWorse whole_plan q p → IsNoW
 abbrev pub NobodyBettersIt : Type 0
 NobodyBettersIt = (p q : PlannedShop) → IsAtBound whole_plan p → IsReordered p q → IsBetter whole_plan q p → ⊥
 
--- lines that record a run of two plans that differ in their orders alone lead to one cell
-abbrev pub EachOrderHasOneCell : Type 0
-EachOrderHasOneCell = (lines : List (List ℕ)) (p q : PlannedShop) (c d : Cell) → IsReordered p q → IsCellOf lines p c → IsCellOf lines q d → c ≡ d
-
--- the entries of the cell begin the plan's orders
-abbrev pub BeginsWithEntries : Cell → PlannedShop → Type 0
-BeginsWithEntries c q = (m : ℕ) → IsPrefix (entries c m) (order q m)
-
--- lines that record a run of a plan record one of another that differs in its orders alone exactly where the entries of the cell at the end begin the other's orders
-abbrev pub ALogIsKeptByTheEntries : Type 0
-ALogIsKeptByTheEntries = (lines : List (List ℕ)) (p q : PlannedShop) (c : Cell) → IsWellShaped p → IsWellShaped q → IsReordered p q → IsCellOf lines p c
-    → ParseAsRun q lines ↔ BeginsWithEntries c q
-
 -- a rest by a plan that is no worse than one by which it is to be accepted is to be accepted itself
 abbrev pub AcceptedRestsStayAccepted : Type 0
-AcceptedRestsStayAccepted = (lines : List (List ℕ)) (t : ℕ) (p q : PlannedShop) (c d : Cell) → IsNoWorse (rest_after lines t) q p → IsCellOf lines p c → IsCellOf lines q d
-    → IsAcceptableAhead p c t → IsAcceptableAhead q d t
+AcceptedRestsStayAccepted = (c : Cell) (t : ℕ) (p q : PlannedShop) → IsNoWorse (rest_from c t) q p → IsAcceptableAhead p c t → IsAcceptableAhead q c t
 
 -- the rest of a run that hasn't begun costs what the whole plan does, from moment 0 on
 abbrev pub TheRestOfTheStartCostsThePlan : Type 0

@@ -4,7 +4,6 @@ pub mod RestCosts
 pub mod AtBound
 pub mod RestOf
 pub mod Settings
-pub mod Reordered
 pub mod Watching
 pub mod Runs
 pub mod Improved

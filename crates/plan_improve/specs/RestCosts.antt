@@ -1,8 +1,8 @@
 -- What the rest of a run costs by a plan: the total lateness of the jobs that aren't gone, and the makespan.
-use Rattle.std.specs.Prelude.{◌≡◌, ℕ, ◌-◌, nat_lt, if◌then◌else◌, List}
+use Rattle.std.specs.Prelude.{◌≡◌, ℕ, ◌-◌, nat_lt, if◌then◌else◌}
 use Rattle.shop_base.specs.{Plan.PlannedShop, Plan.jobs, Plan.steps, Plan.budget, Cell.Cell, Cell.made, Ends.sum_below}
 use Rattle.alt_graph.specs.Solved.{HasCycle}
-use Rattle.run_log.specs.Present.{IsCellOf}
+use Rattle.cell_tables.specs.Reordered.{BeginsWithEntries}
 use Rattle.plan_verifier.specs.Leavings.{AreLeavingsAhead, IsLastLeaving}
 use Rattle.plan_improve.specs.declared.cost.Cost.{Cost}
 
@@ -18,9 +18,7 @@ pub record IsCostFrom (p : PlannedShop) (c : Cell) (t : ℕ) (cost : Cost) : Typ
   pub late : cost.late ≡ sum_below (late_by p c leaves) (jobs p)
   pub makespan : IsLastLeaving p leaves cost.makespan
 
-module _ (lines : List (List ℕ)) (t : ℕ) where
-  -- the same of the rest of the run that the lines record by the plan
-  pub record IsRestCost (p : PlannedShop) (cost : Cost) : Type 0 where
-    pub cell : Cell
-    pub run : IsCellOf lines p cell
-    pub costs : IsCostFrom p cell t cost
+-- the same of a plan that begins with the entries of the cell
+pub record IsRestCost (c : Cell) (t : ℕ) (p : PlannedShop) (cost : Cost) : Type 0 where
+  pub begins : BeginsWithEntries c p
+  pub costs : IsCostFrom p c t cost

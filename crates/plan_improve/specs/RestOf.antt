@@ -1,7 +1,7 @@
--- What a run has left of its plan, as an improver gets it.
-use Rattle.std.specs.{Prelude.◌≡◌, Prelude.ℕ, Prelude.nat_lt, Prelude.if◌then◌else◌, Prelude.map, List.range_with_len}
+-- What a run has left of its plan, as an improver gets it, and that it hasn't begun.
+use Rattle.std.specs.{Prelude.◌≡◌, Prelude.ℕ, Prelude.nat_lt, Prelude.if◌then◌else◌, Prelude.map, Prelude.◌<◌, Prelude.false, List.range_with_len}
 use Rattle.shop_base.specs.Plan.{PlannedShop, jobs, machines, steps}
-use Rattle.shop_base.specs.{Cell.Cell, Cell.job_in, Cell.made, Cell.since, Cell.cleaning, Movers.due_of_job}
+use Rattle.shop_base.specs.{Cell.Cell, Cell.job_in, Cell.made, Cell.ready, Cell.since, Cell.cleaning, Movers.due_of_job}
 use Rattle.plan_annealing.specs.{declared.annealed.JobRest.JobRest, declared.annealed.Rest.Rest}
 use Rattle.plan_verifier.specs.Held.{later_than}
 
@@ -18,3 +18,11 @@ module _ (p : PlannedShop) (c : Cell) (t : ℕ) where
   pub record IsRestOf (rest : Rest) : Type 0 where
     pub each_job : rest.jobs.items ≡ map job_rest (range_with_len 0 (jobs p))
     pub each_machine : rest.cleanings.items ≡ map (cleaning c) (range_with_len 0 (machines p))
+
+-- job j hasn't arrived: it isn't ready, and has made no move
+abbrev pub IsAwaited : Cell → ℕ → Type 0
+IsAwaited c j = (made c j ≡ 0) × (ready c j ≡ false)
+
+-- nothing was done yet: no job has arrived
+abbrev pub HasNotBegun : PlannedShop → Cell → Type 0
+HasNotBegun p c = (j : ℕ) → j < jobs p → IsAwaited c j

@@ -1,19 +1,18 @@
--- What is fixed while a plan is improved: nothing of a whole plan, or a run so far; and which of two plans that keep it is better.
-use Rattle.std.specs.Prelude.{◌≡◌, ℕ, List, [], Option, None, Some}
+-- What is fixed while a plan is improved: nothing of a whole plan, or what was done so far; and which of two plans that keep it is better.
+use Rattle.std.specs.Prelude.{◌≡◌, ℕ, Option, None, Some}
 use Rattle.shop_base.specs.{Plan.PlannedShop, Plan.IsWellShaped, Cell.Cell, Cell.start}
-use Rattle.event_lines.specs.LogLines.{LinesParse}
+use Rattle.cell_tables.specs.Reordered.{BeginsWithEntries}
 use Rattle.plan_annealing.specs.declared.annealed.Rest.{Rest}
 use Rattle.plan_improve.specs.{declared.cost.Cost.Cost, Costs.IsCost, Costs.IsLess, Costs.IsAtMost, AtBound.IsBound, AtBound.Meets}
-use Rattle.run_log.specs.Present.{IsCellOf}
-use Rattle.plan_improve.specs.{RestCosts.IsRestCost, RestOf.IsRestOf}
+use Rattle.plan_improve.specs.{RestCosts.IsRestCost, RestOf.IsRestOf, RestOf.HasNotBegun}
 
 -- what a run has left of a plan, as an improver gets it; nothing where no run has begun
 abbrev pub Left : Type 0
 Left = Option Rest
 
--- what is fixed: the cell to which what has happened leads by a plan, that nothing has happened yet, what a plan costs that keeps it and has no cycle, what an improver gets as what is left of it, and the bound of its makespan, if one is known
+-- what is fixed: the cell to which what was done leads by a plan, and the present moment, that nothing was done yet, what a plan costs that keeps it and has no cycle, what an improver gets as what is left of it, and the bound of its makespan, if one is known
 pub record Setting : Type 1 where
-  pub cells : PlannedShop → Cell → Type 0
+  pub cells : PlannedShop → Cell → ℕ → Type 0
   pub fresh : PlannedShop → Type 0
   pub costs : PlannedShop → Cost → Type 0
   pub leaves : PlannedShop → Left → Type 0
@@ -26,20 +25,20 @@ IsBoundThere p (Some n) = IsBound p n
 
 -- nothing is fixed: whole plans are compared, and nothing is given as left
 abbrev pub whole_plan : Setting
-whole_plan = record { cells = λ p c. c ≡ start p; fresh = λ p. Unit {0}; costs = IsCost; leaves = λ p rest. rest ≡ None; bounds = IsBoundThere }
+whole_plan = record { cells = λ p c t. (c ≡ start p) × (t ≡ 0); fresh = λ p. Unit {0}; costs = IsCost; leaves = λ p rest. rest ≡ None; bounds = IsBoundThere }
 
--- this is left of the plan from the cell of the run that the lines record, and the present moment t on
-abbrev pub IsRestThere : List (List ℕ) → ℕ → PlannedShop → Left → Type 0
-IsRestThere lines t p None = ⊥
-IsRestThere lines t p (Some rest) = (c : Cell) × IsCellOf lines p c × IsRestOf p c t rest
+-- this is left of the plan from cell c and the present moment t on
+abbrev pub IsRestThere : Cell → ℕ → PlannedShop → Left → Type 0
+IsRestThere c t p None = ⊥
+IsRestThere c t p (Some rest) = IsRestOf p c t rest
 
--- the run that the lines record is fixed: the rests of this run from the present moment t on are compared
-abbrev pub rest_after : List (List ℕ) → ℕ → Setting
-rest_after lines t = record {
-  cells = IsCellOf lines;
-  fresh = λ p. LinesParse p lines [];
-  costs = IsRestCost lines t;
-  leaves = IsRestThere lines t;
+-- what was done in cell c is fixed: the rests from it and the present moment t on are compared, by plans that begin with its entries
+abbrev pub rest_from : Cell → ℕ → Setting
+rest_from c t = record {
+  cells = λ p d u. BeginsWithEntries c p × (d ≡ c) × (u ≡ t);
+  fresh = λ p. HasNotBegun p c;
+  costs = IsRestCost c t;
+  leaves = IsRestThere c t;
   bounds = λ p bound. bound ≡ None;
 }
 

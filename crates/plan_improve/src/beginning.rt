@@ -2,13 +2,13 @@
 
 ghost use Rattle.std.specs.Prelude.{◌≡◌, ◌↔◌, false, IfOk, IfErr};
 ghost use Rattle.alt_graph.specs.Solved.{HasCycle};
-ghost use Rattle.plan_improve.specs.Reordered.{IsReordered};
-ghost use Rattle.plan_improve.specs.Keeping.{setting_of, IsEarly, IsFirst, Stands};
+ghost use Rattle.cell_tables.specs.Reordered.{IsReordered};
+ghost use Rattle.plan_improve.specs.Keeping.{setting_of, IsFirst, Stands};
 
 use crate::best::Best;
 use crate::fixed::Fixed;
-use crate::recasting::{plan_of, reorder_by};
-use cell_tables::WorkCell;
+use crate::plan_out::plan_of;
+use cell_tables::{Rest, reorder_by};
 use plan_seek::serial_orders;
 use shop_base::Shaped;
 use std::alloc::{AllocError, Global};
@@ -18,27 +18,26 @@ use std::alloc::{AllocError, Global};
 pub(crate) enum First {
     /// This one, with its cost.
     Begins(Best),
-    /// The plan has a cycle, and by what has happened no other one is known.
-    Stays(WorkCell<Shaped>),
+    /// The plan has a cycle, and by what was done no other one is known.
+    Stays(Rest<Shaped>),
 }
 
-/// The cell's plan itself or, if it has a cycle and nothing has happened yet, the serial plan; on a fault either.
+/// The rest by its plan itself or, if that has a cycle and nothing was done yet, by the serial plan; on a fault either.
 pub(crate) fn first_plan(
     alloc: Global,
-    start: WorkCell<Shaped>,
+    start: Rest<Shaped>,
     fixed: &Fixed<'_>,
-    has_event: bool,
+    has_begun: bool,
 ) -> Result<First, (AllocError, Shaped)>
-    requires early { IsEarly fixed.now }
-    requires stands { Stands (setting_of fixed.now) start }
-    requires event { (has_event ≡ false) ↔ (setting_of fixed.now).fresh start.plan }
-    ensures first { IfOk result (IsFirst (setting_of fixed.now) start.plan) }
+    requires stands { Stands (setting_of fixed.now start) start }
+    requires begun { (has_begun ≡ false) ↔ (setting_of fixed.now start).fresh start.plan }
+    ensures first { IfOk result (IsFirst (setting_of fixed.now start) start.plan) }
     ensures handed_back { IfErr result (λ refused. IsReordered start.plan refused.1) }
 {
     match fixed.cost(alloc, &start) {
-        Ok(Some(cost)) => Ok(First::Begins(Best { cell: start, cost })),
+        Ok(Some(cost)) => Ok(First::Begins(Best { rest: start, cost })),
         Ok(None) => {
-            if has_event {
+            if has_begun {
                 Ok(First::Stays(start))
             } else {
                 first_serially(alloc, start, fixed)
@@ -48,24 +47,23 @@ pub(crate) fn first_plan(
     }
 }
 
-/// The serial plan, where nothing has happened yet.
+/// The serial plan, where nothing was done yet.
 fn first_serially(
     alloc: Global,
-    start: WorkCell<Shaped>,
+    start: Rest<Shaped>,
     fixed: &Fixed<'_>,
 ) -> Result<First, (AllocError, Shaped)>
-    requires early { IsEarly fixed.now }
-    requires stands { Stands (setting_of fixed.now) start }
+    requires stands { Stands (setting_of fixed.now start) start }
     requires cycle { HasCycle start.plan }
-    requires fresh { (setting_of fixed.now).fresh start.plan }
-    ensures first { IfOk result (IsFirst (setting_of fixed.now) start.plan) }
+    requires fresh { (setting_of fixed.now start).fresh start.plan }
+    ensures first { IfOk result (IsFirst (setting_of fixed.now start) start.plan) }
     ensures handed_back { IfErr result (λ refused. IsReordered start.plan refused.1) }
 {
     match serial_orders(alloc, start.shaped().shop()) {
         Ok(order) => {
             let serial = reorder_by(start, order);
             match fixed.cost(alloc, &serial) {
-                Ok(Some(cost)) => Ok(First::Begins(Best { cell: serial, cost })),
+                Ok(Some(cost)) => Ok(First::Begins(Best { rest: serial, cost })),
                 Ok(None) => unreachable!(),
                 Err(error) => Err((error, plan_of(serial))),
             }

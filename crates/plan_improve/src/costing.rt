@@ -1,32 +1,34 @@
 //! The costs of the rests of runs: that of a whole plan is the cost of the rest of a run that hasn't begun.
 
 ghost use Rattle.std.specs.Prelude.{◌≡◌, ◌<◌, ◌≤◌, IfOk, MatchOption};
-ghost use Rattle.shop_base.specs.{declared.limits.TheConstants.MAX_MOMENT, Plan.jobs, Ends.sum_below};
+ghost use Rattle.shop_base.specs.{Plan.jobs, Ends.sum_below};
 ghost use Rattle.alt_graph.specs.{Solved.HasCycle, Times.AreRanks};
 ghost use Rattle.plan_verifier.specs.Leavings.{leaves_in, IsLastLeaving};
 ghost use Rattle.plan_improve.specs.{RestCosts.IsCostFrom, RestCosts.late_by, RestKeeping.LeaveSoon};
 
 use crate::cost::Cost;
 use alt_graph::{Solved, Times};
-use cell_tables::WorkCell;
-use plan_verifier::{cleanings_in_range, leave_time, makespan, solve_after};
+use cell_tables::{Rest, WorkCell};
+use plan_verifier::{cleanings_in_range, earliest_moments, leave_time, makespan};
 use shop_base::{JobNo, Moment, Planned};
 use std::alloc::{AllocError, Global};
 
-/// The cost of the rest from a cell and a present moment on; `None` if the plan has a cycle.
+/// The cost of the rest of a run; `None` if the plan has a cycle.
 pub(crate) fn cost_from<P: Planned>(
     alloc: Global,
-    cell: &WorkCell<P>,
-    present: Moment,
+    rest: &Rest<P>,
 ) -> Result<Option<Cost>, AllocError>
-    requires { present ≤ MAX_MOMENT }
     ensures { IfOk result
-        (λ cost. MatchOption cost (HasCycle cell.now.plan) (IsCostFrom cell.now.plan cell.now.cell present)) }
+        (λ cost. MatchOption cost (HasCycle rest.now.plan)
+        (IsCostFrom rest.now.plan rest.now.cell rest.now.present)) }
 {
-    // Both called for their clauses alone: the cell is sound, and its cleanings began within the limit.
-    let _plan = cell.shaped();
+    // All called for their clauses alone: the cell is sound, its cleanings began within the limit, and so is the
+    // present moment.
+    let _plan = rest.shaped();
+    let cell = rest.cell();
     cleanings_in_range(cell);
-    match solve_after(alloc, cell, present)? {
+    let _present = rest.present();
+    match earliest_moments(alloc, rest)? {
         Solved::Ordered(times) => Ok(Some(cost_in(cell, &times))),
         Solved::Cyclic(_) => Ok(None),
     }

@@ -2,12 +2,12 @@
 
 ghost use Rattle.std.specs.Prelude.{◌≡◌, IfOk, MatchOption, option_copied};
 ghost use Rattle.alt_graph.specs.Solved.{HasCycle};
-ghost use Rattle.plan_improve.specs.Keeping.{setting_of, rest_in, bound_in, present_in, IsEarly, IsCostBelow, Stands};
+ghost use Rattle.plan_improve.specs.Keeping.{setting_of, rest_in, bound_in, IsCostBelow, Stands};
 
 use crate::cost::Cost;
 use crate::costing::cost_from;
-use cell_tables::WorkCell;
-use plan_annealing::Rest;
+use cell_tables::Rest;
+use plan_annealing::Rest as Left;
 use shop_base::{Moment, Shaped};
 use std::alloc::{AllocError, Global};
 
@@ -15,26 +15,19 @@ use std::alloc::{AllocError, Global};
 #[derive(Clone, Copy)]
 pub(crate) enum Fixed<'a> {
     /// Nothing: a whole plan is improved. Whatever its orders, its makespan is no less than this.
-    Nothing {
-        at_least: Moment,
-    },
-    /// The run that a log's whole lines record, which are read once, before: a plan is improved for the rest of it from
-    /// a present moment on, and this is what it has left.
-    Run {
-        log: &'a [u8],
-        present: Moment,
-        rest: &'a Rest,
-    },
+    Nothing { at_least: Moment },
+    /// What was done so far: a plan is improved for the rest of a run, which has this left.
+    Run { left: &'a Left },
 }
 
 impl<'a> Fixed<'a> {
     /// What a run has left of the plan, if one has begun.
-    pub fn rest(&self) -> Option<&Rest>
+    pub fn left(&self) -> Option<&Left>
         ensures { option_copied result ≡ rest_in self.now }
     {
         match self {
             Fixed::Nothing { .. } => None,
-            Fixed::Run { rest, .. } => Some(rest),
+            Fixed::Run { left } => Some(left),
         }
     }
 
@@ -48,40 +41,28 @@ impl<'a> Fixed<'a> {
         }
     }
 
-    /// The present moment.
-    pub fn present(&self) -> Moment
-        ensures { result ≡ present_in self.now }
-    {
-        match self {
-            Fixed::Nothing { .. } => 0,
-            Fixed::Run { present, .. } => *present,
-        }
-    }
-
-    /// The cost of a cell's plan; `None` if it has a cycle.
-    pub fn cost(&self, alloc: Global, cell: &WorkCell<Shaped>) -> Result<Option<Cost>, AllocError>
-        requires early { IsEarly self.now }
-        requires stands { Stands (setting_of self.now) cell.now }
-        ensures { let p = cell.now.plan in
-            IfOk result (λ cost. MatchOption cost (HasCycle p) ((setting_of self.now).costs p)) }
+    /// The cost of a rest's plan; `None` if it has a cycle.
+    pub fn cost(&self, alloc: Global, rest: &Rest<Shaped>) -> Result<Option<Cost>, AllocError>
+        requires { Stands (setting_of self.now rest.now) rest.now }
+        ensures { let p = rest.now.plan in
+            IfOk result (λ cost. MatchOption cost (HasCycle p) ((setting_of self.now rest.now).costs p)) }
     {
         // Called for its clause alone: the plan is well shaped.
-        let _plan = cell.shaped();
-        cost_from(alloc, cell, self.present())
+        let _plan = rest.shaped();
+        cost_from(alloc, rest)
     }
 
-    /// The cost of a cell's plan, if it has one and it is less than this.
+    /// The cost of a rest's plan, if it has one and it is less than this.
     pub fn cost_below(
         &self,
         alloc: Global,
-        cell: &WorkCell<Shaped>,
+        rest: &Rest<Shaped>,
         bound: &Cost,
     ) -> Result<Option<Cost>, AllocError>
-        requires early { IsEarly self.now }
-        requires stands { Stands (setting_of self.now) cell.now }
-        ensures { IfOk result (IsCostBelow (setting_of self.now) cell.now.plan bound.now) }
+        requires { Stands (setting_of self.now rest.now) rest.now }
+        ensures { IfOk result (IsCostBelow (setting_of self.now rest.now) rest.now.plan bound.now) }
     {
-        match self.cost(alloc, cell)? {
+        match self.cost(alloc, rest)? {
             Some(cost) => {
                 if cost.is_less(bound) {
                     Ok(Some(cost))

@@ -1,11 +1,10 @@
 ghost use Rattle.std.specs.Prelude.{◌≡◌};
 ghost use Rattle.plan_improve.specs.declared.improve_fault.ImproveFault.TheVariants.{Memory};
 
-use run_log::RunFault;
 use std::alloc::AllocError;
 use thiserror::Error;
 
-/// Why no plan is given. Of a whole plan there are too many rounds, or memory is out.
+/// Why no plan is given.
 #[derive(Clone, Copy, Debug, PartialEq, Eq, Error)]
 pub enum ImproveFault {
     /// There are more than `MAX_ROUNDS` rounds.
@@ -14,9 +13,6 @@ pub enum ImproveFault {
     /// Out of memory, here or in an improver. The best plan so far is lost.
     #[error("Memory")]
     Memory,
-    /// There is no run up to the present moment.
-    #[error("{0}")]
-    Run(RunFault),
 }
 
 impl From<AllocError> for ImproveFault {

@@ -3,7 +3,8 @@
 ghost use Rattle.std.specs.Prelude.{◌≡◌, ◌≤◌, ◌↔◌, OnOk, IfOk, IfErr};
 ghost use Rattle.plan_verifier.specs.Accepted.{HasNoCycle, IsAcceptable};
 ghost use Rattle.plan_verifier.specs.{Verdicts.SaysAccepted, Verdicts.OnRefused, Verdicts.IsReason, Seen.judged};
-ghost use Rattle.plan_improve.specs.{Reordered.IsReordered, Settings.whole_plan};
+ghost use Rattle.cell_tables.specs.Reordered.{IsReordered};
+ghost use Rattle.plan_improve.specs.Settings.{whole_plan};
 ghost use Rattle.plan_improve.specs.{Runs.ReportedRounds, Runs.Rounds, Runs.Watched, Faults.IsImproveFault};
 ghost use Rattle.plan_improve.specs.{Improved.IsNeverWorse, Improved.IsFound, Keeping.IsSearched};
 
@@ -11,11 +12,10 @@ use crate::fixed::Fixed;
 use crate::improve_fault::ImproveFault;
 use crate::improver::Improver;
 use crate::not_improved::NotImproved;
-use crate::recasting::plan_of;
-use crate::reordering::{copy_orders, put_back};
+use crate::plan_out::plan_of;
 use crate::searching::search;
 use crate::watch::Watch;
-use cell_tables::WorkCell;
+use cell_tables::{Rest, copy_orders, put_back};
 use plan_bounds::least_makespan;
 use plan_seek::MAX_ROUNDS;
 use plan_verifier::{Verdict, verify};
@@ -83,7 +83,7 @@ fn improve_on<W: Watch>(
 {
     let at_least = least_makespan(&start).at_least;
     let fixed = Fixed::Nothing { at_least };
-    let cell = WorkCell::start(alloc, start)?;
-    let best = search(alloc, cell, &fixed, false, improvers, rounds, watch)?;
+    let rest = Rest::start(alloc, start)?;
+    let best = search(alloc, rest, &fixed, false, improvers, rounds, watch)?;
     verify(alloc, plan_of(best))
 }

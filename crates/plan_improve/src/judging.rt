@@ -2,12 +2,13 @@
 
 ghost use Rattle.std.specs.Prelude.{IfOk, IfErr, Some};
 ghost use Rattle.shop_base.specs.Vectors.{lists_of};
-ghost use Rattle.plan_improve.specs.Reordered.{IsReordered};
-ghost use Rattle.plan_improve.specs.Keeping.{setting_of, IsEarly, IsNext, Stands};
+ghost use Rattle.cell_tables.specs.Reordered.{IsReordered};
+ghost use Rattle.plan_improve.specs.Keeping.{setting_of, IsNext, Stands};
 
 use crate::best::Best;
 use crate::fixed::Fixed;
-use crate::recasting::{Recast, plan_of, reorder, reorder_by};
+use crate::plan_out::plan_of;
+use cell_tables::{RestReordered, reorder, reorder_by};
 use shop_base::{JobNo, Shaped};
 use std::alloc::{AllocError, Global};
 
@@ -18,25 +19,24 @@ pub(crate) fn judge_orders(
     order: Vec<Vec<JobNo>>,
     fixed: &Fixed<'_>,
 ) -> Result<Best, (AllocError, Shaped)>
-    requires stands { Stands (setting_of fixed.now) best.cell }
-    requires cost { (setting_of fixed.now).costs best.cell.plan best.cost }
-    requires early { IsEarly fixed.now }
-    ensures judged { let s = setting_of fixed.now in
-        IfOk result (IsNext s best.cell.plan best.cost (Some (lists_of order.items))) }
-    ensures handed_back { IfErr result (λ refused. IsReordered best.cell.plan refused.1) }
+    requires stands { Stands (setting_of fixed.now best.rest) best.rest }
+    requires cost { (setting_of fixed.now best.rest).costs best.rest.plan best.cost }
+    ensures judged { let s = setting_of fixed.now best.rest in
+        IfOk result (IsNext s best.rest.plan best.cost (Some (lists_of order.items))) }
+    ensures handed_back { IfErr result (λ refused. IsReordered best.rest.plan refused.1) }
 {
-    let Best { cell, cost } = best;
+    let Best { rest, cost } = best;
     // Called for its clause alone: the cell is sound.
-    let _plan = cell.shaped();
-    match reorder(cell, order) {
-        Recast::Stays(cell) => Ok(Best { cell, cost }),
-        Recast::Fits(cell, old) => match fixed.cost_below(alloc, &cell, &cost) {
-            Ok(Some(cost)) => Ok(Best { cell, cost }),
+    let _plan = rest.shaped();
+    match reorder(rest, order) {
+        RestReordered::Stays(rest) => Ok(Best { rest, cost }),
+        RestReordered::Fits(rest, old) => match fixed.cost_below(alloc, &rest, &cost) {
+            Ok(Some(cost)) => Ok(Best { rest, cost }),
             Ok(None) => Ok(Best {
-                cell: reorder_by(cell, old),
+                rest: reorder_by(rest, old),
                 cost,
             }),
-            Err(error) => Err((error, plan_of(cell))),
+            Err(error) => Err((error, plan_of(rest))),
         },
     }
 }

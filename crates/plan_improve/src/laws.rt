@@ -7,7 +7,6 @@
 
 ghost use Rattle.plan_improve.specs.Laws.{AcceptedPlansStayAccepted, TheirMakespansNeverGrow};
 ghost use Rattle.plan_improve.specs.Laws.{ASecondSearchIsNoWorse, NoWorseIsPassedOn, NobodyBettersIt};
-ghost use Rattle.plan_improve.specs.Laws.{EachOrderHasOneCell, ALogIsKeptByTheEntries};
 ghost use Rattle.plan_improve.specs.Laws.{AcceptedRestsStayAccepted, TheRestOfTheStartCostsThePlan};
 
 /// A plan that is no worse than an accepted one is accepted, and its makespan is no greater.
@@ -27,18 +26,6 @@ pub fn second_searches_are_no_worse()
 /// and jobs. Then no plan that differs from it in its orders alone is better.
 pub fn a_plan_at_its_bound_is_best()
     ensures { NobodyBettersIt }
-{}
-
-/// Lines that record a run of a plan and one of another that differs in its orders alone lead to one cell: which of
-/// the plans is asked makes no difference.
-pub fn a_log_has_one_cell()
-    ensures { EachOrderHasOneCell }
-{}
-
-/// Lines that record a run of a plan record one of another that differs in its orders alone exactly where each
-/// machine's other order begins with those that have entered it.
-pub fn a_log_is_kept_by_the_entries()
-    ensures { ALogIsKeptByTheEntries }
 {}
 
 /// A plan that is no worse than one whose rest is accepted has a rest that is accepted.

@@ -1,11 +1,10 @@
 //! Better plans, and never a worse one: untrusted improvers are asked for orders, and the best plan so far is kept. A
-//! whole plan is improved, or one for the rest of a run, from what its log records and a present moment on; then the
-//! log still records a run of the best plan.
+//! whole plan is improved, or one for the rest of a run, from its cell and the present moment on; then the best
+//! plan keeps all that was done.
 #![tactic(auto)]
 
 mod annealing_improver;
 mod beginning;
-mod begun;
 mod best;
 mod cost;
 mod costing;
@@ -16,11 +15,10 @@ mod improver;
 mod improving;
 mod judging;
 pub mod laws;
+mod left;
 mod not_improved;
-mod recasting;
-mod reordering;
+mod plan_out;
 mod rest_improving;
-mod rest_of_cell;
 mod rounds;
 mod searching;
 mod watch;
@@ -34,6 +32,5 @@ pub use improving::improve;
 pub use not_improved::NotImproved;
 pub use plan_annealing::{JobRest, Rest};
 pub use plan_seek::{MAX_ROUNDS, Proposed};
-pub use reordering::{Replaced, copy_orders, put_back, replace};
-pub use rest_improving::improve_after;
+pub use rest_improving::better_rest;
 pub use watch::Watch;

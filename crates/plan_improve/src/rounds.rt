@@ -2,7 +2,8 @@
 
 ghost use Rattle.std.specs.Prelude.{◌≡◌, Option, IfOk, IfErr, option_copied};
 ghost use Rattle.plan_seek.specs.Orders.{proposal_of};
-ghost use Rattle.plan_improve.specs.{Reordered.IsReordered, Watching.reported_bound};
+ghost use Rattle.cell_tables.specs.Reordered.{IsReordered};
+ghost use Rattle.plan_improve.specs.Watching.{reported_bound};
 ghost use Rattle.plan_improve.specs.Runs.{AfterRound, ReportedRounds, Watched};
 ghost use Rattle.plan_improve.specs.Keeping.{setting_of, rest_in, IsFixed, IsNextOf, IsLast, Stands};
 
@@ -10,9 +11,9 @@ use crate::best::Best;
 use crate::fixed::Fixed;
 use crate::improver::Improver;
 use crate::judging::judge_orders;
-use crate::recasting::plan_of;
+use crate::plan_out::plan_of;
 use crate::watch::Watch;
-use plan_annealing::Rest;
+use plan_annealing::Rest as Left;
 use plan_seek::Proposed;
 use shop_base::{Moment, Shaped};
 use std::alloc::{AllocError, Global};
@@ -26,12 +27,12 @@ pub(crate) fn ask_in_rounds<W: Watch>(
     rounds: u32,
     watch: &mut W,
 ) -> Result<Best, (AllocError, Shaped)>
-    requires stands { Stands (setting_of fixed.now) best.cell }
-    requires cost { (setting_of fixed.now).costs best.cell.plan best.cost }
-    requires fixed { IsFixed fixed.now best.cell.plan }
-    ensures last { IfOk result (IsLast (setting_of fixed.now) (Watched (W.reported watch.old) (W.reported watch.new)
-        (ReportedRounds (setting_of fixed.now) (λ b. may b) improvers.now rounds)) best.cell.plan best.cost) }
-    ensures handed_back { IfErr result (λ refused. IsReordered best.cell.plan refused.1) }
+    requires stands { Stands (setting_of fixed.now best.rest) best.rest }
+    requires cost { (setting_of fixed.now best.rest).costs best.rest.plan best.cost }
+    requires fixed { IsFixed fixed.now best.rest }
+    ensures last { IfOk result (IsLast (setting_of fixed.now best.rest) (Watched (W.reported watch.old) (W.reported watch.new)
+        (ReportedRounds (setting_of fixed.now best.rest) (λ b. may b) improvers.now rounds)) best.rest.plan best.cost) }
+    ensures handed_back { IfErr result (λ refused. IsReordered best.rest.plan refused.1) }
 {
     let at_least = fixed.at_least();
     for round in 0..rounds {
@@ -67,12 +68,12 @@ fn ask_each(
     improvers: &[Box<dyn Improver>],
     round: u32,
 ) -> Result<Best, (AllocError, Shaped)>
-    requires stands { Stands (setting_of fixed.now) best.cell }
-    requires cost { (setting_of fixed.now).costs best.cell.plan best.cost }
-    requires fixed { IsFixed fixed.now best.cell.plan }
-    ensures last { let s = setting_of fixed.now in
-        IfOk result (IsLast s (AfterRound s (λ b. may b) improvers.now round) best.cell.plan best.cost) }
-    ensures handed_back { IfErr result (λ refused. IsReordered best.cell.plan refused.1) }
+    requires stands { Stands (setting_of fixed.now best.rest) best.rest }
+    requires cost { (setting_of fixed.now best.rest).costs best.rest.plan best.cost }
+    requires fixed { IsFixed fixed.now best.rest }
+    ensures last { let s = setting_of fixed.now best.rest in
+        IfOk result (IsLast s (AfterRound s (λ b. may b) improvers.now round) best.rest.plan best.cost) }
+    ensures handed_back { IfErr result (λ refused. IsReordered best.rest.plan refused.1) }
 {
     let bound = fixed.at_least();
     for improver in improvers {
@@ -92,19 +93,19 @@ fn ask_one(
     improver: &Box<dyn Improver>,
     round: u32,
 ) -> Result<Best, (AllocError, Shaped)>
-    requires stands { Stands (setting_of fixed.now) best.cell }
-    requires cost { (setting_of fixed.now).costs best.cell.plan best.cost }
-    requires fixed { IsFixed fixed.now best.cell.plan }
-    ensures asked { IfOk result (IsNextOf (setting_of fixed.now)
-        (may improver.now best.cell.plan (rest_in fixed.now) round) best) }
-    ensures handed_back { IfErr result (λ refused. IsReordered best.cell.plan refused.1) }
+    requires stands { Stands (setting_of fixed.now best.rest) best.rest }
+    requires cost { (setting_of fixed.now best.rest).costs best.rest.plan best.cost }
+    requires fixed { IsFixed fixed.now best.rest }
+    ensures asked { IfOk result (IsNextOf (setting_of fixed.now best.rest)
+        (may improver.now best.rest.plan (rest_in fixed.now) round) best) }
+    ensures handed_back { IfErr result (λ refused. IsReordered best.rest.plan refused.1) }
 {
-    match ask(alloc, improver, best.cell.shaped(), fixed.rest(), round) {
+    match ask(alloc, improver, best.rest.shaped(), fixed.left(), round) {
         Ok(Some(order)) => judge_orders(alloc, best, order, fixed),
         Ok(None) => Ok(best),
         Err(error) => {
-            let Best { cell, cost: _ } = best;
-            Err((error, plan_of(cell)))
+            let Best { rest, cost: _ } = best;
+            Err((error, plan_of(rest)))
         }
     }
 }
@@ -114,11 +115,11 @@ fn ask(
     alloc: Global,
     improver: &Box<dyn Improver>,
     shaped: &Shaped,
-    rest: Option<&Rest>,
+    left: Option<&Left>,
     round: u32,
 ) -> Proposed
     ensures { IfOk result (λ answer.
-        may improver.now shaped.now (option_copied rest.entry) round (proposal_of answer)) }
+        may improver.now shaped.now (option_copied left.entry) round (proposal_of answer)) }
 {
-    improver.improve(alloc, shaped, rest, round)
+    improver.improve(alloc, shaped, left, round)
 }

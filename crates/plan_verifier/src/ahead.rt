@@ -13,13 +13,12 @@ ghost use Rattle.plan_verifier.specs.RestVerdicts.{OnRestRefused, OnRestCycle, O
 ghost use Rattle.plan_verifier.specs.Held.{IsHeldUp, IsBoundOf};
 ghost use Rattle.plan_verifier.specs.Rest.{AreOrderedAhead, IsChainAhead, OnOrderedAhead};
 
-use crate::chain_check::check_chain_after;
-use crate::deadlines::deadlines_after;
+use crate::cell_bounds::CellBounds;
+use crate::chain_check::PathBounds;
+use crate::judging::judge_from;
 use crate::node_bound::{NodeBound, bound_after};
-use crate::solving::solve_after;
 use crate::verdict::Judged;
-use crate::verifying::verify_after;
-use alt_graph::{Deadlines, Solved, Times};
+use alt_graph::{Deadlines, Solved, Times, check_chain_from, latest_moments, solve_from};
 use cell_tables::Rest;
 use shop_base::{Moment, Node, Planned};
 use std::alloc::{AllocError, Global};
@@ -27,6 +26,7 @@ use std::alloc::{AllocError, Global};
 /// Judges the rest of a run. Looks first for a cycle, then for the first late job; jobs that are gone aren't judged.
 /// What goes on ends when it is due, and what is overdue at the present moment. Linear in the nodes, the arcs and the
 /// machines; fails only when out of memory.
+#[tactic(auto, using(crate::proofs::Tables::rest_rooted))]
 pub fn judge<P: Planned>(alloc: Global, rest: &Rest<P>) -> Result<Judged, AllocError>
     ensures accepted { IfOk result (IsAcceptedAhead rest.now.plan rest.now.cell rest.now.present) }
     ensures refused { IfOk result (IsReasonAhead rest.now.plan rest.now.cell rest.now.present) }
@@ -49,8 +49,11 @@ pub fn judge<P: Planned>(alloc: Global, rest: &Rest<P>) -> Result<Judged, AllocE
     ensures just { IfOk result
         (OnRestRefused (IsNeverInBudgetFrom rest.now.plan rest.now.cell rest.now.present)) }
 {
+    let shaped = rest.shaped();
+    let cell = rest.cell();
     let present = rest.present();
-    verify_after(alloc, rest.cell(), present)
+    let solved = solve_from(alloc, shaped, CellBounds { cell, present })?;
+    judge_from(alloc, shaped, &CellBounds { cell, present }, solved)
 }
 
 /// The ranks of the nodes of the plan, and the earliest moments of the nodes ahead: the greatest lengths of the paths to
@@ -61,8 +64,10 @@ pub fn earliest_moments<P: Planned>(alloc: Global, rest: &Rest<P>) -> Result<Sol
     ensures cyclic { IfOk result (OnCyclic rest.now.plan) }
     ensures exact { IfOk result (λ solved. IsCyclic solved ↔ HasCycle rest.now.plan) }
 {
+    let shaped = rest.shaped();
+    let cell = rest.cell();
     let present = rest.present();
-    solve_after(alloc, rest.cell(), present)
+    solve_from(alloc, shaped, CellBounds { cell, present })
 }
 
 /// The latest moments of the nodes of the plan. If the rest's earliest moments meet the budgets, the nodes ahead have
@@ -82,8 +87,9 @@ pub fn deadlines_of<P: Planned>(
         AreOrderedAhead p c t times.now → MeetBudgetsAhead p c (earliest_of times.now)
         → IfOk result (λ found. AreDeadlinesFrom p c t (earliest_of times.now) (moment_of found)) }
 {
+    // Called for its clause alone: the moment isn't before the last one.
     let _present = rest.present();
-    deadlines_after(alloc, rest.cell(), times)
+    latest_moments(alloc, rest.shaped(), times)
 }
 
 /// What holds up a node, and until when: of all that does what lasts longest. If several last equally long, the bound
@@ -109,6 +115,11 @@ pub fn check_chain_ahead<P: Planned>(rest: &Rest<P>, nodes: &[Node]) -> Option<M
         IfSome result (λ n. (j : ℕ) → EndsIn nodes.now (leaving p j)
         → IsNeverGoneBeforeFrom p rest.now.cell rest.now.present j n) }
 {
+    let shaped = rest.shaped();
+    let cell = rest.cell();
     let present = rest.present();
-    check_chain_after(rest.cell(), present, nodes)
+    let bounds = PathBounds {
+        rest: CellBounds { cell, present },
+    };
+    check_chain_from(shaped, &bounds, nodes)
 }

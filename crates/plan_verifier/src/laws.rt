@@ -4,7 +4,7 @@
 
 ghost use Rattle.plan_verifier.specs.StartLaw.{TheRestOfTheStartIsThePlan};
 
-/// From the cell at the start and moment 0 on, what `solve_after` gives has the same earliest moments as what `solve`
+/// From the cell at the start and moment 0 on, what `earliest_moments` gives has the same earliest moments as what `solve`
 /// gives of the plan. So the rest is to be accepted exactly if those of the plan's leavings are within the budgets,
 /// which is when `verify` accepts the plan.
 pub fn the_rest_of_the_start_is_the_plan()

@@ -8,24 +8,19 @@
 mod ahead;
 mod cell_bounds;
 mod chain_check;
-mod deadlines;
 mod in_range;
 mod judging;
 pub mod laws;
 mod leavings;
 mod node_bound;
-mod solving;
 mod verdict;
 mod verified;
 mod verifying;
 
 pub use ahead::{bound_of, check_chain_ahead, deadlines_of, earliest_moments, judge};
-pub use chain_check::check_chain_after;
-pub use deadlines::deadlines_after;
 pub use in_range::cleanings_in_range;
 pub use leavings::{last_to_leave, later, leave_time, leaving_of, makespan};
 pub use node_bound::{Hold, NodeBound};
-pub use solving::solve_after;
 pub use verdict::{Judged, Verdict, Why};
 pub use verified::Verified;
-pub use verifying::{verify, verify_after};
+pub use verifying::verify;

@@ -25,6 +25,5 @@ pub use cell_tables::Entry;
 pub use digits::run_digits;
 pub use entry_check::follow_entry;
 pub use log_text::write_lines;
-pub use logged_run::{LoggedRun, run_if_replayed};
-pub use present_run::{LoggedRest, RunFault, rest_at, run_at};
+pub use present_run::{LoggedRest, RunFault, rest_at};
 pub use run_log::{LogFault, RunLog};

@@ -1,11 +1,11 @@
 //! The run that a log records.
 
-ghost use Rattle.std.specs.Prelude.{◌≡◌, ◌*◌, ◌≤◌, [], length, vec_capacity, IfOk, OnOk, IfErr, IfSome, IfNone};
+ghost use Rattle.std.specs.Prelude.{◌≡◌, ◌*◌, ◌≤◌, [], length, vec_capacity, IfOk, OnOk, IfErr};
 ghost use Rattle.shop_base.specs.Ends.{stated_number};
 ghost use Rattle.text_lines.specs.Lines.{lines_of, ended_lines};
 ghost use Rattle.event_lines.specs.LogLines.{LinesParse};
 ghost use Rattle.run_log.specs.Audits.{IsReplayed, IsLineFault, IsFirstBad, IsAuditFault};
-ghost use Rattle.run_log.specs.Audits.{ParseAsRun, fault_line, room_for};
+ghost use Rattle.run_log.specs.Audits.{fault_line, room_for};
 ghost use Rattle.run_log.specs.Auditing.{IsLineReplayed, HasRoomForNext};
 
 use crate::audit_fault::AuditFault;
@@ -19,30 +19,11 @@ use text_lines::{ended_part, next_line};
 
 /// A run as far as the lines of a log that were read record it.
 #[derive(Debug, Drop)]
-pub struct LoggedRun<P: Planned> {
+pub(crate) struct LoggedRun<P: Planned> {
     /// The cell after the last entry, at its moment; at the start of a run if there is no entry.
     pub cell: WorkCell<P>,
     /// Its reports and orders, in the order of the log.
     pub entries: Vec<Entry>,
-}
-
-/// The run of the plan that the whole lines of a log record, and the cell at its end; `None` if they record none.
-pub fn run_if_replayed<P: Planned>(
-    alloc: Global,
-    basis: P,
-    text: &[u8],
-) -> Result<Option<LoggedRun<P>>, AllocError>
-    ensures plan { IfOk result (λ found. IfSome found (λ run. run.cell.plan ≡ P.planned basis)) }
-    ensures parses { IfOk result (λ found. IfSome found (λ run.
-        LinesParse (P.planned basis) (ended_lines text.now) run.entries.items)) }
-    ensures replayed { IfOk result
-        (λ found. IfSome found (λ run. IsReplayed (P.planned basis) run.cell.cell run.entries.items)) }
-    ensures none { IfOk result (λ found. IfNone found (ParseAsRun (P.planned basis) (ended_lines text.now) → ⊥)) }
-{
-    match run_or_fault(alloc, basis, text)? {
-        Ok(run) => Ok(Some(run)),
-        Err(_) => Ok(None),
-    }
 }
 
 /// The run of the plan that the whole lines of a log record, and the cell at its end, or the first fault of the lines.

@@ -81,25 +81,3 @@ fn rest_of<P: Planned>(run: LoggedRun<P>, at: Option<Moment>) -> Result<LoggedRe
         }
     }
 }
-
-/// The run of the plan that the whole lines of a log record, and the present moment, as [`rest_at`] has them.
-pub fn run_at<P: Planned>(
-    alloc: Global,
-    basis: P,
-    text: &[u8],
-    at: Option<Moment>,
-) -> Result<Result<(LoggedRun<P>, Moment), RunFault>, AllocError>
-    ensures basis { IfOk result (λ found. IfOk found (λ here. here.0.cell.basis ≡ basis)) }
-    ensures plan { IfOk result (λ found. IfOk found (λ here. here.0.cell.plan ≡ P.planned basis)) }
-    ensures run { IfOk result (λ found. IfOk found (λ here.
-        IsRunAt (ended_lines text.now) at (P.planned basis) here.0.cell.cell here.0.entries.items here.1)) }
-    ensures fault { IfOk result (λ found. IfErr found (IsRunFault (ended_lines text.now) at (P.planned basis))) }
-{
-    match rest_at(alloc, basis, text, at)? {
-        Ok(LoggedRest { rest, entries }) => {
-            let (cell, present) = rest.into_parts();
-            Ok(Ok((LoggedRun { cell, entries }, present)))
-        }
-        Err(fault) => Ok(Err(fault)),
-    }
-}

@@ -1,6 +1,6 @@
 use Rattle.plan_improve.specs.Settings.{whole_plan}
 use Rattle.plan_improve.specs.Runs.{Rounds}
-use Rattle.command_answers.proofs.ImproveLines.{best_answer_is, no_best_answered, no_best_is}
+use Rattle.command_answers.proofs.ImproveLines.{best_answer_is, no_best_is}
 use Rattle.command_answers.proofs.improves.best_answer.Goals as goal
 
 pub returns-in-Ok : goal.returns-in-Ok
@@ -19,6 +19,3 @@ pub returns-in-Err : goal.returns-in-Err
 returns-in-Err g c =
     no_best_is (Rounds whole_plan (λ b. (goal.Improver-dyn g (b.vtable, b.value)).may b.value) c.args.improvers.now c.args.rounds) c.args.rounds c.args.start c.in-Err.refused.fault c.unfound_answer.result
     c.in-Err.ensures.refused c.unfound_answer.ensures
-
-pub unfound_answer-requires : goal.unfound_answer-requires
-unfound_answer-requires g c = no_best_answered c.args.rounds c.in-Err.refused.fault c.in-Err.ensures.refused

@@ -5,10 +5,10 @@ use Rattle.plan_decide.proofs.Collecting.{alone_more, alone_passed, late_is}
 use Rattle.plan_decide.proofs.alone.add_alone.Goals as goal
 
 pub returns-in_default : goal.returns-in_default
-returns-in_default c = alone_passed (case_in c.args.setting.now) c.args.standings.now c.args.job c.args.listed.now.items (λ late. c.in_default.not-Late (c.standing_of.ensures ∙ late)) c.requires.known
+returns-in_default g c = alone_passed (case_in c.args.setting.now) c.args.standings.now c.args.job c.args.listed.now.items (λ late. c.in_default.not-Late (c.standing_of.ensures ∙ late)) c.requires.known
 
 pub returns : goal.returns
-returns c =
+returns g c =
     let t = case_in c.args.setting.now in
     let ss = c.args.standings.now in
     let late = sym c.standing_of.ensures ∙ c.in-Late.is in

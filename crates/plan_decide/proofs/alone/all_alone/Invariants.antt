@@ -4,4 +4,4 @@ use Rattle.plan_decide.proofs.alone.all_alone.Given as goal
 
 -- of the jobs before this one all are listed
 abbrev pub invariant-loop-job : goal.invariant-loop-job
-invariant-loop-job l = AreAllAlone (case_in l.setting) l.standings l.job l.listed.items
+invariant-loop-job g l = AreAllAlone (case_in l.setting) l.standings l.job l.listed.items

@@ -1,19 +1,11 @@
+use Rattle.plan_verifier.proofs.Answers.{ok_each}
+use Rattle.plan_decide.specs.Decisions.{IsDecided}
+use Rattle.plan_decide.proofs.Deciders.{of_start}
 use Rattle.plan_decide.proofs.deciding.decide.Goals as goal
 
-pub returns-in-Ok-clause-kept : goal.returns-in-Ok-clause-kept
-returns-in-Ok-clause-kept g c = (c.whole_back.ensures c.args.shaped c.args.aim c.in-Ok.ensures.found).kept
+pub returns-in-Ok-clause-decided : goal.returns-in-Ok-clause-decided
+returns-in-Ok-clause-decided g c =
+    ok_each c.decide_rest-decided.result (λ decided held. of_start c.args.shaped.now (λ t. IsDecided t c.args.aim decided) held) (rw c.in-Ok.ensures.start at c.decide_rest-decided.ensures.decided)
 
-pub returns-in-Ok-clause-best : goal.returns-in-Ok-clause-best
-returns-in-Ok-clause-best g c = (c.whole_back.ensures c.args.shaped c.args.aim c.in-Ok.ensures.found).best
-
-pub returns-in-Ok-clause-never : goal.returns-in-Ok-clause-never
-returns-in-Ok-clause-never g c = (c.whole_back.ensures c.args.shaped c.args.aim c.in-Ok.ensures.found).never
-
-pub returns-in-Ok-clause-cyclic : goal.returns-in-Ok-clause-cyclic
-returns-in-Ok-clause-cyclic g c = (c.whole_back.ensures c.args.shaped c.args.aim c.in-Ok.ensures.found).cyclic
-
-pub returns-in-Ok-clause-open : goal.returns-in-Ok-clause-open
-returns-in-Ok-clause-open g c = (c.whole_back.ensures c.args.shaped c.args.aim c.in-Ok.ensures.found).left
-
-pub returns-in-Ok-clause-given_back : goal.returns-in-Ok-clause-given_back
-returns-in-Ok-clause-given_back g c = (c.whole_back.ensures c.args.shaped c.args.aim c.in-Ok.ensures.found).given_back
+pub returns-in-Ok-clause-given : goal.returns-in-Ok-clause-given
+returns-in-Ok-clause-given g c = rw c.in-Ok.ensures.start at c.decide_rest-decided.ensures.given

@@ -5,4 +5,4 @@ use Rattle.plan_decide.proofs.halving.latest_bound.Given as goal
 
 -- no plan is sooner than the bounds of the jobs before this one
 abbrev pub invariant-loop-job : goal.invariant-loop-job
-invariant-loop-job l = IsLeastValue (case_in l.setting) Makespan l.bound
+invariant-loop-job g l = IsLeastValue (case_in l.setting) Makespan l.bound

@@ -6,7 +6,7 @@ use Rattle.plan_decide.proofs.Values.{leaving_again}
 use Rattle.plan_decide.proofs.halving.plan_at.Goals as goal
 
 pub returns-in-Some-2 : goal.returns-in-Some-2
-returns-in-Some-2 c =
+returns-in-Some-2 g c =
     let by = rw c.in-Some.is at c.in_ok-value.ensures in
     let plan = rw c.in-Some-2.is at c.in_ok-plan.ensures.accepted in
     let same = by.order ∙ ap lists_of c.deref.ensures.value ∙ sym (rw c.in-Some-2.is at c.in_ok-plan.ensures.order) in

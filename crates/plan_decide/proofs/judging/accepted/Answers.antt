@@ -1,22 +1,15 @@
-use Rattle.std.proofs.Common.{IfOk, sym, subst}
+use Rattle.std.proofs.Common.{Bool, IfOk, sym, subst, ◌∙◌}
 use Rattle.std.specs.Prelude.{IfSome}
-use Rattle.text_lines.specs.Lines.{ended_lines}
-use Rattle.plan_decide.specs.Cases.{run_to}
-use Rattle.plan_decide.specs.Settings.{past_in, IsKeptAs, IsKeptAfter}
-use Rattle.plan_decide.proofs.Kepts.{timely, kept_after, kept_if}
+use Rattle.plan_decide.specs.Settings.{past_by, IsKeptAs}
 use Rattle.plan_decide.proofs.judging.accepted.Goals as goal
 
-pub accepted_after-requires : goal.accepted_after-requires
-accepted_after-requires c =
+pub returns-then-is_whole : goal.returns-then-is_whole
+returns-then-is_whole g c =
     let s = c.args.setting.now in
-    let led = rw c.in-Run.is at c.requires.set in
-    timely (ended_lines c.in-Run.log.now) s.cell.plan c.args.shaped s.cell.cell c.in-Run.present c.requires.same led.0 led.1
+    subst (λ (b : Bool). IfOk c.accepted_whole.result (λ found. IfSome found (IsKeptAs (past_by b s.plan s.cell s.present) c.args.shaped))) (sym (sym c.is_whole.ensures.whole ∙ c.if-is_whole.true)) c.accepted_whole.ensures
 
-pub returns-in-Run : goal.returns-in-Run
-returns-in-Run c =
+pub returns-else-is_whole : goal.returns-else-is_whole
+returns-else-is_whole g c =
     let s = c.args.setting.now in
-    let led = rw c.in-Run.is at c.requires.set in
-    let lines = ended_lines c.in-Run.log.now in
-    let here = kept_if c.accepted_after.result (IsKeptAfter lines c.in-Run.present c.args.shaped) (IsKeptAs (run_to lines s.cell.cell c.in-Run.present) c.args.shaped)
-    (λ kept is. kept_after lines s.cell.plan c.args.shaped s.cell.cell c.in-Run.present kept c.requires.same led.0 c.shop-shop.ensures.well_shaped is) c.accepted_after.ensures in
-    subst (λ happened. IfOk c.accepted_after.result (λ found. IfSome found (IsKeptAs (past_in happened s.cell.cell) c.args.shaped))) (sym c.in-Run.is) here
+    let r = rw (c.rest.ensures.plan, c.rest.ensures.cell, c.rest.ensures.present) at c.accepted_ahead.ensures in
+    subst (λ (b : Bool). IfOk c.accepted_ahead.result (λ found. IfSome found (IsKeptAs (past_by b s.plan s.cell s.present) c.args.shaped))) (sym (sym c.is_whole.ensures.whole ∙ c.if-is_whole.false)) r

@@ -6,10 +6,10 @@ use Rattle.plan_decide.proofs.Collecting.{some_listed}
 use Rattle.plan_decide.proofs.Leaving.{several}
 use Rattle.plan_decide.proofs.leaving_out.leave_out.Goals as goal
 
-pub returns : goal.returns
-returns g c =
+pub returns-clause-found : goal.returns-clause-found
+returns-clause-found g c =
     let t = case_in c.args.setting.now in
-    let n = jobs c.args.setting.now.cell.plan in
+    let n = jobs c.args.setting.now.plan in
     let left = c.loop-job.left in
     let known = c.loop-job.invariant in
     let js = c.in_ok-jobs.jobs in

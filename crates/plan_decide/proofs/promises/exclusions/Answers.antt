@@ -16,4 +16,4 @@ returns-in_ok-list_one-in-Some g c =
     let t = case_in c.args.setting.now in
     let found = c.in_ok-found.found in
     exclusions_one t c.args.standings.now (job_count t) found refl c.requires.standings c.in_ok-found.ensures.found c.in-Some.left c.list_one.new.found
-    (none_listed found.listed.items (vec_len found.listed) c.is_empty.result (omega (arith, found.listed.ok.0)) c.is_empty.ensures c.if-not-is_empty.false) c.in_ok-list_one-in-Some.ensures.listed c.list_one.ensures.same (rw c.in-Some.is at c.in_ok-left.ensures)
+    (none_listed found.listed.items (vec_len found.listed) c.is_empty.result (omega (arith, found.listed.ok.0)) c.is_empty.ensures c.if-not-is_empty.false) c.in_ok-list_one-in-Some.ensures.listed c.list_one.ensures.same (rw c.in-Some.is at c.in_ok-left.ensures.found) (rw c.in-Some.is at c.in_ok-left.ensures.several)

@@ -5,7 +5,7 @@ use Rattle.plan_decide.proofs.Kepts.{work_rest}
 use Rattle.plan_decide.proofs.setting.work_left.Goals as goal
 
 pub work-requires : goal.work-requires
-work-requires c =
+work-requires g c =
     let p = c.args.cell.now.plan in
     let k = c.job_state-made.result.made in
     let same = c.route_of-route.ensures.route ∙ ap (λ (q : PlannedShop). route q c.args.job) c.shaped.ensures.plan in
@@ -14,7 +14,7 @@ work-requires c =
     omega (arith, is, rest.0, rest.1)
 
 pub returns-then-made-route : goal.returns-then-made-route
-returns-then-made-route c =
+returns-then-made-route g c =
     let p = c.args.cell.now.plan in
     let k = c.job_state-made.result.made in
     let same = c.route_of-route.ensures.route ∙ ap (λ (q : PlannedShop). route q c.args.job) c.shaped.ensures.plan in

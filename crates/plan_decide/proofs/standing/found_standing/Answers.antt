@@ -11,7 +11,7 @@ returns-then-budget-bound_of_job g c =
     let t = case_in s in
     let j = c.args.job in
     let promise = promise_is t j c.in-Some.budget (sym c.promise_to.ensures ∙ c.in-Some.is) in
-    late_exclusion t j (rooted s.past s.cell.plan s.cell.cell c.requires.set) (record {
-      promised = record { inside = c.requires.job; waits = promise.0; below = promise.1 };
+    late_exclusion t j (rooted s c.cell-cell.ensures.set) (record {
+      promised = record { inside = c.requires; waits = promise.0; below = promise.1 };
       late = omega (arith, c.if-budget-bound_of_job.true, promise.2, c.bound_of_job.ensures);
     })

@@ -1,10 +1,7 @@
 use Rattle.std.proofs.Common.{◌≡◌, inr, ap, subst, ◌∙◌}
 use Rattle.plan_improve.proofs.{Common.{HasCycle, PlannedShop, lists_of, reordered, serial_order}, Serially.{serial_fits, serial_acyclic}}
-use Rattle.plan_improve.proofs.Standing.{stands_reached, stands_by, fresh_begins}
+use Rattle.plan_improve.proofs.Standing.{stands_by, fresh_begins, stands_own, costs_back}
 use Rattle.plan_improve.proofs.beginning.first_serially.Goals as goal
-
-pub reorder_by-serial-requires-clause-reached : goal.reorder_by-serial-requires-clause-reached
-reorder_by-serial-requires-clause-reached c = stands_reached c.args.fixed.now c.args.start.plan c.args.start.cell c.requires.stands
 
 pub reorder_by-serial-requires-clause-shaped : goal.reorder_by-serial-requires-clause-shaped
 reorder_by-serial-requires-clause-shaped c =
@@ -12,12 +9,14 @@ reorder_by-serial-requires-clause-shaped c =
 
 pub reorder_by-serial-requires-clause-begins : goal.reorder_by-serial-requires-clause-begins
 reorder_by-serial-requires-clause-begins c =
-    fresh_begins c.args.fixed.now c.args.start.plan (reordered c.args.start.plan (lists_of c.in-Ok.order.items)) c.args.start.cell c.requires.stands c.requires.fresh
+    fresh_begins c.args.fixed.now c.args.start (reordered c.args.start.plan (lists_of c.in-Ok.order.items)) c.shaped.ensures.well_shaped c.shaped.ensures.sound c.requires.stands c.requires.fresh
 
-pub cost-requires-clause-stands : goal.cost-requires-clause-stands
-cost-requires-clause-stands c =
-    stands_by c.args.fixed.now c.args.start c.reorder_by-serial.result (lists_of c.in-Ok.order.items) c.shaped.ensures.well_shaped c.requires.stands c.reorder_by-serial.ensures.plan c.reorder_by-serial.ensures.cell
-    (fresh_begins c.args.fixed.now c.args.start.plan c.reorder_by-serial.result.plan c.args.start.cell c.requires.stands c.requires.fresh)
+pub cost-requires : goal.cost-requires
+cost-requires c =
+    let begins = fresh_begins c.args.fixed.now c.args.start c.reorder_by-serial.result.plan c.shaped.ensures.well_shaped c.shaped.ensures.sound c.requires.stands c.requires.fresh in
+    let there = stands_by c.args.fixed.now c.args.start c.reorder_by-serial.result (lists_of c.in-Ok.order.items) c.requires.stands c.reorder_by-serial.ensures.plan c.reorder_by-serial.ensures.cell
+    c.reorder_by-serial.ensures.present begins in
+    stands_own c.args.fixed.now c.args.start c.reorder_by-serial.result there
 
 pub unreachable-requires : goal.unreachable-requires
 unreachable-requires c =
@@ -28,10 +27,11 @@ unreachable-requires c =
 pub returns-in-Ok-Some-clause-first : goal.returns-in-Ok-Some-clause-first
 returns-in-Ok-Some-clause-first c =
     let serial : c.reorder_by-serial.result.plan ≡ reordered c.args.start.plan (serial_order c.args.start.plan.shop) = c.reorder_by-serial.ensures.plan
-    ∙ ap (reordered c.args.start.plan) (c.in-Ok.ensures ∙ ap serial_order (c.shop.ensures.same ∙ ap (λ (p : PlannedShop). p.shop) c.shaped.ensures.plan)) in (
+    ∙ ap (reordered c.args.start.plan) (c.in-Ok.ensures ∙ ap serial_order (c.shop.ensures.same ∙ ap (λ (p : PlannedShop). p.shop) c.shaped.ensures.plan)) in
+    let begins = fresh_begins c.args.fixed.now c.args.start c.reorder_by-serial.result.plan c.shaped.ensures.well_shaped c.shaped.ensures.sound c.requires.stands c.requires.fresh in
+    let there = stands_by c.args.fixed.now c.args.start c.reorder_by-serial.result (lists_of c.in-Ok.order.items) c.requires.stands c.reorder_by-serial.ensures.plan c.reorder_by-serial.ensures.cell
+    c.reorder_by-serial.ensures.present begins in (
       inr (c.requires.cycle, c.requires.fresh, serial),
-      stands_by c.args.fixed.now c.args.start c.reorder_by-serial.result (lists_of c.in-Ok.order.items) c.shaped.ensures.well_shaped c.requires.stands c.reorder_by-serial.ensures.plan
-          c.reorder_by-serial.ensures.cell
-          (fresh_begins c.args.fixed.now c.args.start.plan c.reorder_by-serial.result.plan c.args.start.cell c.requires.stands c.requires.fresh),
-      rw c.in-Ok-Some.field-0-is at c.in-Ok-Some.ensures,
+      there,
+      costs_back c.args.fixed.now c.args.start c.reorder_by-serial.result there c.reorder_by-serial.result.plan c.in-Ok-Some.cost (rw c.in-Ok-Some.field-0-is at c.in-Ok-Some.ensures),
     )

@@ -5,14 +5,14 @@ use Rattle.plan_improve.proofs.improving.improve_on.Goals as goal
 
 pub search-requires-clause-fixed : goal.search-requires-clause-fixed
 search-requires-clause-fixed g c =
-    rw c.in_ok-cell.ensures.start (nothing_fixed c.args.start c.least_makespan-at_least.result.at_least (c.least_makespan-at_least.result.by, c.least_makespan-at_least.ensures))
+    rw c.in_ok-rest.ensures.start (nothing_fixed _ c.least_makespan-at_least.result.at_least (c.least_makespan-at_least.result.by, c.least_makespan-at_least.ensures))
 
 pub returns : goal.returns
 returns g c =
     let made = Watched (g.W.Watch.reported c.args.watch.now) (g.W.Watch.reported c.search.new.watch)
     (ReportedRounds whole_plan (λ b. (goal.Improver-dyn g (b.vtable, b.value)).may b.value) c.args.improvers.now c.args.rounds) in
     let p = c.plan_of.result in
-    let comes : Comes whole_plan made c.args.start p = rw c.plan_of.ensures (rw c.in_ok-cell.ensures.start at c.in_ok-best.ensures.comes.0) in
+    let comes : Comes whole_plan made c.args.start p = rw c.plan_of.ensures (rw c.in_ok-rest.ensures.start at c.in_ok-best.ensures.comes.0) in
     let verdict = c.verify.result in
     let same : IfOk verdict (λ found. judged found ≡ p) = ok_both verdict (λ found is refused. judged_same p found is refused) c.verify.ensures.accepted c.verify.ensures.refused in
     record {

@@ -1,7 +1,0 @@
-use Rattle.std.proofs.Common.{◌≡◌, take}
-use Rattle.plan_improve.proofs.Common.{lists_of}
-use Rattle.plan_improve.proofs.reordering.copy_orders.Given as goal
-
--- the orders looked at are copied
-abbrev pub invariant-loop-order : goal.invariant-loop-order
-invariant-loop-order l = lists_of l.copy.items ≡ take l.order-index (lists_of l.orders)
