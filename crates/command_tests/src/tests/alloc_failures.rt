@@ -10,7 +10,7 @@ use cell_control::{Controller, Dues, ScanDues, TourneyDues};
 use cell_hub::{Hub, HubFault, Ticket};
 use command_answers::load;
 use orlib_read::read_instance;
-use plan_decide::{Aim, DecideFault, Decided, Objective, Undecided};
+use plan_decide::{Aim, DecideFault, Decided, Objective};
 use plan_seek::{NotFound, Proposer, SeekFault, seek};
 use plan_text::{PlanFault, plan_document, read_plan};
 use plan_verifier::{Verdict, Verified, verify};
@@ -448,47 +448,35 @@ fn all_comes_back_from_a_search(rt: HostRuntime) -> Result<(), Fail> {
     found
 }
 
-/// The plan that came back, where memory ran out.
-fn undecided(refused: Undecided) -> Result<Shaped, DecideFault> {
-    let Undecided { fault, shaped } = refused;
-    if fault == DecideFault::Memory {
-        return Ok(shaped);
-    }
-    drop(shaped);
-    Err(fault)
-}
-
-/// What is decided of the plan, once more where memory ran out, with what came back.
+/// What is decided of the plan, once more where memory ran out.
 fn decided_at_last(
     rt: &(impl AllocGlobal + Eprint),
     plan: &[u8],
     aim: Aim,
-) -> Result<Result<Decided<Verified>, Undecided>, Fail> {
+) -> Result<Result<Decided, DecideFault>, Fail> {
     let shaped = shaped(rt.alloc(), plan)?;
     asks(rt);
-    let answer = decided(rt.alloc(), shaped, aim);
+    let mut answer = decided(rt.alloc(), &shaped, aim);
     answers(rt, answer.is_err());
-    match answer {
-        Ok(decided) => Ok(Ok(decided)),
-        Err(refused) => {
-            let back = undecided(refused)?;
-            Ok(decided(rt.alloc(), whole(rt.alloc(), back, plan)?, aim))
-        }
+    if let Err(DecideFault::Memory) = answer {
+        answer = decided(rt.alloc(), &shaped, aim);
     }
+    drop(shaped);
+    Ok(answer)
 }
 
 /// What is said of the promises.
-fn decision(decided: &Result<Decided<Verified>, Undecided>) -> &'static str {
+fn decision(decided: &Result<Decided, DecideFault>) -> &'static str {
     match decided {
         Ok(Decided::Kept(_)) => "kept",
         Ok(Decided::Best(_, within)) if within.at_least == 10 && within.at_most == 10 => "best",
-        Ok(Decided::Never(_, _)) => "never",
+        Ok(Decided::Never(_)) => "never",
         _ => "another decision",
     }
 }
 
 #[test]
-fn a_plan_comes_back_undecided(rt: HostRuntime) -> Result<(), Fail> {
+fn a_plan_is_only_lent_to_be_decided(rt: HostRuntime) -> Result<(), Fail> {
     let makespan = Aim::Least(Objective::Makespan);
     for (plan, aim, wanted) in [
         (IN_TIME, Aim::Promises, "kept"),

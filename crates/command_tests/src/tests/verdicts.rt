@@ -3,8 +3,8 @@
 
 use alt_graph::{check_chain, check_cycle};
 use arc_choice::LeastSlack;
-use plan_decide::{Aim, Decided, Undecided, Watch, Within, decide};
-use plan_verifier::{Verdict, Verified, Why};
+use plan_decide::{Aim, DecideFault, Decided, Watch, Within, decide};
+use plan_verifier::{Verdict, Why};
 use shop_base::Shaped;
 use std::alloc::Global;
 
@@ -30,9 +30,9 @@ impl Watch for Nobody {
 /// What is decided of a plan, within ten choices a search.
 pub(super) fn decided(
     alloc: Global,
-    shaped: Shaped,
+    shaped: &Shaped,
     aim: Aim,
-) -> Result<Decided<Verified>, Undecided> {
+) -> Result<Decided, DecideFault> {
     decide(
         alloc,
         shaped,

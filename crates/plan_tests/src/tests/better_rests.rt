@@ -4,13 +4,14 @@
 ghost use Rattle.std.specs.Prelude.{None};
 
 use super::plans::{is_text, planned};
+use cell_tables::Rest;
 use plan_improve::{
-    AnnealingImprover, ImproveFault, Improved, Improver, MAX_ROUNDS, NotImproved, Proposed, Rest,
-    Watch, improve_after,
+    AnnealingImprover, ImproveFault, Improved, Improver, MAX_ROUNDS, NotImproved, Proposed,
+    Rest as Left, Watch, better_rest,
 };
 use plan_text::PlanFault;
 use plan_verifier::Judged;
-use run_log::{AuditFault, RunFault};
+use run_log::{LoggedRest, rest_at};
 use shop_base::{Moment, Shaped};
 use std::alloc::{AllocError, Global};
 use std::cell::Cell;
@@ -65,7 +66,7 @@ struct Silent {
 impl Improver for Silent {
     ghost may = { λ improver shaped rest round answer. Unit {0} };
 
-    fn improve(&self, _: Global, _: &Shaped, _: Option<&Rest>, _: u32) -> Proposed {
+    fn improve(&self, _: Global, _: &Shaped, _: Option<&Left>, _: u32) -> Proposed {
         self.questions.set(self.questions.get().saturating_add(1));
         Ok(None)
     }
@@ -115,13 +116,18 @@ fn is_end(
     }
 }
 
-/// A search for the rest of a run: the plan that is given, the log, the moment, and the rounds.
+/// A search for the rest of the run in the log: the plan that is given, and the rounds.
 #[derive(Clone, Copy)]
 struct Search {
     plan: &'static [u8],
-    log: &'static [u8],
-    at: Option<Moment>,
     rounds: u32,
+}
+
+/// What is left at moment 4 of the run in the log, by a plan.
+fn left(alloc: Global, plan: &[u8]) -> Result<Rest<Shaped>, Fail> {
+    let LoggedRest { rest, entries } = rest_at(alloc, planned(alloc, RUSH, plan)?, LOG, Some(4))??;
+    drop(entries);
+    Ok(rest)
 }
 
 /// How a search ends, where this plan is to be found or to come back.
@@ -132,14 +138,8 @@ fn improved(
     improvers: &[Box<dyn Improver>],
     watch: &mut Noted,
 ) -> Result<End, Fail> {
-    let Search {
-        log,
-        at,
-        rounds,
-        ..
-    } = search;
-    let start = planned(alloc, RUSH, search.plan)?;
-    let answer = improve_after(alloc, start, log, at, improvers, rounds, watch);
+    let rest = left(alloc, search.plan)?;
+    let answer = better_rest(alloc, rest, improvers, search.rounds, watch);
     let end = is_end(alloc, &answer, plan);
     drop(answer);
     Ok(end?)
@@ -173,8 +173,6 @@ fn searched(alloc: Global, search: Search, plan: &[u8]) -> Result<(End, Costs, u
 
 const LATE: Search = Search {
     plan: AT_THE_END,
-    log: LOG,
-    at: Some(4),
     rounds: 2,
 };
 
@@ -197,32 +195,20 @@ fn a_rest_is_shortened(rt: HostRuntime) -> Result<(), Fail> {
     Ok(())
 }
 
-/// Searches that are refused before an improver is asked, and why.
-const REFUSED: &[(Search, ImproveFault)] = &[
-    (
-        Search {
-            at: None,
-            rounds: MAX_ROUNDS + 1,
-            ..LATE
-        },
-        ImproveFault::TooManyRounds,
-    ),
-    (
-        Search {
-            log: b"report 0 finish 0 0\n",
-            at: None,
-            rounds: 0,
-            ..LATE
-        },
-        ImproveFault::Run(RunFault::Log(AuditFault::NotExpected { line: 1 })),
-    ),
-];
-
 #[test]
 fn a_plan_comes_back_with_the_fault(rt: HostRuntime) -> Result<(), Fail> {
-    for &(search, fault) in REFUSED {
-        let found = searched(rt.alloc(), search, search.plan)?;
-        assert!(rt; found == ((true, Err(fault)), [(0, 0), (0, 0)], 0));
-    }
+    let search = Search {
+        rounds: MAX_ROUNDS + 1,
+        ..LATE
+    };
+    let found = searched(rt.alloc(), search, search.plan)?;
+    assert!(rt;
+        found
+            == (
+                (true, Err(ImproveFault::TooManyRounds)),
+                [(0, 0), (0, 0)],
+                0
+            )
+    );
     Ok(())
 }
