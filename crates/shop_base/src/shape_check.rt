@@ -25,7 +25,8 @@ pub fn check_shape(shop: &Shop, plan: &Plan) -> Result<(), ShapeFault>
     // Called for its clause alone: the shop is sound, so it has few jobs and machines.
     let _jobs = shop.jobs();
     check_limits(&plan.release, &plan.budget, &plan.clean)?;
-    let visits = visits_of(shop);
+    let mut visits = [[false; MAX_MACHINES as usize]; MAX_JOBS];
+    mark_visits(shop, &mut visits);
     for machine in 0..shop.machines() {
         check_order(shop, plan, &visits, machine)?;
     }
@@ -104,17 +105,16 @@ fn check_places(
     Ok(listed)
 }
 
-/// Marks for each job the machines that its route visits.
-fn visits_of(shop: &Shop) -> Visits
-    ensures { AreVisits result shop.now.routes }
+/// Marks for each job the machines that its route visits, and nothing else. The table is too large to be moved.
+fn mark_visits(shop: &Shop, visits: &mut Visits)
+    ensures { AreVisits visits.new shop.now.routes }
 {
-    let mut visits = [[false; MAX_MACHINES as usize]; MAX_JOBS];
+    *visits = [[false; MAX_MACHINES as usize]; MAX_JOBS];
     for job in 0..shop.jobs() {
         if let Some(route) = shop.route(job) {
             visits[job as usize] = visited_by(route);
         }
     }
-    visits
 }
 
 /// Whether the route of the job visits the machine.

@@ -1,5 +1,5 @@
 use Rattle.shop_base.proofs.Marking.{AreVisitsBelow}
-use Rattle.shop_base.proofs.shape_check.visits_of.Given as goal
+use Rattle.shop_base.proofs.shape_check.mark_visits.Given as goal
 
 -- the machines of the jobs looked at are marked
 abbrev pub invariant-loop-job : goal.invariant-loop-job

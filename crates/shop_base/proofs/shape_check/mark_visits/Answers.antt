@@ -2,8 +2,8 @@ use Rattle.std.proofs.Common.{◌≡◌, ◌<◌, ◌≤◌, [], length, arith, 
 use Rattle.std.proofs.lemmas.Option.{get_or_from_slice_get}
 use Rattle.shop_base.specs.Shop.{IsRoute, route_at}
 use Rattle.shop_base.proofs.Marking.{visits_none, visits_more, visits_all}
-use Rattle.shop_base.proofs.shape_check.visits_of.Goals as goal
-use Rattle.shop_base.proofs.shape_check.visits_of.Goals.{in-Some, in_default}
+use Rattle.shop_base.proofs.shape_check.mark_visits.Goals as goal
+use Rattle.shop_base.proofs.shape_check.mark_visits.Goals.{in-Some, in_default}
 
 pub loop-job-init : goal.loop-job-init
 loop-job-init c = visits_none _
