@@ -28,11 +28,7 @@ impl Watch for Nobody {
 }
 
 /// What is decided of a plan, within ten choices a search.
-pub(super) fn decided(
-    alloc: Global,
-    shaped: &Shaped,
-    aim: Aim,
-) -> Result<Decided, DecideFault> {
+pub(super) fn decided(alloc: Global, shaped: &Shaped, aim: Aim) -> Result<Decided, DecideFault> {
     decide(
         alloc,
         shaped,
