@@ -154,19 +154,19 @@ fn shop_of(
     ensures read { IsShopRead text.now (option_copied name.entry) result }
 {
     if let Some(shared) = shop.as_ref() {
-        return one_of(shared);
+        return one_of(alloc, shared);
     }
     let shared = read_shared(alloc, text, name)?;
-    let one = one_of(&shared);
+    let one = one_of(alloc, &shared);
     *shop = Some(shared);
     one
 }
 
 /// The shared shop once more.
-fn one_of(shared: &SharedShop) -> Outcome<Shop>
+fn one_of(alloc: Global, shared: &SharedShop) -> Outcome<Shop>
     ensures { IsOrMemory (λ shop. shop ≡ shared.now) result }
 {
-    match shared.shop() {
+    match shared.shop(alloc) {
         Ok(shop) => Ok(shop),
         Err(error) => Err(CommandFault::from(error)),
     }

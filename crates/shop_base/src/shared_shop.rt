@@ -35,13 +35,13 @@ impl SharedShop {
     }
 
     /// The shop once more, with the same routes. It is refused only where no more can be counted that read them.
-    pub fn shop(&self) -> Result<Shop, AllocError>
+    pub fn shop(&self, alloc: Global) -> Result<Shop, AllocError>
         ensures { IfOk result (λ shop. shop ≡ self.now) }
     {
         let routes = self.routes.clone()?;
         Ok(Shop {
             machines: self.machines,
-            routes: Routes::Shared(routes),
+            routes: Routes::shared(alloc, routes),
         })
     }
 }

@@ -37,13 +37,13 @@ pub struct Shop {
 }
 
 impl Model for Shop {
-    ghost use Rattle.shop_base.specs.{Routes.routes_in, Shop.JobShop, Shop.IsShop};
+    ghost use Rattle.shop_base.specs.Shop.{JobShop, IsShop};
 
     ghost Value = { JobShop };
 
-    ghost view = { λ s. record { machines = s.machines; routes = routes_in s.routes } };
+    ghost view = { λ s. record { machines = s.machines; routes = s.routes } };
 
-    ghost invariant = { λ s. IsShop (record { machines = s.machines; routes = routes_in s.routes }) };
+    ghost invariant = { λ s. IsShop (record { machines = s.machines; routes = s.routes }) };
 }
 
 impl Shop {
@@ -60,7 +60,7 @@ impl Shop {
         check_routes(machines, &routes)?;
         Ok(Shop {
             machines,
-            routes: Routes::Own(routes),
+            routes: Routes::own(routes),
         })
     }
 
