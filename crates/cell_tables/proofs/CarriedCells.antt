@@ -4,7 +4,7 @@ use Rattle.std.proofs.{lemmas.Bool.cases_lt, lemmas.List.get_or_past, Math.ListN
 use Rattle.shop_base.specs.{declared.job_state.JobState.JobState, Move.IsPrefix, Sound.IsSound}
 use Rattle.shop_base.specs.Plan.{PlannedShop, jobs, machines, steps, machine_of, order, job_at, clean, Visits, Stands, IsWellShaped}
 use Rattle.shop_base.specs.Cell.{Cell, MachineState, absent, unused, job_in, machine_in, made, ready, since, entries, cleaning, IsGone, IsFree}
-use Rattle.shop_base.proofs.Visits.{visits_job, visits_machine, visits_once, visits-stands, stands_once}
+use Rattle.shop_base.proofs.Visits.{visits_job, visits_machine, visits-stands, stands_once, stands_step, stands_alike}
 use Rattle.cell_tables.specs.{Kept.KeepsSoFar, Carried.{awaited, IsCarried}}
 use Rattle.cell_tables.proofs.KeptSoFar.{kept_begins}
 
@@ -54,17 +54,27 @@ module _ (p q : PlannedShop) (c new : Cell) (shaped_p : IsWellShaped p) (shaped 
       let there : Visits q j k (machine_of p j k) = (keeps.jobs_keep j here).entered k (omega arith) within in
       (here, same, record { within = within; here = sym there.here ∙ visits.here })
 
-  -- and stands at the same place of the machine's order
+  -- a place up to which a machine was entered is for the same visit in the other plan
+  carried_stands : (m a j k : ℕ) → Stands p m a j k → a < length (entries c m) → j < jobs p → k < made c j → Stands q m a j k
+  carried_stands m a j k stands entered here some = stands_alike p q m a j k stands
+      (prefix_at (entries c m) (order q m) a in_order_q entered).0
+      (λ b before. (prefix_at (entries c m) (order q m) b in_order_q (omega arith)).1 ∙ sym (prefix_at (entries c m) (order p m) b (sound.in_order m) (omega arith)).1)
+      (step k (omega arith)).within (λ i before. (step i before).here)
+    where
+      in_order_q : IsPrefix (entries c m) (order q m)
+      in_order_q = (keeps.machines_keep m (visits_machine p j k m shaped_p stands.visits)).in_order
+
+      step : (i : ℕ) → i ≤ k → Visits q j i (machine_of p j i)
+      step i before = (keeps.jobs_keep j here).entered i (omega (arith, before, some)) (omega (arith, before, stands.visits.within))
+
+  -- a step of the other plan that was entered stands at the same place of the machine's order
   stands_there : (m a j k : ℕ) → Stands q m a j k → k < made new j → (made new j ≡ made c j) × Stands p m a j k × (a < length (entries c m))
   stands_there m a j k stands some =
       let (here, same, visits) = entered_there j k m stands.visits some in
       let (b, there) = visits-stands p j k m shaped_p visits in
       let entered : b < length (entries c m) = sound.made_entered m b j k there (omega arith) in
-      let inside : m < machines p = visits_machine p j k m shaped_p visits in
-      let (within, at) = prefix_at (entries c m) (order q m) b (keeps.machines_keep m inside).in_order entered in
-      let (within_p, at_p) = prefix_at (entries c m) (order p m) b (sound.in_order m) entered in
-      let other : Stands q m b j k = record { within = within; job = at ∙ sym at_p ∙ there.job; visits = stands.visits } in
-      let one : b ≡ a = stands_once q m b a j k k shaped other stands in
+      let other : Stands q m b j k = carried_stands m b j k there entered here (omega (arith, same)) in
+      let one : b ≡ a = stands_once q m b a j k other stands in
       (same, subst (λ n. Stands p m n j k) one there, omega (arith, one))
 
   few : (j : ℕ) → j < jobs q → made new j ≤ steps q j + 1
@@ -116,12 +126,10 @@ module _ (p q : PlannedShop) (c new : Cell) (shaped_p : IsWellShaped p) (shaped 
       let (within_p, at_p) = prefix_at (entries c m) (order p m) a (sound.in_order m) before in
       let job_same : job_at p m a ≡ j = at_p ∙ sym at ∙ stands.job in
       let (l, first) = (shaped_p.orders m here).on_route a within_p in
-      let visits : Visits p j l m = subst (λ i. Visits p i l m) job_same first in
-      let made_there : l < made c j = sound.entered_made m a j l (record { within = within_p; job = job_same; visits = visits }) before in
-      let job_here : j < jobs p = visits_job p j l m visits in
-      let other : Visits q j l (machine_of p j l) = (keeps.jobs_keep j job_here).entered l made_there visits.within in
-      let on_it : Visits q j l m = subst (λ n. Visits q j l n) visits.here other in
-      let one : k ≡ l = visits_once q j k l m shaped stands.visits on_it in
+      let there : Stands p m a j l = subst (λ i. Stands p m a i l) job_same first in
+      let made_there : l < made c j = sound.entered_made m a j l there before in
+      let job_here : j < jobs p = visits_job p j l m there.visits in
+      let one : k ≡ l = stands_step q m a j k l stands (carried_stands m a j l there before job_here made_there) in
       omega (arith, one, made_kept j (visits_job q j k m stands.visits) job_here)
 
   made_entered : (m a j k : ℕ) → Stands q m a j k → k < made new j → a < length (entries new m)

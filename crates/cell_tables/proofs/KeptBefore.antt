@@ -1,13 +1,14 @@
 -- What keeps another plan after an event kept it before.
-use Rattle.std.proofs.Common.{◌≡◌, ℕ, ◌+◌, ◌<◌, ◌≤◌, inl, inr, List, [], ◌∷◌, ◌++◌, length, Bool, false, not, Option, None, Some, is_some, count_by, if◌then◌else◌, refl, sym, ap, ap₂, ◌∙◌, arith, append_assoc, append-nil, length-append}
-use Rattle.std.proofs.{Math.Path.fun_ext, lemmas.Bool.cases_eq}
+use Rattle.std.proofs.Common.{◌≡◌, ℕ, ◌+◌, ◌<◌, ◌≤◌, inl, inr, List, [], ◌∷◌, ◌++◌, length, false, not, Option, None, Some, is_some, if◌then◌else◌, refl, sym, ap, ◌∙◌, arith, append_assoc, append-nil, length-append}
+use Rattle.std.proofs.{lemmas.Bool.cases_eq}
 use Rattle.shop_base.specs.{declared.job_state.JobState.JobState, Report.after_report, Sound.IsSound}
 use Rattle.shop_base.specs.Plan.{PlannedShop, clean, order, Visits, IsWellShaped}
 use Rattle.shop_base.specs.Cell.{Cell, made, ready, entries, cleaning, IsOn, IsFree}
 use Rattle.shop_base.specs.{Move.{IsPrefix, CanMove, after_move}, ReportsLeft.{is_on_after, is_off, departures}}
 use Rattle.shop_base.specs.Run.{Event, Reported, Moved, CanHappen, after, AreEvents, after_all}
-use Rattle.shop_base.proofs.{Visits.{visits_once, visits_or_not, on_or_not}, Changes.{IsMoved, after_move-moved}}
+use Rattle.shop_base.proofs.{Visits.{visits_apart, visits_or_not, on_or_not}, Changes.{IsMoved, after_move-moved}}
 use Rattle.shop_base.proofs.Keeping.{IsLike, after_report-like, after_move-sound, after-sound, alone_on, target_free}
+use Rattle.shop_base.proofs.ReportsLeft.{departures_kept}
 use Rattle.shop_base.proofs.Departures.{departures_free, departures_on, elsewhere-off}
 use Rattle.cell_tables.specs.Kept.{KeepsSoFar}
 
@@ -46,10 +47,6 @@ keeps_before p q c new before keeps = record {
 same_prefix : (xs ys : List ℕ) → ys ≡ xs → IsPrefix xs ys
 same_prefix xs ys is = ([], is ∙ sym (append-nil xs))
 
--- where no job has moved, and the entries are the same, so are the departures
-departures_same : (p : PlannedShop) (c new : Cell) (m : ℕ) → ((i : ℕ) → is_off p new m i ≡ is_off p c m i) → entries new m ≡ entries c m → departures p new m ≡ departures p c m
-departures_same p c new m same kept = ap₂ (λ (f : ℕ → Bool) (xs : List ℕ). count_by f xs) (fun_ext same) kept
-
 -- where a cleaning goes on only if it did before
 going_less : (one other : Option ℕ) → ((s : ℕ) → other ≡ Some s → one ≡ Some s) → (if is_some other then 1 else 0) ≤ (if is_some one then 1 else 0)
 going_less one None before = omega arith
@@ -57,7 +54,7 @@ going_less one (Some s) before = rw (before s refl) (omega arith)
 
 -- a report leaves the departures as they are
 pub report_departures : (p : PlannedShop) (c new : Cell) (m : ℕ) → IsLike p c new → departures p new m ≡ departures p c m
-report_departures p c new m like = departures_same p c new m (λ i. ap (λ n. not (is_on_after p m i n)) (like.made_same i)) (like.entries_same m)
+report_departures p c new m like = departures_kept p c new m (like.entries_same m) (λ i. ap (λ n. not (is_on_after p m i n)) (like.made_same i))
 
 pub report_before : (p : PlannedShop) (c new : Cell) → IsLike p c new → IsBefore p c new
 report_before p c new like = record {
@@ -73,12 +70,12 @@ module _ (p : PlannedShop) (c new : Cell) (j t : ℕ) (shaped : IsWellShaped p) 
   left_free : (k m : ℕ) → IsOn p c j k m → IsFree p new m
   left_free k m on i l other = elim (cases_eq i j) [
     | inl same ↦ (let visits : Visits p j l m = rw same at other.visits in
-        omega (arith, visits_once p j k l m shaped on.visits visits, on.entered, change.made_mine, other.entered, ap (made new) same))
+        visits_apart p j k l m shaped on.visits visits (omega (arith, on.entered, change.made_mine, other.entered, ap (made new) same)))
     | inr apart ↦ apart (alone_on p c i l j k m shaped sound (record { entered = sym (ap (λ (s : JobState). s.made) (change.others i apart)) ∙ other.entered; visits = other.visits }) on)
   ]
 
   away : (k m : ℕ) → IsOn p c j k m → Visits p j (made c j) m → ⊥
-  away k m on next = omega (arith, visits_once p j k (made c j) m shaped on.visits next, on.entered)
+  away k m on next = visits_apart p j k (made c j) m shaped on.visits next on.entered
 
   -- one more job has left the machine that it leaves
   pub one_more : (k m : ℕ) → IsOn p c j k m → departures p new m ≡ departures p c m + 1
@@ -90,7 +87,7 @@ module _ (p : PlannedShop) (c new : Cell) (j t : ℕ) (shaped : IsWellShaped p) 
   no_more m elsewhere = elim (visits_or_not p j (made c j) m) [
     | inl next ↦ (let on : IsOn p new j (made c j) m = record { entered = change.made_mine; visits = next } in
         omega (arith, departures_free p c m (target_free p c j t m can next).0, departures_on p new j (made c j) m shaped sound_new on, ap length (change.entered m next), length-append (entries c m) (j ∷ [])))
-    | inr off ↦ departures_same p c new m (same_off off) (change.not_entered m off)
+    | inr off ↦ departures_kept p c new m (change.not_entered m off) (same_off off)
   ]
     where
       same_off : (Visits p j (made c j) m → ⊥) → (i : ℕ) → is_off p new m i ≡ is_off p c m i

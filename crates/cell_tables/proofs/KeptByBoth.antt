@@ -1,8 +1,8 @@
 -- A run of two plans keeps the other: each event that can happen by both keeps it on.
-use Rattle.std.proofs.Common.{◌≡◌, ◌≢◌, ℕ, ◌<◌, ◌≤◌, inl, inr, List, [], ◌∷◌, ◌++◌, get_or, Option, None, Some, is_some, count_by, if◌then◌else◌, le_refl, refl, sym, ap, ◌∙◌, subst, arith}
+use Rattle.std.proofs.Common.{length, ◌≡◌, ◌≢◌, ℕ, ◌<◌, ◌≤◌, inl, inr, List, [], ◌∷◌, ◌++◌, get_or, Option, None, Some, is_some, if◌then◌else◌, le_refl, refl, sym, ap, ◌∙◌, subst, arith}
 use Rattle.std.proofs.{lemmas.Bool.{cases_eq, cases_lt}, lemmas.List.get_or-replicate}
 use Rattle.shop_base.specs.{declared.job_state.JobState.JobState, declared.move_order.MoveOrder.MoveOrder}
-use Rattle.shop_base.specs.{declared.move_order.Spot.TheVariants.{Out, At}, ReportsLeft.{departures, is_off}}
+use Rattle.shop_base.specs.{declared.move_order.Spot.TheVariants.{Out, At}, ReportsLeft.{departures}}
 use Rattle.shop_base.specs.{declared.report.Report.{Report, TheVariants.{Arrive, Finish, Clean}}, Sound.IsSound}
 use Rattle.shop_base.specs.Plan.{PlannedShop, jobs, machines, steps, machine_of, clean, order, Visits, IsWellShaped}
 use Rattle.shop_base.specs.Cell.{Cell, MachineState, absent, unused, start, made, ready, entries, cleaning, IsOn}
@@ -199,7 +199,7 @@ start_keeps p q = record {
     empty m = ap (λ (s : MachineState). s.entries) (start_unused p m)
 
     unleft : (m : ℕ) → departures p (start p) m ≡ 0
-    unleft m = ap {B = ℕ} (count_by (is_off p (start p) m)) (empty m)
+    unleft m = omega (arith, ap length (empty m))
 
 pub a_run_of_both_plans_is_kept : ARunOfBothPlansIsKept
 a_run_of_both_plans_is_kept p q es shaped_p shaped run other none_left =

@@ -6,12 +6,12 @@ use Rattle.shop_base.specs.declared.limits.TheConstants.{MAX_MOMENT}
 use Rattle.shop_base.specs.declared.job_state.JobState.{JobState}
 use Rattle.shop_base.specs.declared.move_order.Spot.{Spot}
 use Rattle.shop_base.specs.declared.move_order.Spot.TheVariants.{Out, At}
-use Rattle.shop_base.specs.Plan.{PlannedShop, jobs, machines, steps, order, job_at, machine_of, clean, Visits, Stands, IsWellShaped}
+use Rattle.shop_base.specs.Plan.{PlannedShop, jobs, machines, steps, order, job_at, machine_of, clean, Visits, IsWellShaped}
 use Rattle.shop_base.specs.Cell.{Cell, MachineState, absent, unused, machine_in, with_job, with_machine, made, entries, IsOn}
 use Rattle.shop_base.specs.Report.{with_ready, with_clean}
 use Rattle.shop_base.specs.Move.{CanMove, KeepsPlan, source, target, after_leaving, with_entry, with_moved, after_move}
 use Rattle.shop_base.proofs.Visits.{visits_machine}
-use Rattle.shop_base.proofs.Keeping.{target_place}
+use Rattle.shop_base.proofs.Keeping.{target_next}
 use Rattle.shop_base.proofs.CellFacts.{target_visited, target_out, source_on, source_outside}
 use Rattle.cell_tables.specs.declared.tables.Tables.{Tables}
 use Rattle.cell_tables.specs.Tables.{cell_of, row_at, entered_at, AreTables, IsJobPut, IsMachinePut}
@@ -37,8 +37,8 @@ can-next p c j t shaped can keeps = go (cases_lt (made c j) (steps p j))
     go (inl within) =
         let m : ℕ = machine_of p j (made c j) in
         let visits : Visits p j (made c j) m = record { within = within; here = refl } in
-        let place : Stands p m (length (entries c m)) j (made c j) = target_place p c j m keeps visits in
-        rw (target_visited p c j m visits) (visits_machine p j (made c j) m shaped visits, place.within, place.job)
+        let place = target_next p c j m keeps visits in
+        rw (target_visited p c j m visits) (visits_machine p j (made c j) m shaped visits, place.0, place.1)
 
 -- a job on a machine, or outside
 pub source_or_out : (p : PlannedShop) (c : Cell) (j : ℕ) → IsWellShaped p → made c j ≤ steps p j → IsSpotOf p (source p c j)

@@ -1,11 +1,11 @@
 -- A plan with other orders keeps what was done in a cell exactly where each of its orders begins with the entries so far.
 use Rattle.std.proofs.Common.{◌≡◌, ◌∙◌, ℕ, ◌<◌, List, Option, None, Some, inl, inr, arith, refl, sym, ap, lt-ltb, le-ltb, if◌then◌else◌, subst}
-use Rattle.std.proofs.lemmas.Bool.{cases_lt, cases_eq}
+use Rattle.std.proofs.lemmas.Bool.{cases_lt}
 use Rattle.shop_base.specs.{Plan.{PlannedShop, jobs, machines, clean, IsWellShaped}, Cell.{Cell, job_in, cleaning}, Sound.IsSound}
 use Rattle.shop_base.specs.Report.{IsNextMoment}
 use Rattle.shop_base.proofs.Keeping.{run-sound}
-use Rattle.cell_tables.specs.{Kept.{KeepsJob, KeepsMachine, KeepsSoFar}, Carried.{awaited, carried_cleaning, IsCarried}}
-use Rattle.cell_tables.specs.{Recasts.IsRecast, Rests.{IsReached, IsRest}, Reordered.{reordered, IsReordered, BeginsWithEntries, TheEntriesTellWhatIsKept}}
+use Rattle.cell_tables.specs.{Kept.{KeepsJob, KeepsMachine, KeepsSoFar}, Carried.{awaited, carried_cleaning}}
+use Rattle.cell_tables.specs.{Recasts.IsRecast, Rests.{IsReached, IsRest}, Reordered.{reordered, BeginsWithEntries, TheEntriesTellWhatIsKept}}
 use Rattle.cell_tables.proofs.{KeptSoFar.kept_begins, Reaching.recast_reached}
 
 -- a cell to which a run leads is sound

@@ -28,13 +28,13 @@ so_true true is = refl
 so_true false is = cc
 
 -- a ready job with a machine before it can move and keep the plan exactly where the machine takes it as the next
-pub moves-entering : (p : PlannedShop) (c : Cell) (j m : ℕ) (takes : Bool) → IsSound p c → ready c j ≡ true → Visits p j (made c j) m
+pub moves-entering : (p : PlannedShop) (c : Cell) (j m : ℕ) (takes : Bool) → IsWellShaped p → IsSound p c → ready c j ≡ true → Visits p j (made c j) m
     → (IsTrue takes ↔ (CanEnter p c j m × Stands p m (length (entries c m)) j (made c j))) → (IsTrue takes ↔ (CanMove p c j c.last × KeepsPlan p c j))
-moves-entering p c j m takes sound is_ready visits entering = (
+moves-entering p c j m takes shaped sound is_ready visits entering = (
   (λ yes_it. let (enters, stands) = entering.0 yes_it in
       (record { is_ready = is_ready; way = inr (m, enters); moment = moment_now p c sound }, stands-keeps p c j m sound stands)),
   λ both. entering.1 (
     (let (free, is_clean) = target_free p c j c.last m both.0 visits in record { next = visits; free = free; is_clean = is_clean }),
-    target_place p c j m both.1 visits,
+    target_place p c j m shaped sound both.1 visits,
   ),
 )

@@ -1,6 +1,6 @@
 -- Whether a job can enter the spot of its move, and what that makes of the tables.
-use Rattle.std.specs.Prelude.{◌≡◌, ℕ, ◌+◌, ◌<◌, length}
-use Rattle.shop_base.specs.declared.limits.TheConstants.{MAX_JOBS}
+use Rattle.std.specs.Prelude.{◌≡◌, ℕ, ◌+◌, ◌*◌, ◌<◌, length}
+use Rattle.shop_base.specs.declared.limits.TheConstants.{MAX_JOBS, MAX_MACHINES}
 use Rattle.shop_base.specs.declared.move_order.Spot.{Spot}
 use Rattle.shop_base.specs.declared.move_order.Spot.TheVariants.{Out, At}
 use Rattle.shop_base.specs.Plan.{PlannedShop, machines, order, job_at}
@@ -16,7 +16,7 @@ HasNext p c (At m) j = (m < machines p) × (length (entries c m) < length (order
 -- out of the cell, or on a machine with a row, which not all of so many jobs as a shop can have have entered
 abbrev pub HasRoom : Tables → Spot → Type 0
 HasRoom t Out = Unit {0}
-HasRoom t (At m) = (m < length t.machines.items) × (entered_at t m < MAX_JOBS)
+HasRoom t (At m) = (m < length t.machines.items) × (entered_at t m < MAX_JOBS * MAX_MACHINES)
 
 -- one more job has entered the spot, if that is a machine
 abbrev pub IsEntered : Tables → Spot → Tables → Type 0

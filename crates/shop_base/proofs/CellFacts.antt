@@ -12,7 +12,7 @@ use Rattle.shop_base.specs.Movers.{counted, ready_count, due_after, due_of_job, 
 use Rattle.shop_base.specs.Sound.{IsSound}
 use Rattle.shop_base.proofs.Visits.{visits-stands, stop_at, stop_past}
 use Rattle.shop_base.proofs.Cleanings.{sum_below-le}
-use Rattle.shop_base.proofs.Keeping.{target_place}
+use Rattle.shop_base.proofs.Keeping.{target_next}
 
 -- a machine that nobody has entered is free
 pub unentered_free : (p : PlannedShop) (c : Cell) (m : ℕ) → IsWellShaped p → IsSound p c → entries c m ≡ [] → IsFree p c m
@@ -61,7 +61,7 @@ source_on p c j k m on =
 
 -- where all jobs of its order have entered a machine, nobody is next
 pub none_next : (p : PlannedShop) (c : Cell) (j m : ℕ) → length (order p m) ≤ length (entries c m) → Visits p j (made c j) m → KeepsPlan p c j → ⊥
-none_next p c j m all visits keeps = absurd (omega (arith, (target_place p c j m keeps visits).within))
+none_next p c j m all visits keeps = absurd (omega (arith, (target_next p c j m keeps visits).0))
 
 -- no more jobs are ready than there are
 pub ready_count-le : (p : PlannedShop) (c : Cell) → ready_count p c ≤ jobs p

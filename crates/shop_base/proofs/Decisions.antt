@@ -102,7 +102,7 @@ keeps_or_not p c j shaped sound = go (cases_lt (made c j) (steps p j))
 
         here : (length (entries c m) ≡ place.0) ⊎ (length (entries c m) ≡ place.0 → ⊥) → KeepsPlan p c j ⊎ (KeepsPlan p c j → ⊥)
         here (inl same) = inl (stands-keeps p c j m sound (subst (λ a. Stands p m a j (made c j)) (sym same) place.1))
-        here (inr other) = inr λ keeps. other (stands_once p m (length (entries c m)) place.0 j (made c j) (made c j) shaped (target_place p c j m keeps visits) place.1)
+        here (inr other) = inr λ keeps. other (stands_once p m (length (entries c m)) place.0 j (made c j) (target_place p c j m shaped sound keeps visits) place.1)
 
 pub moment_or_not : (c : Cell) (t : ℕ) → IsNextMoment c t ⊎ (IsNextMoment c t → ⊥)
 moment_or_not c t = go (cases_lt t c.last) (cases_lt MAX_MOMENT t)

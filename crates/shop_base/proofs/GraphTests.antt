@@ -3,17 +3,17 @@ use Rattle.std.proofs.Common.{◌≡◌, ℕ, ◌+◌, ◌-◌, ◌<◌, ◌≤�
 use Rattle.std.proofs.lemmas.Bool.{and_parts, leb-true, ltb-true}
 use Rattle.std.proofs.lemmas.Bool.Decides.{Decides-like, Decides-and, Decides-or, Decides-not, Decides-ltb, Decides-eqb}
 use Rattle.shop_base.specs.declared.node.Node.{Node}
-use Rattle.shop_base.specs.Plan.{PlannedShop, jobs, steps, machine_of, nominal, release, clean, order, job_at, Stands, budget}
+use Rattle.shop_base.specs.Plan.{PlannedShop, jobs, steps, machine_of, nominal, release, clean, order, job_at, places_before, visits_before, Stands, budget}
 use Rattle.shop_base.specs.Graph.{node, Arc, job_arc, blocking_arc, HasArc, Path, begins, follows, ArcsLead, IsNew, AreDistinct, IsSimpleCycle, MomentsFit, RanksRise, MeetBudgets, leaving}
 use Rattle.shop_base.proofs.Visits.{steps_job, visits_job}
 use Rattle.shop_base.proofs.CellTests.{all_below, some_below, all_below_decides, some_below_decides, leb_decides, visits_test, visits_decides}
 
 abbrev pub stands_test : PlannedShop → ℕ → ℕ → ℕ → ℕ → Bool
-stands_test p m a j k = ltb a (length (order p m)) && (eqb (job_at p m a) j && visits_test p j k m)
+stands_test p m a j k = ltb a (length (order p m)) && (eqb (job_at p m a) j && (visits_test p j k m && eqb (places_before p m j a) (visits_before p j m k)))
 
 pub stands_decides : (p : PlannedShop) (m a j k : ℕ) → Decides (stands_test p m a j k) (Stands p m a j k)
-stands_decides p m a j k = Decides-like (stands_test p m a j k) (λ all. record { within = all.0; job = all.1.0; visits = all.1.1 }) (λ stands. (stands.within, (stands.job, stands.visits)))
-    (Decides-and (ltb a (length (order p m))) _ (Decides-ltb a (length (order p m))) (Decides-and (eqb (job_at p m a) j) _ (Decides-eqb (job_at p m a) j) (visits_decides p j k m)))
+stands_decides p m a j k = Decides-like (stands_test p m a j k) (λ all. record { within = all.0; job = all.1.0; visits = all.1.1.0; turn = all.1.1.1 }) (λ stands. (stands.within, (stands.job, (stands.visits, stands.turn))))
+    (Decides-and (ltb a (length (order p m))) _ (Decides-ltb a (length (order p m))) (Decides-and (eqb (job_at p m a) j) _ (Decides-eqb (job_at p m a) j) (Decides-and (visits_test p j k m) _ (visits_decides p j k m) (Decides-eqb (places_before p m j a) (visits_before p j m k)))))
 
 -- the node v is the next place of u's job
 record IsNext (p : PlannedShop) (u v : Node) : Type 0 where

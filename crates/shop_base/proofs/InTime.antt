@@ -18,7 +18,7 @@ use Rattle.shop_base.specs.KeptMoments.{KeepsMoments, KeepsLeaving}
 use Rattle.shop_base.specs.Ahead.{next_node, HoldsUp, MomentsFitAhead, PathAhead, now, held, onward, IsScheduleAhead, GoesOnTo, settled}
 use Rattle.shop_base.specs.Within.{IsWithin, AreWithin, RiseAhead}
 use Rattle.shop_base.specs.WithinLaw.{MomentsStillFit}
-use Rattle.shop_base.proofs.Visits.{visits_once, visits-stands, on_or_not, visits_or_not}
+use Rattle.shop_base.proofs.Visits.{visits_apart, visits-stands, on_or_not, visits_or_not}
 use Rattle.shop_base.proofs.Changes.{IsMoved, after_move-moved, moves_within}
 use Rattle.shop_base.proofs.Keeping.{IsLike, after_report-like, after_report-sound, after_move-sound, run-sound, target_free}
 use Rattle.shop_base.proofs.InShop.{ready_in_shop}
@@ -147,7 +147,7 @@ moved-fits p kept c j t new shaped sound sound_new can change fit = record {
     departs m l s due v on timed cleaned is_due stands =
         let begun_now : Some s ≡ Some t = sym cleaned ∙ change.cleaning_begins l m on timed in
         let from : s ≡ t = cc in
-        let entries_same : entries new m ≡ entries c m = change.not_entered m (λ visits. omega (arith, visits_once p j l (made c j) m shaped on.visits visits, on.entered)) in
+        let entries_same : entries new m ≡ entries c m = change.not_entered m (λ visits. visits_apart p j l (made c j) m shaped on.visits visits on.entered) in
         let (b, place) = visits-stands p j l m shaped on.visits in
         let count : length (entries c m) ≡ b + 1 = sound.newest m b j l place on.entered in
         let next : Stands p m (length (entries c m)) v.job v.place = rw entries_same at stands in

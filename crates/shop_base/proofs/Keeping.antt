@@ -1,7 +1,7 @@
 -- What holds in every run: `IsSound` at the start, after a report, after a move, and so at the end of every run.
 use Rattle.std.proofs.Common.{◌≡◌, ◌≢◌, ℕ, ◌+◌, ◌<◌, ◌≤◌, List, [], ◌∷◌, ◌++◌, length, get_or, Some, None, true, false, refl, ap, sym, ◌∙◌, subst, arith, ◌⊎◌, inl, inr, ⊎_elim, length-append, append_assoc, eq-zero-or-pos, lt_of_not-le}
 use Rattle.std.proofs.Math.Seq.{get_or-append_seam}
-use Rattle.std.proofs.lemmas.Bool.{cases_eq, cases_lt}
+use Rattle.std.proofs.lemmas.Bool.{cases_eq, cases_lt, cases_order}
 use Rattle.std.proofs.lemmas.List.{get_or_past, get_or-replicate, length-replicate}
 use Rattle.shop_base.specs.declared.node.Node.{Node}
 use Rattle.shop_base.specs.declared.limits.TheConstants.{MAX_MOMENT}
@@ -15,7 +15,7 @@ use Rattle.shop_base.specs.Move.{CanLeave, CanEnter, CanMove, KeepsPlan, IsPrefi
 use Rattle.shop_base.specs.Run.{Event, Reported, Moved, CanHappen, AreEvents, after, after_all, IsRun, ends_in}
 use Rattle.shop_base.specs.Graph.{Arc, job_arc, blocking_arc, node}
 use Rattle.shop_base.specs.Sound.{IsSound}
-use Rattle.shop_base.proofs.Visits.{visits_job, visits_once, visits-stands, stands_once, visits_or_not, on_or_not, leaves_past}
+use Rattle.shop_base.proofs.Visits.{visits_job, visits_apart, stands_step, stands_in_turn, visits-order, visits-stands, stands_once, visits_or_not, on_or_not, leaves_past}
 use Rattle.shop_base.proofs.Changes.{IsMoved, IsReadied, IsTidied, after_move-moved, with_ready-readied, with_clean-tidied, moves_within}
 
 start-job : (p : PlannedShop) (j : ℕ) → j < jobs p → job_in (start p) j ≡ record { made = 0; ready = false; since = 0 }
@@ -185,18 +185,42 @@ target_free p c j t m can visits = go can.way
         let same : n ≡ m = sym enters.next.here ∙ visits.here in
         subst (λ (x : ℕ). IsFree p c x × (cleaning c x ≡ None)) same (enters.free, enters.is_clean)
 
--- a job that keeps the plan stands at the next place of its target's order
-pub target_place : (p : PlannedShop) (c : Cell) (j m : ℕ) → KeepsPlan p c j → Visits p j (made c j) m → Stands p m (length (entries c m)) j (made c j)
-target_place p c j m keeps visits = go (keeps m visits)
+-- a job that keeps the plan is the next in its target's order
+pub target_next : (p : PlannedShop) (c : Cell) (j m : ℕ) → KeepsPlan p c j → Visits p j (made c j) m
+    → (length (entries c m) < length (order p m)) × (job_at p m (length (entries c m)) ≡ j)
+target_next p c j m keeps visits = go (keeps m visits)
   where
-    go : IsPrefix (entries c m ++ j ∷ []) (order p m) → Stands p m (length (entries c m)) j (made c j)
+    go : IsPrefix (entries c m ++ j ∷ []) (order p m) → (length (entries c m) < length (order p m)) × (job_at p m (length (entries c m)) ≡ j)
     go (rest, is) =
-        let split : order p m ≡ entries c m ++ j ∷ rest = is ∙ append_assoc (entries c m) (j ∷ []) rest in
-        record {
-          within = omega (arith, ap length split, length-append (entries c m) (j ∷ rest));
-          job = ap (λ (js : List ℕ). get_or js (length (entries c m)) 0) split ∙ get_or-append_seam (entries c m) j rest 0;
-          visits = visits;
-        }
+        let split : order p m ≡ entries c m ++ j ∷ rest = is ∙ append_assoc (entries c m) (j ∷ []) rest in (
+          omega (arith, ap length split, length-append (entries c m) (j ∷ rest)),
+          ap (λ (js : List ℕ). get_or js (length (entries c m)) 0) split ∙ get_or-append_seam (entries c m) j rest 0,
+        )
+
+-- a job that is the next in the order of the machine of its next step stands there for that step
+pub next-stands : (p : PlannedShop) (c : Cell) (j m : ℕ) → IsWellShaped p → IsSound p c → Visits p j (made c j) m
+    → (length (entries c m) < length (order p m)) × (job_at p m (length (entries c m)) ≡ j) → Stands p m (length (entries c m)) j (made c j)
+next-stands p c j m shaped sound visits next = go (cases_order (length (entries c m)) mine.0)
+  where
+    mine : (a : ℕ) × Stands p m a j (made c j)
+    mine = visits-stands p j (made c j) m shaped visits
+
+    there : (l : ℕ) × Stands p m (length (entries c m)) j l
+    there =
+        let at = (visits-order p j (made c j) m shaped visits).on_route (length (entries c m)) next.0 in
+        (at.0, subst (λ (x : ℕ). Stands p m (length (entries c m)) x at.0) next.1 at.1)
+
+    go : (length (entries c m) ≡ mine.0) ⊎ ((length (entries c m) < mine.0) ⊎ (mine.0 < length (entries c m))) → Stands p m (length (entries c m)) j (made c j)
+    go (inl same) = subst (λ (a : ℕ). Stands p m a j (made c j)) (sym same) mine.1
+    go (inr (inl less)) =
+        let sooner : there.0 < made c j = stands_in_turn p m (length (entries c m)) mine.0 j there.0 (made c j) there.1 mine.1 less in
+        absurd (omega (arith, sound.made_entered m (length (entries c m)) j there.0 there.1 sooner))
+    go (inr (inr more)) = absurd (omega (arith, sound.entered_made m mine.0 j (made c j) mine.1 more))
+
+-- so does a job that keeps the plan
+pub target_place : (p : PlannedShop) (c : Cell) (j m : ℕ) → IsWellShaped p → IsSound p c → KeepsPlan p c j → Visits p j (made c j) m
+    → Stands p m (length (entries c m)) j (made c j)
+target_place p c j m shaped sound keeps visits = next-stands p c j m shaped sound visits (target_next p c j m keeps visits)
 
 module _ (p : PlannedShop) (c : Cell) (j t : ℕ) (new : Cell) (shaped : IsWellShaped p) (sound : IsSound p c) (can : CanMove p c j t) (keeps : KeepsPlan p c j) (moved : IsMoved p c j t new) where
   -- no other job has made a move
@@ -255,13 +279,16 @@ module _ (p : PlannedShop) (c : Cell) (j t : ℕ) (new : Cell) (shaped : IsWellS
       newly : length (entries c m) ≤ a → Visits p j (made c j) m → i ≡ j
       newly not_yet visits =
           let same : a ≡ length (entries c m) = omega (arith, entered_length m visits) in
-          sym stands.job ∙ ap (job_at p m) same ∙ (target_place p c j m keeps visits).job
+          sym stands.job ∙ ap (job_at p m) same ∙ (target_next p c j m keeps visits).1
 
       go : (i ≡ j) ⊎ (i ≡ j → ⊥) → (a < length (entries c m)) ⊎ (length (entries c m) ≤ a) → k < made new i
       go (inl same) (inl was) = omega (arith, before was, made_mine i same, ap (made c) same)
       go (inr other) (inl was) = omega (arith, before was, made_other i other)
       go (inl same) (inr not_yet) = ⊎_elim
-          (λ visits. omega (arith, made_mine i same, visits_once p j k (made c j) m shaped (visits_mine i k m same stands.visits) visits))
+          (λ visits.
+          let at : a ≡ length (entries c m) = omega (arith, entered_length m visits) in
+          let mine : Stands p m (length (entries c m)) j k = subst (λ (x : ℕ). Stands p m x j k) at (subst (λ (x : ℕ). Stands p m a x k) same stands) in
+          omega (arith, made_mine i same, stands_step p m (length (entries c m)) j k (made c j) mine (target_place p c j m shaped sound keeps visits)))
           (λ off. absurd (omega (arith, ap length (moved.not_entered m off))))
           (visits_or_not p j (made c j) m)
       go (inr other) (inr not_yet) = ⊎_elim
@@ -273,7 +300,7 @@ module _ (p : PlannedShop) (c : Cell) (j t : ℕ) (new : Cell) (shaped : IsWellS
   place_of_move : (m a i k : ℕ) → Stands p m a i k → i ≡ j → k ≡ made c j → a ≡ length (entries c m) × (Visits p j (made c j) m)
   place_of_move m a i k stands same_job same_step =
       let mine : Stands p m a j (made c j) = subst (λ (x : ℕ). Stands p m a x (made c j)) same_job (subst (λ (x : ℕ). Stands p m a i x) same_step stands) in
-      (stands_once p m a (length (entries c m)) j (made c j) (made c j) shaped mine (target_place p c j m keeps mine.visits), mine.visits)
+      (stands_once p m a (length (entries c m)) j (made c j) mine (target_place p c j m shaped sound keeps mine.visits), mine.visits)
 
   moved-made_entered : (m a i k : ℕ) → Stands p m a i k → k < made new i → a < length (entries new m)
   moved-made_entered m a i k stands is_made = go (cases_lt k (made c i)) (cases_eq i j)
@@ -334,7 +361,7 @@ module _ (p : PlannedShop) (c : Cell) (j t : ℕ) (new : Cell) (shaped : IsWellS
           let is_clean = (target_free p c j t m can (subst (λ (x : ℕ). Visits p j x m) same_step (visits_mine i k m same on.visits))).1 in
           cc
       go (inl same) (inr (l, begun)) =
-          omega (arith, on.entered, made_mine i same, begun.0.entered, visits_once p j k l m shaped (visits_mine i k m same on.visits) begun.0.visits)
+          visits_apart p j l k m shaped begun.0.visits (visits_mine i k m same on.visits) (omega (arith, on.entered, made_mine i same, begun.0.entered))
       go (inr other) (inl was) = sound.cleaned_free m s was i k (record { entered = sym (made_other i other) ∙ on.entered; visits = on.visits })
       go (inr other) (inr (l, begun)) =
           other (alone_on p c i k j l m shaped sound (record { entered = sym (made_other i other) ∙ on.entered; visits = on.visits }) begun.0)
@@ -392,7 +419,7 @@ needs p c j t u v d shaped sound can keeps (blocking_arc m a i k h l one other) 
     visits = next.visits
 
     place : length (entries c m) ≡ a + 1
-    place = stands_once p m (length (entries c m)) (a + 1) j (made c j) (made c j) shaped (target_place p c j m keeps visits) next
+    place = stands_once p m (length (entries c m)) (a + 1) j (made c j) (target_place p c j m shaped sound keeps visits) next
 
 -- where a job can make its next move, the source of each arc to that node is made
 pub move_needs : (p : PlannedShop) (c : Cell) (j t : ℕ) (u : Node) (d : ℕ) → IsWellShaped p → IsSound p c → CanMove p c j t → KeepsPlan p c j → Arc p u (node j (made c j)) d → IsMade c u

@@ -1,12 +1,16 @@
 pub mod Bounds
+pub mod FirstVisits
 pub mod Rows
+pub mod RouteMarks
 pub mod Marking
 pub mod Orders
 pub mod Refusals
 pub mod OneFault
 pub mod Cleanings
 pub mod Sizes
+pub mod Counting
 pub mod Visits
+pub mod OneVisit
 pub mod Reports
 pub mod Changes
 pub mod Keeping

@@ -14,7 +14,7 @@ use Rattle.shop_base.specs.Graph.{Arc, job_arc, blocking_arc, node, leaving}
 use Rattle.shop_base.specs.Sound.{IsSound}
 use Rattle.shop_base.specs.Ahead.{next_node, IsAhead, HoldsUp, PathAhead, now, held, onward, MoveFrom}
 use Rattle.shop_base.specs.AheadLaw.{NoContinuationIsFaster}
-use Rattle.shop_base.proofs.Visits.{visits_job, visits_once, visits_or_not}
+use Rattle.shop_base.proofs.Visits.{visits_job, visits_apart, visits_or_not}
 use Rattle.shop_base.proofs.Changes.{IsMoved, IsReadied, IsTidied, after_move-moved, with_ready-readied, with_clean-tidied}
 use Rattle.shop_base.proofs.Keeping.{after_report-like, after_report-sound, after_move-sound, run-sound, target_free, needs}
 use Rattle.shop_base.proofs.InShop.{outside_in_shop}
@@ -268,7 +268,7 @@ module _ (p : PlannedShop) (c new : Cell) (j t u : ℕ) (shaped : IsWellShaped p
       on = record { entered = sym at; visits = mine.visits }
 
       count_new : length (entries new m) ≡ a + 1
-      count_new = ap length (change.not_entered m (λ visits. omega (arith, visits_once p j k (made c j) m shaped mine.visits visits))) ∙ sound.newest m a j k mine on.entered
+      count_new = ap length (change.not_entered m (λ visits. visits_apart p j k (made c j) m shaped mine.visits visits on.entered)) ∙ sound.newest m a j k mine on.entered
 
   move-passes : (nodes : List Node) (w v : Node) (n d : ℕ) → PathAhead p c t nodes w n → (IsAhead new w → ⊥) → Arc p w v d → IsAhead new v → HasPathOf p new u v (n + d)
   move-passes nodes w v n d path passed arc ahead =

@@ -10,8 +10,9 @@ use Rattle.shop_base.specs.ShopFault.{IsFirstFault, IsReached, IsStepReached}
 use Rattle.shop_base.specs.declared.shape_fault.ShapeFault.{ShapeFault}
 use Rattle.shop_base.specs.declared.shape_fault.ShapeFault.TheVariants.{ReleaseCount, BudgetCount, OrderCount, CleanCount, ReleaseTooLarge, BudgetTooLarge, CleanTooLarge, JobOutOfRange, NotOnRoute, JobTwice, JobMissing}
 use Rattle.shop_base.specs.Plan.{PlannedShop, jobs, machines, release, budget, clean, order, job_at, HasCleanCount, HasCounts, IsOrder}
-use Rattle.shop_base.specs.ShapeFault.{IsVisitor, IsListed, IsGoodPlace, IsMachineReached, IsPlaceReached, AreWithin, IsFirstShapeFault}
+use Rattle.shop_base.specs.ShapeFault.{IsVisitor, IsGoodPlace, visit_count, place_count, IsMachineReached, IsPlaceReached, AreWithin, IsFirstShapeFault}
 use Rattle.shop_base.proofs.Visits.{visits_job}
+use Rattle.shop_base.proofs.Orders.{stands-place, place-stands, none_missing}
 
 module _ (count : ℕ) (routes : List (List Step)) where
   -- all before job j is sound, and its route isn't
@@ -111,10 +112,7 @@ least_once f limit i j before over before' over' = go (cases_order i j)
 
 -- a place of a sound order is good
 good_place : (p : PlannedShop) (m a : ℕ) → a < length (order p m) → IsOrder p m → IsGoodPlace p m a
-good_place p m a within sound = record {
-  visitor = sound.on_route a within;
-  first = λ b lower same. absurd (omega (arith, sound.once b a (omega arith) within same));
-}
+good_place p m a within sound = let found = sound.on_route a within in stands-place p m a found.0 found.1
 
 module _ (p : PlannedShop) where
   -- what is looked at in turn: four counts, then three limits
@@ -239,18 +237,18 @@ module _ (p : PlannedShop) where
       go (inr (inr past)) = absurd (other.bad (subst (λ x. IsGoodPlace p x b) same (one.reached.before b past)))
 
   range-place : (m a : ℕ) → IsFirstShapeFault p (JobOutOfRange m a) → IsBadPlace m a
-  range-place m a (reached, past) = record { reached = reached; bad = λ good. omega (arith, visits_job p (job_at p m a) good.visitor.0 m good.visitor.1) }
+  range-place m a (reached, past) = record { reached = reached; bad = λ good. let found = place-stands p m a reached.in_range good in omega (arith, visits_job p (job_at p m a) found.0 m found.1.visits) }
 
   route-place : (m a : ℕ) → IsFirstShapeFault p (NotOnRoute m a) → IsBadPlace m a
-  route-place m a (reached, inside, elsewhere) = record { reached = reached; bad = λ good. elsewhere good.visitor }
+  route-place m a (reached, inside, elsewhere) = record { reached = reached; bad = λ good. let found = place-stands p m a reached.in_range good in elsewhere (found.0, found.1.visits) }
 
   twice-place : (m a : ℕ) → IsFirstShapeFault p (JobTwice m a) → IsBadPlace m a
-  twice-place m a (reached, visitor, earlier, lower, same) = record { reached = reached; bad = λ good. good.first earlier lower same }
+  twice-place m a (reached, visitor, many) = record { reached = reached; bad = λ good. omega (arith, many, good) }
 
   missing-machine : (m j : ℕ) → IsFirstShapeFault p (JobMissing m j) → IsBadMachine m
-  missing-machine m j (reached, visitor, unlisted) = record {
+  missing-machine m j (reached, few) = record {
     reached = reached.reached;
-    bad = λ sound. let (a, stands) = sound.complete j visitor.0 visitor.1 in unlisted (a, stands.within, stands.job);
+    bad = λ sound. omega (arith, few, none_missing p m j sound);
   }
 
   missing-no_place : (m j n a : ℕ) → IsFirstShapeFault p (JobMissing m j) → IsBadPlace n a → ⊥
@@ -266,8 +264,8 @@ module _ (p : PlannedShop) where
 
       go : (j ≡ i) ⊎ ((j < i) ⊎ (i < j)) → j ≡ i
       go (inl is) = is
-      go (inr (inl less)) = absurd (one.2 (subst (λ x. IsListed p x j) (sym same) (other.0.before j less (subst (λ x. IsVisitor p x j) same one.1))))
-      go (inr (inr past)) = absurd (other.2 (subst (λ x. IsListed p x i) same (one.0.before i past (subst (λ x. IsVisitor p x i) (sym same) other.1))))
+      go (inr (inl less)) = absurd (omega (arith, one.1, ap (λ x. visit_count p x j) same, ap (λ x. place_count p x j) same, other.0.before j less))
+      go (inr (inr past)) = absurd (omega (arith, other.1, ap (λ x. visit_count p x i) same, ap (λ x. place_count p x i) same, one.0.before i past))
 
   job_same : (m a n b : ℕ) → IsBadPlace m a → IsBadPlace n b → job_at p m a ≡ job_at p n b
   job_same m a n b one other = let (same, place) = place_once m a n b one other in ap₂ (job_at p) same place

@@ -2,7 +2,7 @@
 use Rattle.std.proofs.Common.{◌≡◌, ◌≢◌, ℕ, zero, suc, ◌+◌, ◌-◌, ◌<◌, ◌≤◌, List, [], ◌∷◌, ◌++◌, length, slice_index_or, None, Some, true, false, ◌⊎◌, inl, inr, refl, sym, ◌∙◌, ap, subst, arith, lt_of_not-le}
 use Rattle.std.proofs.lemmas.Bool.{cases_lt, cases_eq}
 use Rattle.std.proofs.lemmas.List.{get_or_past}
-use Rattle.shop_base.specs.Plan.{PlannedShop, jobs, steps, machine_of, clean, order, job_at, Visits, Stands, IsWellShaped}
+use Rattle.shop_base.specs.Plan.{PlannedShop, jobs, steps, machine_of, clean, order, job_at, Visits, IsWellShaped}
 use Rattle.shop_base.specs.Cell.{Cell, MachineState, absent, unused, job_in, machine_in, made, ready, entries, cleaning, IsOutside, IsOn, IsFree}
 use Rattle.shop_base.specs.declared.job_state.JobState.{JobState}
 use Rattle.shop_base.specs.declared.report.Report.{Report}
@@ -16,7 +16,7 @@ use Rattle.shop_base.specs.Movers.{OnlyMoves}
 use Rattle.shop_base.specs.Sound.{IsSound}
 use Rattle.shop_base.proofs.Visits.{visits_job, on_or_not, leaves_past, past_leaves}
 use Rattle.shop_base.proofs.Changes.{IsMoved, IsReadied, IsTidied, moves_within, after_move-moved, with_ready-readied, with_clean-tidied}
-use Rattle.shop_base.proofs.Keeping.{target_place, after_report-sound, after_move-sound}
+use Rattle.shop_base.proofs.Keeping.{target_next, after_report-sound, after_move-sound}
 use Rattle.shop_base.proofs.Decisions.{HasWay, moment_now, move_at, moves_or_not}
 
 -- a job to which nothing matters that differs between two cells can move in the one if it can in the other
@@ -90,7 +90,7 @@ only_next_in-moves p c new m t sound rest tidied i u can keeps = go can.way
     enters_at : (n : ℕ) → Visits p i (made new i) n → (n ≡ m) ⊎ (n ≡ m → ⊥) → i ≡ job_at p m (length (entries c m))
     enters_at n visits (inl same) =
         sym (subst (λ x. job_at p x (length (entries c x)) ≡ i) same
-        (ap (λ (es : List ℕ). job_at p n (length es)) (sym (tidied.entries_same n)) ∙ (target_place p new i n keeps visits).job))
+        (ap (λ (es : List ℕ). job_at p n (length es)) (sym (tidied.entries_same n)) ∙ (target_next p new i n keeps visits).1))
     enters_at n visits (inr other) = absurd (still λ o there is. other (sym visits.here ∙ ap (machine_of p i) (same_made new c i (job_same i)) ∙ there.here ∙ is))
 
     go : HasWay p new i → i ≡ job_at p m (length (entries c m))
@@ -128,7 +128,7 @@ pub record IsNextAfter (p : PlannedShop) (c : Cell) (j i : ℕ) : Type 0 where
   pub step : ℕ
   pub on : IsOn p c j step left
   pub uncleaned : clean p left ≡ 0
-  pub stands : Stands p left (length (entries c left)) i (made c i)
+  pub stands : (length (entries c left) < length (order p left)) × (job_at p left (length (entries c left)) ≡ i)
   pub another : i ≢ j
 
 -- where only j can move, once it has moved only the job that is next where it was can
@@ -174,8 +174,8 @@ moved-next p c new j t i u sound only moved can keeps = go can.way
       step = k;
       on = on;
       uncleaned = uncleaned (cases_lt 0 (clean p m));
-      stands = subst (λ (es : List ℕ). Stands p m (length es) i (made c i)) (moved.not_entered m (not_target m enters.free))
-          (subst (λ l. Stands p m (length (entries new m)) i l) is (target_place p new i m keeps enters.next));
+      stands = subst (λ (es : List ℕ). (length es < length (order p m)) × (job_at p m (length es) ≡ i)) (moved.not_entered m (not_target m enters.free))
+          (target_next p new i m keeps enters.next);
       another = another;
     }
       where
@@ -210,7 +210,7 @@ next-is p c i j next = go (made c j) refl
     go zero is = absurd (omega (arith, next.on.entered))
     go (suc k) is =
         let same : next.step ≡ k = omega (arith, next.on.entered) in
-        sym (subst (λ m. job_at p m (length (entries c m)) ≡ i) (sym next.on.visits.here ∙ ap (machine_of p j) same) next.stands.job)
+        sym (subst (λ m. job_at p m (length (entries c m)) ≡ i) (sym next.on.visits.here ∙ ap (machine_of p j) same) next.stands.1)
 
 -- after a move of the only job that could, only one job can move
 pub only_one_after_move : (p : PlannedShop) (c : Cell) (j t : ℕ) → IsWellShaped p → IsSound p c → OnlyMoves p c j → CanMove p c j t → OnlyMoves p (after_move p c j t) (next_after_move p c j)
@@ -219,9 +219,9 @@ only_one_after_move p c j t shaped sound only can i u can_next keeps_next =
 
 -- after a move of the only job that could, from machine m, a job that can move stands next in the order of m, which has no cleaning time
 pub only_next_can_move : (p : PlannedShop) (c : Cell) (j k m t i u : ℕ) → IsWellShaped p → IsSound p c → OnlyMoves p c j → CanMove p c j t → IsOn p c j k m
-    → CanMove p (after_move p c j t) i u → KeepsPlan p (after_move p c j t) i → Stands p m (length (entries c m)) i (made c i) × (clean p m ≡ 0)
+    → CanMove p (after_move p c j t) i u → KeepsPlan p (after_move p c j t) i → ((length (entries c m) < length (order p m)) × (job_at p m (length (entries c m)) ≡ i)) × (clean p m ≡ 0)
 only_next_can_move p c j k m t i u shaped sound only can on can_next keeps_next =
-    subst (λ n. Stands p n (length (entries c n)) i (made c i) × (clean p n ≡ 0)) here (next.stands, next.uncleaned)
+    subst (λ n. ((length (entries c n) < length (order p n)) × (job_at p n (length (entries c n)) ≡ i)) × (clean p n ≡ 0)) here (next.stands, next.uncleaned)
   where
     next : IsNextAfter p c j i
     next = moved-next p c (after_move p c j t) j t i u sound only (after_move-moved p c j t shaped sound can) can_next keeps_next
@@ -241,7 +241,7 @@ rest_after_first_entry p c j t shaped sound only can outside i u can_next keeps_
 pub rest_after_last_entrant : (p : PlannedShop) (c : Cell) (j k m t : ℕ) → IsWellShaped p → IsSound p c → OnlyMoves p c j → CanMove p c j t → IsOn p c j k m
     → length (order p m) ≤ length (entries c m) → IsAtRest p (after_move p c j t)
 rest_after_last_entrant p c j k m t shaped sound only can on all i u can_next keeps_next =
-    absurd (omega (arith, (only_next_can_move p c j k m t i u shaped sound only can on can_next keeps_next).0.within))
+    absurd (omega (arith, (only_next_can_move p c j k m t i u shaped sound only can on can_next keeps_next).0.0))
 
 sum_same : (f g : ℕ → ℕ) (n : ℕ) → ((i : ℕ) → i < n → g i ≡ f i) → sum_below g n ≡ sum_below f n
 sum_same f g zero same = refl

@@ -10,6 +10,7 @@ use Rattle.shop_base.specs.ShopFault.{IsFirstFault, IsStepReached}
 use Rattle.shop_base.specs.Plan.{PlannedShop, job_at, IsOrder, IsWellShaped}
 use Rattle.shop_base.specs.ShapeFault.{IsFirstShapeFault, IsMachineReached}
 use Rattle.shop_base.proofs.Visits.{visits_job}
+use Rattle.shop_base.proofs.Orders.{stands-place, none_missing}
 
 -- a shop with a fault isn't sound
 pub fault_refutes : (count : ℕ) (routes : List (List Step)) (fault : ShopFault) → IsFirstFault count routes fault → IsShop (record { machines = count; routes = routes }) → ⊥
@@ -44,14 +45,13 @@ shape_fault_refutes p fault is shaped = go fault is
     go (BudgetTooLarge job) (counts, releases, inside, before, large) = omega (arith, shaped.limits.budgets job inside)
     go (CleanTooLarge machine) (counts, releases, budgets, inside, before, large) = omega (arith, shaped.limits.cleanings machine inside)
     go (JobOutOfRange machine place) (reached, past) =
-        let (k, visits) = (order_of machine reached.reached).on_route place reached.in_range in
-        omega (arith, visits_job p (job_at p machine place) k machine visits)
-    go (NotOnRoute machine place) (reached, inside, elsewhere) = elsewhere ((order_of machine reached.reached).on_route place reached.in_range)
-    go (JobTwice machine place) (reached, visitor, earlier, lower, same) =
-        omega (arith, (order_of machine reached.reached).once earlier place (omega (arith, reached.in_range)) reached.in_range same)
-    go (JobMissing machine job) (reached, (k, visits), unlisted) =
-        let (a, stands) = (order_of machine reached.reached).complete job k visits in
-        unlisted (a, stands.within, stands.job)
+        let (k, stands) = (order_of machine reached.reached).on_route place reached.in_range in
+        omega (arith, visits_job p (job_at p machine place) k machine stands.visits)
+    go (NotOnRoute machine place) (reached, inside, elsewhere) = let found = (order_of machine reached.reached).on_route place reached.in_range in elsewhere (found.0, found.1.visits)
+    go (JobTwice machine place) (reached, visitor, many) =
+        let found = (order_of machine reached.reached).on_route place reached.in_range in
+        omega (arith, many, stands-place p machine place found.0 found.1)
+    go (JobMissing machine job) (reached, few) = omega (arith, few, none_missing p machine job (order_of machine reached.reached))
 
 -- where something isn't so, a refusal says exactly that
 pub refused_just : {S : Type 0} → (S → ⊥) → false ≡ true ↔ S

@@ -1,8 +1,8 @@
 -- The reports still to come: a report lowers them by one, a move leaves them, at the start they are the stated number, and at rest they are none exactly where the run has ended.
-use Rattle.std.proofs.Common.{◌≡◌, ℕ, ◌+◌, ◌-◌, ◌<◌, ◌≤◌, inl, inr, Bool, true, false, not, cond, List, [], ◌∷◌, length, length-append, Option, Some, None, is_some, nat_lt, count_by, slice_index_or, refl, sym, ap, ap₂, ◌∙◌, arith, lt-ltb, le-ltb}
+use Rattle.std.proofs.Common.{◌≡◌, ℕ, ◌+◌, ◌-◌, ◌<◌, ◌≤◌, inl, inr, Bool, true, false, not, cond, List, [], ◌∷◌, length, length-append, Option, Some, None, is_some, nat_lt, slice_index_or, refl, sym, ap, ap₂, ◌∙◌, arith, lt-ltb, le-ltb}
 use Rattle.std.proofs.Math.Path.{fun_ext}
 use Rattle.std.proofs.lemmas.Bool.{cases_lt, cases_eq, cases_Bool}
-use Rattle.shop_base.specs.Plan.{PlannedShop, jobs, machines, steps, order, job_at, clean, Visits, IsWellShaped}
+use Rattle.shop_base.specs.Plan.{Stands, PlannedShop, jobs, machines, steps, order, job_at, clean, Visits, IsWellShaped}
 use Rattle.shop_base.specs.Cell.{Cell, MachineState, absent, unused, job_in, made, ready, entries, cleaning, start, IsOn, IsFree, IsGone}
 use Rattle.shop_base.specs.declared.job_state.JobState.{JobState}
 use Rattle.shop_base.specs.declared.report.Report.{Report}
@@ -14,7 +14,7 @@ use Rattle.shop_base.specs.Controlled.{AreMoves, after_moves, IsStep, after_step
 use Rattle.shop_base.specs.Ends.{cleanings_of, stated_number, HasEnded, reports_in}
 use Rattle.shop_base.specs.ReportsLeft.{busy, job_reports_left, is_off, is_on_after, departures, cleanings_left, reports_left}
 use Rattle.shop_base.specs.Sound.{IsSound}
-use Rattle.shop_base.proofs.Visits.{visits_job, visits_once, visits_or_not, on_or_not, leaves_past, past_leaves}
+use Rattle.shop_base.proofs.Visits.{visits_job, visits_apart, visits_or_not, on_or_not, leaves_past, past_leaves}
 use Rattle.shop_base.proofs.Changes.{IsMoved, IsReadied, IsTidied, after_move-moved, with_ready-readied, with_clean-tidied, moves_within}
 use Rattle.shop_base.proofs.Keeping.{after_report-sound, after_move-sound, moved-sound, start-made, target_free, alone_on}
 use Rattle.shop_base.proofs.InShop.{outside_in_shop, cleaned_in_shop, start_unused}
@@ -43,9 +43,10 @@ cleanings_kept : (p : PlannedShop) (c new : Cell) (m : ℕ) → departures p new
 cleanings_kept p c new m same kept =
     ap₂ (λ (n : ℕ) (s : Option ℕ). cond (nat_lt 0 (clean p m)) ((length (order p m) - n) + cond (is_some s) 1 0) 0) same kept
 
-departures_kept : (p : PlannedShop) (c new : Cell) (m : ℕ) → entries new m ≡ entries c m → ((i : ℕ) → is_off p new m i ≡ is_off p c m i)
+-- where a machine's entries are as they were, and its jobs on it as they were, so are its departures
+pub departures_kept : (p : PlannedShop) (c new : Cell) (m : ℕ) → entries new m ≡ entries c m → ((i : ℕ) → is_off p new m i ≡ is_off p c m i)
     → departures p new m ≡ departures p c m
-departures_kept p c new m kept same = ap₂ (λ (f : ℕ → Bool) (xs : List ℕ). count_by f xs) (fun_ext same) kept
+departures_kept p c new m kept same = ap₂ (λ (f : ℕ → Bool) (xs : List ℕ). length xs - cond (f (slice_index_or xs (length xs - 1) 0)) 0 1) (fun_ext same) kept
 
 cleanings_timed : (p : PlannedShop) (c : Cell) (m : ℕ) → 0 < clean p m → cleanings_left p c m ≡ (length (order p m) - departures p c m) + cond (is_some (cleaning c m)) 1 0
 cleanings_timed p c m timed = ap (λ b. cond b ((length (order p m) - departures p c m) + cond (is_some (cleaning c m)) 1 0) 0) (lt-ltb 0 (clean p m) timed)
@@ -59,7 +60,7 @@ entries_in_order : (p : PlannedShop) (c : Cell) (m : ℕ) → IsSound p c → le
 entries_in_order p c m sound = let (rest, e) = sound.in_order m in omega (arith, ap length e, length-append (entries c m) rest)
 
 -- a machine that a job is on isn't being cleaned
-held-not_cleaned : (p : PlannedShop) (c : Cell) (j k m : ℕ) → IsSound p c → IsOn p c j k m → cleaning c m ≡ None
+pub held-not_cleaned : (p : PlannedShop) (c : Cell) (j k m : ℕ) → IsSound p c → IsOn p c j k m → cleaning c m ≡ None
 held-not_cleaned p c j k m sound on = go (cleaning c m) refl
   where
     go : (s : Option ℕ) → cleaning c m ≡ s → s ≡ None
@@ -91,7 +92,7 @@ module _ (p : PlannedShop) (c new : Cell) (j t : ℕ) (shaped : IsWellShaped p) 
   left_free : (k m : ℕ) → IsOn p c j k m → IsFree p new m
   left_free k m on i l other = elim (cases_eq i j) [
     | inl same ↦ (let visits : Visits p j l m = rw same at other.visits in
-        omega (arith, visits_once p j k l m shaped on.visits visits, on.entered, change.made_mine, other.entered, ap (made new) same))
+        visits_apart p j k l m shaped on.visits visits (omega (arith, on.entered, change.made_mine, other.entered, ap (made new) same)))
     | inr apart ↦ apart (alone_on p c i l j k m shaped sound (record { entered = sym (ap (λ (s : JobState). s.made) (change.others i apart)) ∙ other.entered; visits = other.visits }) on)
   ]
 
@@ -128,7 +129,7 @@ module _ (p : PlannedShop) (c new : Cell) (j t : ℕ) (shaped : IsWellShaped p) 
 
   move-machine : (m : ℕ) → cleanings_left p new m ≡ cleanings_left p c m
   move-machine m = elim (on_or_not p c j m) [
-    | inl (k, on) ↦ move-left k m on (λ next. omega (arith, visits_once p j k (made c j) m shaped on.visits next, on.entered))
+    | inl (k, on) ↦ move-left k m on (λ next. visits_apart p j k (made c j) m shaped on.visits next on.entered)
     | inr elsewhere ↦ elim (visits_or_not p j (made c j) m) [
       | inl next ↦ move-entered m next elsewhere
       | inr away ↦ cleanings_kept p c new m (departures_kept p c new m (change.not_entered m away) (same_off elsewhere away)) (change.cleaning_elsewhere m elsewhere)
@@ -241,7 +242,7 @@ start-reports_left p =
 
     each_machine : (m : ℕ) → cleanings_left p (start p) m ≡ cleanings_of p m
     each_machine m =
-        let none : departures p (start p) m ≡ 0 = ap (λ (s : MachineState). count_by (is_off p (start p) m) s.entries) (start_unused p m) in
+        let none : departures p (start p) m ≡ 0 = omega (arith, ap (λ (s : MachineState). length s.entries) (start_unused p m)) in
         let same : (length (order p m) - departures p (start p) m) + cond (is_some (cleaning (start p) m)) 1 0 ≡ length (order p m) =
         omega (arith, none, ap {B = ℕ} (λ (s : MachineState). cond (is_some s.cleaning) 1 0) (start_unused p m)) in
         ap (λ n. cond (nat_lt 0 (clean p m)) n 0) same
@@ -292,13 +293,13 @@ all_entered p c m shaped sound gone inside = elim (cases_lt (length (entries c m
   | inr whole ↦ omega (arith, entries_in_order p c m sound)
 ]
   where
-    unfinished : length (entries c m) < length (order p m) → (k : ℕ) × Visits p (job_at p m (length (entries c m))) k m → ⊥
-    unfinished less (k, visits) =
+    unfinished : length (entries c m) < length (order p m) → (k : ℕ) × Stands p m (length (entries c m)) (job_at p m (length (entries c m))) k → ⊥
+    unfinished less (k, stands) =
         let i = job_at p m (length (entries c m)) in
         omega (
           arith,
-          sound.made_entered m (length (entries c m)) i k (record { within = less; job = refl; visits = visits })
-              (omega (arith, gone i (visits_job p i k m visits), visits.within)),
+          sound.made_entered m (length (entries c m)) i k stands
+              (omega (arith, gone i (visits_job p i k m stands.visits), stands.visits.within)),
         )
 
 -- where the run has ended, no report is to come

@@ -1,5 +1,5 @@
 -- An end that was reported isn't reported again.
-use Rattle.std.proofs.Common.{◌≡◌, ℕ, ◌+◌, ◌≤◌, true, false, None, List, [], ◌∷◌, ◌++◌, ◌⊎◌, inl, inr, refl, sym, ap, ◌∙◌, subst, arith}
+use Rattle.std.proofs.Common.{◌≡◌, ℕ, ◌+◌, ◌<◌, ◌≤◌, true, false, None, List, [], ◌∷◌, ◌++◌, ◌⊎◌, inl, inr, refl, sym, ap, ◌∙◌, subst, arith}
 use Rattle.std.proofs.lemmas.Bool.{cases_eq, false≢true}
 use Rattle.shop_base.specs.declared.job_state.JobState.{JobState}
 use Rattle.shop_base.specs.declared.move_order.MoveOrder.{MoveOrder}
@@ -15,9 +15,10 @@ use Rattle.shop_base.proofs.Changes.{IsMoved, IsReadied, IsTidied, after_move-mo
 use Rattle.shop_base.proofs.CellFacts.{source_on}
 use Rattle.shop_base.proofs.Keeping.{run-sound, after_report-sound, after_move-sound, alone_on}
 use Rattle.shop_base.proofs.ControlledRuns.{after_all_join}
-use Rattle.shop_base.proofs.Visits.{visits_once, visits_job}
+use Rattle.shop_base.proofs.Visits.{visits_job}
 use Rattle.shop_base.proofs.InShop.{outside_in_shop}
-use Rattle.shop_base.specs.AtMostOnceLaw.{HasLeft, HasWorked, IsNoneLater, NoEndIsAcceptedTwice}
+use Rattle.shop_base.specs.AtMostOnceLaw.{MayRecur, HasLeft, HasWorked, IsNoneLater, NoEndIsAcceptedTwice}
+use Rattle.shop_base.proofs.ReportsLeft.{held-not_cleaned}
 
 module _ (p : PlannedShop) (shaped : IsWellShaped p) where
   -- ---- what a report that makes a job ready comes to
@@ -163,8 +164,8 @@ module _ (p : PlannedShop) (shaped : IsWellShaped p) where
       (change.cleaning_elsewhere m (λ k on. other (alone_on p c j waiting.step i k m shaped sound waiting.on on)) ∙ waiting.is_clean) waiting
 
   -- until it leaves, the machine isn't being cleaned
-  waiting_events : (j m : ℕ) (c : Cell) (es : List Event) → IsSound p c → AreEvents p c es → IsWaiting j m c → (cleaning (after_all p c es) m ≡ None) ⊎ HasLeft j m es
-  waiting_events j m c [] sound events waiting = inl waiting.is_clean
+  waiting_events : (j m : ℕ) (c : Cell) (es : List Event) → IsSound p c → AreEvents p c es → IsWaiting j m c → IsWaiting j m (after_all p c es) ⊎ HasLeft j m es
+  waiting_events j m c [] sound events waiting = inl waiting
   waiting_events j m c (Moved o ∷ es) sound events waiting = elim (cases_eq j o.job) [
     | inl same ↦ inr (inl (sym same, ap (λ (q : MoveOrder). q.source) events.0.0.is_move ∙ source_on p c o.job waiting.step m (subst (λ i. IsOn p c i waiting.step m) same waiting.on)))
     | inr other ↦
@@ -228,7 +229,7 @@ module _ (p : PlannedShop) (shaped : IsWellShaped p) where
       | inr worked ↦ inr (inr worked)
     ]
     | inr (j, is, waiting) ↦ elim (waiting_events j m (after_report c r) es (sound_after c (Reported r) sound events.0) events.1 waiting) [
-      | inl clean ↦ inl clean
+      | inl clean ↦ inl clean.is_clean
       | inr left ↦ inr (inl (j, is, left))
     ]
   ]
@@ -236,7 +237,7 @@ module _ (p : PlannedShop) (shaped : IsWellShaped p) where
   -- ---- after a report
 
   again_where : (c : Cell) (r q : Report) (fs : List Event) (a : Activity) → ended r ≡ a → ended q ≡ a → IsSound p c → CanReport p c r → AreEvents p (after_report c r) fs
-      → CanReport p (after_all p (after_report c r) fs) q → (m : ℕ) × (ended r ≡ Cleaning m) × HasWorked m fs
+      → CanReport p (after_all p (after_report c r) fs) q → MayRecur p a fs
   again_where c r q fs (Arrival j) is same sound can events also = absurd (false≢true (sym also_awaited.not_ready ∙ past.ended also_awaited.outside))
     where
       goes : GoesOn p c (Arrival j) can.going.0
@@ -252,7 +253,10 @@ module _ (p : PlannedShop) (shaped : IsWellShaped p) where
       past = past_events j 0 (after_report c r) fs (after_report-sound p c r shaped sound can) events
           (record { reached = omega arith; ended = λ here. change.ready_mine })
   again_where c r q fs (Operation j m) is same sound can events also =
-      absurd (false≢true (sym also_worked.1.not_ready ∙ past.ended (also_worked.1.on.entered ∙ ap (λ x. x + 1) (visits_once p j also_worked.0 goes.0 m shaped also_worked.1.on.visits goes.1.on.visits))))
+      elim (waiting_events j m (after_report c r) fs (after_report-sound p c r shaped sound can) events waiting) [
+        | inl still ↦ absurd (false≢true (sym also_worked.1.not_ready ∙ still.is_ready))
+        | inr left ↦ ((goes.0, also_worked.0, record { first = goes.1.on.visits; again = also_worked.1.on.visits; later = later }), left)
+      ]
     where
       goes : GoesOn p c (Operation j m) can.going.0
       goes = subst (λ a. GoesOn p c a can.going.0) is can.going.1
@@ -263,12 +267,26 @@ module _ (p : PlannedShop) (shaped : IsWellShaped p) where
       change : IsReadied c j (at r) (after_report c r)
       change = subst (λ a. IsReadied c j (at r) (after_end c a (at r))) (sym is) (readied_on c j m (at r) can.going.0 sound goes)
 
+      waiting : IsWaiting j m (after_report c r)
+      waiting = record {
+        step = goes.0;
+        on = record { entered = change.made_same j ∙ goes.1.on.entered; visits = goes.1.on.visits };
+        is_ready = change.ready_mine;
+        is_clean = cleaning_of m c (after_report c r) change.machines_same ∙ held-not_cleaned p c j goes.0 m sound goes.1.on;
+      }
+
       past : IsPast j (goes.0 + 1) (after_all p (after_report c r) fs)
       past = past_events j (goes.0 + 1) (after_report c r) fs (after_report-sound p c r shaped sound can) events
           (record { reached = omega (arith, change.made_same j, goes.1.on.entered); ended = λ here. change.ready_mine })
+
+      later : goes.0 < also_worked.0
+      later = elim (cases_eq goes.0 also_worked.0) [
+        | inl same_step ↦ absurd (false≢true (sym also_worked.1.not_ready ∙ past.ended (also_worked.1.on.entered ∙ ap (λ x. x + 1) (sym same_step))))
+        | inr other ↦ omega (arith, past.reached, also_worked.1.on.entered, other)
+      ]
   again_where c r q fs (Cleaning m) is same sound can events also = elim (quiet_events m (after_report c r) fs (after_report-sound p c r shaped sound can) events quiet) [
     | inl clean ↦ let some = also_cleaned.1.is_cleaned in absurd (cc)
-    | inr worked ↦ (m, is, worked)
+    | inr worked ↦ worked
   ]
     where
       goes : GoesOn p c (Cleaning m) can.going.0

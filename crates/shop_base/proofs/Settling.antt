@@ -15,9 +15,9 @@ use Rattle.shop_base.specs.Controlled.{AreMoves, after_moves, orders_for, moved}
 use Rattle.shop_base.specs.Sound.{IsSound}
 use Rattle.shop_base.specs.Ahead.{Settles, settled}
 use Rattle.shop_base.specs.AheadLaw.{EveryCellSettlesOnce, EveryListGoesOn, NoJobSettlesTwice, ACutStepSettlesAsItWas}
-use Rattle.shop_base.proofs.Visits.{on_or_not, visits_or_not, stands_same}
+use Rattle.shop_base.proofs.Visits.{on_or_not, visits_or_not}
 use Rattle.shop_base.proofs.Changes.{IsMoved, after_move-moved}
-use Rattle.shop_base.proofs.Keeping.{after_move-sound, run-sound, target_free, target_place, alone_on}
+use Rattle.shop_base.proofs.Keeping.{after_move-sound, run-sound, target_free, target_next, alone_on}
 use Rattle.shop_base.proofs.ControlledRuns.{after_moves-sound}
 use Rattle.shop_base.proofs.Decisions.{move_at, moves_or_not}
 use Rattle.shop_base.proofs.OneStep.{LooksSame, same_can, same_keeps, moves_left, move-left, move-inside}
@@ -104,7 +104,7 @@ module _ (p : PlannedShop) (c : Cell) (j k t : ℕ) (shaped : IsWellShaped p) (s
   -- they don't enter the same machine
   apart : (m : ℕ) → Visits p j (made c j) m → Visits p k (made c k) m → ⊥
   apart m mine other =
-      differ (stands_same p m (length (entries c m)) k j (made c k) (made c j) (target_place p c k m keeps_too other) (target_place p c j m keeps mine))
+      differ (sym (target_next p c k m keeps_too other).1 ∙ (target_next p c j m keeps mine).1)
 
   -- nor does the second enter the machine that the first leaves
   off_target : (m l : ℕ) → Visits p k (made c k) m → IsOn p c j l m → ⊥

@@ -1,5 +1,5 @@
 -- Tests that decide whether a plan that is written out is well shaped, and whether it is a serial one.
-use Rattle.std.proofs.Common.{◌≡◌, ◌≢◌, ℕ, ◌+◌, ◌<◌, ◌≤◌, List, [], length, Option, None, Some, Bool, true, not, ◌&&◌, ◌||◌, ltb, leb, eqb, Decides, refl, ap, arith, lt_of_not-le}
+use Rattle.std.proofs.Common.{◌≢◌, ℕ, ◌+◌, ◌<◌, ◌≤◌, List, [], length, Option, None, Some, Bool, true, not, ◌&&◌, ◌||◌, ltb, leb, eqb, Decides, refl, ap, arith, lt_of_not-le}
 use Rattle.std.proofs.lemmas.Bool.Decides.{Decides-like, Decides-and, Decides-not, Decides-ltb, Decides-eqb}
 use Rattle.std.proofs.lemmas.List.{get_or_past}
 use Rattle.shop_base.specs.declared.shop.Step.{Step}
@@ -7,6 +7,7 @@ use Rattle.shop_base.specs.declared.limits.TheConstants.{MAX_JOBS, MAX_MACHINES,
 use Rattle.shop_base.specs.Shop.{JobShop, step_at, route_at, IsSoundStep, IsRoute, AreCounts, IsShop}
 use Rattle.shop_base.specs.Plan.{PlannedShop, jobs, machines, steps, release, budget, clean, order, job_at, Visits, Stands, HasCleanCount, HasCounts, IsWithinLimits, IsOrder, IsWellShaped}
 use Rattle.shop_base.specs.Graph.{IsSerial}
+use Rattle.shop_base.proofs.FirstVisits.{first-elsewhere}
 use Rattle.shop_base.proofs.Visits.{visits_job}
 use Rattle.shop_base.proofs.CellTests.{all_below, some_below, all_below_decides, some_below_decides, leb_decides, visits_test, visits_decides}
 use Rattle.shop_base.proofs.RunTests.{implies_decides}
@@ -19,16 +20,16 @@ abbrev step_test : ℕ → List Step → ℕ → Bool
 step_test machines route k = ltb (machine_at route k) machines && (all_below (λ i. not (eqb (machine_at route i) (machine_at route k))) k && leb (step_at route k).nominal MAX_NOMINAL)
 
 step_decides : (machines : ℕ) (route : List Step) (k : ℕ) → Decides (step_test machines route k) (IsSoundStep machines route k)
-step_decides machines route k = Decides-like (step_test machines route k) (λ all. record { in_range = all.0; first_visit = all.1.0; nominal = all.1.1 }) (λ sound. (sound.in_range, (sound.first_visit, sound.nominal)))
+step_decides machines route k = Decides-like (step_test machines route k) (λ all. record { in_range = all.0; elsewhere = first-elsewhere route k all.1.0; first_visit = all.1.0; nominal = all.1.1 }) (λ sound. (sound.in_range, (sound.first_visit, sound.nominal)))
     (Decides-and (ltb (machine_at route k) machines) _ (Decides-ltb (machine_at route k) machines)
     (Decides-and _ _ (all_below_decides _ (λ i. machine_at route i ≢ machine_at route k) (λ i. Decides-not _ (Decides-eqb (machine_at route i) (machine_at route k))) k) (leb_decides (step_at route k).nominal MAX_NOMINAL)))
 
 abbrev route_test : ℕ → List Step → Bool
-route_test machines route = ltb 0 (length route) && all_below (step_test machines route) (length route)
+route_test machines route = ltb 0 (length route) && (leb (length route) MAX_MACHINES && all_below (step_test machines route) (length route))
 
 route_decides : (machines : ℕ) (route : List Step) → Decides (route_test machines route) (IsRoute machines route)
-route_decides machines route = Decides-like (route_test machines route) (λ both. record { visits_some = both.0; steps = both.1 }) (λ sound. (sound.visits_some, sound.steps))
-    (Decides-and (ltb 0 (length route)) _ (Decides-ltb 0 (length route)) (all_below_decides (step_test machines route) (IsSoundStep machines route) (step_decides machines route) (length route)))
+route_decides machines route = Decides-like (route_test machines route) (λ both. record { visits_some = both.0; few_steps = both.1.0; steps = both.1.1 }) (λ sound. (sound.visits_some, (sound.few_steps, sound.steps)))
+    (Decides-and (ltb 0 (length route)) _ (Decides-ltb 0 (length route)) (Decides-and (leb (length route) MAX_MACHINES) _ (leb_decides (length route) MAX_MACHINES) (all_below_decides (step_test machines route) (IsSoundStep machines route) (step_decides machines route) (length route))))
 
 abbrev counts_test : ℕ → ℕ → Bool
 counts_test machines jobs = ltb 0 jobs && (leb jobs MAX_JOBS && (ltb 0 machines && leb machines MAX_MACHINES))
@@ -78,18 +79,11 @@ module _ (p : PlannedShop) (m : ℕ) where
   places = length (order p m)
 
   abbrev on_route_test : ℕ → Bool
-  on_route_test a = some_below (λ k. visits_test p (job_at p m a) k m) (steps p (job_at p m a))
+  on_route_test a = some_below (λ k. stands_test p m a (job_at p m a) k) (steps p (job_at p m a))
 
-  on_route_decides : (a : ℕ) → Decides (on_route_test a) ((k : ℕ) × Visits p (job_at p m a) k m)
-  on_route_decides a = Decides-like (on_route_test a) (λ some. (some.0, some.2)) (λ some. (some.0, some.1.within, some.1))
-      (some_below_decides _ (λ k. Visits p (job_at p m a) k m) (λ k. visits_decides p (job_at p m a) k m) (steps p (job_at p m a)))
-
-  abbrev once_test : ℕ → Bool
-  once_test a = all_below (λ b. not (eqb (job_at p m a) (job_at p m b)) || eqb a b) places
-
-  once_decides : (a : ℕ) → Decides (once_test a) ((b : ℕ) → b < places → job_at p m a ≡ job_at p m b → a ≡ b)
-  once_decides a = all_below_decides _ (λ b. job_at p m a ≡ job_at p m b → a ≡ b)
-      (λ b. implies_decides (eqb (job_at p m a) (job_at p m b)) (eqb a b) (Decides-eqb (job_at p m a) (job_at p m b)) (Decides-eqb a b)) places
+  on_route_decides : (a : ℕ) → Decides (on_route_test a) ((k : ℕ) × Stands p m a (job_at p m a) k)
+  on_route_decides a = Decides-like (on_route_test a) (λ some. (some.0, some.2)) (λ some. (some.0, some.1.visits.within, some.1))
+      (some_below_decides _ (λ k. Stands p m a (job_at p m a) k) (λ k. stands_decides p m a (job_at p m a) k) (steps p (job_at p m a)))
 
   abbrev placed_test : ℕ → ℕ → Bool
   placed_test j k = not (visits_test p j k m) || some_below (λ a. stands_test p m a j k) places
@@ -100,27 +94,25 @@ module _ (p : PlannedShop) (m : ℕ) where
       (some_below_decides _ (λ a. Stands p m a j k) (λ a. stands_decides p m a j k) places))
 
   abbrev order_test : Bool
-  order_test = all_below on_route_test places && (all_below once_test places && all_below (λ j. all_below (placed_test j) (steps p j)) (jobs p))
+  order_test = all_below on_route_test places && all_below (λ j. all_below (placed_test j) (steps p j)) (jobs p)
 
   abbrev OrderParts : Type 0
-  OrderParts = ((a : ℕ) → a < places → (k : ℕ) × Visits p (job_at p m a) k m)
-      × (((a : ℕ) → a < places → (b : ℕ) → b < places → job_at p m a ≡ job_at p m b → a ≡ b)
-      × ((j : ℕ) → j < jobs p → (k : ℕ) → k < steps p j → Visits p j k m → (a : ℕ) × Stands p m a j k))
+  OrderParts = ((a : ℕ) → a < places → (k : ℕ) × Stands p m a (job_at p m a) k)
+      × ((j : ℕ) → j < jobs p → (k : ℕ) → k < steps p j → Visits p j k m → (a : ℕ) × Stands p m a j k)
 
   order_decides : Decides order_test (IsOrder p m)
   order_decides = Decides-like order_test is_order was_order
-      (Decides-and _ _ (all_below_decides on_route_test _ on_route_decides places) (Decides-and _ _ (all_below_decides once_test _ once_decides places)
-      (all_below_decides _ _ (λ j. all_below_decides (placed_test j) _ (placed_decides j) (steps p j)) (jobs p))))
+      (Decides-and _ _ (all_below_decides on_route_test _ on_route_decides places)
+      (all_below_decides _ _ (λ j. all_below_decides (placed_test j) _ (placed_decides j) (steps p j)) (jobs p)))
     where
       is_order : OrderParts → IsOrder p m
-      is_order (on_route, (once, complete)) = record {
+      is_order (on_route, complete) = record {
         on_route = on_route;
-        once = λ a b within other same. once a within b other same;
         complete = λ j k visits. complete j (visits_job p j k m visits) k visits.within visits;
       }
 
       was_order : IsOrder p m → OrderParts
-      was_order sound = (sound.on_route, ((λ a within b other same. sound.once a b within other same), (λ j within k inside visits. sound.complete j k visits)))
+      was_order sound = (sound.on_route, (λ j within k inside visits. sound.complete j k visits))
 
 abbrev pub shaped_test : PlannedShop → Bool
 shaped_test p = shop_test p.shop && (lengths_test p && (limits_test p && all_below (order_test p) (machines p)))
@@ -130,20 +122,20 @@ shaped_decides p = Decides-like (shaped_test p) (λ all. record { shop = all.0; 
     (Decides-and _ _ (shop_decides p.shop) (Decides-and _ _ (lengths_decides p) (Decides-and _ _ (limits_decides p) (all_below_decides (order_test p) (IsOrder p) (order_decides p) (machines p)))))
 
 abbrev serial_on_test : PlannedShop → ℕ → Bool
-serial_on_test p m = all_below (λ a. not (ltb (a + 1) (length (order p m))) || ltb (job_at p m a) (job_at p m (a + 1))) (length (order p m))
+serial_on_test p m = all_below (λ a. not (ltb (a + 1) (length (order p m))) || leb (job_at p m a) (job_at p m (a + 1))) (length (order p m))
 
 abbrev pub serial_test : PlannedShop → Bool
 serial_test p = all_below (serial_on_test p) (length p.plan.order)
 
 abbrev IsSerialOn : PlannedShop → ℕ → Type 0
-IsSerialOn p m = (a : ℕ) → a < length (order p m) → a + 1 < length (order p m) → job_at p m a < job_at p m (a + 1)
+IsSerialOn p m = (a : ℕ) → a < length (order p m) → a + 1 < length (order p m) → job_at p m a ≤ job_at p m (a + 1)
 
 pub serial_decides : (p : PlannedShop) → Decides (serial_test p) (IsSerial p)
 serial_decides p = Decides-like (serial_test p) serial was_serial (all_below_decides (serial_on_test p) (IsSerialOn p) on (length p.plan.order))
   where
     on : (m : ℕ) → Decides (serial_on_test p m) (IsSerialOn p m)
-    on m = all_below_decides _ (λ a. a + 1 < length (order p m) → job_at p m a < job_at p m (a + 1))
-        (λ a. implies_decides (ltb (a + 1) (length (order p m))) _ (Decides-ltb (a + 1) (length (order p m))) (Decides-ltb (job_at p m a) (job_at p m (a + 1)))) (length (order p m))
+    on m = all_below_decides _ (λ a. a + 1 < length (order p m) → job_at p m a ≤ job_at p m (a + 1))
+        (λ a. implies_decides (ltb (a + 1) (length (order p m))) _ (Decides-ltb (a + 1) (length (order p m))) (leb_decides (job_at p m a) (job_at p m (a + 1)))) (length (order p m))
 
     serial : ((m : ℕ) → m < length p.plan.order → IsSerialOn p m) → IsSerial p
     serial all m a within = all m (lt_of_not-le λ past. absurd (omega (arith, ap length (get_or_past p.plan.order m [] past)))) a (omega arith) within

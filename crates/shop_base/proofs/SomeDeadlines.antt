@@ -33,7 +33,7 @@ same_behind p h k m a v shaped mine is n b i l other e =
     let there : machine_of p h k ≡ m = mine.visits.here in
     let machines_same : n ≡ m = sym here ∙ ap₂ (machine_of p) jobs_same step_same ∙ there in
     let moved : Stands p m b h k = rw (machines_same, jobs_same, step_same) at other in
-    (machines_same, stands_once p m b a h k k shaped moved mine)
+    (machines_same, stands_once p m b a h k moved mine)
 
 next_of : (p : PlannedShop) (v : Node) (k : ℕ) → IsWellShaped p → v.place ≡ k → Next p v
 next_of p v zero shaped at = nothing (λ m a i k j l one other e. let same : k + 1 ≡ v.place = ap (λ (x : Node). x.place) e in absurd (omega arith))

@@ -1,12 +1,13 @@
 -- Facts of visits and of places in orders, in a well-shaped plan.
-use Rattle.std.proofs.Common.{◌≡◌, ℕ, zero, suc, ◌<◌, ◌≤◌, [], length, drop, drop-cons, drop_of_length-le, ap, arith, refl, subst, lt_of_not-le, ◌⊎◌, inl, inr, ⊎_elim}
-use Rattle.std.proofs.lemmas.Bool.{cases_eq, cases_lt, cases_order}
+use Rattle.std.proofs.Common.{◌≡◌, ℕ, zero, suc, ◌<◌, ◌≤◌, [], length, drop, drop-cons, drop_of_length-le, ap, arith, refl, subst, lt_of_not-le, ◌⊎◌, inl, inr, ⊎_elim, ◌+◌, sym, ◌∙◌, eq-eqb, nat_eq}
+use Rattle.std.proofs.lemmas.Bool.{cases_eq, cases_lt}
 use Rattle.std.proofs.lemmas.List.{get_or_past, length-drop}
 use Rattle.shop_base.specs.declared.move_order.Spot.TheVariants.{Out, At}
 use Rattle.shop_base.specs.Shop.{IsSoundStep, no_step}
-use Rattle.shop_base.specs.Plan.{PlannedShop, jobs, machines, route, steps, machine_of, Visits, Stands, IsOrder, IsWellShaped}
+use Rattle.shop_base.specs.Plan.{PlannedShop, jobs, machines, route, steps, machine_of, order, job_at, Visits, Stands, IsOrder, IsWellShaped}
 use Rattle.shop_base.specs.Cell.{Cell, made, IsOn}
 use Rattle.shop_base.specs.Move.{first_stop, CanLeave}
+use Rattle.shop_base.proofs.Counting.{count_apart, count_rises, count_less, count_same}
 
 -- only a job of the shop has steps
 pub steps_job : (p : PlannedShop) (j k : ℕ) → k < steps p j → j < jobs p
@@ -24,14 +25,9 @@ visits-sound p j k m shaped visits = (shaped.shop.routes j (visits_job p j k m v
 pub visits_machine : (p : PlannedShop) (j k m : ℕ) → IsWellShaped p → Visits p j k m → m < machines p
 visits_machine p j k m shaped visits = omega (arith, visits.here, (visits-sound p j k m shaped visits).in_range)
 
--- a job visits a machine once
-pub visits_once : (p : PlannedShop) (j k l m : ℕ) → IsWellShaped p → Visits p j k m → Visits p j l m → k ≡ l
-visits_once p j k l m shaped one other = go (cases_order k l)
-  where
-    go : (k ≡ l) ⊎ ((k < l) ⊎ (l < k)) → k ≡ l
-    go (inl same) = same
-    go (inr (inl less)) = absurd ((visits-sound p j l m shaped other).first_visit k less (cc))
-    go (inr (inr more)) = absurd ((visits-sound p j k m shaped one).first_visit l more (cc))
+-- a job doesn't visit a machine in two steps in a row
+pub visits_apart : (p : PlannedShop) (j k l m : ℕ) → IsWellShaped p → Visits p j k m → Visits p j l m → l ≡ k + 1 → ⊥
+visits_apart p j k l m shaped one other next = (visits-sound p j l m shaped other).elsewhere (k, omega (arith, next), one.here ∙ sym other.here)
 
 -- the order of a machine that is visited is sound
 pub visits-order : (p : PlannedShop) (j k m : ℕ) → IsWellShaped p → Visits p j k m → IsOrder p m
@@ -41,9 +37,32 @@ visits-order p j k m shaped visits = shaped.orders m (visits_machine p j k m sha
 pub visits-stands : (p : PlannedShop) (j k m : ℕ) → IsWellShaped p → Visits p j k m → (a : ℕ) × Stands p m a j k
 visits-stands p j k m shaped visits = (visits-order p j k m shaped visits).complete j k visits
 
--- a job stands once in an order
-pub stands_once : (p : PlannedShop) (m a b j k l : ℕ) → IsWellShaped p → Stands p m a j k → Stands p m b j l → a ≡ b
-stands_once p m a b j k l shaped one other = (visits-order p j k m shaped one.visits).once a b one.within other.within (cc)
+-- a visit stands once in an order
+pub stands_once : (p : PlannedShop) (m a b j k : ℕ) → Stands p m a j k → Stands p m b j k → a ≡ b
+stands_once p m a b j k one other =
+    count_apart (λ (x : ℕ). nat_eq (job_at p m x) j) a b (eq-eqb (job_at p m a) j one.job) (eq-eqb (job_at p m b) j other.job) (one.turn ∙ sym other.turn)
+
+-- a place is for one visit
+pub stands_step : (p : PlannedShop) (m a j k l : ℕ) → Stands p m a j k → Stands p m a j l → k ≡ l
+stands_step p m a j k l one other =
+    count_apart (λ (x : ℕ). nat_eq (machine_of p j x) m) k l (eq-eqb (machine_of p j k) m one.visits.here) (eq-eqb (machine_of p j l) m other.visits.here) (sym one.turn ∙ other.turn)
+
+-- a place is for the same visit in a plan that has the same jobs up to there, and the job the same steps up to its own
+pub stands_alike : (p q : PlannedShop) (m a j k : ℕ) → Stands p m a j k → a < length (order q m) → ((b : ℕ) → b ≤ a → job_at q m b ≡ job_at p m b)
+    → k < steps q j → ((i : ℕ) → i ≤ k → machine_of q j i ≡ machine_of p j i) → Stands q m a j k
+stands_alike p q m a j k stands within places below machines = record {
+  within = within;
+  job = places a (omega arith) ∙ stands.job;
+  visits = record { within = below; here = machines k (omega arith) ∙ stands.visits.here };
+  turn = count_same (λ (b : ℕ). nat_eq (job_at q m b) j) (λ (b : ℕ). nat_eq (job_at p m b) j) a (λ b less. ap (λ (x : ℕ). nat_eq x j) (places b (omega arith))) ∙ stands.turn
+      ∙ count_same (λ (i : ℕ). nat_eq (machine_of p j i) m) (λ (i : ℕ). nat_eq (machine_of q j i) m) k (λ i less. ap (λ (x : ℕ). nat_eq x m) (sym (machines i (omega arith))));
+}
+
+-- a job stands in the order for its visits as its route has them
+pub stands_in_turn : (p : PlannedShop) (m a b j k l : ℕ) → Stands p m a j k → Stands p m b j l → a < b → k < l
+stands_in_turn p m a b j k l one other less =
+    count_less (λ (x : ℕ). nat_eq (machine_of p j x) m) k l
+    (omega (arith, one.turn, other.turn, count_rises (λ (x : ℕ). nat_eq (job_at p m x) j) a b (eq-eqb (job_at p m a) j one.job) less))
 
 -- two jobs at one place of an order are one
 pub stands_same : (p : PlannedShop) (m a i j k l : ℕ) → Stands p m a i k → Stands p m a j l → i ≡ j

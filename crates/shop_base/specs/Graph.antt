@@ -72,6 +72,6 @@ pub record IsSchedule (p : PlannedShop) (rank kept : Node → ℕ) : Type 0 wher
   pub ranks : RanksRise p rank
   pub moments : MomentsFit p kept
 
--- the serial plan's order: each machine takes its jobs in ascending order
+-- the serial plan's order: each machine takes its jobs in ascending order, each for all its visits
 abbrev pub IsSerial : PlannedShop → Type 0
-IsSerial p = (m a : ℕ) → a + 1 < length (order p m) → job_at p m a < job_at p m (a + 1)
+IsSerial p = (m a : ℕ) → a + 1 < length (order p m) → job_at p m a ≤ job_at p m (a + 1)

@@ -1,7 +1,6 @@
 -- Reached by public clauses: to be read and believed.
 pub mod Shop
 pub mod Vectors
-pub mod Routes
 pub mod Work
 pub mod ShopFault
 pub mod Plan
@@ -37,4 +36,5 @@ pub mod Deadlines
 pub mod DeadlinesLaw
 pub mod Examples
 -- Of proofs and private contracts alone.
+pub mod Routes
 pub mod Marks

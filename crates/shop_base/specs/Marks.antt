@@ -1,8 +1,9 @@
--- What a check has met: the machines that a route visits, the jobs in an order, a number over its limit.
-use Rattle.std.specs.Prelude.{◌≡◌, ℕ, ◌<◌, List, [], Bool, false, length, slice_index_or, MatchBool, MatchOption, Option}
+-- What a check has met: the machines that a route visits and how often, how often the jobs stand in an order, a number over its limit.
+use Rattle.std.specs.Prelude.{◌≡◌, ℕ, ◌<◌, List, [], Bool, false, length, nat_eq, slice_index, slice_index_or, MatchBool, MatchOption, Option}
 use Rattle.shop_base.specs.declared.shop.Step.{Step}
 use Rattle.shop_base.specs.declared.limits.TheConstants.{MAX_MACHINES}
 use Rattle.shop_base.specs.Shop.{route_at, step_at}
+use Rattle.shop_base.specs.Plan.{count_below}
 use Rattle.shop_base.specs.TimeLimits.{AreAllWithin, IsFirstOver}
 
 -- one mark per job, set for exactly those of which the fact holds
@@ -13,17 +14,25 @@ AreMarks marks P = (j : ℕ) → j < length marks → MatchBool (slice_index_or 
 abbrev pub IsVisitedBefore : List Step → ℕ → ℕ → Type 0
 IsVisitedBefore route n m = (i : ℕ) × (i < n) × ((step_at route i).machine ≡ m)
 
--- the route of job j visits machine m
-abbrev pub IsOnRoute : List (List Step) → ℕ → ℕ → Type 0
-IsOnRoute routes j m = IsVisitedBefore (route_at routes j) (length (route_at routes j)) m
+-- the counts are those that a function gives
+abbrev pub AreTheCounts : List ℕ → (ℕ → ℕ) → Type 0
+AreTheCounts counts f = (i : ℕ) → i < length counts → slice_index counts i ≡ f i
 
--- the machines that the route visits are marked
-pub record AreVisited (row : List Bool) (route : List Step) : Type 0 where
-  pub marks : AreMarks row (IsVisitedBefore route (length route))
+-- how often the first n steps of the route are on machine m
+abbrev pub route_visits : List Step → ℕ → ℕ → ℕ
+route_visits route n m = count_below (λ i. nat_eq (step_at route i).machine m) n
+
+-- how often the route of job j visits machine m
+abbrev pub visits_in : List (List Step) → ℕ → ℕ → ℕ
+visits_in routes j m = route_visits (route_at routes j) (length (route_at routes j)) m
+
+-- how often the route visits each machine
+pub record AreVisited (row : List ℕ) (route : List Step) : Type 0 where
+  pub counts : AreTheCounts row (route_visits route (length route))
   pub size : length row ≡ MAX_MACHINES
 
--- for each job the machines that its route visits are marked
-abbrev pub AreVisits : List (List Bool) → List (List Step) → Type 0
+-- for each job how often its route visits each machine
+abbrev pub AreVisits : List (List ℕ) → List (List Step) → Type 0
 AreVisits visits routes =
     (j : ℕ) → j < length visits → AreVisited (slice_index_or visits j []) (route_at routes j)
 

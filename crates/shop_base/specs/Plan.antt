@@ -1,5 +1,5 @@
 -- A plan for a shop: releases, budgets, orders and cleaning times, and when it is well shaped.
-use Rattle.std.specs.Prelude.{◌≡◌, ℕ, ◌<◌, ◌≤◌, List, [], length, slice_index, slice_index_or, Option, None, Some}
+use Rattle.std.specs.Prelude.{◌≡◌, ℕ, zero, suc, ◌+◌, ◌<◌, ◌≤◌, List, [], length, slice_index, slice_index_or, Option, None, Some, Bool, nat_eq, cond}
 use Rattle.shop_base.specs.declared.shop.Step.{Step}
 use Rattle.shop_base.specs.declared.limits.TheConstants.{MAX_RELEASE, MAX_MOMENT, MAX_CLEAN}
 use Rattle.shop_base.specs.Shop.{JobShop, IsShop, route_at, step_at}
@@ -15,6 +15,11 @@ pub record ShopPlan : Type 0 where
 pub record PlannedShop : Type 0 where
   pub shop : JobShop
   pub plan : ShopPlan
+
+-- how many of the numbers below n pass a test
+abbrev pub count_below : (ℕ → Bool) → ℕ → ℕ
+count_below f zero = 0
+count_below f (suc n) = count_below f n + cond (f n) 1 0
 
 -- the cleaning time of machine m, 0 in a plan without cleaning
 abbrev pub clean_in : Option (List ℕ) → ℕ → ℕ
@@ -76,11 +81,20 @@ module _ (p : PlannedShop) where
     pub within : k < steps j
     pub here : machine_of j k ≡ m
 
-  -- and job j stands at place a of that machine's order
+  -- how often job j visits machine m before its step k
+  abbrev pub visits_before : ℕ → ℕ → ℕ → ℕ
+  visits_before j m k = count_below (λ i. nat_eq (machine_of j i) m) k
+
+  -- how often it stands before place a of that machine's order
+  abbrev pub places_before : ℕ → ℕ → ℕ → ℕ
+  places_before m j a = count_below (λ b. nat_eq (job_at m b) j) a
+
+  -- and job j stands at place a of that machine's order, for this visit: before it as often as the job visits the machine before
   pub record Stands (m a j k : ℕ) : Type 0 where
     pub within : a < length (order m)
     pub job : job_at m a ≡ j
     pub visits : Visits j k m
+    pub turn : places_before m j a ≡ visits_before j m k
 
   -- each list of the plan has its length
   pub record HasCounts : Type 0 where
@@ -95,10 +109,9 @@ module _ (p : PlannedShop) where
     pub budgets : (j : ℕ) → j < jobs → budget j ≤ MAX_MOMENT
     pub cleanings : (m : ℕ) → m < machines → clean m ≤ MAX_CLEAN
 
-  -- the order of machine m has each job that visits it exactly once, and no other
+  -- the order of machine m has each job as often as it visits the machine
   pub record IsOrder (m : ℕ) : Type 0 where
-    pub on_route : (a : ℕ) → a < length (order m) → (k : ℕ) × Visits (job_at m a) k m
-    pub once : (a b : ℕ) → a < length (order m) → b < length (order m) → job_at m a ≡ job_at m b → a ≡ b
+    pub on_route : (a : ℕ) → a < length (order m) → (k : ℕ) × Stands m a (job_at m a) k
     pub complete : (j k : ℕ) → Visits j k m → (a : ℕ) × Stands m a j k
 
   -- the plan is well shaped for its shop

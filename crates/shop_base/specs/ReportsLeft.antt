@@ -1,5 +1,5 @@
 -- The reports still to come in a run, counted from its cell.
-use Rattle.std.specs.Prelude.{ℕ, zero, suc, ◌+◌, ◌-◌, Bool, false, not, ◌&&◌, length, count_by, is_some, nat_eq, nat_lt, if◌then◌else◌}
+use Rattle.std.specs.Prelude.{ℕ, zero, suc, ◌+◌, ◌-◌, Bool, false, not, ◌&&◌, length, slice_index, cond, is_some, nat_eq, nat_lt, if◌then◌else◌}
 use Rattle.shop_base.specs.Plan.{PlannedShop, jobs, machines, steps, machine_of, order, clean}
 use Rattle.shop_base.specs.Cell.{Cell, made, ready, entries, cleaning}
 use Rattle.shop_base.specs.Ends.{sum_below}
@@ -21,9 +21,13 @@ is_on_after p m j (suc k) = nat_lt k (steps p j) && nat_eq (machine_of p j k) m
 abbrev pub is_off : PlannedShop → Cell → ℕ → ℕ → Bool
 is_off p c m j = not (is_on_after p m j (made c j))
 
--- the departures from machine m so far: its entrants that aren't on it any more
+-- the job that entered machine m last
+abbrev pub last_entrant : Cell → ℕ → ℕ
+last_entrant c m = slice_index (entries c m) (length (entries c m) - 1)
+
+-- the departures from machine m so far: its entries, without that of a job that is still on it
 abbrev pub departures : PlannedShop → Cell → ℕ → ℕ
-departures p c m = count_by (is_off p c m) (entries c m)
+departures p c m = length (entries c m) - cond (is_off p c m (last_entrant c m)) 0 1
 
 -- the cleanings of machine m that haven't ended: one for each departure still to come, and one for that which is going on
 abbrev pub cleanings_left : PlannedShop → Cell → ℕ → ℕ

@@ -3,24 +3,23 @@ use Rattle.std.specs.Prelude.{◌≡◌, ◌≢◌, ℕ, ◌<◌, ◌≤◌, len
 use Rattle.shop_base.specs.declared.limits.TheConstants.{MAX_RELEASE, MAX_MOMENT, MAX_CLEAN}
 use Rattle.shop_base.specs.declared.shape_fault.ShapeFault.{ShapeFault}
 use Rattle.shop_base.specs.declared.shape_fault.ShapeFault.TheVariants.{ReleaseCount, BudgetCount, OrderCount, CleanCount, ReleaseTooLarge, BudgetTooLarge, CleanTooLarge, JobOutOfRange, NotOnRoute, JobTwice, JobMissing}
-use Rattle.shop_base.specs.Plan.{PlannedShop, jobs, machines, release, budget, clean, order, job_at, Visits, HasCleanCount, HasCounts, IsWithinLimits, IsOrder}
+use Rattle.shop_base.specs.Plan.{PlannedShop, jobs, machines, steps, release, budget, clean, order, job_at, visits_before, places_before, Visits, HasCleanCount, HasCounts, IsWithinLimits, IsOrder}
 
 -- the route of job j visits machine m
 abbrev pub IsVisitor : PlannedShop → ℕ → ℕ → Type 0
 IsVisitor p m j = (k : ℕ) × Visits p j k m
 
--- job j stands in the order of machine m
-abbrev pub IsListed : PlannedShop → ℕ → ℕ → Type 0
-IsListed p m j = (a : ℕ) × (a < length (order p m)) × (job_at p m a ≡ j)
+-- how often job j visits machine m
+abbrev pub visit_count : PlannedShop → ℕ → ℕ → ℕ
+visit_count p m j = visits_before p j m (steps p j)
 
--- the job at place a stands at no earlier place of the order of machine m
-abbrev pub IsFirstPlace : PlannedShop → ℕ → ℕ → Type 0
-IsFirstPlace p m a = (b : ℕ) → b < a → job_at p m b ≢ job_at p m a
+-- how often it stands in the machine's order
+abbrev pub place_count : PlannedShop → ℕ → ℕ → ℕ
+place_count p m j = places_before p m j (length (order p m))
 
--- the job at place a of the order of machine m visits it, and stands at no earlier place
-pub record IsGoodPlace (p : PlannedShop) (m a : ℕ) : Type 0 where
-  pub visitor : IsVisitor p m (job_at p m a)
-  pub first : IsFirstPlace p m a
+-- the job at place a of the order of machine m visits it more often than it stands before
+abbrev pub IsGoodPlace : PlannedShop → ℕ → ℕ → Type 0
+IsGoodPlace p m a = places_before p m (job_at p m a) a < visit_count p m (job_at p m a)
 
 -- so does the job at each place of that order
 abbrev pub AreGoodPlaces : PlannedShop → ℕ → Type 0
@@ -43,7 +42,7 @@ pub record IsPlaceReached (p : PlannedShop) (m a : ℕ) : Type 0 where
 pub record IsJobReached (p : PlannedShop) (m j : ℕ) : Type 0 where
   pub reached : IsMachineReached p m
   pub places : AreGoodPlaces p m
-  pub before : (i : ℕ) → i < j → IsVisitor p m i → IsListed p m i
+  pub before : (i : ℕ) → i < j → visit_count p m i ≤ place_count p m i
 
 -- each of the first n numbers is within the limit
 abbrev pub AreWithin : (ℕ → ℕ) → ℕ → ℕ → Type 0
@@ -83,9 +82,9 @@ IsFirstShapeFault p (NotOnRoute machine place) =
 IsFirstShapeFault p (JobTwice machine place) =
     IsPlaceReached p machine place
     × IsVisitor p machine (job_at p machine place)
-    × (earlier : ℕ) × (earlier < place) × (job_at p machine earlier ≡ job_at p machine place)
+    × (visit_count p machine (job_at p machine place) ≤ places_before p machine (job_at p machine place) place)
 IsFirstShapeFault p (JobMissing machine job) =
-    IsJobReached p machine job × IsVisitor p machine job × (IsListed p machine job → ⊥)
+    IsJobReached p machine job × (place_count p machine job < visit_count p machine job)
 
 -- nothing but this is what is wrong first
 abbrev pub IsOnlyShapeFault : PlannedShop → ShapeFault → Type 0

@@ -1,5 +1,5 @@
 -- A job shop: its machines, and each job's route over some of them.
-use Rattle.std.specs.Prelude.{◌≢◌, ℕ, ◌<◌, ◌≤◌, List, [], length, sum_by, slice_index_or}
+use Rattle.std.specs.Prelude.{◌≡◌, ◌≢◌, ℕ, suc, ◌<◌, ◌≤◌, List, [], length, sum_by, slice_index_or}
 use Rattle.shop_base.specs.declared.shop.Step.{Step}
 use Rattle.shop_base.specs.declared.limits.TheConstants.{MAX_JOBS, MAX_MACHINES, MAX_NOMINAL}
 
@@ -24,19 +24,25 @@ route_at routes job = slice_index_or routes job []
 abbrev pub operations_of : JobShop → ℕ
 operations_of shop = sum_by length shop.routes
 
+-- the step before step k is on the same machine
+abbrev pub IsSameAgain : List Step → ℕ → Type 0
+IsSameAgain route k = (i : ℕ) × (suc i ≡ k) × ((step_at route i).machine ≡ (step_at route k).machine)
+
 -- no earlier step is on the machine of step k
 abbrev pub IsFirstVisit : List Step → ℕ → Type 0
 IsFirstVisit route k = (i : ℕ) → i < k → (step_at route i).machine ≢ (step_at route k).machine
 
--- step k is on a machine of the shop, for the first time (no recirculation), and its nominal time is within the limit
+-- step k is on a machine of the shop, on another one than the step before it and, as yet, than any step before it (no recirculation), and its nominal time is within the limit
 pub record IsSoundStep (machines : ℕ) (route : List Step) (k : ℕ) : Type 0 where
   pub in_range : (step_at route k).machine < machines
+  pub elsewhere : IsSameAgain route k → ⊥
   pub first_visit : IsFirstVisit route k
   pub nominal : (step_at route k).nominal ≤ MAX_NOMINAL
 
--- a route has a step, and all its steps are sound
+-- a route has a step, no more than it may have, and all its steps are sound
 pub record IsRoute (machines : ℕ) (route : List Step) : Type 0 where
   pub visits_some : 0 < length route
+  pub few_steps : length route ≤ MAX_MACHINES
   pub steps : (k : ℕ) → k < length route → IsSoundStep machines route k
 
 -- there are jobs and machines, and no more than the limits

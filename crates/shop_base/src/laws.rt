@@ -132,9 +132,10 @@ pub fn the_serial_plan_has_no_cycle()
     ensures { TheSerialPlanHasNoCycle }
 {}
 
-/// In any run, by any controller, an arrival or the end of an operation that was reported isn't possible again. The
-/// end of a machine's cleaning is, but only once the end of an operation on that machine was reported since, and its
-/// job has left. Even then it isn't possible at a moment before any report since.
+/// In any run, by any controller, an arrival that was reported isn't possible again, nor is the end of an operation,
+/// unless the job's route visits that machine again and the job has left it since. The end of a machine's cleaning is
+/// possible again, but only once the end of an operation on that machine was reported since, and its job has left.
+/// Even then none is possible at a moment before any report since.
 pub fn no_end_is_accepted_twice()
     ensures { NoEndIsAcceptedTwice }
 {}

@@ -32,10 +32,10 @@ pub enum ShapeFault {
     /// The route of the job at this place doesn't visit the machine.
     #[error("NotOnRoute machine {machine} place {place}")]
     NotOnRoute { machine: MachineNo, place: usize },
-    /// The job at this place is also earlier in the machine's order.
+    /// The job at this place stands earlier in the machine's order as often as its route visits the machine.
     #[error("JobTwice machine {machine} place {place}")]
     JobTwice { machine: MachineNo, place: usize },
-    /// The route of the job visits the machine, whose order lacks the job.
+    /// The machine's order lists the job less often than its route visits the machine.
     #[error("JobMissing machine {machine} job {job}")]
     JobMissing { machine: MachineNo, job: JobNo },
 }

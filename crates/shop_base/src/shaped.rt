@@ -10,8 +10,8 @@ use crate::shape_fault::ShapeFault;
 use crate::shop::{MachineNo, Shop};
 use std::marker::Model;
 
-/// A shop with a plan that is well shaped for it: each machine's order lists each job with that machine
-/// on its route exactly once. Made by [`shape`] alone.
+/// A shop with a plan that is well shaped for it: each machine's order lists each job as often as
+/// its route visits the machine. Made by [`shape`] alone.
 #[derive(Debug, Drop)]
 pub struct Shaped {
     shop: Shop,
@@ -89,7 +89,7 @@ impl Shaped {
 
     fn cleaning_count(&self) -> u64
         ensures count { result ≡ sum_below (cleanings_of self.now) (machines self.now) }
-        ensures few { result ≤ MAX_MACHINES * MAX_JOBS }
+        ensures few { result ≤ MAX_MACHINES * (MAX_JOBS * MAX_MACHINES) }
     {
         let mut count = 0;
         for machine in 0..self.machine_count() {

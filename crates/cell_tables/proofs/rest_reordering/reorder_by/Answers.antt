@@ -1,4 +1,3 @@
-use Rattle.std.proofs.Common.{◌≡◌}
 use Rattle.shop_base.specs.Vectors.{lists_of}
 use Rattle.cell_tables.proofs.{Reorders.rest_on, SameFronts.{new_is, put_by}}
 use Rattle.cell_tables.proofs.rest_reordering.reorder_by.Goals as goal

@@ -1,6 +1,6 @@
 use Rattle.shop_base.specs.Shop.{route_at}
 use Rattle.shop_base.specs.Vectors.{lists_of}
-use Rattle.shop_base.proofs.Marking.{AreStepsChecked}
+use Rattle.shop_base.proofs.RouteMarks.{AreStepsChecked}
 use Rattle.shop_base.proofs.shop.check_route.Given as goal
 
 -- the steps looked at are sound, and their machines are marked

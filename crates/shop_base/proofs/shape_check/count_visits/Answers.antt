@@ -1,20 +1,12 @@
-use Rattle.std.proofs.Common.{◌≡◌, ◌<◌, ◌≤◌, [], length, arith, subst}
+use Rattle.std.proofs.Common.{◌≡◌, ◌<◌, ◌≤◌, [], length, arith}
 use Rattle.std.proofs.lemmas.Option.{get_or_from_slice_get}
-use Rattle.shop_base.specs.Shop.{IsRoute, route_at}
+use Rattle.shop_base.specs.Shop.{route_at}
 use Rattle.shop_base.proofs.Marking.{visits_none, visits_more, visits_all}
-use Rattle.shop_base.proofs.shape_check.mark_visits.Goals as goal
-use Rattle.shop_base.proofs.shape_check.mark_visits.Goals.{in-Some, in_default}
+use Rattle.shop_base.proofs.shape_check.count_visits.Goals as goal
+use Rattle.shop_base.proofs.shape_check.count_visits.Goals.{in-Some, in_default}
 
 pub loop-job-init : goal.loop-job-init
 loop-job-init c = visits_none _
-
-pub visited_by-requires : goal.visited_by-requires
-visited_by-requires c =
-    let shop = c.jobs-job-end.ensures.sound in
-    let is : route_at c.args.shop.now.routes c.loop-job.job ≡ c.in-Some.route.now = get_or_from_slice_get c.args.shop.now.routes c.loop-job.job c.in-Some.route.now [] c.in-Some.ensures in
-    let route : IsRoute c.args.shop.now.machines (route_at c.args.shop.now.routes c.loop-job.job) = shop.routes c.loop-job.job (omega (arith, c.jobs-job-end.ensures.count)) in
-    let steps = (subst (IsRoute c.args.shop.now.machines) is route).steps in
-    λ k lt. omega (arith, (steps k lt).in_range, shop.counts.few_machines)
 
 pub loop-job-preserved : goal.loop-job-preserved
 loop-job-preserved c = elim c.match-route.branch [
