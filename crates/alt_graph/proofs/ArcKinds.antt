@@ -1,12 +1,12 @@
--- The two kinds of arcs, and that each node has at most one arc in and one arc out of each kind.
-use Rattle.std.proofs.Common.{◌≡◌, ◌≢◌, ℕ, ◌+◌, ◌<◌, ◌≤◌, arith, refl, sym, ap, ◌∙◌, subst, ◌⊎◌, inl, inr, ⊎_elim, Option, None, Some, MatchOption}
+-- The two kinds of arcs, that each node has at most one arc in and one arc out of each kind, and the longest of the arcs between two nodes.
+use Rattle.std.proofs.Common.{◌≡◌, ℕ, ◌+◌, ◌<◌, ◌≤◌, arith, refl, sym, ap, ◌∙◌, subst, ◌⊎◌, inl, inr, ⊎_elim, Option, None, Some, IfSome, MatchOption}
 use Rattle.shop_base.specs.declared.node.Node.{Node}
 use Rattle.shop_base.specs.declared.limits.TheConstants.{MAX_NOMINAL}
 use Rattle.shop_base.specs.Plan.{PlannedShop, steps, nominal, clean, Stands, IsWellShaped}
 use Rattle.shop_base.specs.Graph.{node, IsNode, Arc, job_arc, blocking_arc, HasArc}
-use Rattle.shop_base.proofs.Visits.{steps_job, visits_job, visits_machine, visits-order, stands_once}
+use Rattle.shop_base.proofs.Visits.{steps_job, visits_job, visits_machine, stands_once}
 use Rattle.shop_base.proofs.Places.{same_stand}
-use Rattle.alt_graph.specs.Sources.{IsJobArc, IsBlockingArc}
+use Rattle.alt_graph.specs.Sources.{IsJobArc, IsBlockingArc, IsLongestArc}
 use Rattle.alt_graph.proofs.NodeNumbers.{node_same}
 
 -- each arc is of one of the two kinds
@@ -58,7 +58,7 @@ module _ (p : PlannedShop) (shaped : IsWellShaped p) where
   blocking_source_once u w v d e one other =
       let machines_same : one.machine ≡ other.machine = sym one.enters.visits.here ∙ other.enters.visits.here in
       let enters : Stands p one.machine (other.ahead + 1) v.job v.place = subst (λ (m : ℕ). Stands p m (other.ahead + 1) v.job v.place) (sym machines_same) other.enters in
-      let after : one.ahead + 1 ≡ other.ahead + 1 = stands_once p one.machine (one.ahead + 1) (other.ahead + 1) v.job v.place v.place shaped one.enters enters in
+      let after : one.ahead + 1 ≡ other.ahead + 1 = stands_once p one.machine (one.ahead + 1) (other.ahead + 1) v.job v.place one.enters enters in
       let ahead : one.ahead ≡ other.ahead = omega arith in
       let left : Stands p one.machine other.ahead w.job other.step = subst (λ (m : ℕ). Stands p m other.ahead w.job other.step) (sym machines_same) other.left in
       let both = same_stand p one.machine one.ahead other.ahead u.job one.step w.job other.step shaped ahead one.left left in
@@ -75,31 +75,33 @@ module _ (p : PlannedShop) (shaped : IsWellShaped p) where
       let left : Stands p other.machine other.ahead u.job one.step = subst (λ (k : ℕ). Stands p other.machine other.ahead u.job k) (sym steps_same) other.left in
       let machines_same : one.machine ≡ other.machine = sym one.left.visits.here ∙ left.visits.here in
       let here : Stands p one.machine other.ahead u.job one.step = subst (λ (m : ℕ). Stands p m other.ahead u.job one.step) (sym machines_same) left in
-      let ahead : one.ahead ≡ other.ahead = stands_once p one.machine one.ahead other.ahead u.job one.step one.step shaped one.left here in
+      let ahead : one.ahead ≡ other.ahead = stands_once p one.machine one.ahead other.ahead u.job one.step one.left here in
       let after : one.ahead + 1 ≡ other.ahead + 1 = omega arith in
       let enters : Stands p one.machine (other.ahead + 1) w.job w.place = subst (λ (m : ℕ). Stands p m (other.ahead + 1) w.job w.place) (sym machines_same) other.enters in
       let both = same_stand p one.machine (one.ahead + 1) (other.ahead + 1) v.job v.place w.job w.place shaped after one.enters enters in
       node_same v w both.0 both.1
 
-  -- a job doesn't stand behind itself
-  blocking_apart : (u v : Node) (d : ℕ) → IsBlockingArc p u v d → u.job ≢ v.job
-  blocking_apart u v d arc same =
-      let twice : arc.ahead ≡ arc.ahead + 1 =
-      (visits-order p v.job v.place arc.machine shaped arc.enters.visits).once arc.ahead (arc.ahead + 1) arc.left.within arc.enters.within (arc.left.job ∙ same ∙ sym arc.enters.job) in
-      omega arith
+  module _ (u v : Node) where
+    -- without a job arc, the longest arc is the blocking one
+    pub longest_blocking : (found : Option ℕ) → ((d : ℕ) → IsJobArc p u v d → ⊥)
+        → MatchOption found ((d : ℕ) → IsBlockingArc p u v d → ⊥) (IsBlockingArc p u v) → MatchOption found (HasArc p u v → ⊥) (IsLongestArc p u v)
+    longest_blocking None none free = λ (d, arc). ⊎_elim (none d) (free d) (arc_kind p u v d arc)
+    longest_blocking (Some d) none blocked = record {
+      arc = blocking_arc_is p u v d blocked;
+      longest = λ e other. ⊎_elim (λ along. absurd (none e along)) (λ again. omega (arith, (blocking_source_once u u v d e blocked again).1)) (arc_kind p u v e other);
+    }
 
-  -- two arcs from a node to another have one length
-  pub arc_once : (u v : Node) (d e : ℕ) → Arc p u v d → Arc p u v e → d ≡ e
-  arc_once u v d e one other = go (arc_kind p u v d one) (arc_kind p u v e other)
-    where
-      go : IsJobArc p u v d ⊎ IsBlockingArc p u v d → IsJobArc p u v e ⊎ IsBlockingArc p u v e → d ≡ e
-      go (inl along) (inl again) = (job_source_once u u v d e along again).1
-      go (inl along) (inr blocked) = absurd (blocking_apart u v e blocked along.job)
-      go (inr blocked) (inl along) = absurd (blocking_apart u v d blocked along.job)
-      go (inr blocked) (inr again) = (blocking_source_once u u v d e blocked again).1
+    -- with one, it is the longer of the two
+    pub longest_of_both : (d n : ℕ) (found : Option ℕ) → IsJobArc p u v d → MatchOption found ((e : ℕ) → IsBlockingArc p u v e → ⊥) (IsBlockingArc p u v)
+        → d ≤ n → IfSome found (λ e. e ≤ n) → (n ≡ d) ⊎ (found ≡ Some n) → IsLongestArc p u v n
+    longest_of_both d n found along blocking first second is = record { arc = one is; longest = λ e other. fits e found blocking second (arc_kind p u v e other) }
+      where
+        one : (n ≡ d) ⊎ (found ≡ Some n) → Arc p u v n
+        one (inl same) = job_arc_is p u v n (subst (IsJobArc p u v) (sym same) along)
+        one (inr same) = blocking_arc_is p u v n (rw same at blocking)
 
--- without a job arc, an arc is a blocking one
-pub arc_blocks : (p : PlannedShop) (u v : Node) (found : Option ℕ) → ((d : ℕ) → IsJobArc p u v d → ⊥)
-    → MatchOption found ((d : ℕ) → IsBlockingArc p u v d → ⊥) (IsBlockingArc p u v) → MatchOption found (HasArc p u v → ⊥) (Arc p u v)
-arc_blocks p u v None none free = λ (d, arc). ⊎_elim (none d) (free d) (arc_kind p u v d arc)
-arc_blocks p u v (Some d) none blocked = blocking_arc_is p u v d blocked
+        fits : (e : ℕ) (found : Option ℕ) → MatchOption found ((e : ℕ) → IsBlockingArc p u v e → ⊥) (IsBlockingArc p u v) → IfSome found (λ e. e ≤ n)
+            → IsJobArc p u v e ⊎ IsBlockingArc p u v e → e ≤ n
+        fits e found blocking second (inl other) = omega (arith, first, (job_source_once u u v d e along other).1)
+        fits e None free second (inr other) = absurd (free e other)
+        fits e (Some m) blocked second (inr other) = omega (arith, second, (blocking_source_once u u v m e blocked other).1)

@@ -19,7 +19,7 @@ use Rattle.alt_graph.specs.Layout.{number_of}
 use Rattle.alt_graph.specs.Latest.{IsLatest, AreLatest, AreInside}
 use Rattle.alt_graph.specs.ByRank.{IsAtItsRank, AreAtTheirRanks}
 use Rattle.alt_graph.specs.LatestRows.{moment_in, HasRows, AreLatestFrom}
-use Rattle.alt_graph.proofs.ArcKinds.{arc_kind, arc_once, job_arc_is, blocking_arc_is, target_node, job_target_once, blocking_target_once}
+use Rattle.alt_graph.proofs.ArcKinds.{arc_kind, job_arc_is, blocking_arc_is, target_node, job_target_once, blocking_source_once, blocking_target_once}
 use Rattle.alt_graph.proofs.NodeNumbers.{node_same, number_inside, number_same, next_first, cases_node}
 
 -- ---- by the arcs out of a node
@@ -80,7 +80,7 @@ module _ (p : PlannedShop) (kept : Node → ℕ) (v : Node) where
       blocked : (x : Node) (e : ℕ) → IsBlockingArc p v x e → n ≤ k → n ≤ kept x - e
       blocked x e other le =
           let there : x ≡ w = blocking_target_once p shaped v x w e d other arc in
-          let long : e ≡ d = arc_once p shaped v w e d (blocking_arc_is p v w e (subst (λ (y : Node). IsBlockingArc p v y e) there other)) (blocking_arc_is p v w d arc) in
+          let long : e ≡ d = (blocking_source_once p shaped v v w e d (subst (λ (y : Node). IsBlockingArc p v y e) there other) arc).1 in
           omega (arith, le, same, ap kept there, long)
 
       fits : (x : Node) (e : ℕ) → ((n ≡ m) × (m ≤ k)) ⊎ ((n ≡ k) × (k ≤ m)) → IsJobArc p v x e ⊎ IsBlockingArc p v x e → n ≤ kept x - e

@@ -1,5 +1,5 @@
 -- Paths of a whole plan: where they begin and end, and that no exact run is faster than one.
-use Rattle.std.proofs.Common.{◌≡◌, ℕ, ◌+◌, ◌<◌, List, [], ◌∷◌, ◌++◌, length, length-append, refl, sym, ap, subst, ◌∙◌, arith}
+use Rattle.std.proofs.Common.{◌≡◌, ℕ, ◌+◌, ◌-◌, ◌<◌, List, [], ◌∷◌, ◌++◌, length, length-append, refl, sym, ap, subst, ◌∙◌, arith}
 use Rattle.std.proofs.Math.Seq.{get_or-append_seam}
 use Rattle.std.proofs.lemmas.List.{get_or_append_left}
 use Rattle.shop_base.specs.declared.node.Node.{Node}
@@ -28,6 +28,12 @@ path_ends p _ _ _ i (begins j inside) end = let is : i ≡ 0 = omega arith in ap
 path_ends p _ _ _ i (follows nodes u v n d path arc) end =
     let is : i ≡ length nodes = omega (arith, length-append nodes (v ∷ [])) in
     ap (node_at (nodes ++ v ∷ [])) is ∙ get_or-append_seam nodes v [] (node 0 0)
+
+-- so that all paths along one list end alike
+pub end_same : (p : PlannedShop) (nodes : List Node) (v w : Node) (n m : ℕ) → Path p nodes v n → Path p nodes w m → w ≡ v
+end_same p nodes v w n m one other =
+    let last : length nodes - 1 + 1 ≡ length nodes = omega (arith, path_some p nodes v n one) in
+    sym (path_ends p nodes w m (length nodes - 1) other last) ∙ path_ends p nodes v n (length nodes - 1) one last
 
 -- a first place of a job of the shop is a path
 pub first_path : (p : PlannedShop) (v : Node) → v.place ≡ 0 → v.job < jobs p → Path p (v ∷ []) v (release p v.job)

@@ -1,15 +1,15 @@
--- Paths from bounds: where they begin and end, their arcs, that a list of nodes has one length at most, and what is recorded of it.
+-- Paths from bounds: where they begin and end, their arcs, the longest along a list of nodes, and what is recorded of it.
 use Rattle.std.proofs.Common.{◌≡◌, ℕ, ◌+◌, ◌-◌, ◌<◌, ◌≤◌, ◌↔◌, List, [], ◌∷◌, ◌++◌, Option, None, Some, MatchOption, length, take, length-append, inl, inr, refl, sym, ap, subst, ◌∙◌, arith}
 use Rattle.std.proofs.Math.Seq.{get_or-append_seam, take-append_seam}
 use Rattle.std.proofs.lemmas.Bool.{cases_lt}
-use Rattle.std.proofs.lemmas.List.{get_or_append_left, take_more}
+use Rattle.std.proofs.lemmas.List.{get_or_append_left, take_more, length-take-le}
 use Rattle.shop_base.specs.declared.node.Node.{Node}
-use Rattle.shop_base.specs.Plan.{PlannedShop, IsWellShaped}
+use Rattle.shop_base.specs.Plan.{PlannedShop}
 use Rattle.shop_base.specs.Graph.{node, IsNode, Arc}
 use Rattle.alt_graph.specs.Evidence.{node_count}
 use Rattle.alt_graph.specs.Bounds.{NodeBounds, bound_of, IsAheadOf, PathFrom, begins_at, goes_along, IsChainFrom, HasBound, LeadsAhead}
+use Rattle.alt_graph.specs.Sources.{IsLongestArc}
 use Rattle.alt_graph.specs.Places.{node_at}
-use Rattle.alt_graph.proofs.ArcKinds.{arc_once}
 
 -- two lists that end alike are alike before
 snoc_same : (xs ys : List Node) (a b : Node) → xs ++ a ∷ [] ≡ ys ++ b ∷ [] → (xs ≡ ys) × (a ≡ b)
@@ -49,34 +49,51 @@ module _ (p : PlannedShop) (b : NodeBounds) where
         rw (from, to) (ahead, (d, arc)))
   ]
 
-  -- a list of nodes is a path of one length at most
-  pub path_once : (xs ys : List Node) (v w : Node) (n m : ℕ) → IsWellShaped p → PathFrom p b xs v n → PathFrom p b ys w m → xs ≡ ys → (v ≡ w) × (n ≡ m)
-  path_once _ _ _ _ _ _ shaped (begins_at v n inside recorded) (begins_at w m in_shop also) same =
-      let is : v ≡ w = ap (λ nodes. node_at nodes 0) same in
-      let both : Some n ≡ Some m = sym recorded ∙ ap (bound_of b) is ∙ also in
-      (is, cc)
-  path_once _ _ _ _ _ _ shaped (begins_at w m inside recorded) (goes_along nodes u v n d path ahead arc) same =
-      absurd (omega (arith, ap length same, length-append nodes (v ∷ []), path_some nodes u n path))
-  path_once _ _ _ _ _ _ shaped (goes_along nodes u v n d path ahead arc) (begins_at w m inside recorded) same =
-      absurd (omega (arith, ap length same, length-append nodes (v ∷ []), path_some nodes u n path))
-  path_once _ _ _ _ _ _ shaped (goes_along nodes u v n d path ahead arc) (goes_along others x w m e other further also) same =
-      let (front, end) = snoc_same nodes others v w same in
-      let (before, so_far) = path_once nodes others u x n m shaped path other front in
-      let again : Arc p u v e = rw (before, end) also in
-      let added : d ≡ e = arc_once p shaped u v d e arc again in
-      (end, omega arith)
+  -- a path along a list goes on from one along all but its last node
+  path_back : (nodes xs : List Node) (v w : Node) (n : ℕ) → PathFrom p b nodes w n → 0 < length xs → nodes ≡ xs ++ v ∷ []
+      → (u : Node) × (m d : ℕ) × PathFrom p b xs u m × Arc p u v d × (n ≡ m + d)
+  path_back _ xs v _ _ (begins_at w n is recorded) some same = absurd (omega (arith, ap length same, length-append xs (v ∷ []), some))
+  path_back _ xs v _ _ (goes_along nodes u w n d path ahead arc) some same =
+      let (front, end) = snoc_same nodes xs w v same in
+      (u, n, d, rw front at path, rw end at arc, refl)
 
-  pub start_path : (nodes : List Node) (v : Node) (n : ℕ) → 0 < length nodes → v ≡ node_at nodes 0 → HasBound p b v n → PathFrom p b (take 1 nodes) (node_at nodes 0) n
+  -- a path to v, and none along these nodes is longer
+  pub record IsLongestAlong (nodes : List Node) (v : Node) (n : ℕ) : Type 0 where
+    pub path : PathFrom p b nodes v n
+    pub greatest : (w : Node) (m : ℕ) → PathFrom p b nodes w m → m ≤ n
+
+  -- the first node alone
+  first_longest : (nodes : List Node) (v w : Node) (n m : ℕ) → HasBound p b v n → PathFrom p b nodes w m → nodes ≡ v ∷ [] → m ≤ n
+  first_longest _ v _ n _ bound (begins_at w m is recorded) same =
+      let there : w ≡ v = ap (λ nodes. node_at nodes 0) same in
+      let both : Some m ≡ Some n = sym recorded ∙ ap (bound_of b) there ∙ bound.1 in
+      let long : m ≡ n = cc in
+      omega (arith, long)
+  first_longest _ v _ n _ bound (goes_along nodes u w m d path ahead arc) same =
+      absurd (omega (arith, ap length same, length-append nodes (w ∷ []), path_some nodes u m path))
+
+  pub start_path : (nodes : List Node) (v : Node) (n : ℕ) → 0 < length nodes → v ≡ node_at nodes 0 → HasBound p b v n → IsLongestAlong (take 1 nodes) (node_at nodes 0) n
   start_path [] v n some is bound = absurd (omega arith)
-  start_path (u ∷ us) v n some is bound = subst (λ (w : Node). PathFrom p b (w ∷ []) w n) is (begins_at v n bound.0 bound.1)
+  start_path (u ∷ us) v n some is bound =
+      let here : HasBound p b u n = rw is at bound in
+      record { path = begins_at u n here.0 here.1; greatest = λ w m other. first_longest (u ∷ []) u w n m here other refl }
 
   -- one more arc
   pub path_more : (nodes : List Node) (i n d : ℕ) → 0 < i → i < length nodes
-      → PathFrom p b (take i nodes) (node_at nodes (i - 1)) n → IsAheadOf b (node_at nodes (i - 1)) → Arc p (node_at nodes (i - 1)) (node_at nodes i) d
-      → PathFrom p b (take (i + 1) nodes) (node_at nodes (i + 1 - 1)) (n + d)
-  path_more nodes i n d some inside path ahead arc =
+      → IsLongestAlong (take i nodes) (node_at nodes (i - 1)) n → IsAheadOf b (node_at nodes (i - 1)) → IsLongestArc p (node_at nodes (i - 1)) (node_at nodes i) d
+      → IsLongestAlong (take (i + 1) nodes) (node_at nodes (i + 1 - 1)) (n + d)
+  path_more nodes i n d some inside so_far ahead arc =
       let is : i + 1 - 1 ≡ i = omega arith in
-      rw (is, take_more nodes i (node 0 0) inside) (goes_along (take i nodes) (node_at nodes (i - 1)) (node_at nodes i) n d path ahead arc)
+      let all : take (i + 1) nodes ≡ take i nodes ++ node_at nodes i ∷ [] = take_more nodes i (node 0 0) inside in
+      let front = length-take-le i nodes (omega arith) in
+      rw is (record {
+        path = rw all (goes_along (take i nodes) (node_at nodes (i - 1)) (node_at nodes i) n d so_far.path ahead arc.arc);
+        greatest = λ w m other. (
+            let (u, k, e, path, last, sum) = path_back (take (i + 1) nodes) (take i nodes) (node_at nodes i) w m other (omega (arith, front)) all in
+            let end : i - 1 + 1 ≡ length (take i nodes) = omega (arith, front) in
+            let here : u ≡ node_at nodes (i - 1) = sym (path_ends (take i nodes) u k (i - 1) path end) ∙ path_ends (take i nodes) (node_at nodes (i - 1)) n (i - 1) so_far.path end in
+            omega (arith, sum, so_far.greatest u k path, arc.longest e (rw here at last)));
+      })
 
   -- without an arc from a node ahead between two nodes that follow one another there is no path
   pub arc_missing : (nodes : List Node) (i : ℕ) → 0 < i → i < length nodes
@@ -94,15 +111,17 @@ module _ (p : PlannedShop) (b : NodeBounds) where
       differ bad = cc
 
   -- the length of a chain is recorded
-  pub chain_length : (nodes : List Node) (v : Node) (n : ℕ) → IsWellShaped p → length nodes ≤ node_count p → PathFrom p b nodes v n
-      → (m : ℕ) → (Some n ≡ Some m) ↔ IsChainFrom p b nodes m
-  chain_length nodes v n shaped few path m = (there, back)
+  pub chain_length : (nodes : List Node) (v : Node) (n : ℕ) → length nodes ≤ node_count p → IsLongestAlong nodes v n → (m : ℕ) → (Some n ≡ Some m) ↔ IsChainFrom p b nodes m
+  chain_length nodes v n few longest m = (there, back)
     where
       there : Some n ≡ Some m → IsChainFrom p b nodes m
-      there same = let is : n ≡ m = cc in record { few = few; path = (v, subst (λ (k : ℕ). PathFrom p b nodes v k) is path) }
+      there same =
+          let is : n ≡ m = cc in
+          let chain : IsChainFrom p b nodes n = record { few = few; path = (v, longest.path); greatest = longest.greatest } in
+          rw is at chain
 
       back : IsChainFrom p b nodes m → Some n ≡ Some m
-      back chain = ap (λ k. Some k) (path_once nodes nodes v chain.path.0 n m shaped path chain.path.1 refl).1
+      back chain = (let is : n ≡ m = omega (arith, longest.greatest chain.path.0 m chain.path.1, chain.greatest v n longest.path) in ap (λ k. Some k) is)
 
 -- what is recorded of the first node
 pub bound_exact : (p : PlannedShop) (b : NodeBounds) (v : Node) → IsNode p v → (recorded : Option ℕ) → recorded ≡ bound_of b v

@@ -131,10 +131,18 @@ module _ (p : PlannedShop) (shaped : IsWellShaped p) where
 
   -- so are chains
   chain_to : (nodes : List Node) (n : ℕ) → IsChainFrom p (whole p) nodes n → IsChain p nodes n
-  chain_to nodes n chain = record { few = chain.few; path = (chain.path.0, to_path nodes chain.path.0 n chain.path.1) }
+  chain_to nodes n chain = record {
+    few = chain.few;
+    path = (chain.path.0, to_path nodes chain.path.0 n chain.path.1);
+    greatest = λ v m path. chain.greatest v m (from_path nodes v m path);
+  }
 
   chain_from : (nodes : List Node) (n : ℕ) → IsChain p nodes n → IsChainFrom p (whole p) nodes n
-  chain_from nodes n chain = record { few = chain.few; path = (chain.path.0, from_path nodes chain.path.0 n chain.path.1) }
+  chain_from nodes n chain = record {
+    few = chain.few;
+    path = (chain.path.0, from_path nodes chain.path.0 n chain.path.1);
+    greatest = λ v m path. chain.greatest v m (to_path nodes v m path);
+  }
 
   module _ (nodes : List Node) (answer : Option ℕ) (exact : (n : ℕ) → (answer ≡ Some n) ↔ IsChainFrom p (whole p) nodes n) where
     pub exact_chain : (n : ℕ) → (answer ≡ Some n) ↔ IsChain p nodes n

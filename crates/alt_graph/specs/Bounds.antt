@@ -32,10 +32,11 @@ pub data PathFrom (p : PlannedShop) (b : NodeBounds) : List Node → Node → �
   begins_at : (v : Node) (n : ℕ) → IsNode p v → bound_of b v ≡ Some n → PathFrom p b (v ∷ []) v n
   goes_along : (nodes : List Node) (u v : Node) (n d : ℕ) → PathFrom p b nodes u n → IsAheadOf b u → Arc p u v d → PathFrom p b (nodes ++ v ∷ []) v (n + d)
 
--- the evidence of a moment that can't be earlier: such a path of that length, with no more nodes than there are
+-- the evidence of a moment that can't be earlier: such a path, with the greatest length that one along these nodes has, and no more nodes than there are
 pub record IsChainFrom (p : PlannedShop) (b : NodeBounds) (nodes : List Node) (n : ℕ) : Type 0 where
   pub few : length nodes ≤ node_count p
   pub path : (v : Node) × PathFrom p b nodes v n
+  pub greatest : (v : Node) (m : ℕ) → PathFrom p b nodes v m → m ≤ n
 
 -- the node has this bound
 abbrev pub HasBound : PlannedShop → NodeBounds → Node → ℕ → Type 0

@@ -18,10 +18,11 @@ IsCycle p (u ∷ us) = IsSimpleCycle p (u ∷ us) × All (IsNode p) (u ∷ us) �
 abbrev pub node_count : PlannedShop → ℕ
 node_count p = jobs p + operations_of p.shop
 
--- the evidence of a moment that can't be earlier: a path of that length, with no more nodes than there are
+-- the evidence of a moment that can't be earlier: a path, with the greatest length that one along these nodes has, and no more nodes than there are
 pub record IsChain (p : PlannedShop) (nodes : List Node) (n : ℕ) : Type 0 where
   pub few : length nodes ≤ node_count p
   pub path : (v : Node) × Path p nodes v n
+  pub greatest : (v : Node) (m : ℕ) → Path p nodes v m → m ≤ n
 
 -- the list ends in this node
 abbrev pub EndsIn : List Node → Node → Type 0

@@ -1,7 +1,8 @@
--- The two kinds of arcs; the one arc of a kind into a node, and the one out of it.
-use Rattle.std.specs.Prelude.{◌≡◌, ℕ, ◌+◌, ◌<◌, List, length, slice_index, Option, MatchOption}
+-- The two kinds of arcs; the one arc of a kind into a node, and the one out of it; the longest of the arcs between two nodes.
+use Rattle.std.specs.Prelude.{◌≡◌, ℕ, ◌+◌, ◌<◌, ◌≤◌, Option, MatchOption}
 use Rattle.shop_base.specs.declared.node.Node.{Node}
 use Rattle.shop_base.specs.Plan.{PlannedShop, steps, nominal, clean, Stands}
+use Rattle.shop_base.specs.Graph.{Arc}
 use Rattle.alt_graph.specs.declared.sources.ArcIn.{ArcIn}
 
 -- a job arc leads from u to v, and has the length d
@@ -21,14 +22,15 @@ pub record IsBlockingArc (p : PlannedShop) (u v : Node) (d : ℕ) : Type 0 where
   pub place : u.place ≡ step + 1
   pub length : d ≡ clean p machine
 
--- job j stands directly behind job i in the order
-abbrev pub IsBehind : List ℕ → ℕ → ℕ → Type 0
-IsBehind order i j = (a : ℕ) × (a + 1 < length order) × (slice_index order a ≡ i) × (slice_index order (a + 1) ≡ j)
+-- an arc of this length leads from u to v, and none that is longer
+pub record IsLongestArc (p : PlannedShop) (u v : Node) (d : ℕ) : Type 0 where
+  pub arc : Arc p u v d
+  pub longest : (e : ℕ) → Arc p u v e → e ≤ d
 
 -- the arc into v of one kind, if there is one
 abbrev pub IsArcIn : (Node → Node → ℕ → Type 0) → Node → Option ArcIn → Type 0
-IsArcIn Arc v found = MatchOption found ((u : Node) (d : ℕ) → Arc u v d → ⊥) (λ s. Arc s.node v s.length)
+IsArcIn Kind v found = MatchOption found ((u : Node) (d : ℕ) → Kind u v d → ⊥) (λ s. Kind s.node v s.length)
 
 -- the node to which the arc out of u of one kind leads, if there is one
 abbrev pub IsTarget : (Node → Node → ℕ → Type 0) → Node → Option Node → Type 0
-IsTarget Arc u found = MatchOption found ((v : Node) (d : ℕ) → Arc u v d → ⊥) (λ v. (d : ℕ) × Arc u v d)
+IsTarget Kind u found = MatchOption found ((v : Node) (d : ℕ) → Kind u v d → ⊥) (λ v. (d : ℕ) × Kind u v d)

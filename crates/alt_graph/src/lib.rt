@@ -21,6 +21,7 @@ mod ranking;
 mod solving;
 mod sources;
 mod times;
+mod turns;
 
 pub use bounds::{Bounds, Whole};
 pub use chain_check::{check_chain, check_chain_from};

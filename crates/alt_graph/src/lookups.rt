@@ -1,21 +1,25 @@
-//! Where each machine is on the jobs' routes, and each job in the machines' orders, to be looked up.
+//! Where each visit of a job to a machine stands in the machine's order, and which visit each place of an order is for,
+//! to be looked up.
 
-ghost use Rattle.std.specs.Prelude.{◌≡◌, ℕ, ◌+◌, ◌*◌, ◌<◌, ◌≢◌, IfOk};
-ghost use Rattle.shop_base.specs.Plan.{jobs, machines, route, order, IsWellShaped};
-ghost use Rattle.alt_graph.specs.Lookups.{AreLookups, AreStepsOf, ArePlacesOf, HasSlots, slot_of, entry_at};
+ghost use Rattle.std.specs.Prelude.{◌≡◌, ◌+◌, ◌*◌, ◌<◌, IfOk};
+ghost use Rattle.std.specs.Result.{OnOk};
+ghost use Rattle.shop_base.specs.Plan.{jobs, machines, IsWellShaped};
+ghost use Rattle.alt_graph.specs.Lookups.{AreLookups};
+ghost use Rattle.alt_graph.specs.Placing.{AreRoutesNoted, AreOrdersPlaced, slot_of};
 
-use crate::numbers::first_numbers;
+use crate::numbers::{first_numbers, number};
 use shop_base::limits::MAX_JOBS;
-use shop_base::{JobNo, MachineNo, Shaped};
+use shop_base::{JobNo, MachineNo, Node, Shaped};
 use std::alloc::{AllocError, Global};
 
-/// The numbers of the jobs' first nodes; and for each machine and job the job's step on the machine and
-/// its place in the machine's order, if it visits that machine.
+/// The numbers of the jobs' first nodes; by node number the place of the visit in its machine's order; and where the
+/// visits of each machine begin among the visits of all, which stand machine after machine, as its order has them.
 #[derive(Drop)]
 pub(crate) struct Lookups {
     pub firsts: Vec<u32>,
-    pub steps: Vec<u32>,
     pub places: Vec<u32>,
+    pub begins: Vec<usize>,
+    pub visits: Vec<Node>,
 }
 
 impl Lookups {
@@ -24,73 +28,99 @@ impl Lookups {
         ensures lookups { IfOk result (AreLookups shaped.now) }
         ensures well_shaped { IsWellShaped shaped.now }
     {
-        let firsts = first_numbers(alloc, shaped)?;
-        let steps = steps_on_machines(alloc, shaped)?;
-        let places = places_in_orders(alloc, shaped)?;
-        Ok(Lookups {
-            firsts,
-            steps,
-            places,
-        })
+        let mut placing = Placing::of(alloc, shaped)?;
+        for machine in 0..shaped.machine_count() {
+            placing.place_order(shaped, machine)?;
+        }
+        Ok(placing.lookups)
     }
 }
 
-/// Where the machine and the job are in a table.
-pub(crate) fn slot(machine: MachineNo, job: JobNo) -> usize
+/// Lookups under way, and by machine and job the step of the job's next visit that has no place yet. Until a visit has
+/// its place, the step of the job's next one to the machine stands there.
+#[derive(Drop)]
+struct Placing {
+    lookups: Lookups,
+    next: Vec<u32>,
+}
+
+impl Placing {
+    /// No visit has its place.
+    fn of(alloc: Global, shaped: &Shaped) -> Result<Placing, AllocError>
+        ensures placed { IfOk result (λ placing. AreOrdersPlaced shaped.now placing 0) }
+        ensures well_shaped { IsWellShaped shaped.now }
+    {
+        let mut placing = Placing::empty(alloc, shaped)?;
+        for job in 0..shaped.job_count() {
+            placing.note_route(shaped, job);
+        }
+        Ok(placing)
+    }
+
+    /// No route is noted.
+    fn empty(alloc: Global, shaped: &Shaped) -> Result<Placing, AllocError>
+        ensures noted { IfOk result (λ placing. AreRoutesNoted shaped.now placing 0) }
+        ensures well_shaped { IsWellShaped shaped.now }
+    {
+        let firsts = first_numbers(alloc, shaped)?;
+        let machines = shaped.machine_count() as usize;
+        let nodes = firsts[shaped.job_count() as usize] as usize;
+        let places = vec![in alloc; 0; nodes]?;
+        let begins = Vec::with_capacity(alloc, machines)?;
+        let visits = Vec::with_capacity(alloc, nodes)?;
+        let next = vec![in alloc; 0; machines * MAX_JOBS]?;
+        let lookups = Lookups {
+            firsts,
+            places,
+            begins,
+            visits,
+        };
+        Ok(Placing { lookups, next })
+    }
+
+    /// Notes each visit of the job, its last step first: until it has its place, the step of the next one stands there.
+    fn note_route(&mut self, shaped: &Shaped, job: JobNo)
+        requires job { job < jobs shaped.now }
+        requires noted { AreRoutesNoted shaped.now self.old job }
+        ensures { AreRoutesNoted shaped.now self.new (job + 1) }
+    {
+        let route = shaped.route_of(job);
+        for step in (0..route.len()).rev() {
+            let slot = slot(route[step].machine, job);
+            let place = step as u32;
+            let at = number(&self.lookups.firsts, Node { job, place });
+            self.lookups.places[at] = self.next[slot];
+            self.next[slot] = place;
+        }
+    }
+
+    /// Gives the visits of the machine their places.
+    fn place_order(&mut self, shaped: &Shaped, machine: MachineNo) -> Result<(), AllocError>
+        requires machine { machine < machines shaped.now }
+        requires placed { AreOrdersPlaced shaped.now self.old machine }
+        ensures { OnOk result (AreOrdersPlaced shaped.now self.new (machine + 1)) }
+    {
+        self.lookups.begins.push(self.lookups.visits.len())?;
+        let order = shaped.order_of(machine);
+        for place in 0..order.len() {
+            let job = order[place];
+            let slot = slot(machine, job);
+            let visit = Node {
+                job,
+                place: self.next[slot],
+            };
+            let at = number(&self.lookups.firsts, visit);
+            self.next[slot] = self.lookups.places[at];
+            self.lookups.places[at] = place as u32;
+            self.lookups.visits.push(visit)?;
+        }
+        Ok(())
+    }
+}
+
+/// Where the machine and the job are in the table of the jobs' next visits.
+fn slot(machine: MachineNo, job: JobNo) -> usize
     ensures { result ≡ slot_of machine job }
 {
     machine as usize * MAX_JOBS + job as usize
-}
-
-/// A table without entries.
-fn no_slots(alloc: Global, shaped: &Shaped) -> Result<Vec<u32>, AllocError>
-    ensures { IfOk result (λ table. HasSlots shaped.now table.items) }
-{
-    vec![in alloc; 0; shaped.machine_count() as usize * MAX_JOBS]
-}
-
-fn steps_on_machines(alloc: Global, shaped: &Shaped) -> Result<Vec<u32>, AllocError>
-    ensures slots { IfOk result (λ table. HasSlots shaped.now table.items) }
-    ensures steps { IfOk result (λ table. (j : ℕ) → j < jobs shaped.now → AreStepsOf shaped.now table.items j) }
-{
-    let mut steps = no_slots(alloc, shaped)?;
-    for job in 0..shaped.job_count() {
-        note_steps(shaped, job, &mut steps);
-    }
-    Ok(steps)
-}
-
-fn note_steps(shaped: &Shaped, job: JobNo, steps: &mut [u32])
-    requires job { job < jobs shaped.now }
-    requires slots { HasSlots shaped.now steps.old }
-    ensures noted { AreStepsOf shaped.now steps.new job }
-    ensures others { (m j : ℕ) → j < jobs shaped.now → j ≢ job → entry_at steps.new m j ≡ entry_at steps.old m j }
-{
-    let route = shaped.route_of(job);
-    for step in 0..route.len() {
-        steps[slot(route[step].machine, job)] = step as u32;
-    }
-}
-
-fn places_in_orders(alloc: Global, shaped: &Shaped) -> Result<Vec<u32>, AllocError>
-    ensures slots { IfOk result (λ table. HasSlots shaped.now table.items) }
-    ensures places { IfOk result (λ table. (m : ℕ) → m < machines shaped.now → ArePlacesOf shaped.now table.items m) }
-{
-    let mut places = no_slots(alloc, shaped)?;
-    for machine in 0..shaped.machine_count() {
-        note_places(shaped, machine, &mut places);
-    }
-    Ok(places)
-}
-
-fn note_places(shaped: &Shaped, machine: MachineNo, places: &mut [u32])
-    requires machine { machine < machines shaped.now }
-    requires slots { HasSlots shaped.now places.old }
-    ensures noted { ArePlacesOf shaped.now places.new machine }
-    ensures others { (m j : ℕ) → j < jobs shaped.now → m ≢ machine → entry_at places.new m j ≡ entry_at places.old m j }
-{
-    let order = shaped.order_of(machine);
-    for place in 0..order.len() {
-        places[slot(machine, order[place])] = place as u32;
-    }
 }

@@ -1,13 +1,13 @@
 //! The arcs into a node and out of it.
 
-ghost use Rattle.std.specs.Prelude.{◌<◌, length};
-ghost use Rattle.shop_base.specs.Plan.{machines, order, Visits, Stands, IsWellShaped};
+ghost use Rattle.std.specs.Prelude.{ℕ, ◌<◌, length};
+ghost use Rattle.shop_base.specs.Plan.{machines, steps, order, Visits, Stands, IsWellShaped};
 ghost use Rattle.shop_base.specs.Graph.{IsNode};
 ghost use Rattle.alt_graph.specs.PlanGraph.{IsSoundGraph};
 ghost use Rattle.alt_graph.specs.Sources.{IsJobArc, IsBlockingArc, IsArcIn, IsTarget};
 
 use crate::graph::Graph;
-use crate::lookups::slot;
+use crate::numbers::number;
 use shop_base::{MachineNo, Moment, Node, Shaped};
 
 /// The node from which an arc comes, and the arc's length.
@@ -58,7 +58,7 @@ impl Graph<'_> {
     {
         let shaped = self.shaped();
         let machine = shaped.machine_at(node.job, node.place)?;
-        let place = self.place_on(machine, node);
+        let place = self.place_of(node);
         if place == 0 {
             return None;
         }
@@ -85,29 +85,28 @@ impl Graph<'_> {
         };
         let shaped = self.shaped();
         let machine = shaped.machine_at(entry.job, entry.place)?;
-        let place = self.place_on(machine, entry) + 1;
+        let place = self.place_of(entry) + 1;
         if place == shaped.order_of(machine).len() {
             return None;
         }
         Some(self.entry_at(machine, place))
     }
 
-    /// The place of the node's job in the order of the machine that it enters.
-    fn place_on(&self, machine: MachineNo, node: Node) -> usize
-        requires { Visits self.now.plan node.job node.place machine }
-        ensures { Stands self.now.plan machine result node.job node.place }
+    /// The place of the visit in its machine's order.
+    fn place_of(&self, visit: Node) -> usize
+        requires { visit.place < steps self.now.plan visit.job }
+        ensures { (m : ℕ) → Visits self.now.plan visit.job visit.place m
+            → Stands self.now.plan m result visit.job visit.place }
     {
-        self.lookups.places[slot(machine, node.job)] as usize
+        self.lookups.places[number(&self.lookups.firsts, visit)] as usize
     }
 
-    /// The job at a place of the machine's order, with its step there.
+    /// The visit at a place of the machine's order.
     fn entry_at(&self, machine: MachineNo, place: usize) -> Node
         requires machine { machine < machines self.now.plan }
         requires place { place < length (order self.now.plan machine) }
         ensures { Stands self.now.plan machine place result.job result.place }
     {
-        let job = self.shaped().order_of(machine)[place];
-        let place = self.lookups.steps[slot(machine, job)];
-        Node { job, place }
+        self.lookups.visits[self.lookups.begins[machine as usize] + place]
     }
 }

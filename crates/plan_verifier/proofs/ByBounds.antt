@@ -23,7 +23,7 @@ judged_whole p shaped (Refused (Late job leaves chain times)) (ordered, first, s
     let few = chain_few p (whole p) times (leaving p job) chain.items ordered.times (leaving_node p job first.inside) path in
     (rw same (first_late p times is job chain.items first (path_by times (leaving p job) chain.items path p is.times) few), is)
 
-module _ (p : PlannedShop) (c : Cell) (t : ℕ) (sound : IsSound p c) where
+module _ (p : PlannedShop) (c : Cell) (t : ℕ) (shaped : IsWellShaped p) (sound : IsSound p c) where
   -- a job that isn't gone is one whose leaving is ahead
   here_ahead : (j : ℕ) → j < jobs p → (IsGone p c j → ⊥) → IsAheadOf (rest_bounds p c t) (leaving p j)
   here_ahead j inside here = ahead_of p c t sound (leaving p j) inside (leaving_ahead p c j here)
@@ -33,7 +33,7 @@ module _ (p : PlannedShop) (c : Cell) (t : ℕ) (sound : IsSound p c) where
 
   pub judged_accepted : (judged : Judged) → IsJudgedFrom p (rest_bounds p c t) judged → IsAcceptedAhead p c t judged
   judged_accepted (Accepted times) (ordered, meets) =
-      let is : AreOrderedAhead p c t times = ordered_ahead p c t sound times ordered in
+      let is : AreOrderedAhead p c t times = ordered_ahead p c t shaped sound times ordered in
       let budgets : MeetBudgetsAhead p c (earliest_of times) = λ j inside here. meets j inside (here_ahead j inside here) in
       (is, acceptable_ahead p c t (rank_of times) (earliest_of times) is.schedule.ranks is.greatest budgets, budgets)
   judged_accepted (Refused why) judged = tt
@@ -42,7 +42,7 @@ module _ (p : PlannedShop) (c : Cell) (t : ℕ) (sound : IsSound p c) where
   judged_reason (Accepted times) judged = tt
   judged_reason (Refused (Cycle nodes)) cycle = cycle
   judged_reason (Refused (Late job leaves chain times)) (ordered, first, same, path) =
-      let is : AreOrderedAhead p c t times = ordered_ahead p c t sound times ordered in
+      let is : AreOrderedAhead p c t times = ordered_ahead p c t shaped sound times ordered in
       let late = first_late_rest p c t times is job chain.items first.inside (ahead_here job first.inside first.here) first.past
       (λ i lt here. first.before i lt (here_ahead i (omega (arith, lt, first.inside)) here)) path
       (chain_few p (rest_bounds p c t) times (leaving p job) chain.items ordered.times (leaving_node p job first.inside) path) in

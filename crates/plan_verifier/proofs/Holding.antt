@@ -4,7 +4,7 @@ use Rattle.std.specs.Prelude.{MatchOption}
 use Rattle.std.proofs.lemmas.Bool.{and_parts}
 use Rattle.shop_base.specs.{declared.node.Node.Node, declared.shop.Step.Step, declared.job_state.JobState.JobState}
 use Rattle.shop_base.specs.Shop.{step_at}
-use Rattle.shop_base.specs.Plan.{PlannedShop, steps, route, order, job_at, nominal, clean, release, Visits, Stands}
+use Rattle.shop_base.specs.Plan.{PlannedShop, steps, route, order, job_at, nominal, clean, release, Visits, IsWellShaped}
 use Rattle.shop_base.specs.Cell.{Cell, job_in, made, ready, since, entries, cleaning, IsOutside, IsOn}
 use Rattle.shop_base.specs.{Activity.{Cleaning, IsAwaited, IsWorked, IsCleaned}, Movers.{due_of_job, due_of_cleaning}, Sound.IsSound}
 use Rattle.shop_base.specs.Ahead.{next_node}
@@ -15,7 +15,7 @@ use Rattle.plan_verifier.specs.declared.node_bound.Hold.TheVariants.{Awaited, Ar
 use Rattle.plan_verifier.specs.{declared.node_bound.NodeBound.NodeBound, CellBounds.{cleaned_at, is_next_in}}
 use Rattle.plan_verifier.specs.Held.{IsHeldBy, awaited, arrived, worked, done, cleaned, IsHeldUp, IsHoldBound, IsBoundOf, GoesBefore, later_than, overdue_at, turn}
 use Rattle.plan_verifier.specs.JobHolds.{IsJobHold, IsBoundBy, job_turn}
-use Rattle.plan_verifier.proofs.Tables.{holds_cleaned}
+use Rattle.plan_verifier.proofs.Tables.{holds_cleaned, next_there}
 
 module _ (p : PlannedShop) (c : Cell) where
   -- what holds up a node by its job, with its due moment and its turn
@@ -78,15 +78,10 @@ module _ (p : PlannedShop) (c : Cell) where
     bound_is h due n b is at same = rw same (record { by_hold = record { due = due; holds = is; moment = refl; overdue = refl }; moment = refl; turn_is = at })
 
     -- of the cleaning of the machine that it enters
-    pub cleaning_bound : (m from n : ℕ) (b : NodeBound) → Visits p v.job v.place m → is_next_in p c m v.job ≡ true → cleaning c m ≡ Some from → n ≡ clean p m
+    pub cleaning_bound : (m from n : ℕ) (b : NodeBound) → IsWellShaped p → Visits p v.job v.place m → is_next_in p c m v.job ≡ true → cleaning c m ≡ Some from → n ≡ clean p m
         → b ≡ record { moment = later_than t (Some (from + n)); holds = Cleaned m from n; overdue = overdue_at t (Some (from + n)) } → IsBoundBy p c t v (cleaned_at p c v) 1 b
-    cleaning_bound m from n b visits next is long same =
-        let both = and_parts (nat_lt (length (entries c m)) (length (order p m))) (nat_eq (job_at p m (length (entries c m))) v.job) next in
-        let stands : Stands p m (length (entries c m)) v.job v.place = record {
-          within = ltb-true (length (entries c m)) (length (order p m)) both.0;
-          job = eqb-true (job_at p m (length (entries c m))) v.job both.1;
-          visits = visits;
-        } in
+    cleaning_bound m from n b shaped visits next is long same =
+        let stands = next_there p c v m shaped next visits in
         let goes : IsCleaned p c m from (from + clean p m) = record { is_cleaned = is; is_due = refl } in
         rw (holds_cleaned p c v (from + clean p m) m (from, goes) stands)
         (bound_is (Cleaned m from (clean p m)) (Some (from + clean p m)) 1 b (cleaned m from (from + clean p m) v goes stands) refl (rw long at same))

@@ -68,7 +68,7 @@ module _ (p : PlannedShop) (c : Cell) (t : ℕ) (v : Node) where
         ap (λ o. unwrap_or o t) (bound_next p c t v next) ∙ ap (λ n. later_than n (cleaned_at p c v)) (sym (begun_next next)))
   ])
 
-module _ (p : PlannedShop) (c : Cell) (t : ℕ) (sound : IsSound p c) where
+module _ (p : PlannedShop) (c : Cell) (t : ℕ) (shaped : IsWellShaped p) (sound : IsSound p c) where
   abbrev b : NodeBounds
   b = path_bounds p c t
 
@@ -90,7 +90,7 @@ module _ (p : PlannedShop) (c : Cell) (t : ℕ) (sound : IsSound p c) where
   pub beginning_path : (v : Node) (n : ℕ) → IsNode p v → bound_of b v ≡ Some n → PathAhead p c t (v ∷ []) v n
   beginning_path v n is recorded = elim (cases_lt v.place (made c v.job)) [
     | inl passed ↦ absurd (differ n (sym (beginning_in_table v is ∙ beginning_passed p c t v passed) ∙ recorded))
-    | inr here ↦ subst (λ k. PathAhead p c t (v ∷ []) v k) (some_same p c t sound _ _ (sym (beginning_in_table v is ∙ beginning_here p c t v here) ∙ recorded)) (from here (bound_in p c t v) refl)
+    | inr here ↦ subst (λ k. PathAhead p c t (v ∷ []) v k) (some_same p c t shaped sound _ _ (sym (beginning_in_table v is ∙ beginning_here p c t v here) ∙ recorded)) (from here (bound_in p c t v) refl)
   ]
     where
       differ : (m : ℕ) → None ≡ Some m → ⊥
@@ -98,7 +98,7 @@ module _ (p : PlannedShop) (c : Cell) (t : ℕ) (sound : IsSound p c) where
 
       from : IsAhead c v → (o : Option ℕ) → bound_in p c t v ≡ o → PathAhead p c t (v ∷ []) v (unwrap_or o t)
       from ahead None none = now v is ahead
-      from ahead (Some m) some = bound_path p c t sound v m is ahead some
+      from ahead (Some m) some = bound_path p c t shaped sound v m is ahead some
 
   -- so each path from there is one ahead
   path_ahead : (nodes : List Node) (v : Node) (n : ℕ) → PathFrom p b nodes v n → PathAhead p c t nodes v n
@@ -113,7 +113,7 @@ module _ (p : PlannedShop) (c : Cell) (t : ℕ) (sound : IsSound p c) where
 
   begin_from : (v : Node) → IsAhead c v → (o : Option ℕ) → bound_in p c t v ≡ o → t ≤ unwrap_or o t
   begin_from v ahead None is = omega arith
-  begin_from v ahead (Some n) is = bound_from p c t v n ahead is
+  begin_from v ahead (Some n) is = bound_from p c t shaped v n ahead is
 
   path_long : (nodes : List Node) (v : Node) (k : ℕ) → PathAhead p c t nodes v k → (n : ℕ) × (k ≤ n) × PathFrom p b nodes v n
   path_long _ _ _ (now v is ahead) = begin_long v t (record { ahead = ahead; job = is.job; place = is.place }) (begin_from v ahead (bound_in p c t v) refl)
@@ -134,19 +134,21 @@ module _ (p : PlannedShop) (c : Cell) (t : ℕ) (sound : IsSound p c) where
             record {
               few = chain.few;
               path = (chain.path.0, path_ahead nodes chain.path.0 n chain.path.1);
-              greatest = λ w k other. (let (m, le, from) = path_long nodes w k other in
-                  let again : answer ≡ Some m = (exact m).1 (record { few = chain.few; path = (w, from) }) in
-                  omega (arith, le, some_same p c t sound m n (sym again ∙ is)));
+              greatest = λ w k other. (let (m, le, from) = path_long nodes w k other in omega (arith, le, chain.greatest w m from));
             }
 
         back : IsChainAhead p c t nodes n → answer ≡ Some n
         back chain =
             let (m, le, from) = path_long nodes chain.path.0 n chain.path.1 in
             let same : m ≡ n = omega (arith, le, chain.greatest chain.path.0 m (path_ahead nodes chain.path.0 m from)) in
-            subst (λ k. answer ≡ Some k) same ((exact m).1 (record { few = chain.few; path = (chain.path.0, from) }))
+            (exact n).1 (record {
+              few = chain.few;
+              path = (chain.path.0, subst (λ k. PathFrom p b nodes chain.path.0 k) same from);
+              greatest = λ w k other. chain.greatest w k (path_ahead nodes w k other);
+            })
 
-    pub answer_no_faster : IsWellShaped p → IfSome answer (λ n. (j : ℕ) → EndsIn nodes (leaving p j) → IsNeverGoneBeforeFrom p c t j n)
-    answer_no_faster shaped = go answer refl
+    pub answer_no_faster : IfSome answer (λ n. (j : ℕ) → EndsIn nodes (leaving p j) → IsNeverGoneBeforeFrom p c t j n)
+    answer_no_faster = go answer refl
       where
         go : (o : Option ℕ) → answer ≡ o → IfSome o (λ n. (j : ℕ) → EndsIn nodes (leaving p j) → IsNeverGoneBeforeFrom p c t j n)
         go None is = tt

@@ -1,5 +1,5 @@
 -- The leavings of an ordered graph: their greatest lengths, and what these say of every exact run.
-use Rattle.std.proofs.Common.{◌≡◌, ℕ, ◌<◌, ◌≤◌, List, length, inl, inr, arith, sym, subst}
+use Rattle.std.proofs.Common.{◌≡◌, ℕ, ◌<◌, ◌≤◌, List, length, inl, inr, arith, sym, ap, subst}
 use Rattle.shop_base.specs.{declared.node.Node.Node, Plan.{PlannedShop, jobs, IsWellShaped}}
 use Rattle.shop_base.specs.{Graph.{leaving, MeetBudgets, Path}, Cell.since, KeptMoments.KeepsLeaving}
 use Rattle.shop_base.specs.{ExactLaw.IsNeverGoneBefore, CycleLaw.{IsNeverDone, AreNeverMade}}
@@ -11,7 +11,7 @@ use Rattle.plan_verifier.specs.{Seen.judged, declared.verdict.Verdict.Verdict}
 use Rattle.plan_verifier.specs.{declared.verdict.Verdict.TheVariants.{Accepted, Refused}, declared.verdict.Why.Why}
 use Rattle.plan_verifier.specs.declared.verdict.Why.TheVariants.{Cycle, Late}
 use Rattle.plan_verifier.specs.Verdicts.{IsFirstLate, IsReason, OnAccepted, OnRefused, OnCycle, OnLate, IsNeverInBudget}
-use Rattle.alt_graph.proofs.{CycleParts.{cycle_simple, cycle_stops}, WholePlans.whole_ahead}
+use Rattle.alt_graph.proofs.{CycleParts.{cycle_simple, cycle_stops}, Paths.end_same, WholePlans.whole_ahead}
 use Rattle.plan_verifier.proofs.Acceptable.{leaving_node, acyclic, within_budget}
 
 module _ (p : PlannedShop) (t : NodeTimes) (ordered : AreOrdered p t) where
@@ -38,7 +38,11 @@ module _ (p : PlannedShop) (t : NodeTimes) (ordered : AreOrdered p t) where
     greatest = leavings_greatest j first.inside;
     past = first.past;
     path = path;
-    evidence = record { few = few; path = (leaving p j, path) };
+    evidence = record {
+      few = few;
+      path = (leaving p j, path);
+      greatest = λ w n other. (let there = end_same p nodes (leaving p j) w (earliest_of t (leaving p j)) n path other in omega (arith, ordered.lengths.greatest nodes w n other, ap (earliest_of t) there));
+    };
   }
 
 pub refused_stops : (p : PlannedShop) (why : Why) → IsWellShaped p → IsReason p why → OnCycle (λ nodes. AreNeverMade p nodes × IsNeverDone p) (Refused p why)

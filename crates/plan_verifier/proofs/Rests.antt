@@ -1,6 +1,6 @@
 -- The times from the bounds of a cell are those of the rest of its run.
 use Rattle.std.proofs.Common.{◌≡◌, ℕ, ◌<◌, ◌≤◌, List, [], ◌∷◌, ◌++◌, Some, max, arith, refl, sym, subst, ◌∙◌, ◌⊎◌, inl, inr}
-use Rattle.shop_base.specs.{declared.node.Node.Node, Plan.{PlannedShop, jobs}, Cell.{Cell, job_in, made, since, IsGone}}
+use Rattle.shop_base.specs.{declared.node.Node.Node, Plan.{PlannedShop, jobs, IsWellShaped}, Cell.{Cell, job_in, made, since, IsGone}}
 use Rattle.shop_base.specs.{Activity.{Activity, Arrival, Operation, Cleaning, GoesOn}, Movers.due_of_job, Sound.IsSound}
 use Rattle.shop_base.specs.Graph.{IsNode, leaving}
 use Rattle.shop_base.specs.Ahead.{next_node, IsAhead, HoldsUp, PathAhead, now, held, onward, MomentsFitAhead}
@@ -14,7 +14,7 @@ use Rattle.plan_verifier.specs.CellBounds.{rest_bounds, bound_in, cleaned_at}
 use Rattle.plan_verifier.specs.{Held.{later_than, BeginHeldUp}, Rest.{AreOrderedAhead, OnOrderedAhead}}
 use Rattle.plan_verifier.proofs.Tables.{bound_passed, bound_next, bound_in_table, ahead_of, of_ahead, later_is, cleaned_holds, bound_kind, bound_from, held_bound}
 
-module _ (p : PlannedShop) (c : Cell) (t : ℕ) (sound : IsSound p c) where
+module _ (p : PlannedShop) (c : Cell) (t : ℕ) (shaped : IsWellShaped p) (sound : IsSound p c) where
   abbrev b : NodeBounds
   b = rest_bounds p c t
 
@@ -25,7 +25,7 @@ module _ (p : PlannedShop) (c : Cell) (t : ℕ) (sound : IsSound p c) where
   later_path : (v : Node) (n m : ℕ) → IsLeftIn p c v → PathAhead p c t (v ∷ []) v n → (m ≡ n) ⊎ ((due : ℕ) × (cleaned_at p c v ≡ Some due) × (m ≡ due)) → PathAhead p c t (v ∷ []) v m
   later_path v n m left path (inl same) = subst (λ k. PathAhead p c t (v ∷ []) v k) (sym same) path
   later_path v n m left path (inr (due, recorded, same)) =
-      let (machine, going, holds) = cleaned_holds p c v due recorded in
+      let (machine, going, holds) = cleaned_holds p c v due shaped recorded in
       subst (λ k. PathAhead p c t (v ∷ []) v k) (sym same) (held (Cleaning machine) due v going holds)
 
   pub next_path : (v : Node) (n : ℕ) → IsNode p v → made c v.job ≡ v.place → (n ≡ t) ⊎ ((due : ℕ) × (due_of_job p v.job (job_in c v.job) ≡ Some due) × (n ≡ due)) → PathAhead p c t (v ∷ []) v n
@@ -38,7 +38,7 @@ module _ (p : PlannedShop) (c : Cell) (t : ℕ) (sound : IsSound p c) where
       ])
 
   pub bound_path : (v : Node) (n : ℕ) → IsNode p v → IsAhead c v → bound_in p c t v ≡ Some n → PathAhead p c t (v ∷ []) v n
-  bound_path v n is ahead recorded = elim (bound_kind p c t v n ahead recorded) [
+  bound_path v n is ahead recorded = elim (bound_kind p c t shaped v n ahead recorded) [
     | inl next ↦ (
         let left : IsLeftIn p c v = record { ahead = ahead; job = is.job; place = is.place } in
         let first = later_than t (due_of_job p v.job (job_in c v.job)) in
@@ -59,7 +59,7 @@ module _ (p : PlannedShop) (c : Cell) (t : ℕ) (sound : IsSound p c) where
   begin_held : (nodes : List Node) (v : Node) (n : ℕ) → IsAhead c v → PathFrom p b nodes v n → BeginHeldUp p c nodes
   begin_held _ _ _ ahead (begins_at v n is recorded) = (
     is,
-    elim (bound_kind p c t v n ahead (sym (bound_in_table p c t sound v is) ∙ recorded)) [
+    elim (bound_kind p c t shaped v n ahead (sym (bound_in_table p c t sound v is) ∙ recorded)) [
       | inl next ↦ inl next
       | inr (m, due, going, holds, at) ↦ inr (m, due, going, holds)
     ],
@@ -83,7 +83,7 @@ module _ (p : PlannedShop) (c : Cell) (t : ℕ) (sound : IsSound p c) where
     moments = record {
       left = λ j inside gone. at_bound (leaving p j) (since c j) (record { job = inside; place = omega arith }) (bound_passed p c t (leaving p j) gone);
       present = λ j inside here.
-          (let is = bound_next p c t (next_node c j) refl in omega (arith, bound_from p c t (next_node c j) _ (omega arith) is, at_bound (next_node c j) _ (record { job = inside; place = here }) is));
+          (let is = bound_next p c t (next_node c j) refl in omega (arith, bound_from p c t shaped (next_node c j) _ (omega arith) is, at_bound (next_node c j) _ (record { job = inside; place = here }) is));
       activities = activity_kept;
       arcs = λ u v d ahead arc. ordered.times.moments.arcs u v d (ahead_of p c t sound u (source_node p u v d arc).job ahead) arc;
     }

@@ -4,12 +4,13 @@ use Rattle.std.specs.List.{range_with_len}
 use Rattle.std.proofs.{lemmas.Bool.{cases_lt, cases_order, and_parts, and_from}, lemmas.List.get_or-map}
 use Rattle.std.proofs.lemmas.List.FromFn.{get_or-map-range_with_len}
 use Rattle.shop_base.specs.{declared.node.Node.Node, declared.job_state.JobState.JobState}
-use Rattle.shop_base.specs.Plan.{PlannedShop, jobs, steps, order, machine_of, job_at}
+use Rattle.shop_base.specs.Plan.{PlannedShop, jobs, steps, order, machine_of, job_at, Visits, Stands, IsWellShaped}
 use Rattle.shop_base.specs.Cell.{Cell, job_in, made, since, entries, cleaning, absent}
 use Rattle.shop_base.specs.Activity.{Activity, Arrival, Operation, Cleaning, GoesOn}
 use Rattle.shop_base.specs.{Movers.{due_of_job, due_of_cleaning}, Sound.IsSound, Graph.{node, IsNode}}
 use Rattle.shop_base.specs.Ahead.{next_node, IsAhead, HoldsUp}
 use Rattle.shop_base.proofs.{CellFacts.{arrival_due, operation_due, cleaning_due, due_cleaning}, Ahead.held_left}
+use Rattle.shop_base.proofs.OneVisit.{place_visits}
 use Rattle.alt_graph.specs.Bounds.{bound_of, IsAheadOf, AreRooted}
 use Rattle.plan_verifier.specs.{CellBounds.{rest_bounds, bound_in, held_to, is_next_in, cleaned_at}, Held.later_than}
 
@@ -78,27 +79,26 @@ later_above n (Some m) = omega arith
 pub later_other : (n m : ℕ) (o : Option ℕ) → o ≡ Some m → m ≤ later_than n o
 later_other n m o is = rw is (omega arith)
 
+-- a job that is the next in the order of a machine that it visits once stands there for that visit
+pub next_there : (p : PlannedShop) (c : Cell) (v : Node) (m : ℕ) → IsWellShaped p → is_next_in p c m v.job ≡ true → Visits p v.job v.place m
+    → Stands p m (length (entries c m)) v.job v.place
+next_there p c v m shaped next visits =
+    let both = and_parts (nat_lt (length (entries c m)) (length (order p m))) (nat_eq (job_at p m (length (entries c m))) v.job) next in
+    place_visits p m (length (entries c m)) v.job v.place shaped (ltb-true (length (entries c m)) (length (order p m)) both.0) (eqb-true (job_at p m (length (entries c m))) v.job both.1) visits
+
 module _ (p : PlannedShop) (c : Cell) (v : Node) (due : ℕ) where
   abbrev there : ℕ
   there = machine_of p v.job v.place
 
   -- the cleaning of which the table has the end goes on, and holds the node up
-  pub cleaned_holds : cleaned_at p c v ≡ Some due → (m : ℕ) × GoesOn p c (Cleaning m) due × HoldsUp p c (Cleaning m) v
-  cleaned_holds recorded = go (nat_lt v.place (steps p v.job)) refl (is_next_in p c there v.job) refl recorded
+  pub cleaned_holds : IsWellShaped p → cleaned_at p c v ≡ Some due → (m : ℕ) × GoesOn p c (Cleaning m) due × HoldsUp p c (Cleaning m) v
+  cleaned_holds shaped recorded = go (nat_lt v.place (steps p v.job)) refl (is_next_in p c there v.job) refl recorded
     where
       go : (b : Bool) → nat_lt v.place (steps p v.job) ≡ b → (d : Bool) → is_next_in p c there v.job ≡ d
           → (if b then (if d then due_of_cleaning p there (cleaning c there) else None) else None) ≡ Some due
           → (m : ℕ) × GoesOn p c (Cleaning m) due × HoldsUp p c (Cleaning m) v
       go true within true next at =
-          let both = and_parts (nat_lt (length (entries c there)) (length (order p there))) (nat_eq (job_at p there (length (entries c there))) v.job) next in (
-            there,
-            due_cleaning p c there due at,
-            record {
-              within = ltb-true (length (entries c there)) (length (order p there)) both.0;
-              job = eqb-true (job_at p there (length (entries c there))) v.job both.1;
-              visits = record { within = ltb-true v.place (steps p v.job) within; here = refl };
-            },
-          )
+          (there, due_cleaning p c there due at, next_there p c v there shaped next (record { within = ltb-true v.place (steps p v.job) within; here = refl }))
       go true within false next at = absurd cc
       go false past d next at = absurd cc
 
@@ -113,9 +113,9 @@ module _ (p : PlannedShop) (c : Cell) (v : Node) (due : ℕ) where
 
 module _ (p : PlannedShop) (c : Cell) (t : ℕ) where
   -- a node ahead that has a bound is its job's next, or is held up by a cleaning until then
-  pub bound_kind : (v : Node) (n : ℕ) → IsAhead c v → bound_in p c t v ≡ Some n
+  pub bound_kind : IsWellShaped p → (v : Node) (n : ℕ) → IsAhead c v → bound_in p c t v ≡ Some n
       → (made c v.job ≡ v.place) ⊎ ((m due : ℕ) × GoesOn p c (Cleaning m) due × HoldsUp p c (Cleaning m) v × (n ≡ max t due))
-  bound_kind v n ahead recorded = elim (cases_order v.place (made c v.job)) [
+  bound_kind shaped v n ahead recorded = elim (cases_order v.place (made c v.job)) [
     | inl same ↦ inl (sym same)
     | inr other ↦ elim other [
       | inl passed ↦ absurd (let here : made c v.job ≤ v.place = ahead in omega arith)
@@ -125,11 +125,11 @@ module _ (p : PlannedShop) (c : Cell) (t : ℕ) where
     where
       go : (o : Option ℕ) → cleaned_at p c v ≡ o → held_to t o ≡ Some n → (m due : ℕ) × GoesOn p c (Cleaning m) due × HoldsUp p c (Cleaning m) v × (n ≡ max t due)
       go None none at = absurd cc
-      go (Some due) found at = (let (m, going, holds) = cleaned_holds p c v due found in (m, due, going, holds, cc))
+      go (Some due) found at = (let (m, going, holds) = cleaned_holds p c v due shaped found in (m, due, going, holds, cc))
 
   -- no bound of a node ahead is before the present moment
-  pub bound_from : (v : Node) (n : ℕ) → IsAhead c v → bound_in p c t v ≡ Some n → t ≤ n
-  bound_from v n ahead recorded = elim (bound_kind v n ahead recorded) [
+  pub bound_from : IsWellShaped p → (v : Node) (n : ℕ) → IsAhead c v → bound_in p c t v ≡ Some n → t ≤ n
+  bound_from shaped v n ahead recorded = elim (bound_kind shaped v n ahead recorded) [
     | inl next ↦ (let first : ℕ = later_than t (due_of_job p v.job (job_in c v.job)) in
         let is : later_than first (cleaned_at p c v) ≡ n = (let both = sym (bound_next p c t v next) ∙ recorded in cc) in
         omega (arith, later_above t (due_of_job p v.job (job_in c v.job)), later_above first (cleaned_at p c v), is))

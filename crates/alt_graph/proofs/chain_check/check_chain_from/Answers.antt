@@ -27,18 +27,18 @@ pub overflow_add-length : goal.overflow_add-length
 overflow_add-length g c =
     let (some, path, short) = c.loop-place.invariant in
     let shaped = c.count_nodes-most.ensures.sound in
-    omega (arith, short, arc_short _ _ _ _ shaped c.in_ok-length-2.ensures.1, c.count_nodes-most.ensures.count, operations_of-le _ shaped.shop, shaped.shop.counts.few_jobs)
+    omega (arith, short, arc_short _ _ _ _ shaped c.in_ok-length-2.ensures.1.arc, c.count_nodes-most.ensures.count, operations_of-le _ shaped.shop, shaped.shop.counts.few_jobs)
 
 pub loop-place-preserved : goal.loop-place-preserved
 loop-place-preserved g c =
     let (some, path, short) = c.loop-place.invariant in (
       omega arith,
       path_more c.args.shaped.now (g.B.Bounds.bounds c.args.bounds.now) c.args.nodes.now c.loop-place.place c.loop-place.length c.in_ok-length-2.field-0 some (omega arith) path c.in_ok-length-2.ensures.0 c.in_ok-length-2.ensures.1,
-      omega (arith, short, arc_short _ _ _ _ c.count_nodes-most.ensures.sound c.in_ok-length-2.ensures.1),
+      omega (arith, short, arc_short _ _ _ _ c.count_nodes-most.ensures.sound c.in_ok-length-2.ensures.1.arc),
     )
 
 pub returns-clause-exact : goal.returns-clause-exact
 returns-clause-exact g c =
     let (some, path, short) = c.loop-place.invariant in
     let all : take c.loop-place.place c.args.nodes.now ≡ c.args.nodes.now = take_all c.loop-place.place c.args.nodes.now (omega arith) in
-    chain_length c.args.shaped.now (g.B.Bounds.bounds c.args.bounds.now) c.args.nodes.now (node_at c.args.nodes.now (c.loop-place.place - 1)) c.loop-place.length c.count_nodes-most.ensures.sound (omega (arith, c.count_nodes-most.ensures.count)) (rw all at path)
+    chain_length c.args.shaped.now (g.B.Bounds.bounds c.args.bounds.now) c.args.nodes.now (node_at c.args.nodes.now (c.loop-place.place - 1)) c.loop-place.length (omega (arith, c.count_nodes-most.ensures.count)) (rw all at path)

@@ -10,7 +10,7 @@ solve_from-requires-clause-rooted g c = rw (c.shaped-shaped.ensures.plan, c.cell
     (rest_rooted c.args.rest.now.plan c.args.rest.now.cell c.args.rest.now.present c.shaped-shaped.ensures.sound)
 
 pub returns-clause-ordered : goal.returns-clause-ordered
-returns-clause-ordered g c = ok_each c.solve_from.result (solved_ahead c.args.rest.now.plan c.args.rest.now.cell c.args.rest.now.present c.shaped-shaped.ensures.sound)
+returns-clause-ordered g c = ok_each c.solve_from.result (solved_ahead c.args.rest.now.plan c.args.rest.now.cell c.args.rest.now.present c.shaped-shaped.ensures.well_shaped c.shaped-shaped.ensures.sound)
     (rw (c.shaped-shaped.ensures.plan, c.cell-cell.ensures.plan, c.cell-cell.ensures.cell, c.present-present.ensures.present) at c.solve_from.ensures.ordered)
 
 pub returns-clause-cyclic : goal.returns-clause-cyclic

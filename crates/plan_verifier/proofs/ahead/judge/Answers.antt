@@ -17,8 +17,8 @@ returns g c =
     let shaped = c.shaped-shaped.ensures.well_shaped in
     let moment = c.present-present.ensures.moment in
     let known = rw (c.shaped-shaped.ensures.plan, c.cell-cell.ensures.plan, c.cell-cell.ensures.cell, c.present-present.ensures.present) at c.judge_from.ensures in
-    let is = ok_each judged (judged_accepted p cell t sound) known in
-    let why = ok_each judged (judged_reason p cell t sound) known in
+    let is = ok_each judged (judged_accepted p cell t shaped sound) known in
+    let why = ok_each judged (judged_reason p cell t shaped sound) known in
     record {
       accepted = is;
       refused = why;
