@@ -1,7 +1,7 @@
 //! The orders of the best plan that an annealing meets.
 
-ghost use Rattle.std.specs.Prelude.{◌≡◌, length, IfOk, IfSome};
-ghost use Rattle.shop_base.specs.Plan.{machines};
+ghost use Rattle.std.specs.Prelude.{◌≡◌, map, length, IfOk, IfSome};
+ghost use Rattle.shop_base.specs.Vectors.{lists_of};
 
 use crate::annealing::anneal;
 use crate::draws::Draws;
@@ -33,14 +33,14 @@ pub struct JobRest {
 }
 
 /// The order of each machine in the best plan that an annealing from this one meets; `None` if this one is the best. In
-/// a neighbour of a plan two jobs that meet on a critical path have changed places, and one of the two has moved on
-/// other machines where it had to. Better is a lesser total lateness or, with the same, a lesser makespan. Every fourth
+/// a neighbour of a plan two jobs that meet on a critical path have changed places there, for one visit of each, and one
+/// of the two has moved at other visits where it had to. Better is a lesser total lateness or, with the same, a lesser makespan. Every fourth
 /// round (1, 5, ..) is hotter, and all late jobs count in it. The others are cooler from the third round on, if no job
 /// is late and there are more than 100 operations. A round looks at some 20 million nodes at most, and tries no more
 /// neighbours than 50 times the square of the number of operations. Other seeds and rounds draw other neighbours, and
 /// the same ones draw the same again. Where the rest of a run is given, only entries that are ahead are exchanged, a
 /// job that is gone is never late, and no job makes its next move before its bound. It is proved only that there are as
-/// many orders as machines, or none.
+/// many orders as machines, each with as many places as in this plan, or none.
 pub fn annealed_orders(
     alloc: Global,
     shaped: &Shaped,
@@ -48,17 +48,14 @@ pub fn annealed_orders(
     seed: u32,
     round: u32,
 ) -> Result<Option<Vec<Vec<JobNo>>>, AllocError>
-    ensures each_machine { IfOk result (λ answer. IfSome answer (λ orders. length orders.items ≡ machines shaped.now)) }
+    ensures each_order { IfOk result (λ answer. IfSome answer (λ orders.
+        map length (lists_of orders.items) ≡ map length shaped.now.plan.order)) }
 {
     let mut net = net_of(alloc, shaped, rest)?;
     if !is_bettered(alloc, &mut net, seed, round)? {
         return Ok(None);
     }
-    let begun = match rest {
-        Some(_) => Some(shaped.plan()),
-        None => None,
-    };
-    let orders = orders_of(alloc, &mut net, begun, shaped.machine_count())?;
+    let orders = orders_of(alloc, &mut net, shaped)?;
     Ok(Some(orders))
 }
 

@@ -64,8 +64,9 @@ impl Neighbours {
         self.search = self.search.wrapping_add(1);
     }
 
-    /// Adds the machine arcs on a longest path to the node, up to where this search has been, but for those from a job
-    /// that has entered its machine. Nothing is known of these neighbours. Gives how many nodes were looked at.
+    /// Adds the machine arcs between two jobs on a longest path to the node, up to where this search has been, but for
+    /// those from a job that has entered its machine. Nothing is known of these neighbours. Gives how many nodes were
+    /// looked at.
     pub fn join(&mut self, spots: &[Spot], rows: &[Row], node: u32) -> u32 {
         let mut to = node;
         for looks in 0..rows.len() {
@@ -79,7 +80,8 @@ impl Neighbours {
             if from == NONE {
                 return count(looks);
             }
-            if spot_at(spots, to).back != from && spot_at(spots, from).back != NONE {
+            let leaves = spot_at(spots, from);
+            if spot_at(spots, to).job != leaves.job && leaves.back != NONE {
                 self.add(to);
             }
             to = from;

@@ -34,6 +34,8 @@ pub(crate) struct Span {
     pub first: u32,
     pub last: u32,
     pub on: u32,
+    /// The node behind its last visit that is linked, while a machine's visits are being linked.
+    pub behind: u32,
     pub budget: Moment,
 }
 
@@ -42,6 +44,8 @@ pub(crate) struct Span {
 pub(crate) struct Net {
     pub spots: Vec<Spot>,
     pub spans: Vec<Span>,
+    /// How often each machine has been entered.
+    pub entered: Vec<u32>,
     /// The sources of all nodes in the best plan that was met.
     pub saved: Vec<u32>,
 }
@@ -119,8 +123,8 @@ pub(crate) fn link(spots: &mut [Spot], from: u32, to: u32) {
     }
 }
 
-/// Puts the job that enters here before the one now before it in the machine's order. Returns that one's entry: a
-/// second call there takes the first one back.
+/// Puts the job that enters here before the other one, whose visit is now before its own in the machine's order. Returns
+/// that one's entry: a second call there takes the first one back.
 pub(crate) fn swap(spots: &mut [Spot], entry: u32) -> u32 {
     let from = spot_at(spots, entry).source;
     let other = spot_at(spots, from).back;

@@ -1,6 +1,7 @@
 //! From a plan, or what a run has left of it, to its net, and from the sources of a net's nodes to orders.
 
-ghost use Rattle.std.specs.Prelude.{◌≡◌, length, IfOk};
+ghost use Rattle.std.specs.Prelude.{◌≡◌, map, length, IfOk};
+ghost use Rattle.shop_base.specs.Vectors.{lists_of};
 
 use crate::annealed::{JobRest, Rest};
 use crate::net::{NONE, Net, Span, Spot, count, link, spot_at};
@@ -15,12 +16,13 @@ pub(crate) fn net_of(
     shaped: &Shaped,
     rest: Option<&Rest>,
 ) -> Result<Net, AllocError> {
+    let shop = shaped.shop();
     let mut net = Net {
         spots: Vec::new(alloc),
         spans: Vec::new(alloc),
+        entered: vec![in alloc; 0; shop.machines() as usize]?,
         saved: Vec::new(alloc),
     };
-    let shop = shaped.shop();
     for job in 0..shop.jobs() {
         if let Some(route) = shop.route(job) {
             let from = job_rest(shaped.plan(), rest, job);
@@ -47,7 +49,8 @@ fn job_rest(plan: &Plan, rest: Option<&Rest>, job: JobNo) -> JobRest {
     }
 }
 
-/// Adds a job's nodes that are ahead. For a job that is gone it adds the leaving, which is never late.
+/// Adds a job's nodes that are ahead, and counts its entries so far. For a job that is gone it adds the leaving, which
+/// is never late.
 fn add_job(
     plan: &Plan,
     job: JobNo,
@@ -64,6 +67,7 @@ fn add_job(
         if made > 0 {
             made = made.wrapping_sub(1);
             on = step.machine;
+            note_entry(&mut net.entered, on);
         } else {
             let number = count(net.spots.len());
             add_spot(net, lag, back, number.wrapping_add(1), job, step.machine)?;
@@ -78,6 +82,7 @@ fn add_job(
         first,
         last,
         on: if is_gone { NONE } else { on },
+        behind: first,
         budget: if is_gone {
             MAX_MOMENT
         } else {
@@ -85,6 +90,13 @@ fn add_job(
         },
     })?;
     Ok(())
+}
+
+/// Counts an entry of the machine.
+fn note_entry(entered: &mut [u32], machine: MachineNo) {
+    if let Some(entries) = entered.get_mut(machine as usize) {
+        *entries = entries.wrapping_add(1);
+    }
 }
 
 /// Adds a node that isn't linked to other jobs yet.
@@ -115,7 +127,7 @@ fn moment_at(moments: &[Moment], number: u32) -> Moment {
     moments.get(number as usize).copied().unwrap_or(0)
 }
 
-/// Links the jobs of each machine.
+/// Links the visits of each machine.
 fn link_machines(
     plan: &Plan,
     rest: Option<&Rest>,
@@ -140,6 +152,7 @@ fn add_cleaning(rest: Option<&Rest>, machine: MachineNo, net: &mut Net) -> Resul
         first: number,
         last: number,
         on: NONE,
+        behind: number,
         budget: MAX_MOMENT,
     })?;
     Ok(number)
@@ -156,8 +169,8 @@ fn cleaned_since(rest: Option<&Rest>, machine: MachineNo) -> Option<Moment> {
     }
 }
 
-/// Links each job of the machine's order that hasn't entered it to the one after it, and the first of these to the one
-/// that is on the machine, or to its cleaning.
+/// Links each visit in the machine's order that is ahead to the one after it, and the first of these to the job that is
+/// on the machine, or to its cleaning.
 fn link_machine(plan: &Plan, machine: MachineNo, cleaned: u32, net: &mut Net) {
     let Some(order) = plan.order.get(machine as usize) else {
         return;
@@ -166,18 +179,32 @@ fn link_machine(plan: &Plan, machine: MachineNo, cleaned: u32, net: &mut Net) {
         Some(times) => moment_at(times, machine),
         None => 0,
     };
+    let entered = count_at(&net.entered, machine);
+    begin_links(&mut net.spans);
     let mut before = cleaned;
-    for job in order {
-        let entry = entry_of(net, *job, machine);
-        if entry == NONE {
+    for (place, job) in order.iter().enumerate() {
+        if count(place) < entered {
             before = leave_of(net, *job, machine, before);
         } else {
+            let entry = next_entry(net, *job, machine);
             if let Some(spot) = net.spots.get_mut(entry as usize) {
                 spot.clean = clean;
             }
             link(&mut net.spots, before, entry);
             before = entry.wrapping_add(1);
         }
+    }
+}
+
+/// The count of this number, 0 if there is none.
+fn count_at(counts: &[u32], number: u32) -> u32 {
+    counts.get(number as usize).copied().unwrap_or(0)
+}
+
+/// Lets no visit of a job be linked yet.
+fn begin_links(spans: &mut [Span]) {
+    for span in spans.iter_mut() {
+        span.behind = span.first;
     }
 }
 
@@ -189,72 +216,32 @@ fn leave_of(net: &Net, job: JobNo, machine: MachineNo, other: u32) -> u32 {
     }
 }
 
-/// The job's entry of the machine, `NONE` if it isn't ahead.
-fn entry_of(net: &Net, job: JobNo, machine: MachineNo) -> u32 {
-    let Some(span) = net.spans.get(job as usize) else {
+/// The job's next entry of the machine, behind those that are linked; `NONE` if there is none.
+fn next_entry(net: &mut Net, job: JobNo, machine: MachineNo) -> u32 {
+    let Some(span) = net.spans.get_mut(job as usize) else {
         return NONE;
     };
-    for number in span.first..span.last {
+    for number in span.behind..span.last {
         if spot_at(&net.spots, number).machine == machine {
+            span.behind = number.wrapping_add(1);
             return number;
         }
     }
     NONE
 }
 
-/// The orders of the machines in the best plan that was met. Where a run of a plan has begun, they begin with its
-/// entries so far.
+/// The orders of the machines in the best plan that was met, each with as many places as the plan's.
 pub(crate) fn orders_of(
     alloc: Global,
     net: &mut Net,
-    begun: Option<&Plan>,
-    machines: u32,
+    shaped: &Shaped,
 ) -> Result<Vec<Vec<JobNo>>, AllocError>
-    ensures { IfOk result (λ orders. length orders.items ≡ machines) }
+    ensures { IfOk result (λ orders. map length (lists_of orders.items) ≡ map length shaped.now.plan.order) }
 {
-    let mut firsts = vec![in alloc; NONE; machines as usize]?;
+    let mut firsts = vec![in alloc; NONE; net.entered.len()]?;
     unlink(&mut net.spots);
     relink(&mut net.spots, &net.saved, &mut firsts);
-    orders_from(alloc, net, begun, machines, &firsts)
-}
-
-/// The orders of the machines that are entered at these nodes next.
-fn orders_from(
-    alloc: Global,
-    net: &Net,
-    begun: Option<&Plan>,
-    machines: u32,
-    firsts: &[u32],
-) -> Result<Vec<Vec<JobNo>>, AllocError>
-    ensures { IfOk result (λ orders. length orders.items ≡ machines) }
-{
-    let mut orders = Vec::new(alloc);
-    for machine in 0..machines {
-        let first = firsts.get(machine as usize).copied().unwrap_or(NONE);
-        orders.push(order_of(alloc, net, begun, machine, first)?)?;
-    }
-    Ok(orders)
-}
-
-/// Adds the jobs that have entered the machine, in order.
-fn add_entered(
-    net: &Net,
-    begun: Option<&Plan>,
-    machine: MachineNo,
-    order: &mut Vec<JobNo>,
-) -> Result<(), AllocError> {
-    let Some(plan) = begun else {
-        return Ok(());
-    };
-    let Some(entries) = plan.order.get(machine as usize) else {
-        return Ok(());
-    };
-    for job in entries {
-        if entry_of(net, *job, machine) == NONE {
-            order.push(*job)?;
-        }
-    }
-    Ok(())
+    orders_from(alloc, net, shaped, &firsts)
 }
 
 /// Lets no node lead to another job.
@@ -277,28 +264,45 @@ fn relink(spots: &mut [Spot], saved: &[u32], firsts: &mut [u32]) {
     }
 }
 
-/// The order of a machine that is entered here next, after the jobs that have entered it.
-fn order_of(
+/// The orders of the machines that are entered at these nodes next.
+fn orders_from(
     alloc: Global,
     net: &Net,
-    begun: Option<&Plan>,
-    machine: MachineNo,
-    first: u32,
-) -> Result<Vec<JobNo>, AllocError> {
-    let mut order = Vec::new(alloc);
-    add_entered(net, begun, machine, &mut order)?;
-    add_ahead(net, first, &mut order)?;
-    Ok(order)
+    shaped: &Shaped,
+    firsts: &[u32],
+) -> Result<Vec<Vec<JobNo>>, AllocError>
+    ensures { IfOk result (λ orders. map length (lists_of orders.items) ≡ map length shaped.now.plan.order) }
+{
+    let mut orders = Vec::new(alloc);
+    for machine in 0..shaped.machine_count() {
+        let entered = count_at(&net.entered, machine);
+        let first = firsts.get(machine as usize).copied().unwrap_or(NONE);
+        orders.push(order_of(alloc, &net.spots, shaped.order_of(machine), entered, first)?)?;
+    }
+    Ok(orders)
 }
 
-/// Adds the jobs that enter the machine from this entry on.
-fn add_ahead(net: &Net, first: u32, order: &mut Vec<JobNo>) -> Result<(), AllocError> {
+/// The order of a machine that was entered so often: it begins as this one, and goes on with the jobs that enter the
+/// machine from this node on.
+fn order_of(
+    alloc: Global,
+    spots: &[Spot],
+    old: &[JobNo],
+    entered: u32,
+    first: u32,
+) -> Result<Vec<JobNo>, AllocError>
+    ensures { IfOk result (λ order. length order.items ≡ length old.now) }
+{
+    let mut order = Vec::new(alloc);
     let mut entry = first;
-    for _ in 0..net.spans.len() {
-        if let Some(spot) = net.spots.get(entry as usize) {
+    for (place, job) in old.iter().enumerate() {
+        if count(place) < entered {
+            order.push(*job)?;
+        } else {
+            let spot = spot_at(spots, entry);
             order.push(spot.job)?;
-            entry = spot_at(&net.spots, spot.next).target;
+            entry = spot_at(spots, spot.next).target;
         }
     }
-    Ok(())
+    Ok(order)
 }

@@ -1,6 +1,6 @@
 //! Neighbours of a plan: two jobs that meet on a machine change places, and if that makes a cycle, the one of them
-//! that moves does so on other machines too (job insertion: Groeflin and Klinkert, A new neighborhood and tabu search
-//! for the blocking job shop, Discrete Applied Mathematics 157, 2009).
+//! that moves does so at other visits too (job insertion: Groeflin and Klinkert, A new neighborhood and tabu search
+//! for the blocking job shop, Discrete Applied Mathematics 157, 2009). Its own visits to a machine keep their turns.
 //!
 //! Of two nodes on a path the later one's moment is no less, what follows it is no longer, and it comes later in the
 //! order of the nodes. So if a node comes after the bound of a search, in the plan before the move, the search needn't
@@ -11,8 +11,8 @@ use crate::net::{NONE, Net, spot_at};
 use crate::timing::Row;
 use shop_base::Moment;
 
-/// Moves the job that enters here to the left, past the one before it, and past further ones on this machine and on
-/// others until there is no cycle, or the plan is past the limit.
+/// Moves the job that enters here to the left, past the one before it, and past further ones there and at other visits
+/// until there is no cycle, or the plan is past the limit.
 pub(crate) fn move_left(moves: &mut Moves, net: &mut Net, rows: &[Row], entry: u32, limit: Moment) {
     let most = moves.begin(limit);
     let job = spot_at(&net.spots, entry).job;
@@ -25,7 +25,8 @@ pub(crate) fn move_left(moves: &mut Moves, net: &mut Net, rows: &[Row], entry: u
     }
 }
 
-/// Looks where paths lead from a node that the moving job has come before.
+/// Looks where paths lead from a node that the moving job has come before, and once more where another of its own visits
+/// follows the one that has moved.
 #[inline]
 fn look_left(moves: &mut Moves, net: &mut Net, rows: &[Row], job: u32, at: u32) {
     let bound = moves.met(at).unwrap_or(0);
@@ -35,16 +36,23 @@ fn look_left(moves: &mut Moves, net: &mut Net, rows: &[Row], job: u32, at: u32) 
     if after.job != job {
         reach_left(moves, rows, spot.target, bound);
     } else if spot.target != NONE {
-        reach_left(moves, rows, spot_at(&net.spots, after.next).target, bound);
+        let behind = spot_at(&net.spots, after.next).target;
+        let is_own = spot_at(&net.spots, behind).job == job;
+        if !is_own {
+            reach_left(moves, rows, behind, bound);
+        }
         if spot.target <= bound {
             turn_left(moves, net, rows, spot.target);
+        }
+        if is_own && spot_at(&net.spots, at).target == behind {
+            moves.meet(at, bound);
         }
     }
 }
 
 /// Lets the job that enters here come before the one before it, and before further ones that were met.
 fn turn_left(moves: &mut Moves, net: &mut Net, rows: &[Row], entry: u32) {
-    for _ in 0..net.spans.len() {
+    for _ in 0..net.spots.len() {
         let other = moves.turn(net, rows, entry);
         if other == NONE {
             return;
@@ -70,8 +78,8 @@ fn reach_left(moves: &mut Moves, rows: &[Row], at: u32, bound: u32) {
     }
 }
 
-/// Moves the job before the one that enters here to the right, past it, and past further ones on this machine and on
-/// others until there is no cycle, or the plan is past the limit.
+/// Moves the job before the one that enters here to the right, past it, and past further ones there and at other visits
+/// until there is no cycle, or the plan is past the limit.
 pub(crate) fn move_right(
     moves: &mut Moves,
     net: &mut Net,
@@ -90,7 +98,8 @@ pub(crate) fn move_right(
     }
 }
 
-/// Looks from where paths lead to a node that the moving job now comes after.
+/// Looks from where paths lead to a node that the moving job now comes after, and once more where another of its own
+/// visits came before the one that has moved.
 #[inline]
 fn look_right(moves: &mut Moves, net: &mut Net, rows: &[Row], job: u32, at: u32) {
     let bound = moves.met(at).unwrap_or(0);
@@ -100,16 +109,23 @@ fn look_right(moves: &mut Moves, net: &mut Net, rows: &[Row], job: u32, at: u32)
     if ahead.job != job {
         reach_right(moves, rows, spot.source, bound);
     } else if spot.source != NONE {
-        reach_right(moves, rows, spot_at(&net.spots, ahead.back).source, bound);
+        let before = spot_at(&net.spots, ahead.back).source;
+        let is_own = spot_at(&net.spots, before).job == job;
+        if !is_own {
+            reach_right(moves, rows, before, bound);
+        }
         if spot.source >= bound {
             turn_right(moves, net, rows, ahead.back);
+        }
+        if is_own && spot_at(&net.spots, at).source == before {
+            moves.meet(at, bound);
         }
     }
 }
 
 /// Puts the job that enters here after the one that follows it, and after further ones that were met.
 fn turn_right(moves: &mut Moves, net: &mut Net, rows: &[Row], entry: u32) {
-    for _ in 0..net.spans.len() {
+    for _ in 0..net.spots.len() {
         let leave = spot_at(&net.spots, entry).next;
         let after = spot_at(&net.spots, leave).target;
         if moves.turn(net, rows, after) == NONE {

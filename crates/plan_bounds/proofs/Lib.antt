@@ -1,10 +1,11 @@
 mod Sizes
-mod Values
-mod Sums
 mod Paths
+mod AlonePaths
+mod Placed
 mod Chains
+mod Showing
 mod Leasts
 mod Steps
-mod Made
+mod Looking
 mod Greater
 pub mod Bounded

@@ -1,8 +1,7 @@
--- What is known of a machine's visits once some of the jobs were looked at.
-use Rattle.std.specs.Prelude.{◌≡◌, ◌≢◌, ℕ, ◌+◌, ◌*◌, ◌<◌, ◌≤◌, nat_le, if◌then◌else◌, List, length, Option, None, Some}
-use Rattle.shop_base.specs.declared.shop.Step.{Step}
-use Rattle.shop_base.specs.Shop.{step_at}
-use Rattle.plan_bounds.specs.Bounds.{ShopTimes, IsVisit, AreEnds, IsLeast, head, tail, work_on, visitors, route_in, value_on}
+-- What is known of the machines' visits once some of them were looked at.
+use Rattle.std.specs.Prelude.{◌≡◌, ℕ, ◌+◌, ◌*◌, ◌<◌, ◌≤◌, ◌⊎◌, nat_le, if◌then◌else◌, List, length, slice_index_or, Option, None, Some}
+use Rattle.shop_base.specs.declared.limits.TheConstants.{MAX_MACHINES}
+use Rattle.plan_bounds.specs.Bounds.{ShopTimes, IsVisit, AreEnds, IsLeast, job_count, head, tail, work_on, visits_on, sum_on, route_in}
 use Rattle.plan_bounds.specs.declared.visits.Visit.{Visit}
 use Rattle.plan_bounds.specs.declared.visits.Visits.{Visits}
 
@@ -17,52 +16,62 @@ abbrev pub plus : Option ℕ → ℕ → Option ℕ
 plus None y = None
 plus (Some x) y = Some (x + y)
 
--- no step of the route is on machine m
-abbrev pub IsNowhereOn : ℕ → List Step → Type 0
-IsNowhereOn m route = (k : ℕ) → k < length route → (step_at route k).machine ≢ m
+-- what is known with one visit more
+abbrev pub with_visit : Visits → Visit → Visits
+with_visit v visit = record {
+  count = v.count + 1;
+  work = v.work + visit.nominal;
+  head = lesser_of v.head (Some visit.head);
+  tail = lesser_of v.tail (Some visit.tail);
+  ends = lesser_of v.ends (lesser_of (plus v.head visit.tail) (plus v.tail visit.head));
+}
 
--- the step at this place is on machine m, and none before it
-pub record IsPlaceOn (m : ℕ) (route : List Step) (place : ℕ) : Type 0 where
-  pub within : place < length route
-  pub here : (step_at route place).machine ≡ m
-  pub first : (k : ℕ) → k < place → (step_at route k).machine ≢ m
-
-module _ (t : ShopTimes) (m : ℕ) where
-  -- x is the head of a visit of machine m by one of the first n jobs
-  pub record IsHead (n x : ℕ) : Type 0 where
+module _ (t : ShopTimes) where
+  -- x is the head of one of these visits
+  pub record IsHead (V : ℕ → ℕ → Type 0) (x : ℕ) : Type 0 where
     pub job : ℕ
     pub place : ℕ
-    pub in_range : job < n
-    pub visit : IsVisit t m job place
+    pub visit : V job place
     pub is : x ≡ head t job place
 
   -- x is the tail of one
-  pub record IsTail (n x : ℕ) : Type 0 where
+  pub record IsTail (V : ℕ → ℕ → Type 0) (x : ℕ) : Type 0 where
     pub job : ℕ
     pub place : ℕ
-    pub in_range : job < n
-    pub visit : IsVisit t m job place
+    pub visit : V job place
     pub is : x ≡ tail t job place
 
-  -- job j doesn't visit machine m
-  abbrev pub IsNoVisitor : ℕ → Type 0
-  IsNoVisitor j = (k : ℕ) → IsVisit t m j k → ⊥
+  -- the least head, tail and sum of the two are those of these visits
+  pub record AreLeast (V : ℕ → ℕ → Type 0) (v : Visits) : Type 0 where
+    pub head : IsLeast (IsHead V) v.head
+    pub tail : IsLeast (IsTail V) v.tail
+    pub ends : IsLeast (AreEnds t V) v.ends
 
-  -- the visit is that of job j
-  pub record IsVisitOf (j : ℕ) (v : Visit) : Type 0 where
-    pub place : ℕ
-    pub visit : IsVisit t m j place
-    pub head : v.head ≡ head t j place
-    pub tail : v.tail ≡ tail t j place
-    pub nominal : v.nominal ≡ value_on (λ step. step.nominal) m (route_in t j)
-    pub one : value_on (λ step. 1) m (route_in t j) ≡ 1
-    pub small : (v.head ≤ 1100000000) × (v.tail ≤ 100000000) × (v.nominal ≤ 1000000)
+  -- step l of job i is on machine m, and one of those of the first n jobs or of the first k steps of job n
+  pub record IsSeen (m n k i l : ℕ) : Type 0 where
+    pub visit : IsVisit t m i l
+    pub before : (i < n) ⊎ ((i ≡ n) × (l < k))
 
-  -- what is known of the visits of the first n jobs
-  pub record AreVisits (n : ℕ) (v : Visits) : Type 0 where
-    pub jobs : v.jobs ≡ visitors t m n
-    pub work : v.work ≡ work_on t m n
-    pub head : IsLeast (IsHead n) v.head
-    pub tail : IsLeast (IsTail n) v.tail
-    pub ends : IsLeast (AreEnds t m n) v.ends
-    pub small : (v.jobs ≤ n) × (v.work ≤ n * 1000000)
+  -- what is known of machine m once these were looked at
+  pub record AreSeen (m n k : ℕ) (v : Visits) : Type 0 where
+    pub count : v.count ≡ visits_on t m n + sum_on (λ step. 1) m (route_in t n) k
+    pub work : v.work ≡ work_on t m n + sum_on (λ step. step.nominal) m (route_in t n) k
+    pub least : AreLeast (IsSeen m n k) v
+    pub small : (v.count ≤ n * 100 + k) × (v.work ≤ (n * 100 + k) * 1000000)
+
+  -- and of each machine
+  pub record AreAllSeen (n k : ℕ) (all : List Visits) : Type 0 where
+    pub each : (m : ℕ) (d : Visits) → m < length all → AreSeen m n k (slice_index_or all m d)
+    pub size : length all ≡ MAX_MACHINES
+
+  -- what is known of machine m once all visits were looked at
+  pub record AreVisits (m : ℕ) (v : Visits) : Type 0 where
+    pub count : v.count ≡ visits_on t m (job_count t)
+    pub work : v.work ≡ work_on t m (job_count t)
+    pub ends : IsLeast (AreEnds t (IsVisit t m)) v.ends
+    pub small : (v.count ≤ 20000) × (v.work ≤ 20000000000)
+
+  -- and of each machine
+  pub record AreAllVisits (all : List Visits) : Type 0 where
+    pub each : (m : ℕ) (d : Visits) → m < length all → AreVisits m (slice_index_or all m d)
+    pub size : length all ≡ MAX_MACHINES

@@ -1,8 +1,9 @@
 //! The laws of bounds: of those that a shop has with its releases and cleaning times, of every well shaped plan with
 //! these, whatever its orders and budgets.
 //!
-//! A job's bound is its release and its nominal times. A machine that two or more jobs visit has one too: all its
-//! nominal times, its cleaning time once fewer than its jobs, and the least that the head of one of them and the tail
+//! A job's bound is its release and its nominal times, where each visit to a machine begins at least the machine's
+//! cleaning time after the job has left it before. A machine to which two or more visits are made has one too: all its
+//! nominal times, its cleaning time once fewer than its visits, and the least that the head of one of them and the tail
 //! of another add up to.
 
 // Nothing is done here: a function's contract is the law, so a check of this crate proves it.

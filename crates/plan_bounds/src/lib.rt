@@ -2,10 +2,12 @@
 //! for a shop with given releases and cleaning times. No call of this crate can run out of memory.
 #![tactic(auto)]
 
+mod alone;
 mod bounds;
 pub mod laws;
 mod makespan;
 mod visits;
 
+pub use alone::out_alone;
 pub use bounds::{job_bound, machine_bound};
 pub use makespan::{By, LeastMakespan, least_makespan};

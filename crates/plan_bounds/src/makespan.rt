@@ -1,12 +1,14 @@
 //! The greatest of the bounds.
 
 ghost use Rattle.std.specs.Prelude.{◌+◌, ◌<◌, MatchOption};
-ghost use Rattle.shop_base.specs.Plan.{jobs, machines};
+ghost use Rattle.shop_base.specs.Plan.{jobs, machines, IsWellShaped};
 ghost use Rattle.plan_bounds.specs.Bounds.{times_of};
 ghost use Rattle.plan_bounds.specs.Greatest.{HaveNoBound, IsGreatestOfMachines, IsGreatestOfJobs};
 ghost use Rattle.plan_bounds.specs.Makespan.{IsLeastMakespan};
+ghost use Rattle.plan_bounds.specs.Seen.{AreVisits};
 
-use crate::bounds::{job_bound, machine_bound};
+use crate::bounds::{bound_by, job_bound};
+use crate::visits::{Visits, all_visits};
 use shop_base::{JobNo, MachineNo, Moment, Shaped};
 
 /// Whose bound it is.
@@ -51,26 +53,30 @@ fn greatest_machine(shaped: &Shaped) -> Option<(MachineNo, Moment)>
     ensures { let t = times_of shaped.now in
         MatchOption result (HaveNoBound t (machines shaped.now)) (IsGreatestOfMachines t (machines shaped.now)) }
 {
+    let all = all_visits(shaped);
     let mut greatest = None;
     for machine in 0..shaped.machine_count() {
-        greatest = greater_machine(shaped, greatest, machine);
+        greatest = greater_machine(shaped, greatest, machine, all[machine as usize]);
     }
     greatest
 }
 
-/// The same when this machine was looked at too.
+/// The same when this machine was looked at too, which has these visits.
 fn greater_machine(
     shaped: &Shaped,
     greatest: Option<(MachineNo, Moment)>,
     machine: MachineNo,
+    visits: Visits,
 ) -> Option<(MachineNo, Moment)>
     requires machine { machine < machines shaped.now }
+    requires shaped { IsWellShaped shaped.now }
+    requires known { AreVisits (times_of shaped.now) machine visits }
     requires before { let t = times_of shaped.now in
         MatchOption greatest (HaveNoBound t machine) (IsGreatestOfMachines t machine) }
     ensures { let t = times_of shaped.now in
         MatchOption result (HaveNoBound t (machine + 1)) (IsGreatestOfMachines t (machine + 1)) }
 {
-    match machine_bound(shaped, machine) {
+    match bound_by(shaped, machine, visits) {
         Some(bound) => match greatest {
             Some((first, most)) => {
                 if most < bound {

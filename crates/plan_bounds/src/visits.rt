@@ -1,12 +1,13 @@
-//! The visits of a machine.
+//! The visits of the machines.
 
-ghost use Rattle.std.specs.Prelude.{◌≡◌, ◌+◌, ◌^◌, ◌<◌, MatchOption, IfSome, None};
+ghost use Rattle.std.specs.Prelude.{◌≡◌, ◌+◌, ◌^◌, ◌<◌, IfSome, None};
 ghost use Rattle.shop_base.specs.Plan.{jobs, IsWellShaped};
+ghost use Rattle.shop_base.specs.Work.{route_work};
 ghost use Rattle.plan_bounds.specs.Bounds.{times_of};
-ghost use Rattle.plan_bounds.specs.Seen.{AreVisits, IsNoVisitor, IsNowhereOn, IsPlaceOn, IsVisitOf, lesser_of, plus};
+ghost use Rattle.plan_bounds.specs.Seen.{AreAllSeen, AreAllVisits, lesser_of, plus, with_visit};
 
-use crate::bounds::work;
-use shop_base::{JobNo, MachineNo, Moment, Shaped, Step};
+use shop_base::limits::MAX_MACHINES;
+use shop_base::{JobNo, Moment, Shaped, Step};
 
 /// A job's visit of a machine: its head, its nominal time there, and its tail, in whole time units.
 #[derive(Clone, Copy)]
@@ -16,39 +17,39 @@ pub(crate) struct Visit {
     pub tail: Moment,
 }
 
-/// What is known of a machine once some jobs were looked at: how many of them visit it, their nominal times there, the
-/// least head, the least tail, and the least that the head of one and the tail of another add up to.
+/// What is known of a machine once some visits were looked at: how many of them it has, their nominal times, the least
+/// head, the least tail, and the least that the head of one and the tail of another add up to.
 #[derive(Clone, Copy)]
 pub(crate) struct Visits {
-    pub jobs: u64,
+    pub count: u64,
     pub work: Moment,
     pub head: Option<Moment>,
     pub tail: Option<Moment>,
     pub ends: Option<Moment>,
 }
 
-/// What is known of the machine when all jobs were looked at.
-pub(crate) fn visits_of(shaped: &Shaped, machine: MachineNo) -> Visits
-    ensures known { AreVisits (times_of shaped.now) machine (jobs shaped.now) result }
+/// What is known of each machine when all visits were looked at.
+pub(crate) fn all_visits(shaped: &Shaped) -> [Visits; MAX_MACHINES as usize]
+    ensures known { AreAllVisits (times_of shaped.now) result }
     ensures well_shaped { IsWellShaped shaped.now }
 {
-    let mut visits = no_visits();
+    let mut all = [no_visits(); MAX_MACHINES as usize];
     for job in 0..shaped.job_count() {
-        visits = more_visits(shaped, machine, job, visits);
+        add_visits(shaped, job, &mut all);
     }
-    visits
+    all
 }
 
-/// What is known before any job was looked at.
+/// What is known before any visit was looked at.
 fn no_visits() -> Visits
-    ensures jobs { result.jobs ≡ 0 }
+    ensures count { result.count ≡ 0 }
     ensures work { result.work ≡ 0 }
     ensures head { result.head ≡ None }
     ensures tail { result.tail ≡ None }
     ensures ends { result.ends ≡ None }
 {
     Visits {
-        jobs: 0,
+        count: 0,
         work: 0,
         head: None,
         tail: None,
@@ -56,28 +57,56 @@ fn no_visits() -> Visits
     }
 }
 
-/// What is known when one job more was looked at.
-fn more_visits(shaped: &Shaped, machine: MachineNo, job: JobNo, visits: Visits) -> Visits
+/// Looks at the visits of one more job.
+fn add_visits(shaped: &Shaped, job: JobNo, all: &mut [Visits; MAX_MACHINES as usize])
     requires job { job < jobs shaped.now }
-    requires shaped { IsWellShaped shaped.now }
-    requires known { AreVisits (times_of shaped.now) machine job visits }
-    ensures { AreVisits (times_of shaped.now) machine (job + 1) result }
+    requires known { AreAllSeen (times_of shaped.now) job 0 all.old }
+    ensures { AreAllSeen (times_of shaped.now) (job + 1) 0 all.new }
 {
-    match visit_of(shaped, machine, job) {
-        Some(visit) => Visits {
-            jobs: visits.jobs + 1,
-            work: visits.work + visit.nominal,
-            head: lesser(visits.head, Some(visit.head)),
-            tail: lesser(visits.tail, Some(visit.tail)),
-            ends: lesser(
-                visits.ends,
-                lesser(
-                    added(visits.head, visit.tail),
-                    added(visits.tail, visit.head),
-                ),
+    let route = shaped.route_of(job);
+    let mut head = shaped.release_of(job);
+    let mut tail = work(route);
+    for place in 0..route.len() {
+        let step = route[place];
+        tail -= step.nominal;
+        let visit = Visit {
+            head,
+            nominal: step.nominal,
+            tail,
+        };
+        all[step.machine as usize] = more_visits(all[step.machine as usize], visit);
+        head += step.nominal;
+    }
+}
+
+/// The nominal times of these steps, together.
+fn work(steps: &[Step]) -> Moment
+    requires { route_work steps.now < 2 ^ 64 }
+    ensures { result ≡ route_work steps.now }
+{
+    steps.iter().map(|step| step.nominal).sum()
+}
+
+/// What is known when one visit more was looked at.
+fn more_visits(visits: Visits, visit: Visit) -> Visits
+    requires count { visits.count + 1 < 2 ^ 64 }
+    requires work { visits.work + visit.nominal < 2 ^ 64 }
+    requires head { IfSome visits.head (λ x. x + visit.tail < 2 ^ 64) }
+    requires tail { IfSome visits.tail (λ x. x + visit.head < 2 ^ 64) }
+    ensures { result ≡ with_visit visits visit }
+{
+    Visits {
+        count: visits.count + 1,
+        work: visits.work + visit.nominal,
+        head: lesser(visits.head, Some(visit.head)),
+        tail: lesser(visits.tail, Some(visit.tail)),
+        ends: lesser(
+            visits.ends,
+            lesser(
+                added(visits.head, visit.tail),
+                added(visits.tail, visit.head),
             ),
-        },
-        None => visits,
+        ),
     }
 }
 
@@ -103,32 +132,4 @@ fn added(moment: Option<Moment>, more: Moment) -> Option<Moment>
         Some(moment) => Some(moment + more),
         None => None,
     }
-}
-
-/// The job's visit of the machine, if it visits it.
-fn visit_of(shaped: &Shaped, machine: MachineNo, job: JobNo) -> Option<Visit>
-    requires { job < jobs shaped.now }
-    ensures { let t = times_of shaped.now in MatchOption result (IsNoVisitor t machine job) (IsVisitOf t machine job) }
-{
-    let route = shaped.route_of(job);
-    match place_on(route, machine) {
-        Some(place) => Some(Visit {
-            head: shaped.release_of(job) + work(&route[..place]),
-            nominal: route[place].nominal,
-            tail: work(&route[place + 1..]),
-        }),
-        None => None,
-    }
-}
-
-/// The first place of a route at which it comes to the machine, if it does.
-fn place_on(route: &[Step], machine: MachineNo) -> Option<usize>
-    ensures { MatchOption result (IsNowhereOn machine route.now) (IsPlaceOn machine route.now) }
-{
-    for (place, step) in route.iter().enumerate() {
-        if step.machine == machine {
-            return Some(place);
-        }
-    }
-    None
 }
