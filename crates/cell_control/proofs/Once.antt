@@ -3,11 +3,12 @@ use Rattle.std.proofs.Common.{◌≡◌, ℕ, ◌-◌, ◌<◌, None, Some, List
 use Rattle.std.proofs.lemmas.Bool.{cases_eq}
 use Rattle.shop_base.specs.{declared.job_state.JobState.JobState, declared.report.Report.Report}
 use Rattle.shop_base.specs.{Plan.{PlannedShop, job_at, Visits, IsWellShaped}, Cell.{Cell, made, entries, cleaning, start, IsFree}}
-use Rattle.shop_base.specs.{Activity.Cleaning, Report.{ended, at, CanReport, after_end, after_report}, Move.after_move}
+use Rattle.shop_base.specs.{Activity.Cleaning, AtMostOnceLaw.MayRecur, Report.{ended, at, CanReport, after_end, after_report}, Move.after_move}
 use Rattle.shop_base.specs.{Run.{Event, Reported, Moved, CanHappen, AreEvents, after, after_all, ends_in}, Sound.IsSound}
 use Rattle.shop_base.proofs.Changes.{IsMoved, IsTidied, after_move-moved, with_clean-tidied}
 use Rattle.shop_base.proofs.{Keeping.{IsLike, after_report-like, after-sound, run-sound, after_all-sound}, ControlledRuns.after_all_join}
 use Rattle.shop_base.proofs.{LowerBounds.events_split, InShop.cleaned_in_shop, Visits.visits_or_not, SentAgain.no_end_is_accepted_twice}
+use Rattle.shop_base.proofs.OneVisit.{visits_once, places_once}
 use Rattle.cell_tables.specs.Readings.{IsCleanedAfter}
 use Rattle.cell_control.proofs.CleanReasons.{entered_few}
 use Rattle.cell_control.specs.OnceLaw.{Arrived, Finished, Cleaned, NoNamedEndIsAcceptedTwice}
@@ -74,7 +75,7 @@ not_again p c m n j shaped sound (inl vacant) some was again = let clean = vacan
 not_again p c m n j shaped sound (inr more) some was again =
     let inside = cleaned_in_shop p c m again.from sound again.is_cleaned in
     let few = entered_few p c m sound in
-    let same = (shaped.orders m inside).once (n - 1) (length (entries c m) - 1) (omega (arith, few, more, some)) (omega (arith, few, more, some)) (was ∙ sym again.last_in) in
+    let same = places_once p m (n - 1) (length (entries c m) - 1) shaped inside (omega (arith, few, more, some)) (omega (arith, few, more, some)) (was ∙ sym again.last_in) in
     omega (arith, same, more, some)
 
 cleaned_once : (p : PlannedShop) (c : Cell) (r : Report) (fs : List Event) (m j : ℕ) → IsWellShaped p → IsSound p c → CanReport p c r → AreEvents p (after_report c r) fs
@@ -107,9 +108,10 @@ cleaned_once p c r fs m j shaped sound can events is was again =
 
 pub once : NoNamedEndIsAcceptedTwice
 once p es fs r again (Arrived j) shaped run named other can =
-    let (m, is, worked) = (no_end_is_accepted_twice p es fs r again shaped run (other ∙ sym named) can).0 in absurd (cc (named, is))
+    subst (λ a. MayRecur p a fs) named (no_end_is_accepted_twice p es fs r again shaped run (other ∙ sym named) can).0
 once p es fs r again (Finished j m) shaped run named other can =
-    let (n, is, worked) = (no_end_is_accepted_twice p es fs r again shaped run (other ∙ sym named) can).0 in absurd (cc (named, is))
+    let ((k, l, both), left) = subst (λ a. MayRecur p a fs) named (no_end_is_accepted_twice p es fs r again shaped run (other ∙ sym named) can).0 in
+    omega (arith, both.later, visits_once p j k l m shaped both.first both.again)
 once p es fs r again (Cleaned m j) shaped run named other can =
     let (first, rest) = events_split p (start p) es (Reported r ∷ fs) run in
     cleaned_once p (ends_in p es) r fs m j shaped (run-sound p es shaped first) rest.0 rest.1 named.0 named.1

@@ -45,7 +45,7 @@ fn job_left<P: Planned>(cell: &WorkCell<P>, job: JobNo) -> u64
 /// Those of the cleanings of all machines.
 fn machines_left<P: Planned>(cell: &WorkCell<P>) -> u64
     ensures left { result ≡ sum_below (cleanings_left cell.now.plan cell.now.cell) (machines cell.now.plan) }
-    ensures few { result ≤ 20100 }
+    ensures few { result ≤ 2000100 }
 {
     let mut left = 0;
     for machine in 0..cell.machine_count() {
@@ -59,7 +59,7 @@ fn machines_left<P: Planned>(cell: &WorkCell<P>) -> u64
 fn cleaning_left<P: Planned>(cell: &WorkCell<P>, machine: MachineNo) -> u64
     requires machine { machine < machines cell.now.plan }
     ensures left { result ≡ cleanings_left cell.now.plan cell.now.cell machine }
-    ensures few { result ≤ 201 }
+    ensures few { result ≤ 20001 }
 {
     // Called for its clause alone: the plan is well shaped.
     let _plan = cell.shaped();

@@ -12,7 +12,7 @@ use Rattle.shop_base.proofs.Changes.{IsMoved, after_move-moved, with_ready-readi
 use Rattle.shop_base.proofs.Keeping.{after_report-like, after-sound, after_all-sound, start-sound, target_free}
 use Rattle.shop_base.proofs.{CellFacts.{source_on, source_outside, after_report-last}, LowerBounds.events_split}
 use Rattle.shop_base.proofs.{ControlledRuns.{after_all_join, start_not_ready}, InShop.outside_in_shop}
-use Rattle.shop_base.proofs.Visits.{visits_job, visits_once, visits-stands}
+use Rattle.shop_base.proofs.Visits.{visits_job, visits_apart, visits-stands}
 use Rattle.cell_tables.specs.Readings.{IsCleanedAfter}
 use Rattle.cell_control.{specs.OnceLaw.{NamedEnd, Arrived, Finished, Cleaned, ReportsEnd}, proofs.Seats.on_source}
 use Rattle.run_log.proofs.PossibleEntries.{obeyed_target}
@@ -179,7 +179,7 @@ module _ (floor : Floor) (p : PlannedShop) (shaped : IsWellShaped p) where
       stands = visits-stands p o.job k m shaped on.visits
 
       off : Visits p o.job (made c o.job) m → ⊥
-      off visits = omega (arith, on.entered, visits_once p o.job (made c o.job) k m shaped visits on.visits)
+      off visits = visits_apart p o.job k (made c o.job) m shaped on.visits visits on.entered
 
       place : length (entries new m) - 1 ≡ stands.0
       place = omega (arith, ap length (change.not_entered m off), sound.newest m stands.0 o.job k stands.1 on.entered)

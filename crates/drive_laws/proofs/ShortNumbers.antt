@@ -71,7 +71,7 @@ module _ (p : PlannedShop) (c : Cell) (shaped : IsWellShaped p) (sound : IsSound
       let front = sound.in_order m in
       let within : length (entries c m) - 1 < length (order p m) = omega (arith, some, ap length front.1, length-append (entries c m) front.0) in
       let visit = (shaped.orders m below).on_route (length (entries c m) - 1) within in
-      short_job (job_at p m (length (entries c m) - 1)) (visits_job p (job_at p m (length (entries c m) - 1)) visit.0 m visit.1)
+      short_job (job_at p m (length (entries c m) - 1)) (visits_job p (job_at p m (length (entries c m) - 1)) visit.0 m visit.1.visits)
 
   cleaning_short : (m : ℕ) (found : Option ℕ) → m < machines p → cleaning c m ≡ found → IsShortStanding (cleaning_standing p c m found)
   cleaning_short m None below is = short_machine m below

@@ -94,7 +94,7 @@ module _ (p : PlannedShop) (shaped : IsWellShaped p) (c : Cell) (at : ℕ) (in_r
 
   job_in_order : (m a : ℕ) → m < machines p → job_at p m a < jobs p
   job_in_order m a within = elim (cases_lt a (length (order p m))) [
-    | inl on ↦ let (k, visits) = (shaped.orders m within).on_route a on in visits_job p (job_at p m a) k m visits
+    | inl on ↦ let (k, stands) = (shaped.orders m within).on_route a on in visits_job p (job_at p m a) k m stands.visits
     | inr past ↦ let none : job_at p m a ≡ 0 = get_or_past (order p m) a 0 past in omega (arith, none, shaped.shop.counts.some_job)
   ]
 

@@ -105,10 +105,10 @@ module _ (p : PlannedShop) (c : Cell) (t : ℕ) where
       (found.0, subst (λ (m : ℕ). PathAhead p c t found.0 (leaving p j) m) long found.1)
 
   -- some path ahead to the leaving of a job that isn't gone is as long as its bound
-  bound_path : (j : ℕ) → IsSound p c → j < jobs p → made c j ≤ steps p j → (nodes : List Node) × PathAhead p c t nodes (leaving p j) (later_than t (due_of_job p j (job_in c j)) + route_work (drop (made c j) (route p j)))
-  bound_path j sound inside here =
+  bound_path : (j : ℕ) → IsWellShaped p → IsSound p c → j < jobs p → made c j ≤ steps p j → (nodes : List Node) × PathAhead p c t nodes (leaving p j) (later_than t (due_of_job p j (job_in c j)) + route_work (drop (made c j) (route p j)))
+  bound_path j shaped sound inside here =
       let first = later_than t (due_of_job p j (job_in c j)) in
-      let begun = next_path p c t sound (next_node c j) first (record { job = inside; place = here }) refl (later_is t (due_of_job p j (job_in c j))) in
+      let begun = next_path p c t shaped sound (next_node c j) first (record { job = inside; place = here }) refl (later_is t (due_of_job p j (job_in c j))) in
       to_leaving (steps p j - made c j) j (made c j) first (next_node c j ∷ []) (omega (arith, here)) begun
 
 -- so no plan has the job out before
@@ -130,7 +130,7 @@ bound_le t p j n rooted plan inside waits out = go t.past rooted plan.keeps wait
         let sound = reached_sound p c plan.shaped (led_on base p c led.shaped plan.shaped (plan.same ∙ sym led.same) led.reached keeps) in
         let there : is_waiting (times_of p) (run_to base c present) j ≡ true = ap (λ (s : ShopTimes). is_waiting s (run_to base c present) j) plan.same ∙ waiting in
         let le : made c j ≤ steps p j = leb-true (made c j) (steps p j) there in
-        let found = bound_path p c present j sound here le in
+        let found = bound_path p c present j plan.shaped sound here le in
         let bound : bound_in (times_of p) (run_to base c present) j ≡ bound_in (times_in t) (run_to base c present) j = ap (λ (s : ShopTimes). bound_in s (run_to base c present) j) plan.same in
         omega (arith, bound, is found.0 _ found.1)
 

@@ -25,15 +25,14 @@ module _ (p : PlannedShop) (budgets : List ℕ) where
   visits_as_before j k m is = record { within = is.within; here = is.here }
 
   stands_again : (m a j k : ℕ) → Stands p m a j k → Stands (rebudgeted p budgets) m a j k
-  stands_again m a j k is = record { within = is.within; job = is.job; visits = visits_again j k m is.visits }
+  stands_again m a j k is = record { within = is.within; job = is.job; visits = visits_again j k m is.visits; turn = is.turn }
 
   stands_as_before : (m a j k : ℕ) → Stands (rebudgeted p budgets) m a j k → Stands p m a j k
-  stands_as_before m a j k is = record { within = is.within; job = is.job; visits = visits_as_before j k m is.visits }
+  stands_as_before m a j k is = record { within = is.within; job = is.job; visits = visits_as_before j k m is.visits; turn = is.turn }
 
   order_again : (m : ℕ) → IsOrder p m → IsOrder (rebudgeted p budgets) m
   order_again m is = record {
-    on_route = λ a lt. (let at = is.on_route a lt in (at.0, visits_again _ at.0 m at.1));
-    once = is.once;
+    on_route = λ a lt. (let at = is.on_route a lt in (at.0, stands_again m a _ at.0 at.1));
     complete = λ j k visits. (let at = is.complete j k (visits_as_before j k m visits) in (at.0, stands_again m at.0 j k at.1));
   }
 

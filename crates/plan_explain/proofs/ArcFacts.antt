@@ -1,9 +1,9 @@
 -- What arcs are printed as, and how long paths are.
-use Rattle.std.proofs.Common.{◌≡◌, ◌≢◌, ◌==◌, ℕ, ◌+◌, ◌<◌, ◌≤◌, List, [], ◌∷◌, ◌++◌, if◌then◌else◌, arith, refl, sym, ap, ◌∙◌}
+use Rattle.std.proofs.Common.{◌≡◌, ◌≢◌, ◌==◌, ℕ, ◌+◌, ◌<◌, ◌≤◌, List, [], ◌∷◌, ◌++◌, if◌then◌else◌, arith, refl, sym, ap, subst, ◌∙◌}
 use Rattle.std.proofs.lemmas.Bool.{eq-eqb, eqb-true, false_from_ne_true}
 use Rattle.shop_base.specs.{declared.node.Node.Node, Plan.{PlannedShop, steps, clean, Stands, IsWellShaped}}
 use Rattle.shop_base.specs.Graph.{node, Arc, job_arc, blocking_arc, HasArc}
-use Rattle.shop_base.proofs.Visits.{visits-order}
+use Rattle.shop_base.proofs.OneVisit.{stands_alone}
 use Rattle.plan_explain.specs.{Arcs.{time_of, arc_kind, job_arc_kind, blocking_arc_kind}, Chains.{AreAlong, reached_at, length_from}}
 
 pub job_arc_kind_same : (p : PlannedShop) (u v : Node) → u.job ≡ v.job → arc_kind p u v ≡ job_arc_kind p u
@@ -45,7 +45,7 @@ module _ (p : PlannedShop) (shaped : IsWellShaped p) where
   -- a job doesn't stand behind itself
   pub apart : (m a i k j l : ℕ) → Stands p m a i k → Stands p m (a + 1) j l → i ≢ j
   apart m a i k j l one other same =
-      let twice : a ≡ a + 1 = (visits-order p j l m shaped other.visits).once a (a + 1) one.within other.within (one.job ∙ same ∙ sym other.job) in
+      let twice : a ≡ a + 1 = stands_alone p m a (a + 1) j k l shaped (subst (λ x. Stands p m a x k) same one) other in
       omega arith
 
   job_within : (u v : Node) (d : ℕ) → Arc p u v d → u.job ≡ v.job → u.place < steps p u.job

@@ -28,9 +28,9 @@ module _ (p : PlannedShop) (c : Cell) (shaped : IsWellShaped p) (sound : IsSound
   none_first m inside some =
       let (rest, whole) = sound.in_order m in
       let here : 0 < length (order p m) = omega (arith, ap length whole, length-append (entries c m) rest, some) in
-      let (k, visits) = (shaped.orders m inside).on_route 0 here in
-      let moved = sound.entered_made m 0 (job_at p m 0) k (record { within = here; job = refl; visits = visits }) some in
-      omega (arith, moved, (fresh (job_at p m 0) (visits_job p (job_at p m 0) k m visits)).0)
+      let (k, first) = (shaped.orders m inside).on_route 0 here in
+      let moved = sound.entered_made m 0 (job_at p m 0) k first some in
+      omega (arith, moved, (fresh (job_at p m 0) (visits_job p (job_at p m 0) k m first.visits)).0)
 
   none_past : (m : ℕ) → machines p ≤ m → 0 < length (entries c m) → ⊥
   none_past m past some =

@@ -31,12 +31,12 @@ module _ (p : PlannedShop) (c : Cell) (shaped : IsWellShaped p) (sound : IsSound
       let within : b < length (order p m) = omega (arith, last.within) in
       let x : ℕ = job_at p m b in
       let found = is.on_route b within in
-      let here : Stands p m b x found.0 = record { within = within; job = refl; visits = found.1 } in
+      let here : Stands p m b x found.0 = found.1 in
       let there : made c x ≤ found.0 = goes_on d m a i k x found.0 is one here ahead in
       omega (
         arith,
         between d m a i k x found.0 is one here ahead,
-        keeps (node x found.0) (node x (found.0 + 1)) _ there (job_arc x found.0 found.1.within),
+        keeps (node x found.0) (node x (found.0 + 1)) _ there (job_arc x found.0 here.visits.within),
         keeps (node x (found.0 + 1)) (node j l) (clean p m) (omega (arith, there)) (blocking_arc m b x found.0 j l here last),
       )
     where
@@ -98,12 +98,12 @@ module _ (p : PlannedShop) (c : Cell) (shaped : IsWellShaped p) (sound : IsSound
             let within : a < length (order p m) = omega (arith, less, second.within) in
             let x : ℕ = job_at p m a in
             let found = is.on_route a within in
-            let here : Stands p m a x found.0 = record { within = within; job = refl; visits = found.1 } in
+            let here : Stands p m a x found.0 = found.1 in
             let ahead : made c x ≤ found.0 = not_entered x found.0 here in
             omega (
               arith,
               first x found.0 here,
-              keeps (node x found.0) (node x (found.0 + 1)) _ ahead (job_arc x found.0 found.1.within),
+              keeps (node x found.0) (node x (found.0 + 1)) _ ahead (job_arc x found.0 here.visits.within),
               later m a b x found.0 j l is less here second (omega (arith, ahead)),
             ))
         | inr (inr more) ↦ absurd (omega (arith, there, sound.entered_made m b j l second more))

@@ -9,37 +9,35 @@ use Rattle.std.proofs.lemmas.List.{get_or-map, length-map}
 use Rattle.std.proofs.lemmas.List.Folds.{Any-from_list_any}
 use Rattle.std.proofs.lemmas.Map.Keys.{IsDistinct-from_apart}
 use Rattle.std.proofs.lemmas.Map.Steps.{length-le_from_distinct_below}
+use Rattle.shop_base.specs.declared.limits.TheConstants.{MAX_MACHINES}
+use Rattle.shop_base.proofs.Sizes.{steps_few}
 use Rattle.shop_base.specs.declared.node.Node.{Node}
 use Rattle.shop_base.specs.Plan.{PlannedShop, jobs, machines, route, steps, IsWellShaped}
 use Rattle.shop_base.specs.Graph.{node, AreDistinct, IsNode}
-use Rattle.shop_base.proofs.Bounds.{route_length}
 use Rattle.alt_graph.specs.Places.{node_at}
 use Rattle.alt_graph.proofs.NodeLists.{distinct_at}
 use Rattle.alt_graph.proofs.NodeNumbers.{node_same}
 
--- how many numbers there are: a job has at most as many steps as there are machines
+-- how many numbers there are: a job has at most so many steps
 abbrev pub number_count : PlannedShop → ℕ
-number_count p = jobs p * (machines p + 1)
+number_count p = jobs p * (MAX_MACHINES + 1)
 
 module _ (p : PlannedShop) (shaped : IsWellShaped p) where
   -- the number of a node
   abbrev number_of : Node → ℕ
-  number_of v = v.job * (machines p + 1) + v.place
-
-  steps_within : (j : ℕ) → j < jobs p → steps p j ≤ machines p
-  steps_within j inside = route_length (machines p) (route p j) (shaped.shop.routes j inside)
+  number_of v = v.job * (MAX_MACHINES + 1) + v.place
 
   number_within : (v : Node) → IsNode p v → number_of v < number_count p
-  number_within v is = omega (arith, mul-add-lt v.job (machines p + 1) v.place (jobs p) is.job (omega (arith, steps_within v.job is.job, is.place)))
+  number_within v is = omega (arith, mul-add-lt v.job (MAX_MACHINES + 1) v.place (jobs p) is.job (omega (arith, steps_few p shaped v.job is.job, is.place)))
 
   pub numbers_few : number_count p ≤ 200 * 101
-  numbers_few = mul-le-mul {n₁ = jobs p} {m₁ = machines p + 1} {n₂ = 200} {m₂ = 101} shaped.shop.counts.few_jobs (omega (arith, shaped.shop.counts.few_machines))
+  numbers_few = omega (arith, shaped.shop.counts.few_jobs)
 
   numbers_differ : (u v : Node) → IsNode p u → IsNode p v → u ≢ v → number_of u ≢ number_of v
   numbers_differ u v one other apart same =
-      let k : ℕ = machines p + 1 in
-      let few : u.place < k = omega (arith, steps_within u.job one.job, one.place) in
-      let few' : v.place < k = omega (arith, steps_within v.job other.job, other.place) in
+      let k : ℕ = MAX_MACHINES + 1 in
+      let few : u.place < k = omega (arith, steps_few p shaped u.job one.job, one.place) in
+      let few' : v.place < k = omega (arith, steps_few p shaped v.job other.job, other.place) in
       let job : u.job ≡ v.job = sym (div-mul-add u.job k u.place few) ∙ ap (λ (n : ℕ). n / k) same ∙ div-mul-add v.job k v.place few' in
       let place : u.place ≡ v.place = sym (mod-mul-add u.job k u.place few) ∙ ap (λ (n : ℕ). n % k) same ∙ mod-mul-add v.job k v.place few' in
       apart (node_same u v job place)

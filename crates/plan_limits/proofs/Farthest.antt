@@ -9,7 +9,7 @@ use Rattle.shop_base.specs.Movers.{due_of_job, due_of_cleaning}
 use Rattle.shop_base.specs.Sound.{IsSound}
 use Rattle.shop_base.specs.Graph.{node, leaving, Arc, job_arc, blocking_arc, IsNode}
 use Rattle.shop_base.specs.Ahead.{IsAhead, next_node, PathAhead, onward}
-use Rattle.shop_base.proofs.Visits.{visits-stands, visits-order, visits-sound, visits_machine, visits_once, stands_once}
+use Rattle.shop_base.proofs.Visits.{visits-stands, visits-order, visits-sound, visits_machine, stands_once, stands_step}
 use Rattle.shop_base.proofs.CellFacts.{job_due, due_cleaning}
 use Rattle.shop_base.proofs.Cycles.{source_node}
 use Rattle.shop_base.proofs.Ahead.{arc_left}
@@ -36,7 +36,7 @@ module _ (p : PlannedShop) (c : Cell) (t : ℕ) (shaped : IsWellShaped p) (sound
   begun_later v later = rw (lt-ltb (made c v.job) v.place later) refl
 
   moment_path : (v : Node) → IsNode p v → IsAhead c v → PathAhead p c t (v ∷ []) v (moment v)
-  moment_path v is ahead = beginning_path p c t sound v (moment v) is (beginning_in_table p c t sound v is ∙ beginning_ahead p c t v ahead)
+  moment_path v is ahead = beginning_path p c t shaped sound v (moment v) is (beginning_in_table p c t shaped sound v is ∙ beginning_ahead p c t v ahead)
 
   -- the first moment of a node
   abbrev start : Node → ℕ
@@ -98,8 +98,8 @@ module _ (p : PlannedShop) (c : Cell) (t : ℕ) (shaped : IsWellShaped p) (sound
       at : (d : (a < length (order p m)) ⊎ (length (order p m) ≤ a)) → behind f m is a d ≡ f (node i (k + 1)) + (clean p m * FINE + 1)
       at (inr past) = absurd (omega (arith, stands.within))
       at (inl within) =
-          let there : Visits p i (is.on_route a within).0 m = subst (λ (x : ℕ). Visits p x (is.on_route a within).0 m) stands.job (is.on_route a within).1 in
-          let l : (is.on_route a within).0 ≡ k = visits_once p i (is.on_route a within).0 k m shaped there stands.visits in
+          let there : Stands p m a i (is.on_route a within).0 = subst (λ (x : ℕ). Stands p m a x (is.on_route a within).0) stands.job (is.on_route a within).1 in
+          let l : (is.on_route a within).0 ≡ k = stands_step p m a i (is.on_route a within).0 k there stands in
           let u : node (job_at p m a) ((is.on_route a within).0 + 1) ≡ node i (k + 1) = ap (λ (x : ℕ). node x ((is.on_route a within).0 + 1)) stands.job ∙ ap (λ (x : ℕ). node i (x + 1)) l in
           ap (λ (x : Node). from x (f x + (clean p m * FINE + 1))) u ∙ from_ahead (node i (k + 1)) (f (node i (k + 1)) + (clean p m * FINE + 1)) ahead
 
@@ -111,7 +111,7 @@ module _ (p : PlannedShop) (c : Cell) (t : ℕ) (shaped : IsWellShaped p) (sound
       let one' : Stands p n a i k = subst (λ (x : ℕ). Stands p x a i k) same one in
       let other' : Stands p n (a + 1) j l = subst (λ (x : ℕ). Stands p x (a + 1) j l) same other in
       let found = visits-stands p j l n shaped (visit j l within) in
-      let place : found.0 ≡ suc a = stands_once p n found.0 (a + 1) j l l shaped found.1 other' ∙ add-one a in
+      let place : found.0 ≡ suc a = stands_once p n found.0 (a + 1) j l found.1 other' ∙ add-one a in
       place_step f n a found.0 i k (visits-order p j l n shaped (visit j l within)) place one' ahead ∙ ap (λ (x : ℕ). f (node i (k + 1)) + (clean p x * FINE + 1)) (sym same)
 
   arc_step : (f : Node → ℕ) (u v : Node) (d : ℕ) → IsAhead c u → Arc p u v d → f u + (d * FINE + 1) ≤ step f v
@@ -158,7 +158,7 @@ module _ (p : PlannedShop) (c : Cell) (t : ℕ) (shaped : IsWellShaped p) (sound
       at (inr past) = inl (omega arith)
       at (inl within) =
           let found = is.on_route a within in
-          let one : Stands p m a (job_at p m a) found.0 = record { within = within; job = refl; visits = found.1 } in
+          let one : Stands p m a (job_at p m a) found.0 = found.1 in
           reached_by f (node (job_at p m a) (found.0 + 1)) (node j k) (clean p m) (blocking_arc m a (job_at p m a) found.0 j k one (subst (λ (n : ℕ). Stands p m n j k) (sym (add-one a)) stands))
 
   order_reached : (f : Node → ℕ) (j k : ℕ) (d : (k < steps p j) ⊎ (steps p j ≤ k)) → IsReached f (node j k) (over_order f j k d)
@@ -249,7 +249,7 @@ module _ (p : PlannedShop) (c : Cell) (t : ℕ) (shaped : IsWellShaped p) (sound
 
     cleaned_small : (v : Node) (due : ℕ) → cleaned_at p c v ≡ Some due → due ≤ MAX_MOMENT + MAX_RELEASE
     cleaned_small v due comes_due =
-        let (m, going_on, holds) = cleaned_holds p c v due comes_due in
+        let (m, going_on, holds) = cleaned_holds p c v due shaped comes_due in
         omega (arith, going_on.1.is_due, timed.cleanings m going_on.0 going_on.1.is_cleaned, shaped.limits.cleanings m (visits_machine p v.job v.place m shaped holds.visits))
 
     start_small : (v : Node) → IsNode p v → IsAhead c v → start v ≤ (MAX_MOMENT + MAX_RELEASE) * FINE

@@ -4,7 +4,7 @@ use Rattle.shop_base.specs.declared.node.Node.{Node}
 use Rattle.shop_base.specs.Plan.{PlannedShop, clean, Visits, IsWellShaped}
 use Rattle.shop_base.specs.Cell.{Cell}
 use Rattle.shop_base.specs.Graph.{node}
-use Rattle.shop_base.proofs.Visits.{visits_once}
+use Rattle.shop_base.proofs.OneVisit.{visits_once}
 use Rattle.alt_graph.specs.Evidence.{IsNodeBefore}
 use Rattle.alt_graph.specs.Places.{node_at}
 use Rattle.alt_graph.proofs.NodeNumbers.{node_same}

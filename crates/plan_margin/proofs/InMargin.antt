@@ -16,7 +16,7 @@ use Rattle.shop_base.specs.Graph.{RanksRise, node, leaving, job_arc, blocking_ar
 use Rattle.shop_base.specs.Sound.{IsSound}
 use Rattle.shop_base.specs.Ahead.{next_node}
 use Rattle.shop_base.specs.Within.{IsWithin, AreWithin, RiseAhead}
-use Rattle.shop_base.proofs.Visits.{visits_job, visits_once, visits-stands, on_or_not, visits_or_not}
+use Rattle.shop_base.proofs.Visits.{visits_job, visits_apart, visits-stands, on_or_not, visits_or_not}
 use Rattle.shop_base.proofs.InShop.{ready_in_shop, outside_in_shop, start_unused}
 use Rattle.shop_base.proofs.Changes.{IsMoved, after_move-moved, moves_within}
 use Rattle.shop_base.proofs.Keeping.{IsLike, after_report-like, after_report-sound, after_move-sound, start-sound, start-made, target_free}
@@ -105,7 +105,7 @@ module _ (p : PlannedShop) (rank kept : Node → ℕ) (s : ℕ) (shaped : IsWell
       departs m l from v on timed cleaned stands =
           let begun_now : Some from ≡ Some t = sym cleaned ∙ change.cleaning_begins l m on timed in
           let at_once : from ≡ t = cc in
-          let entries_same : entries new m ≡ entries c m = change.not_entered m (λ visits. omega (arith, visits_once p j l (made c j) m shaped on.visits visits, on.entered)) in
+          let entries_same : entries new m ≡ entries c m = change.not_entered m (λ visits. visits_apart p j l (made c j) m shaped on.visits visits on.entered) in
           let (b, place) = visits-stands p j l m shaped on.visits in
           let count : length (entries c m) ≡ b + 1 = sound.newest m b j l place on.entered in
           let next : Stands p m (length (entries c m)) v.job v.place = rw entries_same at stands in

@@ -5,13 +5,14 @@ use Rattle.std.proofs.lemmas.List.{get_or-set_same, get_or-set_other, length-set
 use Rattle.shop_base.specs.declared.shop.Step.{Step}
 use Rattle.shop_base.specs.Shop.{IsSoundStep, step_at, no_step}
 use Rattle.shop_base.specs.Plan.{PlannedShop, jobs, machines, route, steps, machine_of, order, job_at, budget, Visits, Stands, IsOrder}
+use Rattle.shop_base.proofs.{Visits.stands_alike, OneVisit.{IsPlain, IsPlainOrder, plain-place, plain-order}}
 use Rattle.plan_revise.specs.Orders.{without}
 use Rattle.plan_revise.specs.Promises.{no_promise}
 use Rattle.plan_revise.specs.Ended.{ended}
 use Rattle.plan_revise.specs.Fits.{IsFit}
 use Rattle.plan_revise.specs.Parts.{IsBehind, IsOnRoute, Ends}
 use Rattle.plan_revise.proofs.Places.{IsRemoved, without_removed, removed_once, AreApart, changed-length, changed-off, changed-on}
-use Rattle.plan_revise.proofs.Fitting.{fit-machine, fit-once, fit-stands, fit-order_once, behind_or_not}
+use Rattle.plan_revise.proofs.Fitting.{fit-machine, fit-once, fit-stands, fit-order, behind_or_not}
 
 -- a step of the rest of a route
 drop_step : (n : ℕ) (r : List Step) (k : ℕ) → step_at (drop n r) k ≡ step_at r (n + k)
@@ -86,7 +87,7 @@ module _ (p : PlannedShop) (j n : ℕ) (q : PlannedShop) (fit : IsFit p) (ends :
         behind = more;
         stands = stands;
         removed = subst (λ (ys : List ℕ). IsRemoved j (order p m) a ys) (sym (ends.behind m (k, more, visits)))
-            (without_removed j (order p m) a (fit-order_once p fit m (fit-machine p fit j k m visits)) stands.within stands.job);
+            (without_removed j (order p m) a ((fit-order p fit m (fit-machine p fit j k m visits)).once) stands.within stands.job);
       }
 
   -- a step of the plan that is left is one of before
@@ -116,6 +117,9 @@ module _ (p : PlannedShop) (j n : ℕ) (q : PlannedShop) (fit : IsFit p) (ends :
       let b = step_before i k visits.within in
       record { within = b.0; here = sym (ap (λ (s : Step). s.machine) b.1) ∙ visits.here }
 
+  machine_before : (i k : ℕ) → k < steps q i → machine_of p i k ≡ machine_of q i k
+  machine_before i k within = sym (ap (λ (s : Step). s.machine) (step_before i k within).1)
+
   pub visits_others : (i k m : ℕ) → i ≢ j → Visits p i k m → Visits q i k m
   visits_others i k m other visits = record {
     within = omega (arith, ap length (ends.others i other), visits.within);
@@ -130,31 +134,29 @@ module _ (p : PlannedShop) (j n : ℕ) (q : PlannedShop) (fit : IsFit p) (ends :
 
   -- where a job that is left stands, it stood, at its place or at the next
   pub stands_before : (m a i k : ℕ) → Stands q m a i k → IsLeft p j n q m → Stands p m a i k
-  stands_before m a i k stands left = record {
-    within = omega (arith, ap length left.same, stands.within);
-    job = sym (ap (λ (xs : List ℕ). get_or xs a 0) left.same) ∙ stands.job;
-    visits = visits_before i k m stands.visits;
-  }
+  stands_before m a i k stands left = stands_alike q p m a i k stands (omega (arith, ap length left.same, stands.within))
+      (λ b before. sym (ap (λ (xs : List ℕ). get_or xs b 0) left.same)) (step_before i k stands.visits.within).0 (λ l before. machine_before i l (omega (arith, before, stands.visits.within)))
 
   pub stands_front : (m a i k : ℕ) → Stands q m a i k → (t : IsRemovedAt p j n q m) → a < t.place → Stands p m a i k
-  stands_front m a i k stands t less = record {
-    within = omega (arith, t.removed.size, stands.within);
-    job = sym (t.removed.before a less) ∙ stands.job;
-    visits = visits_before i k m stands.visits;
-  }
+  stands_front m a i k stands t less = stands_alike q p m a i k stands (omega (arith, t.removed.size, stands.within))
+      (λ b before. sym (t.removed.before b (omega (arith, before, less)))) (step_before i k stands.visits.within).0 (λ l before. machine_before i l (omega (arith, before, stands.visits.within)))
 
   pub stands_back : (m a i k : ℕ) → Stands q m a i k → (t : IsRemovedAt p j n q m) → t.place ≤ a → Stands p m (a + 1) i k
-  stands_back m a i k stands t more = record {
-    within = omega (arith, t.removed.size, stands.within);
-    job = sym (t.removed.after a more) ∙ stands.job;
-    visits = visits_before i k m stands.visits;
-  }
+  stands_back m a i k stands t more =
+      let visits = visits_before i k m stands.visits in
+      plain-place p m (λ j k l. fit-once p fit j k l m) (a + 1) i k (fit.orders m (fit-machine p fit i k m visits))
+      (omega (arith, t.removed.size, stands.within)) (sym (t.removed.after a more) ∙ stands.job) visits
 
 -- ---- the plan that is left fits
 
 sound_front : (count n : ℕ) (r : List Step) (k : ℕ) → k < n → IsSoundStep count r k → IsSoundStep count (take n r) k
 sound_front count n r k less sound = record {
   in_range = rw (get_or-take n r k no_step less) sound.in_range;
+  elsewhere = λ (i, next, same). sound.elsewhere (
+    i,
+    next,
+    ap (λ (s : Step). s.machine) (sym (get_or-take n r i no_step (omega (arith, next, less)))) ∙ same ∙ ap (λ (s : Step). s.machine) (get_or-take n r k no_step less),
+  );
   first_visit = λ i before same.
       sound.first_visit i before (ap (λ (s : Step). s.machine) (sym (get_or-take n r i no_step (omega arith))) ∙ same ∙ ap (λ (s : Step). s.machine) (get_or-take n r k no_step less));
   nominal = rw (get_or-take n r k no_step less) sound.nominal;
@@ -176,15 +178,19 @@ module _ (p : PlannedShop) (j n : ℕ) (fit : IsFit p) (inside : j < jobs p) whe
           subst (λ (r : List Step). IsSoundStep (machines p) r k) (sym (ends.others i other)) (fit.steps_sound i k (omega (arith, ap length (ends.others i other))))
 
   order_left : (m : ℕ) → m < machines p → IsOrder (ended p j n) m
-  order_left m here = go (order_cases p j n (ended p j n) fit ends m)
+  order_left m here = plain-order (ended p j n) m plain (go (order_cases p j n (ended p j n) fit ends m))
     where
       ends : Ends p j n (ended p j n)
       ends = ended-ends p j n fit inside
 
-      old : IsOrder p m
-      old = fit.orders m here
+      old : IsPlainOrder p m
+      old = fit-order p fit m here
 
-      go : IsLeft p j n (ended p j n) m ⊎ IsRemovedAt p j n (ended p j n) m → IsOrder (ended p j n) m
+      plain : IsPlain (ended p j n) m
+      plain i k l one other =
+          fit-once p fit i k l m (visits_before p j n (ended p j n) fit ends i k m one) (visits_before p j n (ended p j n) fit ends i l m other)
+
+      go : IsLeft p j n (ended p j n) m ⊎ IsRemovedAt p j n (ended p j n) m → IsPlainOrder (ended p j n) m
       go (inl l) = record {
         on_route = on_route;
         once = λ a b one other same. old.once a b (omega (arith, ap length l.same)) (omega (arith, ap length l.same)) (sym (at a) ∙ same ∙ at b);
@@ -208,10 +214,10 @@ module _ (p : PlannedShop) (j n : ℕ) (fit : IsFit p) (inside : j < jobs p) whe
               let found = old.on_route a (omega (arith, ap length l.same)) in
               (found.0, subst (λ i. Visits (ended p j n) i found.0 m) (sym (at a)) (visits_still (job_at p m a) found.0 found.1))
 
-          complete : (i k : ℕ) → Visits (ended p j n) i k m → (a : ℕ) × Stands (ended p j n) m a i k
+          complete : (i k : ℕ) → Visits (ended p j n) i k m → (a : ℕ) × (a < length (order (ended p j n) m)) × (job_at (ended p j n) m a ≡ i)
           complete i k visits =
               let found = old.complete i k (visits_before p j n (ended p j n) fit ends i k m visits) in
-              (found.0, record { within = omega (arith, ap length l.same, found.1.within); job = at found.0 ∙ found.1.job; visits = visits })
+              (found.0, omega (arith, ap length l.same, found.1), at found.0 ∙ found.2)
       go (inr t) = record {
         on_route = on_route;
         once = removed_once j (order p m) t.place (order (ended p j n) m) old.once t.removed;
@@ -232,7 +238,7 @@ module _ (p : PlannedShop) (j n : ℕ) (fit : IsFit p) (inside : j < jobs p) whe
             | inr more ↦ came a (a + 1) (omega (arith, t.removed.size)) (omega arith) (t.removed.after a more)
           ]
 
-          complete : (i k : ℕ) → Visits (ended p j n) i k m → (a : ℕ) × Stands (ended p j n) m a i k
+          complete : (i k : ℕ) → Visits (ended p j n) i k m → (a : ℕ) × (a < length (order (ended p j n) m)) × (job_at (ended p j n) m a ≡ i)
           complete i k visits = at (old.complete i k before)
             where
               before : Visits p i k m
@@ -243,23 +249,17 @@ module _ (p : PlannedShop) (j n : ℕ) (fit : IsFit p) (inside : j < jobs p) whe
                   let mine : Visits (ended p j n) j k m = subst (λ i. Visits (ended p j n) i k m) same visits in
                   omega (arith, mine_below p j n (ended p j n) fit ends k mine.within, t.behind, fit-once p fit j k t.step m (subst (λ i. Visits p i k m) same before) t.stands.visits)
 
-              at : (b : ℕ) × Stands p m b i k → (a : ℕ) × Stands (ended p j n) m a i k
-              at (b, stands) = place (cases_lt b t.place)
+              at : (b : ℕ) × (b < length (order p m)) × (job_at p m b ≡ i) → (a : ℕ) × (a < length (order (ended p j n) m)) × (job_at (ended p j n) m a ≡ i)
+              at (b, within, here) = place (cases_lt b t.place)
                 where
                   apart : b ≢ t.place
-                  apart same = not_mine (sym stands.job ∙ ap (job_at p m) same ∙ t.stands.job)
+                  apart same = not_mine (sym here ∙ ap (job_at p m) same ∙ t.stands.job)
 
-                  place : (b < t.place) ⊎ (t.place ≤ b) → (a : ℕ) × Stands (ended p j n) m a i k
-                  place (inl less) = (b, record { within = omega (arith, t.removed.size, t.removed.within); job = t.removed.before b less ∙ stands.job; visits = visits })
+                  place : (b < t.place) ⊎ (t.place ≤ b) → (a : ℕ) × (a < length (order (ended p j n) m)) × (job_at (ended p j n) m a ≡ i)
+                  place (inl less) = (b, omega (arith, t.removed.size, t.removed.within), t.removed.before b less ∙ here)
                   place (inr more) =
-                      let back : (b - 1) + 1 ≡ b = omega (arith, apart) in (
-                        b - 1,
-                        record {
-                          within = omega (arith, t.removed.size, stands.within, apart);
-                          job = t.removed.after (b - 1) (omega (arith, apart)) ∙ ap (job_at p m) back ∙ stands.job;
-                          visits = visits;
-                        },
-                      )
+                      let back : (b - 1) + 1 ≡ b = omega (arith, apart) in
+                      (b - 1, omega (arith, t.removed.size, within, apart), t.removed.after (b - 1) (omega (arith, apart)) ∙ ap (job_at p m) back ∙ here)
 
   pub ended-fit : IsFit (ended p j n)
   ended-fit = record {

@@ -1,11 +1,12 @@
 -- Visits and places of a plan that fits.
 use Rattle.std.proofs.Common.{◌≡◌, ℕ, ◌<◌, ◌≤◌, ◌⊎◌, inl, inr, sym, ◌∙◌, arith}
 use Rattle.std.proofs.lemmas.Bool.{cases_order, cases_lt}
-use Rattle.shop_base.specs.Plan.{PlannedShop, jobs, machines, steps, order, Visits, Stands, IsWellShaped}
+use Rattle.shop_base.specs.Plan.{PlannedShop, jobs, machines, route, steps, Visits, Stands, IsWellShaped}
 use Rattle.shop_base.proofs.Visits.{steps_job, visits_or_not}
+use Rattle.shop_base.proofs.{FirstVisits.few_firsts, OneVisit.{IsPlainOrder, order-plain}}
 use Rattle.plan_revise.specs.Fits.{IsFit}
 use Rattle.plan_revise.specs.Parts.{IsBehind}
-use Rattle.plan_revise.proofs.Places.{AreOnce, search_below}
+use Rattle.plan_revise.proofs.Places.{search_below}
 
 -- a well-shaped plan fits
 pub shaped_fits : (p : PlannedShop) → IsWellShaped p → IsFit p
@@ -20,7 +21,14 @@ shaped_fits p shaped = record {
 -- a plan that fits, each of whose routes has a step, is well shaped
 pub fits_shaped : (p : PlannedShop) → IsFit p → ((j : ℕ) → j < jobs p → 0 < steps p j) → IsWellShaped p
 fits_shaped p fit some = record {
-  shop = record { counts = fit.size; routes = λ j inside. record { visits_some = some j inside; steps = λ k within. fit.steps_sound j k within } };
+  shop = record {
+    counts = fit.size;
+    routes = λ j inside. record {
+      visits_some = some j inside;
+      few_steps = omega (arith, few_firsts (machines p) (route p j) (fit.steps_sound j), fit.size.few_machines);
+      steps = fit.steps_sound j;
+    };
+  };
   counts = fit.counts;
   limits = fit.limits;
   orders = fit.orders;
@@ -41,8 +49,8 @@ module _ (p : PlannedShop) (fit : IsFit p) where
   pub fit-stands : (j k m : ℕ) → Visits p j k m → (a : ℕ) × Stands p m a j k
   fit-stands j k m visits = (fit.orders m (fit-machine j k m visits)).complete j k visits
 
-  pub fit-order_once : (m : ℕ) → m < machines p → AreOnce (order p m)
-  fit-order_once m inside = (fit.orders m inside).once
+  pub fit-order : (m : ℕ) → m < machines p → IsPlainOrder p m
+  fit-order m inside = order-plain p m (λ j k l. fit-once j k l m) (fit.orders m inside)
 
 -- whether a step of job j behind its first n is on machine m
 pub behind_or_not : (p : PlannedShop) (j n m : ℕ) → IsBehind p j n m ⊎ (IsBehind p j n m → ⊥)

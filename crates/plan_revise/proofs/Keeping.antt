@@ -48,14 +48,17 @@ entered_moves s p is fit kept m a j k inside within here visits =
     at : get_or (order s.given m) a 0 ≡ j
     at = ap (λ (xs : List ℕ). get_or xs a 0) prefix.1 ∙ get_or-append (entries s.cell m) prefix.0 0 a within ∙ here
 
-    found : (k : ℕ) × Visits s.given (get_or (order s.given m) a 0) k m
+    found : (k : ℕ) × Stands s.given m a (get_or (order s.given m) a 0) k
     found = (is.shaped.orders m inside).on_route a shorter
 
+    stood : Stands s.given m a j found.0
+    stood = subst (λ i. Stands s.given m a i found.0) at found.1
+
     there : Visits s.given j found.0 m
-    there = subst (λ i. Visits s.given i found.0 m) at found.1
+    there = stood.visits
 
     moved : found.0 < made s.cell j
-    moved = is.sound.entered_made m a j found.0 (record { within = shorter; job = at; visits = there }) within
+    moved = is.sound.entered_made m a j found.0 stood within
 
     before : Visits p j found.0 (machine_of s.given j found.0)
     before = kept.entered j found.0 moved (record { within = there.within; here = refl })

@@ -12,6 +12,7 @@ use Rattle.shop_base.specs.Cell.{Cell, since, entries}
 use Rattle.shop_base.specs.Activity.{Arrival, Operation, Cleaning}
 use Rattle.shop_base.specs.Graph.{node, Arc, job_arc, blocking_arc, ArcsLead}
 use Rattle.shop_base.specs.Ahead.{PathAhead, now, held, onward}
+use Rattle.shop_base.proofs.Visits.{stands_alike}
 use Rattle.plan_verifier.specs.Accepted.{HasNoCycle}
 use Rattle.plan_revise.specs.Fits.{IsFit}
 use Rattle.plan_revise.specs.Parts.{IsOnRoute, Places}
@@ -30,21 +31,17 @@ module _ (p : PlannedShop) (j : ℕ) (r : List Step) (first last : ℕ) (q : Pla
   -- another job stands where it stood
   stands_others : (m a i k : ℕ) → i ≢ j → Stands q m a i k → Stands p m a i k
   stands_others m a i k other stands = elim (on_or_off r m) [
-    | inr off ↦ record {
-      within = omega (arith, ap length (places.elsewhere m off), stands.within);
-      job = sym (ap (λ (xs : List ℕ). get_or xs a 0) (places.elsewhere m off)) ∙ stands.job;
-      visits = visits_others i k m other stands.visits;
-    }
+    | inr off ↦ alike (omega (arith, ap length (places.elsewhere m off), stands.within)) (λ b before. sym (ap (λ (xs : List ℕ). get_or xs b 0) (places.elsewhere m off)))
     | inl on ↦ elim (cases_lt a (length (order p m))) [
-      | inl less ↦ record {
-        within = less;
-        job = sym (ap (λ (xs : List ℕ). get_or xs a 0) (places.last m on) ∙ get_or-append (order p m) (j ∷ []) 0 a less) ∙ stands.job;
-        visits = visits_others i k m other stands.visits;
-      }
+      | inl less ↦ alike less (λ b before. sym (ap (λ (xs : List ℕ). get_or xs b 0) (places.last m on) ∙ get_or-append (order p m) (j ∷ []) 0 b (omega (arith, before, less))))
       | inr more ↦ absurd (other (sym stands.job ∙ ap (job_at q m) (at on more) ∙ ap (λ (xs : List ℕ). get_or xs (length (order p m)) 0) (places.last m on) ∙ get_or-append_seam (order p m) j [] 0))
     ]
   ]
     where
+      alike : a < length (order p m) → ((b : ℕ) → b ≤ a → job_at p m b ≡ job_at q m b) → Stands p m a i k
+      alike within jobs_same = stands_alike q p m a i k stands within jobs_same (visits_others i k m other stands.visits).within
+          (λ l before. sym (ap (λ (s : List Step). (step_at s l).machine) (places.others i other)))
+
       at : IsOnRoute r m → length (order p m) ≤ a → a ≡ length (order p m)
       at on more = omega (arith, stands.within, ap length (places.last m on), length-append (order p m) (j ∷ []))
 
@@ -52,7 +49,7 @@ module _ (p : PlannedShop) (j : ℕ) (r : List Step) (first last : ℕ) (q : Pla
   not_before : (m a : ℕ) → m < machines p → a < length (order p m) → job_at p m a ≢ j
   not_before m a inside within same =
       let found = (fit.orders m inside).on_route a within in
-      omega (arith, found.1.within, ap length (ap (route p) same ∙ places.none))
+      omega (arith, found.1.visits.within, ap length (ap (route p) same ∙ places.none))
 
   -- it stands last
   stands_last : (m a k l g : ℕ) → l ≢ j → Stands q m a j k → Stands q m (a + 1) l g → ⊥

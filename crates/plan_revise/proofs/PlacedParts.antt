@@ -1,6 +1,6 @@
 -- A job that is placed, one job or machine more, and a step that lasts: what is left and changed, and that the plan still fits.
 use Rattle.std.proofs.Common.{◌≡◌, ◌≢◌, ℕ, zero, suc, ◌+◌, ◌<◌, ◌≤◌, ◌⊎◌, inl, inr, List, [], ◌∷◌, ◌++◌, length, get_or, set, Option, None, Some, refl, sym, ap, ◌∙◌, subst, arith, length-append}
-use Rattle.std.proofs.lemmas.Bool.{cases_eq, cases_lt}
+use Rattle.std.proofs.lemmas.Bool.{cases_eq, cases_lt, cases_order}
 use Rattle.std.proofs.lemmas.List.{get_or-set_same, get_or-set_other, length-set, get_or_past}
 use Rattle.std.proofs.Math.ListN.{get_or-append}
 use Rattle.std.proofs.Math.Seq.{get_or-append_seam}
@@ -8,13 +8,14 @@ use Rattle.shop_base.specs.declared.shop.Step.{Step}
 use Rattle.shop_base.specs.declared.limits.TheConstants.{MAX_JOBS, MAX_MACHINES, MAX_NOMINAL, MAX_RELEASE, MAX_MOMENT, MAX_CLEAN}
 use Rattle.shop_base.specs.Shop.{IsSoundStep, step_at, no_step}
 use Rattle.shop_base.specs.Plan.{PlannedShop, jobs, machines, route, steps, machine_of, nominal, order, job_at, release, budget, clean, clean_in, HasCleanCount, Visits, Stands, IsOrder}
+use Rattle.shop_base.proofs.{Visits.stands_alike, OneVisit.{IsPlain, IsPlainOrder, plain-order}}
 use Rattle.plan_revise.specs.Orders.{then_last}
 use Rattle.plan_revise.specs.Placed.{placed, with_job, with_machine, with_clean_machine}
 use Rattle.plan_revise.specs.Changes.{lasting}
 use Rattle.plan_revise.specs.Fits.{IsFit}
 use Rattle.plan_revise.specs.Parts.{IsOnRoute, Places, Lasts}
 use Rattle.plan_revise.proofs.Places.{AreApart, search_below, changed-length, changed-off, changed-on}
-use Rattle.plan_revise.proofs.Fitting.{fit-machine}
+use Rattle.plan_revise.proofs.Fitting.{fit-machine, fit-once, fit-order}
 
 -- steps that are sound are no twice on a machine
 pub sound_apart : (count : ℕ) (r : List Step) → ((k : ℕ) → k < length r → IsSoundStep count r k) → AreApart r
@@ -68,12 +69,28 @@ module _ (p : PlannedShop) (j : ℕ) (r : List Step) (first last : ℕ) (fit : I
   mine_on k m visits = (omega (arith, ap length placed-places.route_is, visits.within), sym (ap (λ (s : List Step). (step_at s k).machine) placed-places.route_is) ∙ visits.here)
 
   order_placed : (m : ℕ) → m < machines p → IsOrder (placed p j r first last) m
-  order_placed m here = elim (on_or_off r m) [ inl on ↦ longer on | inr off ↦ same off ]
+  order_placed m here = plain-order (placed p j r first last) m plain (elim (on_or_off r m) [ inl on ↦ longer on | inr off ↦ same off ])
     where
-      old : IsOrder p m
-      old = fit.orders m here
+      old : IsPlainOrder p m
+      old = fit-order p fit m here
 
-      same : (IsOnRoute r m → ⊥) → IsOrder (placed p j r first last) m
+      own_once : (k l : ℕ) → Visits (placed p j r first last) j k m → Visits (placed p j r first last) j l m → k ≡ l
+      own_once k l one other =
+          let (in_k, at_k) = mine_on k m one in
+          let (in_l, at_l) = mine_on l m other in
+          elim (cases_order k l) [
+            | inl is ↦ is
+            | inr (inl less) ↦ absurd (sound_apart (machines p) r sound k l less in_l (at_k ∙ sym at_l))
+            | inr (inr more) ↦ absurd (sound_apart (machines p) r sound l k more in_k (at_l ∙ sym at_k))
+          ]
+
+      plain : IsPlain (placed p j r first last) m
+      plain i k l one other = elim (cases_eq i j) [
+        | inl mine ↦ own_once k l (subst (λ i. Visits (placed p j r first last) i k m) mine one) (subst (λ i. Visits (placed p j r first last) i l m) mine other)
+        | inr apart ↦ fit-once p fit i k l m (visits_then i k m apart one) (visits_then i l m apart other)
+      ]
+
+      same : (IsOnRoute r m → ⊥) → IsPlainOrder (placed p j r first last) m
       same off = record {
         on_route = λ a within.
             let found = old.on_route a (omega (arith, ap length is)) in
@@ -88,14 +105,14 @@ module _ (p : PlannedShop) (j : ℕ) (r : List Step) (first last : ℕ) (fit : I
           at : (a : ℕ) → job_at (placed p j r first last) m a ≡ job_at p m a
           at a = ap (λ (xs : List ℕ). get_or xs a 0) is
 
-          complete : (i k : ℕ) → Visits (placed p j r first last) i k m → (a : ℕ) × Stands (placed p j r first last) m a i k
+          complete : (i k : ℕ) → Visits (placed p j r first last) i k m → (a : ℕ) × (a < length (order (placed p j r first last) m)) × (job_at (placed p j r first last) m a ≡ i)
           complete i k visits = elim (cases_eq i j) [
             | inl mine ↦ (let on = mine_on k m (subst (λ i. Visits (placed p j r first last) i k m) mine visits) in absurd (off (k, on.0, on.1)))
             | inr other ↦ (let found = old.complete i k (visits_then i k m other visits) in
-                (found.0, record { within = omega (arith, ap length is, found.1.within); job = at found.0 ∙ found.1.job; visits = visits }))
+                (found.0, omega (arith, ap length is, found.1), at found.0 ∙ found.2))
           ]
 
-      longer : IsOnRoute r m → IsOrder (placed p j r first last) m
+      longer : IsOnRoute r m → IsPlainOrder (placed p j r first last) m
       longer on = record { on_route = on_route; once = once; complete = complete }
         where
           is : order (placed p j r first last) m ≡ order p m ++ j ∷ []
@@ -134,11 +151,11 @@ module _ (p : PlannedShop) (j : ℕ) (r : List Step) (first last : ℕ) (fit : I
               go (inr x) (inl y) = absurd (not_front b y (sym (front b y) ∙ sym e ∙ end_at a one x))
               go (inr x) (inr y) = omega (arith, size)
 
-          complete : (i k : ℕ) → Visits (placed p j r first last) i k m → (a : ℕ) × Stands (placed p j r first last) m a i k
+          complete : (i k : ℕ) → Visits (placed p j r first last) i k m → (a : ℕ) × (a < length (order (placed p j r first last) m)) × (job_at (placed p j r first last) m a ≡ i)
           complete i k visits = elim (cases_eq i j) [
-            | inl mine ↦ (length (order p m), record { within = omega (arith, size); job = end ∙ sym mine; visits = visits })
+            | inl mine ↦ (length (order p m), omega (arith, size), end ∙ sym mine)
             | inr other ↦ (let found = old.complete i k (visits_then i k m other visits) in
-                (found.0, record { within = omega (arith, size, found.1.within); job = front found.0 found.1.within ∙ found.1.job; visits = visits }))
+                (found.0, omega (arith, size, found.1), front found.0 found.1 ∙ found.2))
           ]
 
   pub placed-fit : first ≤ MAX_RELEASE → last ≤ MAX_MOMENT → IsFit (placed p j r first last)
@@ -206,15 +223,16 @@ module _ (p q : PlannedShop) (same : SameVisits p q) where
   same-at m a = ap (λ (xs : List ℕ). get_or xs a 0) (same.orders m)
 
   pub same-stands : (m a j k : ℕ) → Stands p m a j k → Stands q m a j k
-  same-stands m a j k stands = record { within = omega (arith, ap length (same.orders m), stands.within); job = same-at m a ∙ stands.job; visits = same-visits j k m stands.visits }
+  same-stands m a j k stands = stands_alike p q m a j k stands (omega (arith, ap length (same.orders m), stands.within))
+      (λ b before. same-at m b) (omega (arith, same.lengths j, stands.visits.within)) (λ i before. same.machines_same j i)
 
   pub same-stands_back : (m a j k : ℕ) → Stands q m a j k → Stands p m a j k
-  same-stands_back m a j k stands = record { within = omega (arith, ap length (same.orders m), stands.within); job = sym (same-at m a) ∙ stands.job; visits = same-visits_back j k m stands.visits }
+  same-stands_back m a j k stands = stands_alike q p m a j k stands (omega (arith, ap length (same.orders m), stands.within))
+      (λ b before. sym (same-at m b)) (omega (arith, same.lengths j, stands.visits.within)) (λ i before. sym (same.machines_same j i))
 
   pub same-order : (m : ℕ) → IsOrder p m → IsOrder q m
   same-order m old = record {
-    on_route = λ a within. (let found = old.on_route a (omega (arith, ap length (same.orders m))) in (found.0, subst (λ i. Visits q i found.0 m) (sym (same-at m a)) (same-visits (job_at p m a) found.0 m found.1)));
-    once = λ a b one other e. old.once a b (omega (arith, ap length (same.orders m))) (omega (arith, ap length (same.orders m))) (sym (same-at m a) ∙ e ∙ same-at m b);
+    on_route = λ a within. (let found = old.on_route a (omega (arith, ap length (same.orders m))) in (found.0, subst (λ i. Stands q m a i found.0) (sym (same-at m a)) (same-stands m a (job_at p m a) found.0 found.1)));
     complete = λ j k visits. (let found = old.complete j k (same-visits_back j k m visits) in (found.0, same-stands m found.0 j k found.1));
   }
 
@@ -266,7 +284,7 @@ with_machine-same p = record { lengths = λ j. refl; machines_same = λ j k. ref
 pub with_machine-fit : (p : PlannedShop) → IsFit p → machines p < MAX_MACHINES → IsFit (with_machine p)
 with_machine-fit p fit few = record {
   size = record { some_job = fit.size.some_job; few_jobs = fit.size.few_jobs; some_machine = omega arith; few_machines = omega arith };
-  steps_sound = λ j k within. (let s = fit.steps_sound j k within in record { in_range = omega (arith, s.in_range); first_visit = s.first_visit; nominal = s.nominal });
+  steps_sound = λ j k within. (let s = fit.steps_sound j k within in record { in_range = omega (arith, s.in_range); elsewhere = s.elsewhere; first_visit = s.first_visit; nominal = s.nominal });
   counts = record {
     releases = fit.counts.releases;
     budgets = fit.counts.budgets;
@@ -297,7 +315,6 @@ with_machine-fit p fit few = record {
     unvisited : (m : ℕ) → machines p ≤ m → IsOrder (with_machine p) m
     unvisited m more = record {
       on_route = λ a within. absurd (omega (arith, empty));
-      once = λ a b one other same. absurd (omega (arith, empty));
       complete = λ j k visits. absurd (omega (arith, fit-machine p fit j k m (same-visits_back p (with_machine p) (with_machine-same p) j k m visits)));
     }
       where
@@ -385,6 +402,7 @@ module _ (p : PlannedShop) (j k time : ℕ) (inside : j < jobs p) (within : k < 
           let s = fit.steps_sound i l (omega (arith, lasting-lasts.lengths i)) in
           record {
             in_range = omega (arith, lasting-lasts.machines_same i l, s.in_range);
+            elsewhere = λ (h, next, same). s.elsewhere (h, next, sym (lasting-lasts.machines_same i h) ∙ same ∙ lasting-lasts.machines_same i l);
             first_visit = λ h before same. s.first_visit h before (sym (lasting-lasts.machines_same i h) ∙ same ∙ lasting-lasts.machines_same i l);
             nominal = times i l s.nominal;
           }

@@ -89,7 +89,7 @@ has_aside s p revision room = elim (cases_eq (machines p) s.plant) [
     }
 
 pub aside_sound : (plant count : ℕ) → plant < count → (k : ℕ) → k < length (aside_route plant) → IsSoundStep count (aside_route plant) k
-aside_sound plant count less zero within = record { in_range = less; first_visit = λ i before same. absurd (omega arith); nominal = omega arith }
+aside_sound plant count less zero within = record { in_range = less; elsewhere = λ (i, next, same). absurd (omega (arith, next)); first_visit = λ i before same. absurd (omega arith); nominal = omega arith }
 aside_sound plant count less (suc k) within = absurd (omega arith)
 
 module _ (s : Setting) (p : PlannedShop) (j : ℕ) (is : IsSetting s) (revision : IsRevision s p) (inside : j < jobs p) (outside : moves_made s j ≡ 0) (room : HasRoom s p) where
@@ -279,7 +279,7 @@ module _ (s : Setting) (is : IsSetting s) where
     added_none = default_more p.shop.routes [] (jobs p) ∙ get_or_past p.shop.routes (jobs p) [] (omega arith)
 
     pub added_sound : (k : ℕ) → k < length r → IsSoundStep (machines p) r k
-    added_sound k less = let one = sound.steps k less in record { in_range = elim revision.plant [ inl same ↦ omega (arith, one.in_range) | inr more ↦ omega (arith, one.in_range) ]; first_visit = one.first_visit; nominal = one.nominal }
+    added_sound k less = let one = sound.steps k less in record { in_range = elim revision.plant [ inl same ↦ omega (arith, one.in_range) | inr more ↦ omega (arith, one.in_range) ]; elsewhere = one.elsewhere; first_visit = one.first_visit; nominal = one.nominal }
 
     pub added_fit : IsFit (with_job p)
     added_fit = with_job-fit p revision.fit few

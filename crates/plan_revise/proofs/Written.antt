@@ -113,7 +113,7 @@ scrap_made s p q j inside here (Err refusal) is room = tt
 
 -- a job in an order is of the shop
 pub listed_job : (p : PlannedShop) (m a : ℕ) → IsWellShaped p → m < machines p → a < length (order p m) → job_at p m a < jobs p
-listed_job p m a shaped inside within = let found = (shaped.orders m inside).on_route a within in visits_job p (job_at p m a) found.0 m found.1
+listed_job p m a shaped inside within = let found = (shaped.orders m inside).on_route a within in visits_job p (job_at p m a) found.0 m found.1.visits
 
 -- ---- who is at work on a machine
 
@@ -153,7 +153,7 @@ aside_by_places p m b shaped last visited uncleaned says = (
     uncleaned = uncleaned;
     visitors = λ j k visits. (let found = visits-stands p j k m shaped visits in subst (IsAsideJob p) found.1.job (says.0 pass found.0 found.1.within));
   },
-  λ aside. says.1 (λ a within. (let found = (shaped.orders m (omega arith)).on_route a within in aside.visitors (job_at p m a) found.0 found.1)),
+  λ aside. says.1 (λ a within. (let found = (shaped.orders m (omega arith)).on_route a within in aside.visitors (job_at p m a) found.0 found.1.visits)),
 )
 
 -- ---- changes one after another

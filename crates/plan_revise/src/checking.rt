@@ -1,7 +1,8 @@
 //! The checks of the route of a job that is added.
 
-ghost use Rattle.std.specs.Prelude.{◌≡◌, ℕ, ◌<◌, ◌↔◌, IsTrue, OnOk, IfErr, length};
+ghost use Rattle.std.specs.Prelude.{◌≡◌, ℕ, ◌<◌, ◌≤◌, ◌↔◌, IsTrue, OnOk, IfErr, length};
 ghost use Rattle.shop_base.specs.Shop.{IsRoute, IsSoundStep, step_at};
+ghost use Rattle.shop_base.specs.declared.limits.TheConstants.{MAX_MACHINES};
 ghost use Rattle.shop_base.specs.ShopFault.{AreSoundSteps, IsLaterVisit};
 ghost use Rattle.plan_revise.specs.Routes.{IsRouteFault, IsStepFault};
 
@@ -11,6 +12,7 @@ use shop_base::limits::MAX_NOMINAL;
 
 /// Checks that the steps are a route over so many machines.
 pub(crate) fn check_route(machines: u32, route: &[Step]) -> Result<(), ChangeFault>
+    requires { machines ≤ MAX_MACHINES }
     ensures sound { OnOk result (IsRoute machines route.now) }
     ensures fault { IfErr result (IsRouteFault machines route.now) }
 {

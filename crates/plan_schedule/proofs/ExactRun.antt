@@ -9,7 +9,7 @@ use Rattle.shop_base.specs.{Move.{CanMove, after_move}, Run.{Event, Reported, Mo
 use Rattle.shop_base.specs.Punctual.{IsPunctual, ArePunctualFrom, AreExact, AreNotEarly}
 use Rattle.shop_base.specs.{Graph.{node, IsNode, Arc, job_arc, blocking_arc, Path, begins, follows, RanksRise, MomentsFit}, Sound.IsSound}
 use Rattle.shop_base.specs.{Ahead.{next_node, IsScheduleAhead, GoesOnTo}, Within.AreMadeBy}
-use Rattle.shop_base.proofs.{Visits.{steps_job, visits_job, visits_once, visits-stands, on_or_not}, InShop.{ready_in_shop, start_unused}}
+use Rattle.shop_base.proofs.{Visits.{steps_job, visits_job, visits_apart, visits-stands, on_or_not}, InShop.{ready_in_shop, start_unused}}
 use Rattle.shop_base.proofs.{Cycles.source_node, Changes.{IsMoved, after_move-moved, moves_within}}
 use Rattle.shop_base.proofs.Keeping.{IsLike, start-made, start-sound, after_report-like, after_report-sound, after_move-sound, target_free}
 use Rattle.shop_base.proofs.{ControlledRuns.{after_all_join, controlled_to_run}, InTime.exact-punctual}
@@ -104,7 +104,7 @@ module _ (p : PlannedShop) (rank moments : Node → ℕ) (shaped : IsWellShaped 
     cleaning_left k m from on is = elim (cases_lt 0 (clean p m)) [
       | inr untimed ↦ absurd (sound.cleaned_free m from (sym (change.cleaning_needless k m on (omega (arith, untimed))) ∙ is) j k on)
       | inl timed ↦ (let (a, stands) = visits-stands p j k m shaped on.visits in
-          let count : length (entries new m) ≡ a + 1 = ap length (change.not_entered m (λ visits. omega (arith, on.entered, visits_once p j k (made c j) m shaped on.visits visits))) ∙ sound.newest m a j k stands on.entered in
+          let count : length (entries new m) ≡ a + 1 = ap length (change.not_entered m (λ visits. visits_apart p j k (made c j) m shaped on.visits visits on.entered)) ∙ sound.newest m a j k stands on.entered in
           (j, k, (a, count, stands), begins_now (change.cleaning_begins k m on timed) ∙ ap (λ n. moments (node j n)) on.entered))
     ]
       where

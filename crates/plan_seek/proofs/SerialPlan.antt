@@ -9,11 +9,12 @@ use Rattle.std.proofs.lemmas.List.FromFn.{length-range_with_len, get_or-range_wi
 use Rattle.std.proofs.lemmas.List.Folds.{Any-from_list_any, list_any_at}
 use Rattle.std.proofs.lemmas.List.Kept.{IsStrictlyIncreasing-filter}
 use Rattle.std.proofs.lemmas.Map.Keys.{sorted_from_strictly_increasing, below_from_sorted}
+use Rattle.std.proofs.Math.Nat.{le_of_lt}
 use Rattle.shop_base.specs.declared.shop.Step.{Step}
 use Rattle.shop_base.specs.Shop.{IsShop, no_step, step_at, route_at}
 use Rattle.shop_base.specs.Plan.{order, Visits, HasCounts, IsWithinLimits, IsOrder, IsWellShaped}
 use Rattle.shop_base.specs.Graph.{IsSerial}
-use Rattle.shop_base.proofs.Visits.{visits_job}
+use Rattle.shop_base.proofs.{Visits.visits_job, OneVisit.{shop_once, plain-order}}
 use Rattle.plan_seek.specs.Orders.{is_on_route, visitors, serial_order}
 use Rattle.plan_seek.specs.Tasks.{PlanTask, serial_plan}
 
@@ -75,8 +76,8 @@ module _ (t : PlanTask) where
 
   pub serial-rises : IsSerial (serial_plan t)
   serial-rises m a within = elim (cases_lt m t.shop.machines) [
-    | inl inside ↦ subst (λ (o : List ℕ). get_or o a 0 < get_or o (a + 1) 0) (sym (row_at m inside))
-        (row_rises m a (subst (λ (o : List ℕ). a + 1 < length o) (row_at m inside) within))
+    | inl inside ↦ subst (λ (o : List ℕ). get_or o a 0 ≤ get_or o (a + 1) 0) (sym (row_at m inside))
+        (le_of_lt (row_rises m a (subst (λ (o : List ℕ). a + 1 < length o) (row_at m inside) within)))
     | inr past ↦ absurd (omega (arith, ap length (get_or_past (serial_order t.shop) m [] (omega (arith, serial_count))), within))
   ]
 
@@ -104,17 +105,17 @@ module _ (t : PlanTask) where
       passes-among (λ i. is_on_route (route_at t.shop.routes i) m) 0 (length t.shop.routes) j (omega arith)
       (omega (arith, visits_job (serial_plan t) j k m visits)) (at-comes (route_at t.shop.routes j) m k visits.within visits.here)
 
-  serial-orders : (m : ℕ) → m < t.shop.machines → IsOrder (serial_plan t) m
-  serial-orders m inside =
+  serial-orders : IsShop t.shop → (m : ℕ) → m < t.shop.machines → IsOrder (serial_plan t) m
+  serial-orders shop m inside =
       let at : order (serial_plan t) m ≡ row m = row_at m inside in
-      record {
+      plain-order (serial_plan t) m (λ j k l. shop_once (serial_plan t) j k l m shop) (record {
         on_route = λ a within. subst (λ (o : List ℕ). (k : ℕ) × Visits (serial_plan t) (get_or o a 0) k m) (sym at)
             (row_visits m a (subst (λ (o : List ℕ). a < length o) at within));
         once = λ a b in_a in_b same. row_once m a b (subst (λ (o : List ℕ). a < length o) at in_a) (subst (λ (o : List ℕ). b < length o) at in_b)
             (subst (λ (o : List ℕ). get_or o a 0 ≡ get_or o b 0) at same);
         complete = λ j k visits. (let among : IsAmong (order (serial_plan t) m) j = subst (λ (o : List ℕ). IsAmong o j) (sym at) (row_complete m j k visits) in
-            (among.0, record { within = among.1; job = among.2; visits = visits }));
-      }
+            (among.0, among.1, among.2));
+      })
 
   pub serial-shaped : IsShop t.shop → HasCounts (serial_plan t) → IsWithinLimits (serial_plan t) → IsWellShaped (serial_plan t)
-  serial-shaped shop counts limits = record { shop = shop; counts = counts; limits = limits; orders = serial-orders }
+  serial-shaped shop counts limits = record { shop = shop; counts = counts; limits = limits; orders = serial-orders shop }

@@ -118,7 +118,8 @@ pub fn drive_writes_the_same()
 /// The same holds of `resume`, where the plan is well shaped and the log can be recovered by it. If the log records no
 /// event, the plan is accepted and no present moment is given, `resume` writes an empty line, and then what `drive`
 /// writes with the same files, the same input and the same protocol. Only a run whose output goes to the log writes
-/// nothing, and ends with 5.
+/// nothing, and ends with 5. (Where a folder doesn't tell where the output goes, as the program's own, the law excuses
+/// any run that writes nothing and ends with 5.)
 pub fn resume_writes_the_same()
     ensures same { ResumeWritesTheSame }
     ensures as_drive { ResumeWritesAsDrive }
@@ -131,8 +132,9 @@ pub fn hub_writes_the_same()
 
 /// The same holds of `drive` with a log of its own, if two runs find the same log, which is as the words ask. It has no
 /// bytes, and the plan is accepted; or it can be recovered by the plan, which is well shaped, and its end can be torn.
-/// Only a run whose output goes to the log writes nothing, and ends with 5. This holds unless memory runs out, or the
-/// log, its folder or a read or write fails.
+/// Only a run whose output goes to the log writes nothing, and ends with 5. (Where a folder doesn't tell where the
+/// output goes, as the program's own, the law excuses any run that writes nothing and ends with 5.) This holds unless
+/// memory runs out, or the log, its folder or a read or write fails.
 pub fn logged_drive_writes_the_same()
     ensures { LoggedDriveWritesTheSame }
 {}
