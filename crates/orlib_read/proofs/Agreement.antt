@@ -18,33 +18,30 @@ use Rattle.orlib_read.proofs.Numbers.{done, failed, ok_is, err_is}
 use Rattle.orlib_read.proofs.Drafts.{instance_is, instance_again, instance_fault, instance_cut, instance_extra}
 use Rattle.orlib_read.proofs.Sections.{section_content, section_content_again, section_fault, section_lacks, section_cut}
 
-abbrev shop_of : Content → JobShop
-shop_of content = record { machines = content.machines; routes = content.routes }
-
 -- the reading gives exactly what is related to the text, and fails with exactly what is wrong first
 pub record Agrees (reading : Result Content OrFault) (Is : List ℕ → JobShop → Type 0) (Wrong : OrFault → Type 0) : Type 0 where
-  is : (content : Content) → reading ≡ Ok content → IsShop (shop_of content) → Is content.description (shop_of content)
+  is : (content : Content) → reading ≡ Ok content → IsShop content.shop → Is content.description content.shop
   sound : (description : List ℕ) (shop : JobShop) → Is description shop → IsShop shop
   again : (description : List ℕ) (shop : JobShop) → Is description shop → reading ≡ Ok (content_with description shop)
   fault : (fault : OrFault) → reading ≡ Err fault → Wrong fault
-  no_shop : (content : Content) (reason : ShopFault) → reading ≡ Ok content → IsFirstFault content.machines content.routes reason → Wrong (Shop reason)
+  no_shop : (content : Content) (reason : ShopFault) → reading ≡ Ok content → IsFirstFault content.shop.machines content.shop.recirculates content.shop.routes reason → Wrong (Shop reason)
   wrong : (fault : OrFault) → Wrong fault → (reading ≡ Err fault) ⊎ GivesNoShop reading fault
 
 pub instance_agrees : (text : List ℕ) → Agrees (instance_at (unfilled_lines text)) (IsInstance text) (IsInstanceFault text)
 instance_agrees text = record {
   is = λ content h s. record { reads = instance_is (unfilled_lines text) content h; sound = s };
   sound = λ description shop i. i.sound;
-  again = λ description shop i. instance_again (unfilled_lines text) description shop.machines shop.routes i.reads;
+  again = λ description shop i. instance_again (unfilled_lines text) description shop i.reads;
   fault = λ fault h. elim (instance_fault (unfilled_lines text) fault h) [ inl cut ↦ inl cut | inr extra ↦ inr (inl extra) ];
   no_shop = λ content reason h f.
-      inr (inr (record { description = content.description; machines = content.machines; routes = content.routes; reason = reason; reads = instance_is (unfilled_lines text) content h; wrong = f; is = refl }));
+      inr (inr (record { description = content.description; shop = content.shop; reason = reason; reads = instance_is (unfilled_lines text) content h; wrong = f; is = refl }));
   wrong = λ fault w. elim w [
     | inl cut ↦ inl (instance_cut (unfilled_lines text) fault cut)
     | inr (inl extra) ↦ inl (instance_extra (unfilled_lines text) fault extra)
     | inr (inr none) ↦ inr (record {
-      content = record { description = none.description; machines = none.machines; routes = none.routes };
+      content = record { description = none.description; shop = none.shop };
       reason = none.reason;
-      gives = instance_again (unfilled_lines text) none.description none.machines none.routes none.reads;
+      gives = instance_again (unfilled_lines text) none.description none.shop none.reads;
       wrong = none.wrong;
       is = none.is;
     })
@@ -57,7 +54,7 @@ section_agrees text name = record {
       let r = section_content name (unfilled_lines text) content h in
       record { section = r.section; rest = r.rest; is_section = r.is_section; reads = r.reads; sound = s };
   sound = λ description shop i. i.sound;
-  again = λ description shop i. section_content_again name (unfilled_lines text) i.section description shop.machines shop.routes i.rest i.is_section i.reads;
+  again = λ description shop i. section_content_again name (unfilled_lines text) i.section description shop i.rest i.is_section i.reads;
   fault = λ fault h. elim (section_fault name (unfilled_lines text) fault h) [
     | inl none ↦ inl none
     | inr cut ↦ inr (record { section = cut.section; rest = []; is_section = cut.is_section; wrong = inl cut.cut })
@@ -68,16 +65,16 @@ section_agrees text name = record {
         section = r.section;
         rest = r.rest;
         is_section = r.is_section;
-        wrong = inr (record { description = content.description; machines = content.machines; routes = content.routes; reason = reason; reads = r.reads; wrong = f; is = refl });
+        wrong = inr (record { description = content.description; shop = content.shop; reason = reason; reads = r.reads; wrong = f; is = refl });
       });
   wrong = λ fault w. elim w [
     | inl none ↦ inl (section_lacks name (unfilled_lines text) fault none)
     | inr f ↦ elim f.wrong [
       | inl cut ↦ inl (section_cut name (unfilled_lines text) f.section fault f.is_section cut)
       | inr none ↦ inr (record {
-        content = record { description = none.description; machines = none.machines; routes = none.routes };
+        content = record { description = none.description; shop = none.shop };
         reason = none.reason;
-        gives = section_content_again name (unfilled_lines text) f.section none.description none.machines none.routes f.rest f.is_section none.reads;
+        gives = section_content_again name (unfilled_lines text) f.section none.description none.shop f.rest f.is_section none.reads;
         wrong = none.wrong;
         is = none.is;
       })
@@ -103,16 +100,16 @@ read_or_failed : {P : Type 0} {reading : Result Content OrFault} (content : Cont
 read_or_failed content fault h k = let both : done content ≡ failed fault = sym h ∙ k in absurd (cc)
 
 -- content that is a shop isn't content that makes none
-shop_or_none : {P : Type 0} {reading : Result Content OrFault} {fault : OrFault} (content : Content) → reading ≡ Ok content → IsShop (shop_of content) → GivesNoShop reading fault → P
+shop_or_none : {P : Type 0} {reading : Result Content OrFault} {fault : OrFault} (content : Content) → reading ≡ Ok content → IsShop content.shop → GivesNoShop reading fault → P
 shop_or_none content h s none =
     let e = ok_is content none.content (sym h ∙ none.gives) in
-    absurd (fault_refutes content.machines content.routes none.reason (subst (λ (c : Content). IsFirstFault c.machines c.routes none.reason) (sym e) none.wrong) s)
+    absurd (fault_refutes content.shop.machines content.shop.recirculates content.shop.routes none.reason (subst (λ (c : Content). IsFirstFault c.shop.machines c.shop.recirculates c.shop.routes none.reason) (sym e) none.wrong) s)
 
 same_reason : {reading : Result Content OrFault} (fault other : OrFault) → GivesNoShop reading fault → GivesNoShop reading other → fault ≡ other
 same_reason fault other f g =
     let e = ok_is g.content f.content (sym g.gives ∙ f.gives) in
-    let wrong : IsFirstFault f.content.machines f.content.routes g.reason = subst (λ (c : Content). IsFirstFault c.machines c.routes g.reason) e g.wrong in
-    f.is ∙ ap (λ (reason : ShopFault). Shop reason) (fault_once f.content.machines f.content.routes f.reason g.reason f.wrong wrong) ∙ sym g.is
+    let wrong : IsFirstFault f.content.shop.machines f.content.shop.recirculates f.content.shop.routes g.reason = subst (λ (c : Content). IsFirstFault c.shop.machines c.shop.recirculates c.shop.routes g.reason) e g.wrong in
+    f.is ∙ ap (λ (reason : ShopFault). Shop reason) (fault_once f.content.shop.machines f.content.shop.recirculates f.content.shop.routes f.reason g.reason f.wrong wrong) ∙ sym g.is
 
 pub found : {reading : Result Content OrFault} {Is : List ℕ → JobShop → Type 0} {Wrong : OrFault → Type 0} → Agrees reading Is Wrong
     → (result : Result Named OrFault) → Answers result reading → IfOk result (λ named. Is named.description.items named.shop)
@@ -123,7 +120,7 @@ pub only : {reading : Result Content OrFault} {Is : List ℕ → JobShop → Typ
     → (result : Result Named OrFault) → Answers result reading → (description : List ℕ) (shop : JobShop) → Is description shop → IsRead result description shop
 only a (Ok named) h description shop i =
     let e = ok_is (content_with named.description.items named.shop) (content_with description shop) (sym h.0 ∙ a.again description shop i) in
-    (ap (λ (c : Content). c.description) e, ap shop_of e)
+    (ap (λ (c : Content). c.description) e, ap (λ (c : Content). c.shop) e)
 only a (Err fault) h description shop i = only_memory fault (λ other. elim (h other) [
   | inl e ↦ read_or_failed (content_with description shop) fault (a.again description shop i) e
   | inr none ↦ shop_or_none (content_with description shop) (a.again description shop i) (a.sound description shop i) none

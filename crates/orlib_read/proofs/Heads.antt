@@ -1,6 +1,7 @@
 -- The lines before the job lines.
 use Rattle.std.proofs.Common.{◌≡◌, ℕ, List, [], ◌∷◌, ◌++◌, Option, Some, None, Ok, Err, refl, sym, ap, subst}
 use Rattle.std.specs.List.{AllByRecursion}
+use Rattle.orlib_read.specs.declared.named.Sizes.{Sizes}
 use Rattle.orlib_read.specs.declared.or_fault.OrFault.{OrFault}
 use Rattle.orlib_read.specs.declared.or_fault.OrFault.TheVariants.{NoSizes, BadSizes}
 use Rattle.text_lines.specs.Lines.{NumberedLine}
@@ -8,9 +9,9 @@ use Rattle.orlib_read.specs.Words.{words_of}
 use Rattle.orlib_read.specs.Kinds.{IsAnyInstanceLine, IsOtherLine}
 use Rattle.orlib_read.specs.Instance.{Opens}
 use Rattle.orlib_read.specs.Faults.{IsSizesFault}
-use Rattle.orlib_read.specs.Reading.{Head, is_instance_line, without_titles, sizes_of, head_at}
+use Rattle.orlib_read.specs.Reading.{Head, is_instance_line, without_titles, sizes_of, worded_sizes_of, head_at}
 use Rattle.orlib_read.proofs.Parts.{cases_bool}
-use Rattle.orlib_read.proofs.Numbers.{done, failed, ok_is, err_is, any_title, any_title_again, other_line, other_line_again, size_line_is, size_line_again, no_size_line_is, no_size_line_again, size_is_other}
+use Rattle.orlib_read.proofs.Numbers.{done, failed, ok_is, err_is, any_title, any_title_again, other_line, other_line_again, size_line_is, size_line_again, no_size_line_is, no_size_line_again, worded_line_is, worded_line_again, no_worded_line_is, no_worded_line_again, size_is_other}
 
 -- no line is left, or one that is no instance line comes first
 abbrev pub IsBare : List NumberedLine → Type 0
@@ -49,7 +50,7 @@ Opened = Head × List NumberedLine
 pub record HeadRead (lines : List NumberedLine) (x : Head × List NumberedLine) : Type 0 where
   pub opening : List NumberedLine
   pub whole : lines ≡ opening ++ x.1
-  pub opens : Opens opening x.0.description x.0.jobs x.0.machines
+  pub opens : Opens opening x.0.description x.0.sizes
 
 pub cases_option : {A : Type 0} (o : Option A) (P : Type 0) → (o ≡ None → P) → ((x : A) → o ≡ Some x → P) → P
 cases_option None P first second = first refl
@@ -60,21 +61,21 @@ head_is [] x bare h = absurd cc
 head_is (first ∷ []) x bare h = cases_option (sizes_of (words_of first.bytes)) _
     (λ e. let wrong : failed {A = Opened} NoSizes ≡ done x = rw e at h in absurd (cc))
     (λ s e.
-    let made : Opened = (record { description = []; jobs = s.0; machines = s.1 }, []) in
+    let made : Opened = (record { description = []; sizes = s }, []) in
     let ok : done made ≡ done x = rw e at h in
-    subst (λ (y : Opened). HeadRead (first ∷ []) y) (ok_is made x ok) (record { opening = first ∷ []; whole = refl; opens = (refl, size_line_is first s e) }))
+    subst (λ (y : Opened). HeadRead (first ∷ []) y) (ok_is made x ok) (record { opening = first ∷ []; whole = refl; opens = (refl, (size_line_is first s e).0, (size_line_is first s e).1) }))
 head_is (first ∷ line ∷ rest) x bare h = cases_option (sizes_of (words_of first.bytes)) _
-    (λ e. cases_option (sizes_of (words_of line.bytes)) _
+    (λ e. cases_option (worded_sizes_of (words_of line.bytes)) _
     (λ f. let wrong : failed {A = Opened} (BadSizes line.number) ≡ done x = rw (e, f) at h in absurd (cc))
     (λ s f.
-    let made : Opened = (record { description = first.bytes; jobs = s.0; machines = s.1 }, rest) in
+    let made : Opened = (record { description = first.bytes; sizes = s }, rest) in
     let ok : done made ≡ done x = rw (e, f) at h in
     subst (λ (y : Opened). HeadRead (first ∷ line ∷ rest) y) (ok_is made x ok)
-    (record { opening = first ∷ line ∷ []; whole = refl; opens = (refl, record { no_instance_line = bare; no_size_line = no_size_line_is first e }, size_line_is line s f) })))
+    (record { opening = first ∷ line ∷ []; whole = refl; opens = (refl, record { no_instance_line = bare; no_size_line = no_size_line_is first e }, worded_line_is line s f) })))
     (λ s e.
-    let made : Opened = (record { description = []; jobs = s.0; machines = s.1 }, line ∷ rest) in
+    let made : Opened = (record { description = []; sizes = s }, line ∷ rest) in
     let ok : done made ≡ done x = rw e at h in
-    subst (λ (y : Opened). HeadRead (first ∷ line ∷ rest) y) (ok_is made x ok) (record { opening = first ∷ []; whole = refl; opens = (refl, size_line_is first s e) }))
+    subst (λ (y : Opened). HeadRead (first ∷ line ∷ rest) y) (ok_is made x ok) (record { opening = first ∷ []; whole = refl; opens = (refl, (size_line_is first s e).0, (size_line_is first s e).1) }))
 
 pub head_fault : (lines : List NumberedLine) (fault : OrFault) → IsBare lines → head_at lines ≡ Err fault → IsSizesFault lines fault
 head_fault [] fault bare h = sym (err_is {A = Opened} NoSizes fault h)
@@ -83,36 +84,36 @@ head_fault (first ∷ []) fault bare h = cases_option (sizes_of (words_of first.
     let wrong : failed {A = Opened} NoSizes ≡ failed fault = rw e at h in
     (record { no_instance_line = bare; no_size_line = no_size_line_is first e }, sym (err_is {A = Opened} NoSizes fault wrong)))
     (λ s e.
-    let made : Opened = (record { description = []; jobs = s.0; machines = s.1 }, []) in
+    let made : Opened = (record { description = []; sizes = s }, []) in
     let ok : done made ≡ failed fault = rw e at h in absurd (cc))
 head_fault (first ∷ line ∷ rest) fault bare h = cases_option (sizes_of (words_of first.bytes)) _
-    (λ e. cases_option (sizes_of (words_of line.bytes)) _
+    (λ e. cases_option (worded_sizes_of (words_of line.bytes)) _
     (λ f.
     let wrong : failed {A = Opened} (BadSizes line.number) ≡ failed fault = rw (e, f) at h in
-    (record { no_instance_line = bare; no_size_line = no_size_line_is first e }, no_size_line_is line f, sym (err_is {A = Opened} (BadSizes line.number) fault wrong)))
+    (record { no_instance_line = bare; no_size_line = no_size_line_is first e }, no_worded_line_is line f, sym (err_is {A = Opened} (BadSizes line.number) fault wrong)))
     (λ s f.
-    let made : Opened = (record { description = first.bytes; jobs = s.0; machines = s.1 }, rest) in
+    let made : Opened = (record { description = first.bytes; sizes = s }, rest) in
     let ok : done made ≡ failed fault = rw (e, f) at h in absurd (cc)))
     (λ s e.
-    let made : Opened = (record { description = []; jobs = s.0; machines = s.1 }, line ∷ rest) in
+    let made : Opened = (record { description = []; sizes = s }, line ∷ rest) in
     let ok : done made ≡ failed fault = rw e at h in absurd (cc))
 
 -- ---- and back
 
-pub opens_bare : (opening rest : List NumberedLine) (description : List ℕ) (jobs machines : ℕ) → Opens opening description jobs machines → IsBare (opening ++ rest)
-opens_bare [] rest description jobs machines h = absurd h
-opens_bare (size ∷ []) rest description jobs machines h = size_is_other size jobs machines h.1
-opens_bare (first ∷ size ∷ []) rest description jobs machines h = h.1.no_instance_line
-opens_bare (first ∷ size ∷ other ∷ lines) rest description jobs machines h = absurd h
+pub opens_bare : (opening rest : List NumberedLine) (description : List ℕ) (sizes : Sizes) → Opens opening description sizes → IsBare (opening ++ rest)
+opens_bare [] rest description sizes h = absurd h
+opens_bare (size ∷ []) rest description sizes h = size_is_other size sizes.jobs sizes.machines h.2
+opens_bare (first ∷ size ∷ []) rest description sizes h = h.1.no_instance_line
+opens_bare (first ∷ size ∷ other ∷ lines) rest description sizes h = absurd h
 
-pub head_again : (opening rest : List NumberedLine) (description : List ℕ) (jobs machines : ℕ) → Opens opening description jobs machines
-    → head_at (opening ++ rest) ≡ Ok (record { description = description; jobs = jobs; machines = machines }, rest)
-head_again [] rest description jobs machines h = absurd h
-head_again (size ∷ []) rest description jobs machines h = rw (size_line_again size jobs machines h.1)
-    (ap (λ (d : List ℕ). done {A = Opened} (record { description = d; jobs = jobs; machines = machines }, rest)) (sym h.0))
-head_again (first ∷ size ∷ []) rest description jobs machines h = rw (no_size_line_again first h.1.no_size_line, size_line_again size jobs machines h.2)
-    (ap (λ (d : List ℕ). done {A = Opened} (record { description = d; jobs = jobs; machines = machines }, rest)) (sym h.0))
-head_again (first ∷ size ∷ other ∷ lines) rest description jobs machines h = absurd h
+pub head_again : (opening rest : List NumberedLine) (description : List ℕ) (sizes : Sizes) → Opens opening description sizes
+    → head_at (opening ++ rest) ≡ Ok (record { description = description; sizes = sizes }, rest)
+head_again [] rest description sizes h = absurd h
+head_again (size ∷ []) rest description sizes h = rw (size_line_again size sizes (h.1, h.2))
+    (ap (λ (d : List ℕ). done {A = Opened} (record { description = d; sizes = sizes }, rest)) (sym h.0))
+head_again (first ∷ size ∷ []) rest description sizes h = rw (no_size_line_again first h.1.no_size_line, worded_line_again size sizes h.2)
+    (ap (λ (d : List ℕ). done {A = Opened} (record { description = d; sizes = sizes }, rest)) (sym h.0))
+head_again (first ∷ size ∷ other ∷ lines) rest description sizes h = absurd h
 
 pub sizes_fault_bare : (rest : List NumberedLine) (fault : OrFault) → IsSizesFault rest fault → IsBare rest
 sizes_fault_bare [] fault h = tt
@@ -123,4 +124,4 @@ pub sizes_fault_again : (rest : List NumberedLine) (fault : OrFault) → IsSizes
 sizes_fault_again [] fault h = ap (λ (f : OrFault). failed {A = Opened} f) (sym h)
 sizes_fault_again (first ∷ []) fault h = rw (no_size_line_again first h.0.no_size_line) (ap (λ (f : OrFault). failed {A = Opened} f) (sym h.1))
 sizes_fault_again (first ∷ line ∷ rest) fault h =
-    rw (no_size_line_again first h.0.no_size_line, no_size_line_again line h.1) (ap (λ (f : OrFault). failed {A = Opened} f) (sym h.2))
+    rw (no_size_line_again first h.0.no_size_line, no_worded_line_again line h.1) (ap (λ (f : OrFault). failed {A = Opened} f) (sym h.2))

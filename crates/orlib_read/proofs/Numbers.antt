@@ -7,14 +7,15 @@ use Rattle.std.proofs.lemmas.Bool.{eqb-true, and_parts, ltb-true, leb-true, lt-l
 use Rattle.std.proofs.lemmas.Option.{cond_some, none-some, same_Some}
 use Rattle.std.proofs.lemmas.Slice.Eq.{bytes_eq-Decides}
 use Rattle.shop_base.specs.declared.shop.Step.{Step}
+use Rattle.orlib_read.specs.declared.named.Sizes.{Sizes}
 use Rattle.orlib_read.specs.declared.or_fault.OrFault.{OrFault}
 use Rattle.orlib_read.specs.declared.or_fault.OrFault.TheVariants.{BadNumber, OddWords}
 use Rattle.text_lines.specs.Lines.{NumberedLine}
 use Rattle.orlib_read.specs.Words.{words_of, is_number, number_of, IsNumber, AreNumbers, is_odd}
 use Rattle.text_lines.specs.Numbers.{is_digit, value_of}
-use Rattle.orlib_read.specs.Kinds.{IsInstanceLine, IsAnyInstanceLine, IsOtherLine, IsSizeLine, IsJobLine, numbers_of}
+use Rattle.orlib_read.specs.Kinds.{IsInstanceLine, IsAnyInstanceLine, IsOtherLine, IsSizeLine, IsSized, IsSizeLineOf, IsJobLine, numbers_of}
 use Rattle.orlib_read.specs.Faults.{IsFirstNonNumber, IsOddLine, IsWordLine}
-use Rattle.orlib_read.specs.Reading.{◌>>=◌, Gives, name_of, is_instance_line, sizes_of, number_or, step_at, steps_at, route_at}
+use Rattle.orlib_read.specs.Reading.{◌>>=◌, Gives, name_of, is_instance_line, sizes_with, sizes_of, worded_sizes_of, number_or, step_at, steps_at, route_at}
 use Rattle.orlib_read.proofs.Parts.{cases_bool}
 
 -- ---- what a step of reading gave
@@ -100,36 +101,83 @@ other_line_again line h = cases_bool (is_instance_line line) _ (λ e. let t = an
 
 -- ---- size lines
 
-pair_some : (o p : Option ℕ) (s : ℕ × ℕ) → option_and_then (λ n. option_map (λ m. (n, m)) p) o ≡ Some s → (o ≡ Some s.0) × (p ≡ Some s.1)
-pair_some None p s h = absurd cc
-pair_some (Some n) None s h = absurd cc
-pair_some (Some n) (Some m) s h =
-    let e : (n, m) ≡ s = same_Some (n, m) s h in
-    (ap (λ (x : ℕ × ℕ). Some x.0) e, ap (λ (x : ℕ × ℕ). Some x.1) e)
+-- both words are numbers where there are sizes
+both_some : (again : Bool) (one other : Option ℕ) (s : Sizes)
+    → option_and_then (λ n. option_map (λ m. record { jobs = n; machines = m; recirculates = again }) other) one ≡ Some s
+    → (one ≡ Some s.jobs) × (other ≡ Some s.machines) × (s.recirculates ≡ again)
+both_some again None other s h = absurd cc
+both_some again (Some n) None s h = absurd cc
+both_some again (Some n) (Some m) s h =
+    let same : record { jobs = n; machines = m; recirculates = again } ≡ s = same_Some _ s h in
+    (ap (λ (x : Sizes). Some x.jobs) same, ap (λ (x : Sizes). Some x.machines) same, sym (ap (λ (x : Sizes). x.recirculates) same))
 
-sizes_are : (words : List (List ℕ)) (s : ℕ × ℕ) → sizes_of words ≡ Some s → AreNumbers words (s.0 ∷ s.1 ∷ [])
+with_is : (jobs machines : List ℕ) (again : Bool) (s : Sizes) → sizes_with jobs machines again ≡ Some s
+    → AreNumbers (jobs ∷ machines ∷ []) (s.jobs ∷ s.machines ∷ []) × (s.recirculates ≡ again)
+with_is jobs machines again s h =
+    let both = both_some again (number_of jobs) (number_of machines) s h in
+    ((number_is jobs s.jobs both.0, (number_is machines s.machines both.1, tt)), both.2)
+
+with_again : (words : List (List ℕ)) (n m : ℕ) (again : Bool) → AreNumbers words (n ∷ m ∷ [])
+    → (jobs : List ℕ) × (machines : List ℕ) × (words ≡ jobs ∷ machines ∷ []) × (sizes_with jobs machines again ≡ Some (record { jobs = n; machines = m; recirculates = again }))
+with_again [] n m again h = absurd h
+with_again (a ∷ []) n m again h = absurd h.1
+with_again (a ∷ b ∷ []) n m again h = (a, b, refl, rw (number_again a n h.0, number_again b m h.1.0) refl)
+with_again (a ∷ b ∷ c ∷ words) n m again h = absurd h.1.1
+
+sizes_are : (words : List (List ℕ)) (s : Sizes) → sizes_of words ≡ Some s → (s.recirculates ≡ false) × AreNumbers words (s.jobs ∷ s.machines ∷ [])
 sizes_are [] s h = absurd cc
 sizes_are (word ∷ []) s h = absurd cc
-sizes_are (a ∷ b ∷ []) s h = let p = pair_some (number_of a) (number_of b) s h in (number_is a s.0 p.0, (number_is b s.1 p.1, tt))
+sizes_are (a ∷ b ∷ []) s h = let is = with_is a b false s h in (is.1, is.0)
 sizes_are (a ∷ b ∷ c ∷ words) s h = absurd cc
 
-sizes_again : (words : List (List ℕ)) (n m : ℕ) → AreNumbers words (n ∷ m ∷ []) → sizes_of words ≡ Some (n, m)
-sizes_again [] n m h = absurd h
-sizes_again (a ∷ []) n m h = absurd h.1
-sizes_again (a ∷ b ∷ []) n m h = rw (number_again a n h.0, number_again b m h.1.0) refl
-sizes_again (a ∷ b ∷ c ∷ words) n m h = absurd h.1.1
-
-pub size_line_is : (line : NumberedLine) (s : ℕ × ℕ) → sizes_of (words_of line.bytes) ≡ Some s → IsSizeLine line s.0 s.1
+pub size_line_is : (line : NumberedLine) (s : Sizes) → sizes_of (words_of line.bytes) ≡ Some s → (s.recirculates ≡ false) × IsSizeLine line s.jobs s.machines
 size_line_is line s h = sizes_are (words_of line.bytes) s h
 
-pub size_line_again : (line : NumberedLine) (n m : ℕ) → IsSizeLine line n m → sizes_of (words_of line.bytes) ≡ Some (n, m)
-size_line_again line n m h = sizes_again (words_of line.bytes) n m h
+numbers_again : (line : NumberedLine) (n m : ℕ) → IsSizeLine line n m → sizes_of (words_of line.bytes) ≡ Some (record { jobs = n; machines = m; recirculates = false })
+numbers_again line n m h = let found = with_again (words_of line.bytes) n m false h in rw found.2 found.3
+
+pub size_line_again : (line : NumberedLine) (s : Sizes) → (s.recirculates ≡ false) × IsSizeLine line s.jobs s.machines → sizes_of (words_of line.bytes) ≡ Some s
+size_line_again line s (plain, h) =
+    numbers_again line s.jobs s.machines h ∙ ap (λ (again : Bool). Some (record { jobs = s.jobs; machines = s.machines; recirculates = again })) (sym plain)
 
 pub no_size_line_is : (line : NumberedLine) → sizes_of (words_of line.bytes) ≡ None → (n m : ℕ) → IsSizeLine line n m → ⊥
-no_size_line_is line h n m size = none-some (n, m) (sym h ∙ size_line_again line n m size)
+no_size_line_is line h n m size = none-some _ (sym h ∙ numbers_again line n m size)
 
 pub no_size_line_again : (line : NumberedLine) → ((n m : ℕ) → IsSizeLine line n m → ⊥) → sizes_of (words_of line.bytes) ≡ None
-no_size_line_again line h = none_of (sizes_of (words_of line.bytes)) (λ s e. h s.0 s.1 (size_line_is line s e))
+no_size_line_again line h = none_of (sizes_of (words_of line.bytes)) (λ s e. h s.jobs s.machines (size_line_is line s e).1)
+
+-- the same behind a description, where the word for recirculation may follow
+
+worded_are : (words : List (List ℕ)) (s : Sizes) → worded_sizes_of words ≡ Some s → IsSized words s.jobs s.machines s.recirculates
+worded_are [] s h = absurd cc
+worded_are (word ∷ []) s h = absurd cc
+worded_are (a ∷ b ∷ []) s h = let is = with_is a b false s h in rw is.1 is.0
+worded_are (a ∷ b ∷ word ∷ []) s h = cases_bool (bytes_eq word (codes "recrc")) _
+    (λ e.
+    let made : sizes_with a b true ≡ Some s = rw e at h in
+    let is = with_is a b true s made in
+    let same : word ≡ codes "recrc" = (bytes_eq-Decides word (codes "recrc")).0 e in
+    rw is.1 (a ∷ b ∷ [], ap (λ (w : List ℕ). a ∷ b ∷ w ∷ []) same, is.0))
+    (λ e. let none : None ≡ Some s = rw e at h in absurd (cc))
+worded_are (a ∷ b ∷ word ∷ other ∷ words) s h = absurd cc
+
+worded_again : (words : List (List ℕ)) (n m : ℕ) (again : Bool) → IsSized words n m again → worded_sizes_of words ≡ Some (record { jobs = n; machines = m; recirculates = again })
+worded_again words n m false h = let found = with_again words n m false h in rw found.2 found.3
+worded_again words n m true (numbers, whole, h) =
+    let found = with_again numbers n m true h in
+    rw (whole, found.2, (bytes_eq-Decides (codes "recrc") (codes "recrc")).1 refl) found.3
+
+pub worded_line_is : (line : NumberedLine) (s : Sizes) → worded_sizes_of (words_of line.bytes) ≡ Some s → IsSizeLineOf line s
+worded_line_is line s h = worded_are (words_of line.bytes) s h
+
+pub worded_line_again : (line : NumberedLine) (s : Sizes) → IsSizeLineOf line s → worded_sizes_of (words_of line.bytes) ≡ Some s
+worded_line_again line s h = worded_again (words_of line.bytes) s.jobs s.machines s.recirculates h
+
+pub no_worded_line_is : (line : NumberedLine) → worded_sizes_of (words_of line.bytes) ≡ None → (s : Sizes) → IsSizeLineOf line s → ⊥
+no_worded_line_is line h s size = none-some s (sym h ∙ worded_line_again line s size)
+
+pub no_worded_line_again : (line : NumberedLine) → ((s : Sizes) → IsSizeLineOf line s → ⊥) → worded_sizes_of (words_of line.bytes) ≡ None
+no_worded_line_again line h = none_of (worded_sizes_of (words_of line.bytes)) (λ s e. h s (worded_line_is line s e))
 
 word_no_number : (words : List (List ℕ)) (name : List ℕ) (n m : ℕ) → words ≡ codes "instance" ∷ name ∷ [] → AreNumbers words (n ∷ m ∷ []) → ⊥
 word_no_number words name n m e h =

@@ -5,7 +5,7 @@ use Rattle.std.specs.Str.{bytes_eq}
 use Rattle.std.specs.List.{AllByRecursion}
 use Rattle.std.proofs.lemmas.Option.{same_Some}
 use Rattle.std.proofs.lemmas.Slice.Eq.{bytes_eq-Decides}
-use Rattle.shop_base.specs.declared.shop.Step.{Step}
+use Rattle.shop_base.specs.Shop.{JobShop}
 use Rattle.orlib_read.specs.declared.or_fault.OrFault.{OrFault}
 use Rattle.orlib_read.specs.declared.or_fault.OrFault.TheVariants.{NoInstance}
 use Rattle.text_lines.specs.Lines.{NumberedLine}
@@ -106,7 +106,7 @@ pub record SectionRead (name : List ℕ) (lines : List NumberedLine) (content : 
   pub section : List NumberedLine
   pub rest : List NumberedLine
   pub is_section : IsSection lines name section
-  pub reads : Reads section content.description (length content.routes) content.machines content.routes rest
+  pub reads : Reads section content.description (length content.shop.routes) content.shop rest
 
 pub section_content : (name : List ℕ) (lines : List NumberedLine) (content : Content) → section_at name lines ≡ Ok content → SectionRead name lines content
 unfolding section_at
@@ -120,14 +120,14 @@ section_content name lines content h = cases_option (section_of name lines) _
       section = section;
       rest = a.0.1;
       is_section = section_is name lines section e;
-      reads = subst (λ (c : Content). Reads section c.description (length c.routes) c.machines c.routes a.0.1) (ok_is a.0.0 content a.2) r;
+      reads = subst (λ (c : Content). Reads section c.description (length c.shop.routes) c.shop a.0.1) (ok_is a.0.0 content a.2) r;
     })
 
-pub section_content_again : (name : List ℕ) (lines section : List NumberedLine) (description : List ℕ) (machines : ℕ) (routes : List (List Step)) (rest : List NumberedLine)
-    → IsSection lines name section → Reads section description (length routes) machines routes rest → section_at name lines ≡ Ok (record { description = description; machines = machines; routes = routes })
+pub section_content_again : (name : List ℕ) (lines section : List NumberedLine) (description : List ℕ) (shop : JobShop) (rest : List NumberedLine)
+    → IsSection lines name section → Reads section description (length shop.routes) shop rest → section_at name lines ≡ Ok (record { description = description; shop = shop })
 unfolding section_at
-section_content_again name lines section description machines routes rest s r =
-    rw (section_again name lines section s, draft_again section description machines routes rest r) refl
+section_content_again name lines section description shop rest s r =
+    rw (section_again name lines section s, draft_again section description shop rest r) refl
 
 -- ---- its faults
 

@@ -31,14 +31,14 @@ IsRefused (Err answered) fault = answered ≢ Memory → answered ≡ fault
 
 -- the content of an instance with this description and shop
 abbrev pub content_with : List ℕ → JobShop → Content
-content_with description shop = record { description = description; machines = shop.machines; routes = shop.routes }
+content_with description shop = record { description = description; shop = shop }
 
 -- what reading gives makes no shop, and this is the fault
 pub record GivesNoShop (reading : Result Content OrFault) (fault : OrFault) : Type 0 where
   pub content : Content
   pub reason : ShopFault
   pub gives : reading ≡ Ok content
-  pub wrong : IsFirstFault content.machines content.routes reason
+  pub wrong : IsFirstFault content.shop.machines content.shop.recirculates content.shop.routes reason
   pub is : fault ≡ Shop reason
 
 -- the answer is the shop that reading gives, or else the fault of reading or of the shop, unless memory ran out

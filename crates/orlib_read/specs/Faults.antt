@@ -1,21 +1,22 @@
 -- What is wrong first with an instance text, in reading order.
 use Rattle.std.specs.Prelude.{◌≡◌, ℕ, ◌+◌, ◌<◌, ◌⊎◌, true, false, List, [], ◌∷◌, ◌++◌, length}
 use Rattle.std.specs.List.{AllByRecursion}
-use Rattle.shop_base.specs.declared.shop.Step.{Step}
 use Rattle.shop_base.specs.declared.shop_fault.ShopFault.{ShopFault}
+use Rattle.shop_base.specs.Shop.{JobShop}
 use Rattle.shop_base.specs.ShopFault.{IsFirstFault}
 use Rattle.orlib_read.specs.declared.or_fault.OrFault.{OrFault}
 use Rattle.orlib_read.specs.declared.or_fault.OrFault.TheVariants.{NoInstance, NoSizes, BadSizes, MissingJob, BadNumber, OddWords, Extra, Shop}
 use Rattle.text_lines.specs.Lines.{NumberedLine}
 use Rattle.orlib_read.specs.Words.{words_of, IsNumber, AreNumbers, is_odd}
-use Rattle.orlib_read.specs.Kinds.{unfilled_lines, IsInstanceLine, IsAnyInstanceLine, IsSizeLine, IsDescription}
+use Rattle.orlib_read.specs.Kinds.{unfilled_lines, IsInstanceLine, IsAnyInstanceLine, IsSizeLineOf, IsDescription}
+use Rattle.orlib_read.specs.declared.named.Sizes.{Sizes}
 use Rattle.orlib_read.specs.Instance.{Reads, IsSection}
 
--- behind the instance lines that are passed over there is no size line: no line follows, or a description alone, or a line that isn't two numbers behind a description
+-- behind the instance lines that are passed over there is no size line: no line follows, or a description alone, or behind a description a line that is no size line
 abbrev pub IsSizesFault : List NumberedLine → OrFault → Type 0
 IsSizesFault [] fault = fault ≡ NoSizes
 IsSizesFault (first ∷ []) fault = IsDescription first × (fault ≡ NoSizes)
-IsSizesFault (first ∷ line ∷ rest) fault = IsDescription first × ((jobs machines : ℕ) → IsSizeLine line jobs machines → ⊥) × (fault ≡ BadSizes line.number)
+IsSizesFault (first ∷ line ∷ rest) fault = IsDescription first × ((sizes : Sizes) → IsSizeLineOf line sizes → ⊥) × (fault ≡ BadSizes line.number)
 
 -- the lines have no size line
 pub record LacksSizes (lines : List NumberedLine) (fault : OrFault) : Type 0 where
@@ -57,12 +58,11 @@ IsJobFault job (line ∷ rest) fault = IsOddLine line fault ⊎ IsWordLine line 
 pub record LacksJob (lines : List NumberedLine) (fault : OrFault) : Type 0 where
   pub description : List ℕ
   pub jobs : ℕ
-  pub machines : ℕ
-  pub routes : List (List Step)
+  pub shop : JobShop
   pub rest : List NumberedLine
-  pub reads : Reads lines description jobs machines routes rest
-  pub more : length routes < jobs
-  pub wrong : IsJobFault (length routes) rest fault
+  pub reads : Reads lines description jobs shop rest
+  pub more : length shop.routes < jobs
+  pub wrong : IsJobFault (length shop.routes) rest fault
 
 -- the lines have no size line, or not all of the job lines
 abbrev pub IsCutShort : List NumberedLine → OrFault → Type 0
@@ -71,21 +71,19 @@ IsCutShort lines fault = LacksSizes lines fault ⊎ LacksJob lines fault
 -- a line that isn't filler follows the last job line
 pub record HasExtraLine (lines : List NumberedLine) (fault : OrFault) : Type 0 where
   pub description : List ℕ
-  pub machines : ℕ
-  pub routes : List (List Step)
+  pub shop : JobShop
   pub extra : NumberedLine
   pub rest : List NumberedLine
-  pub reads : Reads lines description (length routes) machines routes (extra ∷ rest)
+  pub reads : Reads lines description (length shop.routes) shop (extra ∷ rest)
   pub is : fault ≡ Extra extra.number
 
 -- the lines can be read up to this rest, but their numbers make no shop
 pub record MakesNoShop (lines rest : List NumberedLine) (fault : OrFault) : Type 0 where
   pub description : List ℕ
-  pub machines : ℕ
-  pub routes : List (List Step)
+  pub shop : JobShop
   pub reason : ShopFault
-  pub reads : Reads lines description (length routes) machines routes rest
-  pub wrong : IsFirstFault machines routes reason
+  pub reads : Reads lines description (length shop.routes) shop rest
+  pub wrong : IsFirstFault shop.machines shop.recirculates shop.routes reason
   pub is : fault ≡ Shop reason
 
 -- what is wrong first with a text as one instance

@@ -1,17 +1,18 @@
 -- What instance texts are: one instance, and the sections of a collection (OR-Library, jobshop1).
-use Rattle.std.specs.Prelude.{◌≡◌, ℕ, List, [], ◌∷◌, ◌++◌, length}
+use Rattle.std.specs.Prelude.{◌≡◌, ℕ, false, List, [], ◌∷◌, ◌++◌, length}
 use Rattle.std.specs.List.{AllByRecursion}
 use Rattle.shop_base.specs.declared.shop.Step.{Step}
 use Rattle.shop_base.specs.Shop.{JobShop, IsShop}
 use Rattle.text_lines.specs.Lines.{NumberedLine}
-use Rattle.orlib_read.specs.Kinds.{unfilled_lines, IsInstanceLine, IsAnyInstanceLine, IsOtherLine, IsSizeLine, IsDescription, IsJobLine}
+use Rattle.orlib_read.specs.Kinds.{unfilled_lines, IsInstanceLine, IsAnyInstanceLine, IsOtherLine, IsSizeLine, IsSizeLineOf, IsDescription, IsJobLine}
+use Rattle.orlib_read.specs.declared.named.Sizes.{Sizes}
 
 -- how an instance opens: with the size line alone, and no description, or with a description and the size line
-abbrev pub Opens : List NumberedLine → List ℕ → ℕ → ℕ → Type 0
-Opens [] description jobs machines = ⊥
-Opens (size ∷ []) description jobs machines = (description ≡ []) × IsSizeLine size jobs machines
-Opens (first ∷ size ∷ []) description jobs machines = (description ≡ first.bytes) × IsDescription first × IsSizeLine size jobs machines
-Opens (first ∷ size ∷ other ∷ lines) description jobs machines = ⊥
+abbrev pub Opens : List NumberedLine → List ℕ → Sizes → Type 0
+Opens [] description sizes = ⊥
+Opens (size ∷ []) description sizes = (description ≡ []) × (sizes.recirculates ≡ false) × IsSizeLine size sizes.jobs sizes.machines
+Opens (first ∷ size ∷ []) description sizes = (description ≡ first.bytes) × IsDescription first × IsSizeLineOf size sizes
+Opens (first ∷ size ∷ other ∷ lines) description sizes = ⊥
 
 -- the lines are the job lines of these routes, in order
 abbrev pub AreJobLines : List NumberedLine → List (List Step) → Type 0
@@ -20,19 +21,19 @@ AreJobLines [] (route ∷ routes) = ⊥
 AreJobLines (line ∷ lines) [] = ⊥
 AreJobLines (line ∷ lines) (route ∷ routes) = IsJobLine line route × AreJobLines lines routes
 
--- the lines are instance lines that are passed over, an opening with these sizes, the job lines of these routes, and a rest
-pub record Reads (lines : List NumberedLine) (description : List ℕ) (jobs machines : ℕ) (routes : List (List Step)) (rest : List NumberedLine) : Type 0 where
+-- the lines are instance lines that are passed over, an opening with this number of jobs and the shop's machines, the job lines of its routes, and a rest
+pub record Reads (lines : List NumberedLine) (description : List ℕ) (jobs : ℕ) (shop : JobShop) (rest : List NumberedLine) : Type 0 where
   pub titles : List NumberedLine
   pub opening : List NumberedLine
   pub job_lines : List NumberedLine
   pub whole : lines ≡ titles ++ (opening ++ (job_lines ++ rest))
   pub passed : AllByRecursion IsAnyInstanceLine titles
-  pub opens : Opens opening description jobs machines
-  pub each : AreJobLines job_lines routes
+  pub opens : Opens opening description (record { jobs = jobs; machines = shop.machines; recirculates = shop.recirculates })
+  pub each : AreJobLines job_lines shop.routes
 
 -- the text is one instance: as many job lines as the size line says, and nothing but filler after them
 pub record IsInstance (text : List ℕ) (description : List ℕ) (shop : JobShop) : Type 0 where
-  pub reads : Reads (unfilled_lines text) description (length shop.routes) shop.machines shop.routes []
+  pub reads : Reads (unfilled_lines text) description (length shop.routes) shop []
   pub sound : IsShop shop
 
 -- no line follows, or an instance line does
@@ -56,5 +57,5 @@ pub record IsInstanceOf (text : List ℕ) (name : List ℕ) (description : List 
   pub section : List NumberedLine
   pub rest : List NumberedLine
   pub is_section : IsSection (unfilled_lines text) name section
-  pub reads : Reads section description (length shop.routes) shop.machines shop.routes rest
+  pub reads : Reads section description (length shop.routes) shop rest
   pub sound : IsShop shop

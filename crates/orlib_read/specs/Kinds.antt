@@ -1,8 +1,9 @@
 -- The kinds of lines of an instance text (OR-Library, jobshop1).
-use Rattle.std.specs.Prelude.{◌≡◌, ℕ, Bool, not, ◌==◌, List, [], ◌∷◌, codes, filter}
+use Rattle.std.specs.Prelude.{◌≡◌, ℕ, Bool, not, ◌==◌, true, false, List, [], ◌∷◌, ◌++◌, codes, filter}
 use Rattle.std.specs.List.{list_all, flat_map}
 use Rattle.shop_base.specs.declared.shop.Step.{Step}
 use Rattle.text_lines.specs.Lines.{NumberedLine, lines_of, numbered_from}
+use Rattle.orlib_read.specs.declared.named.Sizes.{Sizes}
 use Rattle.orlib_read.specs.Words.{words_of, AreNumbers}
 
 -- `+`
@@ -41,9 +42,18 @@ IsAnyInstanceLine line = (name : List ℕ) × IsInstanceLine line name
 abbrev pub IsOtherLine : NumberedLine → Type 0
 IsOtherLine line = (name : List ℕ) → IsInstanceLine line name → ⊥
 
+-- the words are the numbers of jobs and machines, with the word for recirculation behind them or without
+abbrev pub IsSized : List (List ℕ) → ℕ → ℕ → Bool → Type 0
+IsSized words jobs machines false = AreNumbers words (jobs ∷ machines ∷ [])
+IsSized words jobs machines true = (numbers : List (List ℕ)) × (words ≡ numbers ++ (codes "recrc" ∷ [])) × AreNumbers numbers (jobs ∷ machines ∷ [])
+
 -- the size line: exactly two numbers, of jobs and of machines
 abbrev pub IsSizeLine : NumberedLine → ℕ → ℕ → Type 0
 IsSizeLine line jobs machines = AreNumbers (words_of line.bytes) (jobs ∷ machines ∷ [])
+
+-- the size line behind a description: the same, and behind it the word for recirculation (Pinedo, Scheduling: recrc), if the shop has it
+abbrev pub IsSizeLineOf : NumberedLine → Sizes → Type 0
+IsSizeLineOf line sizes = IsSized (words_of line.bytes) sizes.jobs sizes.machines sizes.recirculates
 
 -- the machine and the nominal time of each step, in route order
 abbrev pub numbers_of : List Step → List ℕ

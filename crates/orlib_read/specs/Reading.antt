@@ -1,7 +1,9 @@
 -- Reading the lines of an instance from the front, with the first fault that is met.
-use Rattle.std.specs.Prelude.{◌≡◌, ◌≢◌, ℕ, zero, suc, ◌+◌, Bool, false, if◌then◌else◌, List, [], ◌∷◌, length, codes, Option, Some, None, option_map, option_and_then, is_some, MatchOption, Result, Ok, Err}
+use Rattle.std.specs.Prelude.{◌≡◌, ◌≢◌, ℕ, zero, suc, ◌+◌, Bool, true, false, if◌then◌else◌, List, [], ◌∷◌, length, codes, Option, Some, None, option_map, option_and_then, is_some, MatchOption, Result, Ok, Err}
 use Rattle.std.specs.Str.{bytes_eq}
 use Rattle.shop_base.specs.declared.shop.Step.{Step}
+use Rattle.shop_base.specs.Shop.{JobShop}
+use Rattle.orlib_read.specs.declared.named.Sizes.{Sizes}
 use Rattle.orlib_read.specs.declared.or_fault.OrFault.{OrFault}
 use Rattle.orlib_read.specs.declared.or_fault.OrFault.TheVariants.{NoInstance, NoSizes, BadSizes, MissingJob, BadNumber, OddWords, Extra, Memory}
 use Rattle.text_lines.specs.Lines.{NumberedLine}
@@ -61,32 +63,43 @@ abbrev pub section_of : List ℕ → List NumberedLine → Option (List Numbered
 section_of name [] = None
 section_of name (line ∷ lines) = if is_name name (name_of (words_of line.bytes)) then Some (before_title lines) else section_of name lines
 
+-- the sizes, where both words are numbers
+abbrev pub sizes_with : List ℕ → List ℕ → Bool → Option Sizes
+sizes_with jobs machines again = option_and_then (λ n. option_map (λ m. record { jobs = n; machines = m; recirculates = again }) (number_of machines)) (number_of jobs)
+
 -- two numbers and no other word
-abbrev pub sizes_of : List (List ℕ) → Option (ℕ × ℕ)
+abbrev pub sizes_of : List (List ℕ) → Option Sizes
 sizes_of [] = None
 sizes_of (word ∷ []) = None
-sizes_of (jobs ∷ machines ∷ []) = option_and_then (λ n. option_map (λ m. (n, m)) (number_of machines)) (number_of jobs)
+sizes_of (jobs ∷ machines ∷ []) = sizes_with jobs machines false
 sizes_of (jobs ∷ machines ∷ other ∷ words) = None
+
+-- two numbers, and behind them no other word but the one for recirculation
+abbrev pub worded_sizes_of : List (List ℕ) → Option Sizes
+worded_sizes_of [] = None
+worded_sizes_of (word ∷ []) = None
+worded_sizes_of (jobs ∷ machines ∷ []) = sizes_with jobs machines false
+worded_sizes_of (jobs ∷ machines ∷ word ∷ []) = if bytes_eq word (codes "recrc") then sizes_with jobs machines true else None
+worded_sizes_of (jobs ∷ machines ∷ word ∷ other ∷ words) = None
 
 -- what stands before the job lines
 pub record Head : Type 0 where
   pub description : List ℕ
-  pub jobs : ℕ
-  pub machines : ℕ
+  pub sizes : Sizes
 
 -- what stands before the job lines, with the sizes on the line of this number
-abbrev pub sized : List ℕ → Option (ℕ × ℕ) → ℕ → Result Head OrFault
-sized description (Some sizes) number = Ok (record { description = description; jobs = sizes.0; machines = sizes.1 })
+abbrev pub sized : List ℕ → Option Sizes → ℕ → Result Head OrFault
+sized description (Some sizes) number = Ok (record { description = description; sizes = sizes })
 sized description None number = Err (BadSizes number)
 
 -- the size line behind a description
 abbrev pub sizes_at : List ℕ → List NumberedLine → Result (Head × List NumberedLine) OrFault
 sizes_at description [] = Err NoSizes
-sizes_at description (line ∷ lines) = sized description (sizes_of (words_of line.bytes)) line.number >>= λ head. Ok (head, lines)
+sizes_at description (line ∷ lines) = sized description (worded_sizes_of (words_of line.bytes)) line.number >>= λ head. Ok (head, lines)
 
 -- the same from the first line on, which is the size line or the description
-abbrev pub opened : Option (ℕ × ℕ) → NumberedLine → List NumberedLine → Result (Head × List NumberedLine) OrFault
-opened (Some sizes) line lines = Ok (record { description = []; jobs = sizes.0; machines = sizes.1 }, lines)
+abbrev pub opened : Option Sizes → NumberedLine → List NumberedLine → Result (Head × List NumberedLine) OrFault
+opened (Some sizes) line lines = Ok (record { description = []; sizes = sizes }, lines)
 opened None line lines = sizes_at line.bytes lines
 
 -- the size line, alone or behind a description
@@ -131,15 +144,18 @@ jobs_at job (suc jobs) (line ∷ lines) = do
 -- what an instance says, before its numbers are known to make a shop
 pub record Content : Type 0 where
   pub description : List ℕ
-  pub machines : ℕ
-  pub routes : List (List Step)
+  pub shop : JobShop
+
+-- the content with these sizes and routes
+abbrev pub content_by : Head → List (List Step) → Content
+content_by head routes = record { description = head.description; shop = record { machines = head.sizes.machines; routes = routes; recirculates = head.sizes.recirculates } }
 
 -- an instance, and the lines after its last job line
 unfoldable pub draft_at : List NumberedLine → Result (Content × List NumberedLine) OrFault
 draft_at lines = do
   head ← head_at (without_titles lines)
-  jobs ← jobs_at 0 head.0.jobs head.1
-  Ok (record { description = head.0.description; machines = head.0.machines; routes = jobs.0 }, jobs.1)
+  jobs ← jobs_at 0 head.0.sizes.jobs head.1
+  Ok (content_by head.0 jobs.0, jobs.1)
 
 -- what was read, if no line is left
 abbrev pub ended : Content → List NumberedLine → Result Content OrFault

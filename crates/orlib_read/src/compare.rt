@@ -16,7 +16,10 @@ pub(crate) fn is_same(named: &Named, description: &[u8], shop: &Shop) -> bool
 fn is_same_shop(a: &Shop, b: &Shop) -> bool
     ensures { MatchBool result (a.now ≡ b.now) (a.now ≡ b.now → ⊥) }
 {
-    if a.machines() != b.machines() || a.jobs() != b.jobs() {
+    if a.machines() != b.machines()
+        || a.recirculates() != b.recirculates()
+        || a.jobs() != b.jobs()
+    {
         return false;
     }
     for job in 0..a.jobs() {

@@ -2,8 +2,8 @@
 
 ghost use Rattle.std.specs.Prelude.{◌≡◌, ◌++◌, Err, IfOk, OnOk, IfErr, MatchBool, decimal};
 ghost use Rattle.orlib_read.specs.Instance.{IsInstance};
-ghost use Rattle.orlib_read.specs.Lines.{instance_lines, description_line, sizes_line, step_text, more_steps};
-ghost use Rattle.orlib_read.specs.Lines.{job_line, job_lines};
+ghost use Rattle.orlib_read.specs.Lines.{instance_lines, written_description, description_line, sizes_line, step_text};
+ghost use Rattle.orlib_read.specs.Lines.{more_steps, job_line, job_lines};
 
 use crate::compare::{is_same, route_of};
 use crate::or_fault::OrFault;
@@ -36,7 +36,8 @@ impl From<AllocError> for NotWritten {
 }
 
 /// Writes an instance: a line for the description where it has bytes, the sizes, and a line per job with machine and
-/// nominal time by turns, one blank between.
+/// nominal time by turns, one blank between. In a shop with recirculation the sizes have the word `recrc` behind them,
+/// and a description that is empty is `recirculation`.
 ///
 /// The text is read again, and returned only if that gives the same description and shop. It doesn't for some
 /// descriptions: one that ends in a carriage return, has a line feed in it, or is a line of another kind.
@@ -47,14 +48,15 @@ pub fn instance_document(
 ) -> Result<Vec<u8>, NotWritten>
     // The text is the instance's lines, and they are read as this instance.
     ensures lines { IfOk result (λ text. text.items ≡ instance_lines description.now shop.now) }
-    ensures read_back { OnOk result (IsInstance (instance_lines description.now shop.now) description.now shop.now) }
+    ensures read_back { OnOk result
+        (IsInstance (instance_lines description.now shop.now) (written_description description.now shop.now) shop.now) }
 
     // A refusal says that they aren't, or that memory ran out.
     ensures not_read_back { result ≡ Err NotWritten.NotReadBack
-        → IsInstance (instance_lines description.now shop.now) description.now shop.now → ⊥ }
+        → IsInstance (instance_lines description.now shop.now) (written_description description.now shop.now) shop.now → ⊥ }
 {
     let text = instance_lines(alloc, description, shop)?;
-    if is_read_back(alloc, &text, description, shop)? {
+    if is_read_back(alloc, &text, written_description(description, shop), shop)? {
         Ok(text)
     } else {
         Err(NotWritten::NotReadBack)
@@ -93,12 +95,29 @@ pub fn instance_lines(alloc: Global, description: &[u8], shop: &Shop) -> Result<
 fn push_lines(text: &mut Vec<u8>, description: &[u8], shop: &Shop) -> Result<(), AllocError>
     ensures { OnOk result (text.new.items ≡ text.old.items ++ instance_lines description.now shop.now) }
 {
-    push_description(text, description)?;
+    push_description(text, written_description(description, shop))?;
     push_number(text, u64::from(shop.jobs()))?;
     text.push(b' ')?;
     push_number(text, u64::from(shop.machines()))?;
-    text.push(b'\n')?;
+    let end = if shop.recirculates() {
+        b" recrc\n".as_slice()
+    } else {
+        b"\n".as_slice()
+    };
+    text.extend_from_slice(end)?;
     push_jobs(text, shop)
+}
+
+/// The description that is written: one that is empty is `recirculation` in a shop with recirculation, whose size line
+/// has to stand behind a description.
+fn written_description<'a>(description: &'a [u8], shop: &Shop) -> &'a [u8]
+    ensures { result.now ≡ written_description description.now shop.now }
+{
+    if description.is_empty() && shop.recirculates() {
+        b"recirculation"
+    } else {
+        description
+    }
 }
 
 fn push_description(text: &mut Vec<u8>, description: &[u8]) -> Result<(), AllocError>

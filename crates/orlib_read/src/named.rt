@@ -9,12 +9,19 @@ pub struct Named {
     pub shop: Shop,
 }
 
+/// What a size line says: how many jobs and machines there are, and whether a job may visit a machine again.
+#[derive(Clone, Copy)]
+pub(crate) struct Sizes {
+    pub jobs: u32,
+    pub machines: u32,
+    pub recirculates: bool,
+}
+
 /// What comes before the job lines.
 #[derive(Clone, Copy)]
 pub(crate) struct Head<'a> {
     pub description: &'a [u8],
-    pub jobs: u32,
-    pub machines: u32,
+    pub sizes: Sizes,
 }
 
 /// What an instance says, before its numbers are known to make a shop.
@@ -22,5 +29,6 @@ pub(crate) struct Head<'a> {
 pub(crate) struct Draft<'a> {
     pub description: &'a [u8],
     pub machines: u32,
+    pub recirculates: bool,
     pub routes: Vec<Vec<Step>>,
 }

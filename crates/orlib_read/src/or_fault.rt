@@ -12,7 +12,7 @@ pub enum OrFault {
     /// There is no size line.
     #[error("NoSizes")]
     NoSizes,
-    /// The size line isn't exactly two numbers.
+    /// The size line isn't two numbers alone or, behind a description, two numbers and the word `recrc`.
     #[error("BadSizes line {line}")]
     BadSizes { line: usize },
     /// The lines end before the line of this job.

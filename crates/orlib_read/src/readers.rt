@@ -18,7 +18,8 @@ use crate::reading::{read_draft, route_of};
 use shop_base::{Shop, Step};
 use std::alloc::Global;
 
-/// Reads one instance: a description, if there is one, the size line, and a line per job.
+/// Reads one instance: a description, if there is one, the size line, and a line per job. Behind a description the size
+/// line may have the word `recrc`: a job of the shop may visit a machine again.
 ///
 /// Lines of `+` signs alone and lines without words are skipped everywhere, instance lines only before the first
 /// other line.
@@ -93,15 +94,15 @@ fn named(alloc: Global, draft: Result<Draft, OrFault>) -> Result<Named, OrFault>
     ensures { (reading : Result Content OrFault) → Gives content_of draft.entry reading → Answers result reading }
 {
     let draft = draft?;
-    let shop = shop_with(draft.machines, draft.routes)?;
+    let shop = shop_with(draft.machines, draft.routes, draft.recirculates)?;
     let description = Vec::from_slice(alloc, draft.description)?;
     Ok(Named { description, shop })
 }
 
-fn shop_with(machines: u32, routes: Vec<Vec<Step>>) -> Result<Shop, OrFault>
-    ensures shop { IfOk result (λ shop. shop ≡ record { machines = machines; routes = lists_of routes.items }) }
-    ensures sound { OnOk result (IsShop (record { machines = machines; routes = lists_of routes.items })) }
-    ensures fault { IfErr result (IsShopFault machines (lists_of routes.items)) }
+fn shop_with(machines: u32, routes: Vec<Vec<Step>>, recirculates: bool) -> Result<Shop, OrFault>
+    ensures shop { IfOk result (λ shop. shop ≡ record { machines = machines; routes = lists_of routes.items; recirculates = recirculates }) }
+    ensures sound { OnOk result (IsShop (record { machines = machines; routes = lists_of routes.items; recirculates = recirculates })) }
+    ensures fault { IfErr result (IsShopFault machines recirculates (lists_of routes.items)) }
 {
-    Shop::new(machines, routes).map_err(OrFault::Shop)
+    Shop::of_kind(machines, routes, recirculates).map_err(OrFault::Shop)
 }

@@ -9,7 +9,7 @@ ghost use Rattle.orlib_read.specs.Reading.{Gives, GivesExactly, without_titles, 
 ghost use Rattle.orlib_read.specs.Reading.{steps_at, route_at, jobs_at, draft_at};
 ghost use Rattle.orlib_read.specs.Views.{head_of, content_of};
 
-use crate::kinds::{is_instance_line, sizes_of};
+use crate::kinds::{is_instance_line, sizes_of, worded_sizes_of};
 use crate::lines::{Line, Lines};
 use crate::named::{Draft, Head};
 use crate::or_fault::OrFault;
@@ -38,24 +38,22 @@ fn read_head<'a>(lines: Lines<'a>) -> Result<(Head<'a>, Lines<'a>), OrFault>
     let Some((first, lines)) = first_line(lines) else {
         return Err(OrFault::NoSizes);
     };
-    if let Some((jobs, machines)) = sizes_of(first.bytes) {
+    if let Some(sizes) = sizes_of(first.bytes) {
         let head = Head {
             description: &[],
-            jobs,
-            machines,
+            sizes,
         };
         return Ok((head, lines));
     }
     let Some((line, lines)) = lines.next_unfilled() else {
         return Err(OrFault::NoSizes);
     };
-    let Some((jobs, machines)) = sizes_of(line.bytes) else {
+    let Some(sizes) = worded_sizes_of(line.bytes) else {
         return Err(OrFault::BadSizes { line: line.number });
     };
     let head = Head {
         description: first.bytes,
-        jobs,
-        machines,
+        sizes,
     };
     Ok((head, lines))
 }
@@ -142,10 +140,11 @@ pub(crate) fn read_draft<'a>(
     ensures { Gives (with_left content_of) result (draft_at (lines_left lines.entry)) }
 {
     let (head, lines) = read_head(lines)?;
-    let (routes, lines) = read_jobs(alloc, head.jobs, lines)?;
+    let (routes, lines) = read_jobs(alloc, head.sizes.jobs, lines)?;
     let draft = Draft {
         description: head.description,
-        machines: head.machines,
+        machines: head.sizes.machines,
+        recirculates: head.sizes.recirculates,
         routes,
     };
     Ok((draft, lines))

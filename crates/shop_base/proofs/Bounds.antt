@@ -1,5 +1,5 @@
 -- How many steps, and how much work, a shop within the limits can have.
-use Rattle.std.proofs.Common.{ℕ, ◌*◌, ◌≤◌, List, [], length, All, arith}
+use Rattle.std.proofs.Common.{ℕ, Bool, ◌*◌, ◌≤◌, List, [], length, All, arith}
 use Rattle.std.proofs.lemmas.List.{get_or_default}
 use Rattle.std.proofs.lemmas.List.Sums.{sum_by-le}
 use Rattle.shop_base.specs.declared.shop.Step.{Step}
@@ -7,7 +7,7 @@ use Rattle.shop_base.specs.declared.limits.TheConstants.{MAX_JOBS, MAX_MACHINES,
 use Rattle.shop_base.specs.Shop.{JobShop, IsShop, IsRoute, no_step, route_at, operations_of}
 use Rattle.shop_base.specs.Work.{route_work, work_of}
 
-module _ (machines : ℕ) (route : List Step) (sound : IsRoute machines route) where
+module _ (machines : ℕ) (again : Bool) (route : List Step) (sound : IsRoute machines again route) where
   -- the work of a route is within the limit for each of its steps
   pub route_work-le : route_work route ≤ MAX_MACHINES * MAX_NOMINAL
   route_work-le =
@@ -25,5 +25,5 @@ module _ (shop : JobShop) (sound : IsShop shop) where
   pub work_of-le : work_of shop ≤ MAX_JOBS * (MAX_MACHINES * MAX_NOMINAL)
   work_of-le =
       let each : All (λ route. route_work route ≤ MAX_MACHINES * MAX_NOMINAL) shop.routes =
-      λ k d h. rw (get_or_default shop.routes k d [] h) (route_work-le shop.machines (route_at shop.routes k) (sound.routes k h)) in
+      λ k d h. rw (get_or_default shop.routes k d [] h) (route_work-le shop.machines shop.recirculates (route_at shop.routes k) (sound.routes k h)) in
       omega (arith, sum_by-le route_work (MAX_MACHINES * MAX_NOMINAL) shop.routes each, sound.counts.few_jobs)

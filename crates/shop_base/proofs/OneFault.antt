@@ -1,29 +1,30 @@
 -- A shop and a plan have only one first fault.
-use Rattle.std.proofs.Common.{◌≡◌, ℕ, zero, suc, ◌+◌, ◌<◌, ◌≤◌, List, length, ◌⊎◌, inl, inr, refl, sym, ap, ap₂, subst, arith}
+use Rattle.std.proofs.Common.{◌≡◌, ℕ, zero, suc, ◌+◌, ◌<◌, ◌≤◌, Bool, List, length, ◌⊎◌, inl, inr, refl, sym, ap, ap₂, subst, arith}
 use Rattle.std.proofs.lemmas.Bool.{cases_order}
 use Rattle.shop_base.specs.declared.shop.Step.{Step}
 use Rattle.shop_base.specs.declared.limits.TheConstants.{MAX_RELEASE, MAX_MOMENT, MAX_CLEAN}
 use Rattle.shop_base.specs.declared.shop_fault.ShopFault.{ShopFault}
-use Rattle.shop_base.specs.declared.shop_fault.ShopFault.TheVariants.{NoJobs, TooManyJobs, NoMachines, TooManyMachines, EmptyRoute, MachineOutOfRange, MachineTwice, NominalTooLarge}
-use Rattle.shop_base.specs.Shop.{IsRoute, IsSoundStep, IsFirstVisit, route_at, step_at}
-use Rattle.shop_base.specs.ShopFault.{IsFirstFault, IsReached, IsStepReached}
+use Rattle.shop_base.specs.declared.shop_fault.ShopFault.TheVariants.{NoJobs, TooManyJobs, NoMachines, TooManyMachines, EmptyRoute, TooManySteps, MachineOutOfRange, MachineTwice, NominalTooLarge}
+use Rattle.shop_base.specs.Shop.{IsRoute, IsSoundStep, route_at, step_at}
+use Rattle.shop_base.specs.ShopFault.{IsFirstFault, IsReached, IsStepReached, IsTooLong, IsTwice}
 use Rattle.shop_base.specs.declared.shape_fault.ShapeFault.{ShapeFault}
 use Rattle.shop_base.specs.declared.shape_fault.ShapeFault.TheVariants.{ReleaseCount, BudgetCount, OrderCount, CleanCount, ReleaseTooLarge, BudgetTooLarge, CleanTooLarge, JobOutOfRange, NotOnRoute, JobTwice, JobMissing}
 use Rattle.shop_base.specs.Plan.{PlannedShop, jobs, machines, release, budget, clean, order, job_at, HasCleanCount, HasCounts, IsOrder}
 use Rattle.shop_base.specs.ShapeFault.{IsVisitor, IsGoodPlace, visit_count, place_count, IsMachineReached, IsPlaceReached, AreWithin, IsFirstShapeFault}
+use Rattle.shop_base.proofs.FirstVisits.{sound-twice}
 use Rattle.shop_base.proofs.Visits.{visits_job}
 use Rattle.shop_base.proofs.Orders.{stands-place, place-stands, none_missing}
 
-module _ (count : ℕ) (routes : List (List Step)) where
+module _ (count : ℕ) (again : Bool) (routes : List (List Step)) where
   -- all before job j is sound, and its route isn't
   record IsBadJob (j : ℕ) : Type 0 where
-    reached : IsReached count routes j
-    bad : IsRoute count (route_at routes j) → ⊥
+    reached : IsReached count again routes j
+    bad : IsRoute count again (route_at routes j) → ⊥
 
   -- all before step k of job j is sound, and that step isn't
   record IsBadStep (j k : ℕ) : Type 0 where
-    reached : IsStepReached count routes j k
-    bad : IsSoundStep count (route_at routes j) k → ⊥
+    reached : IsStepReached count again routes j k
+    bad : IsSoundStep count again (route_at routes j) k → ⊥
 
   bad_job_once : (i j : ℕ) → IsBadJob i → IsBadJob j → i ≡ j
   bad_job_once i j one other = go (cases_order i j)
@@ -36,7 +37,7 @@ module _ (count : ℕ) (routes : List (List Step)) where
   bad_step-job : (j k : ℕ) → IsBadStep j k → IsBadJob j
   bad_step-job j k step = record { reached = step.reached.reached; bad = λ route. step.bad (route.steps k step.reached.in_range) }
 
-  empty-job : (j : ℕ) → IsFirstFault count routes (EmptyRoute j) → IsBadJob j
+  empty-job : (j : ℕ) → IsFirstFault count again routes (EmptyRoute j) → IsBadJob j
   empty-job j (reached, empty) = record { reached = reached; bad = λ route. omega (arith, route.visits_some) }
 
   bad_step_once : (i k j l : ℕ) → IsBadStep i k → IsBadStep j l → (i ≡ j) × (k ≡ l)
@@ -47,20 +48,35 @@ module _ (count : ℕ) (routes : List (List Step)) where
 
       go : (k ≡ l) ⊎ ((k < l) ⊎ (l < k)) → k ≡ l
       go (inl is) = is
-      go (inr (inl less)) = absurd (one.bad (subst (λ x. IsSoundStep count (route_at routes x) k) (sym same) (other.reached.before k less)))
-      go (inr (inr more)) = absurd (other.bad (subst (λ x. IsSoundStep count (route_at routes x) l) same (one.reached.before l more)))
+      go (inr (inl less)) = absurd (one.bad (subst (λ x. IsSoundStep count again (route_at routes x) k) (sym same) (other.reached.before k less)))
+      go (inr (inr more)) = absurd (other.bad (subst (λ x. IsSoundStep count again (route_at routes x) l) same (one.reached.before l more)))
 
-  range-step : (j k : ℕ) → IsFirstFault count routes (MachineOutOfRange j k) → IsBadStep j k
+  range-step : (j k : ℕ) → IsFirstFault count again routes (MachineOutOfRange j k) → IsBadStep j k
   range-step j k (reached, past) = record { reached = reached; bad = λ step. omega (arith, step.in_range) }
 
-  twice-step : (j k : ℕ) → IsFirstFault count routes (MachineTwice j k) → IsBadStep j k
-  twice-step j k (reached, inside, (i, earlier, same)) = record { reached = reached; bad = λ step. step.first_visit i earlier same }
+  twice-step : (j k : ℕ) → IsFirstFault count again routes (MachineTwice j k) → IsBadStep j k
+  twice-step j k (reached, inside, twice) = record { reached = reached; bad = λ step. sound-twice count again (route_at routes j) k step twice }
 
-  nominal-step : (j k : ℕ) → IsFirstFault count routes (NominalTooLarge j k) → IsBadStep j k
-  nominal-step j k (reached, inside, first, large) = record { reached = reached; bad = λ step. omega (arith, step.nominal) }
+  nominal-step : (j k : ℕ) → IsFirstFault count again routes (NominalTooLarge j k) → IsBadStep j k
+  nominal-step j k (reached, inside, once, large) = record { reached = reached; bad = λ step. omega (arith, step.nominal) }
+
+  long-job : (j : ℕ) → IsFirstFault count again routes (TooManySteps j) → IsBadJob j
+  long-job j (reached, long) = record { reached = reached; bad = λ route. omega (arith, long.1, route.few_steps) }
+
+  -- a job without steps has not too many
+  empty-not_long : (i j : ℕ) → IsFirstFault count again routes (EmptyRoute i) → IsFirstFault count again routes (TooManySteps j) → ⊥
+  empty-not_long i j empty long =
+      let same : i ≡ j = bad_job_once i j (empty-job i empty) (long-job j long) in
+      omega (arith, empty.1, ap (λ x. length (route_at routes x)) same, long.1.1)
+
+  -- no step of a route that is too long is looked at
+  long-no_step : (i j l : ℕ) → IsFirstFault count again routes (TooManySteps i) → IsBadStep j l → ⊥
+  long-no_step i j l long step =
+      let same : i ≡ j = bad_job_once i j (long-job i long) (bad_step-job j l step) in
+      step.reached.short (subst (λ x. IsTooLong again (route_at routes x)) same long.1)
 
   -- a job without steps has no step
-  empty-no_step : (i j l : ℕ) → IsFirstFault count routes (EmptyRoute i) → IsBadStep j l → ⊥
+  empty-no_step : (i j l : ℕ) → IsFirstFault count again routes (EmptyRoute i) → IsBadStep j l → ⊥
   empty-no_step i j l empty step =
       let same : i ≡ j = bad_job_once i j (empty-job i empty) (bad_step-job j l step) in
       omega (arith, empty.1, ap (λ x. length (route_at routes x)) same, step.reached.in_range)
@@ -68,19 +84,26 @@ module _ (count : ℕ) (routes : List (List Step)) where
   machine_same : (i k j l : ℕ) → IsBadStep i k → IsBadStep j l → (step_at (route_at routes i) k).machine ≡ (step_at (route_at routes j) l).machine
   machine_same i k j l one other = let (same, place) = bad_step_once i k j l one other in ap₂ (λ x y. (step_at (route_at routes x) y).machine) same place
 
-  twice-not_first : (i k j l : ℕ) → IsFirstFault count routes (MachineTwice i k) → IsFirstFault count routes (NominalTooLarge j l) → ⊥
+  twice-not_first : (i k j l : ℕ) → IsFirstFault count again routes (MachineTwice i k) → IsFirstFault count again routes (NominalTooLarge j l) → ⊥
   twice-not_first i k j l one other =
       let (same, place) = bad_step_once i k j l (twice-step i k one) (nominal-step j l other) in
-      let first : IsFirstVisit (route_at routes i) k = subst (λ x. IsFirstVisit (route_at routes x) k) (sym same) (subst (IsFirstVisit (route_at routes j)) (sym place) other.2) in
-      let (h, earlier, is) = one.2 in
-      first h earlier is
+      other.2 (subst (IsTwice again (route_at routes j)) place (subst (λ x. IsTwice again (route_at routes x) k) same one.2))
 
-  pub fault_once : (a b : ShopFault) → IsFirstFault count routes a → IsFirstFault count routes b → a ≡ b
+  pub fault_once : (a b : ShopFault) → IsFirstFault count again routes a → IsFirstFault count again routes b → a ≡ b
   fault_once NoJobs NoJobs one other = refl
   fault_once TooManyJobs TooManyJobs one other = refl
   fault_once NoMachines NoMachines one other = refl
   fault_once TooManyMachines TooManyMachines one other = refl
   fault_once (EmptyRoute i) (EmptyRoute j) one other = ap EmptyRoute (bad_job_once i j (empty-job i one) (empty-job j other))
+  fault_once (EmptyRoute i) (TooManySteps j) one other = absurd (empty-not_long i j one other)
+  fault_once (TooManySteps i) (EmptyRoute j) one other = absurd (empty-not_long j i other one)
+  fault_once (TooManySteps i) (TooManySteps j) one other = ap TooManySteps (bad_job_once i j (long-job i one) (long-job j other))
+  fault_once (TooManySteps i) (MachineOutOfRange j l) one other = absurd (long-no_step i j l one (range-step j l other))
+  fault_once (TooManySteps i) (MachineTwice j l) one other = absurd (long-no_step i j l one (twice-step j l other))
+  fault_once (TooManySteps i) (NominalTooLarge j l) one other = absurd (long-no_step i j l one (nominal-step j l other))
+  fault_once (MachineOutOfRange i k) (TooManySteps j) one other = absurd (long-no_step j i k other (range-step i k one))
+  fault_once (MachineTwice i k) (TooManySteps j) one other = absurd (long-no_step j i k other (twice-step i k one))
+  fault_once (NominalTooLarge i k) (TooManySteps j) one other = absurd (long-no_step j i k other (nominal-step i k one))
   fault_once (EmptyRoute i) (MachineOutOfRange j l) one other = absurd (empty-no_step i j l one (range-step j l other))
   fault_once (EmptyRoute i) (MachineTwice j l) one other = absurd (empty-no_step i j l one (twice-step j l other))
   fault_once (EmptyRoute i) (NominalTooLarge j l) one other = absurd (empty-no_step i j l one (nominal-step j l other))

@@ -1,9 +1,7 @@
 -- What rests on it that a job visits a machine once: none of this holds where a machine may be visited again.
-use Rattle.std.proofs.Common.{◌≡◌, ℕ, zero, suc, ◌<◌, Bool, true, length, nat_eq, refl, sym, subst, ◌∙◌, ◌⊎◌, inl, inr, arith, eqb-true}
-use Rattle.std.proofs.lemmas.Bool.{cases_order}
-use Rattle.shop_base.specs.Shop.{IsShop, IsSoundStep}
-use Rattle.shop_base.specs.Plan.{PlannedShop, machines, route, steps, machine_of, order, job_at, count_below, Visits, Stands, IsOrder, IsWellShaped}
-use Rattle.shop_base.proofs.Visits.{steps_job, visits-order, stands_once}
+use Rattle.std.proofs.Common.{◌≡◌, ℕ, zero, suc, ◌<◌, Bool, true, length, nat_eq, refl, sym, subst, ◌∙◌, arith, eqb-true}
+use Rattle.shop_base.specs.Plan.{PlannedShop, machine_of, order, job_at, count_below, Visits, Stands, IsOrder}
+use Rattle.shop_base.proofs.Visits.{stands_once}
 use Rattle.shop_base.proofs.Counting.{count_found}
 
 -- where no number passes, the count is 0
@@ -62,31 +60,3 @@ module _ (p : PlannedShop) (m : ℕ) (plain : IsPlain p m) where
         stands_once p m a b (job_at p m b) l (subst (Stands p m a (job_at p m b)) (plain (job_at p m b) k l one.visits other.visits) one) other);
     complete = λ j k visits. (let (a, stands) = is.complete j k visits in (a, stands.within, stands.job));
   }
-
-module _ (p : PlannedShop) where
-  -- in a shop a job visits a machine once
-  pub shop_once : (j k l m : ℕ) → IsShop p.shop → Visits p j k m → Visits p j l m → k ≡ l
-  shop_once j k l m shop one other = go (cases_order k l)
-    where
-      step : (n : ℕ) → n < steps p j → IsSoundStep (machines p) (route p j) n
-      step n within = (shop.routes j (steps_job p j n within)).steps n within
-
-      go : (k ≡ l) ⊎ ((k < l) ⊎ (l < k)) → k ≡ l
-      go (inl same) = same
-      go (inr (inl less)) = absurd ((step l other.within).first_visit k less (one.here ∙ sym other.here))
-      go (inr (inr more)) = absurd ((step k one.within).first_visit l more (other.here ∙ sym one.here))
-
-  pub visits_once : (j k l m : ℕ) → IsWellShaped p → Visits p j k m → Visits p j l m → k ≡ l
-  visits_once j k l m shaped one other = shop_once j k l m shaped.shop one other
-
-  pub place_visits : (m a j k : ℕ) → IsWellShaped p → a < length (order p m) → job_at p m a ≡ j → Visits p j k m → Stands p m a j k
-  place_visits m a j k shaped within here visits = plain-place p m (λ j k l. visits_once j k l m shaped) a j k (visits-order p j k m shaped visits) within here visits
-
-  -- a job stands once in an order
-  pub stands_alone : (m a b j k l : ℕ) → IsWellShaped p → Stands p m a j k → Stands p m b j l → a ≡ b
-  stands_alone m a b j k l shaped one other =
-      stands_once p m a b j l (subst (Stands p m a j) (visits_once j k l m shaped one.visits other.visits) one) other
-
-  -- two places of one job are one
-  pub places_once : (m a b : ℕ) → IsWellShaped p → m < machines p → a < length (order p m) → b < length (order p m) → job_at p m a ≡ job_at p m b → a ≡ b
-  places_once m a b shaped inside within below same = (order-plain p m (λ j k l. visits_once j k l m shaped) (shaped.orders m inside)).once a b within below same

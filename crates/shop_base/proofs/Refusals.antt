@@ -1,32 +1,35 @@
 -- What has a fault isn't sound: so what is refused is exactly what isn't.
-use Rattle.std.proofs.Common.{◌≡◌, ◌↔◌, ℕ, List, true, false, arith}
+use Rattle.std.proofs.Common.{◌≡◌, ◌↔◌, ℕ, List, Bool, true, false, arith}
 use Rattle.shop_base.specs.declared.shop.Step.{Step}
 use Rattle.shop_base.specs.declared.shop_fault.ShopFault.{ShopFault}
-use Rattle.shop_base.specs.declared.shop_fault.ShopFault.TheVariants.{NoJobs, TooManyJobs, NoMachines, TooManyMachines, EmptyRoute, MachineOutOfRange, MachineTwice, NominalTooLarge}
+use Rattle.shop_base.specs.declared.shop_fault.ShopFault.TheVariants.{NoJobs, TooManyJobs, NoMachines, TooManyMachines, EmptyRoute, TooManySteps, MachineOutOfRange, MachineTwice, NominalTooLarge}
 use Rattle.shop_base.specs.declared.shape_fault.ShapeFault.{ShapeFault}
 use Rattle.shop_base.specs.declared.shape_fault.ShapeFault.TheVariants.{ReleaseCount, BudgetCount, OrderCount, CleanCount, ReleaseTooLarge, BudgetTooLarge, CleanTooLarge, JobOutOfRange, NotOnRoute, JobTwice, JobMissing}
 use Rattle.shop_base.specs.Shop.{IsShop, IsSoundStep, route_at}
 use Rattle.shop_base.specs.ShopFault.{IsFirstFault, IsStepReached}
 use Rattle.shop_base.specs.Plan.{PlannedShop, job_at, IsOrder, IsWellShaped}
 use Rattle.shop_base.specs.ShapeFault.{IsFirstShapeFault, IsMachineReached}
+use Rattle.shop_base.proofs.FirstVisits.{sound-twice}
 use Rattle.shop_base.proofs.Visits.{visits_job}
 use Rattle.shop_base.proofs.Orders.{stands-place, none_missing}
 
 -- a shop with a fault isn't sound
-pub fault_refutes : (count : ℕ) (routes : List (List Step)) (fault : ShopFault) → IsFirstFault count routes fault → IsShop (record { machines = count; routes = routes }) → ⊥
-fault_refutes count routes fault is shop = go fault is
+pub fault_refutes : (count : ℕ) (again : Bool) (routes : List (List Step)) (fault : ShopFault) → IsFirstFault count again routes fault
+    → IsShop (record { machines = count; routes = routes; recirculates = again }) → ⊥
+fault_refutes count again routes fault is shop = go fault is
   where
-    step_of : (job step : ℕ) → IsStepReached count routes job step → IsSoundStep count (route_at routes job) step
+    step_of : (job step : ℕ) → IsStepReached count again routes job step → IsSoundStep count again (route_at routes job) step
     step_of job step reached = (shop.routes job reached.reached.in_range).steps step reached.in_range
 
-    go : (fault : ShopFault) → IsFirstFault count routes fault → ⊥
+    go : (fault : ShopFault) → IsFirstFault count again routes fault → ⊥
     go NoJobs none = omega (arith, shop.counts.some_job)
     go TooManyJobs many = omega (arith, shop.counts.few_jobs)
     go NoMachines none = omega (arith, shop.counts.some_machine, none.2)
     go TooManyMachines many = omega (arith, shop.counts.few_machines, many.2)
     go (EmptyRoute job) (reached, empty) = omega (arith, (shop.routes job reached.in_range).visits_some)
+    go (TooManySteps job) (reached, long) = omega (arith, (shop.routes job reached.in_range).few_steps, long.1)
     go (MachineOutOfRange job step) (reached, past) = omega (arith, (step_of job step reached).in_range)
-    go (MachineTwice job step) (reached, inside, (i, earlier, same)) = (step_of job step reached).first_visit i earlier same
+    go (MachineTwice job step) (reached, inside, twice) = sound-twice count again (route_at routes job) step (step_of job step reached) twice
     go (NominalTooLarge job step) (reached, inside, first, large) = omega (arith, (step_of job step reached).nominal)
 
 -- a plan with a fault isn't well shaped

@@ -51,14 +51,14 @@ module _ (marks : List Bool) (number : ℕ → ℕ) (n : ℕ) (are : AreMarks ma
       ]
 
 -- the first n steps of a route are sound, and their machines are marked
-pub record AreStepsChecked (machines : ℕ) (route : List Step) (visited : List Bool) (n : ℕ) : Type 0 where
-  pub sound : AreSoundSteps machines route n
+pub record AreStepsChecked (machines : ℕ) (again : Bool) (route : List Step) (visited : List Bool) (n : ℕ) : Type 0 where
+  pub sound : AreSoundSteps machines again route n
   pub marks : AreMarks visited (IsVisitedBefore route n)
   pub size : length visited ≡ MAX_MACHINES
 
 -- no step was looked at
-pub steps_none : (machines : ℕ) (route : List Step) → AreStepsChecked machines route (replicate MAX_MACHINES false) 0
-steps_none machines route = record {
+pub steps_none : (machines : ℕ) (again : Bool) (route : List Step) → AreStepsChecked machines again route (replicate MAX_MACHINES false) 0
+steps_none machines again route = record {
   sound = λ k lt. absurd (omega arith);
   marks = before_none MAX_MACHINES (λ k. (step_at route k).machine);
   size = length-replicate MAX_MACHINES false;

@@ -1,13 +1,14 @@
 -- Tests that decide whether a plan that is written out is well shaped, and whether it is a serial one.
-use Rattle.std.proofs.Common.{◌≢◌, ℕ, ◌+◌, ◌<◌, ◌≤◌, List, [], length, Option, None, Some, Bool, true, not, ◌&&◌, ◌||◌, ltb, leb, eqb, Decides, refl, ap, arith, lt_of_not-le}
+use Rattle.std.proofs.Common.{◌≡◌, ◌∙◌, ℕ, zero, suc, false, ◌+◌, ◌<◌, ◌≤◌, List, [], length, Option, None, Some, Bool, true, not, ◌&&◌, ◌||◌, ltb, leb, eqb, Decides, refl, ap, arith, lt_of_not-le}
 use Rattle.std.proofs.lemmas.Bool.Decides.{Decides-like, Decides-and, Decides-not, Decides-ltb, Decides-eqb}
 use Rattle.std.proofs.lemmas.List.{get_or_past}
 use Rattle.shop_base.specs.declared.shop.Step.{Step}
-use Rattle.shop_base.specs.declared.limits.TheConstants.{MAX_JOBS, MAX_MACHINES, MAX_NOMINAL, MAX_RELEASE, MAX_MOMENT, MAX_CLEAN}
-use Rattle.shop_base.specs.Shop.{JobShop, step_at, route_at, IsSoundStep, IsRoute, AreCounts, IsShop}
+use Rattle.shop_base.specs.declared.limits.TheConstants.{MAX_JOBS, MAX_MACHINES, MAX_STEPS, MAX_NOMINAL, MAX_RELEASE, MAX_MOMENT, MAX_CLEAN}
+use Rattle.shop_base.specs.Shop.{JobShop, step_at, route_at, IsSameAgain, IsSoundStep, IsRoute, AreCounts, IsShop}
 use Rattle.shop_base.specs.Plan.{PlannedShop, jobs, machines, steps, release, budget, clean, order, job_at, Visits, Stands, HasCleanCount, HasCounts, IsWithinLimits, IsOrder, IsWellShaped}
 use Rattle.shop_base.specs.Graph.{IsSerial}
-use Rattle.shop_base.proofs.FirstVisits.{first-elsewhere}
+use Rattle.shop_base.specs.ShopFault.{IsTwice}
+use Rattle.shop_base.proofs.FirstVisits.{once-sound, sound-twice}
 use Rattle.shop_base.proofs.Visits.{visits_job}
 use Rattle.shop_base.proofs.CellTests.{all_below, some_below, all_below_decides, some_below_decides, leb_decides, visits_test, visits_decides}
 use Rattle.shop_base.proofs.RunTests.{implies_decides}
@@ -16,20 +17,37 @@ use Rattle.shop_base.proofs.GraphTests.{stands_test, stands_decides}
 abbrev machine_at : List Step → ℕ → ℕ
 machine_at route k = (step_at route k).machine
 
-abbrev step_test : ℕ → List Step → ℕ → Bool
-step_test machines route k = ltb (machine_at route k) machines && (all_below (λ i. not (eqb (machine_at route i) (machine_at route k))) k && leb (step_at route k).nominal MAX_NOMINAL)
+-- step k is on the machine of the step before it
+abbrev same_test : List Step → ℕ → Bool
+same_test route zero = false
+same_test route (suc i) = eqb (machine_at route i) (machine_at route (suc i))
 
-step_decides : (machines : ℕ) (route : List Step) (k : ℕ) → Decides (step_test machines route k) (IsSoundStep machines route k)
-step_decides machines route k = Decides-like (step_test machines route k) (λ all. record { in_range = all.0; elsewhere = first-elsewhere route k all.1.0; first_visit = all.1.0; nominal = all.1.1 }) (λ sound. (sound.in_range, (sound.first_visit, sound.nominal)))
+same_decides : (route : List Step) (k : ℕ) → Decides (same_test route k) (IsSameAgain route k)
+same_decides route zero = ((λ is. absurd (cc)), (λ same. absurd (omega (arith, same.1))))
+same_decides route (suc i) = Decides-like (same_test route (suc i)) (λ is. (i, refl, is)) (λ same. ap (machine_at route) (omega (arith, same.1)) ∙ same.2) (Decides-eqb (machine_at route i) (machine_at route (suc i)))
+
+abbrev twice_test : Bool → List Step → ℕ → Bool
+twice_test true route k = same_test route k
+twice_test false route k = some_below (λ i. eqb (machine_at route i) (machine_at route k)) k
+
+twice_decides : (again : Bool) (route : List Step) (k : ℕ) → Decides (twice_test again route k) (IsTwice again route k)
+twice_decides true route k = same_decides route k
+twice_decides false route k = some_below_decides _ (λ i. machine_at route i ≡ machine_at route k) (λ i. Decides-eqb (machine_at route i) (machine_at route k)) k
+
+abbrev step_test : ℕ → Bool → List Step → ℕ → Bool
+step_test machines again route k = ltb (machine_at route k) machines && (not (twice_test again route k) && leb (step_at route k).nominal MAX_NOMINAL)
+
+step_decides : (machines : ℕ) (again : Bool) (route : List Step) (k : ℕ) → Decides (step_test machines again route k) (IsSoundStep machines again route k)
+step_decides machines again route k = Decides-like (step_test machines again route k) (λ all. once-sound machines again route k all.0 all.1.0 all.1.1) (λ sound. (sound.in_range, (sound-twice machines again route k sound, sound.nominal)))
     (Decides-and (ltb (machine_at route k) machines) _ (Decides-ltb (machine_at route k) machines)
-    (Decides-and _ _ (all_below_decides _ (λ i. machine_at route i ≢ machine_at route k) (λ i. Decides-not _ (Decides-eqb (machine_at route i) (machine_at route k))) k) (leb_decides (step_at route k).nominal MAX_NOMINAL)))
+    (Decides-and _ _ (Decides-not _ (twice_decides again route k)) (leb_decides (step_at route k).nominal MAX_NOMINAL)))
 
-abbrev route_test : ℕ → List Step → Bool
-route_test machines route = ltb 0 (length route) && (leb (length route) MAX_MACHINES && all_below (step_test machines route) (length route))
+abbrev route_test : ℕ → Bool → List Step → Bool
+route_test machines again route = ltb 0 (length route) && (leb (length route) MAX_STEPS && all_below (step_test machines again route) (length route))
 
-route_decides : (machines : ℕ) (route : List Step) → Decides (route_test machines route) (IsRoute machines route)
-route_decides machines route = Decides-like (route_test machines route) (λ both. record { visits_some = both.0; few_steps = both.1.0; steps = both.1.1 }) (λ sound. (sound.visits_some, (sound.few_steps, sound.steps)))
-    (Decides-and (ltb 0 (length route)) _ (Decides-ltb 0 (length route)) (Decides-and (leb (length route) MAX_MACHINES) _ (leb_decides (length route) MAX_MACHINES) (all_below_decides (step_test machines route) (IsSoundStep machines route) (step_decides machines route) (length route))))
+route_decides : (machines : ℕ) (again : Bool) (route : List Step) → Decides (route_test machines again route) (IsRoute machines again route)
+route_decides machines again route = Decides-like (route_test machines again route) (λ both. record { visits_some = both.0; few_steps = both.1.0; steps = both.1.1 }) (λ sound. (sound.visits_some, (sound.few_steps, sound.steps)))
+    (Decides-and (ltb 0 (length route)) _ (Decides-ltb 0 (length route)) (Decides-and (leb (length route) MAX_STEPS) _ (leb_decides (length route) MAX_STEPS) (all_below_decides (step_test machines again route) (IsSoundStep machines again route) (step_decides machines again route) (length route))))
 
 abbrev counts_test : ℕ → ℕ → Bool
 counts_test machines jobs = ltb 0 jobs && (leb jobs MAX_JOBS && (ltb 0 machines && leb machines MAX_MACHINES))
@@ -41,12 +59,12 @@ counts_decides machines jobs = Decides-like (counts_test machines jobs) (λ all.
     (Decides-and (ltb 0 machines) _ (Decides-ltb 0 machines) (leb_decides machines MAX_MACHINES))))
 
 abbrev shop_test : JobShop → Bool
-shop_test shop = counts_test shop.machines (length shop.routes) && all_below (λ j. route_test shop.machines (route_at shop.routes j)) (length shop.routes)
+shop_test shop = counts_test shop.machines (length shop.routes) && all_below (λ j. route_test shop.machines shop.recirculates (route_at shop.routes j)) (length shop.routes)
 
 shop_decides : (shop : JobShop) → Decides (shop_test shop) (IsShop shop)
 shop_decides shop = Decides-like (shop_test shop) (λ both. record { counts = both.0; routes = both.1 }) (λ sound. (sound.counts, sound.routes))
     (Decides-and (counts_test shop.machines (length shop.routes)) _ (counts_decides shop.machines (length shop.routes))
-    (all_below_decides _ (λ j. IsRoute shop.machines (route_at shop.routes j)) (λ j. route_decides shop.machines (route_at shop.routes j)) (length shop.routes)))
+    (all_below_decides _ (λ j. IsRoute shop.machines shop.recirculates (route_at shop.routes j)) (λ j. route_decides shop.machines shop.recirculates (route_at shop.routes j)) (length shop.routes)))
 
 abbrev cleanings_test : Option (List ℕ) → ℕ → Bool
 cleanings_test None n = true

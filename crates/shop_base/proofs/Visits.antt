@@ -18,7 +18,7 @@ pub visits_job : (p : PlannedShop) (j k m : ℕ) → Visits p j k m → j < jobs
 visits_job p j k m visits = steps_job p j k visits.within
 
 -- step k of job j is a sound step
-pub visits-sound : (p : PlannedShop) (j k m : ℕ) → IsWellShaped p → Visits p j k m → IsSoundStep (machines p) (route p j) k
+pub visits-sound : (p : PlannedShop) (j k m : ℕ) → IsWellShaped p → Visits p j k m → IsSoundStep (machines p) p.shop.recirculates (route p j) k
 visits-sound p j k m shaped visits = (shaped.shop.routes j (visits_job p j k m visits)).steps k visits.within
 
 -- only machines of the shop are visited

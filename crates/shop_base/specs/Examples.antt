@@ -1,5 +1,5 @@
 -- The worked examples: shops, plans and runs.
-use Rattle.std.specs.Prelude.{ℕ, List, [], ◌∷◌, ◌++◌, length, replicate, take, slice_index, slice_index_or, Option, None, Some}
+use Rattle.std.specs.Prelude.{ℕ, true, false, List, [], ◌∷◌, ◌++◌, length, replicate, take, slice_index, slice_index_or, Option, None, Some}
 use Rattle.shop_base.specs.declared.shop.Step.{Step}
 use Rattle.shop_base.specs.declared.node.Node.{Node}
 use Rattle.shop_base.specs.declared.report.Report.{Report}
@@ -28,6 +28,7 @@ planned shop budget order clean = record {
 abbrev pub two_jobs : JobShop
 two_jobs = record {
   machines = 2;
+  recirculates = false;
   routes = (on_for 0 3 ∷ on_for 1 2 ∷ [])
       ∷ (on_for 1 4 ∷ on_for 0 1 ∷ [])
       ∷ [];
@@ -61,6 +62,7 @@ abbrev pub in_flow : PlannedShop
 in_flow = planned
     (record {
       machines = 3;
+      recirculates = false;
       routes = (on_for 0 1 ∷ on_for 1 1 ∷ on_for 2 5 ∷ [])
           ∷ (on_for 0 1 ∷ on_for 1 1 ∷ on_for 2 1 ∷ [])
           ∷ (on_for 0 1 ∷ on_for 1 1 ∷ on_for 2 1 ∷ [])
@@ -73,6 +75,7 @@ abbrev pub in_ring : PlannedShop
 in_ring = planned
     (record {
       machines = 3;
+      recirculates = false;
       routes = (on_for 0 1 ∷ on_for 1 1 ∷ [])
           ∷ (on_for 1 1 ∷ on_for 2 1 ∷ [])
           ∷ (on_for 2 1 ∷ on_for 0 1 ∷ [])
@@ -80,9 +83,15 @@ in_ring = planned
     })
     (100 ∷ 100 ∷ 100 ∷ []) ((0 ∷ 2 ∷ []) ∷ (1 ∷ 0 ∷ []) ∷ (2 ∷ 1 ∷ []) ∷ []) None
 
+-- job 0 is rinsed, goes on to a bath, and is rinsed again in the tank, which has to be cleaned for 6; job 1 is rinsed once
+abbrev pub rinsing : PlannedShop
+rinsing = planned
+    (record { machines = 2; recirculates = true; routes = (on_for 0 3 ∷ on_for 1 2 ∷ on_for 0 3 ∷ []) ∷ (on_for 0 3 ∷ []) ∷ [] })
+    (12 ∷ 21 ∷ []) ((0 ∷ 0 ∷ 1 ∷ []) ∷ (0 ∷ []) ∷ []) (Some (6 ∷ 0 ∷ []))
+
 -- one job with one step, whose nominal time is 0
 abbrev pub instant : PlannedShop
-instant = planned (record { machines = 1; routes = (on_for 0 0 ∷ []) ∷ [] }) (0 ∷ []) ((0 ∷ []) ∷ []) None
+instant = planned (record { machines = 1; recirculates = false; routes = (on_for 0 0 ∷ []) ∷ [] }) (0 ∷ []) ((0 ∷ []) ∷ []) None
 
 -- at moment t job j has arrived
 abbrev pub arrive : ℕ → ℕ → Report
@@ -115,6 +124,14 @@ cleaned_moments = number_in ((0 ∷ 3 ∷ 5 ∷ []) ∷ (7 ∷ 11 ∷ 12 ∷ [])
 -- the deadlines of that plan with more room in the budgets
 abbrev pub room_moments : Node → ℕ
 room_moments = number_in ((4 ∷ 7 ∷ 9 ∷ []) ∷ (15 ∷ 19 ∷ 20 ∷ []) ∷ [])
+
+-- the greatest lengths of the plan with the rinse tank: job 0 waits in the bath for the cleaning after its own visit
+abbrev pub rinsing_moments : Node → ℕ
+rinsing_moments = number_in ((0 ∷ 3 ∷ 9 ∷ 12 ∷ []) ∷ (18 ∷ 21 ∷ []) ∷ [])
+
+-- the nodes of that plan, numbered along its arcs
+abbrev pub rinsing_ranks : Node → ℕ
+rinsing_ranks = number_in ((0 ∷ 1 ∷ 2 ∷ 3 ∷ []) ∷ (4 ∷ 5 ∷ []) ∷ [])
 
 -- the greatest lengths without cleaning, with the releases
 abbrev pub released_moments : Node → ℕ
@@ -211,6 +228,33 @@ crossed_end = ends_in crossed crossed_log
 -- the two jobs exchange their machines
 abbrev pub exchange : List Event
 exchange = Moved (go 4 0 (At 0) (At 1)) ∷ Moved (go 4 1 (At 1) (At 0)) ∷ []
+
+-- each activity ends when it is due: the first and the last operation of job 0 are both on the tank
+abbrev pub rinsing_reports : List Report
+rinsing_reports = arrive 0 0 ∷ arrive 0 1
+    ∷ finish 3 0 0 ∷ finish 5 0 1 ∷ tidy 9 0
+    ∷ finish 12 0 0 ∷ tidy 18 0
+    ∷ finish 21 1 0 ∷ tidy 27 0 ∷ []
+
+-- the controlled run of these reports, with that plan
+abbrev pub rinsing_log : List Event
+rinsing_log = Reported (arrive 0 0) ∷ Moved (go 0 0 Out (At 0))
+    ∷ Reported (arrive 0 1)
+    ∷ Reported (finish 3 0 0) ∷ Moved (go 3 0 (At 0) (At 1))
+    ∷ Reported (finish 5 0 1)
+    ∷ Reported (tidy 9 0) ∷ Moved (go 9 0 (At 1) (At 0))
+    ∷ Reported (finish 12 0 0) ∷ Moved (go 12 0 (At 0) Out)
+    ∷ Reported (tidy 18 0) ∷ Moved (go 18 1 Out (At 0))
+    ∷ Reported (finish 21 1 0) ∷ Moved (go 21 1 (At 0) Out)
+    ∷ Reported (tidy 27 0) ∷ []
+
+-- the cell after the first n events of that run
+abbrev pub rinsing_after : ℕ → Cell
+rinsing_after n = ends_in rinsing (take n rinsing_log)
+
+-- the cell at the end of that run
+abbrev pub rinsing_end : Cell
+rinsing_end = ends_in rinsing rinsing_log
 
 -- each activity ends when it is due
 abbrev pub flow_reports : List Report

@@ -6,6 +6,9 @@ pub const MAX_JOBS: usize = 200;
 /// The most machines of a shop. A shop has at least one.
 pub const MAX_MACHINES: u32 = 100;
 
+/// The most steps of a route. A route has at least one.
+pub const MAX_STEPS: usize = 100;
+
 /// The longest nominal time of a step, in time units.
 pub const MAX_NOMINAL: u64 = 1_000_000;
 

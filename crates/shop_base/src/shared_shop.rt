@@ -10,6 +10,7 @@ use std::marker::Model;
 pub struct SharedShop {
     machines: u32,
     routes: SharedRows,
+    recirculates: bool,
 }
 
 impl Model for SharedShop {
@@ -19,9 +20,9 @@ impl Model for SharedShop {
 
     ghost Value = { JobShop };
 
-    ghost view = { λ s. record { machines = s.machines; routes = lists_of (arc_value s.routes).items } };
+    ghost view = { λ s. record { machines = s.machines; routes = lists_of (arc_value s.routes).items; recirculates = s.recirculates } };
 
-    ghost invariant = { λ s. IsShop (record { machines = s.machines; routes = lists_of (arc_value s.routes).items }) };
+    ghost invariant = { λ s. IsShop (record { machines = s.machines; routes = lists_of (arc_value s.routes).items; recirculates = s.recirculates }) };
 }
 
 impl SharedShop {
@@ -29,9 +30,17 @@ impl SharedShop {
     pub fn new(alloc: Global, shop: Shop) -> Result<SharedShop, AllocError>
         ensures { IfOk result (λ shared. shared ≡ shop) }
     {
-        let Shop { machines, routes } = shop;
+        let Shop {
+            machines,
+            routes,
+            recirculates,
+        } = shop;
         let routes = routes.into_shared(alloc)?;
-        Ok(SharedShop { machines, routes })
+        Ok(SharedShop {
+            machines,
+            routes,
+            recirculates,
+        })
     }
 
     /// The shop once more, with the same routes. It is refused only where no more can be counted that read them.
@@ -42,6 +51,7 @@ impl SharedShop {
         Ok(Shop {
             machines: self.machines,
             routes: Routes::shared(alloc, routes),
+            recirculates: self.recirculates,
         })
     }
 }

@@ -1,13 +1,13 @@
-ghost use Rattle.std.specs.Prelude.{◌≡◌, ◌↔◌, ◌^◌, ◌<◌, ◌≤◌, MatchOption, sum_by, IfOk, IfErr};
-ghost use Rattle.std.specs.Prelude.{IsOk, OnOk, length, slice_get, Some};
-ghost use Rattle.shop_base.specs.Shop.{IsShop, IsRoute, AreCounts, IsSoundStep, operations_of, route_at};
+ghost use Rattle.std.specs.Prelude.{◌≡◌, ◌↔◌, ◌^◌, ◌<◌, ◌≤◌, MatchBool, MatchOption, sum_by, IfOk, IfErr};
+ghost use Rattle.std.specs.Prelude.{IsOk, OnOk, length, slice_get, Some, Bool, true, false, List};
+ghost use Rattle.shop_base.specs.Shop.{IsShop, IsRoute, AreCounts, IsSoundStep, operations_of, route_at, step_at, told_step};
 ghost use Rattle.shop_base.specs.Vectors.{lists_of};
 ghost use Rattle.shop_base.specs.Work.{work_of, route_work};
 ghost use Rattle.shop_base.specs.declared.shop_fault.ShopFault.{ShopFault};
-ghost use Rattle.shop_base.specs.ShopFault.{AreRoutes, IsFirstFault, IsReached, IsStepReached};
+ghost use Rattle.shop_base.specs.ShopFault.{AreRoutes, IsFirstFault, IsReached, IsStepReached, IsTooLong, IsTwice};
 ghost use Rattle.shop_base.specs.Marks.{AreMarks, IsVisitedBefore};
 
-use crate::limits::{MAX_JOBS, MAX_MACHINES, MAX_NOMINAL};
+use crate::limits::{MAX_JOBS, MAX_MACHINES, MAX_NOMINAL, MAX_STEPS};
 use crate::routes::Routes;
 use crate::shop_fault::ShopFault;
 use std::marker::Model;
@@ -28,12 +28,13 @@ pub struct Step {
     pub nominal: Moment,
 }
 
-/// A job shop: a number of machines, and for each job its route over some of them, in order
-/// (Pinedo, Scheduling: `Jm`, here without recirculation).
+/// A job shop: a number of machines, for each job its route over some of them, in order, and whether a job may visit
+/// a machine again (Pinedo, Scheduling: `Jm`, with or without `recrc`).
 #[derive(Debug, Drop)]
 pub struct Shop {
     pub(crate) machines: u32,
     pub(crate) routes: Routes,
+    pub(crate) recirculates: bool,
 }
 
 impl Model for Shop {
@@ -41,27 +42,72 @@ impl Model for Shop {
 
     ghost Value = { JobShop };
 
-    ghost view = { λ s. record { machines = s.machines; routes = s.routes } };
+    ghost view = { λ s. record { machines = s.machines; routes = s.routes; recirculates = s.recirculates } };
 
-    ghost invariant = { λ s. IsShop (record { machines = s.machines; routes = s.routes }) };
+    ghost invariant = { λ s. IsShop (record { machines = s.machines; routes = s.routes; recirculates = s.recirculates }) };
 }
 
 impl Shop {
-    /// The shop with these machines and routes, one route per job. On a refusal the routes are dropped.
+    /// The shop with these machines and routes, one route per job, each of which visits a machine at most once.
+    /// On a refusal the routes are dropped.
     pub fn new(machines: u32, routes: Vec<Vec<Step>>) -> Result<Shop, ShopFault>
-        ensures shop { IfOk result (λ shop. shop ≡ record { machines = machines; routes = lists_of routes.items }) }
-        ensures sound { OnOk result (IsShop (record { machines = machines; routes = lists_of routes.items })) }
-        ensures exact { IsOk result ↔ IsShop (record { machines = machines; routes = lists_of routes.items }) }
-        ensures first_fault { IfErr result (IsFirstFault machines (lists_of routes.items)) }
+        ensures shop { IfOk result (λ shop. shop ≡ record { machines = machines; routes = lists_of routes.items; recirculates = false }) }
+        ensures sound { OnOk result (IsShop (record { machines = machines; routes = lists_of routes.items; recirculates = false })) }
+        ensures exact { IsOk result ↔ IsShop (record { machines = machines; routes = lists_of routes.items; recirculates = false }) }
+        ensures first_fault { IfErr result (IsFirstFault machines false (lists_of routes.items)) }
         ensures only_fault { IfErr result (λ fault.
-            (other : ShopFault) → IsFirstFault machines (lists_of routes.items) other → other ≡ fault) }
+            (other : ShopFault) → IsFirstFault machines false (lists_of routes.items) other → other ≡ fault) }
     {
-        check_size(machines, &routes)?;
-        check_routes(machines, &routes)?;
+        Shop::of_kind(machines, routes, false)
+    }
+
+    /// The shop with these machines and routes, one route per job, in which a job may visit a machine again, but not in its
+    /// next step (Pinedo, Scheduling: `recrc`). On a refusal the routes are dropped.
+    pub fn with_recirculation(machines: u32, routes: Vec<Vec<Step>>) -> Result<Shop, ShopFault>
+        ensures shop { IfOk result (λ shop. shop ≡ record { machines = machines; routes = lists_of routes.items; recirculates = true }) }
+        ensures sound { OnOk result (IsShop (record { machines = machines; routes = lists_of routes.items; recirculates = true })) }
+        ensures exact { IsOk result ↔ IsShop (record { machines = machines; routes = lists_of routes.items; recirculates = true }) }
+        ensures first_fault { IfErr result (IsFirstFault machines true (lists_of routes.items)) }
+        ensures only_fault { IfErr result (λ fault.
+            (other : ShopFault) → IsFirstFault machines true (lists_of routes.items) other → other ≡ fault) }
+    {
+        Shop::of_kind(machines, routes, true)
+    }
+
+    /// The shop with these machines and routes, with recirculation or without. On a refusal the routes are dropped.
+    pub fn of_kind(
+        machines: u32,
+        routes: Vec<Vec<Step>>,
+        recirculates: bool,
+    ) -> Result<Shop, ShopFault>
+        ensures shop { IfOk result (λ shop. shop ≡ record { machines = machines; routes = lists_of routes.items; recirculates = recirculates }) }
+        ensures sound { OnOk result (IsShop (record { machines = machines; routes = lists_of routes.items; recirculates = recirculates })) }
+        ensures exact { IsOk result ↔ IsShop (record { machines = machines; routes = lists_of routes.items; recirculates = recirculates }) }
+        ensures first_fault { IfErr result (IsFirstFault machines recirculates (lists_of routes.items)) }
+        ensures only_fault { IfErr result (λ fault.
+            (other : ShopFault) → IsFirstFault machines recirculates (lists_of routes.items) other → other ≡ fault) }
+    {
+        check_size(machines, recirculates, &routes)?;
+        check_routes(machines, recirculates, &routes)?;
         Ok(Shop {
             machines,
             routes: Routes::own(routes),
+            recirculates,
         })
+    }
+
+    /// Whether a job may visit a machine again.
+    pub fn recirculates(&self) -> bool
+        ensures { result ≡ self.now.recirculates }
+    {
+        self.recirculates
+    }
+
+    /// The step by which lines tell a visit of a job from its others: none where a job visits a machine once.
+    pub fn told_step(&self, step: u32) -> Option<u32>
+        ensures { result ≡ told_step self.now step }
+    {
+        if self.recirculates { Some(step) } else { None }
     }
 
     /// How many jobs there are.
@@ -133,9 +179,9 @@ fn route_sum(route: &[Step]) -> Moment
 }
 
 /// Checks how many jobs and machines there are.
-fn check_size(machines: u32, routes: &[Vec<Step>]) -> Result<(), ShopFault>
+fn check_size(machines: u32, recirculates: bool, routes: &[Vec<Step>]) -> Result<(), ShopFault>
     ensures sound { OnOk result (AreCounts machines (length routes.now)) }
-    ensures first_fault { IfErr result (IsFirstFault machines (lists_of routes.now)) }
+    ensures first_fault { IfErr result (IsFirstFault machines recirculates (lists_of routes.now)) }
 {
     if routes.is_empty() {
         return Err(ShopFault::NoJobs);
@@ -152,29 +198,57 @@ fn check_size(machines: u32, routes: &[Vec<Step>]) -> Result<(), ShopFault>
     Ok(())
 }
 
-fn check_routes(machines: u32, routes: &[Vec<Step>]) -> Result<(), ShopFault>
+fn check_routes(machines: u32, recirculates: bool, routes: &[Vec<Step>]) -> Result<(), ShopFault>
     requires { AreCounts machines (length routes.now) }
-    ensures sound { OnOk result (AreRoutes machines (lists_of routes.now) (length routes.now)) }
-    ensures first_fault { IfErr result (IsFirstFault machines (lists_of routes.now)) }
+    ensures sound { OnOk result (AreRoutes machines recirculates (lists_of routes.now) (length routes.now)) }
+    ensures first_fault { IfErr result (IsFirstFault machines recirculates (lists_of routes.now)) }
 {
     for job in 0..routes.len() {
-        check_route(machines, routes, job)?;
+        check_length(machines, recirculates, routes, job)?;
+        check_route(machines, recirculates, routes, job)?;
     }
     Ok(())
 }
 
-fn check_route(machines: u32, routes: &[Vec<Step>], job: usize) -> Result<(), ShopFault>
-    requires { IsReached machines (lists_of routes.now) job }
-    ensures sound { OnOk result (IsRoute machines (route_at (lists_of routes.now) job)) }
-    ensures first_fault { IfErr result (IsFirstFault machines (lists_of routes.now)) }
+/// Checks how many steps a route has. Without recirculation it can't have too many where its steps are sound.
+fn check_length(
+    machines: u32,
+    recirculates: bool,
+    routes: &[Vec<Step>],
+    job: usize,
+) -> Result<(), ShopFault>
+    requires { IsReached machines recirculates (lists_of routes.now) job }
+    ensures some { OnOk result (0 < length (route_at (lists_of routes.now) job)) }
+    ensures short { OnOk result (IsTooLong recirculates (route_at (lists_of routes.now) job) → ⊥) }
+    ensures first_fault { IfErr result (IsFirstFault machines recirculates (lists_of routes.now)) }
 {
     let route = steps_of(routes, job);
+    let job = job as u32;
     if route.is_empty() {
-        return Err(ShopFault::EmptyRoute { job: job as u32 });
+        return Err(ShopFault::EmptyRoute { job });
     }
+    if recirculates && route.len() > MAX_STEPS {
+        return Err(ShopFault::TooManySteps { job });
+    }
+    Ok(())
+}
+
+fn check_route(
+    machines: u32,
+    recirculates: bool,
+    routes: &[Vec<Step>],
+    job: usize,
+) -> Result<(), ShopFault>
+    requires reached { IsReached machines recirculates (lists_of routes.now) job }
+    requires some { 0 < length (route_at (lists_of routes.now) job) }
+    requires short { IsTooLong recirculates (route_at (lists_of routes.now) job) → ⊥ }
+    ensures sound { OnOk result (IsRoute machines recirculates (route_at (lists_of routes.now) job)) }
+    ensures first_fault { IfErr result (IsFirstFault machines recirculates (lists_of routes.now)) }
+{
+    let route = steps_of(routes, job);
     let mut visited = [false; MAX_MACHINES as usize];
     for step in 0..route.len() {
-        check_step(machines, routes, job, step, &visited)?;
+        check_step(machines, recirculates, routes, job, step, &visited)?;
         visited[route[step].machine as usize] = true;
     }
     Ok(())
@@ -183,28 +257,48 @@ fn check_route(machines: u32, routes: &[Vec<Step>], job: usize) -> Result<(), Sh
 /// Checks a step of a route, on whose earlier steps are the machines that are marked as visited.
 fn check_step(
     machines: u32,
+    recirculates: bool,
     routes: &[Vec<Step>],
     job: usize,
     step: usize,
     visited: &[bool; MAX_MACHINES as usize],
 ) -> Result<(), ShopFault>
-    requires reached { IsStepReached machines (lists_of routes.now) job step }
+    requires reached { IsStepReached machines recirculates (lists_of routes.now) job step }
     requires marked { AreMarks visited.now (IsVisitedBefore (route_at (lists_of routes.now) job) step) }
-    ensures sound { OnOk result (IsSoundStep machines (route_at (lists_of routes.now) job) step) }
-    ensures first_fault { IfErr result (IsFirstFault machines (lists_of routes.now)) }
+    ensures sound { OnOk result (IsSoundStep machines recirculates (route_at (lists_of routes.now) job) step) }
+    ensures first_fault { IfErr result (IsFirstFault machines recirculates (lists_of routes.now)) }
 {
     let route = steps_of(routes, job);
     let job = job as u32;
     if route[step].machine >= machines {
         return Err(ShopFault::MachineOutOfRange { job, step });
     }
-    if visited[route[step].machine as usize] {
+    if is_twice(recirculates, route, step, visited) {
         return Err(ShopFault::MachineTwice { job, step });
     }
     if route[step].nominal > MAX_NOMINAL {
         return Err(ShopFault::NominalTooLarge { job, step });
     }
     Ok(())
+}
+
+/// Whether the machine of a step may not be visited again.
+fn is_twice(
+    recirculates: bool,
+    route: &[Step],
+    step: usize,
+    visited: &[bool; MAX_MACHINES as usize],
+) -> bool
+    requires in_range { step < length route.now }
+    requires on_machine { (step_at route.now step).machine < MAX_MACHINES }
+    requires marked { AreMarks visited.now (IsVisitedBefore route.now step) }
+    ensures { MatchBool result (IsTwice recirculates route.now step) (IsTwice recirculates route.now step → ⊥) }
+{
+    if recirculates {
+        step > 0 && route[step - 1].machine == route[step].machine
+    } else {
+        visited[route[step].machine as usize]
+    }
 }
 
 fn steps_of(routes: &[Vec<Step>], job: usize) -> &[Step]

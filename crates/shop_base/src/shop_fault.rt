@@ -20,10 +20,13 @@ pub enum ShopFault {
     /// The route of the job has no step.
     #[error("EmptyRoute job {job}")]
     EmptyRoute { job: JobNo },
+    /// The route of the job, where machines may be visited again, has more steps than a route may have.
+    #[error("TooManySteps job {job}")]
+    TooManySteps { job: JobNo },
     /// The machine of the step isn't one of the shop's.
     #[error("MachineOutOfRange job {job} step {step}")]
     MachineOutOfRange { job: JobNo, step: usize },
-    /// The machine of the step is also earlier in the route.
+    /// The machine of the step is that of the step before it or, where no machine may be visited again, of any earlier step.
     #[error("MachineTwice job {job} step {step}")]
     MachineTwice { job: JobNo, step: usize },
     /// The nominal time of the step is over the limit.

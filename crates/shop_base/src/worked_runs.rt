@@ -25,7 +25,7 @@ ghost use Rattle.shop_base.specs.Ahead.{HoldsUp, PathAhead, GoesOnTo};
 ghost use Rattle.shop_base.specs.Within.{AreByTheirOwn};
 ghost use Rattle.shop_base.specs.Deadlines.{AreDeadlines};
 ghost use Rattle.shop_base.specs.Examples.{in_series, with_cleaning, with_room, with_releases};
-ghost use Rattle.shop_base.specs.Examples.{crossed, in_flow, in_ring, instant};
+ghost use Rattle.shop_base.specs.Examples.{crossed, in_flow, in_ring, rinsing, instant};
 ghost use Rattle.shop_base.specs.Examples.{arrive, finish, tidy, go, exchange};
 ghost use Rattle.shop_base.specs.Examples.{series_moments, series_ranks, cleaned_moments};
 ghost use Rattle.shop_base.specs.Examples.{released_moments, crossed_moments};
@@ -34,6 +34,8 @@ ghost use Rattle.shop_base.specs.Examples.{late_reports, late_log, late_after, l
 ghost use Rattle.shop_base.specs.Examples.{waiting_reports, waiting_log, waiting_after, waiting_end};
 ghost use Rattle.shop_base.specs.Examples.{crossed_reports, crossed_log, crossed_end};
 ghost use Rattle.shop_base.specs.Examples.{flow_reports, flow_log, flow_after, flow_end, flow_path};
+ghost use Rattle.shop_base.specs.Examples.{rinsing_moments, rinsing_ranks};
+ghost use Rattle.shop_base.specs.Examples.{rinsing_reports, rinsing_log, rinsing_after, rinsing_end};
 ghost use Rattle.shop_base.specs.Examples.{cleaned_reports, cleaned_log, cleaned_after, cleaned_end};
 ghost use Rattle.shop_base.specs.Examples.{room_moments, slow_reports, slow_log, slow_after, slow_end};
 ghost use Rattle.shop_base.specs.Examples.{hasty_reports, hasty_log, hasty_end};
@@ -225,6 +227,30 @@ pub fn cleaning_delays_the_entry()
     ensures first_out { since cleaned_end 0 ≡ 5 }
     ensures second_out { since cleaned_end 1 ≡ 12 }
     ensures last { cleaned_end.last ≡ 13 }
+{}
+
+/// A job visits a machine again. Its visits stand in the machine's order one after the other, and the same report ends
+/// the operations of both. The machine is cleaned between them: of the two arcs from the leaving of the machine to its
+/// second entry, the longer one is the cleaning's.
+pub fn a_tank_is_visited_again()
+    ensures shaped { IsWellShaped rinsing }
+    ensures serial { IsSerial rinsing }
+    ensures run { IsRun rinsing rinsing_log }
+    ensures controlled { IsControlledRun rinsing rinsing_reports rinsing_log rinsing_end }
+    ensures exact { AreExact rinsing (start rinsing) rinsing_log }
+    ensures schedule { IsSchedule rinsing rinsing_ranks rinsing_moments }
+    ensures budgets { MeetBudgets rinsing rinsing_moments }
+    ensures own_arc { Arc rinsing (node 0 1) (node 0 2) 2 }
+    ensures cleaning_arc { Arc rinsing (node 0 1) (node 0 2) 6 }
+    ensures longest { Path rinsing (node 0 0 ∷ node 0 1 ∷ node 0 2 ∷ []) (node 0 2) 9 }
+    ensures first_visit { IsOn rinsing (rinsing_after 2) 0 0 0 }
+    ensures cleaned { GoesOn rinsing (rinsing_after 5) (Cleaning 0) 9 }
+    ensures waits { IsAtRest rinsing (rinsing_after 6) }
+    ensures second_visit { IsOn rinsing (rinsing_after 8) 0 2 0 }
+    ensures ended_again { CanReport rinsing (rinsing_after 8) (finish 12 0 0) }
+    ensures reports { (stated_number rinsing ≡ 9) × (reports_in rinsing_log ≡ 9) }
+    ensures ended { HasEnded rinsing rinsing_end }
+    ensures first_gone { since rinsing_end 0 ≡ 12 }
 {}
 
 /// The deadlines of a plan with room in its budgets. In a run in which each activity ends by its deadline, some past

@@ -5,4 +5,4 @@ use Rattle.shop_base.proofs.shop.check_route.Given as goal
 
 -- the steps looked at are sound, and their machines are marked
 abbrev pub invariant-loop-step : goal.invariant-loop-step
-invariant-loop-step l = AreStepsChecked l.machines (route_at (lists_of l.routes) l.job) l.visited l.step
+invariant-loop-step l = AreStepsChecked l.machines l.recirculates (route_at (lists_of l.routes) l.job) l.visited l.step

@@ -4,4 +4,4 @@ use Rattle.shop_base.proofs.shop.check_routes.Given as goal
 
 -- the routes checked so far are sound
 abbrev pub invariant-loop-job : goal.invariant-loop-job
-invariant-loop-job l = AreRoutes l.machines (lists_of l.routes) l.job
+invariant-loop-job l = AreRoutes l.machines l.recirculates (lists_of l.routes) l.job
