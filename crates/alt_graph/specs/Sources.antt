@@ -1,7 +1,7 @@
 -- The two kinds of arcs; the one arc of a kind into a node, and the one out of it; the longest of the arcs between two nodes.
-use Rattle.std.specs.Prelude.{◌≡◌, ℕ, ◌+◌, ◌<◌, ◌≤◌, Option, MatchOption}
+use Rattle.std.specs.Prelude.{◌≡◌, ℕ, ◌+◌, ◌<◌, ◌≤◌, length, Option, MatchOption}
 use Rattle.shop_base.specs.declared.node.Node.{Node}
-use Rattle.shop_base.specs.Plan.{PlannedShop, steps, nominal, clean, Stands}
+use Rattle.shop_base.specs.Plan.{PlannedShop, steps, nominal, order, clean, Stands}
 use Rattle.shop_base.specs.Graph.{Arc}
 use Rattle.alt_graph.specs.declared.sources.ArcIn.{ArcIn}
 
@@ -21,6 +21,14 @@ pub record IsBlockingArc (p : PlannedShop) (u v : Node) (d : ℕ) : Type 0 where
   pub enters : Stands p machine (ahead + 1) v.job v.place
   pub place : u.place ≡ step + 1
   pub length : d ≡ clean p machine
+
+-- visit v stands directly behind visit u in machine m's order
+abbrev pub AreNeighbours : PlannedShop → ℕ → Node → Node → Type 0
+AreNeighbours p m u v = (a : ℕ) × Stands p m a u.job u.place × Stands p m (a + 1) v.job v.place
+
+-- visit u is the last there
+abbrev pub IsLast : PlannedShop → ℕ → Node → Type 0
+IsLast p m u = (a : ℕ) × (a + 1 ≡ length (order p m)) × Stands p m a u.job u.place
 
 -- an arc of this length leads from u to v, and none that is longer
 pub record IsLongestArc (p : PlannedShop) (u v : Node) (d : ℕ) : Type 0 where

@@ -4,7 +4,8 @@
 //!
 //! A node is a job's entry of a step, or its leaving. Job arcs go from each place of a job to the next, with
 //! the nominal time of the step; a blocking arc goes from the entry that follows a job's step on a machine
-//! to the entry of the next job in that machine's order, with the machine's cleaning time.
+//! to the next visit in that machine's order, with the machine's cleaning time. Where both join two nodes,
+//! the longer one counts.
 #![tactic(auto)]
 
 mod arcs;

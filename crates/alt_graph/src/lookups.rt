@@ -1,5 +1,4 @@
-//! Where each visit of a job to a machine stands in the machine's order, and which visit each place of an order is for,
-//! to be looked up.
+//! Which visits stand next to each visit in its machine's order, to be looked up.
 
 ghost use Rattle.std.specs.Prelude.{◌≡◌, ◌+◌, ◌*◌, ◌<◌, IfOk};
 ghost use Rattle.std.specs.Result.{OnOk};
@@ -12,14 +11,16 @@ use shop_base::limits::MAX_JOBS;
 use shop_base::{JobNo, MachineNo, Node, Shaped};
 use std::alloc::{AllocError, Global};
 
-/// The numbers of the jobs' first nodes; by node number the place of the visit in its machine's order; and where the
-/// visits of each machine begin among the visits of all, which stand machine after machine, as its order has them.
+/// The job of the gaps between the machines' visits.
+pub(crate) const NOBODY: JobNo = u32::MAX;
+
+/// The numbers of the jobs' first nodes; machine after machine the visits in its order, with a gap before the first and
+/// behind the last; and by node number the place of the visit there.
 #[derive(Drop)]
 pub(crate) struct Lookups {
     pub firsts: Vec<u32>,
-    pub places: Vec<u32>,
-    pub begins: Vec<usize>,
     pub visits: Vec<Node>,
+    pub places: Vec<u32>,
 }
 
 impl Lookups {
@@ -36,12 +37,13 @@ impl Lookups {
     }
 }
 
-/// Lookups under way, and by machine and job the step of the job's next visit that has no place yet. Until a visit has
-/// its place, the step of the job's next one to the machine stands there.
+/// Lookups under way; by machine and job the step of the job's next visit that has no place yet; and by node number the
+/// step of the job's visit behind it, to the same machine.
 #[derive(Drop)]
 struct Placing {
     lookups: Lookups,
-    next: Vec<u32>,
+    next: Vec<u8>,
+    behind: Vec<u8>,
 }
 
 impl Placing {
@@ -65,32 +67,35 @@ impl Placing {
         let firsts = first_numbers(alloc, shaped)?;
         let machines = shaped.machine_count() as usize;
         let nodes = firsts[shaped.job_count() as usize] as usize;
+        let mut visits = Vec::with_capacity(alloc, nodes + machines + 1)?;
+        visits.push_reserved(gap());
         let places = vec![in alloc; 0; nodes]?;
-        let begins = Vec::with_capacity(alloc, machines)?;
-        let visits = Vec::with_capacity(alloc, nodes)?;
-        let next = vec![in alloc; 0; machines * MAX_JOBS]?;
         let lookups = Lookups {
             firsts,
-            places,
-            begins,
             visits,
+            places,
         };
-        Ok(Placing { lookups, next })
+        let next = vec![in alloc; 0; machines * MAX_JOBS]?;
+        let behind = vec![in alloc; 0; nodes]?;
+        Ok(Placing {
+            lookups,
+            next,
+            behind,
+        })
     }
 
-    /// Notes each visit of the job, its last step first: until it has its place, the step of the next one stands there.
+    /// Notes each visit of the job and the one behind it, its last step first.
     fn note_route(&mut self, shaped: &Shaped, job: JobNo)
         requires job { job < jobs shaped.now }
         requires noted { AreRoutesNoted shaped.now self.old job }
         ensures { AreRoutesNoted shaped.now self.new (job + 1) }
     {
+        let first = self.lookups.firsts[job as usize] as usize;
         let route = shaped.route_of(job);
         for step in (0..route.len()).rev() {
             let slot = slot(route[step].machine, job);
-            let place = step as u32;
-            let at = number(&self.lookups.firsts, Node { job, place });
-            self.lookups.places[at] = self.next[slot];
-            self.next[slot] = place;
+            self.behind[first + step] = self.next[slot];
+            self.next[slot] = step as u8;
         }
     }
 
@@ -100,21 +105,32 @@ impl Placing {
         requires placed { AreOrdersPlaced shaped.now self.old machine }
         ensures { OnOk result (AreOrdersPlaced shaped.now self.new (machine + 1)) }
     {
-        self.lookups.begins.push(self.lookups.visits.len())?;
         let order = shaped.order_of(machine);
+        self.lookups.visits.reserve(order.len() + 1)?;
         for place in 0..order.len() {
             let job = order[place];
             let slot = slot(machine, job);
             let visit = Node {
                 job,
-                place: self.next[slot],
+                place: u32::from(self.next[slot]),
             };
             let at = number(&self.lookups.firsts, visit);
-            self.next[slot] = self.lookups.places[at];
-            self.lookups.places[at] = place as u32;
-            self.lookups.visits.push(visit)?;
+            self.next[slot] = self.behind[at];
+            self.lookups.places[at] = self.lookups.visits.len() as u32;
+            self.lookups.visits.push_reserved(visit);
         }
+        self.lookups.visits.push_reserved(gap());
         Ok(())
+    }
+}
+
+/// No visit.
+fn gap() -> Node
+    ensures { result.job ≡ NOBODY }
+{
+    Node {
+        job: NOBODY,
+        place: 0,
     }
 }
 

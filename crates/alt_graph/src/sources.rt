@@ -1,14 +1,15 @@
 //! The arcs into a node and out of it.
 
-ghost use Rattle.std.specs.Prelude.{ℕ, ◌<◌, length};
-ghost use Rattle.shop_base.specs.Plan.{machines, steps, order, Visits, Stands, IsWellShaped};
+ghost use Rattle.std.specs.Prelude.{ℕ, ◌<◌, MatchOption};
+ghost use Rattle.shop_base.specs.Plan.{steps, Visits, Stands, IsWellShaped};
 ghost use Rattle.shop_base.specs.Graph.{IsNode};
 ghost use Rattle.alt_graph.specs.PlanGraph.{IsSoundGraph};
-ghost use Rattle.alt_graph.specs.Sources.{IsJobArc, IsBlockingArc, IsArcIn, IsTarget};
+ghost use Rattle.alt_graph.specs.Sources.{IsJobArc, IsBlockingArc, IsArcIn, IsTarget, AreNeighbours, IsLast};
 
 use crate::graph::Graph;
+use crate::lookups::NOBODY;
 use crate::numbers::number;
-use shop_base::{MachineNo, Moment, Node, Shaped};
+use shop_base::{Moment, Node, Shaped};
 
 /// The node from which an arc comes, and the arc's length.
 #[derive(Clone, Copy)]
@@ -58,15 +59,11 @@ impl Graph<'_> {
     {
         let shaped = self.shaped();
         let machine = shaped.machine_at(node.job, node.place)?;
-        let place = self.place_of(node);
-        if place == 0 {
-            return None;
-        }
-        let entry = self.entry_at(machine, place - 1);
+        let ahead = self.ahead_of(node)?;
         let length = shaped.clean_of(machine);
         let node = Node {
-            job: entry.job,
-            place: entry.place + 1,
+            job: ahead.job,
+            place: ahead.place + 1,
         };
         Some(ArcIn { node, length })
     }
@@ -79,34 +76,38 @@ impl Graph<'_> {
         if node.place == 0 {
             return None;
         }
-        let entry = Node {
+        let visit = Node {
             job: node.job,
             place: node.place - 1,
         };
-        let shaped = self.shaped();
-        let machine = shaped.machine_at(entry.job, entry.place)?;
-        let place = self.place_of(entry) + 1;
-        if place == shaped.order_of(machine).len() {
-            return None;
-        }
-        Some(self.entry_at(machine, place))
+        let _machine = self.shaped().machine_at(visit.job, visit.place)?;
+        self.behind(visit)
     }
 
-    /// The place of the visit in its machine's order.
-    fn place_of(&self, visit: Node) -> usize
+    /// The visit ahead of this one in its machine's order, if there is one.
+    fn ahead_of(&self, visit: Node) -> Option<Node>
         requires { visit.place < steps self.now.plan visit.job }
         ensures { (m : ℕ) → Visits self.now.plan visit.job visit.place m
-            → Stands self.now.plan m result visit.job visit.place }
+            → MatchOption result (Stands self.now.plan m 0 visit.job visit.place)
+            (λ ahead. AreNeighbours self.now.plan m ahead visit) }
     {
-        self.lookups.places[number(&self.lookups.firsts, visit)] as usize
+        let place = self.lookups.places[number(&self.lookups.firsts, visit)] as usize;
+        let ahead = self.lookups.visits[place - 1];
+        if ahead.job == NOBODY {
+            None
+        } else {
+            Some(ahead)
+        }
     }
 
-    /// The visit at a place of the machine's order.
-    fn entry_at(&self, machine: MachineNo, place: usize) -> Node
-        requires machine { machine < machines self.now.plan }
-        requires place { place < length (order self.now.plan machine) }
-        ensures { Stands self.now.plan machine place result.job result.place }
+    /// The visit behind this one in its machine's order, if there is one.
+    fn behind(&self, visit: Node) -> Option<Node>
+        requires { visit.place < steps self.now.plan visit.job }
+        ensures { (m : ℕ) → Visits self.now.plan visit.job visit.place m
+            → MatchOption result (IsLast self.now.plan m visit) (λ next. AreNeighbours self.now.plan m visit next) }
     {
-        self.lookups.visits[self.lookups.begins[machine as usize] + place]
+        let place = self.lookups.places[number(&self.lookups.firsts, visit)] as usize;
+        let next = self.lookups.visits[place + 1];
+        if next.job == NOBODY { None } else { Some(next) }
     }
 }

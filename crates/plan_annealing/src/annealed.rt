@@ -34,13 +34,14 @@ pub struct JobRest {
 
 /// The order of each machine in the best plan that an annealing from this one meets; `None` if this one is the best. In
 /// a neighbour of a plan two jobs that meet on a critical path have changed places there, for one visit of each, and one
-/// of the two has moved at other visits where it had to. Better is a lesser total lateness or, with the same, a lesser makespan. Every fourth
-/// round (1, 5, ..) is hotter, and all late jobs count in it. The others are cooler from the third round on, if no job
-/// is late and there are more than 100 operations. A round looks at some 20 million nodes at most, and tries no more
-/// neighbours than 50 times the square of the number of operations. Other seeds and rounds draw other neighbours, and
-/// the same ones draw the same again. Where the rest of a run is given, only entries that are ahead are exchanged, a
-/// job that is gone is never late, and no job makes its next move before its bound. It is proved only that there are as
-/// many orders as machines, each with as many places as in this plan, or none.
+/// of the two has moved at other visits where it had to. Better is a lesser total lateness or, with the same, a lesser
+/// makespan. Every fourth round (1, 5, ..) is hotter, and all late jobs count in it. The others are cooler from the third
+/// round on, if no job is late and there are more than 100 operations; where a job visits a machine again ahead, they
+/// begin as hot as that. A round looks at some 20 million nodes at most, and tries no more neighbours than 50 times the
+/// square of the number of operations. Other seeds and rounds draw other neighbours, and the same ones draw the same
+/// again. Where the rest of a run is given, only entries that are ahead are exchanged, a job that is gone is never
+/// late, and no job makes its next move before its bound. It is proved only that there are as many orders as machines,
+/// each with as many places as in this plan, or none.
 pub fn annealed_orders(
     alloc: Global,
     shaped: &Shaped,

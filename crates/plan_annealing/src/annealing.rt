@@ -62,7 +62,7 @@ pub(crate) fn anneal(
     }
     pass.keep();
     let price = Price::of(&net.spans, &pass.rows);
-    let heat = Heat::of(round, net.steps(), price.total > 0);
+    let heat = Heat::of(round, net.steps(), price.total > 0, net.recurs);
     let mut walk = Walk {
         draws,
         heat,
@@ -239,11 +239,11 @@ fn aim_anew(net: &mut Net, pass: &mut Pass, walk: &mut Walk) {
     if walk.heat == Heat::Hot {
         pass.find_all_neighbours(net, walk.now.longest);
     } else {
-        pass.find_neighbours(&net.spots, walk.now.leaving(walk.aim));
+        pass.find_neighbours(net, walk.now.leaving(walk.aim));
     }
     if pass.neighbours.count() == 0 {
         aim_at_makespan(net, pass, walk);
-        pass.find_neighbours(&net.spots, walk.now.longest);
+        pass.find_neighbours(net, walk.now.longest);
     }
 }
 

@@ -66,6 +66,21 @@ impl Moves {
         (self.marks.len() as u64).wrapping_mul(LOOKS_A_NODE)
     }
 
+    /// Lets no node of the job be met in this move: it is as if each was, with this bound.
+    pub fn close(&mut self, net: &Net, job: u32, bound: u32) {
+        let Some(span) = net.spans.get(job as usize) else {
+            return;
+        };
+        for at in span.first..span.last.wrapping_add(1) {
+            if let Some(mark) = self.marks.get_mut(at as usize) {
+                *mark = Mark {
+                    stamp: self.stamp,
+                    bound,
+                };
+            }
+        }
+    }
+
     /// Takes the swaps of the last move back.
     pub fn undo(&mut self, net: &mut Net) {
         for turn in 0..self.made {

@@ -67,7 +67,7 @@ impl Neighbours {
     /// Adds the machine arcs between two jobs on a longest path to the node, up to where this search has been, but for
     /// those from a job that has entered its machine. Nothing is known of these neighbours. Gives how many nodes were
     /// looked at.
-    pub fn join(&mut self, spots: &[Spot], rows: &[Row], node: u32) -> u32 {
+    pub fn join(&mut self, spots: &[Spot], rows: &[Row], node: u32, recurs: bool) -> u32 {
         let mut to = node;
         for looks in 0..rows.len() {
             if !self.is_new(to) {
@@ -80,8 +80,10 @@ impl Neighbours {
             if from == NONE {
                 return count(looks);
             }
-            let leaves = spot_at(spots, from);
-            if spot_at(spots, to).job != leaves.job && leaves.back != NONE {
+            if spot_at(spots, to).back != from
+                && spot_at(spots, from).back != NONE
+                && !(recurs && is_own(spots, from, to))
+            {
                 self.add(to);
             }
             to = from;
@@ -110,4 +112,10 @@ impl Neighbours {
             self.note(number.wrapping_add(1), 0);
         }
     }
+}
+
+/// Whether the two nodes are of one job. So a machine arc between them isn't turned round.
+#[inline(never)]
+fn is_own(spots: &[Spot], from: u32, to: u32) -> bool {
+    spot_at(spots, from).job == spot_at(spots, to).job
 }

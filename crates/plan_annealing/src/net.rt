@@ -46,6 +46,8 @@ pub(crate) struct Net {
     pub spans: Vec<Span>,
     /// How often each machine has been entered.
     pub entered: Vec<u32>,
+    /// Whether a job has two visits to a machine ahead.
+    pub recurs: bool,
     /// The sources of all nodes in the best plan that was met.
     pub saved: Vec<u32>,
 }

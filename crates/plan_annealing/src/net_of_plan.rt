@@ -21,6 +21,7 @@ pub(crate) fn net_of(
         spots: Vec::new(alloc),
         spans: Vec::new(alloc),
         entered: vec![in alloc; 0; shop.machines() as usize]?,
+        recurs: false,
         saved: Vec::new(alloc),
     };
     for job in 0..shop.jobs() {
@@ -223,6 +224,7 @@ fn next_entry(net: &mut Net, job: JobNo, machine: MachineNo) -> u32 {
     };
     for number in span.behind..span.last {
         if spot_at(&net.spots, number).machine == machine {
+            net.recurs |= span.behind > span.first;
             span.behind = number.wrapping_add(1);
             return number;
         }

@@ -261,9 +261,11 @@ impl Pass {
     }
 
     /// Finds the machine arcs on a longest path to the node.
-    pub fn find_neighbours(&mut self, spots: &[Spot], node: u32) {
+    pub fn find_neighbours(&mut self, net: &Net, node: u32) {
         self.neighbours.clear();
-        let looks = self.neighbours.join(spots, &self.rows, node);
+        let looks = self
+            .neighbours
+            .join(&net.spots, &self.rows, node, net.recurs);
         self.looks = self.looks.wrapping_add(u64::from(looks));
     }
 
@@ -273,11 +275,15 @@ impl Pass {
         let mut looks = count(net.spans.len()) / 4;
         for span in &net.spans {
             if head_in(&self.rows, span.last) > span.budget {
-                let more = self.neighbours.join(&net.spots, &self.rows, span.last);
+                let more = self
+                    .neighbours
+                    .join(&net.spots, &self.rows, span.last, net.recurs);
                 looks = looks.wrapping_add(more);
             }
         }
-        let more = self.neighbours.join(&net.spots, &self.rows, node);
+        let more = self
+            .neighbours
+            .join(&net.spots, &self.rows, node, net.recurs);
         self.looks = self.looks.wrapping_add(u64::from(looks.wrapping_add(more)));
     }
 }

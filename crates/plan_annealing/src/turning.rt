@@ -16,6 +16,9 @@ use shop_base::Moment;
 pub(crate) fn move_left(moves: &mut Moves, net: &mut Net, rows: &[Row], entry: u32, limit: Moment) {
     let most = moves.begin(limit);
     let job = spot_at(&net.spots, entry).job;
+    if net.recurs {
+        moves.close(net, job, NONE);
+    }
     turn_left(moves, net, rows, entry);
     for _ in 0..most {
         let Some(at) = moves.next() else {
@@ -25,8 +28,7 @@ pub(crate) fn move_left(moves: &mut Moves, net: &mut Net, rows: &[Row], entry: u
     }
 }
 
-/// Looks where paths lead from a node that the moving job has come before, and once more where another of its own visits
-/// follows the one that has moved.
+/// Looks where paths lead from a node that the moving job has come before.
 #[inline]
 fn look_left(moves: &mut Moves, net: &mut Net, rows: &[Row], job: u32, at: u32) {
     let bound = moves.met(at).unwrap_or(0);
@@ -36,16 +38,9 @@ fn look_left(moves: &mut Moves, net: &mut Net, rows: &[Row], job: u32, at: u32) 
     if after.job != job {
         reach_left(moves, rows, spot.target, bound);
     } else if spot.target != NONE {
-        let behind = spot_at(&net.spots, after.next).target;
-        let is_own = spot_at(&net.spots, behind).job == job;
-        if !is_own {
-            reach_left(moves, rows, behind, bound);
-        }
+        reach_left(moves, rows, spot_at(&net.spots, after.next).target, bound);
         if spot.target <= bound {
             turn_left(moves, net, rows, spot.target);
-        }
-        if is_own && spot_at(&net.spots, at).target == behind {
-            moves.meet(at, bound);
         }
     }
 }
@@ -59,6 +54,13 @@ fn turn_left(moves: &mut Moves, net: &mut Net, rows: &[Row], entry: u32) {
         }
         reach_left(moves, rows, other, entry.wrapping_add(1));
         let next = spot_at(&net.spots, entry).source;
+        if net.recurs {
+            let at = spot_at(&net.spots, other).next;
+            let left = spot_at(&net.spots, at).target;
+            if is_at_own(moves, net, entry, at, left, next) {
+                return;
+            }
+        }
         match moves.met(next) {
             Some(bound) if bound >= entry => (),
             _ => return,
@@ -89,6 +91,9 @@ pub(crate) fn move_right(
 ) {
     let most = moves.begin(limit);
     let leave = spot_at(&net.spots, spot_at(&net.spots, entry).source);
+    if net.recurs {
+        moves.close(net, leave.job, 0);
+    }
     turn_right(moves, net, rows, leave.back);
     for _ in 0..most {
         let Some(at) = moves.next() else {
@@ -98,8 +103,7 @@ pub(crate) fn move_right(
     }
 }
 
-/// Looks from where paths lead to a node that the moving job now comes after, and once more where another of its own
-/// visits came before the one that has moved.
+/// Looks from where paths lead to a node that the moving job now comes after.
 #[inline]
 fn look_right(moves: &mut Moves, net: &mut Net, rows: &[Row], job: u32, at: u32) {
     let bound = moves.met(at).unwrap_or(0);
@@ -109,16 +113,9 @@ fn look_right(moves: &mut Moves, net: &mut Net, rows: &[Row], job: u32, at: u32)
     if ahead.job != job {
         reach_right(moves, rows, spot.source, bound);
     } else if spot.source != NONE {
-        let before = spot_at(&net.spots, ahead.back).source;
-        let is_own = spot_at(&net.spots, before).job == job;
-        if !is_own {
-            reach_right(moves, rows, before, bound);
-        }
+        reach_right(moves, rows, spot_at(&net.spots, ahead.back).source, bound);
         if spot.source >= bound {
             turn_right(moves, net, rows, ahead.back);
-        }
-        if is_own && spot_at(&net.spots, at).source == before {
-            moves.meet(at, bound);
         }
     }
 }
@@ -133,6 +130,12 @@ fn turn_right(moves: &mut Moves, net: &mut Net, rows: &[Row], entry: u32) {
         }
         reach_right(moves, rows, spot_at(&net.spots, after).next, entry);
         let next = spot_at(&net.spots, leave).target;
+        if net.recurs {
+            let left = spot_at(&net.spots, after).source;
+            if is_at_own(moves, net, entry, after, left, next) {
+                return;
+            }
+        }
         match moves.met(next) {
             Some(bound) if bound <= leave => (),
             _ => return,
@@ -150,6 +153,18 @@ fn reach_right(moves: &mut Moves, rows: &[Row], at: u32, bound: u32) {
         Some(known) if known <= bound => (),
         _ => moves.meet(at, bound),
     }
+}
+
+/// Whether the job that has moved here is now beside a visit of its own, at the next node, which keeps its turn. Where it
+/// has another visit on the side that it has left, the node there is to be looked at again.
+fn is_at_own(moves: &mut Moves, net: &Net, entry: u32, at: u32, left: u32, next: u32) -> bool {
+    let job = spot_at(&net.spots, entry).job;
+    if spot_at(&net.spots, left).job == job {
+        if let Some(bound) = moves.met(at) {
+            moves.meet(at, bound);
+        }
+    }
+    spot_at(&net.spots, next).job == job
 }
 
 /// Whether a path may lead from the one node to the other in the plan before the move.
