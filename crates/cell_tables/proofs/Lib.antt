@@ -4,6 +4,7 @@ pub mod MoveParts
 pub mod Seats
 pub mod Values
 pub mod Departed
+pub mod CleanedSteps
 pub mod KeptSoFar
 pub mod CarriedCells
 pub mod CarriedTables

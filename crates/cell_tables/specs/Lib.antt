@@ -6,6 +6,7 @@ pub mod Kept
 pub mod Carried
 pub mod KeptLaw
 pub mod Readings
+pub mod Claims
 pub mod Recasts
 pub mod Rests
 pub mod Reordered

@@ -1,10 +1,21 @@
 -- How it stands with each job and each machine of a cell.
-use Rattle.std.specs.Prelude.{ℕ, zero, suc, ◌+◌, ◌-◌, length, Option, None, Some, Bool, false, nat_lt, if◌then◌else◌}
+use Rattle.std.specs.Prelude.{ℕ, zero, suc, ◌+◌, ◌-◌, length, Option, None, Some, Bool, false, ◌&&◌, nat_eq, nat_lt, if◌then◌else◌}
 use Rattle.shop_base.specs.Plan.{PlannedShop, steps, machine_of, nominal, release, clean, job_at}
 use Rattle.shop_base.specs.Cell.{Cell, made, ready, since, entries, cleaning}
 use Rattle.shop_base.specs.Move.{target}
+use Rattle.shop_base.specs.Shop.{told_step}
+use Rattle.cell_tables.specs.declared.standing.Visit.{Visit}
 use Rattle.cell_tables.specs.declared.standing.Standing.{Standing}
 use Rattle.cell_tables.specs.declared.standing.Standing.TheVariants.{Awaited, Outside, Worked, Done, Gone, Cleaned, Clean}
+
+-- a visit of a job by its step, as lines tell it
+abbrev pub told_visit : PlannedShop → ℕ → ℕ → Visit
+told_visit p j k = record { job = j; step = told_step p.shop k }
+
+-- the latest of the first n steps of job j that is on machine m
+abbrev pub latest_on : PlannedShop → ℕ → ℕ → ℕ → ℕ
+latest_on p j m zero = 0
+latest_on p j m (suc k) = if nat_lt k (steps p j) && nat_eq (machine_of p j k) m then k else latest_on p j m k
 
 module _ (p : PlannedShop) (c : Cell) where
   -- a job that hasn't entered the cell is awaited until its release, or waits for its first machine
@@ -13,7 +24,8 @@ module _ (p : PlannedShop) (c : Cell) where
 
   -- a job on the machine of its step k: its operation goes on, or is done and it waits for the next machine
   abbrev pub inside_standing : ℕ → ℕ → Bool → Standing
-  inside_standing j k is_ready = if is_ready then Done j (machine_of p j k) (target p c j) else Worked j (machine_of p j k) (since c j) (since c j + nominal p j k)
+  inside_standing j k is_ready =
+      if is_ready then Done (told_visit p j k) (machine_of p j k) (target p c j) else Worked (told_visit p j k) (machine_of p j k) (since c j) (since c j + nominal p j k)
 
   -- a job that has made so many moves
   abbrev pub standing_after : ℕ → ℕ → Standing
@@ -24,10 +36,14 @@ module _ (p : PlannedShop) (c : Cell) where
   abbrev pub job_standing : ℕ → Standing
   job_standing j = standing_after j (made c j)
 
-  -- a machine that is being cleaned since a moment, after the job that entered it last; or one that isn't
+  -- the latest visit of job j to machine m
+  abbrev pub latest_visit : ℕ → ℕ → Visit
+  latest_visit j m = told_visit p j (latest_on p j m (made c j))
+
+  -- a machine that is being cleaned since a moment, after the visit for which it was entered last; or one that isn't
   abbrev pub cleaning_standing : ℕ → Option ℕ → Standing
   cleaning_standing m None = Clean m
-  cleaning_standing m (Some from) = Cleaned m (job_at p m (length (entries c m) - 1)) from (from + clean p m)
+  cleaning_standing m (Some from) = Cleaned m (latest_visit (job_at p m (length (entries c m) - 1)) m) from (from + clean p m)
 
   -- how it stands with machine m
   abbrev pub machine_standing : ℕ → Standing
@@ -37,8 +53,8 @@ module _ (p : PlannedShop) (c : Cell) where
 abbrev pub is_overdue : Standing → ℕ → Bool
 is_overdue (Awaited j due) t = nat_lt due t
 is_overdue (Outside j to) t = false
-is_overdue (Worked j m from due) t = nat_lt due t
-is_overdue (Done j m to) t = false
+is_overdue (Worked visit m from due) t = nat_lt due t
+is_overdue (Done visit m to) t = false
 is_overdue (Gone j at) t = false
-is_overdue (Cleaned m j from due) t = nat_lt due t
+is_overdue (Cleaned m visit from due) t = nat_lt due t
 is_overdue (Clean m) t = false

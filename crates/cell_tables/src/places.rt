@@ -5,6 +5,7 @@ ghost use Rattle.shop_base.specs.Plan.{jobs, machines, order, job_at, Visits};
 ghost use Rattle.shop_base.specs.Cell.{made, entries, cleaning, IsOn, IsFree};
 ghost use Rattle.shop_base.specs.ReportsLeft.{departures};
 ghost use Rattle.cell_tables.specs.Readings.{IsMachineOf, IsHolder, IsNextOn, IsCleanedFor, EntersNext, CanMoveNow};
+ghost use Rattle.cell_tables.specs.Readings.{IsCleanedForStep, IsLatestStep, IsCurrentStep};
 
 use crate::work_cell::WorkCell;
 use shop_base::{JobNo, MachineNo, Planned};
@@ -21,6 +22,18 @@ impl<P: Planned> WorkCell<P> {
             return None;
         }
         self.machine_at(job, made - 1)
+    }
+
+    /// The step at which the job is, on a machine; `None` if it is outside or gone.
+    pub fn current_step(&self, job: JobNo) -> Option<u32>
+        requires { job < jobs self.now.plan }
+        ensures { IsCurrentStep self.now.plan self.now.cell job result }
+    {
+        let made = self.job_state(job).made;
+        if made == 0 || made > self.step_count(job) {
+            return None;
+        }
+        Some(made - 1)
     }
 
     /// The job that is on the machine.
@@ -94,6 +107,32 @@ impl<P: Planned> WorkCell<P> {
         let _plan = self.shaped();
         let _from = self.cleaned_since(machine)?;
         Some(self.last_in(machine))
+    }
+
+    /// The job, and its step, after which the machine is being cleaned; `None` if it isn't.
+    pub fn cleaned_after_step(&self, machine: MachineNo) -> Option<(JobNo, u32)>
+        requires { machine < machines self.now.plan }
+        ensures { IsCleanedForStep self.now.plan self.now.cell machine result }
+    {
+        // Called for its clauses alone: the plan is well shaped, and the cell sound.
+        let _plan = self.shaped();
+        let job = self.cleaned_after(machine)?;
+        let step = self.latest_step_on(job, machine)?;
+        Some((job, step))
+    }
+
+    /// The latest step of the job on the machine that it has entered; `None` if it has entered none.
+    pub(crate) fn latest_step_on(&self, job: JobNo, machine: MachineNo) -> Option<u32>
+        requires { job < jobs self.now.plan }
+        ensures { IsLatestStep self.now.plan self.now.cell job machine result }
+    {
+        let made = self.job_state(job).made;
+        for step in (0..made).rev() {
+            if self.machine_at(job, step) == Some(machine) {
+                return Some(step);
+            }
+        }
+        None
     }
 
     /// The job that entered the machine last.

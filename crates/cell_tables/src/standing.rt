@@ -2,10 +2,18 @@
 
 ghost use Rattle.std.specs.Prelude.{◌≡◌, ◌<◌};
 ghost use Rattle.shop_base.specs.Plan.{jobs, machines};
-ghost use Rattle.cell_tables.specs.Standings.{outside_standing, job_standing, machine_standing, is_overdue};
+ghost use Rattle.cell_tables.specs.Readings.{IsCleanedAfter};
+ghost use Rattle.cell_tables.specs.Standings.{outside_standing, job_standing, machine_standing, told_visit, latest_visit, is_overdue};
 
 use crate::work_cell::WorkCell;
 use shop_base::{JobNo, MachineNo, Moment, Planned, Spot};
+
+/// A visit of a job to a machine, as lines tell it: by the job, and by the step where the job may visit the machine again.
+#[derive(Clone, Copy, Debug)]
+pub struct Visit {
+    pub job: JobNo,
+    pub step: Option<u32>,
+}
 
 /// The state of a job or a machine.
 #[derive(Clone, Copy, Debug)]
@@ -22,14 +30,14 @@ pub enum Standing {
     },
     /// The job's operation goes on.
     Worked {
-        job: JobNo,
+        visit: Visit,
         machine: MachineNo,
         since: Moment,
         due: Moment,
     },
     /// The job's operation is done, and it waits there for the next machine.
     Done {
-        job: JobNo,
+        visit: Visit,
         machine: MachineNo,
         target: Spot,
     },
@@ -38,10 +46,10 @@ pub enum Standing {
         job: JobNo,
         at: Moment,
     },
-    /// The machine is being cleaned after a job.
+    /// The machine is being cleaned after a visit of a job.
     Cleaned {
         machine: MachineNo,
-        after: JobNo,
+        after: Visit,
         since: Moment,
         due: Moment,
     },
@@ -59,7 +67,7 @@ impl Standing {
         match self {
             Standing::Awaited { job: _, due } => due < at,
             Standing::Worked {
-                job: _,
+                visit: _,
                 machine: _,
                 since: _,
                 due,
@@ -72,7 +80,7 @@ impl Standing {
             } => due < at,
             Standing::Outside { job: _, target: _ }
             | Standing::Done {
-                job: _,
+                visit: _,
                 machine: _,
                 target: _,
             }
@@ -98,15 +106,16 @@ impl<P: Planned> WorkCell<P> {
                 at: state.since,
             };
         };
+        let visit = self.visit_of(job, state.made - 1);
         if state.ready {
             return Standing::Done {
-                job,
+                visit,
                 machine: step.machine,
                 target: self.target_of(job),
             };
         }
         Standing::Worked {
-            job,
+            visit,
             machine: step.machine,
             since: state.since,
             due: state.since + step.nominal,
@@ -140,11 +149,37 @@ impl<P: Planned> WorkCell<P> {
         let Some(since) = self.cleaned_since(machine) else {
             return Standing::Clean { machine };
         };
+        let job = self.last_in(machine);
         Standing::Cleaned {
             machine,
-            after: self.last_in(machine),
+            after: self.visit_before_cleaning(job, machine),
             since,
             due: since + self.shaped().clean_of(machine),
         }
+    }
+
+    /// The visit of a job by its step, as lines tell it.
+    fn visit_of(&self, job: JobNo, step: u32) -> Visit
+        ensures { result ≡ told_visit self.now.plan job step }
+    {
+        Visit {
+            job,
+            step: self.shaped().shop().told_step(step),
+        }
+    }
+
+    /// The visit of the job after which the machine is being cleaned.
+    fn visit_before_cleaning(&self, job: JobNo, machine: MachineNo) -> Visit
+        requires { IsCleanedAfter self.now.plan self.now.cell machine job }
+        ensures { result ≡ latest_visit self.now.plan self.now.cell job machine }
+    {
+        // Called for its clauses alone: the plan is well shaped, and the cell sound.
+        let plan = self.shaped();
+        let step = if plan.shop().recirculates() {
+            self.latest_step_on(job, machine)
+        } else {
+            None
+        };
+        Visit { job, step }
     }
 }

@@ -13,8 +13,9 @@ use Rattle.event_lines.specs.Words.{Text, Number, short, moment, IsReadAs}
 use Rattle.event_lines.specs.EventLines.{end_words, spot_word, move_numbers, IsEntryLine}
 use Rattle.event_lines.specs.SentLines.{IsNoReport}
 use Rattle.event_lines.specs.declared.requests.Request.TheVariants.{Claim as ClaimRequest, Status}
-use Rattle.event_lines.specs.declared.requests.Claim.TheVariants.{Report as ReportClaim, CleanAfter}
-use Rattle.event_lines.specs.Requests.{IsNoCleanAfter, IsNoRequest}
+use Rattle.cell_tables.specs.declared.claim.Claim.{Claim}
+use Rattle.cell_tables.specs.declared.claim.Claim.TheVariants.{Report as ReportClaim, FinishStep, CleanAfter, CleanAfterStep}
+use Rattle.event_lines.specs.Requests.{IsClaimLine, IsNoFinishStep, IsNoCleanAfter, IsNoCleanAfterStep, ClaimsReports, IsReport, IsNoRequest}
 use Rattle.event_lines.specs.AnswerLines.{is_passed_over}
 use Rattle.event_lines.specs.FirstWords.{IsNeverFirst, IsOnly}
 use Rattle.event_lines.proofs.WordByWord.{only_of, text_before}
@@ -38,10 +39,21 @@ module _ (line : List ℕ) (a : (rest : List ℕ) → line ≢ codes "arrive " +
 
 -- ---- requests
 
-pub no_request : (line : List ℕ) → (line ≡ codes "status" → ⊥) → IsNoCleanAfter line → IsNoReport line → IsNoRequest line
-no_request line status clean_after report (ClaimRequest (ReportClaim r)) found = report r found
-no_request line status clean_after report (ClaimRequest (CleanAfter machine job at)) found = clean_after machine job at found
-no_request line status clean_after report Status found = status (only_of line (Text (codes "status")) found)
+pub claims_reports : (line : List ℕ) → IsNoFinishStep line → IsNoCleanAfter line → IsNoCleanAfterStep line → ClaimsReports line
+claims_reports line finish clean clean_step (ReportClaim r) found = tt
+claims_reports line finish clean clean_step (FinishStep job step at) found = finish job step at found
+claims_reports line finish clean clean_step (CleanAfter machine job at) found = clean machine job at found
+claims_reports line finish clean clean_step (CleanAfterStep machine job step at) found = clean_step machine job step at found
+
+no_claim : (line : List ℕ) (claim : Claim) → IsNoReport line → IsReport claim → IsClaimLine line claim → ⊥
+no_claim line (ReportClaim r) report is found = report r found
+no_claim line (FinishStep job step at) report is found = is
+no_claim line (CleanAfter machine job at) report is found = is
+no_claim line (CleanAfterStep machine job step at) report is found = is
+
+pub no_request : (line : List ℕ) → (line ≡ codes "status" → ⊥) → ClaimsReports line → IsNoReport line → IsNoRequest line
+no_request line status reports report (ClaimRequest claim) found = no_claim line claim report (reports claim found) found
+no_request line status reports report Status found = status (only_of line (Text (codes "status")) found)
 
 -- ---- orders
 

@@ -1,5 +1,5 @@
 -- What a text records whose lines were written.
-use Rattle.std.proofs.Common.{◌≡◌, true, ℕ, zero, suc, ◌<◌, ◌≤◌, List, [], ◌∷◌, ◌++◌, codes, refl, sym, arith, subst, append_assoc}
+use Rattle.std.proofs.Common.{◌≡◌, true, ℕ, zero, suc, Option, None, Some, ◌<◌, ◌≤◌, List, [], ◌∷◌, ◌++◌, codes, refl, sym, arith, subst, append_assoc}
 use Rattle.shop_base.specs.declared.limits.TheConstants.{MAX_MOMENT}
 use Rattle.shop_base.specs.declared.move_order.Spot.{Spot}
 use Rattle.shop_base.specs.declared.move_order.Spot.TheVariants.{Out, At}
@@ -18,10 +18,10 @@ use Rattle.cell_tables.specs.declared.standing.Standing.TheVariants.{Awaited, Ou
 use Rattle.event_lines.specs.declared.details.Detail.{Detail}
 use Rattle.event_lines.specs.declared.details.Detail.TheVariants.{Nothing, Last, Stands}
 use Rattle.event_lines.specs.AnswerLines.{late_words, refused_words, done_words, unfinished_words, is_passed_over}
-use Rattle.event_lines.specs.StandingLines.{standing_words, detail_words, others_words, unfinished_standing_words, refused_detail_words, late_overdue_words}
+use Rattle.event_lines.specs.StandingLines.{told_word, standing_words, detail_words, others_words, unfinished_standing_words, refused_detail_words, late_overdue_words}
 use Rattle.event_lines.specs.LogLines.{IsEntryOf, LineParses, LinesParse}
 use Rattle.event_lines.specs.ReadBack.{IsSpaceless, IsFitting, AreFitting, ParsesFirst, WrittenEntriesParse, OtherAnswersParseNone}
-use Rattle.event_lines.proofs.WrittenWords.{AreSpaceless, decimal_spaceless, all_spaceless, line_first, read_back}
+use Rattle.event_lines.proofs.WrittenWords.{AreSpaceless, decimal_spaceless, step_spaceless, all_spaceless, line_first, read_back}
 
 -- ---- words of how it stands
 
@@ -29,25 +29,29 @@ spot_spaceless : (spot : Spot) → IsSpaceless (written (spot_word spot))
 spot_spaceless Out = refl
 spot_spaceless (At m) = decimal_spaceless m
 
+visit_spaceless : (job : ℕ) (step : Option ℕ) → IsSpaceless (written (told_word job step))
+visit_spaceless job None = decimal_spaceless job
+visit_spaceless job (Some step) = step_spaceless job step
+
 pub standing_spaceless : (standing : Standing) → AreSpaceless (standing_words standing)
 standing_spaceless (Awaited job due) = (refl, (decimal_spaceless job, (refl, (decimal_spaceless due, tt))))
 standing_spaceless (Outside job to) = (refl, (decimal_spaceless job, (refl, (refl, (refl, (refl, (spot_spaceless to, tt)))))))
-standing_spaceless (Worked job machine since due) =
-    (refl, (decimal_spaceless job, (refl, (refl, (decimal_spaceless machine, (refl, (decimal_spaceless since, (refl, (decimal_spaceless due, tt)))))))))
-standing_spaceless (Done job machine to) =
-    (refl, (decimal_spaceless job, (refl, (refl, (refl, (decimal_spaceless machine, (refl, (refl, (spot_spaceless to, tt)))))))))
+standing_spaceless (Worked visit machine since due) =
+    (refl, (visit_spaceless visit.job visit.step, (refl, (refl, (decimal_spaceless machine, (refl, (decimal_spaceless since, (refl, (decimal_spaceless due, tt)))))))))
+standing_spaceless (Done visit machine to) =
+    (refl, (visit_spaceless visit.job visit.step, (refl, (refl, (refl, (decimal_spaceless machine, (refl, (refl, (spot_spaceless to, tt)))))))))
 standing_spaceless (Gone job at) = (refl, (decimal_spaceless job, (refl, (refl, (refl, (decimal_spaceless at, tt))))))
-standing_spaceless (Cleaned machine job since due) =
-    (refl, (decimal_spaceless machine, (refl, (refl, (refl, (decimal_spaceless job, (refl, (decimal_spaceless since, (refl, (decimal_spaceless due, tt))))))))))
+standing_spaceless (Cleaned machine visit since due) =
+    (refl, (decimal_spaceless machine, (refl, (refl, (refl, (visit_spaceless visit.job visit.step, (refl, (decimal_spaceless since, (refl, (decimal_spaceless due, tt))))))))))
 standing_spaceless (CleanMachine machine) = (refl, (decimal_spaceless machine, (refl, (refl, tt))))
 
 passed : (standing : Standing) → is_passed_over (words_before (unfinished_standing_words standing) []) ≡ true
 passed (Awaited job due) = refl
 passed (Outside job to) = refl
-passed (Worked job machine since due) = refl
-passed (Done job machine to) = refl
+passed (Worked visit machine since due) = refl
+passed (Done visit machine to) = refl
 passed (Gone job at) = refl
-passed (Cleaned machine job since due) = refl
+passed (Cleaned machine visit since due) = refl
 passed (CleanMachine machine) = refl
 
 pub detail_spaceless : (detail : Detail) → AreSpaceless (detail_words detail)

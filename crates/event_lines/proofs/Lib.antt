@@ -1,4 +1,5 @@
 pub mod WordByWord
+pub mod JobSteps
 pub mod Ends
 pub mod Readings
 pub mod WrittenWords

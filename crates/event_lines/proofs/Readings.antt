@@ -9,17 +9,18 @@ use Rattle.shop_base.specs.declared.report.Report.TheVariants.{Arrive, Finish, C
 use Rattle.text_lines.specs.Numbers.{IsNumeral}
 use Rattle.cell_tables.specs.declared.entry.Entry.{Entry}
 use Rattle.cell_tables.specs.declared.entry.Entry.TheVariants.{Report as ReportEntry, Order as OrderEntry}
-use Rattle.event_lines.specs.Words.{Word, Text, Number, short, spaced_words, IsRead, AreRead}
+use Rattle.event_lines.specs.Words.{Word, Text, Number, JobStep, short, spaced_words, IsJobStep, IsRead, AreRead}
 use Rattle.event_lines.specs.EventLines.{spot_word, logged_words, order_words}
 use Rattle.event_lines.specs.SentLines.{sent_words, IsReportLine}
 use Rattle.event_lines.specs.LogLines.{LineParses, LinesParse}
 use Rattle.event_lines.specs.declared.requests.Request.{Request}
 use Rattle.event_lines.specs.declared.requests.Request.TheVariants.{Claim as ClaimRequest, Status}
-use Rattle.event_lines.specs.declared.requests.Claim.{Claim}
-use Rattle.event_lines.specs.declared.requests.Claim.TheVariants.{Report as ReportClaim, CleanAfter}
+use Rattle.cell_tables.specs.declared.claim.Claim.{Claim}
+use Rattle.cell_tables.specs.declared.claim.Claim.TheVariants.{Report as ReportClaim, FinishStep, CleanAfter, CleanAfterStep}
 use Rattle.event_lines.specs.Requests.{claim_words, request_words, IsRequestLine}
 use Rattle.event_lines.specs.ReadBack.{OneEntry, OneReport, OneCellReport, OneRequest, OneCellRequest}
 use Rattle.event_lines.proofs.Ends.{unlike}
+use Rattle.event_lines.proofs.JobSteps.{no_numeral, one_step}
 
 -- two words that the same bytes are read as
 abbrev AreBoth : Word → Word → Type 0
@@ -27,6 +28,11 @@ AreBoth (Text a) (Text b) = b ≡ a
 AreBoth (Text a) (Number most n) = IsNumeral most a n
 AreBoth (Number most n) (Text b) = IsNumeral most b n
 AreBoth (Number most n) (Number other m) = m ≡ n
+AreBoth (Text a) (JobStep j k) = IsJobStep a j k
+AreBoth (JobStep j k) (Text b) = IsJobStep b j k
+AreBoth (Number most n) (JobStep j k) = ⊥
+AreBoth (JobStep j k) (Number most n) = ⊥
+AreBoth (JobStep i k) (JobStep j l) = (j ≡ i) × (l ≡ k)
 
 abbrev AllBoth : List Word → List Word → Type 0
 AllBoth [] [] = Unit {0}
@@ -39,6 +45,11 @@ both bytes (Text a) (Text b) is also = sym also ∙ is
 both bytes (Text a) (Number most n) is also = subst (λ (l : List ℕ). IsNumeral most l n) is also
 both bytes (Number most n) (Text b) is also = subst (λ (l : List ℕ). IsNumeral most l n) also is
 both bytes (Number most n) (Number other m) is also = also.value ∙ sym is.value
+both bytes (Text a) (JobStep j k) is also = subst (λ (l : List ℕ). IsJobStep l j k) is also
+both bytes (JobStep j k) (Text b) is also = subst (λ (l : List ℕ). IsJobStep l j k) also is
+both bytes (Number most n) (JobStep j k) is also = no_numeral bytes most n j k is also
+both bytes (JobStep j k) (Number most n) is also = no_numeral bytes most n j k also is
+both bytes (JobStep i k) (JobStep j l) is also = one_step bytes i k j l is also
 
 all_both : (line : List (List ℕ)) (vs ws : List Word) → AreRead line vs → AreRead line ws → AllBoth vs ws
 all_both [] [] [] is also = tt
@@ -84,6 +95,26 @@ one_cell_report line cell cell' one other is also =
 
 same_claim : (one other : Claim) → AllBoth (claim_words one) (claim_words other) → other ≡ one
 same_claim (ReportClaim one) (ReportClaim other) both = ap ReportClaim (same_sent one other both)
+same_claim (ReportClaim (Arrive job at)) (FinishStep job' step' at') (name, _) = absurd (unlike 102 97 _ _ refl name)
+same_claim (ReportClaim (Finish job machine at)) (FinishStep job' step' at') (_, (none, _)) = absurd none
+same_claim (ReportClaim (Clean machine at)) (FinishStep job' step' at') (name, _) = absurd (unlike 102 99 _ _ refl name)
+same_claim (FinishStep job step at) (ReportClaim (Arrive job' at')) (name, _) = absurd (unlike 97 102 _ _ refl name)
+same_claim (FinishStep job step at) (ReportClaim (Finish job' machine' at')) (_, (none, _)) = absurd none
+same_claim (FinishStep job step at) (ReportClaim (Clean machine' at')) (name, _) = absurd (unlike 99 102 _ _ refl name)
+same_claim (FinishStep job step at) (FinishStep job' step' at') (_, ((j, k), (t, _))) = cc (j, k, t)
+same_claim (FinishStep job step at) (CleanAfter machine' job' at') (name, _) = absurd (unlike 99 102 _ _ refl name)
+same_claim (FinishStep job step at) (CleanAfterStep machine' job' step' at') (name, _) = absurd (unlike 99 102 _ _ refl name)
+same_claim (CleanAfter machine job at) (FinishStep job' step' at') (name, _) = absurd (unlike 102 99 _ _ refl name)
+same_claim (CleanAfter machine job at) (CleanAfterStep machine' job' step' at') (_, (_, (none, _))) = absurd none
+same_claim (ReportClaim (Arrive job at)) (CleanAfterStep machine' job' step' at') (name, _) = absurd (unlike 99 97 _ _ refl name)
+same_claim (ReportClaim (Finish job machine at)) (CleanAfterStep machine' job' step' at') (name, _) = absurd (unlike 99 102 _ _ refl name)
+same_claim (ReportClaim (Clean machine at)) (CleanAfterStep machine' job' step' at') (_, (_, (none, _))) = absurd none
+same_claim (CleanAfterStep machine job step at) (ReportClaim (Arrive job' at')) (name, _) = absurd (unlike 97 99 _ _ refl name)
+same_claim (CleanAfterStep machine job step at) (ReportClaim (Finish job' machine' at')) (name, _) = absurd (unlike 102 99 _ _ refl name)
+same_claim (CleanAfterStep machine job step at) (ReportClaim (Clean machine' at')) (_, (_, (none, _))) = absurd none
+same_claim (CleanAfterStep machine job step at) (FinishStep job' step' at') (name, _) = absurd (unlike 102 99 _ _ refl name)
+same_claim (CleanAfterStep machine job step at) (CleanAfter machine' job' at') (_, (_, (none, _))) = absurd none
+same_claim (CleanAfterStep machine job step at) (CleanAfterStep machine' job' step' at') (_, (m, ((j, k), (t, _)))) = cc (m, j, k, t)
 same_claim (ReportClaim (Arrive job at)) (CleanAfter machine' job' at') (name, _) = absurd (unlike 99 97 _ _ refl name)
 same_claim (ReportClaim (Finish job machine at)) (CleanAfter machine' job' at') (name, _) = absurd (unlike 99 102 _ _ refl name)
 same_claim (ReportClaim (Clean machine at)) (CleanAfter machine' job' at') (_, (_, (_, more))) = absurd more
@@ -96,13 +127,17 @@ some_words : (claim : Claim) (text : List ℕ) → AllBoth (claim_words claim) (
 some_words (ReportClaim (Arrive job at)) text (_, more) = more
 some_words (ReportClaim (Finish job machine at)) text (_, more) = more
 some_words (ReportClaim (Clean machine at)) text (_, more) = more
+some_words (FinishStep job step at) text (_, more) = more
 some_words (CleanAfter machine job at) text (_, more) = more
+some_words (CleanAfterStep machine job step at) text (_, more) = more
 
 no_words : (claim : Claim) (text : List ℕ) → AllBoth (Text text ∷ []) (claim_words claim) → ⊥
 no_words (ReportClaim (Arrive job at)) text (_, more) = more
 no_words (ReportClaim (Finish job machine at)) text (_, more) = more
 no_words (ReportClaim (Clean machine at)) text (_, more) = more
+no_words (FinishStep job step at) text (_, more) = more
 no_words (CleanAfter machine job at) text (_, more) = more
+no_words (CleanAfterStep machine job step at) text (_, more) = more
 
 same_request : (one other : Request) → AllBoth (request_words one) (request_words other) → other ≡ one
 same_request (ClaimRequest one) (ClaimRequest other) both = ap ClaimRequest (same_claim one other both)
@@ -126,7 +161,9 @@ some_request line request is none = go request (subst (λ (l : List ℕ). IsRequ
     go (ClaimRequest (ReportClaim (Arrive job at))) read = read.1
     go (ClaimRequest (ReportClaim (Finish job machine at))) read = read.1
     go (ClaimRequest (ReportClaim (Clean machine at))) read = read.1
+    go (ClaimRequest (FinishStep job step at)) read = read.1
     go (ClaimRequest (CleanAfter machine job at)) read = read.1
+    go (ClaimRequest (CleanAfterStep machine job step at)) read = read.1
     go Status read = let other : codes "status" ≡ [] = sym read.0 in absurd (cc)
 
 -- no report is an empty line

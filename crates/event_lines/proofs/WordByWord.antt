@@ -17,7 +17,7 @@ pub words_first : (bytes front rest : List ℕ) → IsCutAt 32 bytes front rest 
 words_first bytes front rest cut = ap spaced_words cut.split ∙ word_before front rest cut.before
 
 -- bytes without a space are one word
-words_one : (bytes : List ℕ) → HasNone 32 bytes → spaced_words bytes ≡ bytes ∷ []
+pub words_one : (bytes : List ℕ) → HasNone 32 bytes → spaced_words bytes ≡ bytes ∷ []
 words_one [] none = refl
 words_one (b ∷ bytes) none = rw none.0 (ap (λ words. onto_first b words) (words_one bytes none.1))
 

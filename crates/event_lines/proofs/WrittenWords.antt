@@ -8,7 +8,7 @@ use Rattle.text_lines.specs.Cuts.{HasNone}
 use Rattle.text_lines.specs.Lines.{without_return, lines_of}
 use Rattle.text_lines.proofs.Digits.{digit_bounds}
 use Rattle.text_lines.proofs.NextLines.{first_line}
-use Rattle.event_lines.specs.Words.{Word, Text, Number, written, words_before, line_of, IsRead, IsReadAs}
+use Rattle.event_lines.specs.Words.{Word, Text, Number, JobStep, written, words_before, line_of, IsRead, IsReadAs}
 use Rattle.event_lines.specs.FirstWords.{IsFirst}
 use Rattle.event_lines.specs.ReadBack.{IsSpaceless, IsFitting, AreFitting, WhatIsWrittenIsRead, NumberedLinesAreLines}
 use Rattle.event_lines.proofs.WordByWord.{words_first, alone, before}
@@ -24,6 +24,15 @@ digits_spaceless (b ∷ word) all =
 pub decimal_spaceless : (n : ℕ) → IsSpaceless (decimal n)
 decimal_spaceless n = digits_spaceless (decimal n) (decimal_digits n)
 
+both_spaceless : (front back : List ℕ) → IsSpaceless front → IsSpaceless back → IsSpaceless (front ++ back)
+both_spaceless [] back first second = second
+both_spaceless (b ∷ front) back first second =
+    let parts = and_parts (nat_lt 32 b) (list_all (λ c. nat_lt 32 c) front) first in
+    and_from (nat_lt 32 b) (list_all (λ c. nat_lt 32 c) (front ++ back)) parts.0 (both_spaceless front back parts.1 second)
+
+pub step_spaceless : (job step : ℕ) → IsSpaceless (written (JobStep job step))
+step_spaceless job step = both_spaceless (decimal job) (46 ∷ decimal step) (decimal_spaceless job) (decimal_spaceless step)
+
 -- no word that is written has a space
 abbrev pub AreSpaceless : List Word → Type 0
 AreSpaceless [] = Unit {0}
@@ -32,6 +41,7 @@ AreSpaceless (word ∷ words) = IsSpaceless (written word) × AreSpaceless words
 spaceless : (word : Word) → IsFitting word → IsSpaceless (written word)
 spaceless (Text text) fits = fits
 spaceless (Number most n) fits = decimal_spaceless n
+spaceless (JobStep job step) fits = step_spaceless job step
 
 pub all_spaceless : (words : List Word) → AreFitting words → AreSpaceless words
 all_spaceless [] fit = tt
@@ -92,6 +102,13 @@ line_first words rest are =
 reads : (word : Word) → IsFitting word → IsRead (written word) word
 reads (Text text) fits = refl
 reads (Number most n) fits = decimal_numeral most n fits.0 fits.1 fits.2
+reads (JobStep job step) fits = record {
+  front = decimal job;
+  back = decimal step;
+  split = refl;
+  is_job = decimal_numeral 9 job (omega arith) fits.0 (omega (arith, fits.0));
+  is_step = decimal_numeral 9 step (omega arith) fits.1 (omega (arith, fits.1));
+}
 
 pub read_back : (word : Word) (words : List Word) → AreFitting (word ∷ words) → IsReadAs (words_before (word ∷ words) []) (word ∷ words)
 read_back word [] fit =

@@ -1,7 +1,7 @@
 -- The words of a line, read from the front.
 use Rattle.std.specs.Prelude.{◌≡◌, ℕ, List, [], ◌∷◌, Option, MatchOption}
 use Rattle.std.specs.Borrow.{Bor}
-use Rattle.event_lines.specs.Words.{Word, spaced_words, IsRead, IsReadAs}
+use Rattle.event_lines.specs.Words.{Word, JobStep, moment, spaced_words, IsRead, IsReadAs}
 
 -- the line begins with this word, and these bytes stand behind the space after it
 pub record IsFirst (line : List ℕ) (word : Word) (rest : List ℕ) : Type 0 where
@@ -20,3 +20,7 @@ TakesFirst form line found = MatchOption found (IsNeverFirst form line) (λ pair
 -- the line is this one word
 abbrev pub IsOnly : {T : Type 0} → (T → Word) → List ℕ → T → Type 0
 IsOnly form line x = IsReadAs line (form x ∷ [])
+
+-- the line isn't a job's step and a moment
+abbrev pub IsNoStepAndMoment : List ℕ → Type 0
+IsNoStepAndMoment line = (job step at : ℕ) → IsReadAs line (JobStep job step ∷ moment at ∷ []) → ⊥

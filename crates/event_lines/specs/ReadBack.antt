@@ -5,7 +5,7 @@ use Rattle.shop_base.specs.declared.report.Report.{Report}
 use Rattle.shop_base.specs.Plan.{PlannedShop, IsWellShaped}
 use Rattle.text_lines.specs.Lines.{lines_of}
 use Rattle.cell_tables.specs.declared.entry.Entry.{Entry}
-use Rattle.event_lines.specs.Words.{Word, Text, Number, short, line_of, IsReadAs}
+use Rattle.event_lines.specs.Words.{Word, Text, Number, JobStep, short, line_of, IsReadAs}
 use Rattle.event_lines.specs.EventLines.{entry_line, IsEntryLine}
 use Rattle.event_lines.specs.SentLines.{IsReportLine, IsCellReport, cell_prefix}
 use Rattle.event_lines.specs.AnswerLines.{late_line, refused_line, done_line, unfinished_line}
@@ -21,10 +21,11 @@ use Rattle.event_lines.specs.LogLines.{IsEntryOf, LinesParse}
 abbrev pub IsSpaceless : List ℕ → Type 0
 IsSpaceless bytes = list_all (λ b. nat_lt 32 b) bytes ≡ true
 
--- the word fits its form: a text has no space, a number no more digits than it may have
+-- the word fits its form: a text has no space, its numbers no more digits than they may have
 abbrev pub IsFitting : Word → Type 0
 IsFitting (Text text) = IsSpaceless text
 IsFitting (Number most n) = (0 < most) × (n < 10 ^ most) × (n < 2 ^ 64)
+IsFitting (JobStep job step) = (job < 10 ^ 9) × (step < 10 ^ 9)
 
 -- each of the words does
 abbrev pub AreFitting : List Word → Type 0

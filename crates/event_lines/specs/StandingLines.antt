@@ -1,12 +1,13 @@
 -- The words of how it stands with a job or with a machine, and the answers in which they stand, from version 2 of the lines on.
-use Rattle.std.specs.Prelude.{ℕ, zero, suc, List, [], ◌∷◌, ◌++◌, codes}
+use Rattle.std.specs.Prelude.{ℕ, zero, suc, Option, Some, None, List, [], ◌∷◌, ◌++◌, codes}
 use Rattle.shop_base.specs.declared.move_order.Spot.{Spot}
+use Rattle.cell_tables.specs.declared.standing.Visit.{Visit}
 use Rattle.cell_tables.specs.declared.standing.Standing.{Standing}
 use Rattle.cell_tables.specs.declared.standing.Standing.TheVariants.{Awaited, Outside, Worked, Done, Gone, Cleaned, Clean}
 use Rattle.event_lines.specs.declared.details.Detail.{Detail}
 use Rattle.event_lines.specs.declared.details.Detail.TheVariants.{Nothing, Last, Stands}
 use Rattle.event_lines.specs.declared.details.Overdue.{Overdue}
-use Rattle.event_lines.specs.Words.{Word, Text, Number, short, moment, line_of}
+use Rattle.event_lines.specs.Words.{Word, Text, Number, JobStep, short, moment, line_of}
 use Rattle.event_lines.specs.EventLines.{spot_word}
 
 -- `job J`, `machine M`
@@ -24,16 +25,25 @@ since_words since due = Text (codes "since") ∷ moment since ∷ Text (codes "d
 abbrev pub target_words : Spot → List Word
 target_words to = Text (codes "for") ∷ Text (codes "machine") ∷ spot_word to ∷ []
 
+-- a job, and its step where the visit is told by it
+abbrev pub told_word : ℕ → Option ℕ → Word
+told_word job None = short job
+told_word job (Some step) = JobStep job step
+
+-- `job J`, or `job J.K`
+abbrev pub visit_words : Visit → List Word → List Word
+visit_words visit words = Text (codes "job") ∷ told_word visit.job visit.step ∷ words
+
 -- how it stands with a job or with a machine
 abbrev pub standing_words : Standing → List Word
 standing_words (Awaited job due) = job_words job (Text (codes "arrives") ∷ moment due ∷ [])
 standing_words (Outside job to) = job_words job (Text (codes "waits") ∷ Text (codes "outside") ∷ target_words to)
-standing_words (Worked job machine since due) = job_words job (Text (codes "on") ∷ machine_words machine (since_words since due))
-standing_words (Done job machine to) =
-    job_words job (Text (codes "waits") ∷ Text (codes "on") ∷ machine_words machine (target_words to))
+standing_words (Worked visit machine since due) = visit_words visit (Text (codes "on") ∷ machine_words machine (since_words since due))
+standing_words (Done visit machine to) =
+    visit_words visit (Text (codes "waits") ∷ Text (codes "on") ∷ machine_words machine (target_words to))
 standing_words (Gone job at) = job_words job (Text (codes "has") ∷ Text (codes "left") ∷ Text (codes "at") ∷ moment at ∷ [])
-standing_words (Cleaned machine job since due) =
-    machine_words machine (Text (codes "cleaned") ∷ Text (codes "after") ∷ job_words job (since_words since due))
+standing_words (Cleaned machine visit since due) =
+    machine_words machine (Text (codes "cleaned") ∷ Text (codes "after") ∷ visit_words visit (since_words since due))
 standing_words (Clean machine) = machine_words machine (Text (codes "is") ∷ Text (codes "clean") ∷ [])
 
 -- behind the name of a reason: nothing, `last T`, or how it stands with what the report is of

@@ -3,10 +3,11 @@ use Rattle.std.specs.Prelude.{◌≡◌, ℕ, ◌==◌, List, [], ◌∷◌, ◌
 use Rattle.std.specs.List.{slice_split}
 use Rattle.text_lines.specs.Numbers.{IsNumeral}
 
--- a word is a text, or a number that is read with so many digits at most
+-- a word is a text, a number that is read with so many digits at most, or the number of a job, a dot and that of its step
 pub data Word : Type 0 where
   Text : List ℕ → Word
   Number : ℕ → ℕ → Word
+  JobStep : ℕ → ℕ → Word
 
 -- the number of a job, of a machine or of a cell, and a moment
 abbrev pub short : ℕ → Word
@@ -15,10 +16,11 @@ short n = Number 9 n
 abbrev pub moment : ℕ → Word
 moment at = Number 13 at
 
--- the word as it is written, a number in decimal without leading zeros
+-- the word as it is written, numbers in decimal without leading zeros
 abbrev pub written : Word → List ℕ
 written (Text text) = text
 written (Number most n) = decimal n
+written (JobStep job step) = decimal job ++ 46 ∷ decimal step
 
 -- the words with one space between each two, before a text
 abbrev pub words_before : List Word → List ℕ → List ℕ
@@ -30,10 +32,19 @@ words_before (word ∷ next ∷ words) text = written word ++ 32 ∷ words_befor
 abbrev pub line_of : List Word → List ℕ
 line_of words = words_before words (10 ∷ [])
 
+-- the bytes are the number of a job, a dot and the number of its step
+pub record IsJobStep (bytes : List ℕ) (job step : ℕ) : Type 0 where
+  pub front : List ℕ
+  pub back : List ℕ
+  pub split : bytes ≡ front ++ 46 ∷ back
+  pub is_job : IsNumeral 9 front job
+  pub is_step : IsNumeral 9 back step
+
 -- the bytes are read as the word; a number may have leading zeros
 abbrev pub IsRead : List ℕ → Word → Type 0
 IsRead bytes (Text text) = bytes ≡ text
 IsRead bytes (Number most n) = IsNumeral most bytes n
+IsRead bytes (JobStep job step) = IsJobStep bytes job step
 
 -- these are read as words, one after another
 abbrev pub AreRead : List (List ℕ) → List Word → Type 0

@@ -2,12 +2,12 @@
 //! what is overdue.
 
 ghost use Rattle.std.specs.Prelude.{◌≡◌, ◌+◌, ◌≤◌, [], ◌∷◌, ◌++◌, length, codes, decimal};
-ghost use Rattle.event_lines.specs.Words.{words_before};
-ghost use Rattle.event_lines.specs.StandingLines.{since_words, target_words, standing_words, detail_end, others_end};
+ghost use Rattle.event_lines.specs.Words.{words_before, written};
+ghost use Rattle.event_lines.specs.StandingLines.{since_words, target_words, told_word, standing_words, detail_end, others_end};
 ghost use Rattle.event_lines.specs.StandingLines.{unfinished_standing_line, refused_detail_line, late_overdue_line};
 
 use crate::orders::put_spot;
-use cell_tables::Standing;
+use cell_tables::{Standing, Visit};
 use shop_base::{JobNo, MachineNo, Moment, Spot};
 use text_lines::LineText;
 
@@ -30,7 +30,7 @@ pub struct Overdue {
 }
 
 /// A line with such words. All are shorter than its room.
-pub type DetailText = LineText<160>;
+pub type DetailText = LineText<176>;
 
 /// Writes `since S due D` before what there is.
 fn put_since<const ROOM: usize>(line: &mut LineText<ROOM>, since: Moment, due: Moment)
@@ -54,57 +54,70 @@ fn put_target<const ROOM: usize>(line: &mut LineText<ROOM>, target: Spot)
     line.put_text(b"for machine ");
 }
 
+/// Writes the number of a job, and behind a dot its step if the visit is told by it, before what there is.
+fn put_visit<const ROOM: usize>(line: &mut LineText<ROOM>, visit: Visit)
+    requires { 21 + length line.old ≤ ROOM }
+    ensures written { line.new ≡ written (told_word visit.job visit.step) ++ line.old }
+    ensures length { length line.new ≤ 21 + length line.old }
+{
+    if let Some(step) = visit.step {
+        line.put_short_number(step);
+        line.put_text(b".");
+    }
+    line.put_short_number(visit.job);
+}
+
 fn put_worked<const ROOM: usize>(
     line: &mut LineText<ROOM>,
-    job: JobNo,
+    visit: Visit,
     machine: MachineNo,
     since: Moment,
     due: Moment,
 )
-    requires { 89 + length line.old ≤ ROOM }
-    ensures written { line.new ≡ words_before (standing_words (Standing.Worked job machine since due)) line.old }
-    ensures length { length line.new ≤ 89 + length line.old }
+    requires { 100 + length line.old ≤ ROOM }
+    ensures written { line.new ≡ words_before (standing_words (Standing.Worked visit machine since due)) line.old }
+    ensures length { length line.new ≤ 100 + length line.old }
 {
     put_since(line, since, due);
     line.put_text(b" ");
     line.put_short_number(machine);
     line.put_text(b" on machine ");
-    line.put_short_number(job);
+    put_visit(line, visit);
     line.put_text(b"job ");
 }
 
 fn put_done<const ROOM: usize>(
     line: &mut LineText<ROOM>,
-    job: JobNo,
+    visit: Visit,
     machine: MachineNo,
     target: Spot,
 )
-    requires { 65 + length line.old ≤ ROOM }
-    ensures written { line.new ≡ words_before (standing_words (Standing.Done job machine target)) line.old }
-    ensures length { length line.new ≤ 65 + length line.old }
+    requires { 76 + length line.old ≤ ROOM }
+    ensures written { line.new ≡ words_before (standing_words (Standing.Done visit machine target)) line.old }
+    ensures length { length line.new ≤ 76 + length line.old }
 {
     put_target(line, target);
     line.put_text(b" ");
     line.put_short_number(machine);
     line.put_text(b" waits on machine ");
-    line.put_short_number(job);
+    put_visit(line, visit);
     line.put_text(b"job ");
 }
 
 fn put_cleaned<const ROOM: usize>(
     line: &mut LineText<ROOM>,
     machine: MachineNo,
-    after: JobNo,
+    after: Visit,
     since: Moment,
     due: Moment,
 )
-    requires { 100 + length line.old ≤ ROOM }
+    requires { 111 + length line.old ≤ ROOM }
     ensures written { line.new ≡ words_before (standing_words (Standing.Cleaned machine after since due)) line.old }
-    ensures length { length line.new ≤ 100 + length line.old }
+    ensures length { length line.new ≤ 111 + length line.old }
 {
     put_since(line, since, due);
     line.put_text(b" ");
-    line.put_short_number(after);
+    put_visit(line, after);
     line.put_text(b" cleaned after job ");
     line.put_short_number(machine);
     line.put_text(b"machine ");
@@ -147,24 +160,24 @@ fn put_clean<const ROOM: usize>(line: &mut LineText<ROOM>, machine: MachineNo)
 
 /// Writes the words of the state before what the line has.
 fn put_standing<const ROOM: usize>(line: &mut LineText<ROOM>, standing: Standing)
-    requires { 100 + length line.old ≤ ROOM }
+    requires { 111 + length line.old ≤ ROOM }
     ensures written { line.new ≡ words_before (standing_words standing) line.old }
-    ensures length { length line.new ≤ 100 + length line.old }
+    ensures length { length line.new ≤ 111 + length line.old }
 {
     match standing {
         Standing::Awaited { job, due } => put_job_at(line, job, b" arrives ", due),
         Standing::Outside { job, target } => put_outside(line, job, target),
         Standing::Worked {
-            job,
+            visit,
             machine,
             since,
             due,
-        } => put_worked(line, job, machine, since, due),
+        } => put_worked(line, visit, machine, since, due),
         Standing::Done {
-            job,
+            visit,
             machine,
             target,
-        } => put_done(line, job, machine, target),
+        } => put_done(line, visit, machine, target),
         Standing::Gone { job, at } => put_job_at(line, job, b" has left at ", at),
         Standing::Cleaned {
             machine,
@@ -190,7 +203,7 @@ pub fn put_unfinished_standing(line: &mut DetailText, standing: Standing)
 fn put_detail(line: &mut DetailText, detail: Detail)
     requires { line.old ≡ 10 ∷ [] }
     ensures written { line.new ≡ detail_end detail }
-    ensures length { length line.new ≤ 102 }
+    ensures length { length line.new ≤ 113 }
 {
     match detail {
         Detail::Nothing => {}

@@ -28,6 +28,6 @@ pub use details::{
 };
 pub use entries::{entry_in, entry_of, put_entry_line};
 pub use line_text::LineText;
-pub use requests::{Claim, Request, cell_request_of, request_of};
+pub use requests::{Request, cell_request_of, request_of};
 pub use run_digits::{RunDigits, digits_of_line, plan_line, put_digits};
 pub use sent_reports::report_of;

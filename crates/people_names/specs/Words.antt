@@ -14,6 +14,15 @@ word_of names n = unwrap_or (slice_get names n) (decimal n)
 abbrev pub job_word : NameBook → ℕ → List ℕ
 job_word names j = word_of names.jobs j
 
+-- a step behind a dot, where there is one
+abbrev pub step_behind : Option ℕ → List ℕ
+step_behind None = []
+step_behind (Some k) = 46 ∷ decimal k
+
+-- a visit of a job: the job, and the step where its visits are told apart by it
+abbrev pub visit_word : NameBook → ℕ → Option ℕ → List ℕ
+visit_word names j step = job_word names j ++ step_behind step
+
 -- a machine
 abbrev pub machine_word : NameBook → ℕ → List ℕ
 machine_word names m = word_of names.machines m

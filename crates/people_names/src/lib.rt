@@ -17,6 +17,6 @@ mod read;
 
 pub use clock::{Clock, clock_of};
 pub use keys::NamesKey;
-pub use names::{LONGEST_MOMENT, LONGEST_NAME, Names};
+pub use names::{LONGEST_MOMENT, LONGEST_NAME, LONGEST_VISIT, Names};
 pub use names_fault::{KeyText, NamesFault};
 pub use read::read_names;

@@ -2,10 +2,10 @@ ghost use Rattle.std.specs.Prelude.{◌≡◌, ◌+◌, ◌<◌, ◌≤◌, ◌+
 ghost use Rattle.std.specs.Prelude.{option_map, string_bytes, true, None};
 ghost use Rattle.std.specs.List.{All};
 ghost use Rattle.people_names.specs.{NameBooks.no_names, Lists.AreShort};
-ghost use Rattle.people_names.specs.Words.{word_of, job_word, machine_word, two_digits, hour_and_minute};
+ghost use Rattle.people_names.specs.Words.{word_of, job_word, visit_word, machine_word, two_digits, hour_and_minute};
 ghost use Rattle.people_names.specs.Words.{day_words, minute_words, second_words, moment_by, moment_word};
 ghost use Rattle.people_names.specs.Words.{is_budget_printed, is_deadline_printed};
-ghost use Rattle.people_names.specs.declared.names.TheConstants.{LONGEST_NAME, LONGEST_MOMENT};
+ghost use Rattle.people_names.specs.declared.names.TheConstants.{LONGEST_NAME, LONGEST_VISIT, LONGEST_MOMENT};
 
 use crate::clock::Clock;
 use shop_base::limits::MAX_MOMENT;
@@ -16,6 +16,9 @@ use text_lines::LineText;
 
 /// The most bytes of a name, and so of the word for a job or a machine.
 pub const LONGEST_NAME: usize = 40;
+
+/// No word for a visit of a job has more bytes.
+pub const LONGEST_VISIT: usize = LONGEST_NAME + 11;
 
 /// No word for a moment has more bytes.
 pub const LONGEST_MOMENT: usize = 29;
@@ -93,6 +96,26 @@ impl Names {
         ensures length { length line.new ≤ LONGEST_NAME + length line.old }
     {
         put_word(line, &self.jobs, job);
+    }
+
+    /// Writes the word of a visit of a job before what the line has: the job's word, and behind a dot the step by which
+    /// its visits are told apart, if they are.
+    #[inline(always)]
+    pub fn put_visit<const ROOM: usize>(
+        &self,
+        line: &mut LineText<ROOM>,
+        job: JobNo,
+        step: Option<u32>,
+    )
+        requires { LONGEST_VISIT + length line.old ≤ ROOM }
+        ensures written { line.new ≡ visit_word self.now job step ++ line.old }
+        ensures length { length line.new ≤ LONGEST_VISIT + length line.old }
+    {
+        if let Some(step) = step {
+            line.put_short_number(step);
+            line.put_text(b".");
+        }
+        self.put_job(line, job);
     }
 
     /// Writes the machine's word before what the line has.

@@ -6,7 +6,7 @@ use Rattle.cell_tables.specs.declared.standing.Standing.TheVariants.{Clean, Awai
 use Rattle.event_lines.specs.{declared.details.{Detail.Detail, Overdue.Overdue}, EventLines.{entry_words, entry_line}}
 use Rattle.event_lines.specs.StandingLines.{late_overdue_words, unfinished_standing_line, refused_detail_line, unfinished_standing_words, refused_detail_words, late_overdue_line}
 use Rattle.event_lines.specs.AnswerLines.{late_words, refused_words, done_words, unfinished_words, late_line, refused_line, done_line, unfinished_line}
-use Rattle.event_lines.specs.Words.{Word, Text, Number, words_before, line_of}
+use Rattle.event_lines.specs.Words.{Word, Text, Number, JobStep, words_before, line_of}
 use Rattle.event_lines.specs.ReadBack.{IsSpaceless, IsFitting, AreFitting}
 use Rattle.event_lines.proofs.WrittenWords.{absent_from_words, AreSpaceless, all_spaceless, before-append, decimal_spaceless}
 use Rattle.event_lines.proofs.EntryParses.{detail_spaceless, standing_spaceless}
@@ -28,6 +28,7 @@ formed-passed words are not = formed-words words are (λ is. absurd (false≢tru
 narrow_fits : (word : Word) → IsNarrow word → IsFitting word
 narrow_fits (Text text) is = is
 narrow_fits (Number most n) is = is.0
+narrow_fits (JobStep job step) is = is.0
 
 narrow_fit : (words : List Word) → AreNarrow words → AreFitting words
 narrow_fit [] are = tt
@@ -56,10 +57,10 @@ formed-unfinished left = formed-passed (unfinished_words left) (refl, (decimal_s
 passed : (standing : Standing) → is_logged (unfinished_standing_line standing) ≡ false
 passed (Awaited job due) = refl
 passed (Outside job to) = refl
-passed (Worked job machine since due) = refl
-passed (Done job machine to) = refl
+passed (Worked visit machine since due) = refl
+passed (Done visit machine to) = refl
 passed (Gone job at) = refl
-passed (Cleaned machine job since due) = refl
+passed (Cleaned machine visit since due) = refl
 passed (Clean machine) = refl
 
 pub formed-standing : (standing : Standing) → IsFormed (unfinished_standing_line standing)

@@ -1,6 +1,6 @@
 -- What is left of a line that wasn't whole on the disk.
 use Rattle.std.proofs.lemmas.Bool.{and_parts, cases_Bool, ne_eqb, lt-ltb, or_left, or_right, eqb-true, eqb-false}
-use Rattle.std.proofs.Common.{◌≡◌, ◌≢◌, ℕ, zero, suc, ◌+◌, ◌-◌, ◌^◌, ◌<◌, ◌≤◌, nat_lt, ◌==◌, ◌&&◌, ◌||◌, if◌then◌else◌, Bool, true, false, List, [], ◌∷◌, ◌++◌, length, take, drop, get_or, codes, decimal, inl, inr, refl, sym, ap, ◌∙◌, subst, arith, append_assoc, append-nil, length-append, take-append-drop}
+use Rattle.std.proofs.Common.{◌≡◌, ◌≢◌, ℕ, zero, suc, ◌+◌, ◌-◌, ◌^◌, ◌<◌, ◌≤◌, nat_lt, ◌==◌, ◌&&◌, ◌||◌, if◌then◌else◌, Bool, true, false, List, [], ◌∷◌, ◌++◌, length, take, drop, get_or, codes, decimal, inl, inr, refl, sym, ap, ◌∙◌, subst, arith, append_assoc, append-nil, length-append, take-append-drop, Option, None, Some}
 use Rattle.std.proofs.lemmas.{Fmt.{decimal_nonempty, length-decimal-le}, List.{take-append-le, take_more}}
 use Rattle.std.specs.List.{list_all}
 use Rattle.shop_base.specs.declared.{move_order.Spot.{Spot, TheVariants.{Out, At}}, report.Report.Report}
@@ -10,12 +10,12 @@ use Rattle.cell_tables.specs.declared.entry.Entry.{Entry, TheVariants.{Report as
 use Rattle.cell_tables.specs.{declared.standing.Standing.Standing, Standings.is_overdue}
 use Rattle.cell_tables.specs.declared.standing.Standing.TheVariants.{Clean as CleanMachine, Awaited, Outside, Worked, Done, Gone, Cleaned}
 use Rattle.event_lines.specs.declared.{run_digits.RunDigits.RunDigits, details.Overdue.Overdue}
-use Rattle.event_lines.specs.Words.{Word, Number, short, moment, written, words_before, line_of, Text}
+use Rattle.event_lines.specs.Words.{Word, Number, JobStep, short, moment, written, words_before, line_of, Text}
 use Rattle.event_lines.specs.{EventLines.{spot_word, logged_words, order_words, entry_words}, AnswerLines.late_words}
 use Rattle.event_lines.specs.{StandingLines.late_overdue_words, RunDigits.{AreDigits, is_small_hex, plan_words}}
 use Rattle.event_lines.proofs.WrittenWords.{before-append}
 use Rattle.run_journal.specs.{declared.torn_end.TheConstants.MOMENT_DIGITS, LogFiles.zeros}
-use Rattle.run_journal.specs.TornEnds.{begins_late, begins_plan, without_zeros, begins_line, is_torn, digits_of, stands_for, goes_on, IsNarrow, AreNarrow, begins_report, begins_order, UnwrittenLinesAreTorn}
+use Rattle.run_journal.specs.TornEnds.{begins_late, begins_late_step, begins_plan, without_zeros, begins_line, is_torn, digits_of, stands_for, goes_on, IsNarrow, AreNarrow, begins_report, begins_order, UnwrittenLinesAreTorn}
 use Rattle.run_journal.proofs.Starts.{any-kept}
 
 -- ---- the first bytes of bytes
@@ -80,6 +80,7 @@ shorter more (c ∷ form) (byte ∷ front) rest is = elim (cases_Bool (nat_lt 0 
 abbrev mark : Word → List ℕ
 mark (Text text) = text
 mark (Number most n) = (if most == MOMENT_DIGITS then 35 else 37) ∷ []
+mark (JobStep job step) = codes "%.%"
 
 -- the form of words, before a form
 abbrev form_of : List Word → List ℕ → List ℕ
@@ -94,6 +95,7 @@ is_literal c = stands_for c c && digits_of c == 0
 abbrev is_literal_word : Word → Bool
 is_literal_word (Text text) = list_all is_literal text
 is_literal_word (Number most n) = true
+is_literal_word (JobStep job step) = true
 
 literal_on : (text form rest : List ℕ) → list_all is_literal text ≡ true → goes_on 0 form rest ≡ true → goes_on 0 (text ++ form) (text ++ rest) ≡ true
 literal_on [] form rest all is = is
@@ -127,6 +129,17 @@ other_digits : (digits form rest : List ℕ) → list_all is_digit digits ≡ tr
 other_digits [] form rest all some few is = absurd (omega (arith, some))
 other_digits (d ∷ digits) form rest all some few is = let (first, others) = and_parts (is_digit d) (list_all is_digit digits) all in rw first (digits_on digits 2 form rest others (omega (arith, few)) is)
 
+-- a dot ends it
+dotted : (form rest : List ℕ) → goes_on 0 form rest ≡ true → (k : ℕ) → goes_on k (46 ∷ form) (46 ∷ rest) ≡ true
+dotted form rest is zero = is
+dotted form rest is (suc k) = rw (some_more k) is
+
+-- a number that isn't a moment
+number_on : (n : ℕ) (form rest : List ℕ) → n < 10 ^ 3 → ((k : ℕ) → goes_on k form rest ≡ true) → goes_on 0 (37 ∷ form) (decimal n ++ rest) ≡ true
+number_on n form rest few is =
+    let small : n < 2 ^ 64 = omega (arith, few) in
+    other_digits (decimal n) form rest (decimal_digits n) (decimal_nonempty n small) (length-decimal-le 3 n (omega arith) few small) is
+
 word_on : (word : Word) (form rest : List ℕ) → IsNarrow word → is_literal_word word ≡ true → ((k : ℕ) → goes_on k form rest ≡ true) → goes_on 0 (mark word ++ form) (written word ++ rest) ≡ true
 word_on (Text text) form rest fits literal is = literal_on text form rest literal (is 0)
 word_on (Number most n) form rest fits literal is = elim (cases_Bool (most == MOMENT_DIGITS)) [
@@ -135,8 +148,11 @@ word_on (Number most n) form rest fits literal is = elim (cases_Bool (most == MO
       rw moment (moment_digits (decimal n) form rest (decimal_digits n) (decimal_nonempty n fits.0.2) (length-decimal-le 13 n (omega arith) below fits.0.2) is)
   | inr other ↦
       let below : n < 10 ^ 3 = elim fits.1 [ inl same ↦ absurd (eqb-false most 13 other same) | inr few ↦ few ] in
-      rw other (other_digits (decimal n) form rest (decimal_digits n) (decimal_nonempty n fits.0.2) (length-decimal-le 3 n (omega arith) below fits.0.2) is)
+      rw other (number_on n form rest below is)
 ]
+word_on (JobStep job step) form rest fits literal is =
+    let behind = dotted (37 ∷ form) (decimal step ++ rest) (number_on step form rest fits.2 is) in
+    subst (λ (l : List ℕ). goes_on 0 (37 ∷ 46 ∷ 37 ∷ form) l ≡ true) (sym (append_assoc (decimal job) (46 ∷ decimal step) rest)) (number_on job (46 ∷ 37 ∷ form) (46 ∷ (decimal step ++ rest)) fits.1 behind)
 
 -- a space ends it
 spaced : (form rest : List ℕ) → goes_on 0 form rest ≡ true → (k : ℕ) → goes_on k (32 ∷ form) (32 ∷ rest) ≡ true
@@ -170,15 +186,37 @@ begun_order at job Out Out fits = or_right _ _ (words_on (ordered at job Out Out
 abbrev overdue_then : ℕ → Standing → ℕ → List Word
 overdue_then at first others = late_overdue_words at (record { first = first; others = others })
 
+begun_awaited : (at job due others : ℕ) → AreNarrow (overdue_then at (Awaited job due) others) → begins_late (words_before (overdue_then at (Awaited job due) others) []) ≡ true
+begun_awaited at job due zero fits = or_left _ _ (or_left _ _ (or_left _ _ (words_on (overdue_then at (Awaited job due) 0) (codes " and % more") fits refl)))
+begun_awaited at job due (suc k) fits = or_left _ _ (or_left _ _ (or_left _ _ (words_on (overdue_then at (Awaited job due) (suc k)) [] fits refl)))
+
+-- a visit that is told by its step or not
+abbrev worked_then : ℕ → ℕ → Option ℕ → ℕ → ℕ → ℕ → ℕ → List Word
+worked_then at job step machine since due others = overdue_then at (Worked (record { job = job; step = step }) machine since due) others
+
+begun_worked : (at job : ℕ) (step : Option ℕ) (machine since due others : ℕ) → AreNarrow (worked_then at job step machine since due others)
+    → begins_late (words_before (worked_then at job step machine since due others) []) ≡ true
+begun_worked at job None machine since due zero fits = or_left _ _ (or_left _ _ (or_right _ _ (words_on (worked_then at job None machine since due 0) (codes " and % more") fits refl)))
+begun_worked at job None machine since due (suc k) fits = or_left _ _ (or_left _ _ (or_right _ _ (words_on (worked_then at job None machine since due (suc k)) [] fits refl)))
+begun_worked at job (Some step) machine since due zero fits = or_right _ _ (or_left _ _ (words_on (worked_then at job (Some step) machine since due 0) (codes " and % more") fits refl))
+begun_worked at job (Some step) machine since due (suc k) fits = or_right _ _ (or_left _ _ (words_on (worked_then at job (Some step) machine since due (suc k)) [] fits refl))
+
+abbrev cleaned_then : ℕ → ℕ → ℕ → Option ℕ → ℕ → ℕ → ℕ → List Word
+cleaned_then at machine job step since due others = overdue_then at (Cleaned machine (record { job = job; step = step }) since due) others
+
+begun_cleaned : (at machine job : ℕ) (step : Option ℕ) (since due others : ℕ) → AreNarrow (cleaned_then at machine job step since due others)
+    → begins_late (words_before (cleaned_then at machine job step since due others) []) ≡ true
+begun_cleaned at machine job None since due zero fits = or_left _ _ (or_right _ _ (words_on (cleaned_then at machine job None since due 0) (codes " and % more") fits refl))
+begun_cleaned at machine job None since due (suc k) fits = or_left _ _ (or_right _ _ (words_on (cleaned_then at machine job None since due (suc k)) [] fits refl))
+begun_cleaned at machine job (Some step) since due zero fits = or_right _ _ (or_right _ _ (words_on (cleaned_then at machine job (Some step) since due 0) (codes " and % more") fits refl))
+begun_cleaned at machine job (Some step) since due (suc k) fits = or_right _ _ (or_right _ _ (words_on (cleaned_then at machine job (Some step) since due (suc k)) [] fits refl))
+
 begun_overdue : (at : ℕ) (first : Standing) (others : ℕ) → is_overdue first at ≡ true → AreNarrow (overdue_then at first others) → begins_late (words_before (overdue_then at first others) []) ≡ true
-begun_overdue at (Awaited job due) zero is fits = or_left _ _ (or_left _ _ (words_on (overdue_then at (Awaited job due) 0) (codes " and % more") fits refl))
-begun_overdue at (Awaited job due) (suc k) is fits = or_left _ _ (or_left _ _ (words_on (overdue_then at (Awaited job due) (suc k)) [] fits refl))
-begun_overdue at (Worked job machine from due) zero is fits = or_left _ _ (or_right _ _ (words_on (overdue_then at (Worked job machine from due) 0) (codes " and % more") fits refl))
-begun_overdue at (Worked job machine from due) (suc k) is fits = or_left _ _ (or_right _ _ (words_on (overdue_then at (Worked job machine from due) (suc k)) [] fits refl))
-begun_overdue at (Cleaned machine job from due) zero is fits = or_right _ _ (words_on (overdue_then at (Cleaned machine job from due) 0) (codes " and % more") fits refl)
-begun_overdue at (Cleaned machine job from due) (suc k) is fits = or_right _ _ (words_on (overdue_then at (Cleaned machine job from due) (suc k)) [] fits refl)
+begun_overdue at (Awaited job due) others is fits = begun_awaited at job due others fits
+begun_overdue at (Worked visit machine from due) others is fits = begun_worked at visit.job visit.step machine from due others fits
+begun_overdue at (Cleaned machine visit from due) others is fits = begun_cleaned at machine visit.job visit.step from due others fits
 begun_overdue at (Outside job to) others is fits = absurd (cc is)
-begun_overdue at (Done job machine to) others is fits = absurd (cc is)
+begun_overdue at (Done visit machine to) others is fits = absurd (cc is)
 begun_overdue at (Gone job from) others is fits = absurd (cc is)
 begun_overdue at (CleanMachine machine) others is fits = absurd (cc is)
 
@@ -192,9 +230,12 @@ module _ (front rest : List ℕ) where
   less_order is = any-kept _ _ _ _ (any-kept _ _ _ _ (any-kept _ _ _ _ (shorter 0 (codes "order # % % %") front rest) (shorter 0 (codes "order # % % out") front rest)) (shorter 0 (codes "order # % out %") front rest))
       (shorter 0 (codes "order # % out out") front rest) is
 
+  less_late_step : begins_late_step (front ++ rest) ≡ true → begins_late_step front ≡ true
+  less_late_step is = any-kept _ _ _ _ (shorter 0 (codes "late # job %.% on machine % since # due # and % more") front rest) (shorter 0 (codes "late # machine % cleaned after job %.% since # due # and % more") front rest) is
+
   less_late : begins_late (front ++ rest) ≡ true → begins_late front ≡ true
-  less_late is = any-kept _ _ _ _ (any-kept _ _ _ _ (shorter 0 (codes "late # job % arrives # and % more") front rest) (shorter 0 (codes "late # job % on machine % since # due # and % more") front rest))
-      (shorter 0 (codes "late # machine % cleaned after job % since # due # and % more") front rest) is
+  less_late is = any-kept _ _ _ _ (any-kept _ _ _ _ (any-kept _ _ _ _ (shorter 0 (codes "late # job % arrives # and % more") front rest) (shorter 0 (codes "late # job % on machine % since # due # and % more") front rest))
+      (shorter 0 (codes "late # machine % cleaned after job % since # due # and % more") front rest)) less_late_step is
 
 less : (front rest : List ℕ) → begins_line (front ++ rest) ≡ true → begins_line front ≡ true
 less front rest is = any-kept _ _ _ _ (any-kept _ _ _ _ (any-kept _ _ _ _ (less_report front rest) (less_order front rest)) (less_late front rest)) (shorter 0 (codes "unfinished plan @@@@@@@@@@@@@@@@ shop @@@@@@@@@@@@@@@@") front rest) is
@@ -250,7 +291,7 @@ event_begins (ReportEntry report) fits = any_report (words_before (logged_words 
 event_begins (OrderEntry o) fits = any_order (words_before (order_words o) []) (begun_order o.at o.job o.source o.target fits)
 
 pub late_begins : (at : ℕ) → AreNarrow (late_words at) → begins_line (words_before (late_words at) []) ≡ true
-late_begins at fits = any_late (words_before (late_words at) []) (or_left _ _ (or_left _ _ (words_on (late_words at) (codes " job % arrives # and % more") fits refl)))
+late_begins at fits = any_late (words_before (late_words at) []) (or_left _ _ (or_left _ _ (or_left _ _ (words_on (late_words at) (codes " job % arrives # and % more") fits refl))))
 
 pub late_overdue_begins : (at : ℕ) (overdue : Overdue) → is_overdue overdue.first at ≡ true → AreNarrow (late_overdue_words at overdue) → begins_line (words_before (late_overdue_words at overdue) []) ≡ true
 late_overdue_begins at overdue is fits = any_late (words_before (late_overdue_words at overdue) []) (begun_overdue at overdue.first overdue.others is fits)

@@ -3,7 +3,7 @@ use Rattle.std.specs.Prelude.{◌≡◌, ◌⊎◌, ℕ, ◌-◌, ◌^◌, ◌<�
 use Rattle.text_lines.specs.Numbers.{is_digit}
 use Rattle.cell_tables.specs.{declared.entry.Entry.Entry, Standings.is_overdue}
 use Rattle.event_lines.specs.{declared.details.Overdue.Overdue, declared.run_digits.RunDigits.RunDigits}
-use Rattle.event_lines.specs.{EventLines.entry_words, EventLines.entry_line, Words.Word, Words.Text, Words.Number}
+use Rattle.event_lines.specs.{EventLines.entry_words, EventLines.entry_line, Words.Word, Words.Text, Words.Number, Words.JobStep}
 use Rattle.event_lines.specs.{AnswerLines.late_words, AnswerLines.late_line, ReadBack.IsFitting}
 use Rattle.event_lines.specs.StandingLines.{late_overdue_words, late_overdue_line}
 use Rattle.event_lines.specs.RunDigits.{AreDigits, is_small_hex, plan_line}
@@ -39,10 +39,15 @@ begins_report bytes = begins (codes "report # arrive %") bytes || begins (codes 
 abbrev pub begins_order : List ℕ → Bool
 begins_order bytes = begins (codes "order # % % %") bytes || begins (codes "order # % % out") bytes || begins (codes "order # % out %") bytes || begins (codes "order # % out out") bytes
 
+-- the step of a job stands there in a shop with recirculation
+abbrev pub begins_late_step : List ℕ → Bool
+begins_late_step bytes = begins (codes "late # job %.% on machine % since # due # and % more") bytes || begins (codes "late # machine % cleaned after job %.% since # due # and % more") bytes
+
 abbrev pub begins_late : List ℕ → Bool
 begins_late bytes = begins (codes "late # job % arrives # and % more") bytes
     || begins (codes "late # job % on machine % since # due # and % more") bytes
     || begins (codes "late # machine % cleaned after job % since # due # and % more") bytes
+    || begins_late_step bytes
 
 abbrev pub begins_plan : List ℕ → Bool
 begins_plan bytes = begins (codes "unfinished plan @@@@@@@@@@@@@@@@ shop @@@@@@@@@@@@@@@@") bytes
@@ -64,6 +69,7 @@ is_torn end = begins_line (without_zeros end)
 abbrev pub IsNarrow : Word → Type 0
 IsNarrow (Text text) = IsFitting (Text text)
 IsNarrow (Number most n) = IsFitting (Number most n) × ((most ≡ MOMENT_DIGITS) ⊎ (n < 10 ^ OTHER_DIGITS))
+IsNarrow (JobStep job step) = IsFitting (JobStep job step) × (job < 10 ^ OTHER_DIGITS) × (step < 10 ^ OTHER_DIGITS)
 
 abbrev pub AreNarrow : List Word → Type 0
 AreNarrow [] = Unit {0}

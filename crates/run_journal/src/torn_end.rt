@@ -1,7 +1,7 @@
 //! What a crash can leave after the whole lines of a log: the beginning of a line that the log gets, and zeros.
 
 ghost use Rattle.std.specs.Prelude.{◌≡◌, ◌≤◌, length, take};
-ghost use Rattle.run_journal.specs.TornEnds.{digits_of, stands_for, stands_for_one, begins, begins_report, begins_order, begins_late, begins_plan, without_zeros, is_torn};
+ghost use Rattle.run_journal.specs.TornEnds.{digits_of, stands_for, stands_for_one, begins, begins_report, begins_order, begins_late, begins_late_step, begins_plan, without_zeros, is_torn};
 
 /// Whether a crash can have left these bytes after the whole lines: the beginning of some line of a report, of an
 /// order, of a late report or of a plan, or nothing, and then zeros, or none.
@@ -42,6 +42,20 @@ fn begins_late(bytes: &[u8]) -> bool
             b"late # machine % cleaned after job % since # due # and % more",
             bytes,
         )
+        || begins_late_step(bytes)
+}
+
+/// So it is, with the step of the job, of a shop with recirculation.
+fn begins_late_step(bytes: &[u8]) -> bool
+    ensures { result ≡ begins_late_step bytes.now }
+{
+    begins(
+        b"late # job %.% on machine % since # due # and % more",
+        bytes,
+    ) || begins(
+        b"late # machine % cleaned after job %.% since # due # and % more",
+        bytes,
+    )
 }
 
 fn begins_plan(bytes: &[u8]) -> bool
@@ -83,7 +97,7 @@ fn begins(form: &[u8], bytes: &[u8]) -> bool
 /// The most digits of a moment.
 const MOMENT_DIGITS: usize = 13;
 
-/// The most digits of the number of a job or of a machine, or of how many more are overdue.
+/// The most digits of the number of a job, of its step or of a machine, or of how many more are overdue.
 const OTHER_DIGITS: usize = 3;
 
 /// The most digits of the number for which this stands in a form: 0 where it stands for itself.
