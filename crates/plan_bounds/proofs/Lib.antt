@@ -1,6 +1,6 @@
 mod Sizes
 mod Paths
-mod AlonePaths
+pub mod AlonePaths
 mod Placed
 mod Chains
 mod Showing

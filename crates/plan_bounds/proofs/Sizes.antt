@@ -13,7 +13,7 @@ use Rattle.plan_bounds.specs.declared.visits.Visits.{Visits}
 
 module _ (p : PlannedShop) (j : ℕ) (shaped : IsWellShaped p) (inside : j < jobs p) where
   pub work-le : route_work (route p j) ≤ 100000000
-  work-le = omega (arith, route_work-le (machines p) (route p j) (shaped.shop.routes j inside), shaped.shop.counts.few_machines)
+  work-le = omega (arith, route_work-le (machines p) p.shop.recirculates (route p j) (shaped.shop.routes j inside), shaped.shop.counts.few_machines)
 
   pub release-le : release p j ≤ 1000000000
   release-le = omega (arith, shaped.limits.releases j inside)

@@ -1,11 +1,10 @@
 -- What holds up a node is in the tables, and of its bounds one goes before all others.
-use Rattle.std.proofs.Common.{◌≡◌, ◌≢◌, ℕ, ◌+◌, ◌-◌, ◌<◌, ◌≤◌, ◌⊎◌, length, Bool, true, false, nat_lt, nat_eq, if◌then◌else◌, Option, None, Some, inl, inr, arith, refl, sym, ap, subst, ◌∙◌, lt-ltb, le-ltb, ltb-true, eqb-true}
+use Rattle.std.proofs.Common.{◌≡◌, ◌≢◌, ℕ, ◌+◌, ◌-◌, ◌<◌, ◌≤◌, ◌⊎◌, Bool, true, false, if◌then◌else◌, Option, None, Some, inl, inr, arith, refl, sym, ap, subst, ◌∙◌, lt-ltb, le-ltb}
 use Rattle.std.specs.Prelude.{MatchOption}
-use Rattle.std.proofs.lemmas.Bool.{and_parts}
 use Rattle.shop_base.specs.{declared.node.Node.Node, declared.shop.Step.Step, declared.job_state.JobState.JobState}
 use Rattle.shop_base.specs.Shop.{step_at}
-use Rattle.shop_base.specs.Plan.{PlannedShop, steps, route, order, job_at, nominal, clean, release, Visits, IsWellShaped}
-use Rattle.shop_base.specs.Cell.{Cell, job_in, made, ready, since, entries, cleaning, IsOutside, IsOn}
+use Rattle.shop_base.specs.Plan.{PlannedShop, steps, route, nominal, clean, release, Visits}
+use Rattle.shop_base.specs.Cell.{Cell, job_in, made, ready, since, cleaning, IsOutside, IsOn}
 use Rattle.shop_base.specs.{Activity.{Cleaning, IsAwaited, IsWorked, IsCleaned}, Movers.{due_of_job, due_of_cleaning}, Sound.IsSound}
 use Rattle.shop_base.specs.Ahead.{next_node}
 use Rattle.shop_base.proofs.{CellFacts.{arrival_due, operation_due}, Ahead.held_left}
@@ -78,10 +77,10 @@ module _ (p : PlannedShop) (c : Cell) where
     bound_is h due n b is at same = rw same (record { by_hold = record { due = due; holds = is; moment = refl; overdue = refl }; moment = refl; turn_is = at })
 
     -- of the cleaning of the machine that it enters
-    pub cleaning_bound : (m from n : ℕ) (b : NodeBound) → IsWellShaped p → Visits p v.job v.place m → is_next_in p c m v.job ≡ true → cleaning c m ≡ Some from → n ≡ clean p m
+    pub cleaning_bound : (m from n : ℕ) (b : NodeBound) → Visits p v.job v.place m → is_next_in p c m v ≡ true → cleaning c m ≡ Some from → n ≡ clean p m
         → b ≡ record { moment = later_than t (Some (from + n)); holds = Cleaned m from n; overdue = overdue_at t (Some (from + n)) } → IsBoundBy p c t v (cleaned_at p c v) 1 b
-    cleaning_bound m from n b shaped visits next is long same =
-        let stands = next_there p c v m shaped next visits in
+    cleaning_bound m from n b visits next is long same =
+        let stands = next_there p c v m next visits in
         let goes : IsCleaned p c m from (from + clean p m) = record { is_cleaned = is; is_due = refl } in
         rw (holds_cleaned p c v (from + clean p m) m (from, goes) stands)
         (bound_is (Cleaned m from (clean p m)) (Some (from + clean p m)) 1 b (cleaned m from (from + clean p m) v goes stands) refl (rw long at same))
@@ -90,11 +89,11 @@ module _ (p : PlannedShop) (c : Cell) where
     pub free_leaving : steps p v.job ≤ v.place → cleaned_at p c v ≡ None
     free_leaving past = rw (le-ltb v.place (steps p v.job) past) refl
 
-    pub free_other : (m : ℕ) → Visits p v.job v.place m → is_next_in p c m v.job ≡ false → cleaned_at p c v ≡ None
+    pub free_other : (m : ℕ) → Visits p v.job v.place m → is_next_in p c m v ≡ false → cleaned_at p c v ≡ None
     free_other m visits other = rw (lt-ltb v.place (steps p v.job) visits.within, visits.here, other) refl
 
     pub free_idle : (m : ℕ) → Visits p v.job v.place m → cleaning c m ≡ None → cleaned_at p c v ≡ None
-    free_idle m visits idle = rw (lt-ltb v.place (steps p v.job) visits.within, visits.here, idle) (go (is_next_in p c m v.job))
+    free_idle m visits idle = rw (lt-ltb v.place (steps p v.job) visits.within, visits.here, idle) (go (is_next_in p c m v))
       where
         go : (next : Bool) → (if next then due_of_cleaning p m None else None) ≡ None
         go true = refl

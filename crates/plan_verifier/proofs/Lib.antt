@@ -12,3 +12,4 @@ pub mod LastLeavings
 pub mod Holding
 pub mod AtStart
 pub mod Soon
+pub mod VisitedAgain

@@ -113,7 +113,7 @@ module _ (p : PlannedShop) (c : Cell) (t : ℕ) (shaped : IsWellShaped p) (sound
 
   begin_from : (v : Node) → IsAhead c v → (o : Option ℕ) → bound_in p c t v ≡ o → t ≤ unwrap_or o t
   begin_from v ahead None is = omega arith
-  begin_from v ahead (Some n) is = bound_from p c t shaped v n ahead is
+  begin_from v ahead (Some n) is = bound_from p c t v n ahead is
 
   path_long : (nodes : List Node) (v : Node) (k : ℕ) → PathAhead p c t nodes v k → (n : ℕ) × (k ≤ n) × PathFrom p b nodes v n
   path_long _ _ _ (now v is ahead) = begin_long v t (record { ahead = ahead; job = is.job; place = is.place }) (begin_from v ahead (bound_in p c t v) refl)

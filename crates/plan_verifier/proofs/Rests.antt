@@ -25,7 +25,7 @@ module _ (p : PlannedShop) (c : Cell) (t : ℕ) (shaped : IsWellShaped p) (sound
   later_path : (v : Node) (n m : ℕ) → IsLeftIn p c v → PathAhead p c t (v ∷ []) v n → (m ≡ n) ⊎ ((due : ℕ) × (cleaned_at p c v ≡ Some due) × (m ≡ due)) → PathAhead p c t (v ∷ []) v m
   later_path v n m left path (inl same) = subst (λ k. PathAhead p c t (v ∷ []) v k) (sym same) path
   later_path v n m left path (inr (due, recorded, same)) =
-      let (machine, going, holds) = cleaned_holds p c v due shaped recorded in
+      let (machine, going, holds) = cleaned_holds p c v due recorded in
       subst (λ k. PathAhead p c t (v ∷ []) v k) (sym same) (held (Cleaning machine) due v going holds)
 
   pub next_path : (v : Node) (n : ℕ) → IsNode p v → made c v.job ≡ v.place → (n ≡ t) ⊎ ((due : ℕ) × (due_of_job p v.job (job_in c v.job) ≡ Some due) × (n ≡ due)) → PathAhead p c t (v ∷ []) v n
@@ -38,7 +38,7 @@ module _ (p : PlannedShop) (c : Cell) (t : ℕ) (shaped : IsWellShaped p) (sound
       ])
 
   pub bound_path : (v : Node) (n : ℕ) → IsNode p v → IsAhead c v → bound_in p c t v ≡ Some n → PathAhead p c t (v ∷ []) v n
-  bound_path v n is ahead recorded = elim (bound_kind p c t shaped v n ahead recorded) [
+  bound_path v n is ahead recorded = elim (bound_kind p c t v n ahead recorded) [
     | inl next ↦ (
         let left : IsLeftIn p c v = record { ahead = ahead; job = is.job; place = is.place } in
         let first = later_than t (due_of_job p v.job (job_in c v.job)) in
@@ -59,7 +59,7 @@ module _ (p : PlannedShop) (c : Cell) (t : ℕ) (shaped : IsWellShaped p) (sound
   begin_held : (nodes : List Node) (v : Node) (n : ℕ) → IsAhead c v → PathFrom p b nodes v n → BeginHeldUp p c nodes
   begin_held _ _ _ ahead (begins_at v n is recorded) = (
     is,
-    elim (bound_kind p c t shaped v n ahead (sym (bound_in_table p c t sound v is) ∙ recorded)) [
+    elim (bound_kind p c t v n ahead (sym (bound_in_table p c t sound v is) ∙ recorded)) [
       | inl next ↦ inl next
       | inr (m, due, going, holds, at) ↦ inr (m, due, going, holds)
     ],
@@ -83,7 +83,7 @@ module _ (p : PlannedShop) (c : Cell) (t : ℕ) (shaped : IsWellShaped p) (sound
     moments = record {
       left = λ j inside gone. at_bound (leaving p j) (since c j) (record { job = inside; place = omega arith }) (bound_passed p c t (leaving p j) gone);
       present = λ j inside here.
-          (let is = bound_next p c t (next_node c j) refl in omega (arith, bound_from p c t shaped (next_node c j) _ (omega arith) is, at_bound (next_node c j) _ (record { job = inside; place = here }) is));
+          (let is = bound_next p c t (next_node c j) refl in omega (arith, bound_from p c t (next_node c j) _ (omega arith) is, at_bound (next_node c j) _ (record { job = inside; place = here }) is));
       activities = activity_kept;
       arcs = λ u v d ahead arc. ordered.times.moments.arcs u v d (ahead_of p c t sound u (source_node p u v d arc).job ahead) arc;
     }

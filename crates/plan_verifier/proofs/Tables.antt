@@ -1,18 +1,19 @@
 -- What stands in the table of a cell's bounds.
-use Rattle.std.proofs.Common.{◌≡◌, ℕ, ◌+◌, ◌-◌, ◌<◌, ◌≤◌, List, [], map, length, get_or, max, Bool, true, false, nat_lt, nat_eq, if◌then◌else◌, Option, None, Some, arith, refl, sym, ap, subst, ◌∙◌, ◌⊎◌, inl, inr, lt-ltb, le-ltb, ltb-true, eq-eqb, eqb-true}
+use Rattle.std.proofs.Common.{◌≡◌, ◌↔◌, ℕ, ◌+◌, ◌-◌, ◌<◌, ◌≤◌, List, [], map, length, get_or, max, Bool, true, false, nat_lt, nat_eq, if◌then◌else◌, Option, None, Some, arith, refl, sym, ap, subst, ◌∙◌, ◌⊎◌, inl, inr, lt-ltb, le-ltb, ltb-true, eq-eqb, eqb-true}
 use Rattle.std.specs.List.{range_with_len}
-use Rattle.std.proofs.{lemmas.Bool.{cases_lt, cases_order, and_parts, and_from}, lemmas.List.get_or-map}
+use Rattle.std.specs.Prelude.{IsTrue}
+use Rattle.std.proofs.{lemmas.Bool.{cases_lt, cases_order, and_parts, and_from}, lemmas.Bool.Decides.same_from_decides, lemmas.List.get_or-map}
 use Rattle.std.proofs.lemmas.List.FromFn.{get_or-map-range_with_len}
 use Rattle.shop_base.specs.{declared.node.Node.Node, declared.job_state.JobState.JobState}
-use Rattle.shop_base.specs.Plan.{PlannedShop, jobs, steps, order, machine_of, job_at, Visits, Stands, IsWellShaped}
+use Rattle.shop_base.specs.Plan.{PlannedShop, jobs, steps, order, machine_of, job_at, visits_before, places_before, Visits, Stands, IsWellShaped}
 use Rattle.shop_base.specs.Cell.{Cell, job_in, made, since, entries, cleaning, absent}
 use Rattle.shop_base.specs.Activity.{Activity, Arrival, Operation, Cleaning, GoesOn}
 use Rattle.shop_base.specs.{Movers.{due_of_job, due_of_cleaning}, Sound.IsSound, Graph.{node, IsNode}}
 use Rattle.shop_base.specs.Ahead.{next_node, IsAhead, HoldsUp}
 use Rattle.shop_base.proofs.{CellFacts.{arrival_due, operation_due, cleaning_due, due_cleaning}, Ahead.held_left}
-use Rattle.shop_base.proofs.OneVisit.{place_visits}
+use Rattle.shop_base.proofs.{Counting.{count_rises, count_less}, Visits.{visits_machine, visits-stands, stands_step}, Places.stands_at}
 use Rattle.alt_graph.specs.Bounds.{bound_of, IsAheadOf, AreRooted}
-use Rattle.plan_verifier.specs.{CellBounds.{rest_bounds, bound_in, held_to, is_next_in, cleaned_at}, Held.later_than}
+use Rattle.plan_verifier.specs.{CellBounds.{rest_bounds, bound_in, held_to, IsFirstAhead, is_next_in, cleaned_at}, Held.later_than}
 
 -- where a table of bounds has a node's
 pub in_table : (p : PlannedShop) (bound : Node → Option ℕ) (v : Node) → IsNode p v
@@ -79,43 +80,94 @@ later_above n (Some m) = omega arith
 pub later_other : (n m : ℕ) (o : Option ℕ) → o ≡ Some m → m ≤ later_than n o
 later_other n m o is = rw is (omega arith)
 
--- a job that is the next in the order of a machine that it visits once stands there for that visit
-pub next_there : (p : PlannedShop) (c : Cell) (v : Node) (m : ℕ) → IsWellShaped p → is_next_in p c m v.job ≡ true → Visits p v.job v.place m
-    → Stands p m (length (entries c m)) v.job v.place
-next_there p c v m shaped next visits =
-    let both = and_parts (nat_lt (length (entries c m)) (length (order p m))) (nat_eq (job_at p m (length (entries c m))) v.job) next in
-    place_visits p m (length (entries c m)) v.job v.place shaped (ltb-true (length (entries c m)) (length (order p m)) both.0) (eqb-true (job_at p m (length (entries c m))) v.job both.1) visits
+-- the next entry in the order of a machine, where that is for this visit
+module _ (p : PlannedShop) (c : Cell) (v : Node) (m : ℕ) where
+  abbrev n : ℕ
+  n = length (entries c m)
+
+  pub next_there : is_next_in p c m v ≡ true → Visits p v.job v.place m → Stands p m n v.job v.place
+  next_there next visits =
+      let (within, turn) = and_parts (nat_lt n (length (order p m))) _ next in
+      let (job, visit) = and_parts (nat_eq (job_at p m n) v.job) _ turn in
+      record {
+        within = ltb-true n (length (order p m)) within;
+        job = eqb-true (job_at p m n) v.job job;
+        visits = visits;
+        turn = eqb-true (places_before p m v.job n) (visits_before p v.job m v.place) visit;
+      }
+
+  pub there_next : Stands p m n v.job v.place → is_next_in p c m v ≡ true
+  there_next stands =
+      and_from (nat_lt n (length (order p m))) _ (lt-ltb n (length (order p m)) stands.within)
+      (and_from (nat_eq (job_at p m n) v.job) _ (eq-eqb (job_at p m n) v.job stands.job) (eq-eqb (places_before p m v.job n) (visits_before p v.job m v.place) stands.turn))
+
+  -- it is for the first visit ahead of the job whose turn it is
+  module _ (shaped : IsWellShaped p) (sound : IsSound p c) (k : ℕ) (stands : Stands p m n v.job k) (visits : Visits p v.job v.place m) (ahead : IsAhead c v) where
+    here : made c v.job ≤ v.place
+    here = ahead
+
+    -- for what it is isn't passed
+    for_ahead : made c v.job ≤ k
+    for_ahead = elim (cases_lt k (made c v.job)) [
+      | inl passed ↦ absurd (omega (arith, sound.made_entered m n v.job k stands passed))
+      | inr left ↦ left
+    ]
+
+    -- and the visits before it are
+    before_made : (l : ℕ) → Visits p v.job l m → l < k → l < made c v.job
+    before_made l other less =
+        let (b, before) = visits-stands p v.job l m shaped other in
+        let fewer : visits_before p v.job m l < visits_before p v.job m k =
+        count_rises (λ (i : ℕ). nat_eq (machine_of p v.job i) m) l k (eq-eqb (machine_of p v.job l) m other.here) less in
+        sound.entered_made m b v.job l before (count_less (λ (a : ℕ). nat_eq (job_at p m a) v.job) b n (omega (arith, before.turn, stands.turn, fewer)))
+
+    pub first_there : IsFirstAhead p c m v → Stands p m n v.job v.place
+    first_there first = elim (cases_order v.place k) [
+      | inl same ↦ rw same stands
+      | inr (inl less) ↦ absurd (omega (arith, here, before_made v.place visits less))
+      | inr (inr more) ↦ absurd (first k for_ahead more stands.visits.here)
+    ]
+
+    pub there_first : Stands p m n v.job v.place → IsFirstAhead p c m v
+    there_first there l left less on =
+        let same : k ≡ v.place = stands_step p m n v.job k v.place stands there in
+        omega (arith, left, before_made l (record { within = omega (arith, less, visits.within); here = on }) (omega (arith, same, less)))
+
+  -- so the test for the one is a test for the other
+  pub next_if_first : IsWellShaped p → IsSound p c → n < length (order p m) → job_at p m n ≡ v.job → Visits p v.job v.place m → IsAhead c v
+      → (first : Bool) → (IsTrue first ↔ IsFirstAhead p c m v) → first ≡ is_next_in p c m v
+  next_if_first shaped sound within job visits ahead first decides =
+      let (k, next) = stands_at p m n shaped (visits_machine p v.job v.place m shaped visits) within in
+      let stands = subst (λ j. Stands p m n j k) job next in
+      same_from_decides first (is_next_in p c m v) decides
+      (λ is. there_first shaped sound k stands visits ahead (next_there is visits), λ is. there_next (first_there shaped sound k stands visits ahead is))
 
 module _ (p : PlannedShop) (c : Cell) (v : Node) (due : ℕ) where
   abbrev there : ℕ
   there = machine_of p v.job v.place
 
   -- the cleaning of which the table has the end goes on, and holds the node up
-  pub cleaned_holds : IsWellShaped p → cleaned_at p c v ≡ Some due → (m : ℕ) × GoesOn p c (Cleaning m) due × HoldsUp p c (Cleaning m) v
-  cleaned_holds shaped recorded = go (nat_lt v.place (steps p v.job)) refl (is_next_in p c there v.job) refl recorded
+  pub cleaned_holds : cleaned_at p c v ≡ Some due → (m : ℕ) × GoesOn p c (Cleaning m) due × HoldsUp p c (Cleaning m) v
+  cleaned_holds recorded = go (nat_lt v.place (steps p v.job)) refl (is_next_in p c there v) refl recorded
     where
-      go : (b : Bool) → nat_lt v.place (steps p v.job) ≡ b → (d : Bool) → is_next_in p c there v.job ≡ d
+      go : (b : Bool) → nat_lt v.place (steps p v.job) ≡ b → (d : Bool) → is_next_in p c there v ≡ d
           → (if b then (if d then due_of_cleaning p there (cleaning c there) else None) else None) ≡ Some due
           → (m : ℕ) × GoesOn p c (Cleaning m) due × HoldsUp p c (Cleaning m) v
       go true within true next at =
-          (there, due_cleaning p c there due at, next_there p c v there shaped next (record { within = ltb-true v.place (steps p v.job) within; here = refl }))
+          (there, due_cleaning p c there due at, next_there p c v there next (record { within = ltb-true v.place (steps p v.job) within; here = refl }))
       go true within false next at = absurd cc
       go false past d next at = absurd cc
 
   -- and the other way round
   pub holds_cleaned : (m : ℕ) → GoesOn p c (Cleaning m) due → HoldsUp p c (Cleaning m) v → cleaned_at p c v ≡ Some due
-  holds_cleaned m goes stands = rw (
-    lt-ltb v.place (steps p v.job) stands.visits.within,
-    stands.visits.here,
-    and_from (nat_lt (length (entries c m)) (length (order p m))) (nat_eq (job_at p m (length (entries c m))) v.job)
-        (lt-ltb (length (entries c m)) (length (order p m)) stands.within) (eq-eqb (job_at p m (length (entries c m))) v.job stands.job),
-  ) (cleaning_due p c m due goes)
+  holds_cleaned m goes stands =
+      rw (lt-ltb v.place (steps p v.job) stands.visits.within, stands.visits.here, there_next p c v m stands) (cleaning_due p c m due goes)
 
 module _ (p : PlannedShop) (c : Cell) (t : ℕ) where
   -- a node ahead that has a bound is its job's next, or is held up by a cleaning until then
-  pub bound_kind : IsWellShaped p → (v : Node) (n : ℕ) → IsAhead c v → bound_in p c t v ≡ Some n
+  pub bound_kind : (v : Node) (n : ℕ) → IsAhead c v → bound_in p c t v ≡ Some n
       → (made c v.job ≡ v.place) ⊎ ((m due : ℕ) × GoesOn p c (Cleaning m) due × HoldsUp p c (Cleaning m) v × (n ≡ max t due))
-  bound_kind shaped v n ahead recorded = elim (cases_order v.place (made c v.job)) [
+  bound_kind v n ahead recorded = elim (cases_order v.place (made c v.job)) [
     | inl same ↦ inl (sym same)
     | inr other ↦ elim other [
       | inl passed ↦ absurd (let here : made c v.job ≤ v.place = ahead in omega arith)
@@ -125,11 +177,11 @@ module _ (p : PlannedShop) (c : Cell) (t : ℕ) where
     where
       go : (o : Option ℕ) → cleaned_at p c v ≡ o → held_to t o ≡ Some n → (m due : ℕ) × GoesOn p c (Cleaning m) due × HoldsUp p c (Cleaning m) v × (n ≡ max t due)
       go None none at = absurd cc
-      go (Some due) found at = (let (m, going, holds) = cleaned_holds p c v due shaped found in (m, due, going, holds, cc))
+      go (Some due) found at = (let (m, going, holds) = cleaned_holds p c v due found in (m, due, going, holds, cc))
 
   -- no bound of a node ahead is before the present moment
-  pub bound_from : IsWellShaped p → (v : Node) (n : ℕ) → IsAhead c v → bound_in p c t v ≡ Some n → t ≤ n
-  bound_from shaped v n ahead recorded = elim (bound_kind shaped v n ahead recorded) [
+  pub bound_from : (v : Node) (n : ℕ) → IsAhead c v → bound_in p c t v ≡ Some n → t ≤ n
+  bound_from v n ahead recorded = elim (bound_kind v n ahead recorded) [
     | inl next ↦ (let first : ℕ = later_than t (due_of_job p v.job (job_in c v.job)) in
         let is : later_than first (cleaned_at p c v) ≡ n = (let both = sym (bound_next p c t v next) ∙ recorded in cc) in
         omega (arith, later_above t (due_of_job p v.job (job_in c v.job)), later_above first (cleaned_at p c v), is))

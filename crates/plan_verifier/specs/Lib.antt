@@ -9,6 +9,7 @@ pub mod RestVerdicts
 pub mod FromThere
 pub mod Leavings
 pub mod StartLaw
+pub mod VisitedAgain
 -- Of proofs and private contracts alone.
 pub mod JobHolds
 pub mod FromBounds

@@ -1,15 +1,15 @@
 //! The bounds of the nodes of a cell.
 
-ghost use Rattle.std.specs.Prelude.{◌≡◌, ◌<◌, ◌≤◌, IfSome};
-ghost use Rattle.shop_base.specs.{declared.limits.TheConstants.MAX_MOMENT, Plan.machines, Graph.IsNode};
+ghost use Rattle.std.specs.Prelude.{◌≡◌, ◌≤◌, ◌↔◌, IsTrue, IfSome};
+ghost use Rattle.shop_base.specs.{declared.limits.TheConstants.MAX_MOMENT, Plan.Visits, Graph.IsNode, Ahead.IsAhead};
 ghost use Rattle.alt_graph.specs.Bounds.{MAX_BOUND};
 ghost use Rattle.plan_verifier.specs.Held.{later_than};
-ghost use Rattle.plan_verifier.specs.CellBounds.{rest_bounds, is_next_in, cleaned_at};
+ghost use Rattle.plan_verifier.specs.CellBounds.{rest_bounds, IsFirstAhead, is_next_in, cleaned_at};
 
 use crate::leavings::later;
 use alt_graph::Bounds;
 use cell_tables::WorkCell;
-use shop_base::{JobNo, MachineNo, Moment, Node, Planned};
+use shop_base::{MachineNo, Moment, Node, Planned};
 
 /// The bounds of the rest of a run, from a cell and a present moment on.
 #[derive(Drop)]
@@ -19,29 +19,49 @@ pub(crate) struct CellBounds<'a, P: Planned> {
     ghost in_range: { present ≤ MAX_MOMENT },
 }
 
-/// Whether the job is the next to enter the machine.
-pub(crate) fn is_next<P: Planned>(cell: &WorkCell<P>, machine: MachineNo, job: JobNo) -> bool
-    requires { machine < machines cell.now.plan }
-    ensures { result ≡ is_next_in cell.now.plan cell.now.cell machine job }
+/// Whether the node ahead, by which its job enters the machine, is the next entry there.
+pub(crate) fn is_next<P: Planned>(cell: &WorkCell<P>, machine: MachineNo, node: Node) -> bool
+    requires visits { Visits cell.now.plan node.job node.place machine }
+    requires ahead { IsAhead cell.now.cell node }
+    ensures { result ≡ is_next_in cell.now.plan cell.now.cell machine node }
 {
+    // Called for its clause alone: the cell is sound.
+    let _plan = cell.shaped();
     match cell.next_on(machine) {
-        Some(next) => next == job,
+        Some(next) => next == node.job && is_first_ahead(cell, machine, node),
         None => false,
     }
 }
 
-/// When the cleaning of the machine that the node's job enters by it is due, if it is the next entry there and the
-/// machine is being cleaned.
+/// Whether no entry of the machine by the job is ahead before the node.
+fn is_first_ahead<P: Planned>(cell: &WorkCell<P>, machine: MachineNo, node: Node) -> bool
+    requires node { IsNode cell.now.plan node }
+    ensures { IsTrue result ↔ IsFirstAhead cell.now.plan cell.now.cell machine node }
+{
+    let made = cell.job_state(node.job).made as usize;
+    let route = cell.shaped().route_of(node.job);
+    for step in (made..node.place as usize).rev() {
+        if route[step].machine == machine {
+            return false;
+        }
+    }
+    true
+}
+
+/// When the cleaning of the machine that the job enters by the node ahead is due, if that is the next entry there and
+/// the machine is being cleaned.
 fn cleaned_by<P: Planned>(cell: &WorkCell<P>, node: Node) -> Option<Moment>
-    requires { IsNode cell.now.plan node }
+    requires node { IsNode cell.now.plan node }
+    requires ahead { IsAhead cell.now.cell node }
     ensures due { result ≡ cleaned_at cell.now.plan cell.now.cell node }
     ensures limited { IfSome result (λ due. due ≤ MAX_BOUND) }
 {
     // Called for its clause alone: the plan is well shaped.
     let _plan = cell.shaped();
     let machine = cell.machine_at(node.job, node.place)?;
-    if is_next(cell, machine, node.job) {
-        cell.cleaning_due(machine)
+    let due = cell.cleaning_due(machine)?;
+    if is_next(cell, machine, node) {
+        Some(due)
     } else {
         None
     }

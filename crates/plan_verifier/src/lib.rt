@@ -16,6 +16,7 @@ mod node_bound;
 mod verdict;
 mod verified;
 mod verifying;
+pub mod worked_runs;
 
 pub use ahead::{bound_of, check_chain_ahead, deadlines_of, earliest_moments, judge};
 pub use in_range::cleanings_in_range;

@@ -2,7 +2,7 @@
 
 ghost use Rattle.std.specs.Prelude.{◌≡◌, ◌<◌, ◌≤◌, ◌⊎◌, MatchOption, None};
 ghost use Rattle.shop_base.specs.{declared.limits.TheConstants.MAX_MOMENT, Plan.jobs, Plan.steps};
-ghost use Rattle.shop_base.specs.{Cell.job_in, Cell.made, Movers.due_of_job, Graph.IsNode, Ahead.next_node};
+ghost use Rattle.shop_base.specs.{Cell.job_in, Cell.made, Movers.due_of_job, Graph.IsNode, Ahead.{next_node, IsAhead}};
 ghost use Rattle.plan_verifier.specs.CellBounds.{cleaned_at};
 ghost use Rattle.plan_verifier.specs.Held.{IsHeldUp, IsBoundOf, GoesBefore, later_than, overdue_at, turn};
 ghost use Rattle.plan_verifier.specs.JobHolds.{IsJobHold, IsBoundBy, job_turn};
@@ -84,10 +84,11 @@ pub(crate) fn bound_after<P: Planned>(
     }
 }
 
-/// The bound of a node by the cleaning of the machine that its job enters by it, if it is the next entry there and the
-/// machine is being cleaned.
+/// The bound of a node ahead by the cleaning of the machine that its job enters by it, if it is the next entry there and
+/// the machine is being cleaned.
 fn cleaning_bound<P: Planned>(cell: &WorkCell<P>, present: Moment, node: Node) -> Option<NodeBound>
     requires node { IsNode cell.now.plan node }
+    requires ahead { IsAhead cell.now.cell node }
     requires in_range { present ≤ MAX_MOMENT }
     ensures { let due = cleaned_at cell.now.plan cell.now.cell node in
         MatchOption result (due ≡ None) (IsBoundBy cell.now.plan cell.now.cell present node due 1) }
@@ -95,7 +96,7 @@ fn cleaning_bound<P: Planned>(cell: &WorkCell<P>, present: Moment, node: Node) -
     // Called for its clause alone: the plan is well shaped.
     let _plan = cell.shaped();
     let machine = cell.machine_at(node.job, node.place)?;
-    if !is_next(cell, machine, node.job) {
+    if !is_next(cell, machine, node) {
         return None;
     }
     let since = cell.cleaned_since(machine)?;

@@ -16,4 +16,4 @@ returns-in_err-since g c = rw c.from_residual-in_err-since.ensures
 pub returns : goal.returns
 returns g c =
     cleaning_bound c.args.cell.now.plan c.args.cell.now.cell c.args.present c.args.node c.in_ok-machine.machine c.in_ok-since.since c.clean_of-clean.result c.bound_by.result
-    c.shaped-plan.ensures.well_shaped c.in_ok-machine.ensures (sym c.is_next.ensures ∙ c.if-not-is_next.false) (sym c.in_ok-since.ensures.since) (rw c.shaped.ensures.plan at c.clean_of-clean.ensures) c.bound_by.ensures
+    c.in_ok-machine.ensures (sym c.is_next.ensures ∙ c.if-not-is_next.false) (sym c.in_ok-since.ensures.since) (rw c.shaped.ensures.plan at c.clean_of-clean.ensures) c.bound_by.ensures
