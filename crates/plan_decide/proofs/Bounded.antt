@@ -1,25 +1,22 @@
 -- What is known of all plans of a case: they lead to one cell, are out at their jobs' bounds at the earliest, and what each value says.
-use Rattle.std.proofs.Common.{◌≡◌, ℕ, max, zero, suc, ◌+◌, ◌-◌, ◌<◌, ◌≤◌, ◌⊎◌, inl, inr, true, false, List, [], ◌∷◌, ◌++◌, drop, length, arith, refl, sym, ap, subst, ◌∙◌, drop_of_length-le, true≢false, Option, None, Some, if◌then◌else◌, lt-ltb, le-ltb}
+use Rattle.std.proofs.Common.{◌≡◌, ℕ, max, ◌+◌, ◌<◌, ◌≤◌, ◌⊎◌, inl, inr, true, false, List, [], ◌∷◌, ◌++◌, length, arith, refl, sym, ap, subst, ◌∙◌, true≢false, Option, None, Some, if◌then◌else◌, lt-ltb, le-ltb}
 use Rattle.std.proofs.lemmas.Bool.{cases_lt, leb-true, le-leb}
-use Rattle.std.proofs.lemmas.List.Sums.{sum_by-drop_more}
 use Rattle.shop_base.specs.declared.node.Node.{Node}
-use Rattle.shop_base.specs.declared.shop.Step.{Step}
-use Rattle.shop_base.specs.Shop.{no_step}
-use Rattle.shop_base.specs.Work.{route_work}
-use Rattle.shop_base.specs.Plan.{PlannedShop, jobs, steps, route, nominal, budget, clean, clean_in, IsWellShaped}
+use Rattle.shop_base.specs.Plan.{PlannedShop, jobs, steps, budget, clean, clean_in, IsWellShaped}
 use Rattle.shop_base.specs.Cell.{Cell, job_in, made, since, cleaning, IsGone}
 use Rattle.shop_base.specs.Movers.{due_of_job}
 use Rattle.shop_base.specs.Sound.{IsSound}
-use Rattle.shop_base.specs.Graph.{node, leaving, job_arc}
+use Rattle.shop_base.specs.Graph.{leaving, Arc}
 use Rattle.shop_base.specs.Ahead.{next_node, PathAhead, onward}
 use Rattle.cell_tables.specs.{Carried.{awaited, carried_cleaning, IsCarried}, Kept.KeepsSoFar, Rests.IsReached}
 use Rattle.cell_tables.proofs.{Reaching.recast_reached, Reorders.reached_sound}
 use Rattle.plan_verifier.specs.Accepted.{HasNoCycle}
 use Rattle.plan_verifier.specs.Held.{later_than}
 use Rattle.plan_verifier.proofs.Tables.{later_is}
-use Rattle.plan_bounds.specs.Bounds.{ShopTimes, times_of, job_bound}
+use Rattle.plan_bounds.specs.Bounds.{ShopTimes, times_of, out_alone, job_bound}
 use Rattle.plan_bounds.specs.Makespan.{IsLeastMakespan}
 use Rattle.plan_bounds.specs.declared.makespan.LeastMakespan.{LeastMakespan}
+use Rattle.plan_bounds.proofs.AlonePaths.{to_out}
 use Rattle.plan_bounds.proofs.Bounded.{no_plan_is_sooner-holds}
 use Rattle.plan_verifier.proofs.Rests.{next_path}
 use Rattle.plan_seek.specs.Tasks.{with_order}
@@ -91,25 +88,30 @@ gone_unless p base c t j not = elim (cases_lt (steps p j) (made c j)) [
 -- ---- the bound of a job
 
 module _ (p : PlannedShop) (c : Cell) (t : ℕ) where
-  to_leaving : (d j k n : ℕ) (nodes : List Node) → k + d ≡ steps p j → PathAhead p c t nodes (node j k) n → (others : List Node) × PathAhead p c t others (leaving p j) (n + route_work (drop k (route p j)))
-  to_leaving zero j k n nodes is path =
-      let last : k ≡ steps p j = omega (arith, is) in
-      let none : route_work (drop k (route p j)) ≡ 0 = ap route_work (drop_of_length-le (route p j) (omega (arith, last))) in
-      let long : n ≡ n + route_work (drop k (route p j)) = omega (arith, none) in
-      (nodes, subst (λ (m : ℕ). PathAhead p c t nodes (leaving p j) m) long (subst (λ (l : ℕ). PathAhead p c t nodes (node j l) n) last path))
-  to_leaving (suc d) j k n nodes is path =
-      let on = onward nodes (node j k) (node j (k + 1)) n (nominal p j k) path (job_arc j k (omega (arith, is))) in
-      let more = sum_by-drop_more (λ (s : Step). s.nominal) (route p j) k no_step (omega (arith, is)) in
-      let found = to_leaving d j (k + 1) (n + nominal p j k) (nodes ++ node j (k + 1) ∷ []) (omega (arith, is)) on in
-      let long : n + nominal p j k + route_work (drop (k + 1) (route p j)) ≡ n + route_work (drop k (route p j)) = omega (arith, more) in
-      (found.0, subst (λ (m : ℕ). PathAhead p c t found.0 (leaving p j) m) long found.1)
+  -- some path ahead to the node is at least n long
+  record HasPathAhead (v : Node) (n : ℕ) : Type 0 where
+    nodes : List Node
+    size : ℕ
+    path : PathAhead p c t nodes v size
+    long : n ≤ size
+
+  shorter : (v : Node) (n k : ℕ) → HasPathAhead v n → k ≤ n → HasPathAhead v k
+  shorter v n k found less = record { nodes = found.nodes; size = found.size; path = found.path; long = omega (arith, found.long, less) }
+
+  further : (u v : Node) (n d : ℕ) → HasPathAhead u n → Arc p u v d → HasPathAhead v (n + d)
+  further u v n d found arc = record {
+    nodes = found.nodes ++ v ∷ [];
+    size = found.size + d;
+    path = onward found.nodes u v found.size d found.path arc;
+    long = omega (arith, found.long);
+  }
 
   -- some path ahead to the leaving of a job that isn't gone is as long as its bound
-  bound_path : (j : ℕ) → IsWellShaped p → IsSound p c → j < jobs p → made c j ≤ steps p j → (nodes : List Node) × PathAhead p c t nodes (leaving p j) (later_than t (due_of_job p j (job_in c j)) + route_work (drop (made c j) (route p j)))
+  bound_path : (j : ℕ) → IsWellShaped p → IsSound p c → j < jobs p → made c j ≤ steps p j → HasPathAhead (leaving p j) (out_alone (times_of p) j (made c j) (later_than t (due_of_job p j (job_in c j))))
   bound_path j shaped sound inside here =
       let first = later_than t (due_of_job p j (job_in c j)) in
       let begun = next_path p c t shaped sound (next_node c j) first (record { job = inside; place = here }) refl (later_is t (due_of_job p j (job_in c j))) in
-      to_leaving (steps p j - made c j) j (made c j) first (next_node c j ∷ []) (omega (arith, here)) begun
+      to_out p HasPathAhead shorter further shaped j (made c j) first here (record { nodes = next_node c j ∷ []; size = first; path = begun; long = omega arith })
 
 -- so no plan has the job out before
 pub bound_le : (t : Case) (p : PlannedShop) (j n : ℕ) → IsRooted t → IsPlanOf t p → j < job_count t → is_waiting (times_in t) t.past j ≡ true → IsOutWithin t.past p j n → bound_in (times_in t) t.past j ≤ n
@@ -132,7 +134,7 @@ bound_le t p j n rooted plan inside waits out = go t.past rooted plan.keeps wait
         let le : made c j ≤ steps p j = leb-true (made c j) (steps p j) there in
         let found = bound_path p c present j plan.shaped sound here le in
         let bound : bound_in (times_of p) (run_to base c present) j ≡ bound_in (times_in t) (run_to base c present) j = ap (λ (s : ShopTimes). bound_in s (run_to base c present) j) plan.same in
-        omega (arith, bound, is found.0 _ found.1)
+        omega (arith, bound, found.long, is found.nodes found.size found.path)
 
 -- ---- what a value says
 

@@ -1,16 +1,12 @@
 -- Settings, and plans that are kept in them.
-use Rattle.std.proofs.Common.{◌≡◌, ◌↔◌, IsTrue, Bool, true, ℕ, ◌-◌, ◌<◌, ◌≤◌, ◌⊎◌, inl, inr, false, List, take, drop, length, set, Option, None, Some, arith, refl, sym, ap, subst, ◌∙◌, true≢false}
+use Rattle.std.proofs.Common.{◌≡◌, ◌↔◌, IsTrue, Bool, true, ℕ, ◌<◌, ◌≤◌, ◌⊎◌, inl, inr, false, List, length, set, Option, None, Some, arith, refl, sym, ap, subst, ◌∙◌, true≢false}
 use Rattle.std.specs.Prelude.{Result, Ok, Err, IfOk, IfSome}
 use Rattle.std.proofs.lemmas.Bool.{cases_lt}
-use Rattle.std.proofs.lemmas.List.{length-set, take_all, length-drop}
-use Rattle.std.proofs.lemmas.List.Sums.{sum_by-take-drop}
+use Rattle.std.proofs.lemmas.List.{length-set}
 use Rattle.shop_base.specs.declared.node.Node.{Node}
 use Rattle.shop_base.specs.declared.limits.TheConstants.{MAX_MOMENT}
-use Rattle.shop_base.specs.declared.shop.Step.{Step}
-use Rattle.shop_base.specs.Work.{route_work}
-use Rattle.shop_base.specs.Plan.{PlannedShop, jobs, machines, steps, route, IsWellShaped}
+use Rattle.shop_base.specs.Plan.{PlannedShop, jobs, steps, IsWellShaped}
 use Rattle.shop_base.specs.Cell.{Cell, made, since, IsGone}
-use Rattle.shop_base.proofs.Bounds.{route_work-le}
 use Rattle.shop_base.specs.Graph.{leaving}
 use Rattle.shop_base.specs.Ahead.{PathAhead}
 use Rattle.cell_tables.specs.{Kept.KeepsSoFar, Recasts.IsRecast, Rests.IsReached}
@@ -111,14 +107,6 @@ gone_setting s objective j inside not which = go s.is_whole refl not
 pub freed_length : (free : Option ℕ) (budget : List ℕ) → length (freed free budget) ≡ length budget
 freed_length None budget = refl
 freed_length (Some j) budget = length-set budget j MAX_MOMENT
-
--- the nominal times of a part of a route
-pub work_rest : (p : PlannedShop) (j k : ℕ) → IsWellShaped p → j < jobs p
-    → (route_work (take (length (route p j) - k) (drop k (route p j))) ≡ route_work (drop k (route p j))) × (route_work (drop k (route p j)) ≤ 100000000)
-work_rest p j k shaped inside = (
-  ap route_work (take_all (length (route p j) - k) (drop k (route p j)) (omega (arith, length-drop k (route p j)))),
-  omega (arith, route_work-le (machines p) (route p j) (shaped.shop.routes j inside), shaped.shop.counts.few_machines, sum_by-take-drop (λ (s : Step). s.nominal) (route p j) k),
-)
 
 -- all that was done keeps the plan by which it was done
 kept_own : (p : PlannedShop) (c : Cell) → IsWellShaped p → IsReached p c → KeepsSoFar p c p

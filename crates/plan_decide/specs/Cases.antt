@@ -1,17 +1,16 @@
 -- Of which plans is asked: of whole plans with given numbers, or of those that go on with a run from a present moment on.
-use Rattle.std.specs.Prelude.{◌≡◌, ℕ, ◌+◌, ◌<◌, ◌≤◌, ◌⊎◌, Bool, true, nat_le, List, length, drop, slice_index, slice_set}
+use Rattle.std.specs.Prelude.{◌≡◌, ℕ, ◌<◌, ◌≤◌, ◌⊎◌, Bool, true, nat_le, List, length, slice_index, slice_set}
 use Rattle.shop_base.specs.declared.node.Node.{Node}
 use Rattle.shop_base.specs.Plan.{PlannedShop, jobs, IsWellShaped}
 use Rattle.shop_base.specs.Cell.{Cell, job_in, made, since, IsGone}
 use Rattle.shop_base.specs.Movers.{due_of_job}
-use Rattle.shop_base.specs.Work.{route_work}
 use Rattle.shop_base.specs.Graph.{leaving}
 use Rattle.shop_base.specs.Ahead.{PathAhead}
 use Rattle.plan_verifier.specs.Accepted.{IsGreatest, IsMakespan, IsAcceptable}
 use Rattle.plan_verifier.specs.Held.{later_than}
 use Rattle.plan_verifier.specs.Rest.{IsGreatestAhead}
 use Rattle.plan_verifier.specs.RestVerdicts.{IsAcceptableAhead}
-use Rattle.plan_bounds.specs.Bounds.{ShopTimes, times_of, route_in, job_bound}
+use Rattle.plan_bounds.specs.Bounds.{ShopTimes, times_of, route_in, out_alone, job_bound}
 use Rattle.plan_limits.specs.Stages.{bare}
 use Rattle.plan_limits.specs.Limits.{IsOutBy}
 use Rattle.plan_seek.specs.Tasks.{PlanTask}
@@ -67,10 +66,10 @@ abbrev pub is_waiting : ShopTimes → Past → ℕ → Bool
 is_waiting t nothing j = true
 is_waiting t (run_to base c present) j = nat_le (made c j) (length (route_in t j))
 
--- job j's bound: its release and its nominal times; or, where something has happened, the present moment, or that at which what goes on with it is due, if that is later, and the nominal times of the steps that it hasn't entered
+-- job j's bound, the least moment at which it can leave alone: from the start; or, where something has happened, where it is ready for its next move at the present moment, or at that at which what goes on with it is due, if that is later
 abbrev pub bound_in : ShopTimes → Past → ℕ → ℕ
 bound_in t nothing j = job_bound t j
-bound_in t (run_to base c present) j = later_than present (due_of_job (bare t) j (job_in c j)) + route_work (drop (made c j) (route_in t j))
+bound_in t (run_to base c present) j = out_alone t j (made c j) (later_than present (due_of_job (bare t) j (job_in c j)))
 
 module _ (t : Case) where
   -- the number of jobs

@@ -1,16 +1,16 @@
 -- The setting of a question: the rest of a run, and whose promises are asked for.
-use Rattle.std.specs.Prelude.{◌≡◌, ℕ, ◌+◌, ◌<◌, Bool, true, false, ◌↔◌, IsTrue, List, drop, slice_set, Option, None, Some}
+use Rattle.std.specs.Prelude.{◌≡◌, ℕ, ◌<◌, Bool, true, false, ◌↔◌, IsTrue, List, slice_set, Option, None, Some}
 use Rattle.shop_base.specs.declared.limits.TheConstants.{MAX_MOMENT}
-use Rattle.shop_base.specs.Plan.{PlannedShop, jobs, route, IsWellShaped}
+use Rattle.shop_base.specs.Plan.{PlannedShop, jobs, IsWellShaped}
 use Rattle.shop_base.specs.Cell.{Cell, job_in, made, ready}
 use Rattle.shop_base.specs.Movers.{due_of_job}
-use Rattle.shop_base.specs.Work.{route_work}
 use Rattle.shop_base.specs.Report.{IsNextMoment}
 use Rattle.cell_tables.specs.{Kept.KeepsSoFar, Rests.IsReached}
 use Rattle.alt_graph.specs.Times.{NodeTimes}
 use Rattle.plan_verifier.specs.RestVerdicts.{IsAcceptableAhead}
 use Rattle.plan_verifier.specs.Held.{later_than}
 use Rattle.plan_verifier.specs.Rest.{AreOrderedAhead}
+use Rattle.plan_bounds.specs.Bounds.{times_of, out_alone}
 use Rattle.plan_decide.specs.declared.aim.Aim.{Aim}
 use Rattle.plan_decide.specs.declared.aim.Aim.TheVariants.{Promises, Least}
 use Rattle.plan_decide.specs.declared.aim.Objective.TheVariants.{Makespan, Leaving}
@@ -78,7 +78,7 @@ FitsPast (run_to base c present) (Rest shaped times) = AreOrderedAhead shaped c 
 
 -- the bound of a job that isn't gone
 abbrev pub bound_ahead : PlannedShop → Cell → ℕ → ℕ → ℕ
-bound_ahead p c present j = later_than present (due_of_job p j (job_in c j)) + route_work (drop (made c j) (route p j))
+bound_ahead p c present j = out_alone (times_of p) j (made c j) (later_than present (due_of_job p j (job_in c j)))
 
 -- this plan is accepted, and kept
 pub record IsKeptAs (past : Past) (p : PlannedShop) (kept : Kept) : Type 0 where

@@ -11,7 +11,7 @@ pub(crate) fn copy_shop(alloc: Global, shaped: &Shaped) -> Result<Shop, AllocErr
     ensures { IfOk result (λ copy. copy ≡ shaped.now.shop) }
 {
     let routes = copy_routes(alloc, shaped)?;
-    match Shop::new(shaped.machine_count(), routes) {
+    match Shop::of_kind(shaped.machine_count(), routes, shaped.shop().recirculates()) {
         Ok(shop) => Ok(shop),
         Err(_) => unreachable!(),
     }

@@ -42,8 +42,8 @@ pub(crate) enum Found {
 
 /// Decides whether any plan with the numbers of this one is accepted, whatever its orders; those that it has aren't
 /// used. This is the rest of a run that hasn't begun, and is decided as such. A job whose budget is `MAX_MOMENT` has no
-/// promise. Each search makes at most so many choices: a pair of jobs on a machine that is decided one way and, where
-/// that fails, the other, is one. The chooser and the watch need not be trusted.
+/// promise. Each search makes at most so many choices: a pair of two jobs' visits to a machine that is decided one way
+/// and, where that fails, the other, is one. The chooser and the watch need not be trusted.
 ///
 /// Where all promises together can't be kept, they exclude each other: each job that its bound excludes is listed,
 /// before anything is searched; then each pair of others, where these are at most `PAIRED_JOBS`; and where nothing is
@@ -80,10 +80,10 @@ pub fn decide<C: Choose, W: Watch>(
 
 /// Decides the same of the rest of a run: of all plans with the releases and cleaning times of its plan that what has
 /// happened keeps. Entries that were made stay, and jobs that are gone aren't asked for. What goes on ends when it is
-/// due, and what is overdue at the present moment. The bound of a job is then that moment, or the one at which what goes
-/// on with it is due, and its nominal times from there on. It is asked first whether any of these plans is without a
-/// cycle: this one, or else one that a search finds; and each promised job is asked for alone, by at most `PAIR_CHOICES`
-/// choices, before all of them are.
+/// due, and what is overdue at the present moment. The bound of a job is then the least moment at which it can leave
+/// alone, ready for its next move at that moment, or at the one at which what goes on with it is due. It is asked first
+/// whether any of these plans is without a cycle: this one, or else one that a search finds; and each promised job is
+/// asked for alone, by at most `PAIR_CHOICES` choices, before all of them are.
 pub fn decide_rest<P: Planned, C: Choose, W: Watch>(
     alloc: Global,
     rest: &Rest<P>,

@@ -1,8 +1,7 @@
 //! What is asked about: the rest of a run, of which a whole plan is the start, and whose promises are asked for.
 
-ghost use Rattle.std.specs.Prelude.{◌≡◌, ◌*◌, ◌^◌, ◌<◌, ◌≤◌, drop, slice_set, IfOk};
-ghost use Rattle.shop_base.specs.{declared.limits.TheConstants.MAX_MOMENT, Plan.jobs, Plan.route, Cell.made};
-ghost use Rattle.shop_base.specs.Work.{route_work};
+ghost use Rattle.std.specs.Prelude.{◌≡◌, ◌<◌, ◌≤◌, slice_set, IfOk};
+ghost use Rattle.shop_base.specs.{declared.limits.TheConstants.MAX_MOMENT, Plan.jobs};
 ghost use Rattle.plan_decide.specs.Cases.{is_waiting, times_in, budget_in, bound_in};
 ghost use Rattle.plan_decide.specs.{Promises.asked_for, Pasts.HoldsFrom};
 ghost use Rattle.plan_decide.specs.Settings.{IsSet, case_in, free_in, bound_ahead};
@@ -11,10 +10,10 @@ use crate::aim::{Aim, Objective};
 use crate::begun::has_not_begun;
 use crate::copying::copy_moments;
 use cell_tables::{Rest, WorkCell};
-use plan_bounds::job_bound;
+use plan_bounds::{job_bound, out_alone};
 use plan_verifier::later;
 use shop_base::limits::MAX_MOMENT;
-use shop_base::{JobNo, Moment, Planned, Step};
+use shop_base::{JobNo, Moment, Planned};
 use std::alloc::{AllocError, Global};
 use std::marker::Model;
 
@@ -170,39 +169,16 @@ pub(crate) fn bound_of_job<P: Planned>(setting: &Setting<'_, P>, job: JobNo) -> 
     rest_bound(setting.cell(), setting.present(), job)
 }
 
-/// The bound of a job that isn't gone: the present moment, or that at which what goes on with it is due, and the
-/// nominal times of the steps that it hasn't entered.
+/// The bound of a job that isn't gone: the least moment at which it can leave alone, if it is ready for its next move at
+/// the present moment, or at that at which what goes on with it is due.
 fn rest_bound<P: Planned>(cell: &WorkCell<P>, present: Moment, job: JobNo) -> Moment
     requires job { job < jobs cell.now.plan }
     requires in_range { present ≤ MAX_MOMENT }
     ensures { result ≡ bound_ahead cell.now.plan cell.now.cell present job }
 {
-    let begun = match cell.job_due(job) {
+    let ready = match cell.job_due(job) {
         Some(due) => later(present, due),
         None => present,
     };
-    begun + work_left(cell, job)
-}
-
-/// The nominal times of the steps that the job hasn't entered.
-fn work_left<P: Planned>(cell: &WorkCell<P>, job: JobNo) -> Moment
-    requires { job < jobs cell.now.plan }
-    ensures work { let p = cell.now.plan in result ≡ route_work (drop (made cell.now.cell job) (route p job)) }
-    ensures few { result ≤ 100 * 1000000 }
-{
-    let route = cell.shaped().route_of(job);
-    let made = cell.job_state(job).made as usize;
-    if made < route.len() {
-        work(&route[made..])
-    } else {
-        0
-    }
-}
-
-/// The nominal times of these steps, together.
-fn work(steps: &[Step]) -> Moment
-    requires { route_work steps.now < 2 ^ 64 }
-    ensures { result ≡ route_work steps.now }
-{
-    steps.iter().map(|step| step.nominal).sum()
+    out_alone(cell.shaped(), job, cell.job_state(job).made, ready)
 }

@@ -1,7 +1,7 @@
 -- The question for some nodes is sound, and all moments that are looked for answer it.
 use Rattle.std.proofs.Common.{◌≡◌, ℕ, ◌<◌, ◌≤◌, List, length, Option, arith, sym, ◌∙◌, subst}
 use Rattle.shop_base.specs.declared.node.Node.{Node}
-use Rattle.shop_base.specs.Plan.{PlannedShop, IsWellShaped}
+use Rattle.shop_base.specs.Plan.{PlannedShop}
 use Rattle.shop_base.specs.Cell.{Cell}
 use Rattle.arc_choice.specs.declared.question.Question.{Question}
 use Rattle.arc_choice.specs.declared.exploring.Outcome.{Outcome}
@@ -16,7 +16,7 @@ use Rattle.plan_limits.specs.Asked.{by_number, AreNumbered, AreFirst, AreLast, A
 use Rattle.plan_limits.proofs.KeptArcs.{IsKeptArc, IsKeptPair, fixed_arc, machine_pair}
 use Rattle.plan_limits.proofs.Farthest.{every_plan_gives_moments-holds}
 
-module _ (p : PlannedShop) (c : Cell) (t : ℕ) (shaped : IsWellShaped p) (nodes : List Node) (limits : List (Option ℕ)) (q : Question)
+module _ (p : PlannedShop) (c : Cell) (t : ℕ) (nodes : List Node) (limits : List (Option ℕ)) (q : Question)
     (numbered : AreNumbered (times_of p) c nodes) (few : length nodes ≤ MAX_NODES) (count : length q.first.items ≡ length nodes) (counts : length q.last.items ≡ length nodes)
     (firsts : AreFirst (stage_of p c t) nodes q.first.items) (lasts : AreLast (stage_of p c t) nodes limits q.last.items)
     (arcs : AreFixedArcs (times_of p) c nodes q.arcs.items) (pairs : AreMachinePairs (times_of p) nodes q.pairs.items) where
@@ -24,7 +24,7 @@ module _ (p : PlannedShop) (c : Cell) (t : ℕ) (shaped : IsWellShaped p) (nodes
   arc a within = fixed_arc (stage_of p c t) nodes q.arcs.items a numbered arcs within
 
   abbrev pair : (a : ℕ) → a < length q.pairs.items → IsKeptPair (stage_of p c t) nodes (pair_at q a)
-  pair a within = machine_pair p c t nodes (pair_at q a) shaped numbered (pairs a within)
+  pair a within = machine_pair (stage_of p c t) nodes (pair_at q a) numbered (pairs a within)
 
   pub question_sound : IsSoundQuestion q
   question_sound = record {

@@ -1,5 +1,5 @@
 -- Moments in fine units that keep every arc ahead: of two jobs on one machine, one has left before the other enters.
-use Rattle.std.proofs.Common.{◌≡◌, ◌≢◌, ℕ, zero, suc, ◌+◌, ◌-◌, ◌*◌, ◌^◌, ◌<◌, ◌≤◌, ◌⊎◌, inl, inr, length, Some, arith, refl, subst}
+use Rattle.std.proofs.Common.{◌≡◌, ◌≢◌, ℕ, zero, suc, ◌+◌, ◌-◌, ◌*◌, ◌^◌, ◌<◌, ◌≤◌, ◌⊎◌, inl, inr, length, Some, arith, subst}
 use Rattle.std.proofs.lemmas.Bool.{cases_order, cases_lt}
 use Rattle.shop_base.specs.declared.node.Node.{Node}
 use Rattle.shop_base.specs.Plan.{PlannedShop, jobs, steps, order, job_at, clean, Visits, Stands, IsOrder, IsWellShaped}
@@ -8,7 +8,7 @@ use Rattle.shop_base.specs.Movers.{due_of_job, due_of_cleaning}
 use Rattle.shop_base.specs.Sound.{IsSound}
 use Rattle.shop_base.specs.Graph.{node, Arc, job_arc, blocking_arc}
 use Rattle.shop_base.specs.Ahead.{IsAhead, next_node}
-use Rattle.shop_base.proofs.Visits.{visits-stands, visits-order, stands_same}
+use Rattle.shop_base.proofs.Visits.{visits-stands, visits-order, stands_same, stands_step, stands_in_turn}
 use Rattle.plan_bounds.specs.Bounds.{times_of, IsVisit}
 use Rattle.plan_verifier.specs.Held.{later_than}
 use Rattle.plan_limits.specs.declared.moments.TheConstants.{FINE}
@@ -69,7 +69,18 @@ module _ (p : PlannedShop) (c : Cell) (shaped : IsWellShaped p) (sound : IsSound
         | inr (inr more) ↦ inr (later m b a j l i k is more second first (omega (arith, there)))
       ]
 
-  -- one that is on it has left before any other enters
+  -- a job that enters a machine again has left it before
+  left_again : (m j k l : ℕ) → k < l → Visits p j k m → Visits p j l m → made c j ≤ k → Leaves m j k j l
+  left_again m j k l less one other ahead = go (visits-stands p j k m shaped one) (visits-stands p j l m shaped other)
+    where
+      go : (a : ℕ) × Stands p m a j k → (b : ℕ) × Stands p m b j l → Leaves m j k j l
+      go (a, first) (b, second) = elim (cases_order a b) [
+        | inl same ↦ absurd (omega (arith, less, stands_step p m b j k l (subst (λ (n : ℕ). Stands p m n j k) same first) second))
+        | inr (inl before) ↦ later m a b j k j l (visits-order p j k m shaped one) before first second (omega (arith, ahead))
+        | inr (inr behind) ↦ absurd (omega (arith, less, stands_in_turn p m b a j l k second first behind))
+      ]
+
+  -- one that is on it has left before it is entered again
   holder_before : (m i k j l : ℕ) → Visits p i k m → Visits p j l m → made c i ≡ k + 1 → made c j ≤ l → Leaves m i k j l
   holder_before m i k j l one other on there = go (visits-stands p i k m shaped one) (visits-stands p j l m shaped other)
     where
@@ -127,6 +138,7 @@ module _ (p : PlannedShop) (c : Cell) (shaped : IsWellShaped p) (sound : IsSound
     cleanings = λ m j l due visit ahead going_on. entry_after m (due * FINE) j l (as_visit m j l visit) ahead (λ i k stands. cleaned m i k due stands going_on);
     routes = λ j k ahead within. keeps (node j k) (node j (k + 1)) _ ahead (job_arc j k within);
     machines = λ m i k j l apart one other here there. one_before m i k j l apart (as_visit m i k one) (as_visit m j l other) here there;
+    again = λ m j k l less one other ahead. left_again m j k l less (as_visit m j k one) (as_visit m j l other) ahead;
     holders = λ m i k j l one other on there. holder_before m i k j l (as_visit m i k one) (as_visit m j l other) on there;
     small = small;
   }

@@ -1,7 +1,6 @@
 -- How many nodes a shop has at most: a number for each, by its job and its place.
 use Rattle.std.proofs.Common.{◌≡◌, ◌≢◌, ℕ, ◌+◌, ◌*◌, ◌/◌, ◌%◌, ◌<◌, ◌≤◌, List, length, map, get_or, true, false, arith, sym, ap, ◌∙◌, subst}
 use Rattle.std.proofs.Math.Dec.{eqb}
-use Rattle.std.proofs.Math.Nat.{mul-le-mul}
 use Rattle.std.specs.List.{list_any}
 use Rattle.std.proofs.lemmas.Bool.{ne_eqb, eqb-true}
 use Rattle.std.proofs.lemmas.Nat.{mul-add-lt, div-mul-add, mod-mul-add}
@@ -12,7 +11,7 @@ use Rattle.std.proofs.lemmas.Map.Steps.{length-le_from_distinct_below}
 use Rattle.shop_base.specs.declared.limits.TheConstants.{MAX_MACHINES}
 use Rattle.shop_base.proofs.Sizes.{steps_few}
 use Rattle.shop_base.specs.declared.node.Node.{Node}
-use Rattle.shop_base.specs.Plan.{PlannedShop, jobs, machines, route, steps, IsWellShaped}
+use Rattle.shop_base.specs.Plan.{PlannedShop, jobs, IsWellShaped}
 use Rattle.shop_base.specs.Graph.{node, AreDistinct, IsNode}
 use Rattle.alt_graph.specs.Places.{node_at}
 use Rattle.alt_graph.proofs.NodeLists.{distinct_at}

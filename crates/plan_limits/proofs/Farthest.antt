@@ -249,7 +249,7 @@ module _ (p : PlannedShop) (c : Cell) (t : ℕ) (shaped : IsWellShaped p) (sound
 
     cleaned_small : (v : Node) (due : ℕ) → cleaned_at p c v ≡ Some due → due ≤ MAX_MOMENT + MAX_RELEASE
     cleaned_small v due comes_due =
-        let (m, going_on, holds) = cleaned_holds p c v due shaped comes_due in
+        let (m, going_on, holds) = cleaned_holds p c v due comes_due in
         omega (arith, going_on.1.is_due, timed.cleanings m going_on.0 going_on.1.is_cleaned, shaped.limits.cleanings m (visits_machine p v.job v.place m shaped holds.visits))
 
     start_small : (v : Node) → IsNode p v → IsAhead c v → start v ≤ (MAX_MOMENT + MAX_RELEASE) * FINE

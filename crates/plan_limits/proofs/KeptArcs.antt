@@ -1,22 +1,20 @@
--- The arcs of routes, and one of each pair of a machine, are kept by all moments that are looked for.
-use Rattle.std.proofs.Common.{◌≡◌, ◌≢◌, ℕ, ◌+◌, ◌*◌, ◌<◌, ◌≤◌, ◌⊎◌, inl, inr, List, [], ◌∷◌, ◌++◌, length, slice_index_or, arith, refl, sym, ap, subst}
+-- The arcs of routes, those behind jobs that leave machines, and one of each pair of a machine, are kept by all moments that are looked for.
+use Rattle.std.proofs.Common.{◌≡◌, ℕ, ◌+◌, ◌-◌, ◌*◌, ◌<◌, ◌⊎◌, inl, inr, List, [], ◌∷◌, ◌++◌, length, slice_index_or, arith, refl, sym, ap, subst}
 use Rattle.shop_base.specs.declared.node.Node.{Node}
-use Rattle.shop_base.specs.Plan.{PlannedShop, clean, Visits, IsWellShaped}
+use Rattle.shop_base.specs.Plan.{clean_in}
 use Rattle.shop_base.specs.Cell.{Cell}
 use Rattle.shop_base.specs.Graph.{node}
-use Rattle.shop_base.proofs.OneVisit.{visits_once}
-use Rattle.alt_graph.specs.Evidence.{IsNodeBefore}
 use Rattle.alt_graph.specs.Places.{node_at}
 use Rattle.alt_graph.proofs.NodeNumbers.{node_same}
 use Rattle.arc_choice.specs.declared.question.Arc.{Arc}
 use Rattle.arc_choice.specs.declared.question.Pair.{Pair}
 use Rattle.arc_choice.specs.Choices.{Keeps, KeepsOne, IsArc, no_arc}
-use Rattle.plan_bounds.specs.Bounds.{ShopTimes, times_of, IsVisit}
+use Rattle.plan_bounds.specs.Bounds.{ShopTimes, IsVisit}
 use Rattle.plan_limits.specs.declared.moments.TheConstants.{FINE}
-use Rattle.plan_limits.specs.Stages.{Stage, stage_of}
-use Rattle.plan_limits.specs.LimitsLaw.{AreFineMoments}
-use Rattle.plan_limits.specs.Asked.{by_number, pair_between, AreNumbered, IsFollowed, IsRouteArc, IsHolderArc, AreFixedArcs, IsEntry, IsMachinePair}
-use Rattle.plan_limits.proofs.Numbered.{pushed, followed_by}
+use Rattle.plan_limits.specs.Stages.{Stage}
+use Rattle.plan_limits.specs.LimitsLaw.{LeavesBefore, AreFineMoments}
+use Rattle.plan_limits.specs.Asked.{by_number, pair_between, AreNumbered, IsFollowed, IsRouteArc, IsHolderArc, IsAgainArc, IsFixedArc, AreFixedArcs, IsMachinePair}
+use Rattle.plan_limits.proofs.Numbered.{pushed, followed_by, followed_on}
 
 -- an arc that the moments keep
 pub record IsKeptArc (s : Stage) (nodes : List Node) (arc : Arc) : Type 0 where
@@ -54,51 +52,67 @@ holder_arc s nodes arc are a = subst (IsKeptArc s nodes) (sym a.is) (record {
       ));
 })
 
+-- and those to where a job enters a machine again
+pub again_arc : (s : Stage) (nodes : List Node) (arc : Arc) → AreNumbered s.times s.cell nodes → IsAgainArc s.times nodes arc → IsKeptArc s nodes arc
+again_arc s nodes arc are a = subst (IsKeptArc s nodes) (sym a.is) (record {
+  sound = record { from = next.within; to = there.0; long = omega arith };
+  keeps = λ w fine. omega (
+    arith,
+    fine.again a.machine v.job v.place a.place a.next.behind a.visit a.next.visit (are.inside a.number a.inside).ahead,
+    ap w next.next,
+    ap w there.1,
+    ap (λ (l : ℕ). w (node v.job l)) at,
+  );
+})
+  where
+    v : Node
+    v = node_at nodes a.number
+
+    at : v.place + (a.place - v.place) ≡ a.place
+    at = omega (arith, a.next.behind)
+
+    next : IsFollowed nodes a.number
+    next = followed_by s.times s.cell nodes a.number are a.inside a.visit.within
+
+    there : (a.number + (a.place - v.place) < length nodes) × (node_at nodes (a.number + (a.place - v.place)) ≡ node v.job (v.place + (a.place - v.place)))
+    there = followed_on s.times s.cell nodes a.number (a.place - v.place) are a.inside (omega (arith, at, a.next.visit.within))
+
 -- so all that are decided
 pub fixed_arc : (s : Stage) (nodes : List Node) (arcs : List Arc) (n : ℕ) → AreNumbered s.times s.cell nodes → AreFixedArcs s.times s.cell nodes arcs → n < length arcs → IsKeptArc s nodes (slice_index_or arcs n no_arc)
 fixed_arc s nodes arcs n are fixed within = elim (fixed n within) [
   | inl route ↦ route_arc s nodes (slice_index_or arcs n no_arc) are route
-  | inr holder ↦ holder_arc s nodes (slice_index_or arcs n no_arc) are holder
+  | inr (inl holder) ↦ holder_arc s nodes (slice_index_or arcs n no_arc) are holder
+  | inr (inr again) ↦ again_arc s nodes (slice_index_or arcs n no_arc) are again
 ]
 
--- two entries of a machine
-module _ (p : PlannedShop) (c : Cell) (t : ℕ) (shaped : IsWellShaped p) (nodes : List Node) (are : AreNumbered (times_of p) c nodes) (m e n : ℕ)
-    (one : IsEntry (times_of p) nodes m n e) (other : IsEntry (times_of p) nodes m (n + 1) n) where
-  as_visit : (v : Node) → IsVisit (times_of p) m v.job v.place → Visits p v.job v.place m
-  as_visit v visit = record { within = visit.within; here = visit.here }
+-- one of the two arcs between two entries of a machine, of two jobs
+pub machine_pair : (s : Stage) (nodes : List Node) (pair : Pair) → AreNumbered s.times s.cell nodes → IsMachinePair s.times nodes pair → IsKeptPair s nodes pair
+machine_pair s nodes pair are a = subst (IsKeptPair s nodes) (sym a.is) (record {
+  one = record { from = (next e a.earlier.inside a.earlier.visit).within; to = a.later.inside; long = omega arith };
+  other = record { from = (next n a.later.inside a.later.visit).within; to = a.earlier.inside; long = omega arith };
+  keeps = λ w fine. go w (fine.machines a.machine u.job u.place v.job v.place a.apart a.earlier.visit a.later.visit (are.inside e a.earlier.inside).ahead (are.inside n a.later.inside).ahead);
+})
+  where
+    e : ℕ
+    e = a.one
 
-  -- they are of two jobs, since a job visits a machine once
-  apart : (node_at nodes e).job ≢ (node_at nodes n).job
-  apart same = go (are.sorted e n one.earlier other.inside)
-    where
-      go : IsNodeBefore (node_at nodes e) (node_at nodes n) → ⊥
-      go (inl less) = omega (arith, less, same)
-      go (inr (_, less)) =
-          let twice : Visits p (node_at nodes n).job (node_at nodes e).place m = subst (λ (j : ℕ). Visits p j (node_at nodes e).place m) same (as_visit (node_at nodes e) one.visit) in
-          omega (arith, less, visits_once p (node_at nodes n).job _ _ m shaped twice (as_visit (node_at nodes n) other.visit))
+    n : ℕ
+    n = a.other
 
-  next : (x b : ℕ) → IsEntry (times_of p) nodes m b x → IsFollowed nodes x
-  next x b entry = followed_by (times_of p) c nodes x are entry.inside entry.visit.within
+    u : Node
+    u = node_at nodes e
 
-  -- so one of the two arcs between them is kept
-  one_kept : IsKeptPair (stage_of p c t) nodes (pair_between e n (clean p m * FINE + 1))
-  one_kept = record {
-    one = record { from = (next e n one).within; to = other.inside; long = omega arith };
-    other = record { from = (next n (n + 1) other).within; to = one.inside; long = omega arith };
-    keeps = λ w fine. go w (fine.machines m (node_at nodes e).job (node_at nodes e).place (node_at nodes n).job (node_at nodes n).place apart one.visit other.visit (are.inside e one.inside).ahead (are.inside n other.inside).ahead);
-  }
-    where
-      go : (w : Node → ℕ)
-          → (w (node (node_at nodes e).job ((node_at nodes e).place + 1)) + (clean p m * FINE + 1) ≤ w (node_at nodes n))
-          ⊎ (w (node (node_at nodes n).job ((node_at nodes n).place + 1)) + (clean p m * FINE + 1) ≤ w (node_at nodes e))
-          → KeepsOne (by_number nodes w) (pair_between e n (clean p m * FINE + 1))
-      go w (inl before) = inl (omega (arith, before, ap w (next e n one).next))
-      go w (inr after) = inr (omega (arith, after, ap w (next n (n + 1) other).next))
+    v : Node
+    v = node_at nodes n
 
--- the pairs of machines
-pub machine_pair : (p : PlannedShop) (c : Cell) (t : ℕ) (nodes : List Node) (pair : Pair) → IsWellShaped p → AreNumbered (times_of p) c nodes → IsMachinePair (times_of p) nodes pair → IsKeptPair (stage_of p c t) nodes pair
-machine_pair p c t nodes pair shaped are a = subst (IsKeptPair (stage_of p c t) nodes) (sym a.is) (one_kept p c t shaped nodes are a.machine a.one a.other a.earlier a.later)
+    next : (x : ℕ) → x < length nodes → IsVisit s.times a.machine (node_at nodes x).job (node_at nodes x).place → IsFollowed nodes x
+    next x inside visit = followed_by s.times s.cell nodes x are inside visit.within
+
+    go : (w : Node → ℕ) → LeavesBefore s w a.machine u.job u.place v.job v.place ⊎ LeavesBefore s w a.machine v.job v.place u.job u.place
+        → KeepsOne (by_number nodes w) (pair_between e n (clean_in s.times.clean a.machine * FINE + 1))
+    go w (inl before) = inl (omega (arith, before, ap w (next e a.earlier.inside a.earlier.visit).next))
+    go w (inr after) = inr (omega (arith, after, ap w (next n a.later.inside a.later.visit).next))
 
 -- one more arc that is decided
-pub fixed_push : (t : ShopTimes) (c : Cell) (nodes : List Node) (arcs more : List Arc) (arc : Arc) → more ≡ arcs ++ arc ∷ [] → AreFixedArcs t c nodes arcs → IsRouteArc t nodes arc ⊎ IsHolderArc t c nodes arc → AreFixedArcs t c nodes more
-fixed_push t c nodes arcs more arc is before here = subst (AreFixedArcs t c nodes) (sym is) (pushed (λ n a. IsRouteArc t nodes a ⊎ IsHolderArc t c nodes a) arcs arc no_arc before here)
+pub fixed_push : (t : ShopTimes) (c : Cell) (nodes : List Node) (arcs more : List Arc) (arc : Arc) → more ≡ arcs ++ arc ∷ [] → AreFixedArcs t c nodes arcs → IsFixedArc t c nodes arc → AreFixedArcs t c nodes more
+fixed_push t c nodes arcs more arc is before here = subst (AreFixedArcs t c nodes) (sym is) (pushed (λ n a. IsFixedArc t c nodes a) arcs arc no_arc before here)

@@ -1,3 +1,4 @@
+mod ArcsAgain
 mod Between
 mod Counts
 mod Closed

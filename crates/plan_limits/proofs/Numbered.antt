@@ -1,5 +1,5 @@
 -- The nodes of jobs by number, as they are added one by one.
-use Rattle.std.proofs.Common.{◌≡◌, ℕ, ◌+◌, ◌<◌, ◌≤◌, ◌⊎◌, inl, inr, List, [], ◌∷◌, ◌++◌, length, get_or, arith, refl, sym, ap, ◌∙◌, subst}
+use Rattle.std.proofs.Common.{◌≡◌, ℕ, zero, suc, ◌+◌, ◌<◌, ◌≤◌, ◌⊎◌, inl, inr, List, [], ◌∷◌, ◌++◌, length, get_or, arith, refl, sym, ap, ◌∙◌, subst}
 use Rattle.std.proofs.lemmas.Bool.{cases_lt}
 use Rattle.std.proofs.lemmas.List.{get_or_append_left, get_or_push, length_push}
 use Rattle.shop_base.specs.declared.node.Node.{Node}
@@ -123,3 +123,22 @@ module _ (t : ShopTimes) (c : Cell) where
       go : IsFollowed nodes n ⊎ IsLast (job_count t) 0 nodes n → IsFollowed nodes n
       go (inl followed) = followed
       go (inr last) = absurd (omega (arith, last.place))
+
+  -- and so on, up to its leaving
+  pub followed_on : (nodes : List Node) (n d : ℕ) → AreNumbered t c nodes → n < length nodes → (node_at nodes n).place + d ≤ length (route_in t (node_at nodes n).job)
+      → (n + d < length nodes) × (node_at nodes (n + d) ≡ node (node_at nodes n).job ((node_at nodes n).place + d))
+  followed_on nodes n zero are within place =
+      let same : n + 0 ≡ n = omega arith in
+      (omega (arith, within), ap (node_at nodes) same ∙ node_same (node_at nodes n) (node (node_at nodes n).job ((node_at nodes n).place + 0)) refl (omega arith))
+  followed_on nodes n (suc d) are within place = go (followed_on nodes n d are within (omega (arith, place)))
+    where
+      v : Node
+      v = node_at nodes n
+
+      go : (n + d < length nodes) × (node_at nodes (n + d) ≡ node v.job (v.place + d)) → (n + suc d < length nodes) × (node_at nodes (n + suc d) ≡ node v.job (v.place + suc d))
+      go (inside, is) =
+          let more : (node_at nodes (n + d)).place < length (route_in t (node_at nodes (n + d)).job) = subst (λ (u : Node). u.place < length (route_in t u.job)) (sym is) (omega (arith, place)) in
+          let next = followed_by nodes (n + d) are inside more in
+          let number : n + suc d ≡ n + d + 1 = omega arith in
+          let place : v.place + d + 1 ≡ v.place + suc d = omega arith in
+          (omega (arith, next.within), ap (node_at nodes) number ∙ next.next ∙ ap (λ (u : Node). node u.job (u.place + 1)) is ∙ ap (node v.job) place)

@@ -1,5 +1,5 @@
 -- The nodes ahead of the jobs that are asked for, by number, and what is asked of their moments.
-use Rattle.std.specs.Prelude.{◌≡◌, ℕ, ◌+◌, ◌*◌, ◌^◌, ◌<◌, ◌≤◌, ◌⊎◌, List, [], length, slice_index, slice_index_or, Option, Some, Vec}
+use Rattle.std.specs.Prelude.{◌≡◌, ◌≢◌, ℕ, ◌+◌, ◌-◌, ◌*◌, ◌^◌, ◌<◌, ◌≤◌, ◌⊎◌, List, [], length, slice_index, slice_index_or, Contains, Option, Some, Vec}
 use Rattle.std.specs.declared.alloc.Global.{Global}
 use Rattle.shop_base.specs.declared.node.Node.{Node}
 use Rattle.shop_base.specs.Shop.{step_at}
@@ -72,7 +72,7 @@ module _ (t : ShopTimes) (c : Cell) where
     pub visit : IsVisit t m v.job place
     pub next : made c v.job ≡ v.place
 
-  -- the arc from the number by which a job leaves the machine that it is on to one by which another enters it, as long as its cleaning time
+  -- the arc from the number by which a job leaves the machine that it is on to one by which it is entered later, as long as its cleaning time
   pub record IsHolderArc (nodes : List Node) (arc : Arc) : Type 0 where
     pub machine : ℕ
     pub leaves : ℕ
@@ -95,6 +95,17 @@ module _ (s : Stage) (nodes : List Node) where
   abbrev pub Asks : List (Option ℕ) → Question → Type 0
   Asks limits q = (w : Node → ℕ) → AreFineMoments s w → LeaveWithin s limits w → Answers q (by_number nodes w)
 
+module _ (t : ShopTimes) (m : ℕ) (v : Node) where
+  -- the node's job enters machine m by its place l, and between the two by none
+  pub record IsNextVisit (l : ℕ) : Type 0 where
+    pub behind : v.place < l
+    pub visit : IsVisit t m v.job l
+    pub none : (k : ℕ) → v.place < k → k < l → IsVisit t m v.job k → ⊥
+
+  -- behind the node it doesn't enter it
+  abbrev pub HasNoNext : Type 0
+  HasNoNext = (k : ℕ) → v.place < k → IsVisit t m v.job k → ⊥
+
 module _ (t : ShopTimes) (nodes : List Node) where
   -- number e is one of the first n, and its job enters machine m there
   pub record IsEntry (m n e : ℕ) : Type 0 where
@@ -114,19 +125,42 @@ module _ (t : ShopTimes) (nodes : List Node) where
     pub place : (node_at nodes number).place < length (route_in t (node_at nodes number).job)
     pub is : arc ≡ record { from = number; to = number + 1; length = (step_at (route_in t (node_at nodes number).job) (node_at nodes number).place).nominal * FINE + 1 }
 
-  -- the two arcs between two entries of a machine, as long as its cleaning time
+  -- the arc from where a job leaves machine m, which it enters at a number, to its place l, as long as the machine's cleaning time
+  abbrev pub arc_again : ℕ → ℕ → ℕ → Arc
+  arc_again m number l = record { from = number + 1; to = number + (l - (node_at nodes number).place); length = clean_in t.clean m * FINE + 1 }
+
+  -- that to where the job enters the machine next
+  pub record IsAgainArc (arc : Arc) : Type 0 where
+    pub machine : ℕ
+    pub number : ℕ
+    pub place : ℕ
+    pub inside : number < length nodes
+    pub visit : IsVisit t machine (node_at nodes number).job (node_at nodes number).place
+    pub next : IsNextVisit t machine (node_at nodes number) place
+    pub is : arc ≡ arc_again machine number place
+
+  -- each of the first n numbers at which a job enters a machine that it enters again has it
+  abbrev pub HaveArcsAgain : ℕ → List Arc → Type 0
+  HaveArcsAgain n arcs = (m number l : ℕ) → number < n → IsVisit t m (node_at nodes number).job (node_at nodes number).place → IsNextVisit t m (node_at nodes number) l → Contains arcs (arc_again m number l)
+
+  -- the two arcs between two entries of a machine, of two jobs, as long as its cleaning time
   pub record IsMachinePair (pair : Pair) : Type 0 where
     pub machine : ℕ
     pub one : ℕ
     pub other : ℕ
     pub earlier : IsEntry machine other one
     pub later : IsEntry machine (other + 1) other
+    pub apart : (node_at nodes one).job ≢ (node_at nodes other).job
     pub is : pair ≡ pair_between one other (clean_in t.clean machine * FINE + 1)
 
-  -- each of these is one of two entries of a machine
+  -- each of these is one of two such entries
   abbrev pub AreMachinePairs : List Pair → Type 0
   AreMachinePairs pairs = (a : ℕ) → a < length pairs → IsMachinePair (slice_index_or pairs a no_pair)
 
--- each of these is one between two places of a job, or from a job that is on a machine to another's entry
+-- an arc between two places of a job, one from a job that is on a machine to a later entry, or one to where a job enters a machine again
+abbrev pub IsFixedArc : ShopTimes → Cell → List Node → Arc → Type 0
+IsFixedArc t c nodes arc = IsRouteArc t nodes arc ⊎ IsHolderArc t c nodes arc ⊎ IsAgainArc t nodes arc
+
+-- each of these is one
 abbrev pub AreFixedArcs : ShopTimes → Cell → List Node → List Arc → Type 0
-AreFixedArcs t c nodes arcs = (a : ℕ) → a < length arcs → IsRouteArc t nodes (slice_index_or arcs a no_arc) ⊎ IsHolderArc t c nodes (slice_index_or arcs a no_arc)
+AreFixedArcs t c nodes arcs = (a : ℕ) → a < length arcs → IsFixedArc t c nodes (slice_index_or arcs a no_arc)

@@ -16,11 +16,11 @@ use Rattle.plan_limits.specs.Stages.{Stage, bare, at_start, IsTimed, GoesOnFrom}
 use Rattle.plan_limits.specs.Limits.{limit_of, KeepsLimits, KeepsLimitsFrom, NoPlanKeeps, NoPlanKeepsFrom}
 
 module _ (s : Stage) where
-  -- of jobs i and j, the one has left machine m by the place behind its step k, and the machine is clean, when the other enters it by its step l; each arc takes one fine unit more than its length, so that also one without length takes some time
+  -- job i has left machine m by the place behind its step k, and the machine is clean, when job j enters it by its step l; each arc takes one fine unit more than its length, so that also one without length takes some time
   abbrev pub LeavesBefore : (Node → ℕ) → ℕ → ℕ → ℕ → ℕ → ℕ → Type 0
   LeavesBefore w m i k j l = w (node i (k + 1)) + (clean_in s.times.clean m * FINE + 1) ≤ w (node j l)
 
-  -- moments of the nodes ahead, in fine units and of 64 bits, that respect what goes on, each arc of a job, and of any two jobs on a machine one of the two arcs between them (Mascis and Pacciarelli, EJOR 143, 2002: a pair of alternative arcs)
+  -- moments of the nodes ahead, in fine units and of 64 bits, that respect what goes on, each arc of a job, and of any two visits to a machine one of the two arcs between them (Mascis and Pacciarelli, EJOR 143, 2002: a pair of alternative arcs)
   pub record AreFineMoments (w : Node → ℕ) : Type 0 where
     -- no job makes its next move before the present moment, or before what goes on with it is due: its arrival at its release
     pub next : (j : ℕ) → j < job_count s.times → made s.cell j ≤ length (route_in s.times j) → later_than s.present (due_of_job (bare s.times) j (job_in s.cell j)) * FINE ≤ w (next_node s.cell j)
@@ -28,7 +28,9 @@ module _ (s : Stage) where
     pub cleanings : (m j l due : ℕ) → IsVisit s.times m j l → made s.cell j ≤ l → due_of_cleaning (bare s.times) m (cleaning s.cell m) ≡ Some due → due * FINE ≤ w (node j l)
     pub routes : (j k : ℕ) → made s.cell j ≤ k → k < length (route_in s.times j) → w (node j k) + ((step_at (route_in s.times j) k).nominal * FINE + 1) ≤ w (node j (k + 1))
     pub machines : (m i k j l : ℕ) → i ≢ j → IsVisit s.times m i k → IsVisit s.times m j l → made s.cell i ≤ k → made s.cell j ≤ l → LeavesBefore w m i k j l ⊎ LeavesBefore w m j l i k
-    -- a job that is on the machine leaves it before any other enters
+    -- a job enters a machine again when it has left it
+    pub again : (m j k l : ℕ) → k < l → IsVisit s.times m j k → IsVisit s.times m j l → made s.cell j ≤ k → LeavesBefore w m j k j l
+    -- a job that is on the machine leaves it before it is entered again
     pub holders : (m i k j l : ℕ) → IsVisit s.times m i k → IsVisit s.times m j l → made s.cell i ≡ k + 1 → made s.cell j ≤ l → LeavesBefore w m i k j l
     pub small : (j k : ℕ) → j < job_count s.times → made s.cell j ≤ k → k ≤ length (route_in s.times j) → w (node j k) < 2 ^ 64
 

@@ -30,10 +30,10 @@ pub enum Answer {
 /// ends when it is due, and what is overdue at the present moment. From the cell at the start and moment 0 on that is
 /// any whole plan. A limit is a moment, in whole time units from moment 0; jobs without one aren't asked for. Of the
 /// plan's orders only the jobs that have entered are used, and its budgets aren't. At most so many choices are made: a
-/// pair of jobs on a machine that is decided one way and, where that fails, the other, is one. Where no job is asked
-/// for and none is in the cell, the orders are the serial ones behind the entries made. More than 1,024 nodes ahead (a
-/// job that is asked for or in the cell has one for each step and its leaving) or 16,384 pairs of such jobs on a
-/// machine are answered by `Open` at once. The error is out of memory.
+/// pair of two jobs' visits to a machine that is decided one way and, where that fails, the other, is one. Where no job
+/// is asked for and none is in the cell, the orders are the serial ones behind the entries made. More than 1,024 nodes
+/// ahead (a job that is asked for or in the cell has one for each step and its leaving) or 16,384 pairs of two such
+/// jobs' visits to a machine are answered by `Open` at once. The error is out of memory.
 pub fn ask<P: Planned, C: Choose>(
     alloc: Global,
     cell: &WorkCell<P>,

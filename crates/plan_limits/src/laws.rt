@@ -7,8 +7,8 @@ ghost use Rattle.plan_limits.specs.LimitsLaw.{EveryPlanGivesMoments, AcceptableP
 ghost use Rattle.plan_limits.specs.LimitsLaw.{NeverIsNeverAcceptedFromThere, TheStartIsEveryPlan};
 
 /// Every plan that goes on from a cell and keeps limits gives moments that respect what goes on and every arc of a job,
-/// by which, of any two jobs on a machine, one enters after the other has left and the machine is clean, and by which
-/// each job that has a limit and isn't gone leaves within it.
+/// by which, of any two visits to a machine, of one job too, one begins after the other has ended and the machine is
+/// clean, and by which each job that has a limit and isn't gone leaves within it.
 pub fn every_plan_gives_moments()
     ensures { EveryPlanGivesMoments }
 {}

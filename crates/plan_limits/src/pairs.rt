@@ -1,4 +1,4 @@
-//! The pairs of alternative arcs between two jobs on a machine.
+//! The pairs of alternative arcs between visits of two jobs to a machine.
 
 ghost use Rattle.std.specs.Prelude.{◌≡◌, ◌+◌, ◌<◌, ◌≤◌, IfOk, OnOk, length};
 ghost use Rattle.shop_base.specs.Plan.{IsWellShaped};
@@ -11,7 +11,7 @@ use arc_choice::{Arc, Pair};
 use shop_base::{Node, Shaped};
 use std::alloc::{AllocError, Global};
 
-/// A pair for each two of these jobs on each machine.
+/// A pair for each two visits to a machine that are of two of these jobs.
 pub(crate) fn machine_pairs(
     alloc: Global,
     shaped: &Shaped,
@@ -29,8 +29,8 @@ pub(crate) fn machine_pairs(
     Ok(pairs)
 }
 
-/// Adds the pairs of a node at which a job enters a machine with the entries of that machine that are noted, and notes
-/// it.
+/// Adds the pairs of a node at which a job enters a machine with the entries of that machine by other jobs that are
+/// noted, and notes it.
 fn add_pairs(
     shaped: &Shaped,
     nodes: &[Node],
@@ -51,7 +51,9 @@ fn add_pairs(
     };
     let length = shaped.clean_of(machine) * FINE + 1;
     for earlier in &entries[machine as usize] {
-        pairs.push(pair_of(*earlier, number, length))?;
+        if nodes[*earlier as usize].job != node.job {
+            pairs.push(pair_of(*earlier, number, length))?;
+        }
     }
     entries[machine as usize].push(number)?;
     Ok(())

@@ -17,7 +17,7 @@ use std::alloc::{AllocError, Global};
 /// The most nodes of the jobs that are asked for: a job has one for each step, and its leaving.
 pub(crate) const MAX_NODES: usize = 1_024;
 
-/// The most pairs of jobs that are asked for on a machine.
+/// The most pairs of visits to a machine, of two jobs that are asked for.
 pub(crate) const MAX_PAIRS: usize = 16_384;
 
 /// The question for these nodes. All moments that are looked for answer it, so `Never` is never wrong. A question from

@@ -1,121 +1,141 @@
 -- The serial plan is well shaped where its numbers are, and each machine takes its jobs in ascending order.
-use Rattle.std.proofs.Common.{◌≡◌, ℕ, zero, suc, ◌+◌, ◌<◌, ◌≤◌, List, [], ◌∷◌, Bool, true, false, cond, eqb, filter, length, get_or, refl, sym, ap, ◌∙◌, subst, inl, inr, arith}
-use Rattle.std.specs.List.{range_with_len}
-use Rattle.std.specs.List.Sorted.{IsStrictlyIncreasing}
-use Rattle.std.proofs.lemmas.Bool.{cases_lt, cases_order, eqb-true, eq-eqb, false≢true}
-use Rattle.std.proofs.lemmas.List.{get_or_default, get_or_past}
-use Rattle.std.proofs.lemmas.List.Elements.{filter_passes}
-use Rattle.std.proofs.lemmas.List.FromFn.{length-range_with_len, get_or-range_with_len, length-map-range_with_len, get_or-map-range_with_len}
-use Rattle.std.proofs.lemmas.List.Folds.{Any-from_list_any, list_any_at}
-use Rattle.std.proofs.lemmas.List.Kept.{IsStrictlyIncreasing-filter}
-use Rattle.std.proofs.lemmas.Map.Keys.{sorted_from_strictly_increasing, below_from_sorted}
-use Rattle.std.proofs.Math.Nat.{le_of_lt}
+use Rattle.std.proofs.Common.{◌≡◌, ℕ, zero, suc, ◌+◌, ◌<◌, ◌≤◌, List, [], ◌∷◌, ◌++◌, Bool, true, false, cond, nat_eq, length, get_or, take, replicate, refl, sym, ap, ◌∙◌, subst, inl, inr, eqb-true, eq-eqb, arith}
+use Rattle.std.specs.List.{range_with_len, count_by}
+use Rattle.std.proofs.lemmas.Bool.{cases_lt, cases_eq, ne_eqb}
+use Rattle.std.proofs.lemmas.List.{get_or_past}
+use Rattle.std.proofs.lemmas.List.FromFn.{length-map-range_with_len, get_or-map-range_with_len}
+use Rattle.std.proofs.lemmas.List.Sums.{count_by_more_yes, count_by_more_no}
+use Rattle.std.proofs.Math.Seq.{take-length}
 use Rattle.shop_base.specs.declared.shop.Step.{Step}
 use Rattle.shop_base.specs.Shop.{IsShop, no_step, step_at, route_at}
-use Rattle.shop_base.specs.Plan.{order, Visits, HasCounts, IsWithinLimits, IsOrder, IsWellShaped}
+use Rattle.shop_base.specs.Plan.{PlannedShop, route, machine_of, order, job_at, count_below, visits_before, HasCounts, IsWithinLimits, IsOrder, IsWellShaped}
 use Rattle.shop_base.specs.Graph.{IsSerial}
-use Rattle.shop_base.proofs.{Visits.visits_job, OneVisit.{shop_once, plain-order}}
-use Rattle.plan_seek.specs.Orders.{is_on_route, visitors, serial_order}
+use Rattle.shop_base.specs.ShapeFault.{visit_count, place_count}
+use Rattle.shop_base.proofs.{Counting.{count_passed, count_failed, count_rises}, Orders.order_from_places}
+use Rattle.plan_seek.specs.Orders.{visits_in, visits_of, visitors, serial_order}
 use Rattle.plan_seek.specs.Tasks.{PlanTask, serial_plan}
 
--- a route that comes to machine m has a step on it
-comes_at : (route : List Step) (m : ℕ) → is_on_route route m ≡ true → (k : ℕ) × (k < length route) × ((step_at route k).machine ≡ m)
-comes_at route m on =
-    let found = Any-from_list_any (λ (step : Step). eqb step.machine m) route on in
-    (found.0, found.2, ap (λ (step : Step). step.machine) (get_or_default route found.0 no_step found.1 found.2 ∙ found.3) ∙ eqb-true found.1.machine m found.4)
+module _ (p : PlannedShop) (j m : ℕ) where
+  on_machine : ℕ → Bool
+  on_machine i = nat_eq (machine_of p j i) m
 
--- a route with a step on machine m comes to it
-at-comes : (route : List Step) (m k : ℕ) → k < length route → (step_at route k).machine ≡ m → is_on_route route m ≡ true
-at-comes route m k within here = list_any_at (λ (step : Step). eqb step.machine m) route k no_step within (eq-eqb (step_at route k).machine m here)
+  one_step : (n : ℕ) → n < length (route p j) → (b : Bool) → nat_eq (machine_of p j n) m ≡ b → visits_in (take n (route p j)) m ≡ visits_before p j m n
+      → visits_in (take (n + 1) (route p j)) m ≡ visits_before p j m (suc n)
+  one_step n within true is so_far =
+      omega (arith, count_by_more_yes (λ (step : Step). nat_eq step.machine m) (route p j) n no_step within is, count_passed (λ (i : ℕ). nat_eq (machine_of p j i) m) n is, so_far)
+  one_step n within false is so_far =
+      omega (arith, count_by_more_no (λ (step : Step). nat_eq step.machine m) (route p j) n no_step within is, count_failed (λ (i : ℕ). nat_eq (machine_of p j i) m) n is, so_far)
 
--- the number stands somewhere in the list
-abbrev IsAmong : List ℕ → ℕ → Type 0
-IsAmong xs j = (i : ℕ) × (i < length xs) × (get_or xs i 0 ≡ j)
+  first_steps : (n : ℕ) → n ≤ length (route p j) → visits_in (take n (route p j)) m ≡ visits_before p j m n
+  first_steps zero within = refl
+  first_steps (suc n) within =
+      let longer : suc n ≡ n + 1 = omega arith in
+      ap (λ i. visits_in (take i (route p j)) m) longer ∙ one_step n (omega arith) (nat_eq (machine_of p j n) m) refl (first_steps n (omega arith))
 
--- one more at the front
-among_more : (b : Bool) (a : ℕ) (rest : List ℕ) (j : ℕ) → IsAmong rest j → IsAmong (cond b (a ∷ rest) rest) j
-among_more true a rest j among = (suc among.0, omega (arith, among.1), among.2)
-among_more false a rest j among = among
+  -- a route comes to the machine as often as its job visits it
+  visits_counted : visits_in (route p j) m ≡ visit_count p m j
+  visits_counted = ap (λ r. visits_in r m) (sym (take-length (route p j))) ∙ first_steps (length (route p j)) (omega arith)
 
--- it is the one at the front
-among_first : (b : Bool) (rest : List ℕ) (j : ℕ) → b ≡ true → IsAmong (cond b (j ∷ rest) rest) j
-among_first true rest j is = (0, omega arith, refl)
-among_first false rest j is = absurd (false≢true is)
+-- how often the number stands in the list
+abbrev times_in : List ℕ → ℕ → ℕ
+times_in xs j = count_below (λ a. nat_eq (get_or xs a 0) j) (length xs)
 
--- a number of the row that passes a test is among those that do
-passes-among : (p : ℕ → Bool) (a n j : ℕ) → a ≤ j → j < a + n → p j ≡ true → IsAmong (filter p (range_with_len a n)) j
-passes-among p a zero j from below passes = absurd (omega arith)
-passes-among p a (suc n) j from below passes = elim (cases_lt a j) [
-  | inl less ↦ among_more (p a) a (filter p (range_with_len (a + 1) n)) j (passes-among p (a + 1) n j (omega arith) (omega arith) passes)
-  | inr reached ↦ (let same : j ≡ a = omega arith in
-      subst (λ x. IsAmong (cond (p x) (x ∷ filter p (range_with_len (a + 1) n)) (filter p (range_with_len (a + 1) n))) j) same
-      (among_first (p j) (filter p (range_with_len (a + 1) n)) j passes))
-]
+-- the first test counts apart from those behind it
+count_front : (f : ℕ → Bool) (n : ℕ) → count_below f (suc n) ≡ cond (f 0) 1 0 + count_below (λ i. f (suc i)) n
+count_front f zero = omega arith
+count_front f (suc n) = omega (arith, count_front f n)
 
-ascending : (n : ℕ) → IsStrictlyIncreasing (range_with_len 0 n)
-ascending n k within =
-    let size : length (range_with_len 0 n) ≡ n = length-range_with_len 0 n in
-    let one : get_or (range_with_len 0 n) k 0 ≡ 0 + k = get_or-range_with_len 0 n k 0 (omega arith) in
-    let next : get_or (range_with_len 0 n) (k + 1) 0 ≡ 0 + (k + 1) = get_or-range_with_len 0 n (k + 1) 0 (omega arith) in
-    omega arith
+times_own : (n j : ℕ) (xs : List ℕ) → times_in (replicate n j ++ xs) j ≡ n + times_in xs j
+times_own zero j xs = omega arith
+times_own (suc n) j xs =
+    let one : cond (nat_eq j j) 1 0 ≡ 1 = ap {B = ℕ} (λ (b : Bool). cond b 1 0) (eq-eqb j j refl) in
+    omega (arith, count_front (λ a. nat_eq (get_or (j ∷ replicate n j ++ xs) a 0) j) (length (replicate n j ++ xs)), one, times_own n j xs)
+
+times_other : (n i j : ℕ) (xs : List ℕ) → (i ≡ j → ⊥) → times_in (replicate n i ++ xs) j ≡ times_in xs j
+times_other zero i j xs apart = refl
+times_other (suc n) i j xs apart =
+    let none : cond (nat_eq i j) 1 0 ≡ 0 = ap {B = ℕ} (λ (b : Bool). cond b 1 0) (ne_eqb i j apart) in
+    omega (arith, count_front (λ a. nat_eq (get_or (i ∷ replicate n i ++ xs) a 0) j) (length (replicate n i ++ xs)), none, times_other n i j xs apart)
+
+-- the list ascends from this number on
+abbrev IsRising : ℕ → List ℕ → Type 0
+IsRising low [] = Unit {0}
+IsRising low (x ∷ xs) = (low ≤ x) × IsRising x xs
+
+rising_from : (low high : ℕ) (xs : List ℕ) → low ≤ high → IsRising high xs → IsRising low xs
+rising_from low high [] below rises = tt
+rising_from low high (x ∷ xs) below rises = (omega (arith, rises.0), rises.1)
+
+rising_behind : (n j : ℕ) (xs : List ℕ) → IsRising j xs → IsRising j (replicate n j ++ xs)
+rising_behind zero j xs rises = rises
+rising_behind (suc n) j xs rises = (omega arith, rising_behind n j xs rises)
+
+rising_at : (low a : ℕ) (xs : List ℕ) → IsRising low xs → a + 1 < length xs → get_or xs a 0 ≤ get_or xs (a + 1) 0
+rising_at low a [] rises within = absurd (omega arith)
+rising_at low zero (x ∷ []) rises within = absurd (omega arith)
+rising_at low zero (x ∷ y ∷ ys) rises within = rises.1.0
+rising_at low (suc a) (x ∷ xs) rises within =
+    let next : suc (a + 1) ≡ suc a + 1 = omega arith in
+    subst (λ b. get_or (x ∷ xs) (suc a) 0 ≤ get_or (x ∷ xs) b 0) next (rising_at x a xs rises.1 (omega (arith, within)))
+
+module _ (t : PlanTask) (m : ℕ) where
+  -- the visits to machine m of n jobs from job a on
+  abbrev row : ℕ → ℕ → List ℕ
+  row a n = visitors t.shop (range_with_len a n) m
+
+  row_rises : (a n : ℕ) → IsRising a (row a n)
+  row_rises a zero = tt
+  row_rises a (suc n) = rising_behind (visits_in (route_at t.shop.routes a) m) a (row (a + 1) n) (rising_from a (a + 1) (row (a + 1) n) (omega arith) (row_rises (a + 1) n))
+
+  -- another job doesn't stand in the row
+  row_without : (a n j : ℕ) → ((i : ℕ) → a ≤ i → i < a + n → i ≡ j → ⊥) → times_in (row a n) j ≡ 0
+  row_without a zero j others = refl
+  row_without a (suc n) j others =
+      times_other (visits_in (route_at t.shop.routes a) m) a j (row (a + 1) n) (others a (omega arith) (omega arith))
+      ∙ row_without (a + 1) n j (λ i from below. others i (omega arith) (omega arith))
+
+  -- a job of it stands there as often as its route comes to the machine
+  row_with : (a n j : ℕ) → a ≤ j → j < a + n → times_in (row a n) j ≡ visits_in (route_at t.shop.routes j) m
+  row_with a zero j from below = absurd (omega arith)
+  row_with a (suc n) j from below = elim (cases_eq a j) [
+    | inl same ↦ subst (λ i. times_in (visits_of t.shop a m ++ row (a + 1) n) i ≡ visits_in (route_at t.shop.routes i) m) same
+        (omega (arith, times_own (visits_in (route_at t.shop.routes a) m) a (row (a + 1) n), row_without (a + 1) n a (λ i above less is. omega arith)))
+    | inr apart ↦ times_other (visits_in (route_at t.shop.routes a) m) a j (row (a + 1) n) apart ∙ row_with (a + 1) n j (omega (arith, apart)) (omega arith)
+  ]
+
+  abbrev all_jobs : List ℕ
+  all_jobs = row 0 (length t.shop.routes)
+
+  order_is : m < t.shop.machines → order (serial_plan t) m ≡ all_jobs
+  order_is inside = get_or-map-range_with_len (visitors t.shop (range_with_len 0 (length t.shop.routes))) 0 t.shop.machines m m [] inside (omega arith)
+
+  -- each job of the shop stands in its order as often as it visits the machine
+  placed : (j : ℕ) → m < t.shop.machines → j < length t.shop.routes → place_count (serial_plan t) m j ≡ visit_count (serial_plan t) m j
+  placed j inside less =
+      ap (λ (o : List ℕ). times_in o j) (order_is inside) ∙ row_with 0 (length t.shop.routes) j (omega arith) (omega arith) ∙ visits_counted (serial_plan t) j m
+
+  serial-orders : m < t.shop.machines → IsOrder (serial_plan t) m
+  serial-orders inside = order_from_places (serial_plan t) m
+      (λ a within. (let
+      j : ℕ = job_at (serial_plan t) m a in
+      let counts = count_rises (λ (b : ℕ). nat_eq (job_at (serial_plan t) m b) j) a (length (order (serial_plan t) m)) (eq-eqb j j refl) within in
+      elim (cases_lt j (length t.shop.routes)) [
+        | inl less ↦ omega (arith, counts, placed j inside less)
+        | inr past ↦ absurd (omega (arith, counts, ap (λ (o : List ℕ). times_in o j) (order_is inside), row_without 0 (length t.shop.routes) j (λ i from below is. omega (arith, is, past))))
+      ]))
+      (λ j less. omega (arith, placed j inside less))
 
 module _ (t : PlanTask) where
-  -- the jobs of machine m, ascending
-  abbrev row : ℕ → List ℕ
-  row m = visitors t.shop (range_with_len 0 (length t.shop.routes)) m
-
   -- there is one order for each machine
   pub serial_count : length (serial_order t.shop) ≡ t.shop.machines
-  serial_count = length-map-range_with_len row 0 t.shop.machines
-
-  row_at : (m : ℕ) → m < t.shop.machines → order (serial_plan t) m ≡ row m
-  row_at m inside = get_or-map-range_with_len row 0 t.shop.machines m m [] inside (omega arith)
-
-  row_rises : (m : ℕ) → IsStrictlyIncreasing (row m)
-  row_rises m = IsStrictlyIncreasing-filter (λ j. is_on_route (route_at t.shop.routes j) m) (range_with_len 0 (length t.shop.routes)) (ascending (length t.shop.routes))
+  serial_count = length-map-range_with_len (visitors t.shop (range_with_len 0 (length t.shop.routes))) 0 t.shop.machines
 
   pub serial-rises : IsSerial (serial_plan t)
   serial-rises m a within = elim (cases_lt m t.shop.machines) [
-    | inl inside ↦ subst (λ (o : List ℕ). get_or o a 0 ≤ get_or o (a + 1) 0) (sym (row_at m inside))
-        (le_of_lt (row_rises m a (subst (λ (o : List ℕ). a + 1 < length o) (row_at m inside) within)))
+    | inl inside ↦ subst (λ (o : List ℕ). get_or o a 0 ≤ get_or o (a + 1) 0) (sym (order_is t m inside))
+        (rising_at 0 a (all_jobs t m) (row_rises t m 0 (length t.shop.routes)) (subst (λ (o : List ℕ). a + 1 < length o) (order_is t m inside) within))
     | inr past ↦ absurd (omega (arith, ap length (get_or_past (serial_order t.shop) m [] (omega (arith, serial_count))), within))
   ]
 
-  row_visits : (m a : ℕ) → a < length (row m) → (k : ℕ) × Visits (serial_plan t) (get_or (row m) a 0) k m
-  row_visits m a within =
-      let found = comes_at (route_at t.shop.routes (get_or (row m) a 0)) m
-      (filter_passes (λ j. is_on_route (route_at t.shop.routes j) m) (range_with_len 0 (length t.shop.routes)) a 0 within) in
-      (found.0, record { within = found.1; here = found.2 })
-
-  -- of two places the later has the larger number
-  row_apart : (m a b : ℕ) → a < b → b < length (row m) → get_or (row m) a 0 < get_or (row m) b 0
-  row_apart m a b less within = below_from_sorted (row m) a b 0 (sorted_from_strictly_increasing (row m) (row_rises m)) less within
-
-  row_once : (m a b : ℕ) → a < length (row m) → b < length (row m) → get_or (row m) a 0 ≡ get_or (row m) b 0 → a ≡ b
-  row_once m a b in_a in_b same = elim (cases_order a b) [
-    | inl equal ↦ equal
-    | inr apart ↦ elim apart [
-      | inl lower ↦ absurd (omega (arith, row_apart m a b lower in_b))
-      | inr higher ↦ absurd (omega (arith, row_apart m b a higher in_a))
-    ]
-  ]
-
-  row_complete : (m j k : ℕ) → Visits (serial_plan t) j k m → IsAmong (row m) j
-  row_complete m j k visits =
-      passes-among (λ i. is_on_route (route_at t.shop.routes i) m) 0 (length t.shop.routes) j (omega arith)
-      (omega (arith, visits_job (serial_plan t) j k m visits)) (at-comes (route_at t.shop.routes j) m k visits.within visits.here)
-
-  serial-orders : IsShop t.shop → (m : ℕ) → m < t.shop.machines → IsOrder (serial_plan t) m
-  serial-orders shop m inside =
-      let at : order (serial_plan t) m ≡ row m = row_at m inside in
-      plain-order (serial_plan t) m (λ j k l. shop_once (serial_plan t) j k l m shop) (record {
-        on_route = λ a within. subst (λ (o : List ℕ). (k : ℕ) × Visits (serial_plan t) (get_or o a 0) k m) (sym at)
-            (row_visits m a (subst (λ (o : List ℕ). a < length o) at within));
-        once = λ a b in_a in_b same. row_once m a b (subst (λ (o : List ℕ). a < length o) at in_a) (subst (λ (o : List ℕ). b < length o) at in_b)
-            (subst (λ (o : List ℕ). get_or o a 0 ≡ get_or o b 0) at same);
-        complete = λ j k visits. (let among : IsAmong (order (serial_plan t) m) j = subst (λ (o : List ℕ). IsAmong o j) (sym at) (row_complete m j k visits) in
-            (among.0, among.1, among.2));
-      })
-
   pub serial-shaped : IsShop t.shop → HasCounts (serial_plan t) → IsWithinLimits (serial_plan t) → IsWellShaped (serial_plan t)
-  serial-shaped shop counts limits = record { shop = shop; counts = counts; limits = limits; orders = serial-orders shop }
+  serial-shaped shop counts limits = record { shop = shop; counts = counts; limits = limits; orders = serial-orders t }

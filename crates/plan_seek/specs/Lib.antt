@@ -5,3 +5,4 @@ pub mod Turns
 pub mod Search
 -- Of proofs and private contracts alone.
 pub mod Outcomes
+pub mod Growing

@@ -1,6 +1,6 @@
--- What a planner proposes; the jobs that visit each machine in a row of jobs, and the orders of the serial and the shifted plans.
-use Rattle.std.specs.Prelude.{ℕ, ◌-◌, ◌%◌, ◌==◌, List, ◌++◌, Bool, map, filter, length, Option, None, Some, Vec}
-use Rattle.std.specs.List.{list_any, range_with_len}
+-- What a planner proposes; the visits to each machine of the jobs in a row, and the orders of the serial and the shifted plans.
+use Rattle.std.specs.Prelude.{ℕ, ◌-◌, ◌%◌, ◌==◌, List, ◌++◌, map, length, replicate, Option, None, Some, Vec}
+use Rattle.std.specs.List.{count_by, flat_map, range_with_len}
 use Rattle.std.specs.declared.alloc.Global.{Global}
 use Rattle.shop_base.specs.declared.shop.Step.{Step}
 use Rattle.shop_base.specs.Shop.{JobShop, route_at}
@@ -15,13 +15,17 @@ abbrev pub proposal_of : Option (Vec (Vec ℕ Global) Global) → Proposal
 proposal_of None = None
 proposal_of (Some orders) = Some (lists_of orders.items)
 
--- the route comes to machine m
-abbrev pub is_on_route : List Step → ℕ → Bool
-is_on_route route m = list_any (λ step. step.machine == m) route
+-- how often the route comes to machine m
+abbrev pub visits_in : List Step → ℕ → ℕ
+visits_in route m = count_by (λ step. step.machine == m) route
 
--- those of the jobs whose routes come to machine m, in the same order
+-- the job, as often as its route comes to machine m
+abbrev pub visits_of : JobShop → ℕ → ℕ → List ℕ
+visits_of shop j m = replicate (visits_in (route_at shop.routes j) m) j
+
+-- those of the jobs whose routes come to machine m, each as often as its route does, in the same order
 abbrev pub visitors : JobShop → List ℕ → ℕ → List ℕ
-visitors shop row m = filter (λ j. is_on_route (route_at shop.routes j) m) row
+visitors shop row m = flat_map (λ j. visits_of shop j m) row
 
 -- the orders in which the jobs enter the machines if they stand in this row at each of them
 abbrev pub orders_along : JobShop → List ℕ → List (List ℕ)
@@ -31,7 +35,7 @@ orders_along shop row = map (visitors shop row) (range_with_len 0 shop.machines)
 abbrev pub jobs_from : ℕ → ℕ → List ℕ
 jobs_from n first = range_with_len first (n - first) ++ range_with_len 0 first
 
--- the orders of the serial plan: each machine has the jobs whose routes come to it in ascending order
+-- the orders of the serial plan: each machine has the jobs whose routes come to it in ascending order, each for all its visits in a row
 abbrev pub serial_order : JobShop → List (List ℕ)
 serial_order shop = orders_along shop (range_with_len 0 (length shop.routes))
 

@@ -1,3 +1,4 @@
+use crate::orders::empty_orders;
 use crate::proposer::{Proposed, Proposer};
 use crate::safe_sequence::{Transfer, place_in, safe_sequence};
 use crate::simulated_cell::SimulatedCell;
@@ -67,13 +68,9 @@ fn simulate(alloc: Global, shop: &Shop, round: u32) -> Proposed {
 
 impl Simulation {
     fn start(alloc: Global, shop: &Shop) -> Result<Simulation, AllocError> {
-        let mut orders = Vec::new(alloc);
-        for _ in 0..shop.machines() {
-            orders.push(Vec::new(alloc))?;
-        }
         Ok(Simulation {
+            orders: empty_orders(alloc, shop)?,
             cell: SimulatedCell::new(alloc, shop)?,
-            orders,
             way: Vec::new(alloc),
             now: 0,
             choices: MAX_CHOICES,

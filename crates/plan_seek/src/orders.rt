@@ -1,16 +1,18 @@
-//! Orders in which all machines take their jobs in one row, and the planner that proposes such ones.
+//! Orders in which all machines take their jobs in one row, each for all its visits in a row, and the planner that
+//! proposes such ones.
 
-ghost use Rattle.std.specs.Prelude.{◌≡◌, ◌-◌, ◌<◌, ◌≤◌, ◌++◌, length, IfOk, OnOk, Some};
+ghost use Rattle.std.specs.Prelude.{◌≡◌, ◌-◌, ◌<◌, ◌≤◌, ℕ, [], length, replicate, IfOk, OnOk, Some};
 ghost use Rattle.std.specs.List.{range_with_len};
-ghost use Rattle.shop_base.specs.{Shop.route_at, Vectors.lists_of};
-ghost use Rattle.plan_seek.specs.Orders.{orders_along, shifted_order, jobs_from, visitors, is_on_route};
+ghost use Rattle.shop_base.specs.{Shop.step_at, Vectors.lists_of};
+ghost use Rattle.plan_seek.specs.Orders.{orders_along, shifted_order, jobs_from, visitors, visits_of, visits_in};
+ghost use Rattle.plan_seek.specs.Growing.{IsGrown};
 
 use crate::proposer::{Proposed, Proposer};
-use shop_base::{JobNo, MachineNo, Shop, Step};
+use shop_base::{JobNo, Shop, Step};
 use std::alloc::{AllocError, Global};
 
 /// A planner that gives all machines their jobs in the same order: ascending, in round `r` from job `r` on, with job 0
-/// after the last. It proposes exactly these lists.
+/// after the last, each as often as it visits the machine. It proposes exactly these lists.
 #[derive(Clone, Copy, Debug, Default)]
 pub struct ShiftProposer;
 
@@ -40,65 +42,64 @@ pub(crate) fn orders_from(
     ensures { IfOk result
         (λ orders. lists_of orders.items ≡ orders_along shop.now (jobs_from (length shop.now.routes) first)) }
 {
+    let mut orders = empty_orders(alloc, shop)?;
+    add_jobs(shop, first, shop.jobs(), &mut orders)?;
+    add_jobs(shop, 0, first, &mut orders)?;
+    Ok(orders)
+}
+
+/// An order without jobs for each machine.
+pub(crate) fn empty_orders(alloc: Global, shop: &Shop) -> Result<Vec<Vec<JobNo>>, AllocError>
+    ensures { IfOk result (λ orders. lists_of orders.items ≡ orders_along shop.now []) }
+{
     let mut orders = Vec::new(alloc);
-    for machine in 0..shop.machines() {
-        orders.push(order_from(alloc, shop, first, machine)?)?;
+    for _ in 0..shop.machines() {
+        orders.push(Vec::new(alloc))?;
     }
     Ok(orders)
 }
 
-/// The jobs that the machine has, from `first` on, ascending, and then from job 0 on.
-fn order_from(
-    alloc: Global,
+/// Adds the jobs from `from` on and below `to` to the orders.
+fn add_jobs(
     shop: &Shop,
-    first: JobNo,
-    machine: MachineNo,
-) -> Result<Vec<JobNo>, AllocError>
-    requires { first < length shop.now.routes }
-    ensures { IfOk result
-        (λ order. order.items ≡ visitors shop.now (jobs_from (length shop.now.routes) first) machine) }
-{
-    let mut order = Vec::new(alloc);
-    add_visitors(shop, machine, first, shop.jobs(), &mut order)?;
-    add_visitors(shop, machine, 0, first, &mut order)?;
-    Ok(order)
-}
-
-/// Adds the machine's jobs from `from` on and below `to`.
-fn add_visitors(
-    shop: &Shop,
-    machine: MachineNo,
     from: JobNo,
     to: JobNo,
-    order: &mut Vec<JobNo>,
+    orders: &mut Vec<Vec<JobNo>>,
 ) -> Result<(), AllocError>
     requires ascending { from ≤ to }
     requires inside { to ≤ length shop.now.routes }
-    ensures { OnOk result
-        (order.new.items ≡ order.old.items ++ visitors shop.now (range_with_len from (to - from)) machine) }
+    requires count { length orders.old.items ≡ shop.now.machines }
+    ensures { OnOk result (IsGrown (lists_of orders.old.items) (lists_of orders.new.items)
+        (visitors shop.now (range_with_len from (to - from)))) }
 {
     for job in from..to {
-        if is_visitor(shop, job, machine) {
-            order.push(job)?;
-        }
+        add_job(shop, job, orders)?;
     }
     Ok(())
 }
 
-/// Whether the job's route comes to the machine.
-fn is_visitor(shop: &Shop, job: JobNo, machine: MachineNo) -> bool
-    requires { job < length shop.now.routes }
-    ensures { result ≡ is_on_route (route_at shop.now.routes job) machine }
+/// Adds the job to the order of each machine, as often as it visits it.
+fn add_job(shop: &Shop, job: JobNo, orders: &mut Vec<Vec<JobNo>>) -> Result<(), AllocError>
+    requires job { job < length shop.now.routes }
+    requires count { length orders.old.items ≡ shop.now.machines }
+    ensures { OnOk result (IsGrown (lists_of orders.old.items) (lists_of orders.new.items) (visits_of shop.now job)) }
 {
+    // Called for its clause alone: the shop is sound.
+    let _machines = shop.machines();
     match shop.route(job) {
-        Some(route) => comes_to(route, machine),
+        Some(route) => add_visits(route, job, orders),
         None => unreachable!(),
     }
 }
 
-/// Whether the route comes to the machine.
-fn comes_to(route: &[Step], machine: MachineNo) -> bool
-    ensures { result ≡ is_on_route route.now machine }
+/// Adds the job to the order of each step's machine.
+fn add_visits(route: &[Step], job: JobNo, orders: &mut Vec<Vec<JobNo>>) -> Result<(), AllocError>
+    requires { (k : ℕ) → k < length route.now → (step_at route.now k).machine < length orders.old.items }
+    ensures { OnOk result (IsGrown (lists_of orders.old.items) (lists_of orders.new.items)
+        (λ m. replicate (visits_in route.now m) job)) }
 {
-    route.iter().any(|step| step.machine == machine)
+    for step in route {
+        orders[step.machine as usize].push(job)?;
+    }
+    Ok(())
 }

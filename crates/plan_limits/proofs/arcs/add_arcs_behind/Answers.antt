@@ -1,4 +1,4 @@
-use Rattle.std.proofs.Common.{◌+◌, ◌*◌, ℕ, inr, ap, ◌∙◌}
+use Rattle.std.proofs.Common.{◌+◌, ◌*◌, ℕ, inl, inr, ap, ◌∙◌}
 use Rattle.shop_base.specs.Plan.{PlannedShop, clean}
 use Rattle.arc_choice.specs.declared.question.Arc.{Arc}
 use Rattle.plan_bounds.specs.Bounds.{times_of}
@@ -25,9 +25,9 @@ loop-enters-preserved g c =
             enters = e;
             inside = (c.requires.number, c.loop-enters-test.true);
             held = c.in-Some.ensures;
-            visit = c.is_entry.ensures w.if-is_entry.true;
+            visit = c.is_entry.ensures.0 w.if-is_entry.true;
             is = ap (λ (d : ℕ). record { from = n; to = e; length = d * FINE + 1 }) (c.clean_of.ensures ∙ ap (λ (p : PlannedShop). clean p m) c.shaped.ensures.plan);
           } in
-          rw w.arcs-is (fixed_push t cell.cell nodes c.loop-enters.arcs.items w.push.new.self.items arc w.in_ok-push.ensures.items c.loop-enters.invariant (inr here)))
+          rw w.arcs-is (fixed_push t cell.cell nodes c.loop-enters.arcs.items w.push.new.self.items arc w.in_ok-push.ensures.items c.loop-enters.invariant (inr (inl here))))
       | else-is_entry w ↦ rw w.arcs-is c.loop-enters.invariant
     ]
