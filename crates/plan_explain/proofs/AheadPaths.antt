@@ -1,26 +1,26 @@
 -- Paths ahead, from their first node on.
 use Rattle.std.proofs.Common.{◌≡◌, ℕ, ◌+◌, ◌^◌, ◌<◌, ◌≤◌, List, [], ◌∷◌, ◌++◌, Option, Some, inl, inr, arith, refl, sym, ap, subst}
 use Rattle.std.proofs.lemmas.Bool.{cases_lt}
-use Rattle.shop_base.specs.{declared.node.Node.Node, Plan.{PlannedShop, jobs, nominal, clean, IsWellShaped}}
+use Rattle.shop_base.specs.{declared.node.Node.Node, Plan.{PlannedShop, jobs, nominal, clean}}
 use Rattle.shop_base.specs.{Cell.{Cell, made, since, IsGone}, Sound.IsSound}
 use Rattle.shop_base.specs.{Activity.{Activity, Arrival, Operation, Cleaning, GoesOn}, Graph.{Arc, HasArc, IsNode, leaving}}
 use Rattle.shop_base.specs.Ahead.{next_node, HoldsUp, IsAhead, PathAhead, now, held, onward}
-use Rattle.alt_graph.specs.Times.{NodeTimes, earliest_of, IsPathFromBy}
+use Rattle.alt_graph.specs.{Sources.IsLongestArc, Times.{NodeTimes, earliest_of, IsPathFromBy}}
 use Rattle.plan_verifier.specs.{Rest.AreOrderedAhead, declared.node_bound.Hold.Hold, declared.node_bound.NodeBound.NodeBound}
 use Rattle.plan_verifier.specs.declared.node_bound.Hold.TheVariants.{Awaited, Worked, Cleaned}
 use Rattle.plan_verifier.specs.Held.{IsHeldBy, awaited, arrived, worked, done, cleaned, BeginHeldUp, later_than, overdue_at, IsHoldBound, IsBoundOf}
 use Rattle.plan_verifier.proofs.{Tables.{later_is, later_above, later_other}, Acceptable.leaving_node, GoingOn.leaving_ahead}
 use Rattle.plan_verifier.proofs.{Holding.{hold_up, free_passed}, PathsAhead.along_greatest}
 use Rattle.plan_explain.specs.{Arcs.{time_of, arc_kind}, Chains.{AreAlong, length_from, IsLongestTo, IsLongest}}
-use Rattle.plan_explain.proofs.ArcFacts.{arc_time, last_from, last_more, along_more, length_more, length_rises}
+use Rattle.plan_explain.proofs.ArcFacts.{kind_longest, last_from, last_more, along_more, length_more, length_rises}
 
--- what a path ahead to v of length n is, from its first node on; any other length with which a path ahead begins there leads to such a path too
+-- what a path ahead to v of length n is, from its first node on: along the longest arcs it is no shorter, and any length with which a path ahead begins there leads to such a path
 pub record IsLedAhead (p : PlannedShop) (c : Cell) (t : ℕ) (u : Node) (us : List Node) (v : Node) (n : ℕ) : Type 0 where
   pub along : AreAlong p u us
   pub ends : last_from u us ≡ v
   pub start : ℕ
   pub begins : PathAhead p c t (u ∷ []) u start
-  pub size : length_from p start u us ≡ n
+  pub size : n ≤ length_from p start u us
   pub again : (s : ℕ) → PathAhead p c t (u ∷ []) u s → PathAhead p c t (u ∷ us) v (length_from p s u us)
   pub bounded : (b : NodeBound) → IsBoundOf p c t u b → start ≤ b.moment
 
@@ -28,7 +28,7 @@ abbrev pub IsLedPathAhead : PlannedShop → Cell → ℕ → List Node → Node 
 IsLedPathAhead p c t [] v n = ⊥
 IsLedPathAhead p c t (u ∷ us) v n = IsLedAhead p c t u us v n
 
-module _ (p : PlannedShop) (c : Cell) (t : ℕ) (shaped : IsWellShaped p) where
+module _ (p : PlannedShop) (c : Cell) (t : ℕ) where
   led_more : (nodes : List Node) (u v : Node) (n d : ℕ) → Arc p u v d → IsLedPathAhead p c t nodes u n → IsLedPathAhead p c t (nodes ++ v ∷ []) v (n + d)
   led_more [] u v n d arc led = absurd led
   led_more (w ∷ ws) u v n d arc led = record {
@@ -36,13 +36,16 @@ module _ (p : PlannedShop) (c : Cell) (t : ℕ) (shaped : IsWellShaped p) where
     ends = last_more w ws v;
     start = led.start;
     begins = led.begins;
-    size = omega (arith, longer led.start, led.size);
+    size = omega (arith, longer led.start, led.size, last.longest d arc);
     bounded = led.bounded;
-    again = λ s begin. subst (λ (m : ℕ). PathAhead p c t (w ∷ ws ++ v ∷ []) v m) (sym (longer s)) (onward (w ∷ ws) u v (length_from p s w ws) d (led.again s begin) arc);
+    again = λ s begin. subst (λ (m : ℕ). PathAhead p c t (w ∷ ws ++ v ∷ []) v m) (sym (longer s)) (onward (w ∷ ws) u v (length_from p s w ws) (time_of (arc_kind p u v)) (led.again s begin) last.arc);
   }
     where
-      longer : (s : ℕ) → length_from p s w (ws ++ v ∷ []) ≡ length_from p s w ws + d
-      longer s = omega (arith, length_more p s w ws v, ap (λ (x : Node). time_of (arc_kind p x v)) led.ends, arc_time p shaped u v d arc)
+      last : IsLongestArc p u v (time_of (arc_kind p u v))
+      last = kind_longest p u v (d, arc)
+
+      longer : (s : ℕ) → length_from p s w (ws ++ v ∷ []) ≡ length_from p s w ws + time_of (arc_kind p u v)
+      longer s = omega (arith, length_more p s w ws v, ap (λ (x : Node). time_of (arc_kind p x v)) led.ends)
 
   -- its bound is no sooner than what holds it up is due
   hold_bounded : (h : Hold) (due : ℕ) (v : Node) → IsHeldBy p c h (Some due) v → (b : NodeBound) → IsBoundOf p c t v b → due ≤ b.moment
@@ -68,7 +71,7 @@ module _ (p : PlannedShop) (c : Cell) (t : ℕ) (shaped : IsWellShaped p) where
     ends = refl;
     start = t;
     begins = now v is ahead;
-    size = refl;
+    size = omega arith;
     again = λ s begin. begin;
     bounded = λ b bound. omega (arith, bound.by_hold.moment, later_above t bound.by_hold.due);
   }
@@ -77,7 +80,7 @@ module _ (p : PlannedShop) (c : Cell) (t : ℕ) (shaped : IsWellShaped p) where
     ends = refl;
     start = due;
     begins = held a due v goes holds;
-    size = refl;
+    size = omega arith;
     again = λ s begin. begin;
     bounded = λ b bound. going_bounded a due v goes holds b bound;
   }
@@ -107,9 +110,9 @@ module _ (p : PlannedShop) (c : Cell) (t : ℕ) where
 
 -- ---- a longest path ahead
 
-module _ (p : PlannedShop) (c : Cell) (t : ℕ) (first : Node) (rest : List Node) (last : Node) (size : ℕ) (is : IsLongestTo p c t (first ∷ rest) last size) (shaped : IsWellShaped p) where
+module _ (p : PlannedShop) (c : Cell) (t : ℕ) (first : Node) (rest : List Node) (last : Node) (size : ℕ) (is : IsLongestTo p c t (first ∷ rest) last size) where
   pub led : IsLedAhead p c t first rest last size
-  led = ahead_led p c t shaped (first ∷ rest) last size is.path
+  led = ahead_led p c t (first ∷ rest) last size is.path
 
   -- it is as long as from the bound of its first node on
   pub bound_length : (b : NodeBound) → IsSound p c → IsBoundOf p c t first b → length_from p b.moment first rest ≡ size

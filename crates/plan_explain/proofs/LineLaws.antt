@@ -1,10 +1,11 @@
 -- What the lines of explanations say.
-use Rattle.std.proofs.Common.{◌≡◌, ℕ, ◌+◌, ◌<◌, ◌≤◌, List, [], ◌∷◌, ◌++◌, inl, inr, arith, refl, sym, ap, subst, ◌∙◌}
+use Rattle.std.proofs.Common.{◌≡◌, ℕ, ◌+◌, ◌-◌, ◌<◌, ◌≤◌, List, [], ◌∷◌, ◌++◌, inl, inr, arith, refl, sym, ap, subst, ◌∙◌}
 use Rattle.std.proofs.lemmas.{Bool.cases_lt, List.{append-nil, append_assoc}}
-use Rattle.shop_base.specs.{declared.node.Node.Node, Plan.{PlannedShop, jobs, steps, clean, IsWellShaped}}
-use Rattle.shop_base.specs.{Cell.{Cell, made, IsGone}, Sound.IsSound, Graph.{node, Arc, HasArc, ArcsLead, IsSimpleCycle}}
-use Rattle.alt_graph.specs.Evidence.{EndsIn}
+use Rattle.shop_base.specs.{declared.node.Node.Node, Plan.{PlannedShop, jobs, steps, nominal, clean, Stands}}
+use Rattle.shop_base.specs.{Cell.{Cell, made, IsGone}, Sound.IsSound, Graph.{node, blocking_arc, HasArc, ArcsLead, IsSimpleCycle}}
+use Rattle.alt_graph.specs.{Evidence.EndsIn, Sources.{IsJobArc, IsBlockingArc, IsLongestArc}}
 use Rattle.people_names.specs.NameBooks.{NameBook}
+use Rattle.plan_explain.specs.Labels.{label_of}
 use Rattle.plan_verifier.specs.{declared.verdict.Judged.Judged, declared.verdict.Judged.TheVariants.{Accepted, Refused}}
 use Rattle.plan_verifier.specs.Leavings.{AreLeavingsAhead, IsLastLeaving}
 use Rattle.plan_explain.specs.FirstLines.{accepted_line, moments_below, IsAcceptedFirstLine, IsFirstLine}
@@ -12,15 +13,24 @@ use Rattle.plan_explain.specs.{declared.arcs.ArcKind.TheVariants.Blocking, Arcs.
 use Rattle.plan_explain.specs.Chains.{reached_at, length_from, reached_line, reached_lines, IsLongestTo, AreChainLines}
 use Rattle.plan_explain.specs.LineLaws.{AreExactArcs, IsBoundLine, IsLastLine}
 use Rattle.plan_explain.proofs.{Moments.moments_same, AheadPaths.{led, bound_length}}
-use Rattle.plan_explain.proofs.ArcFacts.{job_arc_kind_same, blocking_arc_kind_same, apart, arc_time, last_from}
+use Rattle.plan_explain.proofs.ArcFacts.{next_arc, own_kind, blocking_kind, kind_longest, longest_time, last_from}
 
-pub exact_arcs : (p : PlannedShop) → IsWellShaped p → AreExactArcs p
-exact_arcs p shaped = record {
-  job = λ j k within. job_arc_kind_same p (node j k) (node j (k + 1)) refl;
-  blocking = λ m a i k j l one other.
-      (blocking_arc_kind_same p (node i (k + 1)) (node j l) (apart p shaped m a i k j l one other) ∙ ap (λ n. Blocking n i j (clean p n)) other.visits.here);
-  time = λ u v d arc. arc_time p shaped u v d arc;
+pub exact_arcs : (p : PlannedShop) → AreExactArcs p
+exact_arcs p = record {
+  job = λ j k within longest. own_kind p (node j k) (node j (k + 1)) (record { job = refl; place = refl }) longest;
+  blocking = λ m a i k j l one other longer. blocking m a i k j l one other longer;
+  time = λ u v arc. kind_longest p u v arc;
 }
+  where
+    blocking : (m a i k j l : ℕ) → Stands p m a i k → Stands p m (a + 1) j l → ((n : ℕ) → IsJobArc p (node i (k + 1)) (node j l) n → n < clean p m)
+        → arc_kind p (node i (k + 1)) (node j l) ≡ Blocking m (label_of p.shop i k) (label_of p.shop j l) (clean p m)
+    blocking m a i k j l one other longer =
+        let is : IsBlockingArc p (node i (k + 1)) (node j l) (clean p m) = record { machine = m; ahead = a; step = k; left = one; enters = other; place = refl; length = refl } in
+        let step : k + 1 - 1 ≡ k = omega arith in
+        blocking_kind p (node i (k + 1)) (node j l) (clean p m) is
+        (λ next. longer (nominal p i (k + 1)) (next_arc p (node i (k + 1)) (node j l) next (clean p m, blocking_arc m a i k j l one other)))
+        ∙ ap (λ n. Blocking n (label_of p.shop i (k + 1 - 1)) (label_of p.shop j l) (clean p n)) other.visits.here
+        ∙ ap (λ n. Blocking m (label_of p.shop i n) (label_of p.shop j l) (clean p m)) step
 
 module _ (names : NameBook) (p : PlannedShop) where
   -- the lines of nodes, and those of the nodes behind them
@@ -31,14 +41,14 @@ module _ (names : NameBook) (p : PlannedShop) where
       let line = reached_line names (reached_at p t u w) w (arc_kind p u w) in
       ap (λ l. line ++ l) (lines_behind (reached_at p t u w) w ws v vs) ∙ sym (append_assoc line _ _)
 
-module _ (names : NameBook) (p : PlannedShop) (c : Cell) (t : ℕ) (shaped : IsWellShaped p) (sound : IsSound p c) where
-  pub each_line : (path nodes : List Node) (u v : Node) (n d : ℕ) (lines : List ℕ) → IsLongestTo p c t path u n → Arc p u v d → AreChainLines names p c t (path ++ v ∷ nodes) lines
+module _ (names : NameBook) (p : PlannedShop) (c : Cell) (t : ℕ) (sound : IsSound p c) where
+  pub each_line : (path nodes : List Node) (u v : Node) (n d : ℕ) (lines : List ℕ) → IsLongestTo p c t path u n → IsLongestArc p u v d → AreChainLines names p c t (path ++ v ∷ nodes) lines
       → (front : List ℕ) × AreChainLines names p c t path front × (lines ≡ front ++ (reached_line names (n + d) v (arc_kind p u v) ++ reached_lines names p (n + d) v nodes))
   each_line [] nodes u v n d lines is arc are = absurd is.begins
   each_line (w ∷ ws) nodes u v n d lines is arc (b, bound, written) =
-      let first = bound_line names w b in
-      let ends = (led p c t w ws u n is shaped).ends in
-      let size = bound_length p c t w ws u n is shaped b sound bound in (
+      let first = bound_line names p.shop w b in
+      let ends = (led p c t w ws u n is).ends in
+      let size = bound_length p c t w ws u n is b sound bound in (
         first ++ reached_lines names p b.moment w ws,
         (b, bound, refl),
         written
@@ -46,7 +56,7 @@ module _ (names : NameBook) (p : PlannedShop) (c : Cell) (t : ℕ) (shaped : IsW
             ∙ sym (append_assoc first (reached_lines names p b.moment w ws) _)
             ∙ ap (λ k. (first ++ reached_lines names p b.moment w ws) ++ reached_lines names p k (last_from w ws) (v ∷ nodes)) size
             ∙ ap (λ (x : Node). (first ++ reached_lines names p b.moment w ws) ++ reached_lines names p n x (v ∷ nodes)) ends
-            ∙ ap (λ k. (first ++ reached_lines names p b.moment w ws) ++ (reached_line names (n + k) v (arc_kind p u v) ++ reached_lines names p (n + k) v nodes)) (arc_time p shaped u v d arc),
+            ∙ ap (λ k. (first ++ reached_lines names p b.moment w ws) ++ (reached_line names (n + k) v (arc_kind p u v) ++ reached_lines names p (n + k) v nodes)) (longest_time p u v d arc),
       )
 
   -- the lines of the nodes behind the first one end with that of the last
@@ -62,22 +72,22 @@ module _ (names : NameBook) (p : PlannedShop) (c : Cell) (t : ℕ) (shaped : IsW
       → (front last : List ℕ) × (lines ≡ front ++ last) × IsLastLine names p c t nodes v n last
   last_line [] v n lines is are = absurd is.begins
   last_line (w ∷ []) v n lines is (b, bound, written) =
-      let ends : w ≡ v = (led p c t w [] v n is shaped).ends in
-      let size : b.moment ≡ n = bound_length p c t w [] v n is shaped b sound bound in (
+      let ends : w ≡ v = (led p c t w [] v n is).ends in
+      let size : b.moment ≡ n = bound_length p c t w [] v n is b sound bound in (
         [],
-        bound_line names w b,
+        bound_line names p.shop w b,
         written ∙ append-nil _,
-        inr (ap (λ (x : Node). x ∷ []) ends, subst (λ (x : Node). IsBoundLine names p c t x n (bound_line names w b)) ends (b, bound, size, refl)),
+        inr (ap (λ (x : Node). x ∷ []) ends, subst (λ (x : Node). IsBoundLine names p c t x n (bound_line names p.shop w b)) ends (b, bound, size, refl)),
       )
   last_line (w ∷ x ∷ xs) v n lines is (b, bound, written) =
-      let ends : last_from x xs ≡ v = (led p c t w (x ∷ xs) v n is shaped).ends in
+      let ends : last_from x xs ≡ v = (led p c t w (x ∷ xs) v n is).ends in
       let (front, nodes, u, are, lasts) = reached_last b.moment w x xs in
-      let first = bound_line names w b in (
+      let first = bound_line names p.shop w b in (
         first ++ front,
         reached_line names n v (arc_kind p u v),
         written
             ∙ ap (λ l. first ++ l) (lasts
-            ∙ ap (λ k. front ++ reached_line names k (last_from x xs) (arc_kind p u (last_from x xs))) (bound_length p c t w (x ∷ xs) v n is shaped b sound bound)
+            ∙ ap (λ k. front ++ reached_line names k (last_from x xs) (arc_kind p u (last_from x xs))) (bound_length p c t w (x ∷ xs) v n is b sound bound)
             ∙ ap (λ (y : Node). front ++ reached_line names n y (arc_kind p u y)) ends)
             ∙ sym (append_assoc first front _),
         inl (nodes, u, are ∙ ap (λ (y : Node). nodes ++ u ∷ y ∷ []) ends, refl),

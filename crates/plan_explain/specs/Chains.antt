@@ -51,4 +51,4 @@ module _ (p : PlannedShop) (c : Cell) (t : ℕ) where
 -- the lines of a chain: what its first node waits for, and each further node, with the length of the path up to it
 abbrev pub AreChainLines : NameBook → PlannedShop → Cell → ℕ → List Node → List ℕ → Type 0
 AreChainLines names p c t [] lines = lines ≡ []
-AreChainLines names p c t (u ∷ us) lines = (bound : NodeBound) × IsBoundOf p c t u bound × (lines ≡ bound_line names u bound ++ reached_lines names p bound.moment u us)
+AreChainLines names p c t (u ∷ us) lines = (bound : NodeBound) × IsBoundOf p c t u bound × (lines ≡ bound_line names p.shop u bound ++ reached_lines names p bound.moment u us)

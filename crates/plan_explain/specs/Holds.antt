@@ -1,20 +1,21 @@
 -- What a node ahead waits for first, in words.
-use Rattle.std.specs.Prelude.{ℕ, Option, None, Some, List, [], ◌∷◌, ◌++◌, codes, decimal}
-use Rattle.shop_base.specs.{declared.node.Node.Node, NodeText.node_text}
+use Rattle.std.specs.Prelude.{ℕ, ◌-◌, Option, None, Some, List, [], ◌∷◌, ◌++◌, codes, decimal}
+use Rattle.shop_base.specs.{declared.node.Node.Node, NodeText.node_text, Shop.JobShop}
 use Rattle.people_names.specs.{NameBooks.NameBook, Words.job_word, Words.machine_word, Words.moment_word}
+use Rattle.plan_explain.specs.Labels.{label_of, label_word}
 use Rattle.plan_explain.specs.Arcs.{before}
 use Rattle.plan_verifier.specs.declared.node_bound.Hold.{Hold}
 use Rattle.plan_verifier.specs.declared.node_bound.Hold.TheVariants.{Awaited, Arrived, Worked, Done, Cleaned}
 use Rattle.plan_verifier.specs.declared.node_bound.NodeBound.{NodeBound}
 
--- `release of job J`, `job J has arrived`, `job J on machine M since S for P`, `job J done on machine M` or `machine M cleaned since S for C`
-abbrev pub hold_words : NameBook → Hold → List (List ℕ)
-hold_words names (Awaited job) = codes "release of job " ∷ job_word names job ∷ []
-hold_words names (Arrived job) = codes "job " ∷ job_word names job ∷ codes " has arrived" ∷ []
-hold_words names (Worked job machine from nominal) =
-    codes "job " ∷ job_word names job ∷ codes " on machine " ∷ machine_word names machine ∷ codes " since " ∷ moment_word names from ∷ codes " for " ∷ decimal nominal ∷ []
-hold_words names (Done job machine) = codes "job " ∷ job_word names job ∷ codes " done on machine " ∷ machine_word names machine ∷ []
-hold_words names (Cleaned machine from clean) =
+-- `release of job J`, `job J has arrived`, `job J on machine M since S for P`, `job J done on machine M` or `machine M cleaned since S for C`, of what holds up node v; the visit that the job is in is that by the step before v
+abbrev pub hold_words : NameBook → JobShop → Node → Hold → List (List ℕ)
+hold_words names shop v (Awaited job) = codes "release of job " ∷ job_word names job ∷ []
+hold_words names shop v (Arrived job) = codes "job " ∷ job_word names job ∷ codes " has arrived" ∷ []
+hold_words names shop v (Worked job machine from nominal) =
+    codes "job " ∷ label_word names (label_of shop job (v.place - 1)) ∷ codes " on machine " ∷ machine_word names machine ∷ codes " since " ∷ moment_word names from ∷ codes " for " ∷ decimal nominal ∷ []
+hold_words names shop v (Done job machine) = codes "job " ∷ label_word names (label_of shop job (v.place - 1)) ∷ codes " done on machine " ∷ machine_word names machine ∷ []
+hold_words names shop v (Cleaned machine from clean) =
     codes "machine " ∷ machine_word names machine ∷ codes " cleaned since " ∷ moment_word names from ∷ codes " for " ∷ decimal clean ∷ []
 
 -- ` overdue since D`, where it was due before the present moment
@@ -23,6 +24,6 @@ overdue_words names None = []
 overdue_words names (Some due) = codes " overdue since " ++ moment_word names due
 
 -- `T B WORDS`, of a node with this bound
-abbrev pub bound_line : NameBook → Node → NodeBound → List ℕ
-bound_line names v bound =
-    before (moment_word names bound.moment ∷ codes " " ∷ node_text v ∷ codes " " ∷ []) (before (hold_words names bound.holds) (overdue_words names bound.overdue ++ codes "\n"))
+abbrev pub bound_line : NameBook → JobShop → Node → NodeBound → List ℕ
+bound_line names shop v bound =
+    before (moment_word names bound.moment ∷ codes " " ∷ node_text v ∷ codes " " ∷ []) (before (hold_words names shop v bound.holds) (overdue_words names bound.overdue ++ codes "\n"))

@@ -1,5 +1,6 @@
 -- Reached by public clauses: to be read and believed.
 pub mod Known
+pub mod Labels
 pub mod Arcs
 pub mod FirstLines
 pub mod Cycles
@@ -12,3 +13,4 @@ pub mod LineLaws
 -- Of proofs and private contracts alone.
 pub mod Added
 pub mod ChainsFound
+pub mod ArcLookups

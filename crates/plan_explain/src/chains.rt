@@ -8,17 +8,19 @@ ghost use Rattle.plan_explain.specs.Chains.{IsLongest, IsChainOrNone, AreChainLi
 ghost use Rattle.people_names.specs.declared.names.TheConstants.{LONGEST_MOMENT};
 ghost use Rattle.people_names.specs.Words.{machine_word, moment_word};
 
-use crate::arcs::arc_kind;
-use crate::words::{Line, push_line, put_arc, put_job, put_node};
+use crate::arcs::Arcs;
+use crate::labels::Label;
+use crate::words::{Line, push_line, put_arc, put_job, put_node, put_visit};
 use cell_tables::Rest;
 use people_names::Names;
 use plan_verifier::{Hold, bound_of};
-use shop_base::{JobNo, MachineNo, Moment, Node, Planned, Shaped};
-use std::alloc::AllocError;
+use shop_base::{MachineNo, Moment, Node, Planned, Shop};
+use std::alloc::{AllocError, Global};
 
 /// Adds a line for what holds up the first node, and one for each further node, with the length of the path up to it
 /// and the arc from the node before.
 pub(crate) fn push_chain_lines<P: Planned>(
+    alloc: Global,
     text: &mut Vec<u8>,
     names: &Names,
     rest: &Rest<P>,
@@ -29,12 +31,13 @@ pub(crate) fn push_chain_lines<P: Planned>(
         text.old.items text.new.items) }
 {
     match nodes.split_first() {
-        Some((first, along)) => push_from(text, names, rest, *first, along),
+        Some((first, along)) => push_from(alloc, text, names, rest, *first, along),
         None => Ok(()),
     }
 }
 
 fn push_from<P: Planned>(
+    alloc: Global,
     text: &mut Vec<u8>,
     names: &Names,
     rest: &Rest<P>,
@@ -47,14 +50,15 @@ fn push_from<P: Planned>(
         text.old.items text.new.items) }
 {
     let shaped = rest.shaped();
+    let arcs = Arcs::new(alloc, shaped)?;
     let Some(bound) = bound_of(rest, first) else {
         unreachable!()
     };
     let mut line = Line::ended();
     put_overdue(&mut line, names, bound.overdue);
-    put_hold(&mut line, names, bound.holds);
+    put_hold(&mut line, names, shaped.shop(), first, bound.holds);
     push_node_at(text, names, &mut line, first, bound.moment)?;
-    push_reached_lines(text, names, shaped, bound.moment, first, along)
+    push_reached_lines(text, names, &arcs, bound.moment, first, along)
 }
 
 /// Writes since when that is overdue, if it is.
@@ -73,11 +77,12 @@ fn put_overdue(line: &mut Line, names: &Names, overdue: Option<Moment>)
 }
 
 /// Writes what holds a node up.
-fn put_hold(line: &mut Line, names: &Names, holds: Hold)
+fn put_hold(line: &mut Line, names: &Names, shop: &Shop, node: Node, holds: Hold)
     requires { length line.old ≤ 45 }
-    ensures written { line.new ≡ before (hold_words names.now holds) line.old }
-    ensures length { length line.new ≤ 157 + length line.old }
+    ensures written { line.new ≡ before (hold_words names.now shop.now node holds) line.old }
+    ensures length { length line.new ≤ 168 + length line.old }
 {
+    let step = node.place.saturating_sub(1);
     match holds {
         Hold::Arrived { job } => put_job(line, names, job, b" has arrived"),
         Hold::Awaited { job } => {
@@ -86,7 +91,8 @@ fn put_hold(line: &mut Line, names: &Names, holds: Hold)
         }
         Hold::Done { job, machine } => {
             names.put_machine(line, machine);
-            put_job(line, names, job, b" done on machine ");
+            let visit = Label::of(shop, job, step);
+            put_visit(line, names, visit, b" done on machine ");
         }
         Hold::Worked {
             job,
@@ -95,7 +101,8 @@ fn put_hold(line: &mut Line, names: &Names, holds: Hold)
             nominal,
         } => {
             put_since(line, names, machine, b" since ", since, nominal);
-            put_job(line, names, job, b" on machine ");
+            let visit = Label::of(shop, job, step);
+            put_visit(line, names, visit, b" on machine ");
         }
         Hold::Cleaned {
             machine,
@@ -135,19 +142,19 @@ fn put_since(
 fn push_reached_lines(
     text: &mut Vec<u8>,
     names: &Names,
-    shaped: &Shaped,
+    arcs: &Arcs<'_>,
     start: Moment,
     from: Node,
     along: &[Node],
 ) -> Result<(), AllocError>
-    requires arcs { AreAlong shaped.now from along.now }
-    requires small { length_from shaped.now start from along.now < 2 ^ 64 }
-    ensures { OnOk result (text.new.items ≡ text.old.items ++ reached_lines names.now shaped.now start from along.now) }
+    requires arcs { AreAlong arcs.now from along.now }
+    requires small { length_from arcs.now start from along.now < 2 ^ 64 }
+    ensures { OnOk result (text.new.items ≡ text.old.items ++ reached_lines names.now arcs.now start from along.now) }
 {
     let mut at = start;
     let mut last = from;
     for node in along {
-        let arc = arc_kind(shaped, last, *node);
+        let arc = arcs.kind(last, *node);
         at += arc.time();
         let mut line = Line::ended();
         put_arc(&mut line, names, arc);
@@ -165,7 +172,7 @@ fn push_node_at(
     node: Node,
     moment: Moment,
 ) -> Result<(), AllocError>
-    requires { length line.old ≤ 204 }
+    requires { length line.old ≤ 213 }
     ensures { OnOk result (text.new.items ≡ text.old.items
         ++ before (moment_word names.now moment ∷ codes " " ∷ node_text node ∷ codes " " ∷ []) line.old) }
 {

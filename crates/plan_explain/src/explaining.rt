@@ -26,7 +26,8 @@ const USUAL_LINE: usize = 48;
 /// first node of a chain waits for, followed by the chain's arcs. The chain is the one to the leaving of the job that is
 /// asked for; else the one to the late job's leaving that the first line gives, or a longest one to the leaving of the
 /// least job that leaves last of those that aren't gone. To the leaving of a job that is gone there is no chain. Behind
-/// the first line jobs, machines and moments are written by names and clock.
+/// the first line jobs, machines and moments are written by names and clock, and visits, in a shop with recirculation,
+/// with their steps.
 pub fn explain<P: Planned>(
     alloc: Global,
     names: &Names,
@@ -61,10 +62,10 @@ fn push_lines_behind<P: Planned>(
     match verdict {
         Judged::Accepted(times) => {
             let chain = accepted_chain(alloc, rest, times, job)?;
-            push_moment_lines(text, names, rest, times, &chain)
+            push_moment_lines(alloc, text, names, rest, times, &chain)
         }
         Judged::Refused(why) => match why {
-            Why::Cycle(nodes) => push_cycle_lines(text, names, rest.shaped(), nodes),
+            Why::Cycle(nodes) => push_cycle_lines(alloc, text, names, rest.shaped(), nodes),
             Why::Late {
                 job: _,
                 leaves,
@@ -73,12 +74,12 @@ fn push_lines_behind<P: Planned>(
             } => match job {
                 Some(job) => {
                     let asked = chain_to(alloc, rest, times, job)?;
-                    push_moment_lines(text, names, rest, times, &asked)
+                    push_moment_lines(alloc, text, names, rest, times, &asked)
                 }
                 None => {
                     // Read for its range alone: the chain is as long as a moment.
                     let _length = *leaves;
-                    push_moment_lines(text, names, rest, times, chain)
+                    push_moment_lines(alloc, text, names, rest, times, chain)
                 }
             },
         },
@@ -87,6 +88,7 @@ fn push_lines_behind<P: Planned>(
 
 /// Adds the lines of the jobs, and those of a chain, if there is one.
 fn push_moment_lines<P: Planned>(
+    alloc: Global,
     text: &mut Vec<u8>,
     names: &Names,
     rest: &Rest<P>,
@@ -102,7 +104,7 @@ fn push_moment_lines<P: Planned>(
     // So that a long text isn't copied again and again as it grows.
     text.reserve(chain.len().saturating_mul(USUAL_LINE))?;
     push_leaving_lines(text, names, rest.cell(), times)?;
-    push_chain_lines(text, names, rest, chain)
+    push_chain_lines(alloc, text, names, rest, chain)
 }
 
 /// The chain of an accepted rest: that to the leaving of the job that is asked for, else to that of the least job that

@@ -6,15 +6,16 @@
 ghost use Rattle.plan_explain.specs.LineLaws.{ArcsAreExact, EachLineIsItsPath, TheLastLineIsTheLength};
 ghost use Rattle.plan_explain.specs.LineLaws.{TheLinesOfACycleClose, AVerdictHasOneFirstLine};
 
-/// A job arc is shown by its job, the machine and the nominal time of its step. A blocking arc is shown by its machine,
-/// the job that leaves it, the one that enters and its cleaning time. The time shown is the length of the arc.
+/// A job arc is shown by its visit, the machine and the nominal time of its step. A blocking arc is shown by its machine,
+/// the visit that ends there, the one that begins and its cleaning time. Where both join the same nodes, the longer one is
+/// shown, or of two of one length the job arc. The time shown is the greatest length of an arc between the nodes.
 #[tactic(auto, using(crate::proofs::LineLaws::exact_arcs))]
 pub fn arcs_are_exact()
     ensures { ArcsAreExact }
 {}
 
 /// The line of a node after a longest path gives the length of the path up to it: the length of the path before, plus
-/// the arc between. So the moments never fall along a chain.
+/// the longest arc between. So the moments never fall along a chain.
 #[tactic(auto, using(crate::proofs::LineLaws::each_line))]
 pub fn each_line_is_its_path()
     ensures { EachLineIsItsPath }

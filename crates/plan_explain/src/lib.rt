@@ -9,10 +9,12 @@ mod chains;
 mod cycles;
 mod explaining;
 mod first_lines;
+mod labels;
 pub mod laws;
 mod leaving_lines;
 mod words;
 
 pub use explaining::explain;
 pub use first_lines::{first_line, push_cycle_line};
-pub use words::{LINE_ROOM, Line, push_job_at, push_line, put_job};
+pub use labels::Label;
+pub use words::{LINE_ROOM, Line, push_job_at, push_line, put_job, put_visit};

@@ -3,16 +3,18 @@
 ghost use Rattle.std.specs.Prelude.{◌≡◌, ◌+◌, ◌≤◌, [], ◌∷◌, ◌++◌, length, codes, OnOk};
 ghost use Rattle.shop_base.specs.NodeText.{node_text};
 ghost use Rattle.people_names.specs.Words.{job_word, moment_word};
+ghost use Rattle.plan_explain.specs.Labels.{label_word};
 ghost use Rattle.plan_explain.specs.Arcs.{before, clean_words, arc_words};
 ghost use Rattle.plan_explain.specs.declared.words.TheConstants.{LINE_ROOM};
 
 use crate::arcs::ArcKind;
+use crate::labels::Label;
 use people_names::Names;
 use shop_base::{JobNo, Moment, Node};
 use std::alloc::AllocError;
 
 /// The room of a line, in bytes.
-pub const LINE_ROOM: usize = 256;
+pub const LINE_ROOM: usize = 272;
 
 /// A line of an explanation or a schedule. All are shorter than its room.
 pub type Line = text_lines::LineText<LINE_ROOM>;
@@ -41,6 +43,18 @@ pub fn put_job(line: &mut Line, names: &Names, job: JobNo, words: &[u8])
     line.put_text(b"job ");
 }
 
+/// Writes `job J`, with the step where the label has one, and these words.
+#[inline(always)]
+pub fn put_visit(line: &mut Line, names: &Names, visit: Label, words: &[u8])
+    requires { 55 + length words.now + length line.old ≤ LINE_ROOM }
+    ensures written { line.new ≡ before (codes "job " ∷ label_word names.now visit ∷ words.now ∷ []) line.old }
+    ensures length { length line.new ≤ 55 + length words.now + length line.old }
+{
+    line.put_text(words);
+    names.put_visit(line, visit.job, visit.step);
+    line.put_text(b"job ");
+}
+
 /// Writes that the machine is cleaned, if it has a cleaning time.
 fn put_clean(line: &mut Line, clean: Moment)
     requires { length line.old ≤ 1 }
@@ -58,18 +72,18 @@ fn put_clean(line: &mut Line, clean: Moment)
 pub(crate) fn put_arc(line: &mut Line, names: &Names, arc: ArcKind)
     requires { length line.old ≤ 1 }
     ensures written { line.new ≡ before (arc_words names.now arc) line.old }
-    ensures length { length line.new ≤ 179 + length line.old }
+    ensures length { length line.new ≤ 201 + length line.old }
 {
     match arc {
         ArcKind::Job {
-            job,
+            visit,
             machine,
             nominal,
         } => {
             line.put_number(nominal);
             line.put_text(b" for ");
             names.put_machine(line, machine);
-            put_job(line, names, job, b" on machine ");
+            put_visit(line, names, visit, b" on machine ");
         }
         ArcKind::Blocking {
             machine,
@@ -78,9 +92,9 @@ pub(crate) fn put_arc(line: &mut Line, names: &Names, arc: ArcKind)
             clean,
         } => {
             put_clean(line, clean);
-            names.put_job(line, to);
+            names.put_visit(line, to.job, to.step);
             line.put_text(b" to job ");
-            names.put_job(line, from);
+            names.put_visit(line, from.job, from.step);
             line.put_text(b" from job ");
             names.put_machine(line, machine);
             line.put_text(b"machine ");

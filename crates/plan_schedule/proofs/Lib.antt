@@ -1,3 +1,4 @@
+pub mod NextPlace
 pub mod Behind
 pub mod Drawing
 pub mod ExactRun

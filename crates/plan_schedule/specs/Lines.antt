@@ -1,6 +1,7 @@
 -- The lines of a schedule in words.
 use Rattle.std.specs.Prelude.{ℕ, if◌then◌else◌, List, [], ◌∷◌, ◌++◌, codes, Option, None, Some}
 use Rattle.people_names.specs.{NameBooks.NameBook, Words.job_word, Words.machine_word, Words.moment_word, Words.is_deadline_printed}
+use Rattle.plan_explain.specs.Labels.{label_word}
 use Rattle.plan_explain.specs.Arcs.{before}
 use Rattle.plan_schedule.specs.{declared.lines.ScheduledVisit.ScheduledVisit, declared.lines.Cleaning.Cleaning}
 
@@ -18,10 +19,10 @@ module _ (names : NameBook) where
   abbrev pub ending_words : ScheduledVisit → List ℕ → List ℕ
   ending_words visit behind = if visit.done then codes " done" ++ behind else before (codes " to " ∷ moment_word names visit.to ∷ []) (before (due_words visit.due) behind)
 
-  -- `job J on machine M from E to F by D leaves L`, where these words say when the operation begins
+  -- `job J on machine M from E to F by D leaves L`, where these words say when the operation begins; in a shop with recirculation with the step, as `J.K`
   abbrev pub visit_line : List ℕ → ScheduledVisit → List ℕ
   visit_line begins visit =
-      before (codes "job " ∷ job_word names visit.job ∷ codes " on machine " ∷ machine_word names visit.machine ∷ begins ∷ moment_word names visit.from ∷ []) (
+      before (codes "job " ∷ label_word names visit.label ∷ codes " on machine " ∷ machine_word names visit.machine ∷ begins ∷ moment_word names visit.from ∷ []) (
       ending_words visit (before (codes " leaves " ∷ moment_word names visit.leaves ∷ []) (codes "\n"))
       )
 

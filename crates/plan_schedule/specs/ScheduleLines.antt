@@ -4,6 +4,7 @@ use Rattle.shop_base.specs.declared.node.Node.{Node}
 use Rattle.shop_base.specs.Plan.{PlannedShop, jobs, machines, steps, order, machine_of, nominal, release, clean, Stands}
 use Rattle.shop_base.specs.{Cell.Cell, Cell.made, Cell.ready, Cell.since, Cell.entries, Cell.cleaning, Cell.IsGone, Graph.node}
 use Rattle.people_names.specs.NameBooks.{NameBook}
+use Rattle.plan_explain.specs.Labels.{label_of}
 use Rattle.plan_explain.specs.Parts.{AreBoth, AreTextsFrom}
 use Rattle.plan_schedule.specs.Lines.{arrival_line, cleaning_line, left_line, arrived_line}
 use Rattle.plan_schedule.specs.{Schedules.IsVisitText, Schedules.AreVisitsFrom, declared.lines.ScheduledVisit.ScheduledVisit}
@@ -27,7 +28,7 @@ module _ (p : PlannedShop) (c : Cell) (t : ℕ) where
   -- the visit that job j is in, by its step k
   abbrev pub entered_of : (Node → ℕ) → (Node → Option ℕ) → ℕ → ℕ → ScheduledVisit
   entered_of at due j k = record {
-    job = j;
+    label = label_of p.shop j k;
     machine = machine_of p j k;
     from = since c j;
     to = operation_end j k;

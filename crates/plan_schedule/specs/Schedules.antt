@@ -3,6 +3,7 @@ use Rattle.std.specs.Prelude.{◌≡◌, ℕ, false, ◌+◌, ◌<◌, List, cod
 use Rattle.shop_base.specs.declared.node.Node.{Node}
 use Rattle.shop_base.specs.{Plan.PlannedShop, Plan.machine_of, Plan.nominal, Plan.clean, Graph.node}
 use Rattle.people_names.specs.NameBooks.{NameBook}
+use Rattle.plan_explain.specs.Labels.{label_of}
 use Rattle.alt_graph.specs.Sources.{IsBlockingArc, IsTarget}
 use Rattle.plan_explain.specs.Parts.{AreBoth, AreTextsFrom}
 use Rattle.plan_schedule.specs.{declared.lines.ScheduledVisit.ScheduledVisit, declared.lines.Cleaning.Cleaning}
@@ -25,7 +26,7 @@ module _ (p : PlannedShop) (at : Node → ℕ) (due : Node → Option ℕ) where
   -- the visit of job j by its step k: it begins as the job enters, takes its nominal time, and has the deadline of the job's next move
   abbrev pub visit_of : ℕ → ℕ → ScheduledVisit
   visit_of j k = record {
-    job = j;
+    label = label_of p.shop j k;
     machine = machine_of p j k;
     from = at (node j k);
     to = at (node j k) + nominal p j k;
@@ -53,7 +54,7 @@ module _ (names : NameBook) (p : PlannedShop) (at : Node → ℕ) (due : Node �
 
   -- the lines of a visit by its job's step k, where these words say when it begins: its own, and that of the cleaning behind it
   abbrev pub IsVisitText : List ℕ → ScheduledVisit → ℕ → List ℕ → Type 0
-  IsVisitText begins visit k = AreBoth (λ line. line ≡ visit_line names begins visit) (IsCleaningText visit.job k)
+  IsVisitText begins visit k = AreBoth (λ line. line ≡ visit_line names begins visit) (IsCleaningText visit.label.job k)
 
   -- the lines of job j's visits from one place of its route up to another
   abbrev pub AreVisitsFrom : ℕ → ℕ → ℕ → List ℕ → Type 0

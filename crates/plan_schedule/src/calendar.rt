@@ -5,6 +5,7 @@ ghost use Rattle.shop_base.specs.{declared.limits.TheConstants.MAX_MOMENT, Shop.
 ghost use Rattle.shop_base.specs.Plan.{jobs, machines, steps, route, release, Visits};
 ghost use Rattle.shop_base.specs.{Cell.job_in, Cell.made, Cell.cleaning, Graph.IsNode, Sound.IsSound};
 ghost use Rattle.alt_graph.specs.Sources.{IsBlockingArc, IsTarget};
+ghost use Rattle.plan_explain.specs.Labels.{label_of};
 ghost use Rattle.plan_verifier.specs.Rest.{AreOrderedAhead};
 ghost use Rattle.plan_schedule.specs.Schedules.{visit_of, IsCleaningDue, IsCleaningBehind};
 ghost use Rattle.plan_schedule.specs.ScheduleLines.{operation_end, cleaned_by, entered_of, IsNextDue, IsCleaningOn};
@@ -13,6 +14,7 @@ ghost use Rattle.plan_schedule.specs.Calendars.{IsCalendar, calendar_of, seen, a
 use crate::lines::{Cleaning, ScheduledVisit};
 use alt_graph::{Deadlines, Graph, Times};
 use cell_tables::{Rest, WorkCell};
+use plan_explain::Label;
 use plan_verifier::cleanings_in_range;
 use shop_base::{JobNo, JobState, MachineNo, Moment, Node, Planned, Step};
 use std::alloc::{AllocError, Global};
@@ -139,7 +141,7 @@ impl<'a, P: Planned> Calendar<'a, P> {
             place: place + 1,
         };
         ScheduledVisit {
-            job,
+            label: self.label(job, place),
             machine: step.machine,
             from,
             to: from + step.nominal,
@@ -162,7 +164,7 @@ impl<'a, P: Planned> Calendar<'a, P> {
             place: place + 1,
         };
         ScheduledVisit {
-            job,
+            label: self.label(job, place),
             machine: step.machine,
             from: state.since,
             to: self.operation_end(job, place),
@@ -269,11 +271,18 @@ impl<'a, P: Planned> Calendar<'a, P> {
         let _plan = cell.shaped();
         match cell.next_on(machine) {
             Some(job) => {
-                let place = place_on(cell, job, machine);
+                let place = next_place_on(cell, job, machine);
                 self.due(Node { job, place })
             }
             None => None,
         }
+    }
+
+    /// What lines call the job's visit by the step at a place of its route.
+    fn label(&self, job: JobNo, place: u32) -> Label
+        ensures { result ≡ label_of self.now.plan.shop job place }
+    {
+        Label::of(self.cell.shaped().shop(), job, place)
     }
 
     /// The step at a place of the job's route.
@@ -311,13 +320,15 @@ impl<'a, P: Planned> Calendar<'a, P> {
     }
 }
 
-/// The place of the job's step on the machine.
-fn place_on<P: Planned>(cell: &WorkCell<P>, job: JobNo, machine: MachineNo) -> u32
+/// The place of the job's next step on the machine.
+fn next_place_on<P: Planned>(cell: &WorkCell<P>, job: JobNo, machine: MachineNo) -> u32
     requires job { job < jobs cell.now.plan }
-    requires visits { (k : ℕ) × Visits cell.now.plan job k machine }
-    ensures { Visits cell.now.plan job result machine }
+    requires visits { (k : ℕ) × (made cell.now.cell job ≤ k) × Visits cell.now.plan job k machine }
+    ensures ahead { made cell.now.cell job ≤ result }
+    ensures visits { Visits cell.now.plan job result machine }
+    ensures next { (k : ℕ) → made cell.now.cell job ≤ k → k < result → Visits cell.now.plan job k machine → ⊥ }
 {
-    for place in 0..cell.step_count(job) {
+    for place in cell.job_state(job).made..cell.step_count(job) {
         if cell.machine_at(job, place) == Some(machine) {
             return place;
         }

@@ -6,7 +6,7 @@ ghost use Rattle.plan_schedule.specs.Lines.{due_words, arrival_line, ending_word
 ghost use Rattle.plan_schedule.specs.Lines.{cleaning_line, left_line, arrived_line};
 
 use people_names::Names;
-use plan_explain::{Line, push_job_at, push_line, put_job};
+use plan_explain::{Label, Line, push_job_at, push_line, put_job, put_visit};
 use shop_base::{JobNo, MachineNo, Moment};
 use std::alloc::AllocError;
 
@@ -14,7 +14,7 @@ use std::alloc::AllocError;
 /// job leaves.
 #[derive(Clone, Copy)]
 pub(crate) struct ScheduledVisit {
-    pub job: JobNo,
+    pub label: Label,
     pub machine: MachineNo,
     pub from: Moment,
     pub to: Moment,
@@ -66,7 +66,7 @@ pub(crate) fn push_visit_line(
     names.put_moment(&mut line, visit.from);
     line.put_text(begins);
     names.put_machine(&mut line, visit.machine);
-    put_job(&mut line, names, visit.job, b" on machine ");
+    put_visit(&mut line, names, visit.label, b" on machine ");
     push_line(text, &line)
 }
 

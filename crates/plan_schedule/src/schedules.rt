@@ -23,7 +23,7 @@ use std::alloc::{AllocError, Global};
 /// present moment. Moments are whole time units, the earliest for each move ahead; of a whole plan those of the exact
 /// run, in which each activity takes its nominal time. If the rest is accepted, the deadlines follow them. A plan with a
 /// cycle has only its first line, as no run of it has moments for all. Behind the first line jobs, machines and moments
-/// are written by names and clock.
+/// are written by names and clock, and visits, in a shop with recirculation, with their steps.
 pub fn schedule<P: Planned>(
     alloc: Global,
     names: &Names,

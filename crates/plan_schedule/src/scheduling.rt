@@ -136,13 +136,13 @@ fn push_visit<P: Planned>(
     place: u32,
 ) -> Result<(), AllocError>
     requires begins { length begins.now ≤ 20 }
-    requires job { visit.job < jobs calendar.now.plan }
-    requires place { place < steps calendar.now.plan visit.job }
-    requires left { made calendar.now.cell visit.job ≤ place + 1 }
+    requires job { visit.label.job < jobs calendar.now.plan }
+    requires place { place < steps calendar.now.plan visit.label.job }
+    requires left { made calendar.now.cell visit.label.job ≤ place + 1 }
     ensures { OnOk result
         (Adds (IsVisitTextBy names.now calendar.now begins.now visit place) text.old.items text.new.items) }
 {
     push_visit_line(text, names, begins, visit)?;
-    let behind = calendar.cleaning(visit.job, place);
+    let behind = calendar.cleaning(visit.label.job, place);
     push_cleaning_line(text, names, b" cleaned from ", behind)
 }

@@ -12,17 +12,17 @@ unreachable-requires g c = c.in_default.ensures c.requires.is.begins.1
 pub push_reached_lines-requires-clause-arcs : goal.push_reached_lines-requires-clause-arcs
 push_reached_lines-requires-clause-arcs g c =
     let r = c.args.rest.now in
-    rw c.shaped-shaped.ensures.plan
-    ((led r.plan r.cell r.present c.args.first c.args.along.now c.requires.last c.requires.size c.requires.is c.shaped-shaped.ensures.well_shaped).along)
+    rw (c.in_ok-arcs.ensures, c.shaped-shaped.ensures.plan)
+    ((led r.plan r.cell r.present c.args.first c.args.along.now c.requires.last c.requires.size c.requires.is).along)
 
 pub push_reached_lines-requires-clause-small : goal.push_reached_lines-requires-clause-small
 push_reached_lines-requires-clause-small g c =
     let r = c.args.rest.now in
-    let size = bound_length r.plan r.cell r.present c.args.first c.args.along.now c.requires.last c.requires.size c.requires.is c.shaped-shaped.ensures.well_shaped c.in-Some.bound c.shaped-shaped.ensures.sound c.in-Some.ensures in
+    let size = bound_length r.plan r.cell r.present c.args.first c.args.along.now c.requires.last c.requires.size c.requires.is c.in-Some.bound c.shaped-shaped.ensures.sound c.in-Some.ensures in
     let small : length_from r.plan c.in-Some.bound.moment c.args.first c.args.along.now < 2 ^ 64 = omega (arith, size, c.requires.small) in
-    rw c.shaped-shaped.ensures.plan small
+    rw (c.in_ok-arcs.ensures, c.shaped-shaped.ensures.plan) small
 
 pub returns : goal.returns
 returns g c =
     chain_parts c.args.names.now c.args.rest.now.plan c.args.rest.now.cell c.args.rest.now.present c.args.first c.args.along.now c.in-Some.bound c.push_reached_lines.result _ _ _ c.in-Some.ensures
-    (rw (c.put_hold.ensures.written, c.put_overdue.ensures.written, c.ended-line.ensures) at c.in_ok-push_node_at.ensures) (rw c.shaped-shaped.ensures.plan at c.push_reached_lines.ensures)
+    (rw (c.put_hold.ensures.written, c.put_overdue.ensures.written, c.ended-line.ensures, c.shop.ensures.same, c.shaped-shaped.ensures.plan) at c.in_ok-push_node_at.ensures) (rw (c.in_ok-arcs.ensures, c.shaped-shaped.ensures.plan) at c.push_reached_lines.ensures)
