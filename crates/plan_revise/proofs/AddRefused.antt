@@ -12,7 +12,7 @@ use Rattle.plan_revise.specs.{Promises.no_promise, Settings.Setting, Routes.IsRo
 use Rattle.plan_revise.specs.Refusals.{IsLineFault, IsStepsFault, IsAddFault}
 
 -- what is wrong with the route is wrong with the steps, where there aren't too many jobs
-pub route_refused : (s : Setting) (p : PlannedShop) (steps : List Step) (release budget : ℕ) (fault : ChangeFault) → jobs p < MAX_JOBS → IsRouteFault s.plant steps fault → IsStepsFault s p steps release budget fault
+pub route_refused : (s : Setting) (p : PlannedShop) (steps : List Step) (release budget : ℕ) (fault : ChangeFault) → jobs p < MAX_JOBS → IsRouteFault s.plant p.shop.recirculates steps fault → IsStepsFault s p steps release budget fault
 route_refused s p steps release budget TooManyJobs few is = absurd is.wrong
 route_refused s p steps release budget ReleaseTooLarge few is = absurd is.wrong
 route_refused s p steps release budget BudgetTooLarge few is = absurd is.wrong

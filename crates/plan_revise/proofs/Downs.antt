@@ -1,6 +1,6 @@
 -- No job has a machine ahead that is down.
-use Rattle.std.proofs.Common.{◌≡◌, ◌≢◌, ℕ, zero, suc, ◌+◌, ◌<◌, ◌≤◌, ◌⊎◌, inl, inr, List, [], ◌∷◌, ◌++◌, length, max, Option, None, Some, nat_lt, refl, sym, ap, ◌∙◌, subst, arith}
-use Rattle.std.proofs.lemmas.Bool.{cases_eq, cases_lt, cases_Bool, ltb-true, lt-ltb, le-ltb}
+use Rattle.std.proofs.Common.{◌≡◌, ◌≢◌, ℕ, zero, suc, ◌+◌, ◌<◌, ◌≤◌, ◌⊎◌, inl, inr, List, [], ◌∷◌, ◌++◌, length, max, Option, None, Some, refl, sym, ap, ◌∙◌, subst, arith}
+use Rattle.std.proofs.lemmas.Bool.{cases_eq, cases_lt, lt-ltb, le-ltb}
 use Rattle.shop_base.specs.declared.job_state.JobState.{JobState}
 use Rattle.shop_base.specs.declared.shop.Step.{Step}
 use Rattle.shop_base.specs.Shop.{step_at}
@@ -15,15 +15,14 @@ use Rattle.plan_revise.specs.declared.change.Change.TheVariants.{Until, Add, Scr
 use Rattle.plan_revise.specs.Ended.{ended}
 use Rattle.plan_revise.specs.Settings.{Setting, setting, moves_made}
 use Rattle.plan_revise.specs.Aside.{HasRoom, put_aside}
-use Rattle.plan_revise.specs.Stopped.{place_on, stopped, stopped_at, without_machine}
+use Rattle.plan_revise.specs.Stopped.{present_step, way_to, stopped, stopped_at, without_machine}
 use Rattle.plan_revise.specs.Revised.{AreMade}
 use Rattle.plan_revise.specs.Fits.{IsRevision, IsSetting}
 use Rattle.plan_revise.specs.Stages.{IsStage}
 use Rattle.plan_revise.specs.RevisedLaw.{AreDowns, NoPartComesToAMachineThatIsDown}
-use Rattle.plan_revise.proofs.Fitting.{fit-once}
+use Rattle.plan_revise.proofs.Ways.{way_visits, way_first, way_none}
 use Rattle.plan_revise.proofs.EndedParts.{ended-ends, visits_before, mine_below}
-use Rattle.plan_revise.proofs.Written.{not_on}
-use Rattle.plan_revise.proofs.Revisions.{given_revision, becomes-revision, aside_places, stopped_outside, stopped_inside, stopped_at-one, stage_upto, stage_room, stopped_at_past, stopped_at_ahead, place_within}
+use Rattle.plan_revise.proofs.Revisions.{given_revision, becomes-revision, aside_places, stopped_outside, stopped_inside, stopped_at-one, stage_upto, stage_room}
 use Rattle.plan_revise.proofs.Outcomes.{run_setting, run_stays}
 
 module _ (s : Setting) (is : IsSetting s) where
@@ -39,58 +38,53 @@ module _ (s : Setting) (is : IsSetting s) where
       let is_route = (aside_places s p j is revision inside outside room).route_is in
       absurd (omega (arith, visits.within, ap length is_route))
 
-  -- a job that is stopped where the machine is has no step ahead there
-  stopped-done : (p : PlannedShop) (m j place : ℕ) → IsRevision s p → j < jobs p → m < s.plant → (moves_made s j ≡ 0 → HasRoom s p) → Visits p j place m → IsDone (stopped s p j (max place (moves_made s j))) m j
-  stopped-done p m j place revision inside in_plant room here k visits = elim (cases_eq (moves_made s j) 0) [
-    | inl outside ↦ done_aside p m j revision inside in_plant outside (room outside) k (subst (λ (q : PlannedShop). Visits q j k m) (stopped_outside s p j (max place (moves_made s j)) outside) visits)
-    | inr moved ↦ (let there : Visits (ended p j (max place (moves_made s j))) j k m = subst (λ (q : PlannedShop). Visits q j k m) (stopped_inside s p j (max place (moves_made s j)) moved) visits in
-        let ends = ended-ends p j (max place (moves_made s j)) revision.fit inside in
-        let before = visits_before p j (max place (moves_made s j)) (ended p j (max place (moves_made s j))) revision.fit ends j k m there in
-        omega (arith, mine_below p j (max place (moves_made s j)) (ended p j (max place (moves_made s j))) revision.fit ends k there.within, fit-once p revision.fit j k place m before here))
+  -- a job that is stopped before each step that it has ahead on the machine has none ahead there
+  stopped-done : (p : PlannedShop) (m j n : ℕ) → IsRevision s p → j < jobs p → m < s.plant → (moves_made s j ≡ 0 → HasRoom s p) → ((k : ℕ) → k < n → Visits p j k m → k < moves_made s j) → IsDone (stopped s p j n) m j
+  stopped-done p m j n revision inside in_plant room none k visits = elim (cases_eq (moves_made s j) 0) [
+    | inl outside ↦ done_aside p m j revision inside in_plant outside (room outside) k (subst (λ (q : PlannedShop). Visits q j k m) (stopped_outside s p j n outside) visits)
+    | inr moved ↦ (let there : Visits (ended p j n) j k m = subst (λ (q : PlannedShop). Visits q j k m) (stopped_inside s p j n moved) visits in
+        let ends = ended-ends p j n revision.fit inside in
+        none k (mine_below p j n (ended p j n) ends k there.within) (visits_before p j n (ended p j n) ends j k m there))
   ]
 
   -- and one that is stopped elsewhere gets none
   stopped-keeps : (p : PlannedShop) (m j n : ℕ) → IsRevision s p → j < jobs p → m < s.plant → (moves_made s j ≡ 0 → HasRoom s p) → IsDone p m j → IsDone (stopped s p j n) m j
   stopped-keeps p m j n revision inside in_plant room done k visits = elim (cases_eq (moves_made s j) 0) [
     | inl outside ↦ done_aside p m j revision inside in_plant outside (room outside) k (subst (λ (q : PlannedShop). Visits q j k m) (stopped_outside s p j n outside) visits)
-    | inr moved ↦ done k (visits_before p j n (ended p j n) revision.fit (ended-ends p j n revision.fit inside) j k m (subst (λ (q : PlannedShop). Visits q j k m) (stopped_inside s p j n moved) visits))
+    | inr moved ↦ done k (visits_before p j n (ended p j n) (ended-ends p j n revision.fit inside) j k m (subst (λ (q : PlannedShop). Visits q j k m) (stopped_inside s p j n moved) visits))
   ]
 
-  at_place : (p : PlannedShop) (m j k : ℕ) → place_on m (route p j) ≡ Some k → Visits p j k m
-  at_place p m j k found = record { within = (place_within m (route p j) k found).0; here = (place_within m (route p j) k found).1 }
-
-  stopped_at-done : (p : PlannedShop) (m j : ℕ) (found : Option ℕ) → place_on m (route p j) ≡ found → IsRevision s p → j < jobs p → m < s.plant → ((k : ℕ) → moves_made s j ≡ 0 → Visits p j k m → HasRoom s p) → IsDone (stopped_at s p j found) m j
-  stopped_at-done p m j None is_none revision inside in_plant room k visits = absurd (not_on m (route p j) is_none k visits.within visits.here)
-  stopped_at-done p m j (Some place) is_there revision inside in_plant room k visits = elim (cases_Bool (nat_lt (place + 1) (moves_made s j))) [
-    | inl past ↦ (let there : Visits p j k m = subst (λ (q : PlannedShop). Visits q j k m) (stopped_at_past s p j place past) visits in
-        omega (arith, ltb-true (place + 1) (moves_made s j) past, fit-once p revision.fit j k place m there (at_place p m j place is_there)))
-    | inr ahead ↦ stopped-done p m j place revision inside in_plant (λ outside. room place outside (at_place p m j place is_there)) (at_place p m j place is_there) k
-        (subst (λ (q : PlannedShop). Visits q j k m) (stopped_at_ahead s p j place ahead) visits)
+  stopped_at-done : (p : PlannedShop) (m j : ℕ) (found : Option ℕ) → way_to s p j m ≡ found → IsRevision s p → j < jobs p → m < s.plant → ((k : ℕ) → moves_made s j ≡ 0 → Visits p j k m → HasRoom s p) → IsDone (stopped_at s p j found) m j
+  stopped_at-done p m j None is_none revision inside in_plant room k visits = elim (cases_lt k (present_step s j)) [
+    | inl less ↦ omega arith
+    | inr more ↦ absurd (way_none s p m j is_none k more visits)
   ]
+  stopped_at-done p m j (Some further) is_there revision inside in_plant room k visits =
+      stopped-done p m j (max (present_step s j + further) (moves_made s j)) revision inside in_plant (λ outside. room (present_step s j + further) outside (way_visits s p m j further is_there)) none k visits
+    where
+      none : (l : ℕ) → l < max (present_step s j + further) (moves_made s j) → Visits p j l m → l < moves_made s j
+      none l less there = elim (cases_lt l (moves_made s j)) [
+        | inl done ↦ done
+        | inr ahead ↦ absurd (way_first s p m j further is_there l (omega arith) (omega arith) there)
+      ]
 
   -- a job that has no step ahead on machine m gets none where others are stopped at machine n
-  stopped_at-keeps : (p : PlannedShop) (m n j i : ℕ) (found : Option ℕ) → place_on n (route p j) ≡ found → IsRevision s p → j < jobs p → m < s.plant → ((k : ℕ) → moves_made s j ≡ 0 → Visits p j k n → HasRoom s p) → IsDone p m i → IsDone (stopped_at s p j found) m i
+  stopped_at-keeps : (p : PlannedShop) (m n j i : ℕ) (found : Option ℕ) → way_to s p j n ≡ found → IsRevision s p → j < jobs p → m < s.plant → ((k : ℕ) → moves_made s j ≡ 0 → Visits p j k n → HasRoom s p) → IsDone p m i → IsDone (stopped_at s p j found) m i
   stopped_at-keeps p m n j i None is_none revision inside in_plant room done k visits = done k visits
-  stopped_at-keeps p m n j i (Some place) is_there revision inside in_plant room done k visits = elim (cases_Bool (nat_lt (place + 1) (moves_made s j))) [
-    | inl past ↦ done k (subst (λ (q : PlannedShop). Visits q i k m) (stopped_at_past s p j place past) visits)
-    | inr ahead ↦ stop (subst (λ (q : PlannedShop). Visits q i k m) (stopped_at_ahead s p j place ahead) visits)
+  stopped_at-keeps p m n j i (Some further) is_there revision inside in_plant room done k visits = elim (cases_eq i j) [
+    | inl same ↦ omega (
+      arith,
+      ap (moves_made s) same,
+      stopped-keeps p m j (max (present_step s j + further) (moves_made s j)) revision inside in_plant (λ outside. room (present_step s j + further) outside (way_visits s p n j further is_there)) (subst (IsDone p m) same done) k (subst (λ i. Visits (stopped s p j (max (present_step s j + further) (moves_made s j))) i k m) same visits),
+    )
+    | inr other ↦ done k (record {
+      within = omega (arith, visits.within, ap length (one other));
+      here = sym (ap (λ (r : List Step). (step_at r k).machine) (one other)) ∙ visits.here;
+    })
   ]
     where
-      one : (i ≢ j) → route (stopped_at s p j (Some place)) i ≡ route p i
-      one other = (stopped_at-one s is p n j (Some place) is_there revision inside room).others i other
-
-      stop : Visits (stopped s p j (max place (moves_made s j))) i k m → k < moves_made s i
-      stop there = elim (cases_eq i j) [
-        | inl same ↦ omega (
-          arith,
-          ap (moves_made s) same,
-          stopped-keeps p m j (max place (moves_made s j)) revision inside in_plant (λ outside. room place outside (at_place p n j place is_there)) (subst (IsDone p m) same done) k (subst (λ i. Visits (stopped s p j (max place (moves_made s j))) i k m) same there),
-        )
-        | inr other ↦ done k (record {
-          within = omega (arith, visits.within, ap length (one other));
-          here = sym (ap (λ (r : List Step). (step_at r k).machine) (one other)) ∙ visits.here;
-        })
-      ]
+      one : (i ≢ j) → route (stopped_at s p j (Some further)) i ≡ route p i
+      one other = (stopped_at-one s is p n j (Some further) is_there revision inside room).others i other
 
   abbrev HasRoomFor : PlannedShop → ℕ → Type 0
   HasRoomFor p m = (j k : ℕ) → moves_made s j ≡ 0 → Visits p j k m → HasRoom s p
@@ -99,15 +93,15 @@ module _ (s : Setting) (is : IsSetting s) where
   without-keeps p m n i zero revision few in_plant room done k visits = done k visits
   without-keeps p m n i (suc upto) revision few in_plant room done k visits =
       let stage = stage_upto s is p n upto revision (omega arith) room in
-      stopped_at-keeps (without_machine s p n upto) m n upto i (place_on n (route (without_machine s p n upto) upto)) refl stage.revision (omega (arith, stage.jobs_same)) in_plant
+      stopped_at-keeps (without_machine s p n upto) m n upto i (way_to s (without_machine s p n upto) upto n) refl stage.revision (omega (arith, stage.jobs_same)) in_plant
       (λ l outside there. stage_room s is p n upto (without_machine s p n upto) l revision stage room outside there) (without-keeps p m n i upto revision (omega arith) in_plant room done) k visits
 
   without-done : (p : PlannedShop) (m upto i : ℕ) → IsRevision s p → upto ≤ jobs p → m < s.plant → HasRoomFor p m → i < upto → IsDone (without_machine s p m upto) m i
   without-done p m zero i revision few in_plant room less = absurd (omega arith)
   without-done p m (suc upto) i revision few in_plant room less = elim (cases_eq i upto) [
     | inl same ↦ subst (IsDone (without_machine s p m (suc upto)) m) (sym same)
-        (stopped_at-done (without_machine s p m upto) m upto (place_on m (route (without_machine s p m upto) upto)) refl stage.revision (omega (arith, stage.jobs_same)) in_plant room_there)
-    | inr other ↦ stopped_at-keeps (without_machine s p m upto) m m upto i (place_on m (route (without_machine s p m upto) upto)) refl stage.revision (omega (arith, stage.jobs_same)) in_plant room_there
+        (stopped_at-done (without_machine s p m upto) m upto (way_to s (without_machine s p m upto) upto m) refl stage.revision (omega (arith, stage.jobs_same)) in_plant room_there)
+    | inr other ↦ stopped_at-keeps (without_machine s p m upto) m m upto i (way_to s (without_machine s p m upto) upto m) refl stage.revision (omega (arith, stage.jobs_same)) in_plant room_there
         (without-done p m upto i revision (omega arith) in_plant room (omega arith))
   ]
     where

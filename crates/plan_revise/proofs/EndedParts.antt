@@ -1,46 +1,19 @@
--- A job that ends behind its first steps: what is left and changed, and that the plan still fits.
-use Rattle.std.proofs.Common.{◌≡◌, ◌≢◌, ℕ, ◌+◌, ◌-◌, ◌<◌, ◌≤◌, ◌⊎◌, inl, inr, List, [], length, take, drop, get_or, min, refl, sym, ap, ◌∙◌, subst, arith}
-use Rattle.std.proofs.lemmas.Bool.{cases_eq, cases_lt}
-use Rattle.std.proofs.lemmas.List.{get_or-set_same, get_or-set_other, length-set, get_or-take, get_or-drop, length-take, length-drop}
+-- A job that ends behind its first steps: what is left and changed, and that the plan still fits. It loses its steps one by one, the last one first.
+use Rattle.std.proofs.Common.{◌≡◌, ◌≢◌, ℕ, zero, suc, ◌+◌, ◌-◌, ◌<◌, ◌≤◌, ◌⊎◌, inl, inr, List, [], ◌∷◌, length, take, drop, get_or, min, Bool, nat_eq, refl, sym, ap, ◌∙◌, subst, arith, add-one, drop-cons, drop_of_length-le}
+use Rattle.std.proofs.lemmas.Bool.{cases_eq, cases_lt, cases_order}
+use Rattle.std.proofs.lemmas.List.{get_or-set_same, get_or-set_other, length-set, get_or-take, length-take, take-take}
 use Rattle.shop_base.specs.declared.shop.Step.{Step}
 use Rattle.shop_base.specs.Shop.{IsSoundStep, step_at, no_step}
-use Rattle.shop_base.specs.Plan.{PlannedShop, jobs, machines, route, steps, machine_of, order, job_at, budget, Visits, Stands, IsOrder}
-use Rattle.shop_base.proofs.{Visits.stands_alike, OneVisit.{IsPlain, IsPlainOrder, plain-place, plain-order}}
-use Rattle.plan_revise.specs.Orders.{without}
+use Rattle.shop_base.specs.Plan.{PlannedShop, jobs, machines, route, steps, machine_of, order, job_at, budget, visits_before as visit_turn, Visits, Stands, IsOrder}
+use Rattle.shop_base.proofs.Visits.{stands_alike, stands_in_turn, stands_same, stands_step}
+use Rattle.shop_base.proofs.Counting.{count_same}
+use Rattle.plan_revise.specs.Orders.{without_last, removed}
 use Rattle.plan_revise.specs.Promises.{no_promise}
 use Rattle.plan_revise.specs.Ended.{ended}
 use Rattle.plan_revise.specs.Fits.{IsFit}
-use Rattle.plan_revise.specs.Parts.{IsBehind, IsOnRoute, Ends}
-use Rattle.plan_revise.proofs.Places.{IsRemoved, without_removed, removed_once, AreApart, changed-length, changed-off, changed-on}
-use Rattle.plan_revise.proofs.Fitting.{fit-machine, fit-once, fit-stands, fit-order, behind_or_not}
-
--- a step of the rest of a route
-drop_step : (n : ℕ) (r : List Step) (k : ℕ) → step_at (drop n r) k ≡ step_at r (n + k)
-drop_step n r k = get_or-drop n r k no_step
-
--- the rest of a route is no twice on a machine
-rest_apart : (p : PlannedShop) (j n : ℕ) → IsFit p → AreApart (drop n (route p j))
-rest_apart p j n fit i k less within same =
-    (fit.steps_sound j (n + k) (omega (arith, length-drop n (route p j)))).first_visit (n + i) (omega arith)
-    (sym (ap (λ (s : Step). s.machine) (drop_step n (route p j) i)) ∙ same ∙ ap (λ (s : Step). s.machine) (drop_step n (route p j) k))
-
--- a machine behind is one of the rest of the route
-behind_on : (p : PlannedShop) (j n m : ℕ) → IsBehind p j n m → IsOnRoute (drop n (route p j)) m
-behind_on p j n m (k, more, visits) = (
-  k - n,
-  omega (arith, length-drop n (route p j), visits.within),
-  ap (λ (s : Step). s.machine) (drop_step n (route p j) (k - n)) ∙ ap (λ i. machine_of p j i) (back n k more) ∙ visits.here,
-)
-  where
-    back : (n k : ℕ) → n ≤ k → n + (k - n) ≡ k
-    back n k more = omega arith
-
-on_behind : (p : PlannedShop) (j n m : ℕ) → IsOnRoute (drop n (route p j)) m → IsBehind p j n m
-on_behind p j n m (k, less, here) = (
-  n + k,
-  omega arith,
-  record { within = omega (arith, length-drop n (route p j)); here = sym (ap (λ (s : Step). s.machine) (drop_step n (route p j) k)) ∙ here },
-)
+use Rattle.plan_revise.specs.Parts.{IsBehind, Ends}
+use Rattle.plan_revise.proofs.Places.{IsRemoved, removed-size, removed-before, removed-after, removed-count, last_taken, changed-length, changed-here, changed-there}
+use Rattle.plan_revise.proofs.Fitting.{fit-machine, fit-stands, fit-place}
 
 -- what is left and changed
 pub ended-ends : (p : PlannedShop) (j n : ℕ) → IsFit p → j < jobs p → Ends p j n (ended p j n)
@@ -48,10 +21,6 @@ ended-ends p j n fit inside = record {
   jobs_same = length-set p.shop.routes j (take n (route p j));
   mine = get_or-set_same p.shop.routes j (take n (route p j)) [] inside;
   others = λ i other. get_or-set_other p.shop.routes j i (take n (route p j)) [] other;
-  behind = λ m behind.
-      let on = behind_on p j n m behind in
-      changed-on (without j) (drop n (route p j)) p.plan.order on.0 m (rest_apart p j n fit) on.1 on.2 (omega (arith, fit-machine p fit j behind.0 m behind.2, fit.counts.orders));
-  elsewhere = λ m off. changed-off (without j) (drop n (route p j)) p.plan.order m (λ on. off (on_behind p j n m on));
   cleans = λ m. refl;
   releases = λ i. refl;
   unpromised = get_or-set_same p.plan.budget j no_promise 0 (omega (arith, fit.counts.budgets));
@@ -60,36 +29,7 @@ ended-ends p j n fit inside = record {
 
 -- ---- reading the plan that is left
 
--- job j stands at place x of the order of machine m for its step k, behind its first n, and is taken out there
-pub record IsRemovedAt (p : PlannedShop) (j n : ℕ) (q : PlannedShop) (m : ℕ) : Type 0 where
-  pub place : ℕ
-  pub step : ℕ
-  pub behind : n ≤ step
-  pub stands : Stands p m place j step
-  pub removed : IsRemoved j (order p m) place (order q m)
-
--- the order of machine m is as it was, or job j is taken out of it
-pub record IsLeft (p : PlannedShop) (j n : ℕ) (q : PlannedShop) (m : ℕ) : Type 0 where
-  pub not_behind : IsBehind p j n m → ⊥
-  pub same : order q m ≡ order p m
-
-module _ (p : PlannedShop) (j n : ℕ) (q : PlannedShop) (fit : IsFit p) (ends : Ends p j n q) where
-  pub order_cases : (m : ℕ) → IsLeft p j n q m ⊎ IsRemovedAt p j n q m
-  order_cases m = elim (behind_or_not p j n m) [
-    | inl behind ↦ inr (at behind.0 behind.1 behind.2 (fit-stands p fit j behind.0 m behind.2))
-    | inr off ↦ inl (record { not_behind = off; same = ends.elsewhere m off })
-  ]
-    where
-      at : (k : ℕ) → n ≤ k → Visits p j k m → (a : ℕ) × Stands p m a j k → IsRemovedAt p j n q m
-      at k more visits (a, stands) = record {
-        place = a;
-        step = k;
-        behind = more;
-        stands = stands;
-        removed = subst (λ (ys : List ℕ). IsRemoved j (order p m) a ys) (sym (ends.behind m (k, more, visits)))
-            (without_removed j (order p m) a ((fit-order p fit m (fit-machine p fit j k m visits)).once) stands.within stands.job);
-      }
-
+module _ (p : PlannedShop) (j n : ℕ) (q : PlannedShop) (ends : Ends p j n q) where
   -- a step of the plan that is left is one of before
   pub step_before : (i k : ℕ) → k < steps q i → (k < steps p i) × (step_at (route q i) k ≡ step_at (route p i) k)
   step_before i k within = elim (cases_eq i j) [
@@ -117,9 +57,6 @@ module _ (p : PlannedShop) (j n : ℕ) (q : PlannedShop) (fit : IsFit p) (ends :
       let b = step_before i k visits.within in
       record { within = b.0; here = sym (ap (λ (s : Step). s.machine) b.1) ∙ visits.here }
 
-  machine_before : (i k : ℕ) → k < steps q i → machine_of p i k ≡ machine_of q i k
-  machine_before i k within = sym (ap (λ (s : Step). s.machine) (step_before i k within).1)
-
   pub visits_others : (i k m : ℕ) → i ≢ j → Visits p i k m → Visits q i k m
   visits_others i k m other visits = record {
     within = omega (arith, ap length (ends.others i other), visits.within);
@@ -132,143 +69,207 @@ module _ (p : PlannedShop) (j n : ℕ) (q : PlannedShop) (fit : IsFit p) (ends :
     here = ap (λ (r : List Step). (step_at r k).machine) ends.mine ∙ ap (λ (s : Step). s.machine) (get_or-take n (route p j) k no_step less) ∙ visits.here;
   }
 
+-- ---- a job that ends behind all its visits to a machine but the last, or has none behind
+
+-- job j stands at place x of the order of machine m for its step k, the only one behind its first n, and is taken out there
+pub record IsRemovedAt (p : PlannedShop) (j n : ℕ) (q : PlannedShop) (m : ℕ) : Type 0 where
+  pub place : ℕ
+  pub step : ℕ
+  pub behind : n ≤ step
+  pub only : (k : ℕ) → n ≤ k → Visits p j k m → k ≡ step
+  pub stands : Stands p m place j step
+  pub removed : IsRemoved j (order p m) place (order q m)
+
+-- job j has no step behind on machine m, whose order is as it was
+pub record IsLeft (p : PlannedShop) (j n : ℕ) (q : PlannedShop) (m : ℕ) : Type 0 where
+  pub not_behind : IsBehind p j n m → ⊥
+  pub same : order q m ≡ order p m
+
+-- plan p becomes plan q where job j ends behind its first n steps and is taken out of no order twice
+pub record EndsOnce (p : PlannedShop) (j n : ℕ) (q : PlannedShop) : Type 0 where
+  pub ends : Ends p j n q
+  pub orders : (m : ℕ) → IsLeft p j n q m ⊎ IsRemovedAt p j n q m
+
+module _ (p : PlannedShop) (j n : ℕ) (q : PlannedShop) (fit : IsFit p) (once : EndsOnce p j n q) where
+  machine_same : (i k : ℕ) → k < steps q i → machine_of q i k ≡ machine_of p i k
+  machine_same i k within = ap (λ (s : Step). s.machine) (step_before p j n q once.ends i k within).1
+
+  machine_before : (i k : ℕ) → k < steps q i → machine_of p i k ≡ machine_of q i k
+  machine_before i k within = sym (machine_same i k within)
+
+  turn_same : (i k m : ℕ) → k < steps q i → visit_turn q i m k ≡ visit_turn p i m k
+  turn_same i k m within = count_same (λ l. nat_eq (machine_of q i l) m) (λ l. nat_eq (machine_of p i l) m) k (λ l less. ap (λ x. nat_eq x m) (machine_same i l (omega arith)))
+
+  module _ (m : ℕ) (t : IsRemovedAt p j n q m) where
+    size : length (order p m) ≡ length (order q m) + 1
+    size = removed-size j (order p m) t.place (order q m) t.removed
+
+    before : (a : ℕ) → a < t.place → job_at q m a ≡ job_at p m a
+    before = removed-before j (order p m) t.place (order q m) t.removed
+
+    after : (a : ℕ) → t.place ≤ a → job_at q m a ≡ job_at p m (a + 1)
+    after = removed-after j (order p m) t.place (order q m) t.removed
+
+    -- behind the place job j doesn't stand
+    not_behind_place : (b i l : ℕ) → Stands p m b i l → t.place < b → i ≢ j
+    not_behind_place b i l stands more mine =
+        let own : Stands p m b j l = subst (λ i. Stands p m b i l) mine stands in
+        let later : t.step < l = stands_in_turn p m t.place b j t.step l t.stands own more in
+        omega (arith, later, t.behind, t.only l (omega (arith, later, t.behind)) own.visits)
+
+    -- and before it, for its first steps
+    early : (b l : ℕ) → Stands p m b j l → b < t.place → l < n
+    early b l stands less = elim (cases_lt l n) [
+      | inl is ↦ is
+      | inr behind ↦ (let sooner : l < t.step = stands_in_turn p m b t.place j l t.step stands t.stands less in
+          absurd (omega (arith, sooner, t.only l behind stands.visits)))
+    ]
+
   -- where a job that is left stands, it stood, at its place or at the next
   pub stands_before : (m a i k : ℕ) → Stands q m a i k → IsLeft p j n q m → Stands p m a i k
   stands_before m a i k stands left = stands_alike q p m a i k stands (omega (arith, ap length left.same, stands.within))
-      (λ b before. sym (ap (λ (xs : List ℕ). get_or xs b 0) left.same)) (step_before i k stands.visits.within).0 (λ l before. machine_before i l (omega (arith, before, stands.visits.within)))
+      (λ b less. sym (ap (λ (xs : List ℕ). get_or xs b 0) left.same)) (step_before p j n q once.ends i k stands.visits.within).0 (λ l less. machine_before i l (omega (arith, less, stands.visits.within)))
 
   pub stands_front : (m a i k : ℕ) → Stands q m a i k → (t : IsRemovedAt p j n q m) → a < t.place → Stands p m a i k
-  stands_front m a i k stands t less = stands_alike q p m a i k stands (omega (arith, t.removed.size, stands.within))
-      (λ b before. sym (t.removed.before b (omega (arith, before, less)))) (step_before i k stands.visits.within).0 (λ l before. machine_before i l (omega (arith, before, stands.visits.within)))
+  stands_front m a i k stands t less = stands_alike q p m a i k stands (omega (arith, size m t, stands.within))
+      (λ b under. sym (before m t b (omega (arith, under, less)))) (step_before p j n q once.ends i k stands.visits.within).0 (λ l under. machine_before i l (omega (arith, under, stands.visits.within)))
 
   pub stands_back : (m a i k : ℕ) → Stands q m a i k → (t : IsRemovedAt p j n q m) → t.place ≤ a → Stands p m (a + 1) i k
-  stands_back m a i k stands t more =
-      let visits = visits_before i k m stands.visits in
-      plain-place p m (λ j k l. fit-once p fit j k l m) (a + 1) i k (fit.orders m (fit-machine p fit i k m visits))
-      (omega (arith, t.removed.size, stands.within)) (sym (t.removed.after a more) ∙ stands.job) visits
+  stands_back m a i k stands t more = record {
+    within = within;
+    job = here;
+    visits = visits_before p j n q once.ends i k m stands.visits;
+    turn = sym (removed-count j (order p m) t.place (order q m) t.removed i a other more) ∙ stands.turn ∙ turn_same i k m stands.visits.within;
+  }
+    where
+      within : a + 1 < length (order p m)
+      within = omega (arith, size m t, stands.within)
 
--- ---- the plan that is left fits
+      here : job_at p m (a + 1) ≡ i
+      here = sym (after m t a more) ∙ stands.job
 
-sound_front : (count n : ℕ) (r : List Step) (k : ℕ) → k < n → IsSoundStep count r k → IsSoundStep count (take n r) k
-sound_front count n r k less sound = record {
+      other : i ≢ j
+      other = let found = fit-place p fit m (a + 1) i (fit-machine p fit j t.step m t.stands.visits) within here in not_behind_place m t (a + 1) i found.0 found.1 (omega arith)
+
+  -- ---- the plan that is left fits
+
+  visits_kept : (i k m : ℕ) → (i ≡ j → k < n) → Visits p i k m → Visits q i k m
+  visits_kept i k m early visits = elim (cases_eq i j) [
+    | inr other ↦ visits_others p j n q once.ends i k m other visits
+    | inl same ↦ subst (λ i. Visits q i k m) (sym same) (visits_mine p j n q once.ends k m (early same) (subst (λ i. Visits p i k m) same visits))
+  ]
+
+  -- a visit that is left has its place in an order that is as it was
+  stands_left : (m a i k : ℕ) → IsLeft p j n q m → Stands p m a i k → Stands q m a i k
+  stands_left m a i k left stands =
+      let visits : Visits q i k m = visits_kept i k m first stands.visits in
+      stands_alike p q m a i k stands (omega (arith, ap length left.same, stands.within)) (λ b less. ap (λ (xs : List ℕ). get_or xs b 0) left.same) visits.within (λ l less. machine_same i l (omega (arith, less, visits.within)))
+    where
+      first : i ≡ j → k < n
+      first same = elim (cases_lt k n) [
+        | inl less ↦ less
+        | inr more ↦ absurd (left.not_behind (k, more, subst (λ i. Visits p i k m) same stands.visits))
+      ]
+
+  -- before the place that is taken out it keeps its own
+  stands_early : (m a i k : ℕ) (t : IsRemovedAt p j n q m) → a < t.place → Stands p m a i k → Stands q m a i k
+  stands_early m a i k t less stands =
+      let visits : Visits q i k m = visits_kept i k m (λ same. early m t a k (subst (λ i. Stands p m a i k) same stands) less) stands.visits in
+      stands_alike p q m a i k stands (omega (arith, size m t, t.removed.within)) (λ b under. before m t b (omega (arith, under))) visits.within (λ l under. machine_same i l (omega (arith, under, visits.within)))
+
+  -- behind it moves up
+  stands_late : (m a i k : ℕ) (t : IsRemovedAt p j n q m) → t.place ≤ a → Stands p m (a + 1) i k → Stands q m a i k
+  stands_late m a i k t more stands =
+      let other : i ≢ j = not_behind_place m t (a + 1) i k stands (omega arith) in
+      let visits : Visits q i k m = visits_others p j n q once.ends i k m other stands.visits in
+      record {
+        within = omega (arith, size m t, stands.within);
+        job = after m t a more ∙ stands.job;
+        visits = visits;
+        turn = removed-count j (order p m) t.place (order q m) t.removed i a other more ∙ stands.turn ∙ sym (turn_same i k m visits.within);
+      }
+
+  once_order : (m : ℕ) → m < machines p → IsOrder q m
+  once_order m inside = elim (once.orders m) [ inl left ↦ same left | inr t ↦ shorter t ]
+    where
+      old : IsOrder p m
+      old = fit.orders m inside
+
+      same : IsLeft p j n q m → IsOrder q m
+      same left = record {
+        on_route = λ a within. (let found = fit-place p fit m a (job_at q m a) inside (omega (arith, ap length left.same)) (sym (ap (λ (xs : List ℕ). get_or xs a 0) left.same)) in
+            (found.0, stands_left m a (job_at q m a) found.0 left found.1));
+        complete = λ i k visits. (let found = old.complete i k (visits_before p j n q once.ends i k m visits) in (found.0, stands_left m found.0 i k left found.1));
+      }
+
+      shorter : IsRemovedAt p j n q m → IsOrder q m
+      shorter t = record {
+        on_route = λ a within. elim (cases_lt a t.place) [
+          | inl less ↦ (let found = fit-place p fit m a (job_at q m a) inside (omega (arith, size m t)) (sym (before m t a less)) in (found.0, stands_early m a (job_at q m a) found.0 t less found.1))
+          | inr more ↦ (let found = fit-place p fit m (a + 1) (job_at q m a) inside (omega (arith, size m t)) (sym (after m t a more)) in (found.0, stands_late m a (job_at q m a) found.0 t more found.1))
+        ];
+        complete = λ i k visits. complete i k visits;
+      }
+        where
+          complete : (i k : ℕ) → Visits q i k m → (a : ℕ) × Stands q m a i k
+          complete i k visits = at (old.complete i k (visits_before p j n q once.ends i k m visits))
+            where
+              at : (b : ℕ) × Stands p m b i k → (a : ℕ) × Stands q m a i k
+              at (b, stands) = go (cases_order b t.place)
+                where
+                  here : b ≡ t.place → ⊥
+                  here is =
+                      let there : Stands p m t.place i k = subst (λ b. Stands p m b i k) is stands in
+                      let mine : i ≡ j = stands_same p m t.place i j k t.step there t.stands in
+                      let own : Visits q j k m = subst (λ i. Visits q i k m) mine visits in
+                      omega (arith, mine_below p j n q once.ends k own.within, t.behind, stands_step p m t.place j k t.step (subst (λ i. Stands p m t.place i k) mine there) t.stands)
+
+                  go : (b ≡ t.place) ⊎ ((b < t.place) ⊎ (t.place < b)) → (a : ℕ) × Stands q m a i k
+                  go (inl is) = absurd (here is)
+                  go (inr (inl less)) = (b, stands_early m b i k t less stands)
+                  go (inr (inr more)) =
+                      let back : b ≡ (b - 1) + 1 = omega (arith, more) in
+                      (b - 1, stands_late m (b - 1) i k t (omega (arith, more)) (subst (λ b. Stands p m b i k) back stands))
+
+-- ---- one step lost after the other, the last one first
+
+sound_front : (count : ℕ) (again : Bool) (n : ℕ) (r : List Step) (k : ℕ) → k < n → IsSoundStep count again r k → IsSoundStep count again (take n r) k
+sound_front count again n r k less sound = record {
   in_range = rw (get_or-take n r k no_step less) sound.in_range;
   elsewhere = λ (i, next, same). sound.elsewhere (
     i,
     next,
     ap (λ (s : Step). s.machine) (sym (get_or-take n r i no_step (omega (arith, next, less)))) ∙ same ∙ ap (λ (s : Step). s.machine) (get_or-take n r k no_step less),
   );
-  first_visit = λ i before same.
-      sound.first_visit i before (ap (λ (s : Step). s.machine) (sym (get_or-take n r i no_step (omega arith))) ∙ same ∙ ap (λ (s : Step). s.machine) (get_or-take n r k no_step less));
+  first_visit = λ once i before same.
+      sound.first_visit once i before (ap (λ (s : Step). s.machine) (sym (get_or-take n r i no_step (omega arith))) ∙ same ∙ ap (λ (s : Step). s.machine) (get_or-take n r k no_step less));
   nominal = rw (get_or-take n r k no_step less) sound.nominal;
 }
 
 module _ (p : PlannedShop) (j n : ℕ) (fit : IsFit p) (inside : j < jobs p) where
-  sound_left : (i k : ℕ) → k < steps (ended p j n) i → IsSoundStep (machines p) (route (ended p j n) i) k
+  sound_left : (i k : ℕ) → k < steps (ended p j n) i → IsSoundStep (machines p) p.shop.recirculates (route (ended p j n) i) k
   sound_left i k within = go (cases_eq i j)
     where
       ends : Ends p j n (ended p j n)
       ends = ended-ends p j n fit inside
 
-      go : (i ≡ j) ⊎ (i ≢ j) → IsSoundStep (machines p) (route (ended p j n) i) k
+      go : (i ≡ j) ⊎ (i ≢ j) → IsSoundStep (machines p) p.shop.recirculates (route (ended p j n) i) k
       go (inl same) =
           let cut : route (ended p j n) i ≡ take n (route p j) = ap (route (ended p j n)) same ∙ ends.mine in
           let size : steps (ended p j n) i ≡ min n (steps p j) = ap length cut ∙ length-take n (route p j) in
-          subst (λ (r : List Step). IsSoundStep (machines p) r k) (sym cut) (sound_front (machines p) n (route p j) k (omega (arith, size)) (fit.steps_sound j k (omega (arith, size))))
+          subst (λ (r : List Step). IsSoundStep (machines p) p.shop.recirculates r k) (sym cut) (sound_front (machines p) p.shop.recirculates n (route p j) k (omega (arith, size)) (fit.steps_sound j k (omega (arith, size))))
       go (inr other) =
-          subst (λ (r : List Step). IsSoundStep (machines p) r k) (sym (ends.others i other)) (fit.steps_sound i k (omega (arith, ap length (ends.others i other))))
+          subst (λ (r : List Step). IsSoundStep (machines p) p.shop.recirculates r k) (sym (ends.others i other)) (fit.steps_sound i k (omega (arith, ap length (ends.others i other))))
 
-  order_left : (m : ℕ) → m < machines p → IsOrder (ended p j n) m
-  order_left m here = plain-order (ended p j n) m plain (go (order_cases p j n (ended p j n) fit ends m))
-    where
-      ends : Ends p j n (ended p j n)
-      ends = ended-ends p j n fit inside
-
-      old : IsPlainOrder p m
-      old = fit-order p fit m here
-
-      plain : IsPlain (ended p j n) m
-      plain i k l one other =
-          fit-once p fit i k l m (visits_before p j n (ended p j n) fit ends i k m one) (visits_before p j n (ended p j n) fit ends i l m other)
-
-      go : IsLeft p j n (ended p j n) m ⊎ IsRemovedAt p j n (ended p j n) m → IsPlainOrder (ended p j n) m
-      go (inl l) = record {
-        on_route = on_route;
-        once = λ a b one other same. old.once a b (omega (arith, ap length l.same)) (omega (arith, ap length l.same)) (sym (at a) ∙ same ∙ at b);
-        complete = complete;
-      }
-        where
-          at : (a : ℕ) → job_at (ended p j n) m a ≡ job_at p m a
-          at a = ap (λ (xs : List ℕ). get_or xs a 0) l.same
-
-          visits_still : (i k : ℕ) → Visits p i k m → Visits (ended p j n) i k m
-          visits_still i k visits = elim (cases_eq i j) [
-            | inr other ↦ visits_others p j n (ended p j n) fit ends i k m other visits
-            | inl same ↦ elim (cases_lt k n) [
-              | inl less ↦ subst (λ i. Visits (ended p j n) i k m) (sym same) (visits_mine p j n (ended p j n) fit ends k m less (subst (λ i. Visits p i k m) same visits))
-              | inr more ↦ absurd (l.not_behind (k, more, subst (λ i. Visits p i k m) same visits))
-            ]
-          ]
-
-          on_route : (a : ℕ) → a < length (order (ended p j n) m) → (k : ℕ) × Visits (ended p j n) (job_at (ended p j n) m a) k m
-          on_route a within =
-              let found = old.on_route a (omega (arith, ap length l.same)) in
-              (found.0, subst (λ i. Visits (ended p j n) i found.0 m) (sym (at a)) (visits_still (job_at p m a) found.0 found.1))
-
-          complete : (i k : ℕ) → Visits (ended p j n) i k m → (a : ℕ) × (a < length (order (ended p j n) m)) × (job_at (ended p j n) m a ≡ i)
-          complete i k visits =
-              let found = old.complete i k (visits_before p j n (ended p j n) fit ends i k m visits) in
-              (found.0, omega (arith, ap length l.same, found.1), at found.0 ∙ found.2)
-      go (inr t) = record {
-        on_route = on_route;
-        once = removed_once j (order p m) t.place (order (ended p j n) m) old.once t.removed;
-        complete = complete;
-      }
-        where
-          not_here : (b : ℕ) → b < length (order p m) → b ≢ t.place → job_at p m b ≢ j
-          not_here b within other same = other (old.once b t.place within t.stands.within (same ∙ sym t.stands.job))
-
-          came : (a b : ℕ) → b < length (order p m) → b ≢ t.place → job_at (ended p j n) m a ≡ job_at p m b → (k : ℕ) × Visits (ended p j n) (job_at (ended p j n) m a) k m
-          came a b within other same =
-              let found = old.on_route b within in
-              (found.0, subst (λ i. Visits (ended p j n) i found.0 m) (sym same) (visits_others p j n (ended p j n) fit ends (job_at p m b) found.0 m (not_here b within other) found.1))
-
-          on_route : (a : ℕ) → a < length (order (ended p j n) m) → (k : ℕ) × Visits (ended p j n) (job_at (ended p j n) m a) k m
-          on_route a within = elim (cases_lt a t.place) [
-            | inl less ↦ came a a (omega (arith, t.removed.size)) (omega arith) (t.removed.before a less)
-            | inr more ↦ came a (a + 1) (omega (arith, t.removed.size)) (omega arith) (t.removed.after a more)
-          ]
-
-          complete : (i k : ℕ) → Visits (ended p j n) i k m → (a : ℕ) × (a < length (order (ended p j n) m)) × (job_at (ended p j n) m a ≡ i)
-          complete i k visits = at (old.complete i k before)
-            where
-              before : Visits p i k m
-              before = visits_before p j n (ended p j n) fit ends i k m visits
-
-              not_mine : i ≢ j
-              not_mine same =
-                  let mine : Visits (ended p j n) j k m = subst (λ i. Visits (ended p j n) i k m) same visits in
-                  omega (arith, mine_below p j n (ended p j n) fit ends k mine.within, t.behind, fit-once p fit j k t.step m (subst (λ i. Visits p i k m) same before) t.stands.visits)
-
-              at : (b : ℕ) × (b < length (order p m)) × (job_at p m b ≡ i) → (a : ℕ) × (a < length (order (ended p j n) m)) × (job_at (ended p j n) m a ≡ i)
-              at (b, within, here) = place (cases_lt b t.place)
-                where
-                  apart : b ≢ t.place
-                  apart same = not_mine (sym here ∙ ap (job_at p m) same ∙ t.stands.job)
-
-                  place : (b < t.place) ⊎ (t.place ≤ b) → (a : ℕ) × (a < length (order (ended p j n) m)) × (job_at (ended p j n) m a ≡ i)
-                  place (inl less) = (b, omega (arith, t.removed.size, t.removed.within), t.removed.before b less ∙ here)
-                  place (inr more) =
-                      let back : (b - 1) + 1 ≡ b = omega (arith, apart) in
-                      (b - 1, omega (arith, t.removed.size, within, apart), t.removed.after (b - 1) (omega (arith, apart)) ∙ ap (job_at p m) back ∙ here)
-
-  pub ended-fit : IsFit (ended p j n)
-  ended-fit = record {
+  left_fit : ((m : ℕ) → m < machines p → IsOrder (ended p j n) m) → IsFit (ended p j n)
+  left_fit orders_left = record {
     size = rw length-set fit.size;
+    few_steps = λ i. omega (arith, steps_few p j n (ended p j n) (ended-ends p j n fit inside) i, fit.few_steps i);
     steps_sound = sound_left;
     counts = record {
       releases = fit.counts.releases ∙ sym (length-set p.shop.routes j (take n (route p j)));
       budgets = length-set p.plan.budget j no_promise ∙ fit.counts.budgets ∙ sym (length-set p.shop.routes j (take n (route p j)));
-      orders = changed-length (without j) (drop n (route p j)) p.plan.order ∙ fit.counts.orders;
+      orders = changed-length (without_last j) (drop n (route p j)) p.plan.order ∙ fit.counts.orders;
       cleanings = fit.counts.cleanings;
     };
     limits = record {
@@ -276,7 +277,7 @@ module _ (p : PlannedShop) (j n : ℕ) (fit : IsFit p) (inside : j < jobs p) whe
       budgets = λ i within. budget_left i (omega (arith, length-set p.shop.routes j (take n (route p j))));
       cleanings = fit.limits.cleanings;
     };
-    orders = order_left;
+    orders = orders_left;
   }
     where
       budget_left : (i : ℕ) → i < jobs p → budget (ended p j n) i ≤ no_promise
@@ -284,3 +285,111 @@ module _ (p : PlannedShop) (j n : ℕ) (fit : IsFit p) (inside : j < jobs p) whe
         | inl same ↦ omega (arith, ap (budget (ended p j n)) same, (ended-ends p j n fit inside).unpromised)
         | inr other ↦ omega (arith, (ended-ends p j n fit inside).budgets i other, fit.limits.budgets i within)
       ]
+
+module _ (p : PlannedShop) (j : ℕ) (fit : IsFit p) (inside : j < jobs p) where
+  -- where no step is behind, the orders are as they were
+  first_once : (n : ℕ) → steps p j ≤ n → EndsOnce p j n (ended p j n)
+  first_once n all = record {
+    ends = ended-ends p j n fit inside;
+    orders = λ m. inl (record {
+      not_behind = λ (k, more, visits). omega (arith, visits.within);
+      same = ap (λ (steps : List Step). get_or (removed j steps p.plan.order) m []) (drop_of_length-le (route p j) all);
+    });
+  }
+
+  -- the plan in which it has one step more
+  module _ (n : ℕ) (less : n < steps p j) (fit_one : IsFit (ended p j (n + 1))) where
+    one_ends : Ends p j (n + 1) (ended p j (n + 1))
+    one_ends = ended-ends p j (n + 1) fit inside
+
+    next_ends : Ends (ended p j (n + 1)) j n (ended p j n)
+    next_ends = record {
+      jobs_same = ends.jobs_same ∙ sym one_ends.jobs_same;
+      mine = ends.mine ∙ sym (ap (take n) one_ends.mine ∙ take-take n (n + 1) (route p j) (omega arith));
+      others = λ i other. ends.others i other ∙ sym (one_ends.others i other);
+      cleans = λ m. refl;
+      releases = λ i. refl;
+      unpromised = ends.unpromised;
+      budgets = λ i other. ends.budgets i other ∙ sym (one_ends.budgets i other);
+    }
+      where
+        ends : Ends p j n (ended p j n)
+        ends = ended-ends p j n fit inside
+
+    -- its last step there is the only one behind
+    last_behind : (k : ℕ) → n ≤ k → k < steps (ended p j (n + 1)) j → k ≡ n
+    last_behind k more within = omega (arith, mine_below p j (n + 1) (ended p j (n + 1)) one_ends k within)
+
+    rest_is : (m : ℕ) → order (ended p j n) m ≡ get_or (removed j (step_at (route p j) n ∷ drop (suc n) (route p j)) p.plan.order) m []
+    rest_is m = ap (λ (steps : List Step). get_or (removed j steps p.plan.order) m []) (drop-cons (route p j) n no_step less)
+
+    one_is : (m : ℕ) → get_or (removed j (drop (suc n) (route p j)) p.plan.order) m [] ≡ order (ended p j (n + 1)) m
+    one_is m = ap (λ k. get_or (removed j (drop k (route p j)) p.plan.order) m []) (sym (add-one n))
+
+    left_out : (m : ℕ) → machine_of p j n ≡ m → IsRemovedAt (ended p j (n + 1)) j n (ended p j n) m
+    left_out m here = record {
+      place = found.0;
+      step = n;
+      behind = omega arith;
+      only = λ k more visits. last_behind k more visits.within;
+      stands = found.1;
+      removed = record {
+        within = found.1.within;
+        here = found.1.job;
+        is = rest_is m ∙ changed-here (without_last j) (step_at (route p j) n) (drop (suc n) (route p j)) p.plan.order m (omega (arith, in_shop, fit.counts.orders)) here ∙ ap (without_last j) (one_is m)
+            ∙ last_taken j (order (ended p j (n + 1)) m) found.0 found.1.within found.1.job last;
+      };
+    }
+      where
+        in_shop : m < machines p
+        in_shop = fit-machine p fit j n m (record { within = less; here = here })
+
+        found : (a : ℕ) × Stands (ended p j (n + 1)) m a j n
+        found = fit-stands (ended p j (n + 1)) fit_one j n m (visits_mine p j (n + 1) (ended p j (n + 1)) one_ends n m (omega arith) (record { within = less; here = here }))
+
+        last : (a : ℕ) → found.0 < a → a < length (order (ended p j (n + 1)) m) → job_at (ended p j (n + 1)) m a ≢ j
+        last a more within mine =
+            let other = fit-place (ended p j (n + 1)) fit_one m a j in_shop within mine in
+            let later : n < other.0 = stands_in_turn (ended p j (n + 1)) m found.0 a j n other.0 found.1 other.1 more in
+            omega (arith, later, last_behind other.0 (omega (arith, later)) other.1.visits.within)
+
+    untouched : (m : ℕ) → machine_of p j n ≢ m → IsLeft (ended p j (n + 1)) j n (ended p j n) m
+    untouched m there = record {
+      not_behind = λ (k, more, visits).
+          let before : Visits p j k m = visits_before p j (n + 1) (ended p j (n + 1)) one_ends j k m visits in
+          there (ap (machine_of p j) (sym (last_behind k more visits.within)) ∙ before.here);
+      same = rest_is m ∙ changed-there (without_last j) (step_at (route p j) n) (drop (suc n) (route p j)) p.plan.order m there ∙ one_is m;
+    }
+
+    next_once : EndsOnce (ended p j (n + 1)) j n (ended p j n)
+    next_once = record {
+      ends = next_ends;
+      orders = λ m. elim (cases_eq (machine_of p j n) m) [ inl here ↦ inr (left_out m here) | inr there ↦ inl (untouched m there) ];
+    }
+
+  -- what holds of the plan, and is kept where the job loses a step, holds of the plan that is left
+  module _ (P : PlannedShop → Type 0) (n : ℕ) (start : P p) (step : (q r : PlannedShop) (k : ℕ) → n ≤ k → j < jobs q → IsFit q → EndsOnce q j k r → P q → P r) where
+    all_lost : (k : ℕ) → n ≤ k → steps p j ≤ k → IsFit (ended p j k) × P (ended p j k)
+    all_lost k more all =
+        let once = first_once k all in
+        (left_fit p j k fit inside (once_order p j k (ended p j k) fit once), step p (ended p j k) k more inside fit once start)
+
+    one_lost : (k : ℕ) → n ≤ k → k < steps p j → IsFit (ended p j (k + 1)) × P (ended p j (k + 1)) → IsFit (ended p j k) × P (ended p j k)
+    one_lost k more less (fit_one, holds) =
+        let once = next_once k less fit_one in (
+          left_fit p j k fit inside (once_order (ended p j (k + 1)) j k (ended p j k) fit_one once),
+          step (ended p j (k + 1)) (ended p j k) k more (omega (arith, length-set p.shop.routes j (take (k + 1) (route p j)))) fit_one once holds,
+        )
+
+    lost : (d k : ℕ) → n ≤ k → steps p j ≤ k + d → IsFit (ended p j k) × P (ended p j k)
+    lost zero k more enough = all_lost k more (omega arith)
+    lost (suc d) k more enough = elim (cases_lt k (steps p j)) [
+      | inl less ↦ one_lost k more less (lost d (k + 1) (omega arith) (omega arith))
+      | inr all ↦ all_lost k more all
+    ]
+
+    pub ended_by : IsFit (ended p j n) × P (ended p j n)
+    ended_by = lost (steps p j) n (omega arith) (omega arith)
+
+  pub ended-fit : (n : ℕ) → IsFit (ended p j n)
+  ended-fit n = (ended_by (λ q. Unit {0}) n tt (λ q r k more there fits once holds. tt)).0

@@ -1,23 +1,22 @@
 -- The run so far is kept where a job ends behind what it has entered, where one that is outside is placed, and where a step lasts.
-use Rattle.std.proofs.Common.{◌≡◌, ◌≢◌, ℕ, ◌<◌, ◌≤◌, inl, inr, List, [], ◌∷◌, ◌++◌, length, get_or, refl, sym, ap, ◌∙◌, subst, arith, append_assoc, length-append}
+use Rattle.std.proofs.Common.{◌≡◌, ℕ, ◌-◌, ◌<◌, ◌≤◌, inl, inr, List, [], ◌++◌, length, get_or, replicate, refl, sym, ap, ◌∙◌, subst, arith, append_assoc, length-append}
+use Rattle.std.specs.Prelude.{remove}
 use Rattle.std.proofs.lemmas.Bool.{cases_eq, cases_lt, lt-ltb}
 use Rattle.std.proofs.lemmas.List.{get_or_past}
-use Rattle.std.proofs.lemmas.List.Elements.{filter-append}
+use Rattle.std.proofs.lemmas.List.Edits.{remove-append_right}
 use Rattle.std.proofs.Math.ListN.{get_or-append}
 use Rattle.shop_base.specs.declared.shop.Step.{Step}
 use Rattle.shop_base.specs.Shop.{step_at}
-use Rattle.shop_base.specs.Plan.{PlannedShop, jobs, machines, machine_of, order, clean, Visits, Stands}
+use Rattle.shop_base.specs.Plan.{PlannedShop, jobs, machines, machine_of, order, job_at, clean, Visits, Stands}
 use Rattle.shop_base.specs.Cell.{MachineState, unused, made, entries, IsGone}
 use Rattle.shop_base.specs.Move.{IsPrefix}
-use Rattle.shop_base.proofs.Visits.{visits_job}
-use Rattle.plan_revise.specs.Orders.{without}
+use Rattle.shop_base.proofs.Visits.{visits_job, stands_alike, stands_step}
+use Rattle.plan_revise.specs.Ended.{ended}
 use Rattle.plan_revise.specs.Settings.{Setting, moves_made}
 use Rattle.plan_revise.specs.Fits.{IsFit, IsKept, IsSetting}
-use Rattle.plan_revise.specs.Parts.{IsBehind, Ends, Places}
-use Rattle.plan_revise.proofs.Places.{without_none}
-use Rattle.plan_revise.proofs.Fitting.{fit-once, behind_or_not}
-use Rattle.plan_revise.proofs.EndedParts.{visits_others, visits_mine}
-use Rattle.plan_revise.proofs.PlacedParts.{on_or_off, SameVisits, same-visits}
+use Rattle.plan_revise.specs.Parts.{visits_in, Places}
+use Rattle.plan_revise.proofs.EndedParts.{EndsOnce, visits_others, visits_mine, ended_by}
+use Rattle.plan_revise.proofs.PlacedParts.{SameVisits, same-visits}
 
 -- a given job has made as many moves as the cell says
 pub moves_given : (s : Setting) (j : ℕ) → j < jobs s.given → moves_made s j ≡ made s.cell j
@@ -33,35 +32,39 @@ given_kept s is = record {
   cleaned = λ m. refl;
 }
 
--- a job that has entered a machine has made its step there
-pub entered_moves : (s : Setting) (p : PlannedShop) → IsSetting s → IsFit p → IsKept s p → (m a j k : ℕ) → m < machines s.given → a < length (entries s.cell m) → get_or (entries s.cell m) a 0 ≡ j → Visits p j k m
-    → (j < jobs s.given) × (k < made s.cell j)
-entered_moves s p is fit kept m a j k inside within here visits =
-    (visits_job s.given j found.0 m there, omega (arith, moved, fit-once p fit j k found.0 m visits (subst (λ x. Visits p j found.0 x) there.here before)))
+-- a job that has entered a machine has made the step that it stands there for
+pub entered_moves : (s : Setting) (p : PlannedShop) → IsSetting s → IsKept s p → (m a j k : ℕ) → m < machines s.given → a < length (entries s.cell m) → Stands p m a j k → (j < jobs s.given) × (k < made s.cell j)
+entered_moves s p is kept m a j k inside within stands =
+    (visits_job s.given j found.0 m stood.visits, omega (arith, moved, stands_step p m a j k found.0 stands there))
   where
-    prefix : IsPrefix (entries s.cell m) (order s.given m)
-    prefix = is.sound.in_order m
+    given_is : IsPrefix (entries s.cell m) (order s.given m)
+    given_is = is.sound.in_order m
+
+    prefix : IsPrefix (entries s.cell m) (order p m)
+    prefix = kept.begun m inside
 
     shorter : a < length (order s.given m)
-    shorter = omega (arith, ap length prefix.1, length-append (entries s.cell m) prefix.0)
+    shorter = omega (arith, ap length given_is.1, length-append (entries s.cell m) given_is.0)
 
-    at : get_or (order s.given m) a 0 ≡ j
-    at = ap (λ (xs : List ℕ). get_or xs a 0) prefix.1 ∙ get_or-append (entries s.cell m) prefix.0 0 a within ∙ here
+    alike : (b : ℕ) → b ≤ a → job_at p m b ≡ job_at s.given m b
+    alike b few =
+        ap (λ (xs : List ℕ). get_or xs b 0) prefix.1 ∙ get_or-append (entries s.cell m) prefix.0 0 b (omega arith)
+        ∙ sym (ap (λ (xs : List ℕ). get_or xs b 0) given_is.1 ∙ get_or-append (entries s.cell m) given_is.0 0 b (omega arith))
 
-    found : (k : ℕ) × Stands s.given m a (get_or (order s.given m) a 0) k
+    found : (k : ℕ) × Stands s.given m a (job_at s.given m a) k
     found = (is.shaped.orders m inside).on_route a shorter
 
     stood : Stands s.given m a j found.0
-    stood = subst (λ i. Stands s.given m a i found.0) at found.1
-
-    there : Visits s.given j found.0 m
-    there = stood.visits
+    stood = subst (λ i. Stands s.given m a i found.0) (sym (alike a (omega arith)) ∙ stands.job) found.1
 
     moved : found.0 < made s.cell j
     moved = is.sound.entered_made m a j found.0 stood within
 
-    before : Visits p j found.0 (machine_of s.given j found.0)
-    before = kept.entered j found.0 moved (record { within = there.within; here = refl })
+    step_kept : (l : ℕ) → l ≤ found.0 → Visits p j l (machine_of s.given j l)
+    step_kept l few = kept.entered j l (omega (arith, moved)) (record { within = omega (arith, stood.visits.within); here = refl })
+
+    there : Stands p m a j found.0
+    there = stands_alike s.given p m a j found.0 stood stands.within alike (step_kept found.0 (omega arith)).within (λ l few. (step_kept l few).here)
 
 -- nobody has entered a machine that the given shop hasn't
 pub unused_entries : (s : Setting) → IsSetting s → (m : ℕ) → machines s.given ≤ m → entries s.cell m ≡ []
@@ -69,56 +72,55 @@ unused_entries s is m past = ap (λ (x : MachineState). x.entries) (get_or_past 
 
 -- ---- a job that ends behind what it has entered
 
-module _ (s : Setting) (p : PlannedShop) (j n : ℕ) (q : PlannedShop) (is : IsSetting s) (fit : IsFit p) (kept : IsKept s p) (ends : Ends p j n q) (behind : j < jobs s.given → made s.cell j ≤ n) where
+module _ (s : Setting) (p : PlannedShop) (j n : ℕ) (is : IsSetting s) (kept : IsKept s p) (behind : j < jobs s.given → made s.cell j ≤ n) where
   -- it hasn't entered the machines behind
-  unentered_list : (m : ℕ) → m < machines s.given → IsBehind p j n m → (a : ℕ) → a < length (entries s.cell m) → get_or (entries s.cell m) a 0 ≢ j
-  unentered_list m inside (k, more, visits) a within here =
-      let moved = entered_moves s p is fit kept m a j k inside within here visits in
-      omega (arith, moved.1, behind moved.0)
-
   pub unentered : (m x k : ℕ) → n ≤ k → Stands p m x j k → length (entries s.cell m) ≤ x
   unentered m x k more stands = elim (cases_lt m (machines s.given)) [
     | inr past ↦ omega (arith, ap length (unused_entries s is m past))
     | inl inside ↦ elim (cases_lt x (length (entries s.cell m))) [
       | inr enough ↦ enough
-      | inl less ↦ (let prefix = kept.begun m inside in
-          absurd (unentered_list m inside (k, more, stands.visits) x less
-          (sym (ap (λ (xs : List ℕ). get_or xs x 0) prefix.1 ∙ get_or-append (entries s.cell m) prefix.0 0 x less) ∙ stands.job)))
+      | inl less ↦ (let moved = entered_moves s p is kept m x j k inside less stands in absurd (omega (arith, moved.1, behind moved.0)))
     ]
   ]
 
+module _ (s : Setting) (p : PlannedShop) (j n : ℕ) (q : PlannedShop) (is : IsSetting s) (kept : IsKept s p) (once : EndsOnce p j n q) (behind : j < jobs s.given → made s.cell j ≤ n) where
   begun_still : (m : ℕ) → m < machines s.given → IsPrefix (entries s.cell m) (order q m)
-  begun_still m inside = elim (behind_or_not p j n m) [
-    | inr off ↦ (prefix.0, ends.elsewhere m off ∙ prefix.1)
-    | inl on ↦ (
-      without j prefix.0,
-      ends.behind m on ∙ ap (without j) prefix.1 ∙ filter-append _ (entries s.cell m) prefix.0
-          ∙ ap (λ (xs : List ℕ). xs ++ without j prefix.0) (without_none j (entries s.cell m) (unentered_list m inside on)),
+  begun_still m inside = elim (once.orders m) [
+    | inl left ↦ (prefix.0, left.same ∙ prefix.1)
+    | inr t ↦ (
+      remove prefix.0 (t.place - length (entries s.cell m)),
+      t.removed.is ∙ ap (λ (xs : List ℕ). remove xs t.place) prefix.1
+          ∙ remove-append_right (entries s.cell m) prefix.0 (length (entries s.cell m)) t.place refl (unentered s p j n is kept behind m t.place t.step t.behind t.stands),
     )
   ]
     where
       prefix : IsPrefix (entries s.cell m) (order p m)
       prefix = kept.begun m inside
 
-  pub ends_keep : (j < jobs s.given → IsGone s.given s.cell j → ⊥) → IsKept s q
-  ends_keep here = record {
-    jobs_there = omega (arith, kept.jobs_there, ends.jobs_same);
+  pub once_keep : (j < jobs s.given → IsGone s.given s.cell j → ⊥) → IsKept s q
+  once_keep here = record {
+    jobs_there = omega (arith, kept.jobs_there, once.ends.jobs_same);
     entered = λ i k moved visits. entered_still i k moved visits;
     left = λ i inside gone. elim (cases_eq i j) [
       | inl same ↦ absurd (here (omega arith) (subst (λ i. IsGone s.given s.cell i) same gone))
-      | inr other ↦ ap length (ends.others i other) ∙ kept.left i inside gone
+      | inr other ↦ ap length (once.ends.others i other) ∙ kept.left i inside gone
     ];
     begun = begun_still;
-    cleaned = λ m. ends.cleans m ∙ kept.cleaned m;
+    cleaned = λ m. once.ends.cleans m ∙ kept.cleaned m;
   }
     where
       entered_still : (i k : ℕ) → k < made s.cell i → Visits s.given i k (machine_of s.given i k) → Visits q i k (machine_of s.given i k)
       entered_still i k moved visits = elim (cases_eq i j) [
-        | inr other ↦ visits_others p j n q fit ends i k (machine_of s.given i k) other (kept.entered i k moved visits)
+        | inr other ↦ visits_others p j n q once.ends i k (machine_of s.given i k) other (kept.entered i k moved visits)
         | inl same ↦ subst (λ i. Visits q i k (machine_of s.given i k)) (sym same)
-            (visits_mine p j n q fit ends k (machine_of s.given j k) (omega (arith, behind (subst (λ i. i < jobs s.given) same (visits_job s.given i k (machine_of s.given i k) visits)), ap (made s.cell) same))
+            (visits_mine p j n q once.ends k (machine_of s.given j k) (omega (arith, behind (subst (λ i. i < jobs s.given) same (visits_job s.given i k (machine_of s.given i k) visits)), ap (made s.cell) same))
             (subst (λ i. Visits p i k (machine_of s.given i k)) same (kept.entered i k moved visits)))
       ]
+
+-- however many steps it loses
+pub ends_keep : (s : Setting) (p : PlannedShop) (j n : ℕ) → IsSetting s → IsFit p → j < jobs p → IsKept s p → (j < jobs s.given → made s.cell j ≤ n) → (j < jobs s.given → IsGone s.given s.cell j → ⊥) → IsKept s (ended p j n)
+ends_keep s p j n is fit inside kept behind here =
+    (ended_by p j fit inside (IsKept s) n kept (λ q r k more there fits once holds. once_keep s q j k r is holds once (λ given. omega (arith, behind given)) here)).1
 
 -- ---- a job that is placed
 
@@ -136,10 +138,8 @@ places_keep s p j r first last q kept places more outside = record {
     | inl same ↦ absurd (omega (arith, ap (made s.cell) same, outside (omega arith)))
     | inr other ↦ ap length (places.others i other) ∙ kept.left i inside gone
   ];
-  begun = λ m inside. (let prefix = kept.begun m inside in elim (on_or_off r m) [
-    | inr off ↦ (prefix.0, places.elsewhere m off ∙ prefix.1)
-    | inl on ↦ (prefix.0 ++ j ∷ [], places.last m on ∙ ap (λ (xs : List ℕ). xs ++ j ∷ []) prefix.1 ∙ append_assoc (entries s.cell m) prefix.0 (j ∷ []))
-  ]);
+  begun = λ m inside. (let prefix = kept.begun m inside in
+      (prefix.0 ++ replicate (visits_in r m) j, places.last m ∙ ap (λ (xs : List ℕ). xs ++ replicate (visits_in r m) j) prefix.1 ∙ append_assoc (entries s.cell m) prefix.0 (replicate (visits_in r m) j)));
   cleaned = λ m. places.cleans m ∙ kept.cleaned m;
 }
 

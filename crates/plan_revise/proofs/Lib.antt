@@ -1,5 +1,6 @@
 pub mod Places
 pub mod Fitting
+pub mod Ways
 pub mod EndedParts
 pub mod PlacedParts
 pub mod Keeping

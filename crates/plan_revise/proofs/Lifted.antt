@@ -1,6 +1,6 @@
 -- Deadlines where jobs are scrapped or machines are down: moments that fit before fit afterwards, with those of jobs that are put aside at the greatest.
-use Rattle.std.proofs.Common.{◌≡◌, ◌≢◌, ℕ, zero, suc, ◌+◌, ◌-◌, ◌<◌, ◌≤◌, inl, inr, List, [], ◌∷◌, length, get_or, min, max, Option, None, Some, nat_lt, eqb, if◌then◌else◌, refl, sym, ap, ◌∙◌, subst, arith}
-use Rattle.std.proofs.lemmas.Bool.{cases_eq, cases_lt, cases_Bool, eq-eqb, ne_eqb}
+use Rattle.std.proofs.Common.{◌≡◌, ◌≢◌, ℕ, zero, suc, ◌+◌, ◌-◌, ◌<◌, ◌≤◌, inl, inr, List, [], ◌∷◌, length, get_or, min, max, Option, None, Some, eqb, if◌then◌else◌, refl, sym, ap, ◌∙◌, subst, arith}
+use Rattle.std.proofs.lemmas.Bool.{cases_eq, cases_lt, eq-eqb, ne_eqb}
 use Rattle.std.proofs.lemmas.List.{get_or_past}
 use Rattle.shop_base.specs.declared.limits.TheConstants.{MAX_RELEASE}
 use Rattle.shop_base.specs.declared.node.Node.{Node}
@@ -16,21 +16,22 @@ use Rattle.plan_revise.specs.Promises.{no_promise}
 use Rattle.plan_revise.specs.Ended.{ended}
 use Rattle.plan_revise.specs.Settings.{Setting, moves_made}
 use Rattle.plan_revise.specs.Aside.{IsAside, aside_route, with_aside, HasRoom, put_aside}
-use Rattle.plan_revise.specs.Stopped.{place_on, stopped, stopped_at, without_machine}
+use Rattle.plan_revise.specs.Stopped.{present_step, way_to, stopped, stopped_at, without_machine}
 use Rattle.plan_revise.specs.Changes.{Becomes}
 use Rattle.plan_revise.specs.Revised.{AreMade}
 use Rattle.plan_revise.specs.Fits.{IsFit, IsRevision, IsSetting}
 use Rattle.plan_revise.specs.Parts.{Ends, Places}
 use Rattle.plan_revise.specs.Stages.{IsStage}
 use Rattle.plan_revise.specs.RevisedLaw.{AreOthers, AreStops}
-use Rattle.plan_revise.proofs.EndedParts.{ended-ends, visits_before, steps_few, step_before}
-use Rattle.plan_revise.proofs.EndedArcs.{ended-arc}
+use Rattle.plan_revise.proofs.Ways.{way_visits}
+use Rattle.plan_revise.proofs.EndedParts.{EndsOnce, ended-ends, ended_by, visits_before, steps_few, step_before}
+use Rattle.plan_revise.proofs.EndedArcs.{once-arc}
 use Rattle.plan_revise.proofs.PlacedArcs.{placed-arc, visits_others}
 use Rattle.plan_revise.proofs.PlacedParts.{SameVisits, same-visits_back}
 use Rattle.plan_revise.proofs.RevisedLaws.{same_arc, stopped_at-stays, aside_visits, becomes-more_jobs}
 use Rattle.plan_revise.proofs.Outcomes.{made-stays, made-more_jobs}
 use Rattle.shop_base.proofs.Visits.{visits_job, visits_machine}
-use Rattle.plan_revise.proofs.Revisions.{HasAside, has_aside, aside_ends, aside_fit, aside_places, aside_others, stopped_outside, stopped_inside, stage_upto, stage_room, stopped_at_past, stopped_at_ahead, place_within, becomes-revision}
+use Rattle.plan_revise.proofs.Revisions.{HasAside, has_aside, aside_ends, aside_fit, aside_places, aside_others, stopped_outside, stopped_inside, stage_upto, stage_room, becomes-revision}
 
 -- moments that respect the arcs ahead and meet the budgets there
 pub record AreFitting (c : Cell) (p : PlannedShop) (kept : Node → ℕ) : Type 0 where
@@ -60,11 +61,14 @@ job_rise c p kept j k (suc n) arcs ahead few =
     let same : k + n + 1 ≡ k + suc n = omega arith in
     omega (arith, job_rise c p kept j k n arcs ahead (omega arith), arcs (node j (k + n)) (node j (k + n + 1)) (nominal p j (k + n)) (omega arith) (job_arc j (k + n) (omega arith)), ap (λ i. kept (node j i)) same)
 
-pub ended_fits : (c : Cell) (p : PlannedShop) (j n : ℕ) (q : PlannedShop) (kept : Node → ℕ) → IsFit p → Ends p j n q → j < jobs p → made c j ≤ n → AreFitting c p kept → AreFitting c q kept
-ended_fits c p j n q kept fit ends inside behind f = record { arcs = arcs; budgets = budgets }
+once_fits : (c : Cell) (p : PlannedShop) (j n : ℕ) (q : PlannedShop) (kept : Node → ℕ) → IsFit p → EndsOnce p j n q → j < jobs p → made c j ≤ n → AreFitting c p kept → AreFitting c q kept
+once_fits c p j n q kept fit once inside behind f = record { arcs = arcs; budgets = budgets }
   where
+    ends : Ends p j n q
+    ends = once.ends
+
     arcs : RespectArcs q c kept
-    arcs u v d ahead arc = elim (ended-arc p j n q fit ends u v d arc) [
+    arcs u v d ahead arc = elim (once-arc p j n q fit once u v d arc) [
       | inl same ↦ f.arcs u v d ahead same
       | inr joined ↦ omega (
         arith,
@@ -84,7 +88,7 @@ ended_fits c p j n q kept fit ends inside behind f = record { arcs = arcs; budge
         mine : i ≡ j → kept (leaving q i) ≤ budget q i
         mine same =
             let moved : made c i ≡ made c j = ap (made c) same in
-            let few : steps q j ≤ steps p j = steps_few p j n q fit ends j in
+            let few : steps q j ≤ steps p j = steps_few p j n q ends j in
             let ahead : made c j ≤ steps q j = elim (cases_lt (steps q j) (made c j)) [ inl gone ↦ absurd (here (omega (arith, moved, ap (steps q) same))) | inr enough ↦ enough ] in
             let whole : steps q j + (steps p j - steps q j) ≡ steps p j = omega arith in
             omega (
@@ -97,6 +101,10 @@ ended_fits c p j n q kept fit ends inside behind f = record { arcs = arcs; budge
               job_rise c p kept j (steps q j) (steps p j - steps q j) f.arcs ahead (omega arith),
               ap (λ k. kept (node j k)) whole,
             )
+
+pub ended_fits : (c : Cell) (p : PlannedShop) (j n : ℕ) (kept : Node → ℕ) → IsFit p → j < jobs p → made c j ≤ n → AreFitting c p kept → AreFitting c (ended p j n) kept
+ended_fits c p j n kept fit inside behind f =
+    (ended_by p j fit inside (λ q. AreFitting c q kept) n f (λ q r k more there fits once holds. once_fits c q j k r kept fits once there (omega arith) holds)).1
 
 -- ---- changes that stop jobs
 
@@ -142,7 +150,7 @@ module _ (s : Setting) (is : IsSetting s) (c : Cell) (top : ℕ) (moved : (j : �
     visit_before : (i k m : ℕ) → i ≢ j → Visits (put_aside s p j) i k m → Visits p i k m
     visit_before i k m other visits =
         same-visits_back p (with_aside s p) first.same i k m
-        (visits_before (with_aside s p) j 0 (ended (with_aside s p) j 0) first.fit ends i k m
+        (visits_before (with_aside s p) j 0 (ended (with_aside s p) j 0) ends i k m
         (visits_others (ended (with_aside s p) j 0) j (aside_route s.plant) (min s.present MAX_RELEASE) no_promise (put_aside s p j) (aside_fit s p j is revision inside outside room) places i k m other visits))
 
     mine_step : (k : ℕ) → k < steps (put_aside s p j) j → (k ≡ 0) × (nominal (put_aside s p j) j k ≡ 0)
@@ -174,7 +182,7 @@ module _ (s : Setting) (is : IsSetting s) (c : Cell) (top : ℕ) (moved : (j : �
     fits_first kept f = same_fits c p (with_aside s p) kept first.same (λ i k. ap (λ (rs : List (List Step)). (step_at (get_or rs i []) k).nominal) first.routes) first.cleans (λ i. ap (λ (xs : List ℕ). get_or xs i 0) first.releases) (ap length first.routes) (λ i. ap (λ (xs : List ℕ). get_or xs i 0) first.budgets) f
 
     fits_then : (kept : Node → ℕ) → AreFitting c p kept → AreFitting c (ended (with_aside s p) j 0) kept
-    fits_then kept f = ended_fits c (with_aside s p) j 0 (ended (with_aside s p) j 0) kept first.fit ends (omega (arith, inside, ap length first.routes)) unmoved (fits_first kept f)
+    fits_then kept f = ended_fits c (with_aside s p) j 0 kept first.fit (omega (arith, inside, ap length first.routes)) unmoved (fits_first kept f)
 
     on_plant : (g m : ℕ) → Visits (put_aside s p j) j g m → m ≡ s.plant
     on_plant g m visits =
@@ -232,12 +240,12 @@ module _ (s : Setting) (is : IsSetting s) (c : Cell) (top : ℕ) (moved : (j : �
   ended_sound p j n fit inside sound =
       let ends = ended-ends p j n fit inside in
       record {
-        whole = λ i k visits. omega (arith, sound.whole i k (visits_before p j n (ended p j n) fit ends i k s.plant visits), steps_few p j n (ended p j n) fit ends i, visits.within);
-        timeless = λ i k visits. ap (λ (x : Step). x.nominal) (step_before p j n (ended p j n) fit ends i k visits.within).1 ∙ sound.timeless i k (visits_before p j n (ended p j n) fit ends i k s.plant visits);
+        whole = λ i k visits. omega (arith, sound.whole i k (visits_before p j n (ended p j n) ends i k s.plant visits), steps_few p j n (ended p j n) ends i, visits.within);
+        timeless = λ i k visits. ap (λ (x : Step). x.nominal) (step_before p j n (ended p j n) ends i k visits.within).1 ∙ sound.timeless i k (visits_before p j n (ended p j n) ends i k s.plant visits);
         uncleaned = ends.cleans s.plant ∙ sound.uncleaned;
         unpromised = λ i k visits. elim (cases_eq i j) [
           | inl same ↦ ap (budget (ended p j n)) same ∙ ends.unpromised
-          | inr other ↦ ends.budgets i other ∙ sound.unpromised i k (visits_before p j n (ended p j n) fit ends i k s.plant visits)
+          | inr other ↦ ends.budgets i other ∙ sound.unpromised i k (visits_before p j n (ended p j n) ends i k s.plant visits)
         ];
       }
 
@@ -251,20 +259,17 @@ module _ (s : Setting) (is : IsSetting s) (c : Cell) (top : ℕ) (moved : (j : �
     })
     | inr there ↦ subst (IsLifted p kept) (sym (stopped_inside s p j n there)) (record {
       later = kept;
-      fits = ended_fits c p j n (ended p j n) kept revision.fit (ended-ends p j n revision.fit inside) inside (omega (arith, moved j (omega arith))) f;
+      fits = ended_fits c p j n kept revision.fit inside (omega (arith, moved j (omega arith))) f;
       sound = ended_sound p j n revision.fit inside sound;
       same = λ v free. refl;
     })
   ]
 
-  stopped_at_lifted : (p : PlannedShop) (kept : Node → ℕ) (m j : ℕ) (found : Option ℕ) → place_on m (route p j) ≡ found → IsRevision s p → j < jobs p → ((k : ℕ) → moves_made s j ≡ 0 → Visits p j k m → HasRoom s p) → jobs p ≤ top → AreFitting c p kept → IsAsideSound s p
+  stopped_at_lifted : (p : PlannedShop) (kept : Node → ℕ) (m j : ℕ) (found : Option ℕ) → way_to s p j m ≡ found → IsRevision s p → j < jobs p → ((k : ℕ) → moves_made s j ≡ 0 → Visits p j k m → HasRoom s p) → jobs p ≤ top → AreFitting c p kept → IsAsideSound s p
       → IsLifted p kept (stopped_at s p j found)
   stopped_at_lifted p kept m j None is_none revision inside room few_jobs f sound = lifted_not p kept f sound
-  stopped_at_lifted p kept m j (Some k) is_there revision inside room few_jobs f sound = elim (cases_Bool (nat_lt (k + 1) (moves_made s j))) [
-    | inl past ↦ subst (IsLifted p kept) (sym (stopped_at_past s p j k past)) (lifted_not p kept f sound)
-    | inr ahead ↦ subst (IsLifted p kept) (sym (stopped_at_ahead s p j k ahead)) (stopped_lifted p kept j (max k (moves_made s j)) revision inside (omega arith)
-        (λ outside. room k outside (record { within = (place_within m (route p j) k is_there).0; here = (place_within m (route p j) k is_there).1 })) few_jobs f sound)
-  ]
+  stopped_at_lifted p kept m j (Some k) is_there revision inside room few_jobs f sound =
+      stopped_lifted p kept j (max (present_step s j + k) (moves_made s j)) revision inside (omega arith) (λ outside. room (present_step s j + k) outside (way_visits s p m j k is_there)) few_jobs f sound
 
   -- the one after the other
   lifted_on : (p : PlannedShop) (kept : Node → ℕ) (q r : PlannedShop) (one : IsLifted p kept q) → ((i : ℕ) → Visits q i 0 s.plant → Visits r i 0 s.plant) → IsLifted q one.later r → IsLifted p kept r
@@ -281,9 +286,9 @@ module _ (s : Setting) (is : IsSetting s) (c : Cell) (top : ℕ) (moved : (j : �
       let stage : IsStage s p m n (without_machine s p m n) = stage_upto s is p m n revision (omega arith) room in
       let one : IsLifted p kept (without_machine s p m n) = without_lifted p kept m n revision (omega arith) room few_jobs f sound in
       lifted_on p kept (without_machine s p m n) (without_machine s p m (suc n)) one
-      (λ i visits. stopped_at-stays s is (without_machine s p m n) m n (place_on m (route (without_machine s p m n) n)) i refl stage.revision (omega (arith, stage.jobs_same))
+      (λ i visits. stopped_at-stays s is (without_machine s p m n) m n (way_to s (without_machine s p m n) n m) i refl stage.revision (omega (arith, stage.jobs_same))
       (λ k outside there. stage_room s is p m n (without_machine s p m n) k revision stage room outside there) visits)
-      (stopped_at_lifted (without_machine s p m n) one.later m n (place_on m (route (without_machine s p m n) n)) refl stage.revision (omega (arith, stage.jobs_same))
+      (stopped_at_lifted (without_machine s p m n) one.later m n (way_to s (without_machine s p m n) n m) refl stage.revision (omega (arith, stage.jobs_same))
       (λ k outside there. stage_room s is p m n (without_machine s p m n) k revision stage room outside there) (omega (arith, stage.jobs_same)) one.fits one.sound)
 
   becomes_lifted : (p : PlannedShop) (kept : Node → ℕ) (change : Change) (q : PlannedShop) → AreStops (change ∷ []) → IsRevision s p → Becomes s p change q → jobs p ≤ top → AreFitting c p kept → IsAsideSound s p → IsLifted p kept q

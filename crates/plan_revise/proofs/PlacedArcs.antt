@@ -1,24 +1,22 @@
 -- The arcs where a job is placed: no arc leads from it to another job, and the others are as they were.
-use Rattle.std.proofs.Common.{◌≡◌, ◌≢◌, ℕ, ◌+◌, ◌<◌, ◌≤◌, inl, inr, List, [], ◌∷◌, ◌++◌, length, get_or, sym, ap, ◌∙◌, subst, arith, length-append}
+use Rattle.std.proofs.Common.{◌≡◌, ◌≢◌, ℕ, ◌+◌, ◌-◌, ◌<◌, ◌≤◌, inl, inr, List, [], ◌∷◌, ◌++◌, length, get_or, replicate, sym, ap, ◌∙◌, subst, arith, length-append}
 use Rattle.std.proofs.lemmas.Bool.{cases_lt, cases_eq}
-use Rattle.std.proofs.lemmas.List.{get_or_past}
+use Rattle.std.proofs.lemmas.List.{get_or_past, get_or-replicate, length-replicate, get_or-append-add}
 use Rattle.std.proofs.Math.ListN.{get_or-append}
-use Rattle.std.proofs.Math.Seq.{get_or-append_seam}
 use Rattle.shop_base.specs.declared.shop.Step.{Step}
 use Rattle.shop_base.specs.declared.node.Node.{Node}
 use Rattle.shop_base.specs.Shop.{step_at}
-use Rattle.shop_base.specs.Plan.{PlannedShop, machines, route, order, job_at, Visits, Stands}
+use Rattle.shop_base.specs.Plan.{PlannedShop, machines, order, job_at, Visits, Stands}
 use Rattle.shop_base.specs.Cell.{Cell, since, entries}
 use Rattle.shop_base.specs.Activity.{Arrival, Operation, Cleaning}
 use Rattle.shop_base.specs.Graph.{node, Arc, job_arc, blocking_arc, ArcsLead}
 use Rattle.shop_base.specs.Ahead.{PathAhead, now, held, onward}
-use Rattle.shop_base.proofs.Visits.{stands_alike}
+use Rattle.shop_base.proofs.Visits.{stands_alike, stands_in_turn}
 use Rattle.plan_verifier.specs.Accepted.{HasNoCycle}
 use Rattle.plan_revise.specs.Fits.{IsFit}
-use Rattle.plan_revise.specs.Parts.{IsOnRoute, Places}
+use Rattle.plan_revise.specs.Parts.{visits_in, Places}
 use Rattle.plan_revise.specs.Paths.{HasLonger}
-use Rattle.plan_revise.proofs.Fitting.{fit-machine}
-use Rattle.plan_revise.proofs.PlacedParts.{on_or_off}
+use Rattle.plan_revise.proofs.Fitting.{fit-place}
 use Rattle.alt_graph.proofs.ClosedWalks.{no_way_back}
 
 module _ (p : PlannedShop) (j : ℕ) (r : List Step) (first last : ℕ) (q : PlannedShop) (fit : IsFit p) (places : Places p j r first last q) where
@@ -28,46 +26,52 @@ module _ (p : PlannedShop) (j : ℕ) (r : List Step) (first last : ℕ) (q : Pla
     here = sym (ap (λ (s : List Step). (step_at s k).machine) (places.others i other)) ∙ visits.here;
   }
 
+  size : (m : ℕ) → length (order q m) ≡ length (order p m) + visits_in r m
+  size m = ap length (places.last m) ∙ length-append (order p m) (replicate (visits_in r m) j) ∙ ap (λ n. length (order p m) + n) (length-replicate (visits_in r m) j)
+
+  front : (m a : ℕ) → a < length (order p m) → job_at q m a ≡ job_at p m a
+  front m a less = ap (λ (xs : List ℕ). get_or xs a 0) (places.last m) ∙ get_or-append (order p m) (replicate (visits_in r m) j) 0 a less
+
+  -- behind the places of before stands the job that is placed
+  back : (m a : ℕ) → length (order p m) ≤ a → a < length (order q m) → job_at q m a ≡ j
+  back m a more within =
+      let there : length (order p m) + (a - length (order p m)) ≡ a = omega arith in
+      ap (λ (xs : List ℕ). get_or xs a 0) (places.last m) ∙ ap (λ b. get_or (order p m ++ replicate (visits_in r m) j) b 0) (sym there)
+      ∙ get_or-append-add (order p m) (replicate (visits_in r m) j) (a - length (order p m)) 0 ∙ get_or-replicate (visits_in r m) (a - length (order p m)) j 0 (omega (arith, size m))
+
   -- another job stands where it stood
   stands_others : (m a i k : ℕ) → i ≢ j → Stands q m a i k → Stands p m a i k
-  stands_others m a i k other stands = elim (on_or_off r m) [
-    | inr off ↦ alike (omega (arith, ap length (places.elsewhere m off), stands.within)) (λ b before. sym (ap (λ (xs : List ℕ). get_or xs b 0) (places.elsewhere m off)))
-    | inl on ↦ elim (cases_lt a (length (order p m))) [
-      | inl less ↦ alike less (λ b before. sym (ap (λ (xs : List ℕ). get_or xs b 0) (places.last m on) ∙ get_or-append (order p m) (j ∷ []) 0 b (omega (arith, before, less))))
-      | inr more ↦ absurd (other (sym stands.job ∙ ap (job_at q m) (at on more) ∙ ap (λ (xs : List ℕ). get_or xs (length (order p m)) 0) (places.last m on) ∙ get_or-append_seam (order p m) j [] 0))
-    ]
+  stands_others m a i k other stands = elim (cases_lt a (length (order p m))) [
+    | inl less ↦ stands_alike q p m a i k stands less (λ b before. sym (front m b (omega arith))) (visits_others i k m other stands.visits).within
+        (λ l before. sym (ap (λ (s : List Step). (step_at s l).machine) (places.others i other)))
+    | inr more ↦ absurd (other (sym stands.job ∙ back m a more stands.within))
   ]
-    where
-      alike : a < length (order p m) → ((b : ℕ) → b ≤ a → job_at p m b ≡ job_at q m b) → Stands p m a i k
-      alike within jobs_same = stands_alike q p m a i k stands within jobs_same (visits_others i k m other stands.visits).within
-          (λ l before. sym (ap (λ (s : List Step). (step_at s l).machine) (places.others i other)))
-
-      at : IsOnRoute r m → length (order p m) ≤ a → a ≡ length (order p m)
-      at on more = omega (arith, stands.within, ap length (places.last m on), length-append (order p m) (j ∷ []))
 
   -- the job that is placed is in no order of before
-  not_before : (m a : ℕ) → m < machines p → a < length (order p m) → job_at p m a ≢ j
-  not_before m a inside within same =
-      let found = (fit.orders m inside).on_route a within in
-      omega (arith, found.1.visits.within, ap length (ap (route p) same ∙ places.none))
-
-  -- it stands last
-  stands_last : (m a k l g : ℕ) → l ≢ j → Stands q m a j k → Stands q m (a + 1) l g → ⊥
-  stands_last m a k l g other one next = elim (on_or_off r m) [
-    | inr off ↦ off (k, omega (arith, one.visits.within, ap length places.route_is), sym (ap (λ (s : List Step). (step_at s k).machine) places.route_is) ∙ one.visits.here)
-    | inl on ↦ not_before m a (fit-machine p fit l g m (visits_others l g m other next.visits)) (less on)
-        (sym (ap (λ (xs : List ℕ). get_or xs a 0) (places.last m on) ∙ get_or-append (order p m) (j ∷ []) 0 a (less on)) ∙ one.job)
-  ]
+  not_before : (m a : ℕ) → a < length (order p m) → job_at p m a ≢ j
+  not_before m a within same =
+      let found = fit-place p fit m a j inside within same in
+      omega (arith, found.1.visits.within, ap length places.none)
     where
-      less : IsOnRoute r m → a < length (order p m)
-      less on = omega (arith, next.within, ap length (places.last m on), length-append (order p m) (j ∷ []))
+      inside : m < machines p
+      inside = elim (cases_lt m (machines p)) [
+        | inl less ↦ less
+        | inr past ↦ absurd (omega (arith, within, ap length (get_or_past p.plan.order m [] (omega (arith, fit.counts.orders)))))
+      ]
+
+  -- behind it stands no other one
+  stands_last : (m a k l g : ℕ) → Stands q m a j k → Stands q m (a + 1) l g → l ≡ j
+  stands_last m a k l g one next = elim (cases_lt a (length (order p m))) [
+    | inl less ↦ absurd (not_before m a less (sym (front m a less) ∙ one.job))
+    | inr more ↦ sym next.job ∙ back m (a + 1) (omega arith) next.within
+  ]
 
   -- an arc to another job comes from another job, and is one of before
   pub placed-arc : (u v : Node) (d : ℕ) → Arc q u v d → v.job ≢ j → (u.job ≢ j) × Arc p u v d
   placed-arc _ _ _ (job_arc i k within) other =
       (other, subst (λ d. Arc p (node i k) (node i (k + 1)) d) (sym (ap (λ (s : List Step). (step_at s k).nominal) (places.others i other))) (job_arc i k (omega (arith, ap length (places.others i other)))))
   placed-arc _ _ _ (blocking_arc m a i k l g one next) other = elim (cases_eq i j) [
-    | inl same ↦ absurd (stands_last m a k l g other (subst (λ i. Stands q m a i k) same one) next)
+    | inl same ↦ absurd (other (stands_last m a k l g (subst (λ i. Stands q m a i k) same one) next))
     | inr apart ↦ (
       apart,
       subst (λ d. Arc p (node i (k + 1)) (node l g) d) (sym (places.cleans m))
@@ -75,26 +79,28 @@ module _ (p : PlannedShop) (j : ℕ) (r : List Step) (first last : ℕ) (q : Pla
     )
   ]
 
-  -- an arc from it leads to its next place
+  -- an arc from it leads to a later node of its own
   placed-own : (u v : Node) (d : ℕ) → Arc q u v d → u.job ≡ j → (v.job ≡ j) × (u.place < v.place)
   placed-own _ _ _ (job_arc i k within) same = (same, omega arith)
-  placed-own _ _ _ (blocking_arc m a i k l g one next) same = elim (cases_eq l j) [
-    | inr other ↦ absurd (stands_last m a k l g other (subst (λ i. Stands q m a i k) same one) next)
-    | inl mine ↦ absurd (twice (subst (λ i. Stands q m a i k) same one) (subst (λ l. Stands q m (a + 1) l g) mine next))
-  ]
+  placed-own _ _ _ (blocking_arc m a i k l g one next) same = (mine, omega (arith, later, apart))
     where
-      twice : Stands q m a j k → Stands q m (a + 1) j g → ⊥
-      twice one next = elim (on_or_off r m) [
-        | inr off ↦ off (k, omega (arith, one.visits.within, ap length places.route_is), sym (ap (λ (s : List Step). (step_at s k).machine) places.route_is) ∙ one.visits.here)
-        | inl on ↦ (let less : a < length (order p m) = omega (arith, next.within, ap length (places.last m on), length-append (order p m) (j ∷ [])) in
-            not_before m a (on_machine on) less (sym (ap (λ (xs : List ℕ). get_or xs a 0) (places.last m on) ∙ get_or-append (order p m) (j ∷ []) 0 a less) ∙ one.job))
-      ]
-        where
-          on_machine : IsOnRoute r m → m < machines p
-          on_machine on = elim (cases_lt m (machines p)) [
-            | inl inside ↦ inside
-            | inr past ↦ absurd (omega (arith, next.within, ap length (places.last m on), length-append (order p m) (j ∷ []), ap length (get_or_past p.plan.order m [] (omega (arith, fit.counts.orders)))))
-          ]
+      own : Stands q m a j k
+      own = subst (λ i. Stands q m a i k) same one
+
+      mine : l ≡ j
+      mine = stands_last m a k l g own next
+
+      own_next : Stands q m (a + 1) j g
+      own_next = subst (λ l. Stands q m (a + 1) l g) mine next
+
+      later : k < g
+      later = stands_in_turn q m a (a + 1) j k g own own_next (omega arith)
+
+      machine_is : (n : ℕ) → Visits q j n m → (step_at r n).machine ≡ m
+      machine_is n visits = sym (ap (λ (s : List Step). (step_at s n).machine) places.route_is) ∙ visits.here
+
+      apart : k + 1 ≢ g
+      apart is = places.apart g (omega (arith, own_next.visits.within, ap length places.route_is)) (k, omega (arith, is), machine_is k own.visits ∙ sym (machine_is g own_next.visits))
 
   own_rise : (u : Node) (ws : List Node) (v : Node) → ArcsLead q u ws v → u.job ≡ j → (v.job ≡ j) × (u.place < v.place)
   own_rise u [] v (d, arc) same = placed-own u v d arc same

@@ -1,35 +1,27 @@
 -- A job that is placed, one job or machine more, and a step that lasts: what is left and changed, and that the plan still fits.
-use Rattle.std.proofs.Common.{◌≡◌, ◌≢◌, ℕ, zero, suc, ◌+◌, ◌<◌, ◌≤◌, ◌⊎◌, inl, inr, List, [], ◌∷◌, ◌++◌, length, get_or, set, Option, None, Some, refl, sym, ap, ◌∙◌, subst, arith, length-append}
-use Rattle.std.proofs.lemmas.Bool.{cases_eq, cases_lt, cases_order}
-use Rattle.std.proofs.lemmas.List.{get_or-set_same, get_or-set_other, length-set, get_or_past}
+use Rattle.std.proofs.Common.{◌≡◌, ◌≢◌, ℕ, zero, suc, ◌+◌, ◌-◌, ◌<◌, ◌≤◌, ◌⊎◌, inl, inr, List, [], ◌∷◌, ◌++◌, length, get_or, set, replicate, nat_eq, true, Option, None, Some, refl, sym, ap, ◌∙◌, subst, arith, length-append}
+use Rattle.std.proofs.lemmas.Bool.{cases_eq, cases_lt, eq-eqb, ne_eqb}
+use Rattle.std.proofs.lemmas.List.{get_or-set_same, get_or-set_other, length-set, get_or_past, get_or-replicate, length-replicate, get_or-append-add, append-nil}
 use Rattle.std.proofs.Math.ListN.{get_or-append}
-use Rattle.std.proofs.Math.Seq.{get_or-append_seam}
 use Rattle.shop_base.specs.declared.shop.Step.{Step}
-use Rattle.shop_base.specs.declared.limits.TheConstants.{MAX_JOBS, MAX_MACHINES, MAX_NOMINAL, MAX_RELEASE, MAX_MOMENT, MAX_CLEAN}
-use Rattle.shop_base.specs.Shop.{IsSoundStep, step_at, no_step}
-use Rattle.shop_base.specs.Plan.{PlannedShop, jobs, machines, route, steps, machine_of, nominal, order, job_at, release, budget, clean, clean_in, HasCleanCount, Visits, Stands, IsOrder}
-use Rattle.shop_base.proofs.{Visits.stands_alike, OneVisit.{IsPlain, IsPlainOrder, plain-order}}
-use Rattle.plan_revise.specs.Orders.{then_last}
+use Rattle.shop_base.specs.declared.limits.TheConstants.{MAX_JOBS, MAX_MACHINES, MAX_STEPS, MAX_NOMINAL, MAX_RELEASE, MAX_MOMENT, MAX_CLEAN}
+use Rattle.shop_base.specs.Shop.{IsRoute, IsSoundStep, step_at, no_step}
+use Rattle.shop_base.specs.Plan.{PlannedShop, jobs, machines, route, steps, machine_of, nominal, order, job_at, release, budget, clean, clean_in, count_below, places_before, HasCleanCount, Visits, Stands, IsOrder}
+use Rattle.shop_base.specs.ShapeFault.{IsGoodPlace, visit_count, place_count}
+use Rattle.shop_base.proofs.{Visits.stands_alike, Counting.{count_same, count_grows}, Orders.{stands-place, none_missing, order_from_places}}
+use Rattle.plan_revise.specs.Orders.{then_last, put_last}
 use Rattle.plan_revise.specs.Placed.{placed, with_job, with_machine, with_clean_machine}
 use Rattle.plan_revise.specs.Changes.{lasting}
 use Rattle.plan_revise.specs.Fits.{IsFit}
-use Rattle.plan_revise.specs.Parts.{IsOnRoute, Places, Lasts}
-use Rattle.plan_revise.proofs.Places.{AreApart, search_below, changed-length, changed-off, changed-on}
-use Rattle.plan_revise.proofs.Fitting.{fit-machine, fit-once, fit-order}
+use Rattle.plan_revise.specs.Parts.{visits_in, Places, Lasts}
+use Rattle.plan_revise.proofs.Places.{visits_in-count, count_few, count_all, count_no, changed-length, changed-often, again-last}
+use Rattle.plan_revise.proofs.Fitting.{fit-machine, fit-place}
 
--- steps that are sound are no twice on a machine
-pub sound_apart : (count : ℕ) (r : List Step) → ((k : ℕ) → k < length r → IsSoundStep count r k) → AreApart r
-sound_apart count r sound i k less within same = (sound k within).first_visit i less same
+-- no step of a route over these machines is on a machine past them
+none_past : (count : ℕ) (r : List Step) (m : ℕ) → ((k : ℕ) → k < length r → (step_at r k).machine < count) → count ≤ m → visits_in r m ≡ 0
+none_past count r m in_range past = visits_in-count r m ∙ count_no (λ i. nat_eq (step_at r i).machine m) (length r) (λ i less. ne_eqb (step_at r i).machine m (λ same. omega (arith, in_range i less, same)))
 
--- whether a step of the route is on machine m
-pub on_or_off : (r : List Step) (m : ℕ) → IsOnRoute r m ⊎ (IsOnRoute r m → ⊥)
-on_or_off r m = go (search_below (λ k. (step_at r k).machine ≡ m) (λ k. cases_eq (step_at r k).machine m) (length r))
-  where
-    go : ((k : ℕ) × (k < length r) × ((step_at r k).machine ≡ m)) ⊎ ((k : ℕ) → k < length r → (step_at r k).machine ≡ m → ⊥) → IsOnRoute r m ⊎ (IsOnRoute r m → ⊥)
-    go (inl found) = inl found
-    go (inr none) = inr λ (k, less, here). none k less here
-
-module _ (p : PlannedShop) (j : ℕ) (r : List Step) (first last : ℕ) (fit : IsFit p) (inside : j < jobs p) (none : route p j ≡ []) (sound : (k : ℕ) → k < length r → IsSoundStep (machines p) r k) where
+module _ (p : PlannedShop) (j : ℕ) (r : List Step) (first last : ℕ) (fit : IsFit p) (inside : j < jobs p) (none : route p j ≡ []) (is_route : IsRoute (machines p) p.shop.recirculates r) where
   -- what is left and changed
   pub placed-places : Places p j r first last (placed p j r first last)
   placed-places = record {
@@ -37,8 +29,12 @@ module _ (p : PlannedShop) (j : ℕ) (r : List Step) (first last : ℕ) (fit : I
     route_is = get_or-set_same p.shop.routes j r [] inside;
     others = λ i other. get_or-set_other p.shop.routes j i r [] other;
     jobs_but = λ i within other. omega (arith, length-set p.shop.routes j r);
-    last = λ m (k, less, here). changed-on (then_last j) r p.plan.order k m (sound_apart (machines p) r sound) less here (omega (arith, (sound k less).in_range, here, fit.counts.orders));
-    elsewhere = λ m off. changed-off (then_last j) r p.plan.order m off;
+    apart = λ k within. (is_route.steps k within).elsewhere;
+    last = λ m. elim (cases_lt m (machines p)) [
+      | inl here ↦ changed-often (then_last j) r p.plan.order m (omega (arith, fit.counts.orders)) ∙ again-last j (visits_in r m) (order p m)
+      | inr past ↦ get_or_past (put_last j r p.plan.order) m [] (omega (arith, changed-length (then_last j) r p.plan.order, fit.counts.orders))
+          ∙ sym (ap (λ n. order p m ++ replicate n j) (none_past (machines p) r m (λ k less. (is_route.steps k less).in_range) past) ∙ append-nil (order p m) ∙ get_or_past p.plan.order m [] (omega (arith, fit.counts.orders)))
+    ];
     cleans = λ m. refl;
     release_is = get_or-set_same p.plan.release j first 0 (omega (arith, fit.counts.releases));
     releases = λ i other. get_or-set_other p.plan.release j i first 0 other;
@@ -46,121 +42,85 @@ module _ (p : PlannedShop) (j : ℕ) (r : List Step) (first last : ℕ) (fit : I
     budgets = λ i other. get_or-set_other p.plan.budget j i last 0 other;
   }
 
-  not_visited : (i k m : ℕ) → Visits p i k m → i ≢ j
-  not_visited i k m visits same = omega (arith, visits.within, ap length (ap (route p) same ∙ none))
+  -- the plan that is made
+  abbrev placed_plan : PlannedShop
+  placed_plan = placed p j r first last
 
-  visits_still : (i k m : ℕ) → Visits p i k m → Visits (placed p j r first last) i k m
-  visits_still i k m visits =
-      let same : route (placed p j r first last) i ≡ route p i = placed-places.others i (not_visited i k m visits) in
-      record { within = omega (arith, ap length same, visits.within); here = ap (λ (s : List Step). (step_at s k).machine) same ∙ visits.here }
+  -- it is in no order of before
+  not_visited : (m a : ℕ) → m < machines p → a < length (order p m) → job_at p m a ≢ j
+  not_visited m a here within mine = let found = fit-place p fit m a j here within mine in omega (arith, found.1.visits.within, ap length none)
 
-  visits_then : (i k m : ℕ) → i ≢ j → Visits (placed p j r first last) i k m → Visits p i k m
-  visits_then i k m other visits =
-      let same : route (placed p j r first last) i ≡ route p i = placed-places.others i other in
-      record { within = omega (arith, ap length same, visits.within); here = sym (ap (λ (s : List Step). (step_at s k).machine) same) ∙ visits.here }
+  module _ (m : ℕ) (here : m < machines p) where
+    size : length (order placed_plan m) ≡ length (order p m) + visits_in r m
+    size = ap length (placed-places.last m) ∙ length-append (order p m) (replicate (visits_in r m) j) ∙ ap (λ n. length (order p m) + n) (length-replicate (visits_in r m) j)
 
-  visits_mine : (k m : ℕ) → k < length r → (step_at r k).machine ≡ m → Visits (placed p j r first last) j k m
-  visits_mine k m less here = record {
-    within = omega (arith, ap length placed-places.route_is);
-    here = ap (λ (s : List Step). (step_at s k).machine) placed-places.route_is ∙ here;
-  }
+    front : (a : ℕ) → a < length (order p m) → job_at placed_plan m a ≡ job_at p m a
+    front a less = ap (λ (xs : List ℕ). get_or xs a 0) (placed-places.last m) ∙ get_or-append (order p m) (replicate (visits_in r m) j) 0 a less
 
-  mine_on : (k m : ℕ) → Visits (placed p j r first last) j k m → (k < length r) × ((step_at r k).machine ≡ m)
-  mine_on k m visits = (omega (arith, ap length placed-places.route_is, visits.within), sym (ap (λ (s : List Step). (step_at s k).machine) placed-places.route_is) ∙ visits.here)
+    mine_at : (n : ℕ) → n < visits_in r m → job_at placed_plan m (length (order p m) + n) ≡ j
+    mine_at n less =
+        ap (λ (xs : List ℕ). get_or xs (length (order p m) + n) 0) (placed-places.last m) ∙ get_or-append-add (order p m) (replicate (visits_in r m) j) n 0 ∙ get_or-replicate (visits_in r m) n j 0 less
 
-  order_placed : (m : ℕ) → m < machines p → IsOrder (placed p j r first last) m
-  order_placed m here = plain-order (placed p j r first last) m plain (elim (on_or_off r m) [ inl on ↦ longer on | inr off ↦ same off ])
-    where
-      old : IsPlainOrder p m
-      old = fit-order p fit m here
+    count_mine : visit_count placed_plan m j ≡ visits_in r m
+    count_mine = ap (λ (s : List Step). count_below (λ i. nat_eq (step_at s i).machine m) (length s)) placed-places.route_is ∙ sym (visits_in-count r m)
 
-      own_once : (k l : ℕ) → Visits (placed p j r first last) j k m → Visits (placed p j r first last) j l m → k ≡ l
-      own_once k l one other =
-          let (in_k, at_k) = mine_on k m one in
-          let (in_l, at_l) = mine_on l m other in
-          elim (cases_order k l) [
-            | inl is ↦ is
-            | inr (inl less) ↦ absurd (sound_apart (machines p) r sound k l less in_l (at_k ∙ sym at_l))
-            | inr (inr more) ↦ absurd (sound_apart (machines p) r sound l k more in_k (at_l ∙ sym at_k))
-          ]
+    count_other : (i : ℕ) → i ≢ j → visit_count placed_plan m i ≡ visit_count p m i
+    count_other i other = ap (λ (s : List Step). count_below (λ k. nat_eq (step_at s k).machine m) (length s)) (placed-places.others i other)
 
-      plain : IsPlain (placed p j r first last) m
-      plain i k l one other = elim (cases_eq i j) [
-        | inl mine ↦ own_once k l (subst (λ i. Visits (placed p j r first last) i k m) mine one) (subst (λ i. Visits (placed p j r first last) i l m) mine other)
-        | inr apart ↦ fit-once p fit i k l m (visits_then i k m apart one) (visits_then i l m apart other)
-      ]
+    turn_front : (i a : ℕ) → a ≤ length (order p m) → places_before placed_plan m i a ≡ places_before p m i a
+    turn_front i a few = count_same (λ b. nat_eq (job_at placed_plan m b) i) (λ b. nat_eq (job_at p m b) i) a (λ b less. ap (λ x. nat_eq x i) (front b (omega arith)))
 
-      same : (IsOnRoute r m → ⊥) → IsPlainOrder (placed p j r first last) m
-      same off = record {
-        on_route = λ a within.
-            let found = old.on_route a (omega (arith, ap length is)) in
-            (found.0, subst (λ i. Visits (placed p j r first last) i found.0 m) (sym (at a)) (visits_still (job_at p m a) found.0 m found.1));
-        once = λ a b one other e. old.once a b (omega (arith, ap length is)) (omega (arith, ap length is)) (sym (at a) ∙ e ∙ at b);
-        complete = λ i k visits. complete i k visits;
-      }
-        where
-          is : order (placed p j r first last) m ≡ order p m
-          is = placed-places.elsewhere m off
+    none_before : places_before placed_plan m j (length (order p m)) ≡ 0
+    none_before = count_no (λ b. nat_eq (job_at placed_plan m b) j) (length (order p m)) (λ b less. ne_eqb (job_at placed_plan m b) j (λ mine. not_visited m b here less (sym (front b less) ∙ mine)))
 
-          at : (a : ℕ) → job_at (placed p j r first last) m a ≡ job_at p m a
-          at a = ap (λ (xs : List ℕ). get_or xs a 0) is
+    good : (a : ℕ) → a < length (order placed_plan m) → IsGoodPlace placed_plan m a
+    good a within = elim (cases_lt a (length (order p m))) [ inl less ↦ of_before less | inr more ↦ of_mine more ]
+      where
+        of_before : a < length (order p m) → IsGoodPlace placed_plan m a
+        of_before less =
+            let i : ℕ = job_at p m a in
+            let found = fit-place p fit m a i here less refl in
+            let old : places_before p m i a < visit_count p m i = stands-place p m a found.0 found.1 in
+            let new : places_before placed_plan m i a < visit_count placed_plan m i = omega (arith, old, turn_front i a (omega arith), count_other i (not_visited m a here less)) in
+            subst (λ i. places_before placed_plan m i a < visit_count placed_plan m i) (sym (front a less)) new
 
-          complete : (i k : ℕ) → Visits (placed p j r first last) i k m → (a : ℕ) × (a < length (order (placed p j r first last) m)) × (job_at (placed p j r first last) m a ≡ i)
-          complete i k visits = elim (cases_eq i j) [
-            | inl mine ↦ (let on = mine_on k m (subst (λ i. Visits (placed p j r first last) i k m) mine visits) in absurd (off (k, on.0, on.1)))
-            | inr other ↦ (let found = old.complete i k (visits_then i k m other visits) in
-                (found.0, omega (arith, ap length is, found.1), at found.0 ∙ found.2))
-          ]
+        of_mine : length (order p m) ≤ a → IsGoodPlace placed_plan m a
+        of_mine more =
+            let n : ℕ = a - length (order p m) in
+            let there : length (order p m) + n ≡ a = omega arith in
+            let mine : job_at placed_plan m a ≡ j = ap (job_at placed_plan m) (sym there) ∙ mine_at n (omega (arith, size)) in
+            let few : places_before placed_plan m j (length (order p m) + n) ≤ places_before placed_plan m j (length (order p m)) + n = count_few (λ b. nat_eq (job_at placed_plan m b) j) (length (order p m)) n in
+            subst (λ i. places_before placed_plan m i a < visit_count placed_plan m i) (sym mine)
+            (omega (arith, few, ap (places_before placed_plan m j) there, none_before, count_mine, size, within))
 
-      longer : IsOnRoute r m → IsPlainOrder (placed p j r first last) m
-      longer on = record { on_route = on_route; once = once; complete = complete }
-        where
-          is : order (placed p j r first last) m ≡ order p m ++ j ∷ []
-          is = placed-places.last m on
+    enough : (i : ℕ) → visit_count placed_plan m i ≤ place_count placed_plan m i
+    enough i = elim (cases_eq i j) [ inl mine ↦ subst (λ i. visit_count placed_plan m i ≤ place_count placed_plan m i) (sym mine) own | inr other ↦ of_other other ]
+      where
+        own : visit_count placed_plan m j ≤ place_count placed_plan m j
+        own = omega (arith, count_mine, ap (places_before placed_plan m j) size, count_all (λ b. nat_eq (job_at placed_plan m b) j) (length (order p m)) (visits_in r m) pass)
+          where
+            pass : (b : ℕ) → length (order p m) ≤ b → b < length (order p m) + visits_in r m → nat_eq (job_at placed_plan m b) j ≡ true
+            pass b more less =
+                let there : length (order p m) + (b - length (order p m)) ≡ b = omega arith in
+                eq-eqb (job_at placed_plan m b) j (ap (job_at placed_plan m) (sym there) ∙ mine_at (b - length (order p m)) (omega arith))
 
-          size : length (order (placed p j r first last) m) ≡ length (order p m) + 1
-          size = ap length is ∙ length-append (order p m) (j ∷ [])
+        of_other : i ≢ j → visit_count placed_plan m i ≤ place_count placed_plan m i
+        of_other other =
+            omega (
+              arith,
+              count_other i other,
+              none_missing p m i (fit.orders m here),
+              turn_front i (length (order p m)) (omega arith),
+              count_grows (λ b. nat_eq (job_at placed_plan m b) i) (length (order p m)) (length (order placed_plan m)) (omega (arith, size)),
+            )
 
-          front : (a : ℕ) → a < length (order p m) → job_at (placed p j r first last) m a ≡ job_at p m a
-          front a less = ap (λ (xs : List ℕ). get_or xs a 0) is ∙ get_or-append (order p m) (j ∷ []) 0 a less
-
-          end : job_at (placed p j r first last) m (length (order p m)) ≡ j
-          end = ap (λ (xs : List ℕ). get_or xs (length (order p m)) 0) is ∙ get_or-append_seam (order p m) j [] 0
-
-          end_at : (a : ℕ) → a < length (order (placed p j r first last) m) → length (order p m) ≤ a → job_at (placed p j r first last) m a ≡ j
-          end_at a within more =
-              let here : a ≡ length (order p m) = omega (arith, size) in
-              ap (job_at (placed p j r first last) m) here ∙ end
-
-          not_front : (a : ℕ) → a < length (order p m) → job_at p m a ≢ j
-          not_front a less same = (let found = old.on_route a less in not_visited (job_at p m a) found.0 m found.1 same)
-
-          on_route : (a : ℕ) → a < length (order (placed p j r first last) m) → (k : ℕ) × Visits (placed p j r first last) (job_at (placed p j r first last) m a) k m
-          on_route a within = elim (cases_lt a (length (order p m))) [
-            | inl less ↦ (let found = old.on_route a less in
-                (found.0, subst (λ i. Visits (placed p j r first last) i found.0 m) (sym (front a less)) (visits_still (job_at p m a) found.0 m found.1)))
-            | inr more ↦ (on.0, subst (λ i. Visits (placed p j r first last) i on.0 m) (sym (end_at a within more)) (visits_mine on.0 m on.1 on.2))
-          ]
-
-          once : (a b : ℕ) → a < length (order (placed p j r first last) m) → b < length (order (placed p j r first last) m) → job_at (placed p j r first last) m a ≡ job_at (placed p j r first last) m b → a ≡ b
-          once a b one other e = go (cases_lt a (length (order p m))) (cases_lt b (length (order p m)))
-            where
-              go : (a < length (order p m)) ⊎ (length (order p m) ≤ a) → (b < length (order p m)) ⊎ (length (order p m) ≤ b) → a ≡ b
-              go (inl x) (inl y) = old.once a b x y (sym (front a x) ∙ e ∙ front b y)
-              go (inl x) (inr y) = absurd (not_front a x (sym (front a x) ∙ e ∙ end_at b other y))
-              go (inr x) (inl y) = absurd (not_front b y (sym (front b y) ∙ sym e ∙ end_at a one x))
-              go (inr x) (inr y) = omega (arith, size)
-
-          complete : (i k : ℕ) → Visits (placed p j r first last) i k m → (a : ℕ) × (a < length (order (placed p j r first last) m)) × (job_at (placed p j r first last) m a ≡ i)
-          complete i k visits = elim (cases_eq i j) [
-            | inl mine ↦ (length (order p m), omega (arith, size), end ∙ sym mine)
-            | inr other ↦ (let found = old.complete i k (visits_then i k m other visits) in
-                (found.0, omega (arith, size, found.1), front found.0 found.1 ∙ found.2))
-          ]
+    order_placed : IsOrder placed_plan m
+    order_placed = order_from_places placed_plan m good (λ i there. enough i)
 
   pub placed-fit : first ≤ MAX_RELEASE → last ≤ MAX_MOMENT → IsFit (placed p j r first last)
   placed-fit early in_range = record {
     size = rw length-set fit.size;
+    few_steps = few_still;
     steps_sound = λ i k within. sound_still i k within;
     counts = record {
       releases = length-set p.plan.release j first ∙ fit.counts.releases ∙ sym (length-set p.shop.routes j r);
@@ -176,14 +136,20 @@ module _ (p : PlannedShop) (j : ℕ) (r : List Step) (first last : ℕ) (fit : I
     orders = order_placed;
   }
     where
-      sound_still : (i k : ℕ) → k < steps (placed p j r first last) i → IsSoundStep (machines p) (route (placed p j r first last) i) k
+      few_still : (i : ℕ) → steps (placed p j r first last) i ≤ MAX_STEPS
+      few_still i = elim (cases_eq i j) [
+        | inl same ↦ omega (arith, ap (steps (placed p j r first last)) same, ap length placed-places.route_is, is_route.few_steps)
+        | inr other ↦ omega (arith, ap length (placed-places.others i other), fit.few_steps i)
+      ]
+
+      sound_still : (i k : ℕ) → k < steps (placed p j r first last) i → IsSoundStep (machines p) p.shop.recirculates (route (placed p j r first last) i) k
       sound_still i k within = elim (cases_eq i j) [
         | inl same ↦ at (ap (route (placed p j r first last)) same ∙ placed-places.route_is)
-        | inr other ↦ subst (λ (s : List Step). IsSoundStep (machines p) s k) (sym (placed-places.others i other)) (fit.steps_sound i k (omega (arith, ap length (placed-places.others i other))))
+        | inr other ↦ subst (λ (s : List Step). IsSoundStep (machines p) p.shop.recirculates s k) (sym (placed-places.others i other)) (fit.steps_sound i k (omega (arith, ap length (placed-places.others i other))))
       ]
         where
-          at : route (placed p j r first last) i ≡ r → IsSoundStep (machines p) (route (placed p j r first last) i) k
-          at is = subst (λ (s : List Step). IsSoundStep (machines p) s k) (sym is) (sound k (omega (arith, ap length is)))
+          at : route (placed p j r first last) i ≡ r → IsSoundStep (machines p) p.shop.recirculates (route (placed p j r first last) i) k
+          at is = subst (λ (s : List Step). IsSoundStep (machines p) p.shop.recirculates s k) (sym is) (is_route.steps k (omega (arith, ap length is)))
 
       release_still : (i : ℕ) → i < jobs p → release (placed p j r first last) i ≤ MAX_RELEASE
       release_still i within = elim (cases_eq i j) [
@@ -248,7 +214,8 @@ with_job-same p = record {
 pub with_job-fit : (p : PlannedShop) → IsFit p → jobs p < MAX_JOBS → IsFit (with_job p)
 with_job-fit p fit few = record {
   size = record { some_job = omega (arith, length-append p.shop.routes ([] ∷ [])); few_jobs = omega (arith, length-append p.shop.routes ([] ∷ [])); some_machine = fit.size.some_machine; few_machines = fit.size.few_machines };
-  steps_sound = λ j k within. subst (λ (r : List Step). IsSoundStep (machines p) r k) (sym (default_more p.shop.routes [] j)) (fit.steps_sound j k (omega (arith, ap length (default_more p.shop.routes [] j))));
+  few_steps = λ j. omega (arith, ap length (default_more p.shop.routes [] j), fit.few_steps j);
+  steps_sound = λ j k within. subst (λ (r : List Step). IsSoundStep (machines p) p.shop.recirculates r k) (sym (default_more p.shop.routes [] j)) (fit.steps_sound j k (omega (arith, ap length (default_more p.shop.routes [] j))));
   counts = record {
     releases = omega (arith, length-append p.plan.release (0 ∷ []), length-append p.shop.routes ([] ∷ []), fit.counts.releases);
     budgets = omega (arith, length-append p.plan.budget (0 ∷ []), length-append p.shop.routes ([] ∷ []), fit.counts.budgets);
@@ -284,6 +251,7 @@ with_machine-same p = record { lengths = λ j. refl; machines_same = λ j k. ref
 pub with_machine-fit : (p : PlannedShop) → IsFit p → machines p < MAX_MACHINES → IsFit (with_machine p)
 with_machine-fit p fit few = record {
   size = record { some_job = fit.size.some_job; few_jobs = fit.size.few_jobs; some_machine = omega arith; few_machines = omega arith };
+  few_steps = fit.few_steps;
   steps_sound = λ j k within. (let s = fit.steps_sound j k within in record { in_range = omega (arith, s.in_range); elsewhere = s.elsewhere; first_visit = s.first_visit; nominal = s.nominal });
   counts = record {
     releases = fit.counts.releases;
@@ -360,6 +328,7 @@ module _ (p : PlannedShop) (j k time : ℕ) (inside : j < jobs p) (within : k < 
   pub lasting-fit : IsFit p → time ≤ MAX_NOMINAL → IsFit (lasting p j k time)
   lasting-fit fit short = record {
     size = rw length-set fit.size;
+    few_steps = λ i. omega (arith, lasting-lasts.lengths i, fit.few_steps i);
     steps_sound = λ i l less. sound i l less;
     counts = record {
       releases = fit.counts.releases ∙ sym lasting-lasts.jobs_same;
@@ -397,12 +366,12 @@ module _ (p : PlannedShop) (j k time : ℕ) (inside : j < jobs p) (within : k < 
               )
           go (inr other) _ = omega (arith, ap (λ (r : List Step). (step_at r l).nominal) (others i other))
 
-      sound : (i l : ℕ) → l < steps (lasting p j k time) i → IsSoundStep (machines p) (route (lasting p j k time) i) l
+      sound : (i l : ℕ) → l < steps (lasting p j k time) i → IsSoundStep (machines p) p.shop.recirculates (route (lasting p j k time) i) l
       sound i l less =
           let s = fit.steps_sound i l (omega (arith, lasting-lasts.lengths i)) in
           record {
             in_range = omega (arith, lasting-lasts.machines_same i l, s.in_range);
             elsewhere = λ (h, next, same). s.elsewhere (h, next, sym (lasting-lasts.machines_same i h) ∙ same ∙ lasting-lasts.machines_same i l);
-            first_visit = λ h before same. s.first_visit h before (sym (lasting-lasts.machines_same i h) ∙ same ∙ lasting-lasts.machines_same i l);
+            first_visit = λ once h before same. s.first_visit once h before (sym (lasting-lasts.machines_same i h) ∙ same ∙ lasting-lasts.machines_same i l);
             nominal = times i l s.nominal;
           }

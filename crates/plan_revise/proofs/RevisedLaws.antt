@@ -1,13 +1,13 @@
 -- The laws of revised plans: each change keeps the run, brings no cycle, and makes nobody else later.
-use Rattle.std.proofs.Common.{◌≡◌, ◌≢◌, ℕ, zero, suc, ◌+◌, ◌<◌, ◌≤◌, inl, inr, List, [], ◌∷◌, ◌++◌, length, get_or, min, max, Option, None, Some, nat_lt, refl, sym, ap, ◌∙◌, subst, arith, length-append, ◌-◌}
-use Rattle.std.proofs.lemmas.Bool.{cases_eq, cases_Bool}
+use Rattle.std.proofs.Common.{◌≡◌, ◌≢◌, ℕ, zero, suc, ◌+◌, ◌<◌, ◌≤◌, inl, inr, List, [], ◌∷◌, ◌++◌, length, get_or, min, max, Option, None, Some, refl, sym, ap, ◌∙◌, subst, arith, length-append, ◌-◌}
+use Rattle.std.proofs.lemmas.Bool.{cases_eq}
 use Rattle.std.proofs.lemmas.List.{get_or-set_other, length-set}
 use Rattle.shop_base.specs.declared.node.Node.{Node}
 use Rattle.shop_base.specs.declared.limits.TheConstants.{MAX_RELEASE}
 use Rattle.shop_base.specs.declared.shop.Step.{Step}
 use Rattle.shop_base.specs.Shop.{step_at}
 use Rattle.shop_base.specs.Plan.{PlannedShop, jobs, route, nominal, clean, release, Visits}
-use Rattle.shop_base.specs.Cell.{Cell, made, since, entries}
+use Rattle.shop_base.specs.Cell.{Cell, made, since, entries, IsGone}
 use Rattle.shop_base.specs.Activity.{Arrival, Operation, Cleaning}
 use Rattle.shop_base.specs.Graph.{node, Arc, job_arc, blocking_arc, HasArc, ArcsLead}
 use Rattle.shop_base.specs.Ahead.{PathAhead, now, held, onward}
@@ -18,22 +18,22 @@ use Rattle.plan_revise.specs.declared.change.Change.TheVariants.{Until, Add, Scr
 use Rattle.plan_revise.specs.Promises.{no_promise}
 use Rattle.plan_revise.specs.Ended.{ended}
 use Rattle.plan_revise.specs.Placed.{with_job, added}
-use Rattle.plan_revise.specs.Settings.{Setting, moves_made}
+use Rattle.plan_revise.specs.Settings.{Setting, moves_made, HasLeft}
 use Rattle.plan_revise.specs.Aside.{aside_route, with_aside, HasRoom, put_aside}
-use Rattle.plan_revise.specs.Stopped.{place_on, stopped, stopped_at, without_machine}
+use Rattle.plan_revise.specs.Stopped.{present_step, way_to, stopped, stopped_at, without_machine}
 use Rattle.plan_revise.specs.Changes.{lasting, given_or, Becomes}
 use Rattle.plan_revise.specs.Fits.{IsFit, IsKept, IsRevision, IsSetting}
-use Rattle.plan_revise.specs.Parts.{Ends}
 use Rattle.plan_revise.specs.Paths.{HasLonger}
 use Rattle.plan_revise.specs.RevisedLaw.{AreOthers}
 use Rattle.plan_revise.specs.Stages.{IsStage}
-use Rattle.plan_revise.proofs.EndedParts.{ended-ends, visits_mine, visits_others}
+use Rattle.plan_revise.proofs.Ways.{way_visits}
+use Rattle.plan_revise.proofs.EndedParts.{EndsOnce, ended-ends, ended_by, visits_mine, visits_others}
 use Rattle.plan_revise.proofs.PlacedParts.{SameVisits, same-stands_back, same-visits_back, default_more, with_job-same}
-use Rattle.plan_revise.proofs.Keeping.{moves_given, unentered}
+use Rattle.plan_revise.proofs.Keeping.{moves_given, unentered, once_keep}
 use Rattle.alt_graph.proofs.ClosedWalks.{no_cycle_by_ways}
-use Rattle.plan_revise.proofs.EndedArcs.{ended-no_cycle, ended-path}
+use Rattle.plan_revise.proofs.EndedArcs.{ended-no_cycle, once-path}
 use Rattle.plan_revise.proofs.PlacedArcs.{placed-no_cycle, placed-path}
-use Rattle.plan_revise.proofs.Revisions.{HasAside, has_aside, aside_ends, aside_fit, aside_places, aside_others, stopped_outside, stopped_inside, stage_upto, stage_room, stopped_at_past, stopped_at_ahead, place_within, added_fit, added_places, prolonged_same, prolonged_jobs, stopped-one}
+use Rattle.plan_revise.proofs.Revisions.{HasAside, has_aside, aside_inside, aside_fit, aside_places, aside_others, stopped_outside, stopped_inside, stage_upto, stage_room, added_fit, added_places, prolonged_same, prolonged_jobs, stopped-one}
 
 -- ---- what is read the same has the same ways and paths
 
@@ -98,28 +98,25 @@ module _ (s : Setting) (is : IsSetting s) where
   aside-no_cycle : (p : PlannedShop) (j : ℕ) → IsRevision s p → j < jobs p → moves_made s j ≡ 0 → HasRoom s p → HasNoCycle p → HasNoCycle (put_aside s p j)
   aside-no_cycle p j revision inside outside room acyclic =
       placed-no_cycle (ended (with_aside s p) j 0) j (aside_route s.plant) (min s.present MAX_RELEASE) no_promise (put_aside s p j) (aside_fit s p j is revision inside outside room) (aside_places s p j is revision inside outside room)
-      (ended-no_cycle (with_aside s p) j 0 (ended (with_aside s p) j 0) (has_aside s p revision room).fit (aside_ends s p j is revision inside outside room)
+      (ended-no_cycle (with_aside s p) j 0 (has_aside s p revision room).fit (aside_inside s p j is revision inside outside room)
       (same-no_cycle p (with_aside s p) (has_aside s p revision room).same acyclic))
 
   stopped-no_cycle : (p : PlannedShop) (j n : ℕ) → IsRevision s p → j < jobs p → (moves_made s j ≡ 0 → HasRoom s p) → HasNoCycle p → HasNoCycle (stopped s p j n)
   stopped-no_cycle p j n revision inside room acyclic = elim (cases_eq (moves_made s j) 0) [
     | inl outside ↦ subst HasNoCycle (sym (stopped_outside s p j n outside)) (aside-no_cycle p j revision inside outside (room outside) acyclic)
-    | inr moved ↦ subst HasNoCycle (sym (stopped_inside s p j n moved)) (ended-no_cycle p j n (ended p j n) revision.fit (ended-ends p j n revision.fit inside) acyclic)
+    | inr moved ↦ subst HasNoCycle (sym (stopped_inside s p j n moved)) (ended-no_cycle p j n revision.fit inside acyclic)
   ]
 
-  stopped_at-no_cycle : (p : PlannedShop) (m j : ℕ) (found : Option ℕ) → place_on m (route p j) ≡ found → IsRevision s p → j < jobs p → ((k : ℕ) → moves_made s j ≡ 0 → Visits p j k m → HasRoom s p) → HasNoCycle p → HasNoCycle (stopped_at s p j found)
+  stopped_at-no_cycle : (p : PlannedShop) (m j : ℕ) (found : Option ℕ) → way_to s p j m ≡ found → IsRevision s p → j < jobs p → ((k : ℕ) → moves_made s j ≡ 0 → Visits p j k m → HasRoom s p) → HasNoCycle p → HasNoCycle (stopped_at s p j found)
   stopped_at-no_cycle p m j None is_none revision inside room acyclic = acyclic
-  stopped_at-no_cycle p m j (Some k) is_there revision inside room acyclic = elim (cases_Bool (nat_lt (k + 1) (moves_made s j))) [
-    | inl past ↦ subst HasNoCycle (sym (stopped_at_past s p j k past)) acyclic
-    | inr ahead ↦ subst HasNoCycle (sym (stopped_at_ahead s p j k ahead)) (stopped-no_cycle p j (max k (moves_made s j)) revision inside
-        (λ outside. room k outside (record { within = (place_within m (route p j) k is_there).0; here = (place_within m (route p j) k is_there).1 })) acyclic)
-  ]
+  stopped_at-no_cycle p m j (Some k) is_there revision inside room acyclic =
+      stopped-no_cycle p j (max (present_step s j + k) (moves_made s j)) revision inside (λ outside. room (present_step s j + k) outside (way_visits s p m j k is_there)) acyclic
 
   without-no_cycle : (p : PlannedShop) (m n : ℕ) → IsRevision s p → n ≤ jobs p → ((j k : ℕ) → moves_made s j ≡ 0 → Visits p j k m → HasRoom s p) → HasNoCycle p → HasNoCycle (without_machine s p m n)
   without-no_cycle p m zero revision few room acyclic = acyclic
   without-no_cycle p m (suc n) revision few room acyclic =
       let stage = stage_upto s is p m n revision (omega arith) room in
-      stopped_at-no_cycle (without_machine s p m n) m n (place_on m (route (without_machine s p m n) n)) refl stage.revision (omega (arith, stage.jobs_same))
+      stopped_at-no_cycle (without_machine s p m n) m n (way_to s (without_machine s p m n) n m) refl stage.revision (omega (arith, stage.jobs_same))
       (λ k outside visits. stage_room s is p m n (without_machine s p m n) k revision stage room outside visits) (without-no_cycle p m n revision (omega arith) room acyclic)
 
   pub becomes-no_cycle : (p : PlannedShop) (change : Change) (q : PlannedShop) → IsRevision s p → Becomes s p change q → HasNoCycle p → HasNoCycle q
@@ -159,24 +156,21 @@ module _ (s : Setting) (is : IsSetting s) where
       cut : moves_made s j ≢ 0 → Visits (ended p j n) i 0 s.plant
       cut moved = elim (cases_eq i j) [
         | inl same ↦ subst (λ i. Visits (ended p j n) i 0 s.plant) (sym same)
-            (visits_mine p j n (ended p j n) revision.fit (ended-ends p j n revision.fit inside) 0 s.plant (omega arith) (subst (λ i. Visits p i 0 s.plant) same visits))
-        | inr other ↦ visits_others p j n (ended p j n) revision.fit (ended-ends p j n revision.fit inside) i 0 s.plant other visits
+            (visits_mine p j n (ended p j n) (ended-ends p j n revision.fit inside) 0 s.plant (omega arith) (subst (λ i. Visits p i 0 s.plant) same visits))
+        | inr other ↦ visits_others p j n (ended p j n) (ended-ends p j n revision.fit inside) i 0 s.plant other visits
       ]
 
-  pub stopped_at-stays : (p : PlannedShop) (m j : ℕ) (found : Option ℕ) (i : ℕ) → place_on m (route p j) ≡ found → IsRevision s p → j < jobs p → ((k : ℕ) → moves_made s j ≡ 0 → Visits p j k m → HasRoom s p)
+  pub stopped_at-stays : (p : PlannedShop) (m j : ℕ) (found : Option ℕ) (i : ℕ) → way_to s p j m ≡ found → IsRevision s p → j < jobs p → ((k : ℕ) → moves_made s j ≡ 0 → Visits p j k m → HasRoom s p)
       → Visits p i 0 s.plant → Visits (stopped_at s p j found) i 0 s.plant
   stopped_at-stays p m j None i is_none revision inside room visits = visits
-  stopped_at-stays p m j (Some k) i is_there revision inside room visits = elim (cases_Bool (nat_lt (k + 1) (moves_made s j))) [
-    | inl past ↦ subst (λ (q : PlannedShop). Visits q i 0 s.plant) (sym (stopped_at_past s p j k past)) visits
-    | inr ahead ↦ subst (λ (q : PlannedShop). Visits q i 0 s.plant) (sym (stopped_at_ahead s p j k ahead)) (stopped-stays p j (max k (moves_made s j)) i revision inside (omega arith)
-        (λ outside. room k outside (record { within = (place_within m (route p j) k is_there).0; here = (place_within m (route p j) k is_there).1 })) visits)
-  ]
+  stopped_at-stays p m j (Some k) i is_there revision inside room visits =
+      stopped-stays p j (max (present_step s j + k) (moves_made s j)) i revision inside (omega arith) (λ outside. room (present_step s j + k) outside (way_visits s p m j k is_there)) visits
 
   without-stays : (p : PlannedShop) (m n i : ℕ) → IsRevision s p → n ≤ jobs p → ((j k : ℕ) → moves_made s j ≡ 0 → Visits p j k m → HasRoom s p) → Visits p i 0 s.plant → Visits (without_machine s p m n) i 0 s.plant
   without-stays p m zero i revision few room visits = visits
   without-stays p m (suc n) i revision few room visits =
       let stage = stage_upto s is p m n revision (omega arith) room in
-      stopped_at-stays (without_machine s p m n) m n (place_on m (route (without_machine s p m n) n)) i refl stage.revision (omega (arith, stage.jobs_same))
+      stopped_at-stays (without_machine s p m n) m n (way_to s (without_machine s p m n) n m) i refl stage.revision (omega (arith, stage.jobs_same))
       (λ k outside there. stage_room s is p m n (without_machine s p m n) k revision stage room outside there) (without-stays p m n i revision (omega arith) room visits)
 
   added-others : (p : PlannedShop) (r : List Step) (release budget i : ℕ) → IsRevision s p → i < jobs p → route (added p r release budget) i ≡ route p i
@@ -201,10 +195,21 @@ module _ (s : Setting) (is : IsSetting s) where
   -- ---- nobody else is later, by one cell of all these plans
 
   module _ (c : Cell) (t : ℕ) (same_entries : (m : ℕ) → entries c m ≡ entries s.cell m) where
-    cut_path : (p : PlannedShop) (j n : ℕ) (q : PlannedShop) (fit : IsFit p) (kept : IsKept s p) (ends : Ends p j n q) → (j < jobs s.given → made s.cell j ≤ n)
-        → (nodes : List Node) (v : Node) (size : ℕ) → PathAhead q c t nodes v size → HasLonger p c t v size
-    cut_path p j n q fit kept ends behind nodes v size path =
-        ended-path p j n q fit ends c t (λ m x k more stands. omega (arith, ap length (same_entries m), unentered s p j n q is fit kept ends behind m x k more stands)) nodes v size path
+    cut_path : (p : PlannedShop) (j n : ℕ) (fit : IsFit p) → j < jobs p → IsKept s p → (j < jobs s.given → made s.cell j ≤ n) → (j < jobs s.given → IsGone s.given s.cell j → ⊥)
+        → (nodes : List Node) (v : Node) (size : ℕ) → PathAhead (ended p j n) c t nodes v size → HasLonger p c t v size
+    cut_path p j n fit inside kept behind here = (ended_by p j fit inside IsNoLonger n (kept, λ nodes v size path. record { nodes = nodes; size = size; path = path; longer = omega arith }) one).1.1
+      where
+        IsNoLonger : PlannedShop → Type 0
+        IsNoLonger q = IsKept s q × ((nodes : List Node) (v : Node) (size : ℕ) → PathAhead q c t nodes v size → HasLonger p c t v size)
+
+        one : (q r : PlannedShop) (k : ℕ) → n ≤ k → j < jobs q → IsFit q → EndsOnce q j k r → IsNoLonger q → IsNoLonger r
+        one q r k more there fits once (is_kept, no_longer) = (
+          once_keep s q j k r is is_kept once (λ given. omega (arith, behind given)) here,
+          λ nodes v size path.
+              let before = once-path q j k r fits once c t (λ m x l under stands. omega (arith, ap length (same_entries m), unentered s q j k is is_kept (λ given. omega (arith, behind given)) m x l under stands)) nodes v size path in
+              let first = no_longer before.nodes v before.size before.path in
+              record { nodes = first.nodes; size = first.size; path = first.path; longer = omega (arith, before.longer, first.longer) },
+        )
 
     aside_path : (p : PlannedShop) (j : ℕ) → IsRevision s p → j < jobs p → moves_made s j ≡ 0 → HasRoom s p
         → (nodes : List Node) (v : Node) (size : ℕ) → PathAhead (put_aside s p j) c t nodes v size → v.job ≢ j → v.job < jobs p → HasLonger p c t v size
@@ -219,42 +224,38 @@ module _ (s : Setting) (is : IsSetting s) where
             (aside_fit s p j is revision inside outside room) (aside_places s p j is revision inside outside room) c t nodes v size path other
 
         two : HasLonger (with_aside s p) c t v one.size
-        two = cut_path (with_aside s p) j 0 (ended (with_aside s p) j 0) first.fit first.kept (aside_ends s p j is revision inside outside room)
-            (λ given. omega (arith, moves_given s j given)) one.nodes v one.size one.path
+        two = cut_path (with_aside s p) j 0 first.fit (aside_inside s p j is revision inside outside room) first.kept (λ given. omega (arith, moves_given s j given))
+            (λ given gone. omega (arith, moves_given s j given)) one.nodes v one.size one.path
 
         three : HasLonger p c t v two.size
         three = same-path p (with_aside s p) first.same (λ i k. ap (λ (rs : List (List Step)). (step_at (get_or rs i []) k).nominal) first.routes) first.cleans
             (λ i. ap (λ (xs : List ℕ). get_or xs i 0) first.releases) c t two.nodes v two.size two.path there
 
-    stopped_path : (p : PlannedShop) (j n : ℕ) → IsRevision s p → j < jobs p → moves_made s j ≤ n → (moves_made s j ≡ 0 → HasRoom s p)
+    stopped_path : (p : PlannedShop) (j n : ℕ) → IsRevision s p → j < jobs p → (HasLeft s p j → ⊥) → moves_made s j ≤ n → (moves_made s j ≡ 0 → HasRoom s p)
         → (nodes : List Node) (v : Node) (size : ℕ) → PathAhead (stopped s p j n) c t nodes v size → IsFree (stopped s p j n) v.job → v.job < jobs p → HasLonger p c t v size
-    stopped_path p j n revision inside behind room nodes v size path free there = elim (cases_eq (moves_made s j) 0) [
+    stopped_path p j n revision inside here behind room nodes v size path free there = elim (cases_eq (moves_made s j) 0) [
       | inl outside ↦ (let is_aside = stopped_outside s p j n outside in
           aside_path p j revision inside outside (room outside) nodes v size (subst (λ (q : PlannedShop). PathAhead q c t nodes v size) is_aside path)
           (λ same. free (subst (λ i. Visits (stopped s p j n) i 0 s.plant) (sym same) (subst (λ (q : PlannedShop). Visits q j 0 s.plant) (sym is_aside) (aside_visits p j revision inside outside (room outside))))) there)
-      | inr moved ↦ cut_path p j n (ended p j n) revision.fit revision.kept (ended-ends p j n revision.fit inside) (λ given. omega (arith, moves_given s j given)) nodes v size
+      | inr moved ↦ cut_path p j n revision.fit inside revision.kept (λ given. omega (arith, moves_given s j given)) (λ given gone. here (omega (arith, moves_given s j given, revision.kept.left j given gone))) nodes v size
           (subst (λ (q : PlannedShop). PathAhead q c t nodes v size) (stopped_inside s p j n moved) path)
     ]
 
-    stopped_at_path : (p : PlannedShop) (m j : ℕ) (found : Option ℕ) → place_on m (route p j) ≡ found → IsRevision s p → j < jobs p → ((k : ℕ) → moves_made s j ≡ 0 → Visits p j k m → HasRoom s p)
+    stopped_at_path : (p : PlannedShop) (m j : ℕ) (found : Option ℕ) → way_to s p j m ≡ found → IsRevision s p → j < jobs p → ((k : ℕ) → moves_made s j ≡ 0 → Visits p j k m → HasRoom s p)
         → (nodes : List Node) (v : Node) (size : ℕ) → PathAhead (stopped_at s p j found) c t nodes v size → IsFree (stopped_at s p j found) v.job → v.job < jobs p → HasLonger p c t v size
     stopped_at_path p m j None is_none revision inside room nodes v size path free there = record { nodes = nodes; size = size; path = path; longer = omega arith }
-    stopped_at_path p m j (Some k) is_there revision inside room nodes v size path free there = elim (cases_Bool (nat_lt (k + 1) (moves_made s j))) [
-      | inl past ↦ record { nodes = nodes; size = size; path = subst (λ (q : PlannedShop). PathAhead q c t nodes v size) (stopped_at_past s p j k past) path; longer = omega arith }
-      | inr ahead ↦ stopped_path p j (max k (moves_made s j)) revision inside (omega arith)
-          (λ outside. room k outside (record { within = (place_within m (route p j) k is_there).0; here = (place_within m (route p j) k is_there).1 }))
-          nodes v size (subst (λ (q : PlannedShop). PathAhead q c t nodes v size) (stopped_at_ahead s p j k ahead) path) (subst (λ (q : PlannedShop). IsFree q v.job) (stopped_at_ahead s p j k ahead) free) there
-    ]
+    stopped_at_path p m j (Some k) is_there revision inside room nodes v size path free there =
+        stopped_path p j (max (present_step s j + k) (moves_made s j)) revision inside (λ left. omega (arith, left, (way_visits s p m j k is_there).within)) (omega arith) (λ outside. room (present_step s j + k) outside (way_visits s p m j k is_there)) nodes v size path free there
 
     without_path : (p : PlannedShop) (m n : ℕ) → IsRevision s p → n ≤ jobs p → ((j k : ℕ) → moves_made s j ≡ 0 → Visits p j k m → HasRoom s p)
         → (nodes : List Node) (v : Node) (size : ℕ) → PathAhead (without_machine s p m n) c t nodes v size → IsFree (without_machine s p m n) v.job → v.job < jobs p → HasLonger p c t v size
     without_path p m zero revision few room nodes v size path free there = record { nodes = nodes; size = size; path = path; longer = omega arith }
     without_path p m (suc n) revision few room nodes v size path free there =
         let stage : IsStage s p m n (without_machine s p m n) = stage_upto s is p m n revision (omega arith) room in
-        let one : HasLonger (without_machine s p m n) c t v size = stopped_at_path (without_machine s p m n) m n (place_on m (route (without_machine s p m n) n)) refl stage.revision (omega (arith, stage.jobs_same))
+        let one : HasLonger (without_machine s p m n) c t v size = stopped_at_path (without_machine s p m n) m n (way_to s (without_machine s p m n) n m) refl stage.revision (omega (arith, stage.jobs_same))
         (λ k outside visits. stage_room s is p m n (without_machine s p m n) k revision stage room outside visits) nodes v size path free (omega (arith, stage.jobs_same)) in
         let two : HasLonger p c t v one.size = without_path p m n revision (omega arith) room one.nodes v one.size one.path
-        (λ visits. free (stopped_at-stays (without_machine s p m n) m n (place_on m (route (without_machine s p m n) n)) v.job refl stage.revision (omega (arith, stage.jobs_same))
+        (λ visits. free (stopped_at-stays (without_machine s p m n) m n (way_to s (without_machine s p m n) n m) v.job refl stage.revision (omega (arith, stage.jobs_same))
         (λ k outside there. stage_room s is p m n (without_machine s p m n) k revision stage room outside there) visits)) there in
         record { nodes = two.nodes; size = two.size; path = two.path; longer = omega (arith, one.longer, two.longer) }
 
@@ -272,6 +273,6 @@ module _ (s : Setting) (is : IsSetting s) where
         two : HasLonger p c t v one.size
         two = same-path p (with_job p) (with_job-same p) (λ i k. ap (λ (r : List Step). (step_at r k).nominal) (default_more p.shop.routes [] i)) (λ m. refl) (λ i. default_more p.plan.release 0 i) c t one.nodes v one.size one.path there
     becomes_path p (Scrap j) q others revision made nodes v size path free there =
-        stopped_path p j (moves_made s j) revision made.in_shop (omega arith) made.room nodes v size (subst (λ (q : PlannedShop). PathAhead q c t nodes v size) made.is path) (subst (λ (q : PlannedShop). IsFree q v.job) made.is free) there
+        stopped_path p j (moves_made s j) revision made.in_shop made.here (omega arith) made.room nodes v size (subst (λ (q : PlannedShop). PathAhead q c t nodes v size) made.is path) (subst (λ (q : PlannedShop). IsFree q v.job) made.is free) there
     becomes_path p (Down machine) q others revision made nodes v size path free there =
         without_path p machine (jobs p) revision (omega arith) made.room nodes v size (subst (λ (q : PlannedShop). PathAhead q c t nodes v size) made.is path) (subst (λ (q : PlannedShop). IsFree q v.job) made.is free) there

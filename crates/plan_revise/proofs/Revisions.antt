@@ -1,11 +1,10 @@
 -- What a change makes fits again, and keeps the run so far.
-use Rattle.std.proofs.Common.{◌≡◌, ◌≢◌, ℕ, zero, suc, ◌+◌, ◌<◌, ◌≤◌, ◌⊎◌, inl, inr, List, [], ◌∷◌, length, get_or, min, max, Option, None, Some, true, false, nat_lt, eqb, refl, sym, ap, ◌∙◌, subst, arith, length-append, add-one, ◌-◌}
-use Rattle.std.proofs.lemmas.Bool.{cases_eq, cases_Bool, eqb-true, eq-eqb, ne_eqb, ltb-false}
+use Rattle.std.proofs.Common.{◌≡◌, ◌≢◌, ℕ, zero, suc, ◌+◌, ◌<◌, ◌≤◌, ◌⊎◌, inl, inr, List, [], ◌∷◌, length, get_or, min, max, Option, None, Some, Bool, if◌then◌else◌, refl, sym, ap, ◌∙◌, subst, arith, length-append, add-one, ◌-◌}
+use Rattle.std.proofs.lemmas.Bool.{cases_eq, eq-eqb, ne_eqb, cases_lt, le-ltb}
 use Rattle.std.proofs.lemmas.List.{length-set, get_or_past, length-take}
-use Rattle.std.proofs.lemmas.List.Quantifiers.{position-Some}
 use Rattle.shop_base.specs.declared.shop.Step.{Step}
 use Rattle.shop_base.specs.declared.limits.TheConstants.{MAX_JOBS, MAX_RELEASE, MAX_MOMENT}
-use Rattle.shop_base.specs.Shop.{IsRoute, IsSoundStep, step_at, no_step}
+use Rattle.shop_base.specs.Shop.{IsRoute, IsSoundStep, step_at}
 use Rattle.shop_base.specs.Plan.{PlannedShop, jobs, machines, route, steps, clean, Visits}
 use Rattle.shop_base.specs.Cell.{made, since}
 use Rattle.shop_base.proofs.Visits.{visits_job}
@@ -16,12 +15,13 @@ use Rattle.plan_revise.specs.Ended.{ended}
 use Rattle.plan_revise.specs.Placed.{with_job, with_machine, added}
 use Rattle.plan_revise.specs.Settings.{Setting, moves_made, HasLeft}
 use Rattle.plan_revise.specs.Aside.{aside_route, with_aside, HasRoom, put_aside}
-use Rattle.plan_revise.specs.Stopped.{place_on, stopped, stopped_at, without_machine}
+use Rattle.plan_revise.specs.Stopped.{present_step, way_to, stopped, stopped_at, without_machine}
 use Rattle.plan_revise.specs.Changes.{lasting, given_or, IsProlonged, IsScrapped, IsWithout, Becomes}
 use Rattle.plan_revise.specs.Fits.{IsFit, IsKept, IsRevision, IsSetting}
 use Rattle.plan_revise.specs.Parts.{Ends, Places}
 use Rattle.plan_revise.specs.Stages.{IsStage}
 use Rattle.plan_revise.proofs.Fitting.{shaped_fits}
+use Rattle.plan_revise.proofs.Ways.{way_visits}
 use Rattle.plan_revise.proofs.EndedParts.{ended-ends, ended-fit}
 use Rattle.plan_revise.proofs.PlacedParts.{default_more, placed-places, placed-fit, SameVisits, with_job-same, with_job-fit, with_machine-same, with_machine-fit, with_machine-clean, lasting-lasts, lasting-same, lasting-fit}
 use Rattle.plan_revise.proofs.Keeping.{moves_given, given_kept, ends_keep, places_keep, same_keep}
@@ -88,9 +88,12 @@ has_aside s p revision room = elim (cases_eq (machines p) s.plant) [
       count = elim revision.plant [ inl same ↦ absurd (other same) | inr behind ↦ behind ];
     }
 
-pub aside_sound : (plant count : ℕ) → plant < count → (k : ℕ) → k < length (aside_route plant) → IsSoundStep count (aside_route plant) k
-aside_sound plant count less zero within = record { in_range = less; elsewhere = λ (i, next, same). absurd (omega (arith, next)); first_visit = λ i before same. absurd (omega arith); nominal = omega arith }
-aside_sound plant count less (suc k) within = absurd (omega arith)
+pub aside_way : (plant count : ℕ) (again : Bool) → plant < count → IsRoute count again (aside_route plant)
+aside_way plant count again less = record { visits_some = omega arith; few_steps = omega arith; steps = step }
+  where
+    step : (k : ℕ) → k < length (aside_route plant) → IsSoundStep count again (aside_route plant) k
+    step zero within = record { in_range = less; elsewhere = λ (i, next, same). absurd (omega (arith, next)); first_visit = λ once i before same. absurd (omega arith); nominal = omega arith }
+    step (suc k) within = absurd (omega arith)
 
 module _ (s : Setting) (p : PlannedShop) (j : ℕ) (is : IsSetting s) (revision : IsRevision s p) (inside : j < jobs p) (outside : moves_made s j ≡ 0) (room : HasRoom s p) where
   -- the parts by which it is put aside
@@ -104,11 +107,11 @@ module _ (s : Setting) (p : PlannedShop) (j : ℕ) (is : IsSetting s) (revision 
   aside_ends = ended-ends (with_aside s p) j 0 aside_first.fit aside_inside
 
   pub aside_fit : IsFit (ended (with_aside s p) j 0)
-  aside_fit = ended-fit (with_aside s p) j 0 aside_first.fit aside_inside
+  aside_fit = ended-fit (with_aside s p) j aside_first.fit aside_inside 0
 
   pub aside_places : Places (ended (with_aside s p) j 0) j (aside_route s.plant) (min s.present MAX_RELEASE) no_promise (put_aside s p j)
   aside_places = placed-places (ended (with_aside s p) j 0) j (aside_route s.plant) (min s.present MAX_RELEASE) no_promise aside_fit
-      (omega (arith, aside_inside, aside_ends.jobs_same)) aside_ends.mine (aside_sound s.plant (machines (with_aside s p)) (omega (arith, aside_first.count)))
+      (omega (arith, aside_inside, aside_ends.jobs_same)) aside_ends.mine (aside_way s.plant (machines (with_aside s p)) (with_aside s p).shop.recirculates (omega (arith, aside_first.count)))
 
   not_moved : j < jobs s.given → made s.cell j ≡ 0
   not_moved given = sym (moves_given s j given) ∙ outside
@@ -122,17 +125,31 @@ module _ (s : Setting) (p : PlannedShop) (j : ℕ) (is : IsSetting s) (revision 
   pub aside_revision : IsRevision s (put_aside s p j)
   aside_revision = record {
     fit = placed-fit (ended (with_aside s p) j 0) j (aside_route s.plant) (min s.present MAX_RELEASE) no_promise aside_fit
-        (omega (arith, aside_inside, aside_ends.jobs_same)) aside_ends.mine (aside_sound s.plant (machines (with_aside s p)) (omega (arith, aside_first.count))) (omega arith) (omega arith);
+        (omega (arith, aside_inside, aside_ends.jobs_same)) aside_ends.mine (aside_way s.plant (machines (with_aside s p)) (with_aside s p).shop.recirculates (omega (arith, aside_first.count))) (omega arith) (omega arith);
     some_step = λ i within. elim (cases_eq i j) [
       | inl same ↦ omega (arith, ap (steps (put_aside s p j)) same, ap length aside_places.route_is)
       | inr other ↦ omega (arith, ap length (aside_others i other), revision.some_step i (omega (arith, aside_jobs)))
     ];
     kept = places_keep s (ended (with_aside s p) j 0) j (aside_route s.plant) (min s.present MAX_RELEASE) no_promise (put_aside s p j)
-        (ends_keep s (with_aside s p) j 0 (ended (with_aside s p) j 0) is aside_first.fit aside_first.kept aside_ends (λ given. omega (arith, not_moved given)) (λ given gone. omega (arith, not_moved given)))
+        (ends_keep s (with_aside s p) j 0 is aside_first.fit aside_inside aside_first.kept (λ given. omega (arith, not_moved given)) (λ given gone. omega (arith, not_moved given)))
         aside_places (omega (arith, aside_jobs, aside_ends.jobs_same, ap length aside_first.routes)) not_moved;
     no_fewer = elim (given_revision s is).plant [ inl whole ↦ omega (arith, aside_first.count) | inr more ↦ omega (arith, aside_first.count) ];
     plant = inr aside_first.count;
   }
+
+-- a job has made no more moves than its steps, and its leaving
+pub moves_few : (s : Setting) (p : PlannedShop) (j : ℕ) → IsSetting s → IsRevision s p → moves_made s j ≤ steps p j + 1
+moves_few s p j is revision = elim (cases_lt j (jobs s.given)) [
+  | inr past ↦ omega (arith, ap (λ b. if b then made s.cell j else 0) (le-ltb j (jobs s.given) past))
+  | inl inside ↦ elim (cases_lt (steps s.given j) (made s.cell j)) [
+    | inl gone ↦ omega (arith, moves_given s j inside, is.sound.few_moves j inside, revision.kept.left j inside gone)
+    | inr here ↦ elim (cases_lt 0 (made s.cell j)) [
+      | inr outside ↦ omega (arith, moves_given s j inside, outside)
+      | inl moved ↦ (let last : ℕ = made s.cell j - 1 in
+          omega (arith, moves_given s j inside, moved, (revision.kept.entered j last (omega (arith, moved)) (record { within = omega (arith, here, moved); here = refl })).within))
+    ]
+  ]
+]
 
 -- ---- a job that is stopped
 
@@ -174,29 +191,17 @@ stopped-one s p j n is revision inside here behind room = elim (cases_eq (moves_
 
     cut : moves_made s j ≢ 0 → IsRevision s (ended p j n)
     cut moved = record {
-      fit = ended-fit p j n revision.fit inside;
+      fit = ended-fit p j revision.fit inside n;
       some_step = λ i within. elim (cases_eq i j) [
         | inl same ↦ omega (arith, ap (steps (ended p j n)) same, ap length ends.mine, length-take n (route p j), revision.some_step j inside)
         | inr other ↦ omega (arith, ap length (ends.others i other), revision.some_step i (omega (arith, ends.jobs_same)))
       ];
-      kept = ends_keep s p j n (ended p j n) is revision.fit revision.kept ends (λ given. omega (arith, moves_given s j given)) (λ given gone. here (omega (arith, moves_given s j given, revision.kept.left j given gone)));
+      kept = ends_keep s p j n is revision.fit inside revision.kept (λ given. omega (arith, moves_given s j given)) (λ given gone. here (omega (arith, moves_given s j given, revision.kept.left j given gone)));
       no_fewer = revision.no_fewer;
       plant = revision.plant;
     }
 
--- a job that has left the machine isn't stopped, and one that is there or has it ahead is
-pub stopped_at_past : (s : Setting) (p : PlannedShop) (j k : ℕ) → nat_lt (k + 1) (moves_made s j) ≡ true → stopped_at s p j (Some k) ≡ p
-stopped_at_past s p j k past = rw past refl
-
-pub stopped_at_ahead : (s : Setting) (p : PlannedShop) (j k : ℕ) → nat_lt (k + 1) (moves_made s j) ≡ false → stopped_at s p j (Some k) ≡ stopped s p j (max k (moves_made s j))
-stopped_at_ahead s p j k ahead = rw ahead refl
-
 -- ---- all jobs but some stopped at a machine
-
-pub place_within : (m : ℕ) (r : List Step) (k : ℕ) → place_on m r ≡ Some k → (k < length r) × ((step_at r k).machine ≡ m)
-place_within m r k found =
-    let at = position-Some (λ (step : Step). eqb step.machine m) r k no_step found in
-    (at.0, eqb-true (step_at r k).machine m at.1)
 
 pub stage_first : (s : Setting) (p : PlannedShop) (m : ℕ) → IsRevision s p → IsStage s p m 0 p
 stage_first s p m revision = record {
@@ -210,18 +215,15 @@ stage_first s p m revision = record {
 
 module _ (s : Setting) (is : IsSetting s) where
   -- one more job stopped at the machine
-  pub stopped_at-one : (p : PlannedShop) (m j : ℕ) (found : Option ℕ) → place_on m (route p j) ≡ found → IsRevision s p → j < jobs p → ((k : ℕ) → moves_made s j ≡ 0 → Visits p j k m → HasRoom s p) → IsOneStopped s p j (stopped_at s p j found)
+  pub stopped_at-one : (p : PlannedShop) (m j : ℕ) (found : Option ℕ) → way_to s p j m ≡ found → IsRevision s p → j < jobs p → ((k : ℕ) → moves_made s j ≡ 0 → Visits p j k m → HasRoom s p) → IsOneStopped s p j (stopped_at s p j found)
   stopped_at-one p m j None is_none revision inside room = record { revision = revision; jobs_same = refl; others = λ i other. refl; more_machines = omega arith }
-  stopped_at-one p m j (Some k) is_there revision inside room = elim (cases_Bool (nat_lt (k + 1) (moves_made s j))) [
-    | inl past ↦ subst (IsOneStopped s p j) (sym (stopped_at_past s p j k past)) (record { revision = revision; jobs_same = refl; others = λ i other. refl; more_machines = omega arith })
-    | inr ahead ↦ subst (IsOneStopped s p j) (sym (stopped_at_ahead s p j k ahead)) (stopped-one s p j (max k (moves_made s j)) is revision inside
-        (λ left. omega (arith, (place_within m (route p j) k is_there).0, ltb-false (k + 1) (moves_made s j) ahead)) (omega arith)
-        (λ outside. room k outside (record { within = (place_within m (route p j) k is_there).0; here = (place_within m (route p j) k is_there).1 })))
-  ]
+  stopped_at-one p m j (Some k) is_there revision inside room =
+      let there : Visits p j (present_step s j + k) m = way_visits s p m j k is_there in
+      stopped-one s p j (max (present_step s j + k) (moves_made s j)) is revision inside (λ left. omega (arith, left, there.within)) (omega arith) (λ outside. room (present_step s j + k) outside there)
 
-  pub stage_next : (p : PlannedShop) (m j : ℕ) (q r : PlannedShop) → IsStage s p m j q → j < jobs p → r ≡ stopped_at s q j (place_on m (route q j)) → ((k : ℕ) → moves_made s j ≡ 0 → Visits q j k m → HasRoom s q) → IsStage s p m (j + 1) r
+  pub stage_next : (p : PlannedShop) (m j : ℕ) (q r : PlannedShop) → IsStage s p m j q → j < jobs p → r ≡ stopped_at s q j (way_to s q j m) → ((k : ℕ) → moves_made s j ≡ 0 → Visits q j k m → HasRoom s q) → IsStage s p m (j + 1) r
   stage_next p m j q r stage inside is_next room = subst (IsStage s p m (j + 1)) (sym is_next) (record {
-    is = ap (λ (x : PlannedShop). stopped_at s x j (place_on m (route x j))) stage.is ∙ ap (without_machine s p m) (sym (add-one j));
+    is = ap (λ (x : PlannedShop). stopped_at s x j (way_to s x j m)) stage.is ∙ ap (without_machine s p m) (sym (add-one j));
     revision = one.revision;
     jobs_same = one.jobs_same ∙ stage.jobs_same;
     others = λ i more. one.others i (omega arith) ∙ stage.others i (omega arith);
@@ -232,8 +234,8 @@ module _ (s : Setting) (is : IsSetting s) where
     ];
   })
     where
-      one : IsOneStopped s q j (stopped_at s q j (place_on m (route q j)))
-      one = stopped_at-one q m j (place_on m (route q j)) refl stage.revision (omega (arith, stage.jobs_same)) room
+      one : IsOneStopped s q j (stopped_at s q j (way_to s q j m))
+      one = stopped_at-one q m j (way_to s q j m) refl stage.revision (omega (arith, stage.jobs_same)) room
 
       there : (k : ℕ) → Visits p j k m → Visits q j k m
       there k visits = record {
@@ -271,25 +273,30 @@ module _ (s : Setting) (is : IsSetting s) where
       plant = revision.plant;
     })
 
-  module _ (p : PlannedShop) (r : List Step) (release budget : ℕ) (revision : IsRevision s p) (few : jobs p < MAX_JOBS) (sound : IsRoute s.plant r) where
+  module _ (p : PlannedShop) (r : List Step) (release budget : ℕ) (revision : IsRevision s p) (few : jobs p < MAX_JOBS) (sound : IsRoute s.plant p.shop.recirculates r) where
     pub added_inside : jobs p < jobs (with_job p)
     added_inside = omega (arith, length-append p.shop.routes ([] ∷ []))
 
     pub added_none : route (with_job p) (jobs p) ≡ []
     added_none = default_more p.shop.routes [] (jobs p) ∙ get_or_past p.shop.routes (jobs p) [] (omega arith)
 
-    pub added_sound : (k : ℕ) → k < length r → IsSoundStep (machines p) r k
-    added_sound k less = let one = sound.steps k less in record { in_range = elim revision.plant [ inl same ↦ omega (arith, one.in_range) | inr more ↦ omega (arith, one.in_range) ]; elsewhere = one.elsewhere; first_visit = one.first_visit; nominal = one.nominal }
+    pub added_way : IsRoute (machines p) p.shop.recirculates r
+    added_way = record { visits_some = sound.visits_some; few_steps = sound.few_steps; steps = step }
+      where
+        step : (k : ℕ) → k < length r → IsSoundStep (machines p) p.shop.recirculates r k
+        step k less =
+            let one = sound.steps k less in
+            record { in_range = elim revision.plant [ inl same ↦ omega (arith, one.in_range) | inr more ↦ omega (arith, one.in_range) ]; elsewhere = one.elsewhere; first_visit = one.first_visit; nominal = one.nominal }
 
     pub added_fit : IsFit (with_job p)
     added_fit = with_job-fit p revision.fit few
 
     pub added_places : Places (with_job p) (jobs p) r release budget (added p r release budget)
-    added_places = placed-places (with_job p) (jobs p) r release budget added_fit added_inside added_none added_sound
+    added_places = placed-places (with_job p) (jobs p) r release budget added_fit added_inside added_none added_way
 
     pub added-revision : release ≤ MAX_RELEASE → budget ≤ MAX_MOMENT → IsRevision s (added p r release budget)
     added-revision early in_range = record {
-      fit = placed-fit (with_job p) (jobs p) r release budget added_fit added_inside added_none added_sound early in_range;
+      fit = placed-fit (with_job p) (jobs p) r release budget added_fit added_inside added_none added_way early in_range;
       some_step = λ j there. elim (cases_eq j (jobs p)) [
         | inl same ↦ omega (arith, ap (steps (added p r release budget)) same, ap length added_places.route_is, sound.visits_some)
         | inr other ↦ omega (arith, ap length (added_places.others j other), (with_job-same p).lengths j, revision.some_step j (omega (arith, added_places.jobs_but j there other, length-append p.shop.routes ([] ∷ []), other)))

@@ -1,10 +1,10 @@
 -- An accepted rest stays accepted where jobs are scrapped and machines are down.
-use Rattle.std.proofs.Common.{◌≡◌, ℕ, zero, suc, ◌+◌, ◌<◌, ◌≤◌, ◌⊎◌, inl, inr, List, [], ◌∷◌, get_or, max, Option, None, Some, nat_lt, refl, sym, ap, ◌∙◌, subst, arith}
-use Rattle.std.proofs.lemmas.Bool.{cases_eq, cases_Bool}
+use Rattle.std.proofs.Common.{◌≡◌, ℕ, zero, suc, ◌+◌, ◌<◌, ◌≤◌, ◌⊎◌, inl, inr, List, [], ◌∷◌, get_or, max, Option, None, Some, refl, sym, ap, ◌∙◌, subst, arith}
+use Rattle.std.proofs.lemmas.Bool.{cases_eq}
 use Rattle.shop_base.specs.declared.limits.TheConstants.{MAX_MOMENT}
 use Rattle.shop_base.specs.declared.node.Node.{Node}
 use Rattle.shop_base.specs.declared.job_state.JobState.{JobState}
-use Rattle.shop_base.specs.Plan.{PlannedShop, jobs, route, machine_of, nominal, clean, release, budget, Visits, IsWellShaped}
+use Rattle.shop_base.specs.Plan.{PlannedShop, jobs, machine_of, nominal, clean, release, budget, Visits, IsWellShaped}
 use Rattle.shop_base.specs.Cell.{Cell, made, IsGone}
 use Rattle.shop_base.specs.Activity.{Arrival, Operation, Cleaning}
 use Rattle.shop_base.specs.Run.{ends_in}
@@ -19,15 +19,16 @@ use Rattle.plan_revise.specs.declared.change.Change.TheVariants.{Until, Add, Scr
 use Rattle.plan_revise.specs.Ended.{ended}
 use Rattle.plan_revise.specs.Settings.{Setting, setting, moves_made}
 use Rattle.plan_revise.specs.Aside.{HasRoom, put_aside}
-use Rattle.plan_revise.specs.Stopped.{place_on, stopped, stopped_at, without_machine}
+use Rattle.plan_revise.specs.Stopped.{present_step, way_to, stopped, stopped_at, without_machine}
 use Rattle.plan_revise.specs.Changes.{Becomes}
 use Rattle.plan_revise.specs.Revised.{AreMade}
 use Rattle.plan_revise.specs.Fits.{IsRevision, IsSetting}
 use Rattle.plan_revise.specs.Stages.{IsStage}
 use Rattle.plan_revise.specs.RevisedLaw.{AreStops, AcceptedRestsStayAccepted}
+use Rattle.plan_revise.proofs.Ways.{way_visits}
 use Rattle.plan_revise.proofs.EndedParts.{ended-ends}
 use Rattle.plan_revise.proofs.RevisedLaws.{becomes-more_jobs}
-use Rattle.plan_revise.proofs.Revisions.{given_revision, has_aside, aside_ends, aside_places, aside_jobs, stopped_outside, stopped_inside, stage_upto, stage_room, stopped_at_past, stopped_at_ahead, place_within, becomes-revision}
+use Rattle.plan_revise.proofs.Revisions.{given_revision, has_aside, aside_ends, aside_places, aside_jobs, stopped_outside, stopped_inside, stage_upto, stage_room, becomes-revision}
 use Rattle.plan_revise.proofs.Outcomes.{run_stays, run_setting, run_revision, no_cycle, jobs_there, nobody_later, made-more_jobs}
 use Rattle.plan_revise.proofs.Lifted.{IsAsideSound, aside_still, ended_sound, first_stop, all_others, given_sound}
 use Rattle.plan_revise.proofs.Sooner.{moves_there}
@@ -83,20 +84,17 @@ module _ (s : Setting) (is : IsSetting s) (c : Cell) (top : ℕ) (moved : (j : �
             ];
           }
 
-  stopped_at_step : (p : PlannedShop) (m j : ℕ) (found : Option ℕ) → place_on m (route p j) ≡ found → IsRevision s p → j < jobs p → ((k : ℕ) → moves_made s j ≡ 0 → Visits p j k m → HasRoom s p) → jobs p ≤ top → IsStep s p (stopped_at s p j found)
+  stopped_at_step : (p : PlannedShop) (m j : ℕ) (found : Option ℕ) → way_to s p j m ≡ found → IsRevision s p → j < jobs p → ((k : ℕ) → moves_made s j ≡ 0 → Visits p j k m → HasRoom s p) → jobs p ≤ top → IsStep s p (stopped_at s p j found)
   stopped_at_step p m j None is_none revision inside room few = no_step s p
-  stopped_at_step p m j (Some k) is_there revision inside room few = elim (cases_Bool (nat_lt (k + 1) (moves_made s j))) [
-    | inl past ↦ subst (IsStep s p) (sym (stopped_at_past s p j k past)) (no_step s p)
-    | inr ahead ↦ subst (IsStep s p) (sym (stopped_at_ahead s p j k ahead)) (stopped_step p j (max k (moves_made s j)) revision inside
-        (λ outside. room k outside (record { within = (place_within m (route p j) k is_there).0; here = (place_within m (route p j) k is_there).1 })) few)
-  ]
+  stopped_at_step p m j (Some k) is_there revision inside room few =
+      stopped_step p j (max (present_step s j + k) (moves_made s j)) revision inside (λ outside. room (present_step s j + k) outside (way_visits s p m j k is_there)) few
 
   without_step : (p : PlannedShop) (m n : ℕ) → IsRevision s p → n ≤ jobs p → ((j k : ℕ) → moves_made s j ≡ 0 → Visits p j k m → HasRoom s p) → jobs p ≤ top → IsStep s p (without_machine s p m n)
   without_step p m zero revision few room most = no_step s p
   without_step p m (suc n) revision few room most =
       let stage : IsStage s p m n (without_machine s p m n) = stage_upto s is p m n revision (omega arith) room in
       steps_join s p (without_machine s p m n) (without_machine s p m (suc n)) (without_step p m n revision (omega arith) room most)
-      (stopped_at_step (without_machine s p m n) m n (place_on m (route (without_machine s p m n) n)) refl stage.revision (omega (arith, stage.jobs_same))
+      (stopped_at_step (without_machine s p m n) m n (way_to s (without_machine s p m n) n m) refl stage.revision (omega (arith, stage.jobs_same))
       (λ k outside there. stage_room s is p m n (without_machine s p m n) k revision stage room outside there) (omega (arith, stage.jobs_same)))
 
   becomes_step : (p : PlannedShop) (change : Change) (q : PlannedShop) → AreStops (change ∷ []) → IsRevision s p → Becomes s p change q → jobs p ≤ top → IsStep s p q

@@ -1,16 +1,14 @@
 -- What writes to the rows of a draft make of its plan.
-use Rattle.std.proofs.Common.{◌≡◌, ℕ, zero, suc, ◌+◌, ◌-◌, ◌<◌, ◌≤◌, ◌⊎◌, inl, inr, List, [], ◌∷◌, length, take, drop, get_or, set, Vec, Global, None, Some, Result, Ok, Err, Bool, true, false, eqb, refl, sym, ap, ◌∙◌, subst, arith, add-one, drop-cons}
+use Rattle.std.proofs.Common.{◌≡◌, ℕ, zero, suc, ◌+◌, ◌-◌, ◌<◌, ◌≤◌, List, [], ◌∷◌, length, take, drop, get_or, set, Vec, Global, None, Some, Result, Ok, Err, Bool, true, false, refl, sym, ap, ◌∙◌, subst, arith, add-one, drop-cons}
 use Rattle.std.specs.Prelude.{IfOk, OnOk, IfErr, IsTrue, ◌↔◌, slice_get}
-use Rattle.std.specs.List.{position_or_len}
-use Rattle.std.proofs.lemmas.Bool.{eq-eqb, eqb-true, cases_Bool, cases_lt, lt-ltb}
+use Rattle.std.proofs.lemmas.Bool.{lt-ltb}
 use Rattle.std.proofs.lemmas.List.{get_or-map, get_or_default, map-set, length-map}
-use Rattle.std.proofs.lemmas.List.Quantifiers.{position-Some}
 use Rattle.std.proofs.lemmas.Option.{same_Some}
 use Rattle.shop_base.specs.declared.job_state.JobState.{JobState}
 use Rattle.shop_base.specs.declared.shop.Step.{Step}
 use Rattle.shop_base.specs.Vectors.{lists_of}
 use Rattle.shop_base.specs.Shop.{step_at, no_step}
-use Rattle.shop_base.specs.Plan.{PlannedShop, jobs, machines, route, machine_of, steps, order, job_at, clean, Visits, IsWellShaped}
+use Rattle.shop_base.specs.Plan.{PlannedShop, jobs, machines, route, machine_of, steps, order, job_at, clean, IsWellShaped}
 use Rattle.shop_base.specs.Cell.{Cell, job_in, made, ready, IsOn}
 use Rattle.shop_base.proofs.Visits.{visits_job, visits-stands}
 use Rattle.shop_base.proofs.Keeping.{alone_on}
@@ -29,7 +27,7 @@ use Rattle.plan_revise.specs.Changes.{lasting, Becomes, IsScrapped}
 use Rattle.plan_revise.specs.Refusals.{IsRefused}
 use Rattle.plan_revise.specs.Revised.{AreMade, IsRevised, IsReason}
 use Rattle.plan_revise.specs.Settings.{Setting, setting, moves_made, IsAtWork}
-use Rattle.plan_revise.specs.Stopped.{place_on, stopped}
+use Rattle.plan_revise.specs.Stopped.{stopped}
 use Rattle.plan_revise.specs.Fits.{IsSetting}
 use Rattle.plan_revise.specs.Answers.{UnlessMemory, ParsesFirst, refused_at}
 
@@ -75,26 +73,6 @@ draft_lasting p j k time routes one = rw one refl
 pub step_written : (row : List Step) (k time : ℕ) (read : Step) → k < length row → read ≡ get_or row k read → set row k (record { machine = read.machine; nominal = time }) ≡ set row k (record { machine = (step_at row k).machine; nominal = time })
 step_written row k time read within is = ap (λ (s : Step). set row k (record { machine = s.machine; nominal = time })) (is ∙ get_or_default row k read no_step within)
 
--- where no element passes, all of them don't
-none_pass : {X : Type 0} (p : X → Bool) (xs : List X) (d : X) → length xs ≤ position_or_len p xs → (k : ℕ) → k < length xs → p (get_or xs k d) ≡ true → ⊥
-none_pass p [] d all k within pass = omega arith
-none_pass p (x ∷ xs) d all zero within pass = let none : suc (length xs) ≤ 0 = rw pass at all in omega (arith, none)
-none_pass p (x ∷ xs) d all (suc k) within pass = elim (cases_Bool (p x)) [
-  | inl here ↦ (let none : suc (length xs) ≤ 0 = rw here at all in absurd (omega (arith, none)))
-  | inr not_here ↦ (let more : suc (length xs) ≤ 1 + position_or_len p xs = rw not_here at all in none_pass p xs d (omega (arith, more)) k (omega arith) pass)
-]
-
--- where the machine isn't on the route, no step is on it
-pub not_on : (m : ℕ) (r : List Step) → place_on m r ≡ None → (k : ℕ) → k < length r → (step_at r k).machine ≡ m → ⊥
-not_on m r none k within here = go (cases_lt (position_or_len (λ (step : Step). eqb step.machine m) r) (length r))
-  where
-    found : Some (position_or_len (λ (step : Step). eqb step.machine m) r) ≡ None → ⊥
-    found same = cc
-
-    go : (position_or_len (λ (step : Step). eqb step.machine m) r < length r) ⊎ (length r ≤ position_or_len (λ (step : Step). eqb step.machine m) r) → ⊥
-    go (inl less) = let some = rw (lt-ltb (position_or_len (λ (step : Step). eqb step.machine m) r) (length r) less) at none in found some
-    go (inr all) = none_pass (λ (step : Step). eqb step.machine m) r no_step all k within (eq-eqb (step_at r k).machine m here)
-
 -- what is answered of one kind is of another
 pub reason_more : {X : Type 0} (One Other : ChangeFault → Type 0) → ((fault : ChangeFault) → One fault → Other fault) → (answer : Result X Refusal) → IfErr answer (UnlessMemory One) → IfErr answer (UnlessMemory Other)
 reason_more One Other more (Ok x) why = tt
@@ -128,19 +106,6 @@ none_at_work s r m j state same is on read done i k work_there =
 pub one_at_work : (s r : Setting) (m j : ℕ) (state : JobState) → s ≡ r → IsOn s.given s.cell j (made s.cell j - 1) m → state ≡ job_in s.cell j → state.ready ≡ false → (k : ℕ) × IsAtWork r j k m
 one_at_work s r m j state same on read working =
     (made s.cell j - 1, subst (λ (x : Setting). IsAtWork x j (made s.cell j - 1) m) same (record { on = on; not_ready = sym (ap (λ (x : JobState). x.ready) read) ∙ working }))
-
--- ---- visits by the place of a machine on a route
-
-pub no_visit : (p : PlannedShop) (j m : ℕ) (row : List Step) → row ≡ route p j → place_on m row ≡ None → (k : ℕ) → Visits p j k m → ⊥
-no_visit p j m row read none k visits = not_on m row none k (omega (arith, visits.within, ap length read)) (ap (λ (r : List Step). (step_at r k).machine) read ∙ visits.here)
-
-pub found_visit : (p : PlannedShop) (j m k : ℕ) (row : List Step) → row ≡ route p j → place_on m row ≡ Some k → Visits p j k m
-found_visit p j m k row read found =
-    let at = position-Some (λ (step : Step). eqb step.machine m) row k no_step found in
-    record {
-      within = omega (arith, at.0, ap length read);
-      here = sym (ap (λ (r : List Step). (step_at r k).machine) read) ∙ eqb-true (step_at row k).machine m at.1;
-    }
 
 -- ---- the machine of the jobs that are put aside
 

@@ -35,7 +35,7 @@ IsWorker s m job = MatchOption job ((j k : ℕ) → IsAtWork s j k m → ⊥) (�
 -- a job with these steps, this release and this budget can be added
 pub record AreFitFor (s : Setting) (p : PlannedShop) (steps : List Step) (release budget : ℕ) : Type 0 where
   pub few_jobs : jobs p < MAX_JOBS
-  pub sound : IsRoute s.plant steps
+  pub sound : IsRoute s.plant p.shop.recirculates steps
   pub release_in_range : release ≤ MAX_RELEASE
   pub budget_in_range : budget ≤ MAX_MOMENT
 

@@ -41,7 +41,7 @@ module _ (s : Setting) (p : PlannedShop) where
     pub steps : List Step
     pub written : IsJobLine (first_line words) steps
     pub few_jobs : jobs p < MAX_JOBS
-    pub sound : IsRoute s.plant steps
+    pub sound : IsRoute s.plant p.shop.recirculates steps
     pub release_in_range : given_or release s.present ≤ MAX_RELEASE
     pub budget_in_range : given_or budget no_promise ≤ MAX_MOMENT
     pub is : q ≡ added p steps (given_or release s.present) (given_or budget no_promise)

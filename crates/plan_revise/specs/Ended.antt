@@ -4,7 +4,7 @@ use Rattle.shop_base.specs.Plan.{PlannedShop, route}
 use Rattle.plan_revise.specs.Orders.{removed}
 use Rattle.plan_revise.specs.Promises.{no_promise}
 
--- job j ends behind its first n steps: its route is cut there, it is taken out of the orders of the machines behind, and it has no promise
+-- job j ends behind its first n steps: its route is cut there, each visit behind is taken out of its machine's order, the last of the job's places there, and it has no promise
 abbrev pub ended : PlannedShop → ℕ → ℕ → PlannedShop
 ended p j n = record {
   shop = record p.shop { routes = slice_set p.shop.routes j (take n (route p j)) };

@@ -1,5 +1,6 @@
 -- A shop and its plan between two parts of a change: all but that each route has a step.
 use Rattle.std.specs.Prelude.{◌≡◌, ℕ, ◌+◌, ◌<◌, ◌≤◌, ◌⊎◌}
+use Rattle.shop_base.specs.declared.limits.TheConstants.{MAX_STEPS}
 use Rattle.shop_base.specs.Shop.{AreCounts, IsSoundStep}
 use Rattle.shop_base.specs.Plan.{PlannedShop, jobs, machines, route, steps, machine_of, order, clean, Visits, HasCounts, IsWithinLimits, IsOrder, IsWellShaped}
 use Rattle.shop_base.specs.Cell.{made, entries, IsGone}
@@ -11,7 +12,8 @@ use Rattle.plan_revise.specs.Settings.{Setting}
 -- all that makes a plan well shaped, but that each route has a step
 pub record IsFit (p : PlannedShop) : Type 0 where
   pub size : AreCounts (machines p) (jobs p)
-  pub steps_sound : (j k : ℕ) → k < steps p j → IsSoundStep (machines p) (route p j) k
+  pub few_steps : (j : ℕ) → steps p j ≤ MAX_STEPS
+  pub steps_sound : (j k : ℕ) → k < steps p j → IsSoundStep (machines p) p.shop.recirculates (route p j) k
   pub counts : HasCounts p
   pub limits : IsWithinLimits p
   pub orders : (m : ℕ) → m < machines p → IsOrder p m

@@ -1,7 +1,7 @@
 -- The names of faults.
 use Rattle.std.specs.Prelude.{ℕ, List, codes}
 use Rattle.plan_revise.specs.declared.change.ChangeFault.{ChangeFault}
-use Rattle.plan_revise.specs.declared.change.ChangeFault.TheVariants.{MachineOutOfRange, Idle, TooSoon, NominalTooLarge, OddWords, BadNumber, TooManyJobs, EmptyRoute, MachineTwice, ReleaseTooLarge, BudgetTooLarge, JobOutOfRange, JobGone, TooManyMachines}
+use Rattle.plan_revise.specs.declared.change.ChangeFault.TheVariants.{MachineOutOfRange, Idle, TooSoon, NominalTooLarge, OddWords, BadNumber, TooManyJobs, EmptyRoute, TooManySteps, MachineTwice, ReleaseTooLarge, BudgetTooLarge, JobOutOfRange, JobGone, TooManyMachines}
 
 -- the name of a fault
 abbrev pub fault_name : ChangeFault → List ℕ
@@ -13,6 +13,7 @@ fault_name OddWords = codes "OddWords"
 fault_name BadNumber = codes "BadNumber"
 fault_name TooManyJobs = codes "TooManyJobs"
 fault_name EmptyRoute = codes "EmptyRoute"
+fault_name TooManySteps = codes "TooManySteps"
 fault_name MachineTwice = codes "MachineTwice"
 fault_name ReleaseTooLarge = codes "ReleaseTooLarge"
 fault_name BudgetTooLarge = codes "BudgetTooLarge"

@@ -1,39 +1,37 @@
 -- What the parts of a change leave and change, by what is read of a planned shop.
-use Rattle.std.specs.Prelude.{◌≡◌, ◌≢◌, ℕ, ◌<◌, ◌≤◌, List, [], ◌∷◌, ◌++◌, take, length}
+use Rattle.std.specs.Prelude.{◌≡◌, ◌≢◌, ℕ, suc, ◌<◌, ◌≤◌, ◌==◌, if◌then◌else◌, List, [], ◌∷◌, ◌++◌, take, length, replicate}
 use Rattle.shop_base.specs.declared.shop.Step.{Step}
-use Rattle.shop_base.specs.Shop.{step_at}
+use Rattle.shop_base.specs.Shop.{IsSameAgain}
 use Rattle.shop_base.specs.Plan.{PlannedShop, jobs, route, steps, machine_of, order, clean, release, budget, Visits}
-use Rattle.plan_revise.specs.Orders.{without}
 use Rattle.plan_revise.specs.Promises.{no_promise}
 
--- a step of the route is on machine m
-abbrev pub IsOnRoute : List Step → ℕ → Type 0
-IsOnRoute steps m = (k : ℕ) × (k < length steps) × ((step_at steps k).machine ≡ m)
+-- how many of these steps are on machine m
+abbrev pub visits_in : List Step → ℕ → ℕ
+visits_in [] m = 0
+visits_in (step ∷ steps) m = if step.machine == m then suc (visits_in steps m) else visits_in steps m
 
 -- a step of job j behind its first n is on machine m
 abbrev pub IsBehind : PlannedShop → ℕ → ℕ → ℕ → Type 0
 IsBehind p j n m = (k : ℕ) × (n ≤ k) × Visits p j k m
 
--- plan p becomes plan q where job j ends behind its first n steps: its route is cut there, it is taken out of the orders of the machines behind, it has no promise, and all else is the same
+-- plan p becomes plan q where job j ends behind its first n steps: its route is cut there, it has no promise, and all else but the orders is the same
 pub record Ends (p : PlannedShop) (j n : ℕ) (q : PlannedShop) : Type 0 where
   pub jobs_same : jobs q ≡ jobs p
   pub mine : route q j ≡ take n (route p j)
   pub others : (i : ℕ) → i ≢ j → route q i ≡ route p i
-  pub behind : (m : ℕ) → IsBehind p j n m → order q m ≡ without j (order p m)
-  pub elsewhere : (m : ℕ) → (IsBehind p j n m → ⊥) → order q m ≡ order p m
   pub cleans : (m : ℕ) → clean q m ≡ clean p m
   pub releases : (i : ℕ) → release q i ≡ release p i
   pub unpromised : budget q j ≡ no_promise
   pub budgets : (i : ℕ) → i ≢ j → budget q i ≡ budget p i
 
--- plan p becomes plan q where job j, which has no route, gets one with a release and a budget: it goes last in each order of that route, and all else is the same
+-- plan p becomes plan q where job j, which has no route, gets one with a release and a budget: each of its visits goes last in its machine's order, no step is on the machine of the step before, and all else is the same
 pub record Places (p : PlannedShop) (j : ℕ) (mine : List Step) (r b : ℕ) (q : PlannedShop) : Type 0 where
   pub none : route p j ≡ []
   pub route_is : route q j ≡ mine
   pub others : (i : ℕ) → i ≢ j → route q i ≡ route p i
   pub jobs_but : (i : ℕ) → i < jobs q → i ≢ j → i < jobs p
-  pub last : (m : ℕ) → IsOnRoute mine m → order q m ≡ order p m ++ j ∷ []
-  pub elsewhere : (m : ℕ) → (IsOnRoute mine m → ⊥) → order q m ≡ order p m
+  pub apart : (k : ℕ) → k < length mine → IsSameAgain mine k → ⊥
+  pub last : (m : ℕ) → order q m ≡ order p m ++ replicate (visits_in mine m) j
   pub cleans : (m : ℕ) → clean q m ≡ clean p m
   pub release_is : release q j ≡ r
   pub releases : (i : ℕ) → i ≢ j → release q i ≡ release p i

@@ -1,10 +1,10 @@
--- A job that goes last in each order of its route, and one job or machine more.
+-- A job each of whose visits goes last in its machine's order, and one job or machine more.
 use Rattle.std.specs.Prelude.{ℕ, ◌+◌, List, [], ◌∷◌, ◌++◌, slice_set, Option, None, Some}
 use Rattle.shop_base.specs.declared.shop.Step.{Step}
 use Rattle.shop_base.specs.Plan.{PlannedShop, jobs, machines}
 use Rattle.plan_revise.specs.Orders.{put_last}
 
--- job j, which is in no order, gets this route, release and budget, and goes last in each order of its route
+-- job j, which is in no order, gets this route, release and budget, and each of its visits goes last in its machine's order
 abbrev pub placed : PlannedShop → ℕ → List Step → ℕ → ℕ → PlannedShop
 placed p j steps release budget = record {
   shop = record p.shop { routes = slice_set p.shop.routes j steps };
@@ -18,7 +18,7 @@ with_job p = record {
   plan = record p.plan { release = p.plan.release ++ 0 ∷ []; budget = p.plan.budget ++ 0 ∷ [] };
 }
 
--- one job more, with this route, release and budget, last in each order of its route
+-- one job more, with this route, release and budget, each of its visits last in its machine's order
 abbrev pub added : PlannedShop → List Step → ℕ → ℕ → PlannedShop
 added p steps release budget = placed (with_job p) (jobs p) steps release budget
 

@@ -36,9 +36,9 @@ module _ (s : Setting) (p : PlannedShop) where
   -- a job with these steps can't be added: there are too many jobs, or the steps are no route over the machines of the plant, or its release or its budget is over the limit
   abbrev pub IsStepsFault : List Step → ℕ → ℕ → ChangeFault → Type 0
   IsStepsFault steps release budget TooManyJobs = MAX_JOBS ≤ jobs p
-  IsStepsFault steps release budget ReleaseTooLarge = (jobs p < MAX_JOBS) × IsRoute s.plant steps × (MAX_RELEASE < release)
-  IsStepsFault steps release budget BudgetTooLarge = (jobs p < MAX_JOBS) × IsRoute s.plant steps × (release ≤ MAX_RELEASE) × (MAX_MOMENT < budget)
-  IsStepsFault steps release budget fault = (jobs p < MAX_JOBS) × IsRouteFault s.plant steps fault
+  IsStepsFault steps release budget ReleaseTooLarge = (jobs p < MAX_JOBS) × IsRoute s.plant p.shop.recirculates steps × (MAX_RELEASE < release)
+  IsStepsFault steps release budget BudgetTooLarge = (jobs p < MAX_JOBS) × IsRoute s.plant p.shop.recirculates steps × (release ≤ MAX_RELEASE) × (MAX_MOMENT < budget)
+  IsStepsFault steps release budget fault = (jobs p < MAX_JOBS) × IsRouteFault s.plant p.shop.recirculates steps fault
 
   -- these words are read as steps that can't be added
   pub record IsReadFault (words : List ℕ) (release budget : ℕ) (fault : ChangeFault) : Type 0 where

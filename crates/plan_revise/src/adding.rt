@@ -55,7 +55,7 @@ impl Draft {
         if self.routes.len() >= MAX_JOBS {
             return Err(ChangeFault::TooManyJobs);
         }
-        check_route(run.plant(), steps)?;
+        check_route(run.plant(), self.recirculates, steps)?;
         if release > MAX_RELEASE {
             return Err(ChangeFault::ReleaseTooLarge);
         }

@@ -61,7 +61,10 @@ pub enum ChangeFault {
     /// The route has no step.
     #[error("EmptyRoute")]
     EmptyRoute,
-    /// A machine is on the route twice.
+    /// The route has more steps than one may have where a job may visit a machine again.
+    #[error("TooManySteps")]
+    TooManySteps,
+    /// A machine is on the route twice; where a job may visit a machine again, in two steps in a row.
     #[error("MachineTwice")]
     MachineTwice,
     /// The release of the new job is over the limit.
@@ -95,6 +98,7 @@ impl ChangeFault {
             ChangeFault::BadNumber => "BadNumber",
             ChangeFault::TooManyJobs => "TooManyJobs",
             ChangeFault::EmptyRoute => "EmptyRoute",
+            ChangeFault::TooManySteps => "TooManySteps",
             ChangeFault::MachineTwice => "MachineTwice",
             ChangeFault::ReleaseTooLarge => "ReleaseTooLarge",
             ChangeFault::BudgetTooLarge => "BudgetTooLarge",

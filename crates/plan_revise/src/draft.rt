@@ -7,10 +7,12 @@ use shop_base::{JobNo, Moment, Plan, Shaped, Shop, Step, shape};
 use std::alloc::{AllocError, Global};
 use std::marker::Model;
 
-/// A shop and its plan that are being changed: the machines, the routes, and the lists of the plan.
+/// A shop and its plan that are being changed: the machines, the routes, whether a job may visit a machine again, and the
+/// lists of the plan.
 #[derive(Drop)]
 pub(crate) struct Draft {
     pub(crate) machines: u32,
+    pub(crate) recirculates: bool,
     pub(crate) routes: Vec<Vec<Step>>,
     pub(crate) release: Vec<Moment>,
     pub(crate) budget: Vec<Moment>,
@@ -25,7 +27,7 @@ impl Model for Draft {
     ghost Value = { PlannedShop };
 
     ghost view = { λ d. record {
-      shop = record { machines = d.machines; routes = lists_of d.routes.items };
+      shop = record { machines = d.machines; routes = lists_of d.routes.items; recirculates = d.recirculates };
       plan = plan_of d.release d.budget d.order d.clean;
     } };
 }
@@ -38,6 +40,7 @@ impl Draft {
         let plan = shaped.plan();
         Ok(Draft {
             machines: shaped.machine_count(),
+            recirculates: shaped.shop().recirculates(),
             routes: copy_routes(alloc, shaped)?,
             release: plan.release.as_slice().to_vec(alloc)?,
             budget: plan.budget.as_slice().to_vec(alloc)?,
@@ -57,7 +60,7 @@ impl Draft {
             order: self.order,
             clean: self.clean,
         };
-        match Shop::new(self.machines, self.routes) {
+        match Shop::of_kind(self.machines, self.routes, self.recirculates) {
             Ok(shop) => shaped_of(shop, plan),
             Err(_) => unreachable!(),
         }

@@ -16,8 +16,7 @@ use std::alloc::{AllocError, Global};
 pub(crate) const NO_PROMISE: Moment = MAX_MOMENT;
 
 impl Draft {
-    /// Ends the job behind its first steps: its route is cut there, and it is taken out of the orders of the machines
-    /// behind.
+    /// Ends the job behind its first steps: its route is cut there, and its visits behind are taken out of the orders.
     pub(crate) fn end_behind(&mut self, job: JobNo, count: usize)
         requires fit { IsFit self.old }
         requires job { job < jobs self.old }
@@ -30,8 +29,7 @@ impl Draft {
         self.budget[job as usize] = NO_PROMISE;
     }
 
-    /// Gives the job, which is in no order, a route, a release and a budget, and puts it last in each order of the
-    /// route.
+    /// Gives the job, which is in no order, a route, a release and a budget, and puts each of its visits last.
     pub(crate) fn place(
         &mut self,
         job: JobNo,
@@ -85,7 +83,7 @@ impl Draft {
 }
 
 /// The steps of a route behind its first ones.
-fn rest_of(route: &[Step], count: usize) -> &[Step]
+pub(crate) fn rest_of(route: &[Step], count: usize) -> &[Step]
     requires { count ≤ length route.now }
     ensures { result.now ≡ drop count route.now }
 {

@@ -2,15 +2,15 @@
 
 ghost use Rattle.std.specs.Prelude.{◌≡◌, ℕ, ◌+◌, ◌<◌, ◌≤◌, min, OnOk, IfErr, IfSome, length, position, ◌==◌};
 ghost use Rattle.shop_base.specs.declared.limits.TheConstants.{MAX_MACHINES};
-ghost use Rattle.shop_base.specs.Plan.{jobs, machines, steps, route, Visits};
+ghost use Rattle.shop_base.specs.Plan.{jobs, machines, steps, Visits};
 ghost use Rattle.plan_revise.specs.{Settings.moves_made, Aside.HasRoom, Aside.with_aside, Aside.put_aside};
-ghost use Rattle.plan_revise.specs.Stopped.{place_on, stopped, stopped_at, without_machine};
+ghost use Rattle.plan_revise.specs.Stopped.{way_to, stopped, stopped_at, without_machine};
 ghost use Rattle.plan_revise.specs.{Refusals.IsDownFault, Fits.IsRevision};
 ghost use Rattle.plan_revise.specs.Answers.{IsNoRoom, IsNoRoomFor, UnlessMemory};
 
 use crate::change::{ChangeFault, Made, Refusal};
 use crate::draft::Draft;
-use crate::ending::NO_PROMISE;
+use crate::ending::{NO_PROMISE, rest_of};
 use crate::run_so_far::RunSoFar;
 use shop_base::limits::{MAX_MACHINES, MAX_RELEASE};
 use shop_base::{JobNo, MachineNo, Planned, Step};
@@ -39,7 +39,7 @@ impl Draft {
         Ok(())
     }
 
-    /// Stops the job at the machine, if it is there or has it ahead.
+    /// Stops the job at the machine, if it is on it or has it ahead.
     fn stop_at<P: Planned>(
         &mut self,
         alloc: Global,
@@ -50,19 +50,19 @@ impl Draft {
         requires revision { IsRevision run.now self.old }
         requires job { job < jobs self.old }
         ensures done { OnOk result
-            (self.new ≡ stopped_at run.now self.old job (place_on machine (route self.old job))) }
+            (self.new ≡ stopped_at run.now self.old job (way_to run.now self.old job machine)) }
         ensures room { OnOk result
             ((k : ℕ) → moves_made run.now job ≡ 0 → Visits self.old job k machine → HasRoom run.now self.old) }
         ensures refused { IfErr result (UnlessMemory (IsNoRoomFor run.now self.old job machine)) }
     {
-        let Some(place) = place_of(machine, &self.routes[job as usize]) else {
+        let made = run.moves_made(job) as usize;
+        let present = made.saturating_sub(1);
+        let rest = rest_of(&self.routes[job as usize], present);
+        let Some(further) = place_of(machine, rest) else {
             return Ok(());
         };
-        let made = run.moves_made(job) as usize;
-        if place + 1 < made {
-            return Ok(());
-        }
-        self.stop(alloc, run, job, place.max(made))
+        let count = (present + further).max(made);
+        self.stop(alloc, run, job, count)
     }
 
     /// Stops the job behind its first steps: in the cell it ends there, outside it is put aside.
@@ -132,10 +132,10 @@ impl Draft {
     }
 }
 
-/// The place of the machine on the route.
-fn place_of(machine: MachineNo, route: &[Step]) -> Option<usize>
-    ensures place { result ≡ place_on machine route.now }
-    ensures within { IfSome result (λ place. place < length route.now) }
+/// The first place of the machine on these steps.
+fn place_of(machine: MachineNo, steps: &[Step]) -> Option<usize>
+    ensures place { result ≡ position (λ step. step.machine == machine) steps.now }
+    ensures within { IfSome result (λ place. place < length steps.now) }
 {
-    route.iter().position(|step| step.machine == machine)
+    steps.iter().position(|step| step.machine == machine)
 }

@@ -10,7 +10,7 @@ use Rattle.plan_revise.proofs.draft.Draft.last_for.Goals as goal
 pub returns : goal.returns
 returns c =
     let p : PlannedShop = record {
-      shop = record { machines = c.self.inside.machines; routes = lists_of c.self.inside.routes.items };
+      shop = record { machines = c.self.inside.machines; routes = lists_of c.self.inside.routes.items; recirculates = c.self.inside.recirculates };
       plan = plan_of c.self.inside.release c.self.inside.budget c.self.inside.order c.self.inside.clean;
     } in
     let within : c.args.job < length c.self.inside.routes.items = omega (arith, c.requires.job, ap (λ (q : PlannedShop). length q.shop.routes) c.self.view_is, length_lists c.self.inside.routes.items) in

@@ -12,7 +12,7 @@ use Rattle.plan_revise.proofs.draft.Draft.place.Goals as goal
 pub returns : goal.returns
 returns c =
     let p : PlannedShop = record {
-      shop = record { machines = c.self.inside.machines; routes = lists_of c.self.inside.routes.items };
+      shop = record { machines = c.self.inside.machines; routes = lists_of c.self.inside.routes.items; recirculates = c.self.inside.recirculates };
       plan = plan_of c.self.inside.release c.self.inside.budget c.self.inside.order c.self.inside.clean;
     } in
     let put = c.in_ok-put_last.ensures ∙ ap (λ (steps : List Step). put_last c.args.job steps (lists_of c.self.inside.order.items)) c.deref.ensures.value in

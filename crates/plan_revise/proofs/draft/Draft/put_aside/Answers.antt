@@ -14,4 +14,4 @@ pub place-requires-clause-fit : goal.place-requires-clause-fit
 place-requires-clause-fit g c =
     let first : HasAside c.args.run.now c.args.self.now (with_aside c.args.run.now c.args.self.now) = has_aside c.args.run.now c.args.self.now c.requires.revision c.requires.room in
     let inside : c.args.job < jobs (with_aside c.args.run.now c.args.self.now) = omega (arith, c.requires.job, ap length first.routes) in
-    subst IsFit (sym (c.end_behind.ensures ∙ ap (λ (p : PlannedShop). ended p c.args.job 0) c.in_ok-bring_aside.ensures)) (ended-fit (with_aside c.args.run.now c.args.self.now) c.args.job 0 first.fit inside)
+    subst IsFit (sym (c.end_behind.ensures ∙ ap (λ (p : PlannedShop). ended p c.args.job 0) c.in_ok-bring_aside.ensures)) (ended-fit (with_aside c.args.run.now c.args.self.now) c.args.job first.fit inside 0)
