@@ -10,5 +10,5 @@ pub mod Fields
 pub mod Promises
 pub mod Reasons
 pub mod OneReason
-pub mod CleanReasons
+pub mod ClaimReasons
 pub mod Once

@@ -4,7 +4,7 @@ use Rattle.std.proofs.lemmas.Bool.{ne_eqb, cases_lt}
 use Rattle.shop_base.specs.declared.{limits.TheConstants.MAX_MOMENT, report.Report.{Report, TheVariants.{Arrive, Finish, Clean}}}
 use Rattle.shop_base.specs.{Plan.{PlannedShop, jobs, machines, steps, machine_of}, Cell.{Cell, made, ready}, Report.IsNextMoment}
 use Rattle.cell_control.specs.declared.report_fault.ReportFault.{ReportFault}
-use Rattle.cell_control.specs.declared.report_fault.ReportFault.TheVariants.{JobOutOfRange, MachineOutOfRange, MomentTooLarge, Backwards, NotExpected, WrongKind, WrongMachine}
+use Rattle.cell_control.specs.declared.report_fault.ReportFault.TheVariants.{JobOutOfRange, MachineOutOfRange, StepOutOfRange, MomentTooLarge, Backwards, NotExpected, WrongKind, WrongMachine}
 use Rattle.cell_control.specs.Reports.{IsBusy, IsMomentReason, IsJobReason, IsFirstReason, IsOnlyReason}
 
 -- what is found against a moment, else this
@@ -17,6 +17,7 @@ module _ (c : Cell) (t : ℕ) (other : ReportFault) where
   late_found (Backwards last) (range, back, is) = rw (le-ltb MAX_MOMENT t range, lt-ltb t c.last back) (ap Backwards is)
   late_found JobOutOfRange bad = absurd bad
   late_found MachineOutOfRange bad = absurd bad
+  late_found StepOutOfRange bad = absurd bad
   late_found NotExpected bad = absurd bad
   late_found WrongKind bad = absurd bad
   late_found (WrongMachine actual) bad = absurd bad
@@ -56,6 +57,7 @@ module _ (p : PlannedShop) (c : Cell) where
     job_found (Backwards last) (inside, range, back, is) = rw (lt-ltb j (jobs p) inside) (late_found c t _ (Backwards last) (range, back, is))
     job_found NotExpected (inside, moment, none) = rw (lt-ltb j (jobs p) inside, idle j none) (other_found c t NotExpected moment)
     job_found MachineOutOfRange bad = absurd bad
+    job_found StepOutOfRange bad = absurd bad
     job_found WrongKind bad = absurd bad
     job_found (WrongMachine actual) bad = absurd bad
 
@@ -69,6 +71,7 @@ module _ (p : PlannedShop) (c : Cell) where
   found (Arrive j t) NotExpected (turn, none) = job_found j t WrongKind NotExpected (turn.of_shop, turn.moment, none)
   found (Arrive j t) WrongKind (turn, other) = busy_found j t WrongKind turn.of_shop turn.moment other.0
   found (Arrive j t) MachineOutOfRange bad = absurd bad
+  found (Arrive j t) StepOutOfRange bad = absurd bad
   found (Arrive j t) (WrongMachine actual) bad = absurd bad.1
   found (Finish j m t) JobOutOfRange past = job_found j t _ JobOutOfRange past
   found (Finish j m t) MomentTooLarge late = job_found j t _ MomentTooLarge late
@@ -81,11 +84,13 @@ module _ (p : PlannedShop) (c : Cell) where
       let at : actual ≡ machine_of p j (made c j - 1) = sym on.visits.here ∙ ap (machine_of p j) last in
       rw (ne_eqb (made c j) 0 (λ none. absurd (omega (arith, on.entered, none)))) (ap WrongMachine at ∙ busy_found j t (WrongMachine (machine_of p j (made c j - 1))) turn.of_shop turn.moment is)
   found (Finish j m t) MachineOutOfRange bad = absurd bad
+  found (Finish j m t) StepOutOfRange bad = absurd bad
   found (Clean m t) MachineOutOfRange past = rw (le-ltb m (machines p) past) refl
   found (Clean m t) MomentTooLarge (inside, late) = rw (lt-ltb m (machines p) inside) (late_found c t NotExpected MomentTooLarge late)
   found (Clean m t) (Backwards last) (inside, range, back, is) = rw (lt-ltb m (machines p) inside) (late_found c t NotExpected (Backwards last) (range, back, is))
   found (Clean m t) NotExpected (turn, none) = rw (lt-ltb m (machines p) turn.of_shop) (other_found c t NotExpected turn.moment)
   found (Clean m t) JobOutOfRange bad = absurd bad
+  found (Clean m t) StepOutOfRange bad = absurd bad
   found (Clean m t) WrongKind bad = absurd bad.1
   found (Clean m t) (WrongMachine actual) bad = absurd bad.1
 

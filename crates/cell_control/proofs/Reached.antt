@@ -1,7 +1,7 @@
 -- Runs end with the cells of controllers.
-use Rattle.std.proofs.Common.{◌≡◌, ℕ, List, [], ◌∷◌, ◌++◌, refl, sym, ◌∙◌, ap, subst, arith}
+use Rattle.std.proofs.Common.{◌≡◌, ℕ, List, [], ◌∷◌, ◌++◌, sym, ◌∙◌, ap, subst, arith}
 use Rattle.shop_base.specs.{declared.report.Report.Report, Plan.{PlannedShop, IsWellShaped}, Cell.{Cell, start}}
-use Rattle.shop_base.specs.{Report.{at, CanReport, after_report, IsNextMoment}, Run.{Event, Reported, AreEvents, after_all}}
+use Rattle.shop_base.specs.{Report.{at, after_report, IsNextMoment}, Run.{Event, Reported, AreEvents, after_all}}
 use Rattle.shop_base.specs.Controlled.{AreMoves, after_moves, orders_for, moved, IsStep, after_step}
 use Rattle.shop_base.proofs.ControlledRuns.{events_join, after_all_join, moves-events, after_all-moves}
 use Rattle.cell_tables.specs.{Carried.IsCarried, Kept.KeepsSoFar, Recasts.IsRecast, Rests.IsReached}

@@ -1,8 +1,8 @@
 -- Where a job is, as it is read: on a machine, outside, or on no machine that there is.
-use Rattle.std.proofs.{Common.{◌≡◌, ℕ, ◌-◌, ◌≤◌, Option, None, Some, refl, sym, ◌∙◌, arith, ◌⊎◌, inl, inr}, lemmas.Bool.cases_eq}
+use Rattle.std.proofs.{Common.{◌≡◌, ℕ, ◌-◌, ◌≤◌, [], length, ap, Option, None, Some, refl, sym, ◌∙◌, arith, ◌⊎◌, inl, inr}, lemmas.{Bool.cases_eq, List.get_or_past}}
 use Rattle.std.specs.Prelude.{MatchOption}
-use Rattle.shop_base.specs.{declared.move_order.Spot.TheVariants.{Out, At}, Plan.{PlannedShop, machines, steps, machine_of, IsWellShaped}}
-use Rattle.shop_base.specs.{Cell.{Cell, made, IsOutside, IsOn, IsFree}, Move.source}
+use Rattle.shop_base.specs.{declared.move_order.Spot.TheVariants.{Out, At}, Plan.{PlannedShop, jobs, machines, steps, machine_of, IsWellShaped}}
+use Rattle.shop_base.specs.{declared.job_state.JobState.JobState, Cell.{Cell, made, absent, IsOutside, IsOn, IsGone, IsFree}, Move.source, Sound.IsSound}
 use Rattle.shop_base.proofs.{Visits.visits_machine, CellFacts.{source_on, source_outside}}
 
 -- a job has its source on a machine exactly where it is on it
@@ -42,3 +42,8 @@ held_at p c m (Some j) on = (made c j - 1, on)
 -- nobody is on a machine past the last
 pub past-free : (p : PlannedShop) (c : Cell) (m : ℕ) → IsWellShaped p → machines p ≤ m → IsFree p c m
 past-free p c m shaped past j k on = absurd (omega (arith, visits_machine p j k m shaped on.visits))
+
+-- a number past the last job's counts as that of a gone one
+pub past_gone : (p : PlannedShop) (c : Cell) (j : ℕ) → IsSound p c → jobs p ≤ j → IsGone p c j
+past_gone p c j sound past =
+    omega (arith, ap (λ (s : JobState). s.made) (get_or_past c.jobs j absent (omega (arith, sound.job_count, past))), ap length (get_or_past p.shop.routes j [] past))

@@ -6,7 +6,7 @@ use Rattle.shop_base.specs.Cell.{Cell, ready, cleaning, IsOutside, IsOn, IsGone}
 use Rattle.shop_base.specs.Activity.{Activity, Arrival, Operation, Cleaning}
 use Rattle.cell_tables.specs.Readings.{IsCleanedAfter}
 use Rattle.cell_control.specs.declared.report_fault.ReportFault.{ReportFault}
-use Rattle.cell_control.specs.declared.report_fault.ReportFault.TheVariants.{JobOutOfRange, MachineOutOfRange, MomentTooLarge, Backwards, NotExpected, WrongKind, WrongMachine}
+use Rattle.cell_control.specs.declared.report_fault.ReportFault.TheVariants.{JobOutOfRange, MachineOutOfRange, StepOutOfRange, MomentTooLarge, Backwards, NotExpected, WrongKind, WrongMachine}
 
 -- an activity of a job, or the cleaning of a machine, of the shop
 abbrev pub IsOfShop : PlannedShop → Activity → Type 0
@@ -58,6 +58,7 @@ IsOfNoMachine p (Cleaning m) = machines p ≤ m
 abbrev pub IsFirstReason : PlannedShop → Cell → Report → ReportFault → Type 0
 IsFirstReason p c r JobOutOfRange = IsOfNoJob p (ended r)
 IsFirstReason p c r MachineOutOfRange = IsOfNoMachine p (ended r)
+IsFirstReason p c r StepOutOfRange = ⊥
 IsFirstReason p c r MomentTooLarge = IsOfShop p (ended r) × (MAX_MOMENT < at r)
 IsFirstReason p c r (Backwards last) = IsOfShop p (ended r) × (at r ≤ MAX_MOMENT) × (at r < c.last) × (last ≡ c.last)
 IsFirstReason p c r NotExpected = IsInTurn p c r × IsUnexpected p c (ended r)
@@ -85,10 +86,6 @@ IsFirstCleanReason p c m j t MomentTooLarge = AreOfShop p m j × (MAX_MOMENT < t
 IsFirstCleanReason p c m j t (Backwards last) = AreOfShop p m j × (t ≤ MAX_MOMENT) × (t < c.last) × (last ≡ c.last)
 IsFirstCleanReason p c m j t NotExpected = AreOfShop p m j × IsNextMoment c t × (IsCleanedAfter p c m j → ⊥)
 IsFirstCleanReason p c m j t _ = ⊥
-
--- no fault but this one is a first reason against it, its field included
-abbrev pub IsOnlyCleanReason : PlannedShop → Cell → ℕ → ℕ → ℕ → ReportFault → Type 0
-IsOnlyCleanReason p c m j t fault = (other : ReportFault) → IsFirstCleanReason p c m j t other → other ≡ fault
 
 -- this is the first reason against the moment of a report
 abbrev pub IsMomentReason : Cell → ℕ → ReportFault → Type 0

@@ -1,17 +1,16 @@
-ghost use Rattle.std.specs.Prelude.{◌≡◌, ◌<◌, ◌≤◌, ◌↔◌, false, [], List, OnOk, IfOk, IfErr, IsOk, IsTrue, MatchOption};
+ghost use Rattle.std.specs.Prelude.{◌≡◌, ◌<◌, ◌≤◌, ◌↔◌, false, [], List, IfOk, IfErr, IsOk, IsTrue, MatchOption};
 ghost use Rattle.shop_base.specs.{Plan.jobs, Report.CanReport, Run.Event, Run.IsAtRest, Ends.HasEnded, Graph.leaving};
 ghost use Rattle.shop_base.specs.ReportsLeft.{reports_left};
 ghost use Rattle.alt_graph.specs.Times.{earliest_of};
-ghost use Rattle.cell_tables.specs.Readings.{IsCleanedFor};
+ghost use Rattle.cell_tables.specs.Readings.{IsCleanedFor, IsCleanedForStep, IsCurrentStep};
 ghost use Rattle.cell_control.specs.{Control.IsAnswered, Control.IfEndsNow, Control.IsControl, Promises.IsCalled};
 ghost use Rattle.cell_control.specs.{Fields.begun_with, Fields.IsRoomFor, Judged.IsJudged, Judged.IsPossible};
 ghost use Rattle.cell_control.specs.HandedOver.{IsRestAtFault};
-ghost use Rattle.cell_control.specs.Reports.{IsFirstReason, IsOnlyReason, CanCleanAfter};
-ghost use Rattle.cell_control.specs.Reports.{IsFirstCleanReason, IsOnlyCleanReason};
+ghost use Rattle.cell_control.specs.Reports.{IsFirstReason, IsOnlyReason};
 ghost use Rattle.cell_control.specs.Readings.{IsPhaseOf, IsJobOn, IsDueOf, IsDueOfCleaning, IsOnTime};
 
 use crate::ack::Ack;
-use crate::checking::{check_cleaning_after, check_report};
+use crate::checking::check_report;
 use crate::counting::count_left;
 use crate::due_moments::{cleaning_key, note_all};
 use crate::dues::Dues;
@@ -108,31 +107,19 @@ impl<P: Timed, D: Dues> Core<P, D> {
     {
         let cell = &self.cell;
         check_report(cell, report)?;
-        Ok(Possible {
-            report,
-            late: self.is_late(report.at()),
-        })
+        Ok(self.judged(report))
     }
 
-    /// Judges the report of a cleaning after this job, as [`Core::judge`] does. Nothing changes.
-    pub fn judge_clean_after(
-        &self,
-        machine: MachineNo,
-        job: JobNo,
-        at: Moment,
-    ) -> Result<Possible, ReportFault>
-        ensures possible { OnOk result (CanCleanAfter self.now.planned self.now.cell machine job at) }
-        ensures judged { IfOk result (IsJudged self.now.planned self.now.cell (Report.Clean machine at)) }
-        ensures first_reason { IfErr result (IsFirstCleanReason self.now.planned self.now.cell machine job at) }
+    /// What a possible report is judged to be.
+    #[inline(always)]
+    pub(crate) fn judged(&self, report: Report) -> Possible
+        requires { CanReport self.now.planned self.now.cell report }
+        ensures { IsJudged self.now.planned self.now.cell report result }
     {
-        // Called for its clause alone: the cell is sound.
-        let _plan = self.shaped();
-        let cell = &self.cell;
-        check_cleaning_after(cell, machine, job, at)?;
-        Ok(Possible {
-            report: Report::Clean { machine, at },
-            late: self.is_late(at),
-        })
+        Possible {
+            report,
+            late: self.is_late(report.at()),
+        }
     }
 
     /// Accepts a report that was judged possible in this cell, as [`Core::report`] does.
@@ -152,27 +139,6 @@ impl<P: Timed, D: Dues> Core<P, D> {
         self.left -= 1;
         self.punctual = still_punctual(self.punctual, ack, report, self.began);
         ack
-    }
-
-    /// Accepts the report that the machine has been cleaned after this job, as [`Core::report`] accepts that of
-    /// a cleaning. It is expected only while the machine is being cleaned after just that job. So none is accepted
-    /// twice in a run, at whatever moments.
-    pub fn clean_after(
-        &mut self,
-        machine: MachineNo,
-        job: JobNo,
-        at: Moment,
-    ) -> Result<Ack, ReportFault>
-        ensures possible { IsOk result ↔ CanCleanAfter self.old.planned self.old.cell machine job at }
-        ensures answered { IfOk result (λ ack. IsAnswered self.old (Report.Clean machine at) ack self.new) }
-        ensures first_reason { IfErr result (IsFirstCleanReason self.old.planned self.old.cell machine job at) }
-        ensures only_reason { IfErr result (IsOnlyCleanReason self.old.planned self.old.cell machine job at) }
-        ensures unchanged { IfErr result (λ fault. self.new ≡ self.old) }
-    {
-        // Called for its clause alone: the cell is sound.
-        let _plan = self.shaped();
-        let possible = self.judge_clean_after(machine, job, at)?;
-        Ok(self.accept(possible))
     }
 
     /// The moves that it ordered last, in the order in which they are made: those that the last accepted report has
@@ -264,6 +230,30 @@ impl<P: Timed, D: Dues> Core<P, D> {
     {
         if machine < self.cell.machine_count() {
             self.cell.cleaned_after(machine)
+        } else {
+            None
+        }
+    }
+
+    /// The job, and its step, after which the machine is being cleaned; `None` if it isn't being cleaned.
+    pub fn cleaned_after_step(&self, machine: MachineNo) -> Option<(JobNo, u32)>
+        ensures { IsCleanedForStep self.now.planned self.now.cell machine result }
+    {
+        if machine < self.cell.machine_count() {
+            self.cell.cleaned_after_step(machine)
+        } else {
+            None
+        }
+    }
+
+    /// The step at which the job is, on a machine; `None` if it is outside or gone or no job.
+    pub fn current_step(&self, job: JobNo) -> Option<u32>
+        ensures { IsCurrentStep self.now.planned self.now.cell job result }
+    {
+        // Called for its clause alone: the cell is sound.
+        let _plan = self.shaped();
+        if job < self.cell.job_count() {
+            self.cell.current_step(job)
         } else {
             None
         }

@@ -16,6 +16,7 @@
 
 mod ack;
 mod checking;
+mod claiming;
 mod controller;
 mod core_controller;
 mod counting;
@@ -40,9 +41,11 @@ mod scan_dues;
 mod step;
 mod timed;
 mod tourney_dues;
+pub mod worked_runs;
 
 pub use ack::Ack;
-pub use checking::{check_cleaning_after, check_report};
+pub use cell_tables::Claim;
+pub use checking::{check_claim, check_report};
 pub use controller::Controller;
 pub use core_controller::Core;
 pub use due_moments::note_all;

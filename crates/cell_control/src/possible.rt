@@ -4,7 +4,7 @@ use shop_base::Report;
 use std::marker::Model;
 
 /// A report that was judged possible in the cell of a controller, and late there or not. Only [`crate::Core::judge`]
-/// and [`crate::Core::judge_clean_after`] make one, and [`crate::Core::accept`] accepts it.
+/// and [`crate::Core::judge_claim`] make one, and [`crate::Core::accept`] accepts it.
 #[derive(Debug, Drop)]
 pub struct Possible {
     pub(crate) report: Report,

@@ -6,8 +6,8 @@ use Rattle.shop_base.specs.Controlled.{Leads, accepted, done, refused, moved, st
 use Rattle.shop_base.proofs.ControlledRuns.{controlled_to_run}
 use Rattle.text_lines.specs.Lines.{lines_of, ended_lines}
 use Rattle.cell_tables.specs.declared.entry.Entry.{Entry, TheVariants.{Report as ReportEntry, Order as OrderEntry}}
-use Rattle.cell_tables.specs.Events.{events_of}
-use Rattle.event_lines.specs.{LogLines.LinesParse, Requests.claimed, ReadBack.ParsesFirst}
+use Rattle.cell_tables.specs.{Claims.claimed, Events.events_of}
+use Rattle.event_lines.specs.{LogLines.LinesParse, ReadBack.ParsesFirst}
 use Rattle.event_lines.specs.declared.requests.Request.{Request, TheVariants.{Claim as ClaimRequest, Status}}
 use Rattle.event_lines.proofs.{Readings.parse-parts, EntryParses.parses_none}
 use Rattle.run_log.proofs.Audits.{events-join}
@@ -89,9 +89,9 @@ module _ (p : PlannedShop) (protocol : Protocol) where
       → LeadsOn c (events ++ more) end
   answer_leads prefix c next end number (ClaimRequest claim) text events more (inl is) on = no_events c next end events more is.events_are is.next_is on
   answer_leads prefix c next end number (ClaimRequest claim) text events more (inr is) on =
-      let r = claimed claim in
+      let r = claimed p claim in
       let orders = step_orders p c r is.movers in
-      let own = ReportEntry (claimed claim) ∷ map OrderEntry orders in
+      let own = ReportEntry (claimed p claim) ∷ map OrderEntry orders in
       let es = events_of more in
       let whole : events_of (events ++ more) ≡ Reported r ∷ (moved orders ++ es) =
       ap (λ (first : List Entry). events_of (first ++ more)) is.events_are ∙ events-join own more ∙ ap (λ (first : List Event). Reported r ∷ (first ++ es)) (events-orders orders) in

@@ -8,8 +8,8 @@ use Rattle.plan_verifier.specs.Accepted.{VerifiedPlan}
 use Rattle.cell_tables.specs.declared.entry.Entry.{Entry, TheVariants.{Report as ReportEntry, Order as OrderEntry}}
 use Rattle.byte_streams.specs.{declared.drive_fault.DriveFault.{DriveFault, TheVariants.Memory}, Lent.Streams}
 use Rattle.byte_streams.specs.{Lines.input_lines, Answering.AnswerAll}
-use Rattle.event_lines.specs.{StandingLines.refused_detail_line, SentLines.cell_prefix, Requests.claimed}
-use Rattle.event_lines.specs.declared.requests.Claim.{Claim, TheVariants.{Report, CleanAfter}}
+use Rattle.cell_tables.specs.{Claims.claimed, declared.claim.Claim.{Claim, TheVariants.{Report, FinishStep, CleanAfter, CleanAfterStep}}}
+use Rattle.event_lines.specs.{StandingLines.refused_detail_line, SentLines.cell_prefix}
 use Rattle.event_lines.specs.declared.requests.Request.{Request, TheVariants.{Claim as ClaimRequest, Status}}
 use Rattle.event_lines.proofs.Readings.{one_report, one_request, one_cell_report, one_cell_request}
 use Rattle.cell_drive.specs.{declared.protocol.Protocol.Protocol, declared.refusals.Refusal.Refusal}
@@ -77,9 +77,13 @@ pub record IsOne (text other : List ℕ) (events events' : List Entry) (next nex
 one_asked : (version_2 : Bool) (line : List ℕ) (what other : Request) → AsksFor version_2 line what → AsksFor version_2 line other → other ≡ what
 one_asked true line what other is also = one_request line what other is also
 one_asked false line (ClaimRequest (Report report)) (ClaimRequest (Report other)) is also = ap (λ r. ClaimRequest (Report r)) (one_report line report other is also)
+one_asked false line (ClaimRequest (Report report)) (ClaimRequest (FinishStep job step at)) is also = absurd also
 one_asked false line (ClaimRequest (Report report)) (ClaimRequest (CleanAfter machine job at)) is also = absurd also
+one_asked false line (ClaimRequest (Report report)) (ClaimRequest (CleanAfterStep machine job step at)) is also = absurd also
 one_asked false line (ClaimRequest (Report report)) Status is also = absurd also
+one_asked false line (ClaimRequest (FinishStep job step at)) other is also = absurd is
 one_asked false line (ClaimRequest (CleanAfter machine job at)) other is also = absurd is
+one_asked false line (ClaimRequest (CleanAfterStep machine job step at)) other is also = absurd is
 one_asked false line Status other is also = absurd is
 
 module _ (p : PlannedShop) (protocol : Protocol) (prefix : List ℕ) (c : Cell) (number : ℕ) (on : IsOnCourse p c) where
@@ -89,26 +93,26 @@ module _ (p : PlannedShop) (protocol : Protocol) (prefix : List ℕ) (c : Cell) 
   one_claim_answer claim text other events events' next next' (inl one) (inl also) =
       let same : also.refusal ≡ one.refusal = one_refusal p c on.shaped on.sound protocol claim one.refusal also.refusal one.first also.first in
       record {
-        text_is = also.text_is ∙ ap (λ (r : Refusal). refusal_prefix protocol prefix ++ refused_detail_line number (refusal_word r) (refusal_detail protocol p c (claimed claim) r)) same ∙ sym one.text_is;
+        text_is = also.text_is ∙ ap (λ (r : Refusal). refusal_prefix protocol prefix ++ refused_detail_line number (refusal_word r) (refusal_detail protocol p c (claimed p claim) r)) same ∙ sym one.text_is;
         events_are = also.events_are ∙ sym one.events_are;
         next_is = also.next_is ∙ sym one.next_is;
       }
   one_claim_answer claim text other events events' next next' (inl one) (inr also) = absurd (refused_or_admissible p c on.shaped on.sound protocol claim one.refusal one.first also.accepted)
   one_claim_answer claim text other events events' next next' (inr one) (inl also) = absurd (refused_or_admissible p c on.shaped on.sound protocol claim also.refusal also.first one.accepted)
   one_claim_answer claim text other events events' next next' (inr one) (inr also) =
-      let r = claimed claim in
+      let r = claimed p claim in
       let only = one_step p c r on.shaped on.sound on.rest one.step.can in
       let moves : also.movers ≡ one.movers = only.2 also.movers also.step ∙ sym (only.2 one.movers one.step) in
       let orders : step_orders p c r also.movers ≡ step_orders p c r one.movers = ap (step_orders p c r) moves in
       let next_is : next' ≡ next = also.next_is ∙ ap (after_step p c r) moves ∙ sym one.next_is in
-      let overdue = printed_overdue protocol p c (claimed claim) in
+      let overdue = printed_overdue protocol p c (claimed p claim) in
       record {
         text_is = also.text_is
-            ∙ ap (λ (l : Bool). acceptance_lines prefix (claimed claim) l overdue (step_orders p c r also.movers) (prints_end protocol p next')) (same_truth one.late also.late one.late_is also.late_is)
-            ∙ ap (λ (os : List MoveOrder). acceptance_lines prefix (claimed claim) one.late overdue os (prints_end protocol p next')) orders
-            ∙ ap (λ (x : Cell). acceptance_lines prefix (claimed claim) one.late overdue (step_orders p c r one.movers) (prints_end protocol p x)) next_is
+            ∙ ap (λ (l : Bool). acceptance_lines prefix (claimed p claim) l overdue (step_orders p c r also.movers) (prints_end protocol p next')) (same_truth one.late also.late one.late_is also.late_is)
+            ∙ ap (λ (os : List MoveOrder). acceptance_lines prefix (claimed p claim) one.late overdue os (prints_end protocol p next')) orders
+            ∙ ap (λ (x : Cell). acceptance_lines prefix (claimed p claim) one.late overdue (step_orders p c r one.movers) (prints_end protocol p x)) next_is
             ∙ sym one.text_is;
-        events_are = also.events_are ∙ ap (λ (os : List MoveOrder). ReportEntry (claimed claim) ∷ map OrderEntry os) orders ∙ sym one.events_are;
+        events_are = also.events_are ∙ ap (λ (os : List MoveOrder). ReportEntry (claimed p claim) ∷ map OrderEntry os) orders ∙ sym one.events_are;
         next_is = next_is;
       }
 
@@ -124,7 +128,7 @@ module _ (p : PlannedShop) (protocol : Protocol) (prefix : List ℕ) (c : Cell) 
   pub request_keeps : (request : Request) (text : List ℕ) (events : List Entry) (next : Cell) → RequestAnswer p protocol prefix c number request text events next → IsOnCourse p next
   request_keeps (ClaimRequest claim) text events next (inl is) = subst (IsOnCourse p) (sym is.next_is) on
   request_keeps (ClaimRequest claim) text events next (inr is) =
-      subst (IsOnCourse p) (sym is.next_is) (record { shaped = on.shaped; sound = after_step-sound p c (claimed claim) is.movers on.shaped on.sound is.step; rest = is.step.quiescent })
+      subst (IsOnCourse p) (sym is.next_is) (record { shaped = on.shaped; sound = after_step-sound p c (claimed p claim) is.movers on.shaped on.sound is.step; rest = is.step.quiescent })
   request_keeps Status text events next is = subst (IsOnCourse p) (sym is.next_is) on
 
 -- ---- lines of one cell
@@ -193,9 +197,13 @@ pub one_asked_of : (version_2 : Bool) (line : List ℕ) (cell cell' : ℕ) (requ
 one_asked_of true line cell cell' request other is also = one_cell_request line cell cell' request other is also
 one_asked_of false line cell cell' (ClaimRequest (Report report)) (ClaimRequest (Report other)) is also =
     let same = one_cell_report line cell cell' report other is also in (same.0, ap (λ r. ClaimRequest (Report r)) same.1)
+one_asked_of false line cell cell' (ClaimRequest (Report report)) (ClaimRequest (FinishStep job step at)) is also = absurd also
 one_asked_of false line cell cell' (ClaimRequest (Report report)) (ClaimRequest (CleanAfter machine job at)) is also = absurd also
+one_asked_of false line cell cell' (ClaimRequest (Report report)) (ClaimRequest (CleanAfterStep machine job step at)) is also = absurd also
 one_asked_of false line cell cell' (ClaimRequest (Report report)) Status is also = absurd also
+one_asked_of false line cell cell' (ClaimRequest (FinishStep job step at)) other is also = absurd is
 one_asked_of false line cell cell' (ClaimRequest (CleanAfter machine job at)) other is also = absurd is
+one_asked_of false line cell cell' (ClaimRequest (CleanAfterStep machine job step at)) other is also = absurd is
 one_asked_of false line cell cell' Status other is also = absurd is
 
 one_asked_cell : (version_2 : Bool) (line : List ℕ) (asked other : OfCell) → AsksOf version_2 line asked → AsksOf version_2 line other → other ≡ asked

@@ -3,10 +3,10 @@ use Rattle.std.proofs.Common.{◌≡◌, ◌==◌, ℕ, zero, suc, List, [], ◌
 use Rattle.shop_base.specs.{Plan.{PlannedShop, IsWellShaped, jobs, machines}, Cell.Cell, Controlled.step_orders}
 use Rattle.shop_base.specs.{ReportsLeft.reports_left, Sound.IsSound, Report.at}
 use Rattle.cell_tables.specs.declared.entry.Entry.{Entry, TheVariants.{Report as ReportEntry, Order as OrderEntry}}
-use Rattle.cell_tables.specs.{declared.standing.Standing.Standing, Standings.{job_standing, machine_standing}}
+use Rattle.cell_tables.specs.{Claims.claimed, declared.standing.Standing.Standing, Standings.{job_standing, machine_standing}}
 use Rattle.byte_streams.specs.Lines.{input_lines}
 use Rattle.event_lines.specs.{EventLines.{report_line, order_lines}, AnswerLines.{done_line, unfinished_line}}
-use Rattle.event_lines.specs.{ReadBack.{IsSpaceless, ParsesFirst}, declared.details.Overdue.Overdue, Requests.claimed}
+use Rattle.event_lines.specs.{ReadBack.{IsSpaceless, ParsesFirst}, declared.details.Overdue.Overdue}
 use Rattle.event_lines.specs.StandingLines.{unfinished_standing_line, refused_detail_line}
 use Rattle.event_lines.specs.declared.requests.Request.{Request, TheVariants.{Claim as ClaimRequest, Status}}
 use Rattle.event_lines.proofs.EntryParses.{parses_none, parses_both, others_parse_none}
@@ -66,14 +66,14 @@ module _ (p : PlannedShop) where
         → RequestAnswer p protocol [] before.cell number request text more end.cell → AreParsed p shaped before text end
     request_parses before number (ClaimRequest claim) text end more sound entries (inl is) = record {
       more = [];
-      parses = subst (λ (t : List ℕ). ParsesFirst p t []) (sym (is.text_is ∙ ap (λ (prefix : List ℕ). prefix ++ refused_detail_line number (refusal_word is.refusal) (refusal_detail protocol p before.cell (claimed claim) is.refusal)) (no_prefix protocol)))
-          ((others_parse_none p).refused_for number (refusal_word is.refusal) (refusal_detail protocol p before.cell (claimed claim) is.refusal) (word_spaceless is.refusal));
+      parses = subst (λ (t : List ℕ). ParsesFirst p t []) (sym (is.text_is ∙ ap (λ (prefix : List ℕ). prefix ++ refused_detail_line number (refusal_word is.refusal) (refusal_detail protocol p before.cell (claimed p claim) is.refusal)) (no_prefix protocol)))
+          ((others_parse_none p).refused_for number (refusal_word is.refusal) (refusal_detail protocol p before.cell (claimed p claim) is.refusal) (word_spaceless is.refusal));
       entries = entries ∙ ap (λ (es : List Entry). before.entries ++ es) is.events_are;
       events = tt;
       cell = is.next_is;
     }
     request_parses before number (ClaimRequest claim) text end more sound entries (inr is) =
-        let report = claimed claim in
+        let report = claimed p claim in
         let c = before.cell in
         let orders = step_orders p c report is.movers in
         let lateness = lateness_part [] (at report) is.late (printed_overdue protocol p c report) in

@@ -7,7 +7,7 @@ use Rattle.shop_base.specs.Controlled.{moved, AreMoves, IsStep, after_step, orde
 use Rattle.shop_base.proofs.Keeping.{after_report-sound, after_move-sound}
 use Rattle.shop_base.proofs.ControlledRuns.{events_join, after_all_join, moves-events, after_all-moves}
 use Rattle.text_lines.specs.Lines.{lines_of}
-use Rattle.cell_control.specs.declared.report_fault.ReportFault.{ReportFault, TheVariants.{JobOutOfRange, MachineOutOfRange, MomentTooLarge, Backwards, NotExpected, WrongKind, WrongMachine}}
+use Rattle.cell_control.specs.declared.report_fault.ReportFault.{ReportFault, TheVariants.{JobOutOfRange, MachineOutOfRange, StepOutOfRange, MomentTooLarge, Backwards, NotExpected, WrongKind, WrongMachine}}
 use Rattle.cell_control.specs.ReasonNames.{reason_name}
 use Rattle.cell_tables.specs.declared.entry.Entry.{Entry, TheVariants.{Report as ReportEntry, Order as OrderEntry}}
 use Rattle.cell_tables.specs.Events.{events_of}
@@ -22,6 +22,7 @@ use Rattle.cell_drive.proofs.{Parts.events-orders, OneText.IsOnCourse, ShopEntri
 pub name_spaceless : (reason : ReportFault) → IsSpaceless (reason_name reason)
 name_spaceless JobOutOfRange = refl
 name_spaceless MachineOutOfRange = refl
+name_spaceless StepOutOfRange = refl
 name_spaceless MomentTooLarge = refl
 name_spaceless (Backwards last) = refl
 name_spaceless NotExpected = refl

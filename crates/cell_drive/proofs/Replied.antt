@@ -2,11 +2,12 @@
 use Rattle.std.proofs.Common.{◌≡◌, ◌↔◌, inr, ℕ, ◌+◌, ◌≤◌, List, [], ◌∷◌, map, length, Bool, cond, true, false, Option, Some, None, refl, sym, ap, ◌∙◌, subst, append-nil, arith}
 use Rattle.shop_base.specs.{declared.move_order.MoveOrder.MoveOrder, declared.report.Report.Report, Plan.PlannedShop}
 use Rattle.shop_base.specs.{Punctual.IsPunctual, Controlled.step_orders}
+use Rattle.cell_tables.specs.{declared.claim.Claim.Claim, Claims.claimed}
 use Rattle.cell_tables.specs.{declared.entry.Entry.Entry, declared.entry.Entry.TheVariants.{Report as ReportEntry, Order as OrderEntry}}
 use Rattle.cell_control.specs.{declared.ack.Ack.Ack, Control.{Control, IsAnswered, IsControl, verified_in}}
 use Rattle.cell_control.proofs.Fields.{plan_stays}
 use Rattle.run_log.specs.Log.{Noted, Notes}
-use Rattle.event_lines.specs.{declared.details.Overdue.Overdue, declared.requests.Claim.Claim, declared.requests.Request.Request, Requests.claimed}
+use Rattle.event_lines.specs.{declared.details.Overdue.Overdue, declared.requests.Request.Request}
 use Rattle.cell_drive.specs.{declared.protocol.Protocol.Protocol, Session.IsKept, Refusals.IsAdmissible}
 use Rattle.cell_drive.specs.{declared.requests.Acceptance.Acceptance, Acceptances.{IsToAccept, accepted_lines}}
 use Rattle.cell_drive.specs.ProtocolText.{IsClaimAccepted, acceptance_lines, printed_overdue, prints_end, refusal_prefix}
@@ -22,19 +23,19 @@ pub no_prefix : (protocol : Protocol) → refusal_prefix protocol [] ≡ []
 no_prefix protocol = either_way protocol.version_2 []
 
 -- what was claimed is accepted by these lines
-pub accepts : (protocol : Protocol) (prefix : List ℕ) (v new : Control) (claim : Claim) (late : Bool) (ack : Ack) → IsAdmissible protocol v.planned v.cell claim → (late ≡ false) ↔ IsPunctual v.planned v.cell (claimed claim)
-    → IsAnswered v (claimed claim) ack new
-    → AcceptedBy protocol prefix v claim new (acceptance_lines prefix (claimed claim) late (printed_overdue protocol v.planned v.cell (claimed claim)) new.orders (prints_end protocol new.planned new.cell))
+pub accepts : (protocol : Protocol) (prefix : List ℕ) (v new : Control) (claim : Claim) (late : Bool) (ack : Ack) → IsAdmissible protocol v.planned v.cell claim → (late ≡ false) ↔ IsPunctual v.planned v.cell (claimed v.planned claim)
+    → IsAnswered v (claimed v.planned claim) ack new
+    → AcceptedBy protocol prefix v claim new (acceptance_lines prefix (claimed v.planned claim) late (printed_overdue protocol v.planned v.cell (claimed v.planned claim)) new.orders (prints_end protocol new.planned new.cell))
 accepts protocol prefix v new claim late ack accepted late_is answered =
-    let overdue = printed_overdue protocol v.planned v.cell (claimed claim) in record {
+    let overdue = printed_overdue protocol v.planned v.cell (claimed v.planned claim) in record {
       accepted = accepted;
       movers = answered.movers;
       step = answered.step;
       late = late;
       late_is = late_is;
-      text_is = ap (λ (orders : List MoveOrder). acceptance_lines prefix (claimed claim) late overdue orders (prints_end protocol new.planned new.cell)) answered.orders
-          ∙ ap (λ (p : PlannedShop). acceptance_lines prefix (claimed claim) late overdue (step_orders v.planned v.cell (claimed claim) answered.movers) (prints_end protocol p new.cell)) answered.planned;
-      events_are = ap (λ (orders : List MoveOrder). ReportEntry (claimed claim) ∷ map OrderEntry orders) answered.orders;
+      text_is = ap (λ (orders : List MoveOrder). acceptance_lines prefix (claimed v.planned claim) late overdue orders (prints_end protocol new.planned new.cell)) answered.orders
+          ∙ ap (λ (p : PlannedShop). acceptance_lines prefix (claimed v.planned claim) late overdue (step_orders v.planned v.cell (claimed v.planned claim) answered.movers) (prints_end protocol p new.cell)) answered.planned;
+      events_are = ap (λ (orders : List MoveOrder). ReportEntry (claimed v.planned claim) ∷ map OrderEntry orders) answered.orders;
       next_is = answered.cell;
     }
 
@@ -43,7 +44,7 @@ pub acceptance_replies : (protocol : Protocol) (prefix : List ℕ) (v new : Cont
     → IsAnswered v acceptance.possible.report ack new → RepliesBy protocol prefix v number request (Some acceptance.possible.report) new (accepted_lines protocol prefix new acceptance)
 acceptance_replies protocol prefix v new number request acceptance ack to answered =
     let claim = to.claim in
-    let own = claimed claim in
+    let own = claimed v.planned claim in
     let late = acceptance.possible.late in
     let is = to.judged.0 in
     let late_is = subst (λ (r : Report). (late ≡ false) ↔ IsPunctual v.planned v.cell r) is to.judged.1.late in

@@ -1,7 +1,8 @@
 -- What is to be accepted. No public clause cites this module.
 use Rattle.std.specs.Prelude.{◌≡◌, ℕ, List}
 use Rattle.cell_control.specs.{Control.Control, Judged.IsJudged}
-use Rattle.event_lines.specs.{declared.requests.Claim.Claim, declared.requests.Request.Request, Requests.claimed}
+use Rattle.cell_tables.specs.{declared.claim.Claim.Claim, Claims.claimed}
+use Rattle.event_lines.specs.declared.requests.Request.{Request}
 use Rattle.event_lines.specs.declared.requests.Request.TheVariants.{Claim as ClaimRequest}
 use Rattle.cell_drive.specs.{declared.protocol.Protocol.Protocol, declared.requests.Acceptance.Acceptance}
 use Rattle.cell_drive.specs.{Refusals.IsAdmissible, ProtocolText.printed_overdue, Replies.reported_lines}
@@ -11,8 +12,8 @@ pub record IsToAccept (protocol : Protocol) (v : Control) (request : Request) (a
   pub claim : Claim
   pub asked : request ≡ ClaimRequest claim
   pub admissible : IsAdmissible protocol v.planned v.cell claim
-  pub judged : IsJudged v.planned v.cell (claimed claim) acceptance.possible
-  pub overdue_is : acceptance.overdue ≡ printed_overdue protocol v.planned v.cell (claimed claim)
+  pub judged : IsJudged v.planned v.cell (claimed v.planned claim) acceptance.possible
+  pub overdue_is : acceptance.overdue ≡ printed_overdue protocol v.planned v.cell (claimed v.planned claim)
 
 -- its lines, with this before each, where the controller is such behind it
 abbrev pub accepted_lines : Protocol → List ℕ → Control → Acceptance → List ℕ

@@ -6,7 +6,7 @@ use Rattle.cell_tables.specs.declared.entry.Entry.{Entry}
 use Rattle.byte_streams.specs.{declared.drive_fault.DriveFault.DriveFault, Lent.Streams}
 use Rattle.event_lines.specs.{AnswerLines.refused_line, SentLines.IsCellReport, SentLines.cell_prefix}
 use Rattle.event_lines.specs.{Requests.IsCellRequest, declared.requests.Request.Request}
-use Rattle.event_lines.specs.declared.requests.Claim.TheVariants.{Report, CleanAfter}
+use Rattle.cell_tables.specs.declared.claim.Claim.TheVariants.{Report}
 use Rattle.event_lines.specs.declared.requests.Request.TheVariants.{Claim as ClaimRequest, Status}
 use Rattle.cell_drive.specs.{declared.protocol.Protocol.Protocol, declared.hub.HubEnd.HubEnd, OneRun.IsStreamedFrom}
 use Rattle.cell_drive.specs.{LineAnswers.SaysOnly, LineAnswers.LineAnswer, ProtocolText.RequestAnswer}
@@ -16,8 +16,7 @@ use Rattle.cell_drive.specs.ManyCells.{HubCell, hub_start, AreVerified, CellsClo
 abbrev pub AsksCell : Bool → List ℕ → ℕ → Request → Type 0
 AsksCell true line cell request = IsCellRequest line cell request
 AsksCell false line cell (ClaimRequest (Report report)) = IsCellReport line cell report
-AsksCell false line cell (ClaimRequest (CleanAfter machine job at)) = ⊥
-AsksCell false line cell Status = ⊥
+AsksCell false line cell _ = ⊥
 
 -- it asks nothing of any cell
 abbrev pub AsksNoCell : Bool → List ℕ → Type 0

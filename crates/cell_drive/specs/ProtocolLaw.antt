@@ -2,25 +2,22 @@
 use Rattle.std.specs.Prelude.{◌≡◌, ℕ, List, ◌∷◌, ◌++◌, Option, None, Some, Bool, false, Result, Ok, IfOk, IfErr, MatchResult}
 use Rattle.shop_base.specs.{Plan.PlannedShop, Plan.IsWellShaped, Cell.Cell, Run.IsRun, Punctual.IsPunctual}
 use Rattle.shop_base.specs.{Sound.IsSound, Report.at}
-use Rattle.shop_base.specs.declared.report.Report as reports
-use Rattle.shop_base.specs.declared.report.Report.TheVariants.{Arrive, Finish, Clean}
+use Rattle.shop_base.specs.declared.report.Report.{Report}
 use Rattle.text_lines.specs.Lines.{lines_of}
 use Rattle.plan_verifier.specs.Accepted.{VerifiedPlan}
-use Rattle.cell_tables.specs.{declared.entry.Entry.Entry, declared.entry.Entry.TheVariants.Report as ReportEntry}
+use Rattle.cell_tables.specs.{declared.claim.Claim.Claim, declared.entry.Entry.Entry, declared.entry.Entry.TheVariants.Report as ReportEntry}
 use Rattle.cell_tables.specs.Events.{events_of}
-use Rattle.cell_control.specs.OnceLaw.{NamedEnd, Arrived, Finished, Cleaned, ReportsEnd}
+use Rattle.cell_control.specs.{Claims.CanClaim, OnceLaw.NamedEnd, OnceLaw.ReportsEnd, OnceLaw.Names}
 use Rattle.cell_control.specs.Control.{verified_in}
 use Rattle.run_log.specs.{declared.audit_result.Audit.Audit, declared.audit_fault.AuditFault.AuditFault}
 use Rattle.run_log.specs.{declared.audit_fault.AuditFault.TheVariants.Memory, Audits.IsAudit, Audits.ParseAsRun}
 use Rattle.byte_streams.specs.{Lent.Streams, Answering.AnswerAll}
-use Rattle.event_lines.specs.declared.requests.Claim.{Claim}
-use Rattle.event_lines.specs.declared.requests.Claim.TheVariants.{Report, CleanAfter}
 use Rattle.event_lines.specs.declared.requests.Request.TheVariants.{Claim as ClaimRequest}
 use Rattle.cell_drive.specs.{declared.protocol.Protocol.Protocol, Protocols.plain_from}
 use Rattle.cell_drive.specs.{AnswerText.DrivenCell, AnswerText.CellAnswers, declared.begin.DriveEnd.DriveEnd}
 use Rattle.cell_drive.specs.{AuditLaw.IsFoundAgain, Session.SessionState, Session.SessionAnswer, Session.seen}
 use Rattle.cell_drive.specs.{InProtocol.IsDriveIn, Replay.replay_lines, PlainLines.plain_lines, OneRun.cell_after}
-use Rattle.cell_drive.specs.{Refusals.CanClaim, Refusals.IsAdmissible, Refusals.standing_of, States.overdue_in}
+use Rattle.cell_drive.specs.{Refusals.IsAdmissible, Refusals.standing_of, States.overdue_in}
 use Rattle.cell_drive.specs.ProtocolText.{ProtocolAnswers, CellRequests, AreProtocolAnswers, IsProtocolText}
 
 -- by each protocol an input has one answer text at most, which leads to one cell with one list of events
@@ -55,24 +52,17 @@ PlainlyAsEver = (p : PlannedShop) (from number : ℕ) (lines : List (Option (Lis
 abbrev pub PlainReplay : Type 0
 PlainReplay = (p : PlannedShop) (protocol : Protocol) (c : Cell) (entries : List Entry) (late : List Bool) → protocol.version_2 ≡ false → replay_lines p protocol c entries late ≡ plain_lines entries late
 
--- what is claimed to have ended, where the claim names its job
-abbrev pub named : Claim → Option NamedEnd
-named (Report (Arrive job at)) = Some (Arrived job)
-named (Report (Finish job machine at)) = Some (Finished job machine)
-named (Report (Clean machine at)) = None
-named (CleanAfter machine job at) = Some (Cleaned machine job)
-
--- once what names its job was reported in a run, it can't be claimed at its end, at whatever moment
+-- once an end was reported in a run, it can't be claimed by its name, at whatever moment
 abbrev pub NothingOfARunIsClaimedAgain : Type 0
-NothingOfARunIsClaimedAgain = (p : PlannedShop) (before after : List Entry) (report : reports.Report) (again : Claim) (ended : NamedEnd) → IsWellShaped p → IsRun p (events_of (before ++ ReportEntry report ∷ after))
-    → ReportsEnd p (cell_after p before) report ended → named again ≡ Some ended → CanClaim p (cell_after p (before ++ ReportEntry report ∷ after)) again → ⊥
+NothingOfARunIsClaimedAgain = (p : PlannedShop) (before after : List Entry) (report : Report) (again : Claim) (ended : NamedEnd) → IsWellShaped p → IsRun p (events_of (before ++ ReportEntry report ∷ after))
+    → ReportsEnd p (cell_after p before) report ended → Names p again ended → CanClaim p (cell_after p (before ++ ReportEntry report ∷ after)) again → ⊥
 
--- a claim that names its job was accepted behind some lines, and then further lines were answered: what it said to have ended can't be claimed again, at whatever moment
+-- a claim that names an end was accepted behind some lines, and then further lines were answered: this end can't be claimed by its name again, at whatever moment
 abbrev pub NothingIsAcceptedTwice : Type 0
 NothingIsAcceptedTwice = (p : PlannedShop) (protocol : Protocol) (lines later : List (Option (List ℕ))) (before after end : DrivenCell) (number next : ℕ) (texts text others : List ℕ) (claim again : Claim) (ended : NamedEnd)
     → IsWellShaped p → AreProtocolAnswers p protocol lines texts before → IsAdmissible protocol p before.cell claim → CellRequests p protocol before number (ClaimRequest claim) text after
-    → AnswerAll (ProtocolAnswers p protocol) after next later others end → named claim ≡ Some ended → named again ≡ Some ended → CanClaim p end.cell again → ⊥
+    → AnswerAll (ProtocolAnswers p protocol) after next later others end → Names p claim ended → Names p again ended → CanClaim p end.cell again → ⊥
 
 -- where a report finds nothing overdue, it is punctual: so of each late one something is printed
 abbrev pub ALateReportFindsSomethingOverdue : Type 0
-ALateReportFindsSomethingOverdue = (p : PlannedShop) (c : Cell) (report : reports.Report) → IsSound p c → overdue_in p c (standing_of p c report) (at report) ≡ None → IsPunctual p c report
+ALateReportFindsSomethingOverdue = (p : PlannedShop) (c : Cell) (report : Report) → IsSound p c → overdue_in p c (standing_of p c report) (at report) ≡ None → IsPunctual p c report

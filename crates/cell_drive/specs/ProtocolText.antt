@@ -5,14 +5,14 @@ use Rattle.shop_base.specs.{declared.move_order.MoveOrder.MoveOrder, Plan.Planne
 use Rattle.shop_base.specs.{Controlled.IsStep, Controlled.after_step, Controlled.step_orders, ReportsLeft.reports_left}
 use Rattle.shop_base.specs.Report.{at}
 use Rattle.shop_base.specs.declared.report.Report as reports
-use Rattle.cell_tables.specs.declared.entry.Entry.{Entry}
+use Rattle.cell_tables.specs.{declared.claim.Claim.Claim, Claims.claimed, declared.entry.Entry.Entry}
 use Rattle.cell_tables.specs.declared.entry.Entry.TheVariants.{Report as ReportEntry, Order as OrderEntry}
 use Rattle.byte_streams.specs.{Lines.input_lines, Answering.AnswerAll}
 use Rattle.event_lines.specs.{EventLines.report_line, EventLines.order_line, SentLines.IsReportLine}
-use Rattle.event_lines.specs.{AnswerLines.late_line, AnswerLines.done_line, Requests.claimed, Requests.IsRequestLine}
+use Rattle.event_lines.specs.{AnswerLines.late_line, AnswerLines.done_line, Requests.IsRequestLine}
 use Rattle.event_lines.specs.StandingLines.{refused_detail_line, late_overdue_line}
-use Rattle.event_lines.specs.{declared.details.Overdue.Overdue, declared.requests.Claim.Claim}
-use Rattle.event_lines.specs.declared.requests.Claim.TheVariants.{Report, CleanAfter}
+use Rattle.event_lines.specs.declared.details.Overdue.{Overdue}
+use Rattle.cell_tables.specs.declared.claim.Claim.TheVariants.{Report}
 use Rattle.event_lines.specs.declared.requests.Request.{Request}
 use Rattle.event_lines.specs.declared.requests.Request.TheVariants.{Claim as ClaimRequest, Status}
 use Rattle.cell_drive.specs.{declared.protocol.Protocol.Protocol, declared.refusals.Refusal.Refusal}
@@ -24,8 +24,7 @@ use Rattle.cell_drive.specs.AnswerText.{DrivenCell, undriven, CellCloses}
 abbrev pub AsksFor : Bool → List ℕ → Request → Type 0
 AsksFor true line request = IsRequestLine line request
 AsksFor false line (ClaimRequest (Report report)) = IsReportLine line report
-AsksFor false line (ClaimRequest (CleanAfter machine job at)) = ⊥
-AsksFor false line Status = ⊥
+AsksFor false line _ = ⊥
 
 -- what is printed as overdue as a report comes, from version 2 on
 abbrev pub printed_overdue : Protocol → PlannedShop → Cell → reports.Report → Option Overdue
@@ -58,7 +57,7 @@ acceptance_lines prefix report late overdue orders ended =
 pub record IsClaimRefused (p : PlannedShop) (protocol : Protocol) (prefix : List ℕ) (c : Cell) (number : ℕ) (claim : Claim) (text : List ℕ) (events : List Entry) (next : Cell) : Type 0 where
   pub refusal : Refusal
   pub first : IsRefusal protocol p c claim refusal
-  pub text_is : text ≡ prefix ++ refused_detail_line number (refusal_word refusal) (refusal_detail protocol p c (claimed claim) refusal)
+  pub text_is : text ≡ prefix ++ refused_detail_line number (refusal_word refusal) (refusal_detail protocol p c (claimed p claim) refusal)
   pub events_are : events ≡ []
   pub next_is : next ≡ c
 
@@ -66,12 +65,12 @@ pub record IsClaimRefused (p : PlannedShop) (protocol : Protocol) (prefix : List
 pub record IsClaimAccepted (p : PlannedShop) (protocol : Protocol) (prefix : List ℕ) (c : Cell) (claim : Claim) (text : List ℕ) (events : List Entry) (next : Cell) : Type 0 where
   pub accepted : IsAdmissible protocol p c claim
   pub movers : List ℕ
-  pub step : IsStep p c (claimed claim) movers
+  pub step : IsStep p c (claimed p claim) movers
   pub late : Bool
-  pub late_is : (late ≡ false) ↔ IsPunctual p c (claimed claim)
-  pub text_is : text ≡ acceptance_lines prefix (claimed claim) late (printed_overdue protocol p c (claimed claim)) (step_orders p c (claimed claim) movers) (prints_end protocol p next)
-  pub events_are : events ≡ ReportEntry (claimed claim) ∷ map OrderEntry (step_orders p c (claimed claim) movers)
-  pub next_is : next ≡ after_step p c (claimed claim) movers
+  pub late_is : (late ≡ false) ↔ IsPunctual p c (claimed p claim)
+  pub text_is : text ≡ acceptance_lines prefix (claimed p claim) late (printed_overdue protocol p c (claimed p claim)) (step_orders p c (claimed p claim) movers) (prints_end protocol p next)
+  pub events_are : events ≡ ReportEntry (claimed p claim) ∷ map OrderEntry (step_orders p c (claimed p claim) movers)
+  pub next_is : next ≡ after_step p c (claimed p claim) movers
 
 -- the state is printed, and nothing changes
 pub record IsStatePrinted (p : PlannedShop) (prefix : List ℕ) (c : Cell) (text : List ℕ) (events : List Entry) (next : Cell) : Type 0 where

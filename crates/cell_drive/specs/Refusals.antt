@@ -1,37 +1,28 @@
 -- Why what a line claims is refused, and what is printed of it.
 use Rattle.std.specs.Prelude.{◌≡◌, ℕ, List, codes, Bool, true, false, ◌⊎◌, if◌then◌else◌}
-use Rattle.shop_base.specs.{Plan.PlannedShop, Cell.Cell, Report.at, Report.CanReport}
+use Rattle.shop_base.specs.{Plan.PlannedShop, Cell.Cell}
 use Rattle.shop_base.specs.declared.report.Report as reports
 use Rattle.shop_base.specs.declared.report.Report.TheVariants.{Arrive, Finish, Clean}
+use Rattle.cell_tables.specs.{declared.claim.Claim.Claim, Claims.claim_moment}
 use Rattle.cell_tables.specs.{declared.standing.Standing.Standing, Standings.job_standing, Standings.machine_standing}
 use Rattle.cell_control.specs.{declared.report_fault.ReportFault.ReportFault, ReasonNames.reason_name}
-use Rattle.cell_control.specs.declared.report_fault.ReportFault.TheVariants.{JobOutOfRange, MachineOutOfRange, MomentTooLarge, Backwards, NotExpected, WrongKind, WrongMachine}
-use Rattle.cell_control.specs.Reports.{IsFirstReason, CanCleanAfter, IsFirstCleanReason}
-use Rattle.event_lines.specs.{declared.details.Detail.Detail, declared.requests.Claim.Claim, Requests.claimed}
+use Rattle.cell_control.specs.declared.report_fault.ReportFault.TheVariants.{JobOutOfRange, MachineOutOfRange, StepOutOfRange, MomentTooLarge, Backwards, NotExpected, WrongKind, WrongMachine}
+use Rattle.cell_control.specs.Claims.{CanClaim, IsClaimReason}
+use Rattle.event_lines.specs.declared.details.Detail.{Detail}
 use Rattle.event_lines.specs.declared.details.Detail.TheVariants.{Nothing, Last, Stands}
-use Rattle.event_lines.specs.declared.requests.Claim.TheVariants.{Report, CleanAfter}
 use Rattle.cell_drive.specs.{declared.protocol.Protocol.Protocol, Protocols.leap_base, Protocols.leaps}
 use Rattle.cell_drive.specs.declared.refusals.Refusal.{Refusal}
 use Rattle.cell_drive.specs.declared.refusals.Refusal.TheVariants.{Reason, Leap}
 
--- what is claimed is possible
-abbrev pub CanClaim : PlannedShop → Cell → Claim → Type 0
-CanClaim p c (Report report) = CanReport p c report
-CanClaim p c (CleanAfter machine job at) = CanCleanAfter p c machine job at
-
--- this is the first reason for which it isn't
-abbrev pub IsClaimReason : PlannedShop → Cell → Claim → ReportFault → Type 0
-IsClaimReason p c (Report report) reason = IsFirstReason p c report reason
-IsClaimReason p c (CleanAfter machine job at) reason = IsFirstCleanReason p c machine job at reason
-
--- whether its moment leaps
+-- whether the moment of a claim leaps
 abbrev pub claim_leaps : Protocol → Cell → Claim → Bool
-claim_leaps protocol c claim = leaps protocol c.last (at (claimed claim))
+claim_leaps protocol c claim = leaps protocol c.last (claim_moment claim)
 
 -- whether the reason is looked for before a leap: it is one against the numbers, or the moment is before the last one
 abbrev pub is_before_leap : ReportFault → Bool
 is_before_leap JobOutOfRange = true
 is_before_leap MachineOutOfRange = true
+is_before_leap StepOutOfRange = true
 is_before_leap MomentTooLarge = true
 is_before_leap (Backwards last) = true
 is_before_leap NotExpected = false
@@ -67,6 +58,7 @@ standing_of p c (Clean machine at) = machine_standing p c machine
 abbrev pub reason_detail : PlannedShop → Cell → reports.Report → ReportFault → Detail
 reason_detail p c report JobOutOfRange = Nothing
 reason_detail p c report MachineOutOfRange = Nothing
+reason_detail p c report StepOutOfRange = Nothing
 reason_detail p c report MomentTooLarge = Nothing
 reason_detail p c report (Backwards last) = Last last
 reason_detail p c report NotExpected = Stands (standing_of p c report)

@@ -1,10 +1,10 @@
 -- How a cell answers a request. No public clause cites this module.
 use Rattle.std.specs.Prelude.{◌≡◌, ℕ, List, [], ◌∷◌, map, Option, None, Some, Bool}
 use Rattle.shop_base.specs.declared.report.Report.{Report}
-use Rattle.cell_tables.specs.declared.entry.Entry.{Entry}
+use Rattle.cell_tables.specs.{declared.claim.Claim.Claim, Claims.claimed, declared.entry.Entry.Entry}
 use Rattle.cell_tables.specs.declared.entry.Entry.TheVariants.{Report as ReportEntry, Order as OrderEntry}
 use Rattle.cell_control.specs.Control.{Control, IsAnswered}
-use Rattle.event_lines.specs.{declared.requests.Claim.Claim, declared.requests.Request.Request, Requests.claimed}
+use Rattle.event_lines.specs.declared.requests.Request.{Request}
 use Rattle.cell_drive.specs.declared.protocol.Protocol.{Protocol}
 use Rattle.event_lines.specs.declared.details.Overdue.{Overdue}
 use Rattle.cell_drive.specs.ProtocolText.{IsClaimAccepted, IsClaimRefused, RequestAnswer, acceptance_lines, prints_end, refusal_prefix}
@@ -25,7 +25,7 @@ reported_lines protocol prefix new report late overdue = acceptance_lines prefix
 
 -- the texts by which the claim is accepted, with this before each line, where the controller is such before it and behind it
 abbrev pub AcceptedBy : Protocol → List ℕ → Control → Claim → Control → List ℕ → Type 0
-AcceptedBy protocol prefix v claim new text = IsClaimAccepted v.planned protocol prefix v.cell claim text (accepted_events new (Some (claimed claim))) new.cell
+AcceptedBy protocol prefix v claim new text = IsClaimAccepted v.planned protocol prefix v.cell claim text (accepted_events new (Some (claimed v.planned claim))) new.cell
 
 -- those by which it is refused
 abbrev pub RefusedBy : Protocol → List ℕ → Control → ℕ → Claim → List ℕ → Type 0

@@ -13,10 +13,10 @@ use Rattle.cell_drive.specs.LineAnswers.{closing_line}
 abbrev pub is_over : Standing → Bool
 is_over (Awaited job due) = false
 is_over (Outside job to) = false
-is_over (Worked job machine since due) = false
-is_over (Done job machine to) = false
+is_over (Worked visit machine since due) = false
+is_over (Done visit machine to) = false
 is_over (Gone job at) = true
-is_over (Cleaned machine job since due) = false
+is_over (Cleaned machine visit since due) = false
 is_over (Clean machine) = true
 
 -- the line of what is under way, with this before it

@@ -21,7 +21,8 @@ use byte_streams::{
 };
 use cell_control::{Dues, LeanController, LeanPlan, TourneyDues};
 use cell_hub::{HubFault, HubOf, Ticket};
-use event_lines::{Claim, Request, cell_prefix, cell_report_of, cell_request_of};
+use cell_tables::Claim;
+use event_lines::{Request, cell_prefix, cell_report_of, cell_request_of};
 use plan_verifier::Verified;
 use std::alloc::{AllocError, Global};
 use std::marker::Model;

@@ -3,16 +3,16 @@
 ghost use Rattle.std.specs.Prelude.{◌≡◌, IfOk, IfErr, false};
 ghost use Rattle.shop_base.specs.Report.{at, CanReport};
 ghost use Rattle.cell_control.specs.{Judged.IsJudged, Readings.IsOnTime};
-ghost use Rattle.event_lines.specs.Requests.{claimed};
-ghost use Rattle.cell_drive.specs.Refusals.{IsClaimReason, IsRefusal, IsAdmissible, CanClaim};
+ghost use Rattle.cell_tables.specs.Claims.{claimed};
+ghost use Rattle.cell_drive.specs.Refusals.{IsRefusal, IsAdmissible};
 ghost use Rattle.cell_drive.specs.{ProtocolText.prints_end, ProtocolText.printed_overdue};
 
 use crate::protocol::Protocol;
 use crate::refusals::{Refusal, claim_leaps, first_refusal, standing_of};
 use crate::states::overdue_in;
-use cell_control::{Core, Dues, Possible, Report, ReportFault, Timed};
-use cell_tables::WorkCell;
-use event_lines::{Claim, Overdue};
+use cell_control::{Core, Dues, Possible, Report, Timed};
+use cell_tables::{Claim, WorkCell};
+use event_lines::Overdue;
 use shop_base::Planned;
 
 /// What the line says is overdue as the report comes. It is looked for only if something is.
@@ -37,22 +37,6 @@ pub(crate) fn printed_overdue<P: Planned>(
     overdue_in(cell, standing_of(cell, report), report.at())
 }
 
-/// Whether what is claimed is possible, or the first reason for which it isn't.
-#[inline(always)]
-fn judge_possible<P: Timed, D: Dues>(
-    controller: &Core<P, D>,
-    claim: Claim,
-) -> Result<Possible, ReportFault>
-    ensures possible { IfOk result (λ possible. CanClaim controller.now.planned controller.now.cell claim) }
-    ensures judged { IfOk result (IsJudged controller.now.planned controller.now.cell (claimed claim)) }
-    ensures first_reason { IfErr result (IsClaimReason controller.now.planned controller.now.cell claim) }
-{
-    match claim {
-        Claim::Report(report) => controller.judge(report),
-        Claim::CleanAfter { machine, job, at } => controller.judge_clean_after(machine, job, at),
-    }
-}
-
 /// Whether what is claimed is accepted, or why it is refused.
 #[inline(always)]
 pub(crate) fn judge<P: Timed, D: Dues>(
@@ -62,11 +46,11 @@ pub(crate) fn judge<P: Timed, D: Dues>(
 ) -> Result<Possible, Refusal>
     ensures accepted { IfOk result
         (λ possible. IsAdmissible protocol controller.now.planned controller.now.cell claim) }
-    ensures judged { IfOk result (IsJudged controller.now.planned controller.now.cell (claimed claim)) }
+    ensures judged { IfOk result (IsJudged controller.now.planned controller.now.cell (claimed controller.now.planned claim)) }
     ensures refused { IfErr result (IsRefusal protocol controller.now.planned controller.now.cell claim) }
 {
     let leaps = claim_leaps(protocol, controller, claim);
-    match judge_possible(controller, claim) {
+    match controller.judge_claim(claim) {
         Ok(possible) => {
             if leaps {
                 Err(Refusal::Leap)

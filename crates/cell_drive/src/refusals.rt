@@ -3,14 +3,14 @@
 ghost use Rattle.std.specs.Prelude.{◌≡◌, false};
 ghost use Rattle.shop_base.specs.Report.{ended};
 ghost use Rattle.cell_control.specs.Reports.{IsOfShop};
-ghost use Rattle.event_lines.specs.Requests.{claimed};
+ghost use Rattle.cell_tables.specs.Claims.{claimed};
 ghost use Rattle.cell_drive.specs.Refusals.{IsRefusal, claim_leaps, first_refusal, is_before_leap, reason_detail};
 ghost use Rattle.cell_drive.specs.Refusals.{refusal_detail, refusal_word, standing_of};
 
 use crate::protocol::Protocol;
 use cell_control::{Core, Dues, Report, ReportFault, Timed};
-use cell_tables::{Standing, WorkCell};
-use event_lines::{Claim, Detail};
+use cell_tables::{Claim, Standing, WorkCell};
+use event_lines::Detail;
 use shop_base::Planned;
 
 /// Why what a line claims is refused.
@@ -41,6 +41,7 @@ fn is_before_leap(reason: ReportFault) -> bool
     match reason {
         ReportFault::JobOutOfRange => true,
         ReportFault::MachineOutOfRange => true,
+        ReportFault::StepOutOfRange => true,
         ReportFault::MomentTooLarge => true,
         ReportFault::Backwards { last: _ } => true,
         ReportFault::NotExpected => false,
@@ -70,7 +71,7 @@ pub(crate) fn claim_leaps<P: Timed, D: Dues>(
 ) -> bool
     ensures { result ≡ claim_leaps protocol controller.now.cell claim }
 {
-    protocol.leaps(controller.now(), claim.report().at())
+    protocol.leaps(controller.now(), claim.at())
 }
 
 /// The state of the job or the machine of the report.
@@ -89,20 +90,47 @@ pub(crate) fn standing_of<P: Planned>(cell: &WorkCell<P>, report: Report) -> Sta
     }
 }
 
-/// What the controller has instead of what was reported. A reason that is looked for after a leap is against a report
+/// The state of the job or the machine of what is claimed.
+fn claim_standing<P: Planned>(cell: &WorkCell<P>, claim: Claim) -> Standing
+    requires { IsOfShop cell.now.plan (ended (claimed cell.now.plan claim)) }
+    ensures { result ≡ standing_of cell.now.plan cell.now.cell (claimed cell.now.plan claim) }
+{
+    match claim {
+        Claim::Report(report) => standing_of(cell, report),
+        Claim::FinishStep {
+            job,
+            step: _,
+            at: _,
+        } => cell.job_standing(job),
+        Claim::CleanAfter {
+            machine,
+            job: _,
+            at: _,
+        } => cell.machine_standing(machine),
+        Claim::CleanAfterStep {
+            machine,
+            job: _,
+            step: _,
+            at: _,
+        } => cell.machine_standing(machine),
+    }
+}
+
+/// What the controller has instead of what was claimed. A reason that is looked for after a leap is against a report
 /// of the shop.
-fn reason_detail<P: Planned>(cell: &WorkCell<P>, report: Report, reason: ReportFault) -> Detail
-    requires { is_before_leap reason ≡ false → IsOfShop cell.now.plan (ended report) }
-    ensures { result ≡ reason_detail cell.now.plan cell.now.cell report reason }
+fn reason_detail<P: Planned>(cell: &WorkCell<P>, claim: Claim, reason: ReportFault) -> Detail
+    requires { is_before_leap reason ≡ false → IsOfShop cell.now.plan (ended (claimed cell.now.plan claim)) }
+    ensures { result ≡ reason_detail cell.now.plan cell.now.cell (claimed cell.now.plan claim) reason }
 {
     match reason {
         ReportFault::JobOutOfRange => Detail::Nothing,
         ReportFault::MachineOutOfRange => Detail::Nothing,
+        ReportFault::StepOutOfRange => Detail::Nothing,
         ReportFault::MomentTooLarge => Detail::Nothing,
         ReportFault::Backwards { last } => Detail::Last(last),
-        ReportFault::NotExpected => Detail::Stands(standing_of(cell, report)),
-        ReportFault::WrongKind => Detail::Stands(standing_of(cell, report)),
-        ReportFault::WrongMachine { actual: _ } => Detail::Stands(standing_of(cell, report)),
+        ReportFault::NotExpected => Detail::Stands(claim_standing(cell, claim)),
+        ReportFault::WrongKind => Detail::Stands(claim_standing(cell, claim)),
+        ReportFault::WrongMachine { actual: _ } => Detail::Stands(claim_standing(cell, claim)),
     }
 }
 
@@ -114,13 +142,13 @@ pub(crate) fn refusal_detail<P: Planned>(
     refusal: Refusal,
 ) -> Detail
     requires { IsRefusal protocol cell.now.plan cell.now.cell claim refusal }
-    ensures { result ≡ refusal_detail protocol cell.now.plan cell.now.cell (claimed claim) refusal }
+    ensures { result ≡ refusal_detail protocol cell.now.plan cell.now.cell (claimed cell.now.plan claim) refusal }
 {
     if !protocol.version_2 {
         return Detail::Nothing;
     }
     match refusal {
-        Refusal::Reason(reason) => reason_detail(cell, claim.report(), reason),
+        Refusal::Reason(reason) => reason_detail(cell, claim, reason),
         Refusal::Leap => Detail::Last(protocol.leap_base(cell.last())),
     }
 }

@@ -16,7 +16,8 @@ use crate::replies::{put_accepted, put_refusal};
 use crate::states::put_state;
 use byte_streams::{Sink, WriteFault};
 use cell_control::{Core, Dues, Possible, Report, Timed};
-use event_lines::{Claim, Overdue, Request};
+use cell_tables::Claim;
+use event_lines::{Overdue, Request};
 
 /// How the writing of an answer went.
 pub(crate) type Written = Result<(), WriteFault>;

@@ -24,13 +24,13 @@ fn is_over(standing: Standing) -> bool
         Standing::Awaited { job: _, due: _ } => false,
         Standing::Outside { job: _, target: _ } => false,
         Standing::Worked {
-            job: _,
+            visit: _,
             machine: _,
             since: _,
             due: _,
         } => false,
         Standing::Done {
-            job: _,
+            visit: _,
             machine: _,
             target: _,
         } => false,

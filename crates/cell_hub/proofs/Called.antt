@@ -1,22 +1,23 @@
 -- What is done in the slots is a call of the definition.
 use Rattle.std.proofs.Common.{◌≡◌, ◌↔◌, ℕ, ◌+◌, ◌<◌, Some, None, IfOk, IfErr, OnErr, refl, sym, ap, ◌∙◌, subst}
 use Rattle.std.specs.{Prelude.Result, declared.result.Result.TheVariants.{Ok, Err}}
-use Rattle.shop_base.specs.declared.report.Report.{Report}
+use Rattle.shop_base.specs.declared.report.Report as reports
+use Rattle.cell_tables.specs.declared.claim.Claim.{Claim, TheVariants.Report}
 use Rattle.slab.specs.Slab.{Slab, get, with_value, Updates}
 use Rattle.plan_verifier.specs.Accepted.{VerifiedPlan}
-use Rattle.cell_control.specs.{Control.{Control, IsAnswered, at_start}, Reports.IsFirstReason, declared.ack.Ack.Ack}
+use Rattle.cell_control.specs.{Control.{Control, IsAnswered, at_start}, Claims.IsClaimReason, declared.ack.Ack.Ack}
 use Rattle.cell_control.specs.Judged.{JudgedReport, IsPossible}
-use Rattle.cell_control.proofs.OneReason.{only_reason}
+use Rattle.cell_control.proofs.ClaimReasons.{only_claim_reason}
 use Rattle.cell_hub.specs.{declared.slots.Ticket.Ticket, declared.slots.Placed.Placed, Hub.{HubState, cell_at}}
 use Rattle.cell_hub.specs.declared.hub_fault.HubFault.{HubFault, TheVariants.{NoSuchCell, SerialsSpent, Memory, Cell}}
 use Rattle.cell_hub.specs.Slots.{hub_of}
-use Rattle.cell_hub.specs.Calls.{Reported, Dismissed, no_serial, IsAdmitted, IsPossibleAt, IsSeated, IsReported, IsNotReported, IsOnlyRefusal, IsDismissed, IsCall}
+use Rattle.cell_hub.specs.Calls.{Reported, Dismissed, no_serial, IsAdmitted, IsPossibleAt, IsSeated, IsReported, IsNotClaimed, IsOnlyRefusal, IsDismissed, IsCall}
 use Rattle.cell_hub.proofs.{Puts.HasSerial, Hubs.{its_serial, none_there, puts_there, reports_there, stands_there}}
 
 module _ {P D : Type 0} (s new : Slab (Placed P D)) (next : ℕ) (now : HubState) (seen : hub_of s next ≡ now) (t : Ticket) where
-  pub report_called : (r : Report) (result : Result Ack HubFault) → IfOk result (λ ack. (n : ℕ) → IsReported (hub_of s n) t r ack (hub_of new n)) → IfErr result (λ fault. (n : ℕ) → IsNotReported (hub_of s n) t r fault) → OnErr result (new ≡ s) → IsCall now (Reported t r result) (hub_of new next)
+  pub report_called : (r : reports.Report) (result : Result Ack HubFault) → IfOk result (λ ack. (n : ℕ) → IsReported (hub_of s n) t r ack (hub_of new n)) → IfErr result (λ fault. (n : ℕ) → IsNotClaimed (hub_of s n) t (Report r) fault) → OnErr result (new ≡ s) → IsCall now (Reported t r result) (hub_of new next)
   report_called r (Ok ack) reported refused unchanged = subst (λ h. IsReported h t r ack (hub_of new next)) seen (reported next)
-  report_called r (Err fault) reported refused unchanged = (subst (λ h. IsNotReported h t r fault) seen (refused next), ap (λ (x : Slab (Placed P D)). hub_of x next) unchanged ∙ seen)
+  report_called r (Err fault) reported refused unchanged = (subst (λ h. IsNotClaimed h t (Report r) fault) seen (refused next), ap (λ (x : Slab (Placed P D)). hub_of x next) unchanged ∙ seen)
 
   pub dismissal_called : (result : Result Control HubFault) → IfOk result (λ content. (n : ℕ) → IsDismissed (hub_of s n) t content (hub_of new n)) → OnErr result ((n : ℕ) → cell_at (hub_of s n) t ≡ None) → IfErr result (λ fault. fault ≡ NoSuchCell) → OnErr result (new ≡ s) → IsCall now (Dismissed t result) (hub_of new next)
   dismissal_called (Ok content) removed none fault unchanged = subst (λ h. IsDismissed h t content (hub_of new next)) seen (removed next)
@@ -48,33 +49,33 @@ pub is_admitted : (old new : HubState) (plan : VerifiedPlan) (t : Ticket) (contr
 is_admitted old new plan t controller seated start = subst (λ (c : Control). IsSeated old c t new) start seated
 
 -- a report finds no cell exactly where the ticket has none
-pub report_finds : (old new : HubState) (t : Ticket) (r : Report) (result : Result Ack HubFault) → IsCall old (Reported t r result) new → (result ≡ Err NoSuchCell) ↔ (cell_at old t ≡ None)
+pub report_finds : (old new : HubState) (t : Ticket) (r : reports.Report) (result : Result Ack HubFault) → IsCall old (Reported t r result) new → (result ≡ Err NoSuchCell) ↔ (cell_at old t ≡ None)
 report_finds old new t r (Ok ack) is = ((λ same. absurd (cc)), λ none. let e = is.cell in absurd (cc))
 report_finds old new t r (Err NoSuchCell) is = ((λ same. is.0), λ none. refl)
 report_finds old new t r (Err SerialsSpent) is = absurd is.0
 report_finds old new t r (Err Memory) is = absurd is.0
 report_finds old new t r (Err (Cell reason)) is = ((λ same. absurd (cc)), λ none. let e = is.0.1 in absurd (cc))
 
--- why a report isn't accepted has no second reason
-only_refusal : (h : HubState) (t : Ticket) (r : Report) (fault : HubFault) → IsNotReported h t r fault → IsOnlyRefusal h t r fault
-only_refusal h t r NoSuchCell none NoSuchCell other = refl
-only_refusal h t r NoSuchCell none SerialsSpent other = absurd other
-only_refusal h t r NoSuchCell none Memory other = absurd other
-only_refusal h t r NoSuchCell none (Cell reason) other = let e = other.1 in absurd (cc)
-only_refusal h t r SerialsSpent first fault other = absurd first
-only_refusal h t r Memory first fault other = absurd first
-only_refusal h t r (Cell reason) first NoSuchCell other = let e = first.1 in absurd (cc)
-only_refusal h t r (Cell reason) first SerialsSpent other = absurd other
-only_refusal h t r (Cell reason) first Memory other = absurd other
-only_refusal h t r (Cell reason) first (Cell another) other =
+-- why a claim isn't accepted has no second reason
+pub only_refusal : (h : HubState) (t : Ticket) (claim : Claim) (fault : HubFault) → IsNotClaimed h t claim fault → IsOnlyRefusal h t claim fault
+only_refusal h t claim NoSuchCell none NoSuchCell other = refl
+only_refusal h t claim NoSuchCell none SerialsSpent other = absurd other
+only_refusal h t claim NoSuchCell none Memory other = absurd other
+only_refusal h t claim NoSuchCell none (Cell reason) other = let e = other.1 in absurd (cc)
+only_refusal h t claim SerialsSpent first fault other = absurd first
+only_refusal h t claim Memory first fault other = absurd first
+only_refusal h t claim (Cell reason) first NoSuchCell other = let e = first.1 in absurd (cc)
+only_refusal h t claim (Cell reason) first SerialsSpent other = absurd other
+only_refusal h t claim (Cell reason) first Memory other = absurd other
+only_refusal h t claim (Cell reason) first (Cell another) other =
     let e = first.1 in
     let f = other.1 in
     let same : other.0 ≡ first.0 = cc in
-    ap Cell (only_reason first.0.planned first.0.cell r reason first.2 another (subst (λ (c : Control). IsFirstReason c.planned c.cell r another) same other.2))
+    ap Cell (only_claim_reason first.0.planned first.0.cell claim reason first.2 another (subst (λ (c : Control). IsClaimReason c.planned c.cell claim another) same other.2))
 
-pub report_only : (old new : HubState) (t : Ticket) (r : Report) (result : Result Ack HubFault) → IsCall old (Reported t r result) new → IfErr result (IsOnlyRefusal old t r)
+pub report_only : (old new : HubState) (t : Ticket) (r : reports.Report) (result : Result Ack HubFault) → IsCall old (Reported t r result) new → IfErr result (IsOnlyRefusal old t (Report r))
 report_only old new t r (Ok ack) is = tt
-report_only old new t r (Err fault) is = only_refusal old t r fault is.0
+report_only old new t r (Err fault) is = only_refusal old t (Report r) fault is.0
 
 -- a dismissal finds no cell exactly where the ticket has none
 pub dismissal_finds : (old new : HubState) (t : Ticket) (result : Result Control HubFault) → IsCall old (Dismissed t result) new → (result ≡ Err NoSuchCell) ↔ (cell_at old t ≡ None)

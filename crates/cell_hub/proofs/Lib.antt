@@ -4,4 +4,4 @@ pub mod Lives
 pub mod Hubs
 pub mod Called
 pub mod TicketRuns
-pub mod Cleaned
+pub mod Claimed

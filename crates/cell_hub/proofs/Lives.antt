@@ -7,7 +7,8 @@ use Rattle.plan_verifier.specs.Accepted.{VerifiedPlan}
 use Rattle.cell_control.specs.{declared.ack.Ack.Ack, Control.{Control, at_start, IsAnswered}, Reports.IsFirstReason}
 use Rattle.cell_hub.specs.{declared.slots.Ticket.Ticket, Hub.{HubState, hub_from, cell_at, Puts, AreSerialsBelow}}
 use Rattle.cell_hub.specs.declared.hub_fault.HubFault.{HubFault, TheVariants.{NoSuchCell, SerialsSpent, Memory, Cell}}
-use Rattle.cell_hub.specs.Calls.{HubCall, Admitted, Reported, Shown, Dismissed, IsCall, AreCalls, IsAdmitted, IsSeated, IsReported, IsNotReported, IsDismissed}
+use Rattle.cell_tables.specs.declared.claim.Claim.TheVariants as claims
+use Rattle.cell_hub.specs.Calls.{HubCall, Admitted, Reported, Shown, Dismissed, IsCall, AreCalls, IsAdmitted, IsSeated, IsReported, IsNotClaimed, IsDismissed}
 use Rattle.cell_hub.specs.Laws.{DismissedNeverAnswers, CellsAreApart, Life, not_given, stands, dismissed, content_in, Lives, AreLived, FindsNoCell, IsOnTicket}
 use Rattle.cell_hub.specs.Calls as call
 use Rattle.cell_hub.specs.Laws as law
@@ -84,7 +85,7 @@ answered_on old new t r ack (stands c) is fits =
     }
 answered_on old new t r ack dismissed is fits = let e = fits.content in let f = is.cell in absurd (cc)
 
-refused_on : (old : HubState) (t : Ticket) (r : Report) (fault : HubFault) (life : Life) → IsNotReported old t r fault → Fits old t life → Lives t life (Reported t r (Err fault)) life
+refused_on : (old : HubState) (t : Ticket) (r : Report) (fault : HubFault) (life : Life) → IsNotClaimed old t (claims.Report r) fault → Fits old t life → Lives t life (Reported t r (Err fault)) life
 refused_on old t r NoSuchCell life is fits = unfound old t life _ fits is (λ on. refl)
 refused_on old t r SerialsSpent life is fits = absurd is
 refused_on old t r Memory life is fits = absurd is
@@ -129,7 +130,7 @@ goes_on old new t life (Reported other r (Ok ack)) below is fits =
     ]
 goes_on old new t life (Reported other r (Err fault)) below is fits =
     elim (same_ticket t other) [
-      | inl same ↦ kept old new t life _ is.1 (subst (λ (u : Ticket). IsNotReported old u r fault → Lives t life (Reported u r (Err fault)) life) same (λ on. refused_on old t r fault life on fits) is.0) fits
+      | inl same ↦ kept old new t life _ is.1 (subst (λ (u : Ticket). IsNotClaimed old u (claims.Report r) fault → Lives t life (Reported u r (Err fault)) life) same (λ on. refused_on old t r fault life on fits) is.0) fits
       | inr differ ↦ kept old new t life _ is.1 (apart t life _ (λ on. differ (sym on)) (λ on. absurd (differ (sym on)))) fits
     ]
 goes_on old new t life (Shown other content) below is fits =

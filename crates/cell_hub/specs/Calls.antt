@@ -1,11 +1,12 @@
 -- The calls on a hub.
 use Rattle.std.specs.Prelude.{◌≡◌, ℕ, ◌+◌, ◌-◌, ◌^◌, ◌<◌, List, [], ◌∷◌, Option, None, Some, Result}
 use Rattle.std.specs.declared.result.Result.TheVariants.{Ok, Err}
-use Rattle.shop_base.specs.{declared.report.Report.Report, Activity.GoesOn, Report.ended, Report.at}
-use Rattle.shop_base.specs.declared.report.Report.TheVariants.{Clean}
+use Rattle.shop_base.specs.declared.report.Report as reports
+use Rattle.shop_base.specs.{Activity.GoesOn, Report.ended, Report.at}
+use Rattle.cell_tables.specs.{declared.claim.Claim.Claim, declared.claim.Claim.TheVariants.Report, Claims.claimed}
 use Rattle.plan_verifier.specs.Accepted.{VerifiedPlan}
 use Rattle.cell_control.specs.{declared.ack.Ack.Ack, Control.Control, Control.at_start, Control.IsAnswered}
-use Rattle.cell_control.specs.Reports.{IsFirstReason, IsFirstCleanReason}
+use Rattle.cell_control.specs.Claims.{IsClaimReason}
 use Rattle.cell_control.specs.Judged.{JudgedReport, IsPossible}
 use Rattle.cell_hub.specs.{declared.slots.Ticket.Ticket, declared.hub_fault.HubFault.HubFault}
 use Rattle.cell_hub.specs.declared.hub_fault.HubFault.TheVariants.{NoSuchCell, SerialsSpent, Memory, Cell}
@@ -35,7 +36,7 @@ IsNotAdmitted h Memory = h.next_serial < no_serial
 IsNotAdmitted h (Cell reason) = ⊥
 
 -- the controller of the ticket's cell answers the report, and the other cells stay as they are
-pub record IsReported (old : HubState) (t : Ticket) (r : Report) (ack : Ack) (new : HubState) : Type 0 where
+pub record IsReported (old : HubState) (t : Ticket) (r : reports.Report) (ack : Ack) (new : HubState) : Type 0 where
   pub before : Control
   pub after : Control
   pub cell : cell_at old t ≡ Some before
@@ -49,30 +50,23 @@ pub record IsPossibleAt (h : HubState) (t : Ticket) (judged : JudgedReport) : Ty
   pub cell : cell_at h t ≡ Some control
   pub possible : IsPossible control.planned control.cell judged
 
--- why a report isn't accepted: the ticket has no cell, or its controller refuses the report by the first reason
-abbrev pub IsNotReported : HubState → Ticket → Report → HubFault → Type 0
-IsNotReported h t r NoSuchCell = cell_at h t ≡ None
-IsNotReported h t r SerialsSpent = ⊥
-IsNotReported h t r Memory = ⊥
-IsNotReported h t r (Cell reason) = (c : Control) × (cell_at h t ≡ Some c) × IsFirstReason c.planned c.cell r reason
+-- why a claim isn't accepted: the ticket has no cell, or its controller refuses it by the first reason
+abbrev pub IsNotClaimed : HubState → Ticket → Claim → HubFault → Type 0
+IsNotClaimed h t claim NoSuchCell = cell_at h t ≡ None
+IsNotClaimed h t claim SerialsSpent = ⊥
+IsNotClaimed h t claim Memory = ⊥
+IsNotClaimed h t claim (Cell reason) = (c : Control) × (cell_at h t ≡ Some c) × IsClaimReason c.planned c.cell claim reason
 
--- no fault but this one is a reason why the report isn't accepted, the fields of a first reason included
-abbrev pub IsOnlyRefusal : HubState → Ticket → Report → HubFault → Type 0
-IsOnlyRefusal h t r fault = (other : HubFault) → IsNotReported h t r other → other ≡ fault
+-- no fault but this one is a reason why the claim isn't accepted, the fields of a first reason included
+abbrev pub IsOnlyRefusal : HubState → Ticket → Claim → HubFault → Type 0
+IsOnlyRefusal h t claim fault = (other : HubFault) → IsNotClaimed h t claim other → other ≡ fault
 
--- why the report that machine m was cleaned after job j isn't accepted: the ticket has no cell, or its controller refuses it by the first reason
-abbrev pub IsNotCleaned : HubState → Ticket → ℕ → ℕ → ℕ → HubFault → Type 0
-IsNotCleaned h t m j at NoSuchCell = cell_at h t ≡ None
-IsNotCleaned h t m j at SerialsSpent = ⊥
-IsNotCleaned h t m j at Memory = ⊥
-IsNotCleaned h t m j at (Cell reason) = (c : Control) × (cell_at h t ≡ Some c) × IsFirstCleanReason c.planned c.cell m j at reason
-
--- no fault but this one is a reason why that report isn't accepted, the fields of a first reason included
-abbrev pub IsOnlyCleanRefusal : HubState → Ticket → ℕ → ℕ → ℕ → HubFault → Type 0
-IsOnlyCleanRefusal h t m j at fault = (other : HubFault) → IsNotCleaned h t m j at other → other ≡ fault
+-- the controller of the ticket's cell answers what is claimed as it does the report of it
+abbrev pub IsClaimed : HubState → Ticket → Claim → Ack → HubState → Type 0
+IsClaimed old t claim ack new = (c : Control) × (cell_at old t ≡ Some c) × IsReported old t (claimed c.planned claim) ack new
 
 -- what the report says to have ended goes on in the cell, and the report's moment is the last one
-pub record EndsNow (c : Control) (r : Report) : Type 0 where
+pub record EndsNow (c : Control) (r : reports.Report) : Type 0 where
   pub due : ℕ
   pub going : GoesOn c.planned c.cell (ended r) due
   pub now : at r ≡ c.cell.last
@@ -86,24 +80,24 @@ pub record IsDismissed (old : HubState) (t : Ticket) (content : Control) (new : 
 -- a call with its answer: a plan was admitted, a report made on a ticket, a ticket's cell looked at, a ticket dismissed
 pub data HubCall : Type 0 where
   Admitted : VerifiedPlan → Result Ticket (HubFault × VerifiedPlan) → HubCall
-  Reported : Ticket → Report → Result Ack HubFault → HubCall
+  Reported : Ticket → reports.Report → Result Ack HubFault → HubCall
   Shown : Ticket → Option Control → HubCall
   Dismissed : Ticket → Result Control HubFault → HubCall
-
--- the call that the report of a cleaning after a job is, by its answer: where it is accepted, a report of that cleaning; where it isn't, a look at the ticket's cell
-abbrev pub cleaning_call : HubState → Ticket → ℕ → ℕ → Result Ack HubFault → HubCall
-cleaning_call h t m at (Ok ack) = Reported t (Clean m at) (Ok ack)
-cleaning_call h t m at (Err fault) = Shown t (cell_at h t)
 
 -- a hub answers a call so, and is then this one. A call that is refused changes nothing
 abbrev pub IsCall : HubState → HubCall → HubState → Type 0
 IsCall old (Admitted plan (Ok t)) new = IsAdmitted old plan t new
 IsCall old (Admitted plan (Err refused)) new = IsNotAdmitted old refused.0 × (refused.1 ≡ plan) × (new ≡ old)
 IsCall old (Reported t r (Ok ack)) new = IsReported old t r ack new
-IsCall old (Reported t r (Err fault)) new = IsNotReported old t r fault × (new ≡ old)
+IsCall old (Reported t r (Err fault)) new = IsNotClaimed old t (Report r) fault × (new ≡ old)
 IsCall old (Shown t content) new = (content ≡ cell_at old t) × (new ≡ old)
 IsCall old (Dismissed t (Ok content)) new = IsDismissed old t content new
 IsCall old (Dismissed t (Err fault)) new = (fault ≡ NoSuchCell) × (cell_at old t ≡ None) × (new ≡ old)
+
+-- the call that a claim is, by its answer: where it is accepted, its report; where it isn't, a look at the ticket's cell
+abbrev pub IsClaimCall : HubState → Ticket → Claim → Result Ack HubFault → HubState → Type 0
+IsClaimCall old t claim (Ok ack) new = (c : Control) × (cell_at old t ≡ Some c) × IsCall old (Reported t (claimed c.planned claim) (Ok ack)) new
+IsClaimCall old t claim (Err fault) new = IsCall old (Shown t (cell_at old t)) new
 
 -- calls on a hub, one after another
 pub data AreCalls : HubState → List HubCall → HubState → Type 0 where

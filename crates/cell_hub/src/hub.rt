@@ -1,15 +1,15 @@
 ghost use Rattle.std.specs.Prelude.{◌≡◌, ◌↔◌, None, option_copied, Ok, IfOk, IfErr, IfSome, IsOk, OnErr};
 ghost use Rattle.shop_base.specs.Report.{CanReport};
-ghost use Rattle.cell_control.specs.Reports.{CanCleanAfter};
+ghost use Rattle.cell_control.specs.Claims.{CanClaim};
 ghost use Rattle.cell_hub.specs.Hub.{hub_from, cell_at, AreSerialsBelow};
-ghost use Rattle.cell_hub.specs.Calls.{IsAdmitted, IsPossibleAt, IsSeated, IsNotAdmitted, IsReported, IsNotReported, IsNotCleaned};
-ghost use Rattle.cell_hub.specs.Calls.{IsOnlyRefusal, IsOnlyCleanRefusal, EndsNow, IsDismissed, IsCall};
-ghost use Rattle.cell_hub.specs.Calls.{cleaning_call, Admitted, Reported, Shown, Dismissed};
+ghost use Rattle.cell_hub.specs.Calls.{IsAdmitted, IsPossibleAt, IsSeated, IsNotAdmitted, IsReported, IsNotClaimed, IsClaimed};
+ghost use Rattle.cell_hub.specs.Calls.{IsOnlyRefusal, EndsNow, IsDismissed, IsCall};
+ghost use Rattle.cell_hub.specs.Calls.{IsClaimCall, Admitted, Reported, Shown, Dismissed};
 
 use crate::hub_fault::HubFault;
 use crate::slots::{Placed, Ticket, accept_in, cell_in, report_in, reserve_slot, take_from};
 use cell_control::{
-    Ack, Controller, Core, Dues, LeanController, LeanPlan, Possible, Report, Timed,
+    Ack, Claim, Controller, Core, Dues, LeanController, LeanPlan, Possible, Report, Timed,
 };
 use plan_verifier::Verified;
 use shop_base::{JobNo, MachineNo, Moment};
@@ -89,8 +89,8 @@ impl<P: Timed, D: Dues> HubOf<P, D> {
         ensures reported { IfOk result (λ ack. IsReported self.old ticket report ack self.new) }
         ensures possible { IfSome (cell_at self.old ticket) (λ c. IsOk result ↔ CanReport c.planned c.cell report) }
         ensures never_refused { IfSome (cell_at self.old ticket) (λ c. EndsNow c report → IsOk result) }
-        ensures refused { IfErr result (IsNotReported self.old ticket report) }
-        ensures only_reason { IfErr result (IsOnlyRefusal self.old ticket report) }
+        ensures refused { IfErr result (IsNotClaimed self.old ticket (Claim.Report report)) }
+        ensures only_reason { IfErr result (IsOnlyRefusal self.old ticket (Claim.Report report)) }
         ensures unchanged { OnErr result (self.new ≡ self.old) }
         ensures no_such_cell { (result ≡ Err HubFault.NoSuchCell) ↔ (cell_at self.old ticket ≡ None) }
         ensures called { IsCall self.old (Reported ticket report result) self.new }
@@ -107,8 +107,30 @@ impl<P: Timed, D: Dues> HubOf<P, D> {
         accept_in(&mut self.cells, ticket, possible)
     }
 
-    /// Takes the report on the ticket's cell that the machine has been cleaned after this job; the cell answers it as a
-    /// controller alone does. If it is accepted, it counts as a report of that cleaning.
+    /// Takes what is claimed to have ended in the ticket's cell, which answers it as a controller alone does: it is
+    /// accepted, as its report, exactly if it is possible in that cell.
+    pub fn claim(&mut self, ticket: Ticket, claim: Claim) -> Result<Ack, HubFault>
+        ensures claimed { IfOk result (λ ack. IsClaimed self.old ticket claim ack self.new) }
+        ensures possible { IfSome (cell_at self.old ticket)
+            (λ c. IsOk result ↔ CanClaim c.planned c.cell claim) }
+        ensures refused { IfErr result (IsNotClaimed self.old ticket claim) }
+        ensures only_reason { IfErr result (IsOnlyRefusal self.old ticket claim) }
+        ensures unchanged { OnErr result (self.new ≡ self.old) }
+        ensures no_such_cell { (result ≡ Err HubFault.NoSuchCell) ↔ (cell_at self.old ticket ≡ None) }
+        ensures called { IsClaimCall self.old ticket claim result self.new }
+    {
+        let Some(cell) = self.cell(ticket) else {
+            return Err(HubFault::NoSuchCell);
+        };
+        // Called for its clause alone: what holds of every controller.
+        let _plan = cell.shaped();
+        match cell.judge_claim(claim) {
+            Ok(possible) => Ok(self.accept(ticket, possible)),
+            Err(reason) => Err(HubFault::Cell(reason)),
+        }
+    }
+
+    /// Takes the claim that the machine has been cleaned after this job, as [`HubOf::claim`] does.
     pub fn clean_after(
         &mut self,
         ticket: Ticket,
@@ -116,24 +138,65 @@ impl<P: Timed, D: Dues> HubOf<P, D> {
         job: JobNo,
         at: Moment,
     ) -> Result<Ack, HubFault>
-        ensures reported { IfOk result (λ ack. IsReported self.old ticket (Report.Clean machine at) ack self.new) }
+        ensures claimed { IfOk result (λ ack. IsClaimed self.old ticket (Claim.CleanAfter machine job at) ack self.new) }
         ensures possible { IfSome (cell_at self.old ticket)
-            (λ c. IsOk result ↔ CanCleanAfter c.planned c.cell machine job at) }
-        ensures refused { IfErr result (IsNotCleaned self.old ticket machine job at) }
-        ensures only_reason { IfErr result (IsOnlyCleanRefusal self.old ticket machine job at) }
+            (λ c. IsOk result ↔ CanClaim c.planned c.cell (Claim.CleanAfter machine job at)) }
+        ensures refused { IfErr result (IsNotClaimed self.old ticket (Claim.CleanAfter machine job at)) }
+        ensures only_reason { IfErr result (IsOnlyRefusal self.old ticket (Claim.CleanAfter machine job at)) }
         ensures unchanged { OnErr result (self.new ≡ self.old) }
         ensures no_such_cell { (result ≡ Err HubFault.NoSuchCell) ↔ (cell_at self.old ticket ≡ None) }
-        ensures called { IsCall self.old (cleaning_call self.old ticket machine at result) self.new }
+        ensures called { IsClaimCall self.old ticket (Claim.CleanAfter machine job at) result self.new }
     {
-        let Some(cell) = self.cell(ticket) else {
-            return Err(HubFault::NoSuchCell);
-        };
-        // Called for its clause alone: what holds of every controller.
-        let _plan = cell.shaped();
-        if let Err(reason) = cell.judge_clean_after(machine, job, at) {
-            return Err(HubFault::Cell(reason));
-        }
-        self.report(ticket, Report::Clean { machine, at })
+        self.claim(ticket, Claim::CleanAfter { machine, job, at })
+    }
+
+    /// Takes the claim that the operation of this step of the job has ended, as [`HubOf::claim`] does.
+    pub fn finish_step(
+        &mut self,
+        ticket: Ticket,
+        job: JobNo,
+        step: u32,
+        at: Moment,
+    ) -> Result<Ack, HubFault>
+        ensures claimed { IfOk result (λ ack. IsClaimed self.old ticket (Claim.FinishStep job step at) ack self.new) }
+        ensures possible { IfSome (cell_at self.old ticket)
+            (λ c. IsOk result ↔ CanClaim c.planned c.cell (Claim.FinishStep job step at)) }
+        ensures refused { IfErr result (IsNotClaimed self.old ticket (Claim.FinishStep job step at)) }
+        ensures only_reason { IfErr result (IsOnlyRefusal self.old ticket (Claim.FinishStep job step at)) }
+        ensures unchanged { OnErr result (self.new ≡ self.old) }
+        ensures no_such_cell { (result ≡ Err HubFault.NoSuchCell) ↔ (cell_at self.old ticket ≡ None) }
+        ensures called { IsClaimCall self.old ticket (Claim.FinishStep job step at) result self.new }
+    {
+        self.claim(ticket, Claim::FinishStep { job, step, at })
+    }
+
+    /// Takes the claim that the machine has been cleaned after this step of the job, as [`HubOf::claim`] does.
+    pub fn clean_after_step(
+        &mut self,
+        ticket: Ticket,
+        machine: MachineNo,
+        job: JobNo,
+        step: u32,
+        at: Moment,
+    ) -> Result<Ack, HubFault>
+        ensures claimed { IfOk result (λ ack. IsClaimed self.old ticket (Claim.CleanAfterStep machine job step at) ack self.new) }
+        ensures possible { IfSome (cell_at self.old ticket)
+            (λ c. IsOk result ↔ CanClaim c.planned c.cell (Claim.CleanAfterStep machine job step at)) }
+        ensures refused { IfErr result (IsNotClaimed self.old ticket (Claim.CleanAfterStep machine job step at)) }
+        ensures only_reason { IfErr result (IsOnlyRefusal self.old ticket (Claim.CleanAfterStep machine job step at)) }
+        ensures unchanged { OnErr result (self.new ≡ self.old) }
+        ensures no_such_cell { (result ≡ Err HubFault.NoSuchCell) ↔ (cell_at self.old ticket ≡ None) }
+        ensures called { IsClaimCall self.old ticket (Claim.CleanAfterStep machine job step at) result self.new }
+    {
+        self.claim(
+            ticket,
+            Claim::CleanAfterStep {
+                machine,
+                job,
+                step,
+                at,
+            },
+        )
     }
 
     /// The ticket's cell, if it has one.

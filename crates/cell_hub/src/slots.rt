@@ -5,10 +5,10 @@ ghost use Rattle.slab.specs.Slab.{HasRoomFor};
 ghost use Rattle.shop_base.specs.Report.{CanReport};
 ghost use Rattle.cell_hub.specs.{Hub.cell_at, Slots.hub_of, Slots.IfCell, Slots.IsReportedIn, Slots.IsDismissedFrom};
 ghost use Rattle.cell_hub.specs.Slots.{IsPossibleIn};
-ghost use Rattle.cell_hub.specs.Calls.{IsNotReported, EndsNow};
+ghost use Rattle.cell_hub.specs.Calls.{IsNotClaimed, EndsNow};
 
 use crate::hub_fault::HubFault;
-use cell_control::{Ack, Core, Dues, Possible, Report, Timed};
+use cell_control::{Ack, Claim, Core, Dues, Possible, Report, Timed};
 use slab::Slab;
 use std::alloc::AllocError;
 
@@ -61,7 +61,7 @@ pub(crate) fn report_in<P: Timed, D: Dues>(
     report: Report,
 ) -> Result<Ack, HubFault>
     ensures reported { IfOk result (λ ack. IsReportedIn cells.old ticket report ack cells.new) }
-    ensures refused { IfErr result (λ fault. (next : ℕ) → IsNotReported (hub_of cells.old next) ticket report fault) }
+    ensures refused { IfErr result (λ fault. (next : ℕ) → IsNotClaimed (hub_of cells.old next) ticket (Claim.Report report) fault) }
     ensures possible { IfCell cells.old ticket (λ c. IsOk result ↔ CanReport c.planned c.cell report) }
     ensures never_refused { IfCell cells.old ticket (λ c. EndsNow c report → IsOk result) }
     ensures unchanged { OnErr result (cells.new ≡ cells.old) }

@@ -1,27 +1,19 @@
 -- What was claimed to have ended, and accepted, isn't accepted again.
 use Rattle.std.proofs.Common.{◌≡◌, ◌⊎◌, ℕ, List, [], ◌∷◌, ◌++◌, Option, Some, refl, sym, ap, ◌∙◌, subst, inl, inr}
-use Rattle.shop_base.specs.{declared.report.Report.TheVariants.{Arrive, Finish, Clean}, Cell.{Cell, start}}
+use Rattle.shop_base.specs.Cell.{Cell, start}
 use Rattle.shop_base.specs.{Plan.{PlannedShop, IsWellShaped}, Report.{at, after_report}}
 use Rattle.shop_base.specs.{Run.{Reported, AreEvents, after_all, IsRun, ends_in}, Controlled.{moved, step_orders}}
 use Rattle.shop_base.proofs.ControlledRuns.{events_join, after_all_join, moves-events, after_all-moves}
-use Rattle.cell_tables.specs.{declared.entry.Entry.Entry, Events.events_of}
-use Rattle.cell_control.{specs.OnceLaw.{NamedEnd, Arrived, Finished, Cleaned, ReportsEnd}, proofs.Once.once}
+use Rattle.cell_tables.specs.{declared.claim.Claim.Claim, Claims.claimed, declared.entry.Entry.Entry, Events.events_of}
+use Rattle.cell_control.{specs.{Claims.CanClaim, OnceLaw.{NamedEnd, Names}}, proofs.Once.claimed_once}
 use Rattle.byte_streams.specs.Answering.{AnswerAll}
-use Rattle.event_lines.specs.{declared.requests.Claim.{Claim, TheVariants.{Report, CleanAfter}}, Requests.claimed}
 use Rattle.event_lines.specs.declared.requests.Request.TheVariants.{Claim as ClaimRequest}
-use Rattle.cell_drive.specs.{declared.protocol.Protocol.Protocol, Refusals.{CanClaim, IsAdmissible}}
-use Rattle.cell_drive.specs.{AnswerText.{DrivenCell, undriven}, ProtocolLaw.{named, NothingIsAcceptedTwice}}
+use Rattle.cell_drive.specs.{declared.protocol.Protocol.Protocol, Refusals.IsAdmissible}
+use Rattle.cell_drive.specs.{AnswerText.{DrivenCell, undriven}, ProtocolLaw.NothingIsAcceptedTwice}
 use Rattle.cell_drive.specs.ProtocolText.{ProtocolAnswers, IsClaimRefused, IsClaimAccepted, refusal_prefix}
 use Rattle.cell_drive.proofs.OneText.{IsOnCourse, request_keeps, start_on_course, protocol_lines_keep}
-use Rattle.cell_drive.proofs.{ReadBack.{AreParsed, all_parsed}, Refusing.{can_report, refused_or_admissible}}
+use Rattle.cell_drive.proofs.{ReadBack.{AreParsed, all_parsed}, Refusing.refused_or_admissible}
 use Rattle.cell_drive.proofs.ProtocolParses.{protocol_line_parses}
-
--- a claim that is possible records what it names
-pub ends_named : (p : PlannedShop) (c : Cell) (claim : Claim) (ended : NamedEnd) → named claim ≡ Some ended → CanClaim p c claim → ReportsEnd p c (claimed claim) ended
-ends_named p c (Report (Arrive job at)) ended is can = let same : Arrived job ≡ ended = cc in subst (ReportsEnd p c (Arrive job at)) same refl
-ends_named p c (Report (Finish job machine at)) ended is can = let same : Finished job machine ≡ ended = cc in subst (ReportsEnd p c (Finish job machine at)) same refl
-ends_named p c (Report (Clean machine at)) ended is can = absurd (cc)
-ends_named p c (CleanAfter machine job at) ended is can = let same : Cleaned machine job ≡ ended = cc in subst (ReportsEnd p c (Clean machine at)) same (refl, can.after)
 
 module _ (p : PlannedShop) (protocol : Protocol) (shaped : IsWellShaped p) where
   abbrev answers : DrivenCell → ℕ → Option (List ℕ) → List ℕ → DrivenCell → Type 0
@@ -32,10 +24,10 @@ module _ (p : PlannedShop) (protocol : Protocol) (shaped : IsWellShaped p) where
 
   module _ (before after end : DrivenCell) (claim again : Claim) (ended : NamedEnd) (texts text others : List ℕ) where
     accepted_once : (first : AreParsed p shaped (undriven p) texts before) (events : List Entry) (is : IsClaimAccepted p protocol [] before.cell claim text events after.cell) (then_replayed : AreParsed p shaped after others end)
-        → named claim ≡ Some ended → named again ≡ Some ended → CanClaim p end.cell again → ⊥
+        → Names p claim ended → Names p again ended → CanClaim p end.cell again → ⊥
     accepted_once first events is then_replayed names names_again can =
         let c = before.cell in
-        let r = claimed claim in
+        let r = claimed p claim in
         let es = events_of first.more in
         let own = Reported r ∷ moved (step_orders p c r is.movers) in
         let gs = events_of then_replayed.more in
@@ -46,14 +38,11 @@ module _ (p : PlannedShop) (protocol : Protocol) (shaped : IsWellShaped p) where
         let to_end : end.cell ≡ ends_in p (es ++ (own ++ gs)) =
         then_replayed.cell ∙ ap (λ (x : Cell). after_all p x gs) to_after ∙ sym (after_all_join p c own gs) ∙ ap (λ (x : Cell). after_all p x (own ++ gs)) first.cell ∙ sym (after_all_join p (start p) es (own ++ gs)) in
         let can_then : CanClaim p (ends_in p (es ++ (own ++ gs))) again = subst (λ (x : Cell). CanClaim p x again) to_end can in
-        once p es (moved (step_orders p c r is.movers) ++ gs) r (claimed again) ended shaped run
-        (subst (λ (x : Cell). ReportsEnd p x r ended) first.cell (ends_named p c claim ended names is.accepted.0))
-        (ends_named p (ends_in p (es ++ (own ++ gs))) again ended names_again can_then)
-        (can_report p (ends_in p (es ++ (own ++ gs))) again can_then)
+        claimed_once p es (moved (step_orders p c r is.movers) ++ gs) claim again ended shaped run (subst (λ (x : Cell). CanClaim p x claim) first.cell is.accepted.0) names names_again can_then
 
     accepted_or_not : (number : ℕ) (events : List Entry) → IsOnCourse p before.cell → IsAdmissible protocol p before.cell claim → AreParsed p shaped (undriven p) texts before
         → IsClaimRefused p protocol (refusal_prefix protocol []) before.cell number claim text events after.cell ⊎ IsClaimAccepted p protocol [] before.cell claim text events after.cell → AreParsed p shaped after others end
-        → named claim ≡ Some ended → named again ≡ Some ended → CanClaim p end.cell again → ⊥
+        → Names p claim ended → Names p again ended → CanClaim p end.cell again → ⊥
     accepted_or_not number events on is_accepted first (inl is) then_replayed names names_again can = refused_or_admissible p before.cell shaped on.sound protocol claim is.refusal is.first is_accepted
     accepted_or_not number events on is_accepted first (inr is) then_replayed names names_again can = accepted_once first events is then_replayed names names_again can
 

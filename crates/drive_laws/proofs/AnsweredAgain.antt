@@ -8,9 +8,9 @@ use Rattle.shop_base.specs.Run.{Event, Moved, after, after_all}
 use Rattle.shop_base.specs.Controlled.{moved, IsStep, after_step, step_orders, Leads, done, accepted, refused}
 use Rattle.shop_base.proofs.{ControlledRuns.after_all-moves, CellFacts.after_report-last}
 use Rattle.cell_tables.specs.declared.entry.Entry.{Entry, TheVariants.{Report as ReportEntry, Order as OrderEntry}}
+use Rattle.cell_tables.specs.{declared.claim.Claim.{Claim, TheVariants.{Report, FinishStep, CleanAfter, CleanAfterStep}}, Claims.claimed}
 use Rattle.cell_tables.specs.Events.{event_of, events_of}
 use Rattle.byte_streams.specs.Answering.{AnswerAll}
-use Rattle.event_lines.specs.{declared.requests.Claim.{Claim, TheVariants.{Report, CleanAfter}}, Requests.claimed}
 use Rattle.event_lines.specs.declared.requests.Request.TheVariants.{Claim as ClaimRequest}
 use Rattle.event_lines.specs.EventLines.{report_line, order_line, entry_lines, order_lines}
 use Rattle.event_lines.proofs.Readings.{some_line}
@@ -104,12 +104,16 @@ module _ (p : PlannedShop) (protocol : Protocol) where
     where
       go : (t : Bool) (q : Claim) → AsksFor t [] (ClaimRequest q) → ⊥
       go true (Report report) is = some_line [] report is refl
+      go true (FinishStep job step at) is = is.1
       go true (CleanAfter machine job at) is = is.1
+      go true (CleanAfterStep machine job step at) is = is.1
       go false (Report report) is = some_line [] report is refl
+      go false (FinishStep job step at) is = is
       go false (CleanAfter machine job at) is = is
+      go false (CleanAfterStep machine job step at) is = is
 
   -- a line that claims it is answered so
-  claim_answered : (c : Cell) (before : List Entry) (number : ℕ) (line : List ℕ) (claim : Claim) (report : reports.Report) (js : List ℕ) (late : Bool) → claimed claim ≡ report
+  claim_answered : (c : Cell) (before : List Entry) (number : ℕ) (line : List ℕ) (claim : Claim) (report : reports.Report) (js : List ℕ) (late : Bool) → claimed p claim ≡ report
       → AsksFor protocol.version_2 line (ClaimRequest claim) → IsAdmissible protocol p c claim → IsStep p c report js → ((late ≡ false) ↔ IsPunctual p c report)
       → ProtocolAnswers p protocol (driven_to c before) number (Some line) (step_text c report js late) (driven_to (after_step p c report js) (before ++ step_entries c report js))
   claim_answered c before number line claim report js late same asked is_accepted step late_is =
@@ -131,7 +135,7 @@ module _ (p : PlannedShop) (protocol : Protocol) where
       }))
     where
       own : reports.Report
-      own = claimed claim
+      own = claimed p claim
 
   -- ---- the events of a controlled run, one step after another
 

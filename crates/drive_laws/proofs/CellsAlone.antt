@@ -8,12 +8,12 @@ use Rattle.shop_base.proofs.ReportsLeft.{start-reports_left, after_step-reports_
 use Rattle.shop_base.proofs.StatedNumber.{ends_on_the_stated_number-holds}
 use Rattle.byte_streams.specs.Answering.{AnswerAll}
 use Rattle.plan_verifier.specs.Accepted.{VerifiedPlan, IsVerified}
-use Rattle.cell_tables.specs.{declared.entry.Entry.Entry, Events.events_of}
+use Rattle.cell_tables.specs.{declared.claim.Claim.TheVariants.{Report, FinishStep, CleanAfter, CleanAfterStep}, declared.entry.Entry.Entry, Events.events_of}
 use Rattle.cell_control.specs.Control.{Control, IsAnswered, at_start}
 use Rattle.cell_control.specs.Promises.{IsCalled, AreCalled, not_yet, once_more, IsControllerAfter}
 use Rattle.cell_control.proofs.{Promises.calls_make_the_controlled_run, Reasons.reason-cannot}
 use Rattle.event_lines.specs.declared.requests.Request.{TheVariants.{Claim as ClaimRequest, Status}, Request}
-use Rattle.event_lines.specs.{declared.requests.Claim.TheVariants.{Report, CleanAfter}, SentLines.cell_prefix}
+use Rattle.event_lines.specs.SentLines.{cell_prefix}
 use Rattle.event_lines.specs.{AnswerLines.late_line, EventLines.{report_line, order_line}}
 use Rattle.cell_drive.specs.declared.{protocol.Protocol.Protocol, refusals.Refusal.TheVariants.Reason}
 use Rattle.cell_drive.specs.{LineAnswers.ReportAnswer, ProtocolText.RequestAnswer, Protocols.plain_from}
@@ -32,10 +32,14 @@ use Rattle.cell_control.specs.Promises as promise
 
 no_empty : (version_2 : Bool) (k : ℕ) (request : Request) → AsksCell version_2 [] k request → ⊥
 no_empty true k (ClaimRequest (Report report)) is = is.1
+no_empty true k (ClaimRequest (FinishStep job step at)) is = is.1
 no_empty true k (ClaimRequest (CleanAfter machine job at)) is = is.1
+no_empty true k (ClaimRequest (CleanAfterStep machine job step at)) is = is.1
 no_empty true k Status is = is.1
 no_empty false k (ClaimRequest (Report report)) is = is.1
+no_empty false k (ClaimRequest (FinishStep job step at)) is = is
 no_empty false k (ClaimRequest (CleanAfter machine job at)) is = is
+no_empty false k (ClaimRequest (CleanAfterStep machine job step at)) is = is
 no_empty false k Status is = is
 
 module _ (version_2 : Bool) (k : ℕ) where
@@ -225,7 +229,9 @@ replies_plainly (Some c) cells number on text end is =
 
 asks_nothing : (line : List ℕ) → ((on : OnCell) → IsOnCell line on → ⊥) → (cell : ℕ) (request : Request) → AsksCell false line cell request → ⊥
 asks_nothing line none cell (ClaimRequest (Report report)) is = none (record { cell = cell; report = report }) is
+asks_nothing line none cell (ClaimRequest (FinishStep job step moment)) is = is
 asks_nothing line none cell (ClaimRequest (CleanAfter machine job moment)) is = is
+asks_nothing line none cell (ClaimRequest (CleanAfterStep machine job step moment)) is = is
 asks_nothing line none cell Status is = is
 
 hub_plainly : (lines : List (Option (List ℕ))) (text : List ℕ) (start end : List HubCell) → AnswerAll CellsAnswer start 1 lines text end → AnswerAll (ProtocolCellsAnswer plain) start 1 lines text end
@@ -300,7 +306,9 @@ module _ (v : VerifiedPlan) (k : ℕ) where
         still = others.still;
         called = once_more (now c orders punctual) (now next one.orders_now one.still) (now end others.orders_last others.still) report others.reports_had one.events others.events one.called others.called;
       }
+  calls _ _ _ _ end orders punctual on (asked number words lines c next last (ClaimRequest (FinishStep job step at)) text events more asks answer rest) = absurd asks
   calls _ _ _ _ end orders punctual on (asked number words lines c next last (ClaimRequest (CleanAfter machine job at)) text events more asks answer rest) = absurd asks
+  calls _ _ _ _ end orders punctual on (asked number words lines c next last (ClaimRequest (CleanAfterStep machine job step at)) text events more asks answer rest) = absurd asks
   calls _ _ _ _ end orders punctual on (asked number words lines c next last Status text events more asks answer rest) = absurd asks
   calls _ _ _ events end orders punctual on (passed_over number line lines c last more not_of rest) =
       let others = calls (number + 1) c lines events end orders punctual on rest in

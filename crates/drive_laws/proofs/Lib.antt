@@ -8,6 +8,7 @@ pub mod LeftOut
 pub mod ShortLines
 pub mod Plainly
 pub mod Versions
+pub mod ClaimMoments
 pub mod AcceptedOnce
 pub mod Resumes
 pub mod OrderedRightly

@@ -3,11 +3,11 @@ use Rattle.std.proofs.Common.{◌≡◌, ℕ, ◌+◌, List, [], ◌∷◌, ◌+
 use Rattle.std.specs.{List.flat_map, Prelude.slice_get}
 use Rattle.shop_base.specs.{Plan.PlannedShop, Cell.Cell, Controlled.step_orders, Report.at}
 use Rattle.byte_streams.specs.Answering.{AnswerAll}
-use Rattle.cell_tables.specs.declared.entry.Entry.{Entry}
+use Rattle.cell_tables.specs.declared.{claim.Claim.TheVariants.{Report, FinishStep, CleanAfter, CleanAfterStep}, entry.Entry.Entry}
 use Rattle.cell_control.specs.{declared.report_fault.ReportFault.ReportFault, Reports.IsFirstReason}
 use Rattle.event_lines.specs.declared.requests.Request.{TheVariants.{Claim as ClaimRequest, Status}, Request}
 use Rattle.event_lines.specs.{declared.details.Detail.TheVariants.Nothing, SentLines.{IsReportLine, cell_prefix}}
-use Rattle.event_lines.specs.{declared.requests.Claim.TheVariants.{Report, CleanAfter}, AnswerLines.late_line}
+use Rattle.event_lines.specs.AnswerLines.{late_line}
 use Rattle.event_lines.specs.{StandingLines.refused_detail_line, EventLines.{report_line, order_line}}
 use Rattle.cell_drive.specs.{declared.refusals.Refusal.{TheVariants.Reason, Refusal}, ProtocolLaw.PlainlyAsEver}
 use Rattle.cell_drive.specs.{AnswerText.{DrivenCell, CellReports}, ProtocolText.{AsksFor, CellRequests, RequestAnswer}}
@@ -75,7 +75,9 @@ module _ (from : ℕ) where
       → CellRequests p (plain_from from) before number request text end → IsAsked IsReportLine (CellReports p) line before number text end
   plain_request p before number line (ClaimRequest (Report report)) text end asked is =
       record { what = report; asked = asked; answer = record { more = is.more; answer = plain_report p from [] before.cell number report text is.more end.cell is.answer; entries = is.entries } }
+  plain_request p before number line (ClaimRequest (FinishStep job step at)) text end asked is = absurd asked
   plain_request p before number line (ClaimRequest (CleanAfter machine job at)) text end asked is = absurd asked
+  plain_request p before number line (ClaimRequest (CleanAfterStep machine job step at)) text end asked is = absurd asked
   plain_request p before number line Status text end asked is = absurd asked
 
   plain_reply : (o : Option HubCell) (cells : List HubCell) (number cell : ℕ) (report : reports.Report) (text : List ℕ) (end : List HubCell)
@@ -88,7 +90,9 @@ module _ (from : ℕ) where
       → CellsReply (plain_from from) start number (record { cell = cell; request = request }) text end → IsAsked IsOnCell CellsReport line start number text end
   plain_asked start number line cell (ClaimRequest (Report report)) text end asked is =
       record { what = record { cell = cell; report = report }; asked = asked; answer = plain_reply (slice_get start cell) start number cell report text end is }
+  plain_asked start number line cell (ClaimRequest (FinishStep job step at)) text end asked is = absurd asked
   plain_asked start number line cell (ClaimRequest (CleanAfter machine job at)) text end asked is = absurd asked
+  plain_asked start number line cell (ClaimRequest (CleanAfterStep machine job step at)) text end asked is = absurd asked
   plain_asked start number line cell Status text end asked is = absurd asked
 
 pub plainly_as_ever : PlainlyAsEver

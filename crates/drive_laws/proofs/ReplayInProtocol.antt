@@ -9,7 +9,8 @@ use Rattle.shop_base.proofs.ControlledRuns.{events_join, moves-events, after_all
 use Rattle.shop_base.proofs.{Keeping.start-sound, ReportsLeft.{after_report-reports_left, start-reports_left}}
 use Rattle.cell_tables.specs.declared.entry.Entry.{Entry, TheVariants.{Report as ReportEntry, Order as OrderEntry}}
 use Rattle.cell_tables.specs.Events.{event_of, events_of}
-use Rattle.event_lines.specs.{declared.requests.Claim.TheVariants.Report as ReportClaim, EventLines.entry_lines}
+use Rattle.cell_tables.specs.declared.claim.Claim.TheVariants.{Report as ReportClaim}
+use Rattle.event_lines.specs.EventLines.{entry_lines}
 use Rattle.cell_drive.specs.{declared.protocol.Protocol.Protocol, AnswerText.undriven, CutLogs.{IsOwnRun, reported}}
 use Rattle.cell_drive.specs.{Protocols.plain_from, OneRun.cell_after, Resuming.driven_so_far, Replay.replay_lines}
 use Rattle.cell_drive.specs.{ProtocolText.{AreProtocolAnswers, prints_end, end_part}, PlainLines.plain_lines}

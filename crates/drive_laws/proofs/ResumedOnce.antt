@@ -1,25 +1,23 @@
 -- What was reported in a run isn't accepted again, where the run goes on either.
 use Rattle.std.proofs.Common.{◌≡◌, List, ◌∷◌, ◌++◌, sym, ap, ◌∙◌, subst, append_assoc}
 use Rattle.shop_base.specs.{Cell.{Cell, start}, Run.{Event, Reported, after_all, IsRun}}
-use Rattle.shop_base.proofs.ControlledRuns.{events_join, after_all_join}
-use Rattle.cell_tables.specs.{declared.entry.Entry.TheVariants.Report as ReportEntry, Events.events_of}
-use Rattle.cell_control.proofs.Once.{once}
+use Rattle.shop_base.proofs.{ControlledRuns.{events_join, after_all_join}, Keeping.run-sound}
+use Rattle.cell_tables.specs.{Claims.claimed, declared.entry.Entry.TheVariants.Report as ReportEntry, Events.events_of}
+use Rattle.cell_control.{specs.Claims.CanClaim, proofs.{ClaimReasons.claim_can, Once.{once, claim_reports}}}
 use Rattle.run_log.proofs.Audits.{events-join}
-use Rattle.event_lines.specs.Requests.{claimed}
-use Rattle.cell_drive.specs.{Refusals.CanClaim, OneRun.cell_after, Resuming.driven_so_far}
+use Rattle.cell_drive.specs.{OneRun.cell_after, Resuming.driven_so_far}
 use Rattle.cell_drive.specs.ProtocolLaw.{NothingOfARunIsClaimedAgain}
-use Rattle.cell_drive.proofs.Refusing.{can_report}
 use Rattle.drive_laws.specs.ResumedLaw.{NothingOfALogIsAcceptedAgain}
-use Rattle.drive_laws.proofs.{Resumes.rests_on_course, AcceptedOnce.{ends_named, answers_parsed}}
+use Rattle.drive_laws.proofs.{Resumes.rests_on_course, AcceptedOnce.answers_parsed}
 
 pub nothing_of_a_run_is_claimed_again : NothingOfARunIsClaimedAgain
 nothing_of_a_run_is_claimed_again p before after report again ended shaped run parses names can =
     let whole : events_of (before ++ ReportEntry report ∷ after) ≡ events_of before ++ Reported report ∷ events_of after = events-join before (ReportEntry report ∷ after) in
     let can_then : CanClaim p (after_all p (start p) (events_of before ++ Reported report ∷ events_of after)) again =
     subst (λ (es : List Event). CanClaim p (after_all p (start p) es) again) whole can in
-    once p (events_of before) (events_of after) report (claimed again) ended shaped (subst (IsRun p) whole run) parses
-    (ends_named p (after_all p (start p) (events_of before ++ Reported report ∷ events_of after)) again ended names can_then)
-    (can_report p (after_all p (start p) (events_of before ++ Reported report ∷ events_of after)) again can_then)
+    once p (events_of before) (events_of after) report (claimed p again) ended shaped (subst (IsRun p) whole run) parses
+    (claim_reports p (after_all p (start p) (events_of before ++ Reported report ∷ events_of after)) again ended shaped (run-sound p (events_of before ++ Reported report ∷ events_of after) shaped (subst (IsRun p) whole run)) names can_then)
+    (claim_can p (after_all p (start p) (events_of before ++ Reported report ∷ events_of after)) again can_then)
 
 pub nothing_of_a_log_is_accepted_again : NothingOfALogIsAcceptedAgain
 nothing_of_a_log_is_accepted_again p protocol before after report lines number text end again ended shaped run parses answered names can =

@@ -4,9 +4,8 @@ use Rattle.std.proofs.lemmas.List.{append_cancel_left}
 use Rattle.shop_base.specs.{declared.move_order.MoveOrder.MoveOrder, Plan.PlannedShop, Cell.{Cell, start}}
 use Rattle.shop_base.specs.Controlled.{step_orders}
 use Rattle.byte_streams.specs.Answering.{AnswerAll}
-use Rattle.cell_tables.specs.declared.entry.Entry.{Entry, TheVariants.Order as OrderEntry}
-use Rattle.event_lines.specs.declared.{details.Detail.TheVariants.Nothing, requests.{Claim.Claim, Request.Request}}
-use Rattle.event_lines.specs.{declared.requests.Request.TheVariants.{Claim as ClaimRequest, Status}, Requests.claimed}
+use Rattle.cell_tables.specs.{declared.claim.Claim.Claim, Claims.claimed, declared.entry.Entry.{Entry, TheVariants.Order as OrderEntry}}
+use Rattle.event_lines.specs.declared.{details.Detail.TheVariants.Nothing, requests.Request.{Request, TheVariants.{Claim as ClaimRequest, Status}}}
 use Rattle.event_lines.specs.{AnswerLines.refused_line, ReadBack.IsSpaceless, StandingLines.refused_detail_line}
 use Rattle.event_lines.specs.SentLines.{IsReportLine, cell_prefix}
 use Rattle.event_lines.proofs.Readings.{some_line}
@@ -35,15 +34,15 @@ module _ (p : PlannedShop) (protocol : Protocol) where
 
   module _ (prefix : List ℕ) (before next : DrivenCell) (claim : Claim) (text : List ℕ) (events : List Entry) (is : IsClaimAccepted p protocol prefix before.cell claim text events next.cell) (entries : next.entries ≡ before.entries ++ events) where
     abbrev orders_then : List MoveOrder
-    orders_then = step_orders p before.cell (claimed claim) is.movers
+    orders_then = step_orders p before.cell (claimed p claim) is.movers
 
     abbrev own_text : List ℕ
-    own_text = accepted_lines [] (claimed claim) is.late orders_then
+    own_text = accepted_lines [] (claimed p claim) is.late orders_then
 
     -- version 1 takes the report
-    report_answered : (number : ℕ) (line : List ℕ) → IsReportLine line (claimed claim) → CellAnswers p before number (Some line) own_text next
+    report_answered : (number : ℕ) (line : List ℕ) → IsReportLine line (claimed p claim) → CellAnswers p before number (Some line) own_text next
     report_answered number line is_line =
-        asked_line IsReportLine (CellReports p) before number line own_text (claimed claim) next (some_line line (claimed claim) is_line) is_line (record {
+        asked_line IsReportLine (CellReports p) before number line own_text (claimed p claim) next (some_line line (claimed p claim) is_line) is_line (record {
           more = events;
           answer = inr (record { movers = is.movers; step = is.step; late = is.late; late_is = is.late_is; text_is = refl; events_are = is.events_are; next_is = is.next_is });
           entries = entries;
@@ -54,7 +53,7 @@ module _ (p : PlannedShop) (protocol : Protocol) where
         → ((rest : List (Option (List ℕ))) → AreReportLines rest later → AnswersBy was_so next (number + 1) rest end) → ((others : List ℕ) → was_so others → is_so (own_text ++ others))
         → AnswersBy is_so before number reports end
     report_first end later number reports is_so was_so are behind with_own =
-        let says : (line : List ℕ) × (rest : List (Option (List ℕ))) × IsReportLine line (claimed claim) × AreReportLines rest (map OrderEntry orders_then ++ later) × (reports ≡ Some line ∷ rest) =
+        let says : (line : List ℕ) × (rest : List (Option (List ℕ))) × IsReportLine line (claimed p claim) × AreReportLines rest (map OrderEntry orders_then ++ later) × (reports ≡ Some line ∷ rest) =
         subst (λ (es : List Entry). AreReportLines reports (es ++ later)) is.events_are are in
         let others = behind says.1 (reports_behind orders_then later says.1 says.3) in
         subst (λ (ls : List (Option (List ℕ))). AnswersBy is_so before number ls end) (sym says.4)
@@ -86,7 +85,7 @@ module _ (p : PlannedShop) (protocol : Protocol) where
       → next.entries ≡ before.entries ++ events → HasTheSame next end rest → HasTheSame before end (text ++ rest)
   request_passed before next end number (ClaimRequest claim) text events rest (inl is) entries on =
       let name = refusal_word is.refusal in
-      let detail = refusal_detail protocol p before.cell (claimed claim) is.refusal in
+      let detail = refusal_detail protocol p before.cell (claimed p claim) is.refusal in
       let text_is : text ≡ refused_detail_line number name detail = is.text_is ∙ ap (λ (prefix : List ℕ). prefix ++ refused_detail_line number name detail) (no_prefix protocol) in
       passed before next end text rest (no_events before next events is.events_are is.next_is entries)
       (λ other keeps. subst (λ (t : List ℕ). KeepsReports p (t ++ rest) other) (sym text_is) (refused number name detail rest other (word_spaceless is.refusal) keeps)) on
@@ -95,7 +94,7 @@ module _ (p : PlannedShop) (protocol : Protocol) where
     entries = on.entries ∙ ap (λ (es : List Entry). es ++ on.more) entries ∙ append_assoc before.entries events on.more;
     same = λ first reports are. report_first [] before next claim text events is entries end on.more first reports (KeepsReports p (text ++ rest)) (KeepsReports p rest) are (on.same (first + 1))
         (λ others keeps. subst (λ (t : List ℕ). KeepsReports p (t ++ rest) (own_text [] before next claim text events is entries ++ others)) (sym is.text_is)
-        (accepted (claimed claim) is.late (printed_overdue protocol p before.cell (claimed claim)) (step_orders p before.cell (claimed claim) is.movers) (prints_end protocol p next.cell) rest others keeps));
+        (accepted (claimed p claim) is.late (printed_overdue protocol p before.cell (claimed p claim)) (step_orders p before.cell (claimed p claim) is.movers) (prints_end protocol p next.cell) rest others keeps));
   }
   request_passed before next end number Status text events rest is entries on =
       passed before next end text rest (no_events before next events is.events_are is.next_is entries)

@@ -10,10 +10,10 @@ use Rattle.shop_base.specs.Controlled.{AreMoves, orders_for, step_orders}
 use Rattle.shop_base.proofs.{CellFacts.ready_count-le, Keeping.{after_move-sound, after_report-sound, run-sound}}
 use Rattle.shop_base.proofs.ReadyCount.{after_moves-ready_count}
 use Rattle.cell_tables.specs.declared.entry.Entry.TheVariants.{Report as ReportEntry, Order as OrderEntry}
-use Rattle.cell_tables.specs.{Events.events_of, Moving.IsSpotOf}
+use Rattle.cell_tables.specs.{Claims.claimed, Events.events_of, Moving.IsSpotOf}
 use Rattle.event_lines.specs.{declared.details.Overdue.Overdue, Words.{written, line_of}, LogLines.IsEntryOf}
 use Rattle.event_lines.specs.EventLines.{logged_words, order_line, order_words, report_line, spot_word}
-use Rattle.event_lines.specs.{AnswerLines.{done_words, late_words}, Requests.claimed}
+use Rattle.event_lines.specs.AnswerLines.{done_words, late_words}
 use Rattle.cell_drive.specs.{OneRun.cell_after, ProtocolText.{end_part, lateness_part, printed_overdue, prints_end}}
 use Rattle.cell_drive.specs.{Refusals.standing_of, States.overdue_in}
 use Rattle.cell_drive.proofs.ShopEntries.{order_of_shop, report_of_shop}
@@ -81,7 +81,7 @@ module _ (p : PlannedShop) (shaped : IsWellShaped p) where
 pub answers_are_short : AnswersAreShort
 answers_are_short p protocol entries claim text more next shaped run is =
     let c = cell_after p entries in
-    let report = claimed claim in
+    let report = claimed p claim in
     let sound = run-sound p (events_of entries) shaped run in
     let can = is.step.can in
     let reported = after_report-sound p c report shaped sound can in
@@ -105,7 +105,7 @@ answers_are_short p protocol entries claim text more next shaped run is =
       shaped.shop.counts.few_jobs,
     )
   where
-    found : (version_2 : Bool) (o : Overdue) → cond version_2 (overdue_in p (cell_after p entries) (standing_of p (cell_after p entries) (claimed claim)) (at (claimed claim))) None ≡ Some o
-        → overdue_in p (cell_after p entries) (standing_of p (cell_after p entries) (claimed claim)) (at (claimed claim)) ≡ Some o
+    found : (version_2 : Bool) (o : Overdue) → cond version_2 (overdue_in p (cell_after p entries) (standing_of p (cell_after p entries) (claimed p claim)) (at (claimed p claim))) None ≡ Some o
+        → overdue_in p (cell_after p entries) (standing_of p (cell_after p entries) (claimed p claim)) (at (claimed p claim)) ≡ Some o
     found true o same = same
     found false o same = absurd (cc same)

@@ -1,6 +1,6 @@
 -- In every run the numbers that are printed of a cell are short.
-use Rattle.std.proofs.Common.{◌≡◌, ℕ, zero, suc, ◌+◌, ◌-◌, ◌<◌, ◌≤◌, nat_lt, length, Bool, true, false, cond, Option, Some, None, inl, inr, ltb-true, refl, sym, ap, subst, arith}
-use Rattle.std.proofs.lemmas.{Bool.cases_lt, List.{length-append, length-map}}
+use Rattle.std.proofs.Common.{◌≡◌, ℕ, zero, suc, ◌+◌, ◌-◌, ◌<◌, ◌≤◌, nat_lt, nat_eq, ◌&&◌, if◌then◌else◌, length, Bool, true, false, cond, Option, Some, None, inl, inr, ltb-true, refl, sym, ap, subst, arith}
+use Rattle.std.proofs.lemmas.{Bool.{cases_lt, cases_Bool, and_parts}, List.{length-append, length-map}}
 use Rattle.shop_base.specs.declared.{limits.TheConstants.MAX_MOMENT, report.Report.TheVariants.{Arrive, Finish, Clean}}
 use Rattle.shop_base.specs.Plan.{PlannedShop, IsWellShaped, jobs, machines, steps, machine_of, order, job_at}
 use Rattle.shop_base.specs.{Cell.{Cell, made, ready, since, entries, cleaning}, Move.target, Sound.IsSound}
@@ -8,18 +8,19 @@ use Rattle.shop_base.specs.Report.{ended, at}
 use Rattle.shop_base.proofs.{Keeping.run-sound, Visits.{stop_at, stop_past, visits_job}}
 use Rattle.text_lines.{specs.Lines.lines_of, proofs.NextLines.lines_of-le}
 use Rattle.byte_streams.specs.Lines.{within_limit}
+use Rattle.cell_tables.specs.{declared.claim.Claim.{Claim, TheVariants.{Report, FinishStep, CleanAfter, CleanAfterStep}}, Claims.claimed}
 use Rattle.cell_tables.specs.{declared.standing.Standing.TheVariants.Gone, Events.events_of}
-use Rattle.cell_tables.specs.Standings.{outside_standing, inside_standing, standing_after, job_standing, cleaning_standing, machine_standing}
+use Rattle.cell_tables.specs.Standings.{outside_standing, inside_standing, standing_after, job_standing, cleaning_standing, machine_standing, told_visit, latest_on}
 use Rattle.cell_control.specs.{declared.report_fault.ReportFault.ReportFault, Reports.IsOfShop}
-use Rattle.cell_control.specs.declared.report_fault.ReportFault.TheVariants.{WrongKind, WrongMachine, JobOutOfRange, MachineOutOfRange, MomentTooLarge, Backwards, NotExpected}
-use Rattle.event_lines.specs.declared.{details.Detail.{Detail, TheVariants.Nothing}, requests.Claim.Claim}
-use Rattle.event_lines.specs.{declared.requests.Claim.TheVariants.{Report, CleanAfter}, Requests.claimed}
+use Rattle.cell_control.specs.declared.report_fault.ReportFault.TheVariants.{WrongKind, WrongMachine, JobOutOfRange, MachineOutOfRange, StepOutOfRange, MomentTooLarge, Backwards, NotExpected}
+use Rattle.event_lines.specs.declared.details.Detail.{Detail, TheVariants.Nothing}
 use Rattle.cell_drive.specs.{declared.{protocol.Protocol.Protocol, refusals.Refusal.Refusal}, OneRun.cell_after}
 use Rattle.cell_drive.specs.{declared.refusals.Refusal.TheVariants.{Reason, Leap}, States.overdue_in}
-use Rattle.cell_drive.specs.Refusals.{IsClaimReason, IsRefusal, standing_of, reason_detail, printed_detail}
+use Rattle.cell_control.specs.Claims.{IsClaimReason}
+use Rattle.cell_drive.specs.Refusals.{IsRefusal, standing_of, reason_detail, printed_detail}
 use Rattle.cell_drive.proofs.Overdues.{AreFew, overdue_few}
 use Rattle.cell_drive.proofs.Refusing.{refused_of_shop, refused_reason, reported_of_shop}
-use Rattle.drive_laws.specs.ShortLinesLaw.{IsShort, IsMoment, IsShortSpot, IsShortStanding, IsShortDetail, StandingsAreShort, DetailsAreShort, OverdueIsShort, LineNumbersAreShort}
+use Rattle.drive_laws.specs.ShortLinesLaw.{IsShort, IsMoment, IsShortSpot, IsShortStep, IsShortVisit, IsShortStanding, IsShortDetail, StandingsAreShort, DetailsAreShort, OverdueIsShort, LineNumbersAreShort}
 use Rattle.drive_laws.proofs.BegunByLast.{AreBegunByLast, begun_in_run}
 use Rattle.shop_base.specs.declared.report.Report as reports
 
@@ -45,14 +46,32 @@ module _ (p : PlannedShop) (c : Cell) (shaped : IsWellShaped p) (sound : IsSound
   since_short : (j : ℕ) → IsMoment (since c j)
   since_short j = omega (arith, sound.begun j, sound.last_in_range)
 
+  -- a step that tells a visit, or none
+  shown_short : (again : Bool) (k : ℕ) → k < 1000 → IsShortStep (if again then Some k else None)
+  shown_short true k below = below
+  shown_short false k below = tt
+
+  few_steps : (j : ℕ) → j < jobs p → steps p j < 1000
+  few_steps j below = omega (arith, (shaped.shop.routes j below).few_steps)
+
+  visit_short : (j k : ℕ) → j < jobs p → k < 1000 → IsShortVisit (told_visit p j k)
+  visit_short j k below few = (short_job j below, shown_short p.shop.recirculates k few)
+
+  latest_short : (j m n : ℕ) → j < jobs p → latest_on p j m n < 1000
+  latest_short j m zero below = omega arith
+  latest_short j m (suc k) below = elim (cases_Bool (nat_lt k (steps p j) && nat_eq (machine_of p j k) m)) [
+    | inl is ↦ rw is (omega (arith, ltb-true k (steps p j) (and_parts (nat_lt k (steps p j)) (nat_eq (machine_of p j k) m) is).0, few_steps j below))
+    | inr is ↦ rw is (latest_short j m k below)
+  ]
+
   outside_short : (j : ℕ) (is_ready : Bool) → j < jobs p → IsShortStanding (outside_standing p c j is_ready)
   outside_short j true below = (short_job j below, target_short j below)
   outside_short j false below = (short_job j below, omega (arith, shaped.limits.releases j below))
 
   inside_short : (j k : ℕ) (is_ready : Bool) → j < jobs p → k < steps p j → IsShortStanding (inside_standing p c j k is_ready)
-  inside_short j k true below within = (short_job j below, short_stop j k below within, target_short j below)
+  inside_short j k true below within = (visit_short j k below (omega (arith, within, few_steps j below)), short_stop j k below within, target_short j below)
   inside_short j k false below within =
-      (short_job j below, short_stop j k below within, since_short j, omega (arith, sound.begun j, sound.last_in_range, ((shaped.shop.routes j below).steps k within).nominal))
+      (visit_short j k below (omega (arith, within, few_steps j below)), short_stop j k below within, since_short j, omega (arith, sound.begun j, sound.last_in_range, ((shaped.shop.routes j below).steps k within).nominal))
 
   entered_short : (j k : ℕ) (is : Bool) → j < jobs p → nat_lt k (steps p j) ≡ is → IsShortStanding (cond is (inside_standing p c j k (ready c j)) (Gone j (since c j)))
   entered_short j k true below is = inside_short j k (ready c j) below (ltb-true k (steps p j) is)
@@ -66,18 +85,20 @@ module _ (p : PlannedShop) (c : Cell) (shaped : IsWellShaped p) (sound : IsSound
   jobs_short j below = after_short j (made c j) below
 
   -- the job that entered a machine last
-  last_short : (m : ℕ) → m < machines p → 0 < length (entries c m) → IsShort (job_at p m (length (entries c m) - 1))
-  last_short m below some =
+  last_job : (m : ℕ) → m < machines p → 0 < length (entries c m) → job_at p m (length (entries c m) - 1) < jobs p
+  last_job m below some =
       let front = sound.in_order m in
       let within : length (entries c m) - 1 < length (order p m) = omega (arith, some, ap length front.1, length-append (entries c m) front.0) in
       let visit = (shaped.orders m below).on_route (length (entries c m) - 1) within in
-      short_job (job_at p m (length (entries c m) - 1)) (visits_job p (job_at p m (length (entries c m) - 1)) visit.0 m visit.1.visits)
+      visits_job p (job_at p m (length (entries c m) - 1)) visit.0 m visit.1.visits
 
   cleaning_short : (m : ℕ) (found : Option ℕ) → m < machines p → cleaning c m ≡ found → IsShortStanding (cleaning_standing p c m found)
   cleaning_short m None below is = short_machine m below
   cleaning_short m (Some from) below is =
       let early = begun m from is in
-      (short_machine m below, last_short m below (sound.cleaned_entered m from is), omega (arith, early, sound.last_in_range), omega (arith, early, sound.last_in_range, shaped.limits.cleanings m below))
+      let j = job_at p m (length (entries c m) - 1) in
+      let of_shop = last_job m below (sound.cleaned_entered m from is) in
+      (short_machine m below, visit_short j (latest_on p j m (made c j)) of_shop (latest_short j m (made c j) of_shop), omega (arith, early, sound.last_in_range), omega (arith, early, sound.last_in_range, shaped.limits.cleanings m below))
 
   machines_short : (m : ℕ) → m < machines p → IsShortStanding (machine_standing p c m)
   machines_short m below = cleaning_short m (cleaning c m) below refl
@@ -95,23 +116,26 @@ module _ (p : PlannedShop) (c : Cell) (shaped : IsWellShaped p) (sound : IsSound
 
   backwards_last : (claim : Claim) (last : ℕ) → IsClaimReason p c claim (Backwards last) → last ≡ c.last
   backwards_last (Report report) last is = is.3
+  backwards_last (FinishStep job step at) last is = is.3
   backwards_last (CleanAfter machine job at) last is = is.3
+  backwards_last (CleanAfterStep machine job step at) last is = is.3
 
   module _ (protocol : Protocol) (claim : Claim) where
-    reason_short : (reason : ReportFault) → IsRefusal protocol p c claim (Reason reason) → IsShortDetail (reason_detail p c (claimed claim) reason)
+    reason_short : (reason : ReportFault) → IsRefusal protocol p c claim (Reason reason) → IsShortDetail (reason_detail p c (claimed p claim) reason)
     reason_short JobOutOfRange is = tt
     reason_short MachineOutOfRange is = tt
+    reason_short StepOutOfRange is = tt
     reason_short MomentTooLarge is = tt
     reason_short (Backwards last) is = omega (arith, backwards_last claim last (refused_reason p c protocol claim (Backwards last) is), sound.last_in_range)
-    reason_short NotExpected is = own_standing_short (claimed claim) (refused_of_shop p c protocol claim NotExpected is refl)
-    reason_short WrongKind is = own_standing_short (claimed claim) (refused_of_shop p c protocol claim WrongKind is refl)
-    reason_short (WrongMachine actual) is = own_standing_short (claimed claim) (refused_of_shop p c protocol claim (WrongMachine actual) is refl)
+    reason_short NotExpected is = own_standing_short (claimed p claim) (refused_of_shop p c protocol claim NotExpected is refl)
+    reason_short WrongKind is = own_standing_short (claimed p claim) (refused_of_shop p c protocol claim WrongKind is refl)
+    reason_short (WrongMachine actual) is = own_standing_short (claimed p claim) (refused_of_shop p c protocol claim (WrongMachine actual) is refl)
 
     base_short : (is : Bool) → protocol.from ≤ MAX_MOMENT → IsMoment (cond is protocol.from c.last)
     base_short true from = omega (arith, from)
     base_short false from = omega (arith, sound.last_in_range)
 
-    refusal_short : (refusal : Refusal) → protocol.from ≤ MAX_MOMENT → IsRefusal protocol p c claim refusal → IsShortDetail (printed_detail protocol p c (claimed claim) refusal)
+    refusal_short : (refusal : Refusal) → protocol.from ≤ MAX_MOMENT → IsRefusal protocol p c claim refusal → IsShortDetail (printed_detail protocol p c (claimed p claim) refusal)
     refusal_short (Reason reason) from is = reason_short reason is
     refusal_short Leap from is = base_short (nat_lt c.last protocol.from) from
 
@@ -133,7 +157,7 @@ details_are_short p protocol es claim refusal shaped run from is =
     let c = cell_after p es in
     let sound = run-sound p (events_of es) shaped run in
     let begun = begun_in_run p shaped (events_of es) run in
-    detail_short p c shaped sound begun protocol claim protocol.version_2 (printed_detail protocol p c (claimed claim) refusal) (refusal_short p c shaped sound begun protocol claim refusal from is)
+    detail_short p c shaped sound begun protocol claim protocol.version_2 (printed_detail protocol p c (claimed p claim) refusal) (refusal_short p c shaped sound begun protocol claim refusal from is)
 
 pub overdue_is_short : OverdueIsShort
 overdue_is_short p es report overdue shaped run can same =

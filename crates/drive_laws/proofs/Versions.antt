@@ -4,9 +4,9 @@ use Rattle.std.specs.Prelude.{slice_get}
 use Rattle.shop_base.specs.{declared.move_order.MoveOrder.MoveOrder, Plan.PlannedShop, Cell.Cell}
 use Rattle.shop_base.specs.Controlled.{step_orders}
 use Rattle.byte_streams.specs.Answering.{AnswerAll}
-use Rattle.cell_tables.specs.declared.entry.Entry.{Entry}
+use Rattle.cell_tables.specs.declared.{claim.Claim.TheVariants.{Report, FinishStep, CleanAfter, CleanAfterStep}, entry.Entry.Entry}
 use Rattle.event_lines.specs.declared.details.{Detail.{Detail, TheVariants.Nothing}, Overdue.Overdue}
-use Rattle.event_lines.specs.declared.requests.{Request.Request, Claim.TheVariants.{Report, CleanAfter}}
+use Rattle.event_lines.specs.declared.requests.Request.{Request}
 use Rattle.event_lines.specs.declared.requests.Request.TheVariants.{Claim as ClaimRequest, Status}
 use Rattle.event_lines.specs.{AnswerLines.refused_line, StandingLines.refused_detail_line, SentLines.cell_prefix}
 use Rattle.cell_drive.specs.{Refusals.{refusal_word, refusal_detail}, AnswerText.DrivenCell, ManyCells.HubCell}
@@ -84,7 +84,9 @@ module _ {S Q : Type 0} (asks fewer : List ℕ → Q → Type 0) (answers others
 
 asks_fewer : (line : List ℕ) (request : Request) → AsksFor false line request → AsksFor true line request
 asks_fewer line (ClaimRequest (Report report)) asked = asked
+asks_fewer line (ClaimRequest (FinishStep job step at)) asked = absurd asked
 asks_fewer line (ClaimRequest (CleanAfter machine job at)) asked = absurd asked
+asks_fewer line (ClaimRequest (CleanAfterStep machine job step at)) asked = absurd asked
 asks_fewer line Status asked = absurd asked
 
 module _ (p : PlannedShop) (max_gap : Option ℕ) (from : ℕ) where
@@ -94,7 +96,9 @@ module _ (p : PlannedShop) (max_gap : Option ℕ) (from : ℕ) where
   asked_in_place start number line (ClaimRequest (Report report)) text end of asked is =
       let one = report_in_place p max_gap from [] IsPlainText refused accepted start.cell number report text is.more end.cell is.answer in
       record { other = one.other; answer = record { what = ClaimRequest (Report report); asked = asked; answer = record { more = is.more; answer = one.answer; entries = is.entries } }; plain = one.plain }
+  asked_in_place start number line (ClaimRequest (FinishStep job step at)) text end of asked is = let no = (of line (ClaimRequest (FinishStep job step at)) refl asked).1 in absurd (cc)
   asked_in_place start number line (ClaimRequest (CleanAfter machine job at)) text end of asked is = let no = (of line (ClaimRequest (CleanAfter machine job at)) refl asked).1 in absurd (cc)
+  asked_in_place start number line (ClaimRequest (CleanAfterStep machine job step at)) text end of asked is = let no = (of line (ClaimRequest (CleanAfterStep machine job step at)) refl asked).1 in absurd (cc)
   asked_in_place start number line Status text end of asked is = let no = (of line Status refl asked).1 in absurd (cc)
 
 pub version_2_only_adds : Version2OnlyAdds
@@ -122,12 +126,16 @@ module _ (max_gap : Option ℕ) (from : ℕ) where
   request_in_place start number line cell (ClaimRequest (Report report)) text end of asked is =
       let one = answered_in_place (slice_get start cell) start number cell report text end is in
       record { other = one.other; answer = record { what = record { cell = cell; request = ClaimRequest (Report report) }; asked = asked; answer = one.answer }; plain = one.plain }
+  request_in_place start number line cell (ClaimRequest (FinishStep job step at)) text end of asked is = let no = (of line cell (ClaimRequest (FinishStep job step at)) refl asked).1 in absurd (cc)
   request_in_place start number line cell (ClaimRequest (CleanAfter machine job at)) text end of asked is = let no = (of line cell (ClaimRequest (CleanAfter machine job at)) refl asked).1 in absurd (cc)
+  request_in_place start number line cell (ClaimRequest (CleanAfterStep machine job step at)) text end of asked is = let no = (of line cell (ClaimRequest (CleanAfterStep machine job step at)) refl asked).1 in absurd (cc)
   request_in_place start number line cell Status text end of asked is = let no = (of line cell Status refl asked).1 in absurd (cc)
 
 cell_asks_fewer : (line : List ℕ) (cell : ℕ) (request : Request) → AsksCell false line cell request → AsksCell true line cell request
 cell_asks_fewer line cell (ClaimRequest (Report report)) asked = asked
+cell_asks_fewer line cell (ClaimRequest (FinishStep job step at)) asked = absurd asked
 cell_asks_fewer line cell (ClaimRequest (CleanAfter machine job at)) asked = absurd asked
+cell_asks_fewer line cell (ClaimRequest (CleanAfterStep machine job step at)) asked = absurd asked
 cell_asks_fewer line cell Status asked = absurd asked
 
 pub version_2_only_adds_for_cells : Version2OnlyAddsForCells

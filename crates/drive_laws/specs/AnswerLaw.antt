@@ -3,8 +3,9 @@ use Rattle.std.specs.Prelude.{◌≡◌, ℕ, List, [], ◌∷◌, ◌++◌, Boo
 use Rattle.shop_base.specs.{Plan.PlannedShop, Plan.IsWellShaped, Cell.Cell, Cell.start, Run.after}
 use Rattle.cell_tables.specs.{declared.entry.Entry.Entry, Events.event_of}
 use Rattle.cell_tables.specs.declared.entry.Entry.TheVariants.{Report as ReportEntry, Order as OrderEntry}
-use Rattle.event_lines.specs.{declared.requests.Claim.Claim, EventLines.entry_lines, SentLines.IsReportLine}
-use Rattle.event_lines.specs.{declared.requests.Request.TheVariants.Claim as ClaimRequest, Requests.claimed}
+use Rattle.cell_tables.specs.{declared.claim.Claim.Claim, Claims.claimed}
+use Rattle.event_lines.specs.{EventLines.entry_lines, SentLines.IsReportLine}
+use Rattle.event_lines.specs.declared.requests.Request.TheVariants.{Claim as ClaimRequest}
 use Rattle.cell_drive.specs.{declared.protocol.Protocol.Protocol, AnswerText.AreAnswersTo, CutLogs.IsCutLogOf}
 use Rattle.cell_drive.specs.{LateEvents.AreLate, OneRun.cell_after, Refusals.IsAdmissible, Replay.replay_lines}
 use Rattle.cell_drive.specs.ProtocolText.{AsksFor, AreProtocolAnswers, prints_end, end_part}
@@ -26,7 +27,7 @@ ReplayAsAnswered = (p : PlannedShop) (log : List (List ℕ)) (entries : List Ent
 abbrev pub AreClaimLines : PlannedShop → Protocol → Cell → List (Option (List ℕ)) → List Entry → Type 0
 AreClaimLines p protocol c lines [] = lines ≡ []
 AreClaimLines p protocol c lines (ReportEntry report ∷ entries) =
-    (line : List ℕ) × (claim : Claim) × (rest : List (Option (List ℕ))) × AsksFor protocol.version_2 line (ClaimRequest claim) × (claimed claim ≡ report) × IsAdmissible protocol p c claim
+    (line : List ℕ) × (claim : Claim) × (rest : List (Option (List ℕ))) × AsksFor protocol.version_2 line (ClaimRequest claim) × (claimed p claim ≡ report) × IsAdmissible protocol p c claim
     × AreClaimLines p protocol (after p c (event_of (ReportEntry report))) rest entries × (lines ≡ Some line ∷ rest)
 AreClaimLines p protocol c lines (OrderEntry order ∷ entries) = AreClaimLines p protocol (after p c (event_of (OrderEntry order))) lines entries
 

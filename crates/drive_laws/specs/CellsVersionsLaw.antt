@@ -3,14 +3,15 @@ use Rattle.std.specs.Prelude.{◌≡◌, ℕ, List, [], ◌∷◌, ◌++◌, Boo
 use Rattle.shop_base.specs.declared.move_order.MoveOrder.{MoveOrder}
 use Rattle.byte_streams.specs.Answering.{AnswerAll}
 use Rattle.event_lines.specs.{declared.details.Detail.Detail, declared.details.Overdue.Overdue, SentLines.cell_prefix}
-use Rattle.event_lines.specs.{declared.requests.Claim.TheVariants.Report, declared.requests.Request.Request}
+use Rattle.cell_tables.specs.declared.claim.Claim.TheVariants.{Report}
+use Rattle.event_lines.specs.declared.requests.Request.{Request}
 use Rattle.event_lines.specs.{declared.requests.Request.TheVariants.Claim as ClaimRequest, AnswerLines.refused_line}
 use Rattle.event_lines.specs.{StandingLines.refused_detail_line, Requests.IsCellRequest}
 use Rattle.cell_drive.specs.{ManyCells.HubCell, ProtocolText.acceptance_lines, ProtocolCells.ProtocolCellsAnswer}
 use Rattle.drive_laws.specs.VersionsLaw.{in_version}
 use Rattle.shop_base.specs.declared.report.Report as reports
 
--- the line asks of no cell what version 1 doesn't have: neither `status` nor `clean M J T`
+-- the line asks of no cell what version 1 doesn't have: neither `status`, nor `clean M J T`, `finish J.K T` or `clean M J.K T`
 abbrev pub AsksInVersion1 : Option (List ℕ) → Type 0
 AsksInVersion1 line = (words : List ℕ) (cell : ℕ) (request : Request) → line ≡ Some words → IsCellRequest words cell request → (report : reports.Report) × (request ≡ ClaimRequest (Report report))
 

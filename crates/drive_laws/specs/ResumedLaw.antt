@@ -1,12 +1,11 @@
 -- The laws of runs that were recovered.
 use Rattle.std.specs.Prelude.{◌≡◌, ℕ, List, ◌∷◌, ◌++◌, Bool, true, false, Option, Some}
 use Rattle.shop_base.specs.{declared.report.Report.Report, Plan.PlannedShop, Plan.IsWellShaped}
-use Rattle.cell_tables.specs.{declared.entry.Entry.Entry, declared.entry.Entry.TheVariants.Report as ReportEntry}
-use Rattle.cell_control.specs.OnceLaw.{NamedEnd, ReportsEnd}
+use Rattle.cell_tables.specs.{declared.claim.Claim.Claim, declared.entry.Entry.Entry, declared.entry.Entry.TheVariants.Report as ReportEntry}
+use Rattle.cell_control.specs.{Claims.CanClaim, OnceLaw.NamedEnd, OnceLaw.ReportsEnd, OnceLaw.Names}
 use Rattle.byte_streams.specs.Answering.{AnswerAll}
-use Rattle.event_lines.specs.declared.requests.Claim.{Claim}
-use Rattle.cell_drive.specs.{declared.protocol.Protocol.Protocol, Refusals.CanClaim, AnswerText.DrivenCell}
-use Rattle.cell_drive.specs.{OneRun.cell_after, ProtocolText.ProtocolAnswers, ProtocolLaw.named}
+use Rattle.cell_drive.specs.{declared.protocol.Protocol.Protocol, AnswerText.DrivenCell}
+use Rattle.cell_drive.specs.{OneRun.cell_after, ProtocolText.ProtocolAnswers}
 use Rattle.cell_drive.specs.Resuming.{again_text, driven_so_far, IsRunToRest}
 use Rattle.drive_laws.specs.VersionsLaw.{AreOfVersion1, IsPlainText, in_version}
 
@@ -14,7 +13,7 @@ use Rattle.drive_laws.specs.VersionsLaw.{AreOfVersion1, IsPlainText, in_version}
 abbrev pub NothingOfALogIsAcceptedAgain : Type 0
 NothingOfALogIsAcceptedAgain = (p : PlannedShop) (protocol : Protocol) (before after : List Entry) (report : Report) (lines : List (Option (List ℕ))) (number : ℕ) (text : List ℕ) (end : DrivenCell) (again : Claim) (ended : NamedEnd)
     → IsWellShaped p → IsRunToRest p (before ++ ReportEntry report ∷ after) → ReportsEnd p (cell_after p before) report ended
-    → AnswerAll (ProtocolAnswers p protocol) (driven_so_far p (before ++ ReportEntry report ∷ after)) number lines text end → named again ≡ Some ended → CanClaim p end.cell again → ⊥
+    → AnswerAll (ProtocolAnswers p protocol) (driven_so_far p (before ++ ReportEntry report ∷ after)) number lines text end → Names p again ended → CanClaim p end.cell again → ⊥
 
 -- where the lines are those that version 1 has, what is written in version 1 is what is written in version 2 without what that adds, from the events that are written again on
 abbrev pub ResumingOnlyAdds : Type 0

@@ -1,15 +1,16 @@
 -- The law that a line of version 2 has at most 128 bytes.
-use Rattle.std.specs.Prelude.{◌≡◌, ℕ, ◌<◌, ◌≤◌, List, [], ◌++◌, length, Some}
+use Rattle.std.specs.Prelude.{◌≡◌, ℕ, ◌<◌, ◌≤◌, List, [], ◌++◌, length, Option, Some, None}
 use Rattle.shop_base.specs.{declared.limits.TheConstants.MAX_MOMENT, declared.report.Report.Report, Cell.Cell}
 use Rattle.shop_base.specs.{declared.move_order.Spot.Spot, Report.at, Report.CanReport, Run.IsRun}
 use Rattle.shop_base.specs.declared.move_order.Spot.TheVariants.{Out, At}
 use Rattle.shop_base.specs.Plan.{PlannedShop, IsWellShaped, jobs, machines}
 use Rattle.text_lines.specs.declared.limits.TheConstants.{MAX_INPUT}
 use Rattle.byte_streams.specs.Lines.{input_lines}
-use Rattle.cell_tables.specs.{declared.entry.Entry.Entry, declared.standing.Standing.Standing, Events.events_of}
+use Rattle.cell_tables.specs.{declared.claim.Claim.Claim, Claims.claimed}
+use Rattle.cell_tables.specs.{declared.entry.Entry.Entry, declared.standing.{Standing.Standing, Visit.Visit}, Events.events_of}
 use Rattle.cell_tables.specs.declared.standing.Standing.TheVariants.{Awaited, Outside, Worked, Done, Gone, Cleaned, Clean}
 use Rattle.cell_tables.specs.Standings.{job_standing, machine_standing}
-use Rattle.event_lines.specs.{declared.requests.Claim.Claim, declared.details.Detail.Detail, Requests.claimed}
+use Rattle.event_lines.specs.declared.details.Detail.{Detail}
 use Rattle.event_lines.specs.declared.details.Detail.TheVariants.{Nothing, Last, Stands}
 use Rattle.event_lines.specs.declared.details.Overdue.{Overdue}
 use Rattle.event_lines.specs.StandingLines.{unfinished_standing_line, refused_detail_line, late_overdue_line}
@@ -29,14 +30,22 @@ abbrev pub IsShortSpot : Spot → Type 0
 IsShortSpot Out = Unit {0}
 IsShortSpot (At machine) = IsShort machine
 
+-- so has that of a step, and a visit is told by it or not
+abbrev pub IsShortStep : Option ℕ → Type 0
+IsShortStep None = Unit {0}
+IsShortStep (Some step) = IsShort step
+
+abbrev pub IsShortVisit : Visit → Type 0
+IsShortVisit visit = IsShort visit.job × IsShortStep visit.step
+
 -- so it is with all numbers of a state
 abbrev pub IsShortStanding : Standing → Type 0
 IsShortStanding (Awaited job due) = IsShort job × IsMoment due
 IsShortStanding (Outside job to) = IsShort job × IsShortSpot to
-IsShortStanding (Worked job machine since due) = IsShort job × IsShort machine × IsMoment since × IsMoment due
-IsShortStanding (Done job machine to) = IsShort job × IsShort machine × IsShortSpot to
+IsShortStanding (Worked visit machine since due) = IsShortVisit visit × IsShort machine × IsMoment since × IsMoment due
+IsShortStanding (Done visit machine to) = IsShortVisit visit × IsShort machine × IsShortSpot to
 IsShortStanding (Gone job at) = IsShort job × IsMoment at
-IsShortStanding (Cleaned machine job since due) = IsShort machine × IsShort job × IsMoment since × IsMoment due
+IsShortStanding (Cleaned machine visit since due) = IsShort machine × IsShortVisit visit × IsMoment since × IsMoment due
 IsShortStanding (Clean machine) = IsShort machine
 
 -- and with those that are printed of a refusal
@@ -67,7 +76,7 @@ StandingsAreShort = (p : PlannedShop) (entries : List Entry) → IsWellShaped p 
 -- and those that are printed of a refusal
 abbrev pub DetailsAreShort : Type 0
 DetailsAreShort = (p : PlannedShop) (protocol : Protocol) (entries : List Entry) (claim : Claim) (refusal : Refusal) → IsWellShaped p → IsRun p (events_of entries) → protocol.from ≤ MAX_MOMENT
-    → IsRefusal protocol p (cell_after p entries) claim refusal → IsShortDetail (refusal_detail protocol p (cell_after p entries) (claimed claim) refusal)
+    → IsRefusal protocol p (cell_after p entries) claim refusal → IsShortDetail (refusal_detail protocol p (cell_after p entries) (claimed p claim) refusal)
 
 -- and those that are printed as overdue as a report comes
 abbrev pub OverdueIsShort : Type 0

@@ -104,9 +104,9 @@ pub fn a_cut_log_has_its_orders()
 
 /// Let a log be that of a controlled run, and let the lines of an input be the reports of that run, one after another.
 /// The events that are written again, and then the orders that are due, are what `drive` answers to those lines. The
-/// mark between them isn't. So it is by each protocol by which those lines are accepted, where a cleaning may be
-/// reported by its job; but `done T`, which the protocol may ask for at once behind the last order of a run, isn't
-/// written again.
+/// mark between them isn't. So it is by each protocol by which those lines are accepted, where an operation may be
+/// reported by its step, and a cleaning by its job or by the step before it; but `done T`, which the protocol may ask
+/// for at once behind the last order of a run, isn't written again.
 pub fn replay_as_answered()
     ensures plain { ReplayAsAnswered }
     ensures stated { ReplayInProtocol }
@@ -180,8 +180,8 @@ pub fn plainly_as_ever()
     ensures replayed_part { PlainReplay }
 {}
 
-/// Lines among which there is neither `status` nor `clean M J T` lead in both versions to the same cell, with the same
-/// events. The answers of version 1 are those of version 2 without what stands after a refusal's name or a late
+/// Lines among which there is neither `status`, nor `clean M J T`, `finish J.K T` or `clean M J.K T` lead in both
+/// versions to the same cell, with the same events. The answers of version 1 are those of version 2 without what stands after a refusal's name or a late
 /// report's moment, and without the `done` that comes at once. So it is with what `resume` writes, from the first event
 /// that it writes again, and with what several cells answer, of whose refusals version 1 doesn't say their numbers
 /// either. Whatever the lines are, by any protocol, from the start or after a log: what version 1 answers to just the
@@ -198,9 +198,10 @@ pub fn version_2_only_adds()
     ensures lines { EachReportHasALine }
 {}
 
-/// However often the lines of an arrival, of a finish or of a cleaning after a job are sent to a driven cell, and with
-/// whatever moments, it takes one of them at most. Once there is such a report in a run, it takes none: so in the run
-/// of each cell of a hub, and in one that was recovered from a log.
+/// However often the lines of an arrival, of the finish of a step or of the cleaning after a step are sent to a driven
+/// cell, and with whatever moments, it takes one of them at most; so it does of a finish on a machine and of a cleaning
+/// after a job, where the job visits the machine once. Once there is such a report in a run, it takes none: so in the
+/// run of each cell of a hub, and in one that was recovered from a log.
 #[tactic(auto, using(crate::proofs::LawProofs::of_nothing_is_accepted_twice))]
 pub fn nothing_is_accepted_twice()
     ensures driven { NothingIsAcceptedTwice }
@@ -209,11 +210,11 @@ pub fn nothing_is_accepted_twice()
 {}
 
 /// Let what has ended so far on a floor be given, in one run: each arrival, each operation, and each cleaning after a
-/// job, and at which moment. Let a program report to a driven cell nothing but these, each as often as it likes, in any
-/// order, and with any moment from its end on; `clean M T`, which names no job, it doesn't send. Then each order so far
-/// is right. What its job did where it stands has ended, each job that was ordered onto the same machine before has
-/// been ordered away from it, and the cleaning after each of these has ended, if there is one; and no later than at the
-/// moment of the order. So it is in any run whose reports say what has ended, in one that was recovered from the log of
+/// step of a job, and at which moment. Let a program report to a driven cell nothing but these, each as often as it
+/// likes, in any order, and with any moment from its end on: by its step, or by its machine and job where the job visits
+/// the machine once. It doesn't send `clean M T`, which names no job. Then each order so far is right. What its job did
+/// where it stands has ended, each job that was ordered onto the same machine before has been ordered away from it, and
+/// the cleaning after each of these visits has ended, if there is one; and no later than at the moment of the order. So it is in any run whose reports say what has ended, in one that was recovered from the log of
 /// such a run, and in each cell of a hub. That parts stand where they were ordered to is up to the floor.
 #[tactic(auto, using(crate::proofs::LawProofs::of_nothing_is_ordered_wrongly))]
 pub fn nothing_is_ordered_wrongly()

@@ -1,25 +1,25 @@
 -- What a cell that is driven by a protocol answers, as a log gets it.
-use Rattle.std.proofs.Common.{◌≡◌, ℕ, zero, suc, ◌+◌, ◌-◌, ◌^◌, ◌<◌, ◌≤◌, ◌==◌, nat_lt, List, [], ◌∷◌, ◌++◌, length, codes, Option, None, Some, Bool, true, false, cond, inl, inr, refl, sym, ap, ◌∙◌, subst, arith}
-use Rattle.std.proofs.lemmas.{Bool.{cases_lt, le-ltb, lt-ltb, ltb-true}, List.get_or_past}
+use Rattle.std.proofs.Common.{◌≡◌, ℕ, zero, suc, ◌+◌, ◌-◌, ◌^◌, ◌<◌, ◌≤◌, ◌==◌, nat_lt, nat_eq, ◌&&◌, if◌then◌else◌, List, [], ◌∷◌, ◌++◌, length, codes, Option, None, Some, Bool, true, false, cond, inl, inr, refl, sym, ap, ◌∙◌, subst, arith}
+use Rattle.std.proofs.lemmas.{Bool.{cases_lt, cases_Bool, and_parts, le-ltb, lt-ltb, ltb-true}, List.get_or_past}
 use Rattle.shop_base.specs.declared.report.Report.{Report, TheVariants.{Arrive, Finish, Clean as CleanReport}}
 use Rattle.shop_base.specs.{declared.limits.TheConstants.MAX_MOMENT, Sound.IsSound, Controlled.step_orders, Report.at}
 use Rattle.shop_base.specs.Plan.{nominal, clean, PlannedShop, IsWellShaped, jobs, machines, steps, machine_of, order, job_at, release}
 use Rattle.shop_base.specs.{ReportsLeft.reports_left, Cell.{Cell, made, ready, since, entries, cleaning}}
 use Rattle.shop_base.proofs.Visits.{visits_job, visits_machine}
-use Rattle.cell_tables.specs.declared.entry.Entry.{Entry, TheVariants.Report as ReportEntry}
+use Rattle.cell_tables.specs.{Claims.claimed, declared.entry.Entry.{Entry, TheVariants.Report as ReportEntry}}
 use Rattle.cell_tables.specs.declared.standing.Standing.{Standing, TheVariants.Gone}
-use Rattle.cell_tables.specs.Standings.{job_standing, machine_standing, is_overdue, outside_standing, inside_standing, standing_after, cleaning_standing}
-use Rattle.event_lines.specs.StandingLines.{since_words, standing_words, others_words, unfinished_standing_line, refused_detail_line}
+use Rattle.cell_tables.specs.Standings.{job_standing, machine_standing, is_overdue, outside_standing, inside_standing, standing_after, cleaning_standing, latest_on}
+use Rattle.event_lines.specs.StandingLines.{since_words, told_word, standing_words, others_words, unfinished_standing_line, refused_detail_line}
 use Rattle.event_lines.specs.declared.requests.Request.{Request, TheVariants.{Claim as ClaimRequest, Status}}
 use Rattle.event_lines.specs.{EventLines.{report_line, order_lines}, AnswerLines.{done_line, unfinished_line}}
-use Rattle.event_lines.specs.{declared.details.Overdue.Overdue, Words.Word, LogLines.IsEntryOf, Requests.claimed}
+use Rattle.event_lines.specs.{declared.details.Overdue.Overdue, Words.Word, LogLines.IsEntryOf}
 use Rattle.cell_drive.specs.{declared.protocol.Protocol.Protocol, AnswerText.DrivenCell, LineAnswers.closing_line}
 use Rattle.cell_drive.specs.States.{is_over, standing_part, texts_from, jobs_text, machines_text, state_text, overdue_in}
 use Rattle.cell_drive.specs.ProtocolText.{RequestAnswer, ProtocolAnswers, lateness_part, end_part, printed_overdue, prints_end}
 use Rattle.cell_drive.specs.Refusals.{refusal_word, refusal_detail, standing_of}
 use Rattle.cell_drive.proofs.{ProtocolParses.word_spaceless, Overdues.{AreFew, overdue_few}, ShopEntries.report_of_shop}
 use Rattle.cell_drive.proofs.Replied.{no_prefix}
-use Rattle.run_journal.specs.TornEnds.{AreNarrow}
+use Rattle.run_journal.specs.TornEnds.{IsNarrow, AreNarrow}
 use Rattle.run_journal.proofs.Formed.{IsFormed, formed-none, formed-both}
 use Rattle.run_journal.proofs.FormedLines.{formed-late, formed-late_overdue, formed-refused, formed-refused_detail, formed-done, formed-unfinished, formed-standing}
 use Rattle.logged_drive.proofs.FormedAnswers.{moment_fits, late_fits, job_fits, machine_fits, step_formed, report_formed}
@@ -72,12 +72,28 @@ module _ (p : PlannedShop) (shaped : IsWellShaped p) (c : Cell) (at : ℕ) (in_r
   since_fits : (from time : ℕ) → from + time ≤ MAX_MOMENT → AreNarrow (since_words from (from + time))
   since_fits from time in_time = (refl, (moment_fits from (omega (arith, in_time)), (refl, (moment_fits (from + time) in_time, tt))))
 
+  -- a visit by its job alone, or by its step too
+  shown_fits : (again : Bool) (j k : ℕ) → j < jobs p → k < 1000 → IsNarrow (told_word j (if again then Some k else None))
+  shown_fits true j k within few = ((omega (arith, within, shaped.shop.counts.few_jobs), omega (arith, few)), omega (arith, within, shaped.shop.counts.few_jobs), omega (arith, few))
+  shown_fits false j k within few = job_fits p shaped j within
+
+  few_steps : (j : ℕ) → j < jobs p → steps p j < 1000
+  few_steps j within = omega (arith, (shaped.shop.routes j within).few_steps)
+
+  latest_few : (j m n : ℕ) → j < jobs p → latest_on p j m n < 1000
+  latest_few j m zero within = omega arith
+  latest_few j m (suc k) within = elim (cases_Bool (nat_lt k (steps p j) && nat_eq (machine_of p j k) m)) [
+    | inl is ↦ rw is (omega (arith, ltb-true k (steps p j) (and_parts (nat_lt k (steps p j)) (nat_eq (machine_of p j k) m) is).0, few_steps j within))
+    | inr is ↦ rw is (latest_few j m k within)
+  ]
+
   inside_fits : (j k : ℕ) (is_ready : Bool) → j < jobs p → k < steps p j → FitsAt at (inside_standing p c j k is_ready)
   inside_fits j k true within on is = absurd (cc is)
   inside_fits j k false within on is =
       let due_range : since c j + nominal p j k ≤ MAX_MOMENT = before_at (since c j + nominal p j k) is in
       let machine = machine_fits p shaped (machine_of p j k) (visits_machine p j k (machine_of p j k) shaped (record { within = on; here = refl })) in
-      (refl, (job_fits p shaped j within, (refl, (refl, (machine, since_fits (since c j) (nominal p j k) due_range)))))
+      let visit = shown_fits p.shop.recirculates j k within (omega (arith, on, few_steps j within)) in
+      (refl, (visit, (refl, (refl, (machine, since_fits (since c j) (nominal p j k) due_range)))))
 
   after_fits : (j n : ℕ) → j < jobs p → FitsAt at (standing_after p c j n)
   after_fits j zero within = outside_fits j (ready c j) within
@@ -101,8 +117,10 @@ module _ (p : PlannedShop) (shaped : IsWellShaped p) (c : Cell) (at : ℕ) (in_r
   cleaning_fits : (m : ℕ) (cleaned : Option ℕ) → m < machines p → FitsAt at (cleaning_standing p c m cleaned)
   cleaning_fits m None within is = absurd (cc is)
   cleaning_fits m (Some from) within is =
+      let j = job_at p m (length (entries c m) - 1) in
       let job = job_in_order m (length (entries c m) - 1) within in
-      (refl, (machine_fits p shaped m within, (refl, (refl, (refl, (job_fits p shaped (job_at p m (length (entries c m) - 1)) job, since_fits from (clean p m) (before_at (from + clean p m) is)))))))
+      let visit = shown_fits p.shop.recirculates j (latest_on p j m (made c j)) job (latest_few j m (made c j) job) in
+      (refl, (machine_fits p shaped m within, (refl, (refl, (refl, (visit, since_fits from (clean p m) (before_at (from + clean p m) is)))))))
 
   -- of a report's own job or machine
   own_fits : (report : Report) → IsEntryOf p (ReportEntry report) → FitsAt at (standing_of p c report)
@@ -145,11 +163,11 @@ module _ (p : PlannedShop) (shaped : IsWellShaped p) (protocol : Protocol) where
   request_formed : (before : DrivenCell) (number : ℕ) (request : Request) (text : List ℕ) (end : DrivenCell) (more : List Entry) → IsSound p before.cell
       → RequestAnswer p protocol [] before.cell number request text more end.cell → IsFormed text
   request_formed before number (ClaimRequest claim) text end more sound (inl is) =
-      let refused = refused_detail_line number (refusal_word is.refusal) (refusal_detail protocol p before.cell (claimed claim) is.refusal) in
+      let refused = refused_detail_line number (refusal_word is.refusal) (refusal_detail protocol p before.cell (claimed p claim) is.refusal) in
       subst IsFormed (sym (is.text_is ∙ ap (λ (prefix : List ℕ). prefix ++ refused) (no_prefix protocol)))
-      (formed-refused_detail number (refusal_word is.refusal) (refusal_detail protocol p before.cell (claimed claim) is.refusal) (word_spaceless is.refusal))
+      (formed-refused_detail number (refusal_word is.refusal) (refusal_detail protocol p before.cell (claimed p claim) is.refusal) (word_spaceless is.refusal))
   request_formed before number (ClaimRequest claim) text end more sound (inr is) =
-      let report = claimed claim in
+      let report = claimed p claim in
       let c = before.cell in
       let moment = at report in
       let in_range = is.step.can.moment.in_range in

@@ -1,6 +1,6 @@
 use Rattle.std.proofs.Common.{◌≡◌, ap, inl, refl, ◌∙◌}
 use Rattle.shop_base.specs.{declared.report.Report.Report, Plan.PlannedShop, Cell.Cell}
-use Rattle.event_lines.specs.Requests.{claimed}
+use Rattle.cell_tables.specs.Claims.{claimed}
 use Rattle.cell_drive.specs.{ProtocolText.printed_overdue, Replies.RefusedBy}
 use Rattle.cell_drive.proofs.LineAnswers.{of_texts}
 use Rattle.cell_drive.proofs.requests.consider_claim.Goals as goal
@@ -11,7 +11,7 @@ returns-in-Ok-clause-accepted g c =
     let protocol = c.args.protocol in
     let cell = c.work_cell.result.now in
     let judged = c.in-Ok.ensures.judged in
-    let report_is : c.report-report.result ≡ claimed c.args.claim = c.report-report.ensures ∙ judged.0 in
+    let report_is : c.report-report.result ≡ claimed v.planned c.args.claim = c.report-report.ensures ∙ judged.0 in
     record {
       claim = c.args.claim;
       asked = refl;

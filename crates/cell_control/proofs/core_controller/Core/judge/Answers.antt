@@ -1,23 +1,17 @@
-use Rattle.std.proofs.{Common.{◌≡◌, false, ◌↔◌, refl, sym, subst}, lemmas.Result.err_from_is_err_and}
+use Rattle.std.proofs.{Common.{refl, sym, subst}, lemmas.Result.err_from_is_err_and}
 use Rattle.shop_base.specs.Report.{CanReport, IsNextMoment}
 use Rattle.shop_base.proofs.Decisions.{moment_now}
-use Rattle.cell_control.specs.{Control.Control, Readings.IsOnTime}
+use Rattle.cell_control.specs.Control.{Control}
 use Rattle.cell_control.proofs.Reasons.{reason-cannot}
 use Rattle.cell_control.proofs.core_controller.Core.judge.Goals as goal
+
+pub judged-requires : goal.judged-requires
+judged-requires g c = subst (λ (v : Control). CanReport v.planned v.cell c.args.report) c.self.view_is c.in_ok-check_report.ensures.possible
 
 pub returns-clause-possible : goal.returns-clause-possible
 returns-clause-possible g c =
     let can = subst (λ (v : Control). CanReport v.planned v.cell c.args.report) c.self.view_is c.in_ok-check_report.ensures.possible in
     (λ _. can, λ _. refl)
-
-pub returns-clause-judged : goal.returns-clause-judged
-returns-clause-judged g c = (
-  refl,
-  record {
-    can = subst (λ (v : Control). CanReport v.planned v.cell c.args.report) c.self.view_is c.in_ok-check_report.ensures.possible;
-    late = subst (λ t. (c.is_late.result ≡ false) ↔ IsOnTime c.args.self.now.planned c.args.self.now.cell t) c.at.ensures c.is_late.ensures;
-  },
-)
 
 pub returns-clause-never_refused : goal.returns-clause-never_refused
 returns-clause-never_refused g c = λ due goes now. refl

@@ -1,5 +1,4 @@
 use Rattle.std.proofs.Common.{◌≡◌, ap}
-use Rattle.shop_base.specs.{Plan.PlannedShop, Cell.Cell}
 use Rattle.cell_control.specs.Control.{Control}
 use Rattle.cell_control.proofs.Reached.{own_recast, own_fault}
 use Rattle.cell_control.proofs.core_controller.Core.rest_at.Goals as goal

@@ -1,5 +1,6 @@
 use Rattle.std.proofs.Common.{Bool, Some, subst, sym}
-use Rattle.event_lines.specs.{declared.requests.Claim.TheVariants.Report, declared.requests.Request.TheVariants.Claim}
+use Rattle.cell_tables.specs.declared.claim.Claim.TheVariants.{Report}
+use Rattle.event_lines.specs.declared.requests.Request.TheVariants.{Claim}
 use Rattle.cell_drive.specs.{ProtocolText.AsksFor, Session.{AnswersRequest, SessionAnswer, SessionState, session_by}}
 use Rattle.cell_drive.proofs.LineAnswers.{of_texts, some_bytes}
 use Rattle.cell_drive.proofs.session.SessionLineHandler.answer.Goals as goal
