@@ -8,7 +8,6 @@ use Rattle.plan_verifier.specs.Verdicts.{SaysAccepted}
 use Rattle.plan_seek.specs.declared.search.TheConstants.{MAX_ROUNDS}
 use Rattle.plan_improve.specs.declared.improve_fault.ImproveFault.{ImproveFault}
 use Rattle.plan_improve.specs.declared.improve_fault.ImproveFault.TheVariants.{TooManyRounds, Memory as OutOfMemory}
-use Rattle.plan_improve.specs.Runs.{Asked}
 use Rattle.plan_verifier.specs.Seen.{judged}
 use Rattle.plan_improve.specs.Faults.{IsImproveFault}
 use Rattle.command_answers.specs.ImprovingRests.{IsUnfoundAnswer}
@@ -17,13 +16,13 @@ use Rattle.command_answers.specs.declared.command_fault.CommandFault.{CommandFau
 use Rattle.command_answers.specs.declared.command_fault.CommandFault.TheVariants.{Instance, Plan, Names, Read, Write, InputTooLong, Log, LogInUse, Memory}
 use Rattle.command_answers.specs.Checks.{verdict_status}
 use Rattle.command_answers.specs.Documents.{IsDocumentAnswer}
-use Rattle.command_answers.specs.Improving.{IsBest, IsStatusOf, IsBestAnswer}
+use Rattle.command_answers.specs.Improving.{IsBest, IsStatusOf, IsBestAnswer, SearchBy}
 
 status_is : (verdict : Verdict) → SaysAccepted verdict ↔ IsAcceptable (judged verdict) → IsStatusOf (judged verdict) (verdict_status verdict)
 status_is (Accepted verified) exact = inl (exact.0 tt, refl)
 status_is (Refused back why) exact = inr ((λ accepted. exact.1 accepted), refl)
 
-module _ (made : Asked) (rounds : ℕ) (start : PlannedShop) where
+module _ (made : SearchBy) (rounds : ℕ) (start : PlannedShop) where
   -- the text of a plan that was judged is the answer
   pub best_answer_is : (verdict : Verdict) (outcome : Result Answer CommandFault) → IsBest made start (judged verdict) → rounds ≤ MAX_ROUNDS
       → SaysAccepted verdict ↔ IsAcceptable (judged verdict) → IsDocumentAnswer (judged verdict).plan (verdict_status verdict) outcome → IsBestAnswer made rounds start outcome

@@ -26,12 +26,13 @@ use Rattle.command_answers.specs.declared.answer.Answer.{Answer}
 use Rattle.command_answers.specs.declared.command_fault.CommandFault.{CommandFault}
 use Rattle.command_answers.specs.declared.command_fault.CommandFault.TheVariants.{Instance, Plan, Names, Read, Write, InputTooLong, Log, LogInUse, Memory}
 use Rattle.command_answers.specs.Documents.{IsDocumentAnswer}
+use Rattle.command_answers.specs.Improving.{SearchBy}
 use Rattle.command_answers.specs.Rests.{IsRunFaultAnswer}
 use Rattle.command_answers.specs.Steps.{IsOrMemory}
-use Rattle.command_answers.specs.ImprovingRests.{RestAsked, IsBestRest, IsRestStatus, IsRestFound, IsRestAnswer, IsJudgedAnswer, IsSearchAnswer, IsUnfoundAnswer}
+use Rattle.command_answers.specs.ImprovingRests.{IsBestRest, IsRestStatus, IsRestFound, IsRestAnswer, IsJudgedAnswer, IsSearchAnswer, IsUnfoundAnswer}
 use Rattle.command_answers.proofs.{KeptLogs.log_keeps, RunFaults.run_fault_is}
 
-module _ (made : RestAsked) (at : Option ℕ) (rounds : ℕ) (lines : List (List ℕ)) (start : PlannedShop) where
+module _ (made : SearchBy) (at : Option ℕ) (rounds : ℕ) (lines : List (List ℕ)) (start : PlannedShop) where
   -- a line, or that memory ran out
   line_is : (IsLine : Answer → Type 0) (outcome : Result Answer CommandFault) → ((answer : Answer) → IsLine answer → IsRestAnswer made at rounds lines start (Ok answer))
       → IsOrMemory IsLine outcome → IsRestAnswer made at rounds lines start outcome
@@ -76,7 +77,7 @@ module _ (made : RestAsked) (at : Option ℕ) (rounds : ℕ) (lines : List (List
 
     module _ (best : PlannedShop) (same : IsReordered start best) (kept : ParseAsRun best lines) (acyclic : (HasCycle best → ⊥) ⊎ HasNoBegin (rest_from c t) start)
         (stays : HasNoBegin (rest_from c t) start → best ≡ start) (never_worse : IsNeverWorse (rest_from c t) start best)
-        (found : HasNoBegin (rest_from c t) start ⊎ IsFound (rest_from c t) (made c t) start best) where
+        (found : HasNoBegin (rest_from c t) start ⊎ IsFound (rest_from c t) (made (rest_from c t)) start best) where
       -- a plan without a cycle is the best one
       best_is : (HasCycle best → ⊥) → (IsAcceptableAhead start c t → IsAcceptableAhead best c t) → IsBestRest made lines c t start best
       best_is none accepted = record {
@@ -119,7 +120,7 @@ module _ (made : RestAsked) (at : Option ℕ) (rounds : ℕ) (lines : List (List
     -- what is printed where a search has ended
     pub search_is : (found : Result Improved NotImproved) (outcome : Result Answer CommandFault) → IsWellShaped start → IfOk found (λ x. IsReordered start x.shaped)
         → IfOk found (λ x. KeepsSoFar start c x.shaped) → IfOk found (λ x. (HasCycle x.shaped → ⊥) ⊎ HasNoBegin (rest_from c t) start) → IfOk found (λ x. HasNoBegin (rest_from c t) start → x.shaped ≡ start)
-        → IfOk found (λ x. IsNeverWorse (rest_from c t) start x.shaped) → IfOk found (λ x. HasNoBegin (rest_from c t) start ⊎ IsFound (rest_from c t) (made c t) start x.shaped)
+        → IfOk found (λ x. IsNeverWorse (rest_from c t) start x.shaped) → IfOk found (λ x. HasNoBegin (rest_from c t) start ⊎ IsFound (rest_from c t) (made (rest_from c t)) start x.shaped)
         → IfOk found (λ x. IsVerdictOn x.shaped c t x.verdict) → IfOk found (λ x. IsAcceptableAhead start c t → IsRestAccepted x.verdict) → IfErr found (λ refused. IsImproveFault rounds refused.fault)
         → IsSearchAnswer found outcome → IsRestAnswer made at rounds lines start outcome
     search_is (Ok x) outcome shaped same kept acyclic stays never_worse found verdict accepted refused answered =

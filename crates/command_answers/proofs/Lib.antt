@@ -17,3 +17,4 @@ pub mod DecideLines
 pub mod DecideRestLines
 pub mod Unnamed
 pub mod ShapedPlans
+pub mod AskedRuns

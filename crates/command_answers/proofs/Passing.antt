@@ -12,7 +12,7 @@ use Rattle.people_names.specs.declared.names_fault.NamesFault.TheVariants.{Memor
 use Rattle.command_answers.specs.declared.command_fault.CommandFault.{CommandFault}
 use Rattle.command_answers.specs.declared.command_fault.CommandFault.TheVariants.{Instance, Plan, Names, Read, Write, InputTooLong, Log, LogInUse, Memory}
 use Rattle.command_answers.specs.Instances.{Holds, IsInstanceRefusal, instance_command_fault}
-use Rattle.command_answers.specs.Steps.{IsOrMemory}
+use Rattle.command_answers.specs.Steps.{AndThen, IsOrMemory, Then}
 use Rattle.command_answers.specs.Plans.{IsPlanRefusal, IsRightOfBoth, plan_command_fault}
 use Rattle.command_answers.specs.Naming.{IsNamesRefusal, names_command_fault}
 use Rattle.command_answers.specs.Readings.{IsInstanceRead, IsPlanRead, AreTextsAnswered}
@@ -45,6 +45,16 @@ passed_names (Err answered) reported fault same passed = rw passed (same (λ mem
 pub at_fault : {A : Type 0} (P : Result A CommandFault → Type 0) (answer : Result A CommandFault) (fault : CommandFault) → IsErrAnd answer (λ passed. passed ≡ fault) → P (Err fault) → P answer
 at_fault P (Ok a) fault passed is = absurd passed
 at_fault P (Err answered) fault passed is = subst (λ f. P (Err f)) (sym passed) is
+
+-- what follows a step is followed by more, where its faults are passed on
+pub then_on : {W A B C : Type 0} (first : W → Result A CommandFault → W → Type 0) (next : A → W → Result B CommandFault → W → Type 0) (more : A → W → Result C CommandFault → W → Type 0)
+    (before : W) (found : Result B CommandFault) (mid : W) (outcome : Result C CommandFault) (after : W) → ((fault : CommandFault) → found ≡ Err fault → (outcome ≡ Err fault) × (after ≡ mid))
+    → ((a : A) (there : W) → next a there found mid → more a there outcome after) → Then first next before found mid → Then first more before outcome after
+then_on {W} {A} first next more before found mid outcome after fails goes run = record { came = run.came; mid = run.mid; is = run.is; goes_on = follows run.came run.mid run.goes_on }
+  where
+    follows : (came : Result A CommandFault) (there : W) → AndThen next came there found mid → AndThen more came there outcome after
+    follows (Ok a) there on = goes a there on
+    follows (Err fault) there on = (let failed = fails fault on.0 in (failed.0, failed.1 ∙ on.1))
 
 -- ---- over two texts
 

@@ -50,8 +50,3 @@ module _ (names : NameBook) (p : PlannedShop) (c : Cell) (t : ℕ) (line : Optio
         (sheet_is ∙ ap (λ (x : PlannedShop). run_sheet x t line in_time run) plan) refl
         (marks ∙ ap (late_leavings q) lends ∙ ap (λ (x : PlannedShop). late_leavings x run.leavings.items) plan) drawn;
   }
-
-  -- the verdict is drawn
-  pub verdict_shown : {E : Type 0} (verdict : Judged) (came : Result Drawn E) → IsJudged p c t verdict → IfOk came (IsVerdictDrawn names p c t line visits verdict) → IfOk came (IsRestDrawn names p c t line visits)
-  verdict_shown verdict (Ok drawn) judged is = record { verdict = verdict; judged = judged; is = is }
-  verdict_shown verdict (Err error) judged is = tt

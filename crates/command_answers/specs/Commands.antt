@@ -7,10 +7,8 @@ use Rattle.orlib_read.specs.declared.named.Named.{Named}
 use Rattle.plan_seek.specs.Orders.{Proposal}
 use Rattle.plan_seek.specs.Tasks.{PlanTask, task_in}
 use Rattle.plan_seek.specs.Turns.{PlanSearch, search_by}
-use Rattle.plan_improve.specs.Runs.{Asked}
 use Rattle.plan_bounds.specs.Bounds.{times_of}
 use Rattle.plan_decide.specs.declared.aim.Aim.{Aim}
-use Rattle.plan_decide.specs.Pasts.{whole_case}
 use Rattle.people_names.specs.NameBooks.{NameBook}
 use Rattle.command_answers.specs.declared.answer.Answer.{Answer}
 use Rattle.command_answers.specs.declared.command_fault.CommandFault.{CommandFault}
@@ -19,25 +17,23 @@ use Rattle.command_answers.specs.Steps.{Then, Concludes, IsOrMemory}
 use Rattle.command_answers.specs.Texts.{Asks}
 use Rattle.command_answers.specs.Naming.{ReadsNames}
 use Rattle.command_answers.specs.Readings.{IsInstanceRead, IsPlanRead, AreFactsAnswered}
-use Rattle.command_answers.specs.Checks.{IsCheckLine, IsLoaded}
+use Rattle.command_answers.specs.Checks.{IsLoaded}
 use Rattle.command_answers.specs.AskedJobs.{IsNoJobLine}
 use Rattle.command_answers.specs.Serial.{serially}
 use Rattle.command_answers.specs.BoundLines.{AreBoundLines, IsBadNumbersLine}
 use Rattle.command_answers.specs.Margins.{IsMarginAnswer}
-use Rattle.command_answers.specs.Moves.{AreMovesOfLog, AreMovesOfPlan}
-use Rattle.command_answers.specs.Deciding.{IsDecisionAnswer, job_of}
+use Rattle.command_answers.specs.Moves.{AreMovesAhead}
+use Rattle.command_answers.specs.Deciding.{job_of}
 use Rattle.command_answers.specs.Shapes.{IsShapeLine, IsNotShapedLine, IsShapedOrNot}
 use Rattle.command_answers.specs.Digests.{IsDigestAnswer}
-use Rattle.command_answers.specs.DecidingRests.{IsRestDecisionAnswer, IsUnfitLine}
+use Rattle.command_answers.specs.DecidingRests.{IsRunDecision, IsUnfitLine}
 use Rattle.command_answers.specs.Search.{IsSearchAnswer}
-use Rattle.command_answers.specs.Improving.{IsImproveAnswer, ordered}
+use Rattle.command_answers.specs.Improving.{SearchBy, ordered}
 use Rattle.command_answers.specs.declared.logs.LogAnswer.{LogAnswer}
 use Rattle.command_answers.specs.LogLines.{IsLogLine}
 use Rattle.command_answers.specs.declared.rests.PlanAnswer.{PlanAnswer}
-use Rattle.command_answers.specs.declared.rests.PlanAnswer.TheVariants.{Verdict, Reasons, Moments}
-use Rattle.command_answers.specs.Rests.{AnswersPlan, IsRestLine, job_asked}
-use Rattle.command_answers.specs.ImprovingRests.{RestAsked, IsRestAnswer}
-use Rattle.text_lines.specs.Lines.{ended_lines}
+use Rattle.command_answers.specs.Rests.{IsRestLine, job_asked}
+use Rattle.command_answers.specs.ImprovingRests.{IsBetterAnswer}
 use Rattle.plan_revise.specs.declared.change.Change.{Change}
 use Rattle.command_answers.specs.declared.revises.Revised.{Revised}
 use Rattle.command_answers.specs.Revising.{IsReviseAnswer}
@@ -47,6 +43,26 @@ pub record InputPaths : Type 0 where
   pub path : List ℕ
   pub name : Option (List ℕ)
   pub plan : List ℕ
+
+-- the files of a run: those of its plan, of names, and its log, if it has begun; and the present moment, if another one than the log's last is given
+pub record RunPaths : Type 0 where
+  pub inputs : InputPaths
+  pub names : Option (List ℕ)
+  pub log : Option (List ℕ)
+  pub at : Option ℕ
+
+-- where a plan is well shaped there is this step; else the line of its first fault comes
+abbrev pub IfShapedBy : {W B : Type 0} → ((Answer → Type 0) → B → Type 0) → PlannedShop → (W → Result B CommandFault → W → Type 0) → W → Result B CommandFault → W → Type 0
+IfShapedBy Line p next before outcome after = (IsWellShaped p × next before outcome after) ⊎ Concludes (IsOrMemory (Line (IsNotShapedLine p))) before outcome after
+
+-- where the job that is asked for is one of the shop, or none is asked for, there is this step; else its line comes
+abbrev pub IfThereBy : {W B : Type 0} → ((Answer → Type 0) → B → Type 0) → Option ℕ → PlannedShop → (W → Result B CommandFault → W → Type 0) → W → Result B CommandFault → W → Type 0
+IfThereBy Line None p next before outcome after = next before outcome after
+IfThereBy Line (Some j) p next before outcome after = ((j < jobs p) × next before outcome after) ⊎ ((jobs p ≤ j) × Concludes (IsOrMemory (Line (IsNoJobLine j))) before outcome after)
+
+-- a line as the answer itself
+abbrev pub Itself : (Answer → Type 0) → Answer → Type 0
+Itself Is = Is
 
 module _ {W : Type 0} (gives : W → List ℕ → Result (List ℕ) CommandFault → W → Type 0) where
   -- the file of an instance is asked for, and then read
@@ -77,18 +93,13 @@ module _ {W : Type 0} (gives : W → List ℕ → Result (List ℕ) CommandFault
   abbrev pub RunsDigest : InputPaths → W → Result Answer CommandFault → W → Type 0
   RunsDigest inputs = WithBoth inputs (λ p. Concludes (IsOrMemory (IsDigestAnswer p)))
 
-  -- `check`: both are read, and the verdict is answered
-  abbrev pub RunsCheck : InputPaths → W → Result Answer CommandFault → W → Type 0
-  RunsCheck inputs = WithBoth inputs (λ p. Concludes (IsOrMemory (IsCheckLine p)))
-
   -- where a plan is well shaped there is this step; else its first fault is answered
   abbrev pub IfShaped : PlannedShop → (W → Result Answer CommandFault → W → Type 0) → W → Result Answer CommandFault → W → Type 0
-  IfShaped p next before outcome after = (IsWellShaped p × next before outcome after) ⊎ Concludes (IsOrMemory (IsNotShapedLine p)) before outcome after
+  IfShaped = IfShapedBy Itself
 
   -- where the job that is asked for is one of the shop, or none is asked for, there is this step; else its line is answered
   abbrev pub IfThere : Option ℕ → PlannedShop → (W → Result Answer CommandFault → W → Type 0) → W → Result Answer CommandFault → W → Type 0
-  IfThere None p next before outcome after = next before outcome after
-  IfThere (Some j) p next before outcome after = ((j < jobs p) × next before outcome after) ⊎ ((jobs p ≤ j) × Concludes (IsOrMemory (IsNoJobLine j)) before outcome after)
+  IfThere = IfThereBy Itself
 
   -- names for the plan's shop are read, and then this comes of them
   abbrev pub WithNames : {B : Type 0} → Option (List ℕ) → PlannedShop → (NameBook → Result B CommandFault → Type 0) → W → Result B CommandFault → W → Type 0
@@ -98,17 +109,26 @@ module _ {W : Type 0} (gives : W → List ℕ → Result (List ℕ) CommandFault
   abbrev pub WithNamesAndLog : {B : Type 0} → Option (List ℕ) → List ℕ → PlannedShop → (NameBook → List ℕ → B → Type 0) → W → Result B CommandFault → W → Type 0
   WithNamesAndLog names path p IsLine = Then (ReadsNames gives names p) (λ book. Then (Asks gives path) (λ log. Concludes (IsOrMemory (IsLine book log))))
 
-  -- `explain`: both are read, then the names, and the verdict is explained
-  abbrev pub RunsExplain : InputPaths → Option (List ℕ) → Option ℕ → W → Result Answer CommandFault → W → Type 0
-  RunsExplain inputs names job = WithBoth inputs (λ p. IfShaped p (IfThere job p (WithNames names p (λ book. IsOrMemory (AnswersPlan book (Reasons job) p)))))
+  -- the log of a run is asked for, where one is given, and then this comes of it
+  abbrev pub WithRun : {B : Type 0} → Option (List ℕ) → (Option (List ℕ) → Result B CommandFault → Type 0) → W → Result B CommandFault → W → Type 0
+  WithRun None Comes = Concludes (Comes None)
+  WithRun (Some path) Comes = Then (Asks gives path) (λ log. Concludes (Comes (Some log)))
 
-  -- `schedule`: both are read, then the names, and the plan's schedule is printed
-  abbrev pub RunsSchedule : InputPaths → Option (List ℕ) → W → Result Answer CommandFault → W → Type 0
-  RunsSchedule inputs names = WithBoth inputs (λ p. IfShaped p (WithNames names p (λ book. IsOrMemory (AnswersPlan book Moments p))))
+  -- so names and then that log
+  abbrev pub WithNamesAndRun : {B : Type 0} → Option (List ℕ) → Option (List ℕ) → PlannedShop → (NameBook → Option (List ℕ) → Result B CommandFault → Type 0) → W → Result B CommandFault → W → Type 0
+  WithNamesAndRun names log p Comes = Then (ReadsNames gives names p) (λ book. WithRun log (Comes book))
 
-  -- `schedule --moves`: both are read, then the names, and the moves of the plan are printed
-  abbrev pub RunsMoves : InputPaths → Option (List ℕ) → W → Result Answer CommandFault → W → Type 0
-  RunsMoves inputs names = WithBoth inputs (λ p. IfShaped p (WithNames names p (λ book. IsOrMemory (AreMovesOfPlan book p))))
+  -- what is asked of a run: both are read, then the names, and then its log, if it has begun, and this comes of them; a plan that isn't well shaped, and a job that is asked for and isn't one of the shop, has its line
+  abbrev pub AsksOfRun : {B : Type 0} → ((Answer → Type 0) → B → Type 0) → Option ℕ → (PlannedShop → NameBook → Option (List ℕ) → B → Type 0) → RunPaths → W → Result B CommandFault → W → Type 0
+  AsksOfRun Line job Comes run = WithBoth run.inputs (λ p. IfShapedBy Line p (IfThereBy Line job p (WithNamesAndRun run.names run.log p (λ book log. IsOrMemory (Comes p book log)))))
+
+  -- `check`, `explain` and `schedule`: the verdict on the rest of the run is answered, or explained, or its schedule printed
+  abbrev pub RunsRest : PlanAnswer → RunPaths → W → Result Answer CommandFault → W → Type 0
+  RunsRest wanted run = AsksOfRun Itself (job_asked wanted) (λ p book. IsRestLine book wanted run.at p) run
+
+  -- `schedule --moves`: the moves ahead are printed
+  abbrev pub RunsMoves : RunPaths → W → Result Answer CommandFault → W → Type 0
+  RunsMoves run = AsksOfRun Itself None (λ p book. AreMovesAhead book run.at p) run
 
   -- where the numbers of a plan are sound, whatever its orders, there is this step; else their first fault is answered
   abbrev pub IfSound : PlannedShop → (W → Result Answer CommandFault → W → Type 0) → W → Result Answer CommandFault → W → Type 0
@@ -142,17 +162,26 @@ module _ {W : Type 0} (gives : W → List ℕ → Result (List ℕ) CommandFault
   abbrev pub RunsPlanWith : {B : Type 0} → (B → JobShop → ℕ → Proposal → Type 0) → List B → ℕ → InputPaths → W → Result Answer CommandFault → W → Type 0
   RunsPlanWith may proposers = RunsPlan (search_by may proposers)
 
-  -- `improve`: both are read, and what the search from this plan comes to is answered, or from the serial plan where it has no orders at all
-  abbrev pub RunsImprove : Asked → ℕ → InputPaths → W → Result Answer CommandFault → W → Type 0
-  RunsImprove made rounds inputs = WithBoth inputs (λ p. Concludes (IsImproveAnswer made rounds (ordered p)))
+  -- what the search from this plan comes to is answered, if it is well shaped, once the run's log is read, if it has begun
+  abbrev pub BettersPlan : SearchBy → ℕ → RunPaths → PlannedShop → W → Result Answer CommandFault → W → Type 0
+  BettersPlan made rounds run p = IfShaped p (WithRun run.log (IsBetterAnswer made rounds run.at p))
 
-  -- where the job that is asked for is one of the shop, names are read, and then what is decided of the plan's budgets is answered
-  abbrev pub WithDecision : Aim → Option (List ℕ) → PlannedShop → W → Result Answer CommandFault → W → Type 0
-  WithDecision aim names p = IfThere (job_of aim) p (WithNames names p (λ book. IsDecisionAnswer book (whole_case p) aim))
+  -- `improve`: both are read, and a better plan is sought from this one, or from the serial plan where it has no orders at all
+  abbrev pub RunsImprove : SearchBy → ℕ → RunPaths → W → Result Answer CommandFault → W → Type 0
+  RunsImprove made rounds run = WithBoth run.inputs (λ p. BettersPlan made rounds run (ordered p))
 
-  -- `decide`: both are read, then the names, and what is decided of the plan's budgets is answered
-  abbrev pub RunsDecide : Aim → InputPaths → Option (List ℕ) → W → Result Answer CommandFault → W → Type 0
-  RunsDecide aim inputs names = WithBoth inputs (λ p. IfSound p (WithDecision aim names (serially p)))
+  -- where the numbers are sound, whatever the orders, there is this step with the serial plan; of a run that has begun where the plan is well shaped, or the serial one that stands for a plan without any orders; else the first fault is answered
+  abbrev pub IfFit : Option (List ℕ) → PlannedShop → (PlannedShop → W → Result Answer CommandFault → W → Type 0) → W → Result Answer CommandFault → W → Type 0
+  IfFit None p next before outcome after = IfSound p (next (serially p)) before outcome after
+  IfFit (Some log) p next before outcome after = (IsWellShaped (ordered p) × next (ordered p) before outcome after) ⊎ Concludes (IsOrMemory (IsUnfitLine (ordered p))) before outcome after
+
+  -- where the job that is asked for is one of the shop, the names and the run's log are read, and then what is decided of the plan's budgets is answered
+  abbrev pub DecidesPlan : Aim → RunPaths → PlannedShop → W → Result Answer CommandFault → W → Type 0
+  DecidesPlan aim run p = IfThere (job_of aim) p (WithNamesAndRun run.names run.log p (λ book. IsRunDecision book aim run.at p))
+
+  -- `decide`: both are read, then the names, and then the log, and what is decided is answered
+  abbrev pub RunsDecide : Aim → RunPaths → W → Result Answer CommandFault → W → Type 0
+  RunsDecide aim run = WithBoth run.inputs (λ p. IfFit run.log p (DecidesPlan aim run))
 
   -- the log of a well-shaped plan is asked for, and then this comes of it; any other plan is answered by its first fault
   abbrev pub WithLogOf : (PlannedShop → List ℕ → Result Answer CommandFault → Type 0) → List ℕ → PlannedShop → W → Result Answer CommandFault → W → Type 0
@@ -161,45 +190,6 @@ module _ {W : Type 0} (gives : W → List ℕ → Result (List ℕ) CommandFault
   -- `audit` and `gantt`: both are read, then the names, and then the log
   abbrev pub RunsLog : LogAnswer → InputPaths → Option (List ℕ) → List ℕ → W → Result Answer CommandFault → W → Type 0
   RunsLog wanted inputs names log = WithBoth inputs (λ p. IfShaped p (WithNamesAndLog names log p (λ book. IsLogLine book wanted p)))
-
-  -- `check`, `explain` and `schedule` of the rest of a run: both are read, then the names, and then its log
-  abbrev pub RunsRest : PlanAnswer → Option ℕ → InputPaths → Option (List ℕ) → List ℕ → W → Result Answer CommandFault → W → Type 0
-  RunsRest wanted at inputs names log =
-      WithBoth inputs (λ p. IfShaped p (IfThere (job_asked wanted) p (WithNamesAndLog names log p (λ book. IsRestLine book wanted at p))))
-
-  -- what is answered of the plan, by names where it isn't its verdict alone
-  abbrev pub RunsOfPlan : PlanAnswer → InputPaths → Option (List ℕ) → W → Result Answer CommandFault → W → Type 0
-  RunsOfPlan Verdict inputs names = RunsCheck inputs
-  RunsOfPlan (Reasons job) inputs names = RunsExplain inputs names job
-  RunsOfPlan Moments inputs names = RunsSchedule inputs names
-
-  -- what is answered of the plan, or of the rest of the run in a log, if there is one
-  abbrev pub RunsPlanAnswer : PlanAnswer → Option ℕ → InputPaths → Option (List ℕ) → Option (List ℕ) → W → Result Answer CommandFault → W → Type 0
-  RunsPlanAnswer wanted at inputs names None = RunsOfPlan wanted inputs names
-  RunsPlanAnswer wanted at inputs names (Some log) = RunsRest wanted at inputs names log
-
-  -- `schedule --moves` of the rest of a run: both are read, then the names, and then its log
-  abbrev pub RunsRestMoves : Option ℕ → InputPaths → Option (List ℕ) → List ℕ → W → Result Answer CommandFault → W → Type 0
-  RunsRestMoves at inputs names log = WithBoth inputs (λ p. IfShaped p (WithNamesAndLog names log p (λ book. AreMovesOfLog book at p)))
-
-  -- `improve` of the rest of a run: both are read, then its log where the plan is well shaped, and what the search from this plan comes to is answered, or from the serial plan where it has no orders at all
-  abbrev pub WithRest : RestAsked → Option ℕ → ℕ → List ℕ → PlannedShop → W → Result Answer CommandFault → W → Type 0
-  WithRest made at rounds = WithLogOf (λ p log. IsRestAnswer made at rounds (ended_lines log) p)
-
-  -- where the job that is asked for is one of the shop, names and then a log are read, and then what is decided of the rest is answered
-  abbrev pub OnRestDecision : Aim → Option ℕ → Option (List ℕ) → List ℕ → PlannedShop → W → Result Answer CommandFault → W → Type 0
-  OnRestDecision aim at names path p =
-      IfThere (job_of aim) p (Then (ReadsNames gives names p) (λ book. Then (Asks gives path) (λ log. Concludes (IsRestDecisionAnswer book at (ended_lines log) p aim))))
-
-  -- `decide` of the rest of a run: both are read, then the names, and then its log
-  abbrev pub WithRestDecision : Aim → Option ℕ → Option (List ℕ) → List ℕ → PlannedShop → W → Result Answer CommandFault → W → Type 0
-  WithRestDecision aim at names path p before outcome after = (IsWellShaped p × OnRestDecision aim at names path p before outcome after) ⊎ Concludes (IsOrMemory (IsUnfitLine p)) before outcome after
-
-  abbrev pub RunsDecideRest : Aim → Option ℕ → InputPaths → Option (List ℕ) → List ℕ → W → Result Answer CommandFault → W → Type 0
-  RunsDecideRest aim at inputs names log = WithBoth inputs (λ p. WithRestDecision aim at names log (ordered p))
-
-  abbrev pub RunsImproveRest : RestAsked → Option ℕ → ℕ → InputPaths → List ℕ → W → Result Answer CommandFault → W → Type 0
-  RunsImproveRest made at rounds inputs log = WithBoth inputs (λ p. WithRest made at rounds log (ordered p))
 
   -- `revise`: both are read, then the log where the plan is well shaped, and what the changes make of them is answered
   abbrev pub RunsRevise : Revised → Option ℕ → List Change → List (List ℕ) → InputPaths → List ℕ → W → Result Answer CommandFault → W → Type 0

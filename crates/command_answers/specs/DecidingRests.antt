@@ -1,18 +1,19 @@
 -- The answers of the command `decide` of the rest of a run.
-use Rattle.std.specs.Prelude.{◌≡◌, ◌⊎◌, ℕ, List, Option, Result, Ok, Err, codes}
+use Rattle.std.specs.Prelude.{◌≡◌, ◌⊎◌, ℕ, List, Option, None, Some, Result, Ok, Err, codes}
 use Rattle.shop_base.specs.declared.shape_fault.ShapeFault.{ShapeFault}
 use Rattle.shop_base.specs.declared.shape_fault.ShapeFault.TheVariants.{OrderCount, JobOutOfRange, NotOnRoute, JobTwice, JobMissing}
 use Rattle.shop_base.specs.Plan.{PlannedShop}
 use Rattle.shop_base.specs.Cell.{Cell}
 use Rattle.shop_base.specs.ShapeFault.{IsFirstShapeFault}
+use Rattle.text_lines.specs.Lines.{ended_lines}
 use Rattle.people_names.specs.NameBooks.{NameBook}
 use Rattle.plan_text.specs.declared.plan_fault.PlanFault.TheVariants.{NotReadBack}
 use Rattle.plan_decide.specs.declared.aim.Aim.{Aim}
-use Rattle.plan_decide.specs.Pasts.{HoldsFrom}
+use Rattle.plan_decide.specs.Pasts.{HoldsFrom, whole_case}
 use Rattle.command_answers.specs.declared.answer.Answer.{Answer}
 use Rattle.command_answers.specs.declared.command_fault.CommandFault.{CommandFault}
 use Rattle.command_answers.specs.declared.command_fault.CommandFault.TheVariants.{Plan, Memory}
-use Rattle.command_answers.specs.Deciding.{IsDecisionText, IsFoundUnread}
+use Rattle.command_answers.specs.Deciding.{IsDecisionAnswer, IsDecisionText, IsFoundUnread}
 use Rattle.command_answers.specs.Rests.{IsOfRun, IsRunRefused}
 use Rattle.command_answers.specs.Shapes.{IsLineOfFault}
 use Rattle.command_answers.specs.Steps.{IsOrMemory}
@@ -43,3 +44,8 @@ module _ (names : NameBook) (aim : Aim) where
 -- what is answered of a plan that is well shaped, where the job that is asked for is one of its shop: that of the rest of the run that the lines record; or the line of the log's first fault, or of a moment that is past, or that memory ran out
 abbrev pub IsRestDecisionAnswer : NameBook → Option ℕ → List (List ℕ) → PlannedShop → Aim → Result Answer CommandFault → Type 0
 IsRestDecisionAnswer names at lines p aim outcome = IsOfRun (λ c entries t. IsDecisionFrom names aim p c t outcome) at lines p ⊎ IsOrMemory (IsRunRefused at lines p) outcome
+
+-- what is answered there where a run is: so of its log, or before it has begun of any plan with these numbers
+abbrev pub IsRunDecision : NameBook → Aim → Option ℕ → PlannedShop → Option (List ℕ) → Result Answer CommandFault → Type 0
+IsRunDecision names aim at p None = IsDecisionAnswer names (whole_case p) aim
+IsRunDecision names aim at p (Some log) = IsRestDecisionAnswer names at (ended_lines log) p aim

@@ -7,14 +7,13 @@ use Rattle.alt_graph.specs.Evidence.{IsCycle}
 use Rattle.alt_graph.specs.Solved.{HasCycle}
 use Rattle.cell_tables.specs.Reordered.{IsReordered}
 use Rattle.run_log.specs.Audits.{ParseAsRun}
+use Rattle.text_lines.specs.Lines.{ended_lines}
 use Rattle.plan_text.specs.declared.plan_fault.PlanFault.TheVariants.{NotReadBack}
 use Rattle.plan_text.specs.Lines.{plan_lines}
 use Rattle.plan_text.specs.Documents.{IsPlanText}
 use Rattle.plan_explain.specs.FirstLines.{cycle_line}
-use Rattle.plan_seek.specs.Orders.{Proposal}
 use Rattle.plan_seek.specs.declared.search.TheConstants.{MAX_ROUNDS}
-use Rattle.plan_improve.specs.Settings.{Left, rest_from}
-use Rattle.plan_improve.specs.Runs.{Asked, Rounds}
+use Rattle.plan_improve.specs.Settings.{rest_from}
 use Rattle.plan_verifier.specs.declared.verdict.Judged.{Judged}
 use Rattle.plan_verifier.specs.declared.verdict.Judged.TheVariants.{Accepted, Refused}
 use Rattle.plan_verifier.specs.declared.verdict.Why.TheVariants.{Cycle, Late}
@@ -27,32 +26,24 @@ use Rattle.command_answers.specs.declared.answer.Answer.{Answer}
 use Rattle.command_answers.specs.declared.command_fault.CommandFault.{CommandFault}
 use Rattle.command_answers.specs.declared.command_fault.CommandFault.TheVariants.{Plan, Memory}
 use Rattle.command_answers.specs.Documents.{IsDocumentOf, IsDocumentAnswer}
-use Rattle.command_answers.specs.Improving.{IsTooManyLine}
+use Rattle.command_answers.specs.Improving.{IsBestAnswer, IsTooManyLine, SearchBy}
 use Rattle.command_answers.specs.Rests.{IsOfRun, IsRunRefused}
 use Rattle.command_answers.specs.Steps.{IsOrMemory}
 
--- what plans a search makes of one, for the rest of a run from a cell and a present moment on
-abbrev pub RestAsked : Type 1
-RestAsked = Cell → ℕ → Asked
-
--- what so many rounds of questions to these improvers make of a plan
-abbrev pub RestRoundsOf : {B : Type 0} → ℕ → (B → PlannedShop → Left → ℕ → Proposal → Type 0) → List B → RestAsked
-RestRoundsOf rounds may improvers c t = Rounds (rest_from c t) may improvers rounds
-
 -- the best plan that is met for the rest of the run that these lines record, from its cell and a present moment on: only the orders may differ, the lines record a run of it, no cycle, never worse for the rest than the one with which the search begins, exactly what the questions make of that, and its rest is accepted if the start's is
-pub record IsBestRest (made : RestAsked) (lines : List (List ℕ)) (c : Cell) (t : ℕ) (start best : PlannedShop) : Type 0 where
+pub record IsBestRest (made : SearchBy) (lines : List (List ℕ)) (c : Cell) (t : ℕ) (start best : PlannedShop) : Type 0 where
   pub same : IsReordered start best
   pub kept : ParseAsRun best lines
   pub acyclic : HasCycle best → ⊥
   pub never_worse : IsNeverWorse (rest_from c t) start best
-  pub found : IsFound (rest_from c t) (made c t) start best
+  pub found : IsFound (rest_from c t) (made (rest_from c t)) start best
   pub stays_accepted : IsAcceptableAhead start c t → IsAcceptableAhead best c t
 
 -- the status distinguishes an accepted rest from one of which a job is late
 abbrev pub IsRestStatus : PlannedShop → Cell → ℕ → ℕ → Type 0
 IsRestStatus best c t status = (IsAcceptableAhead best c t × (status ≡ 0)) ⊎ ((IsAcceptableAhead best c t → ⊥) × (status ≡ 1))
 
-module _ (made : RestAsked) (lines : List (List ℕ)) (start : PlannedShop) (c : Cell) (t : ℕ) where
+module _ (made : SearchBy) (lines : List (List ℕ)) (start : PlannedShop) (c : Cell) (t : ℕ) where
   -- the text of the best plan for the rest
   pub record IsBestRestText (answer : Answer) : Type 0 where
     pub best : PlannedShop
@@ -78,17 +69,22 @@ pub record IsRestCycle (start : PlannedShop) (c : Cell) (t : ℕ) (answer : Answ
   pub line : IsLineOfCycle nodes answer
 
 -- what is answered after at most as many rounds as may be asked for: the text of the best plan; or a line, of a cycle, of the log's first fault, or of a moment that is past
-abbrev pub IsRestFound : RestAsked → Option ℕ → List (List ℕ) → PlannedShop → Answer → Type 0
+abbrev pub IsRestFound : SearchBy → Option ℕ → List (List ℕ) → PlannedShop → Answer → Type 0
 IsRestFound made at lines start answer =
     IsOfRun (λ c entries t. IsBestRestText made lines start c t answer ⊎ IsRestCycle start c t answer) at lines start ⊎ IsRunRefused at lines start answer
 
 -- what is answered of a plan that is well shaped: that, or the line of too many rounds; that the text isn't read as the best plan; or that memory ran out
-abbrev pub IsRestAnswer : RestAsked → Option ℕ → ℕ → List (List ℕ) → PlannedShop → Result Answer CommandFault → Type 0
+abbrev pub IsRestAnswer : SearchBy → Option ℕ → ℕ → List (List ℕ) → PlannedShop → Result Answer CommandFault → Type 0
 IsRestAnswer made at rounds lines start (Ok answer) = ((rounds ≤ MAX_ROUNDS) × IsRestFound made at lines start answer) ⊎ IsTooManyLine rounds answer
 IsRestAnswer made at rounds lines start (Err Memory) = Unit {0}
 IsRestAnswer made at rounds lines start (Err (Plan fault)) =
     (fault ≡ NotReadBack) × (rounds ≤ MAX_ROUNDS) × IsOfRun (λ c entries t. IsBestRestUnreadable made lines start c t) at lines start
 IsRestAnswer made at rounds lines start (Err other) = ⊥
+
+-- what is answered where a run is: so of its log, or before it has begun of the whole plan
+abbrev pub IsBetterAnswer : SearchBy → ℕ → Option ℕ → PlannedShop → Option (List ℕ) → Result Answer CommandFault → Type 0
+IsBetterAnswer made rounds at start None = IsBestAnswer made rounds start
+IsBetterAnswer made rounds at start (Some log) = IsRestAnswer made at rounds (ended_lines log) start
 
 -- what is answered of a plan with the verdict on its rest: its text, or the line of a cycle
 abbrev pub IsJudgedAnswer : PlannedShop → Judged → Result Answer CommandFault → Type 0

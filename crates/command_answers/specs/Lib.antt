@@ -13,7 +13,6 @@ pub mod AskedJobs
 pub mod Digests
 pub mod Checks
 pub mod Explains
-pub mod Timetables
 pub mod Serial
 pub mod BoundLines
 pub mod Margins
@@ -31,3 +30,5 @@ pub mod DecidingRests
 pub mod Commands
 pub mod Pictures
 pub mod Cells
+-- Of proofs and private contracts alone.
+pub mod KnownRests

@@ -43,10 +43,7 @@ pub record IsMovesAnswer (names : NameBook) (p : PlannedShop) (c : Cell) (t : �
   pub text : answer.text.items ≡ first ++ below
   pub status : answer.status ≡ rest_status verdict
 
--- of a plan: the moves from the start on
-abbrev pub AreMovesOfPlan : NameBook → PlannedShop → Answer → Type 0
-AreMovesOfPlan names p = IsMovesAnswer names p (start p) 0
-
--- of a log: the moves from the end of its run on, or the line of the first fault of its whole lines
-abbrev pub AreMovesOfLog : NameBook → Option ℕ → PlannedShop → List ℕ → Answer → Type 0
-AreMovesOfLog names at = IsLogAnswer (IsMovesAnswer names) at
+-- where a run is: the moves from the end of the run in its log on, or why there is none; or before it has begun those from the start on
+abbrev pub AreMovesAhead : NameBook → Option ℕ → PlannedShop → Option (List ℕ) → Answer → Type 0
+AreMovesAhead names at p None = IsMovesAnswer names p (start p) 0
+AreMovesAhead names at p (Some log) = IsLogAnswer (IsMovesAnswer names) at p log

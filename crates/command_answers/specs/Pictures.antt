@@ -33,7 +33,7 @@ use Rattle.command_answers.specs.Steps.{Concludes, IsOrMemory}
 use Rattle.command_answers.specs.Shapes.{IsNotShapedLine}
 use Rattle.command_answers.specs.LogLines.{IsLogRefused}
 use Rattle.command_answers.specs.Rests.{IsOfRun, IsRunRefused}
-use Rattle.command_answers.specs.Commands.{InputPaths, WithBoth, WithNames, WithNamesAndLog}
+use Rattle.command_answers.specs.Commands.{AsksOfRun, IfShapedBy, InputPaths, RunPaths, WithBoth, WithNamesAndLog}
 
 -- nothing is drawn, but there is such a line
 abbrev pub IsLineAlone : (Answer → Type 0) → Drawn → Type 0
@@ -44,10 +44,6 @@ IsLineAlone Is (Line answer) = Is answer
 abbrev pub IsPictureAlone : (List ℕ → Type 0) → ℕ → Drawn → Type 0
 IsPictureAlone Is good (Picture picture status) = Is picture × (status ≡ good)
 IsPictureAlone Is good (Line answer) = ⊥
-
--- what comes of a plan that isn't well shaped: the line of its first fault
-abbrev pub IsUnshapedDrawn : PlannedShop → Drawn → Type 0
-IsUnshapedDrawn p = IsLineAlone (IsNotShapedLine p)
 
 -- ---- a log
 
@@ -100,39 +96,24 @@ module _ (names : NameBook) (p : PlannedShop) (c : Cell) (t : ℕ) (line : Optio
     pub judged : IsJudged p c t verdict
     pub is : IsVerdictDrawn verdict drawn
 
--- what comes of a well-shaped plan: the whole of it is the rest of a run that hasn't begun
-abbrev pub IsPlanDrawn : NameBook → PlannedShop → Drawn → Type 0
-IsPlanDrawn names p = IsRestDrawn names p (start p) 0 None []
-
--- what comes of any plan without names: so, or the line of its first fault
-abbrev pub IsAnyPlanDrawn : PlannedShop → Drawn → Type 0
-IsAnyPlanDrawn p drawn = IsPlanDrawn no_names p drawn ⊎ IsUnshapedDrawn p drawn
-
 -- the present moment has a line, unless no moment is given and the log records nothing
 abbrev pub line_at : Option ℕ → List Entry → ℕ → Option ℕ
 line_at None [] t = None
 line_at None (entry ∷ entries) t = Some t
 line_at (Some given) entries t = Some t
 
--- what comes of a log: the rest of the run that its whole lines record is drawn behind the visits so far, or there is the line that says why there is none
-abbrev pub IsRestDrawing : Option ℕ → NameBook → PlannedShop → List ℕ → Drawn → Type 0
-IsRestDrawing at names p log drawn =
+-- what comes of where a run is: the rest of the run that the whole lines of its log record is drawn behind the visits so far, or there is the line that says why there is none; or before it has begun the whole plan is drawn
+abbrev pub IsRestDrawing : NameBook → Option ℕ → PlannedShop → Option (List ℕ) → Drawn → Type 0
+IsRestDrawing names at p None drawn = IsRestDrawn names p (start p) 0 None [] drawn
+IsRestDrawing names at p (Some log) drawn =
     IsOfRun (λ c entries t. IsRestDrawn names p c t (line_at at entries t) (drawn_visits p entries) drawn) at (ended_lines log) p
     ⊎ IsLineAlone (IsRunRefused at (ended_lines log) p) drawn
-
--- where a plan is well shaped there is this step; else the line of its first fault
-abbrev pub IfDrawable : {W : Type 0} → PlannedShop → (W → Result Drawn CommandFault → W → Type 0) → W → Result Drawn CommandFault → W → Type 0
-IfDrawable p next before outcome after = (IsWellShaped p × next before outcome after) ⊎ Concludes (IsOrMemory (IsUnshapedDrawn p)) before outcome after
 
 module _ {W : Type 0} (gives : W → List ℕ → Result (List ℕ) CommandFault → W → Type 0) where
   -- `gantt --svg`: both are read, then the names, and then the log
   abbrev pub DrawsLog : InputPaths → Option (List ℕ) → List ℕ → W → Result Drawn CommandFault → W → Type 0
-  DrawsLog inputs names log = WithBoth gives inputs (λ p. IfDrawable p (WithNamesAndLog gives names log p (λ book. IsLogDrawn book p)))
+  DrawsLog inputs names log = WithBoth gives inputs (λ p. IfShapedBy IsLineAlone p (WithNamesAndLog gives names log p (λ book. IsLogDrawn book p)))
 
-  -- `schedule --svg`: both are read, then the names, and the plan's exact run is drawn
-  abbrev pub DrawsSchedule : InputPaths → Option (List ℕ) → W → Result Drawn CommandFault → W → Type 0
-  DrawsSchedule inputs names = WithBoth gives inputs (λ p. IfDrawable p (WithNames gives names p (λ book. IsOrMemory (IsPlanDrawn book p))))
-
-  -- `schedule --svg` of the rest of a run: both are read, then the names, and then its log
-  abbrev pub DrawsRest : Option ℕ → InputPaths → Option (List ℕ) → List ℕ → W → Result Drawn CommandFault → W → Type 0
-  DrawsRest at inputs names log = WithBoth gives inputs (λ p. IfDrawable p (WithNamesAndLog gives names log p (λ book. IsRestDrawing at book p)))
+  -- `schedule --svg`: the exact run that goes on is drawn
+  abbrev pub DrawsRest : RunPaths → W → Result Drawn CommandFault → W → Type 0
+  DrawsRest run = AsksOfRun gives IsLineAlone None (λ p book. IsRestDrawing book run.at p) run

@@ -1,5 +1,5 @@
 -- The answers on a plan, and on the rest of a run: those of `check`, `explain` and `schedule`.
-use Rattle.std.specs.Prelude.{◌≡◌, ℕ, ◌<◌, List, ◌++◌, ◌⊎◌, Option, None, Result, codes, decimal}
+use Rattle.std.specs.Prelude.{◌≡◌, ℕ, ◌<◌, List, ◌++◌, ◌⊎◌, Option, None, Some, Result, codes, decimal}
 use Rattle.shop_base.specs.{Plan.PlannedShop, Cell.Cell, Cell.start}
 use Rattle.text_lines.specs.Lines.{ended_lines}
 use Rattle.cell_tables.specs.Rests.{present_of}
@@ -17,6 +17,7 @@ use Rattle.command_answers.specs.declared.answer.Answer.{Answer}
 use Rattle.command_answers.specs.declared.rests.PlanAnswer.{PlanAnswer}
 use Rattle.command_answers.specs.declared.rests.PlanAnswer.TheVariants.{Verdict, Reasons, Moments}
 use Rattle.command_answers.specs.declared.command_fault.CommandFault.{CommandFault}
+use Rattle.command_answers.specs.Checks.{IsVerdictLine}
 use Rattle.command_answers.specs.LogLines.{IsLogFaultAnswer, IsLogRefused}
 use Rattle.command_answers.specs.Steps.{IsOrMemory}
 
@@ -37,6 +38,11 @@ IsTextOf names Verdict p c t = IsFirstLine p c t
 IsTextOf names (Reasons job) p c t = IsExplained names p c t job
 IsTextOf names Moments p c t = IsScheduled names p c t
 
+-- the text of this verdict, with its status
+pub record IsAnswerBy (names : NameBook) (wanted : PlanAnswer) (p : PlannedShop) (c : Cell) (t : ℕ) (verdict : Judged) (answer : Answer) : Type 0 where
+  pub text : IsTextOf names wanted p c t verdict answer.text.items
+  pub status : answer.status ≡ rest_status verdict
+
 -- what is printed of the rest from a cell c and a present moment t on: the text of the verdict on it, with its status
 pub record AnswersRest (names : NameBook) (wanted : PlanAnswer) (p : PlannedShop) (c : Cell) (t : ℕ) (answer : Answer) : Type 0 where
   pub verdict : Judged
@@ -44,9 +50,11 @@ pub record AnswersRest (names : NameBook) (wanted : PlanAnswer) (p : PlannedShop
   pub text : IsTextOf names wanted p c t verdict answer.text.items
   pub status : answer.status ≡ rest_status verdict
 
--- so of a whole plan, which is the rest of a run that hasn't begun
+-- what is printed of a whole plan, which is the rest of a run that hasn't begun: of the verdict alone its line in the plan's own words
 abbrev pub AnswersPlan : NameBook → PlanAnswer → PlannedShop → Answer → Type 0
-AnswersPlan names wanted p = AnswersRest names wanted p (start p) 0
+AnswersPlan names Verdict p = IsVerdictLine p
+AnswersPlan names (Reasons job) p = AnswersRest names (Reasons job) p (start p) 0
+AnswersPlan names Moments p = AnswersRest names Moments p (start p) 0
 
 -- ---- the rest of the run in a log
 
@@ -93,6 +101,7 @@ pub record IsOfRun (Comes : Cell → List Entry → ℕ → Type 0) (at : Option
 abbrev pub IsLogAnswer : (PlannedShop → Cell → ℕ → Answer → Type 0) → Option ℕ → PlannedShop → List ℕ → Answer → Type 0
 IsLogAnswer AnswersAt at p log answer = IsOfRun (λ c entries t. AnswersAt p c t answer) at (ended_lines log) p ⊎ IsRunRefused at (ended_lines log) p answer
 
--- so of the rest
-abbrev pub IsRestLine : NameBook → PlanAnswer → Option ℕ → PlannedShop → List ℕ → Answer → Type 0
-IsRestLine names wanted = IsLogAnswer (AnswersRest names wanted)
+-- what is printed where a run is: so of its log, or before it has begun of the whole plan
+abbrev pub IsRestLine : NameBook → PlanAnswer → Option ℕ → PlannedShop → Option (List ℕ) → Answer → Type 0
+IsRestLine names wanted at p None = AnswersPlan names wanted p
+IsRestLine names wanted at p (Some log) = IsLogAnswer (AnswersRest names wanted) at p log

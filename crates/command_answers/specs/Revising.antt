@@ -8,7 +8,7 @@ use Rattle.alt_graph.specs.Evidence.{IsCycle}
 use Rattle.alt_graph.specs.Solved.{HasCycle}
 use Rattle.text_lines.specs.Lines.{ended_lines}
 use Rattle.orlib_read.specs.Instance.{IsInstance}
-use Rattle.orlib_read.specs.Lines.{instance_lines}
+use Rattle.orlib_read.specs.Lines.{instance_lines, written_description}
 use Rattle.orlib_read.specs.declared.document.NotWritten.{NotWritten}
 use Rattle.orlib_read.specs.declared.document.NotWritten.TheVariants.{NotReadBack as NotRead, Memory as OutOfMemory}
 use Rattle.plan_text.specs.declared.plan_fault.PlanFault.TheVariants.{NotReadBack}
@@ -80,15 +80,15 @@ IsUnrevised changes values (Ends fault) outcome = outcome ≡ Err fault
 
 -- ---- what is printed
 
--- the text of an instance, which is read as this instance
+-- the text of an instance, which is read as this instance with the description that is written
 pub record IsInstanceText (description : List ℕ) (shop : JobShop) (answer : Answer) : Type 0 where
   pub lines : answer.text.items ≡ instance_lines description shop
-  pub read_back : IsInstance (instance_lines description shop) description shop
+  pub read_back : IsInstance (instance_lines description shop) (written_description description shop) shop
   pub good : answer.status ≡ 0
 
 -- the lines of an instance aren't read as this instance
 abbrev pub IsUnread : List ℕ → JobShop → Type 0
-IsUnread description shop = IsInstance (instance_lines description shop) description shop → ⊥
+IsUnread description shop = IsInstance (instance_lines description shop) (written_description description shop) shop → ⊥
 
 -- the text of an instance, without the description where that isn't read back; that this isn't either; or out of memory
 abbrev pub IsInstanceAnswer : List ℕ → JobShop → Result Answer CommandFault → Type 0

@@ -1,16 +1,13 @@
-//! The command `check`.
+//! The line of `check`, over texts.
 
 ghost use Rattle.std.specs.Prelude.{◌≡◌, IfOk};
 ghost use Rattle.std.specs.Option.{option_copied};
 ghost use Rattle.command_answers.specs.Readings.{AreTextsAnswered};
 ghost use Rattle.command_answers.specs.Checks.{IsCheckLine, IsLineOf, IsLineOfVerdict, verdict_status};
-ghost use Rattle.command_answers.specs.Commands.{RunsCheck};
 
 use crate::answer::{Answer, Answered, GOOD, REFUSED};
-use crate::inputs::{InputPaths, read_inputs};
-use crate::loading::{Loaded, judged, load};
+use crate::loading::{Loaded, load};
 use crate::shapes::not_shaped_answer;
-use crate::texts::Texts;
 use plan_explain::first_line;
 use plan_verifier::Verdict;
 use std::alloc::{AllocError, Global};
@@ -22,15 +19,6 @@ pub fn check(alloc: Global, instance: &[u8], name: Option<&[u8]>, plan: &[u8]) -
     ensures { AreTextsAnswered instance.now (option_copied name.entry) plan.now IsCheckLine result }
 {
     let loaded = load(alloc, instance, name, plan)?;
-    Ok(loaded_answer(alloc, loaded)?)
-}
-
-/// The verdict on the plan of a file for the instance of another.
-pub fn check_answer<T: Texts>(alloc: Global, texts: &mut T, inputs: &InputPaths<'_>) -> Answered
-    ensures { RunsCheck T.gives inputs.now texts.old result texts.new }
-{
-    let parsed = read_inputs(alloc, texts, inputs)?;
-    let loaded = judged(alloc, parsed)?;
     Ok(loaded_answer(alloc, loaded)?)
 }
 

@@ -1,23 +1,25 @@
-//! The command `decide`.
+//! The command `decide`, of whole plans or of the rest of a run.
 
-ghost use Rattle.std.specs.Prelude.{◌≡◌, IfOk};
+ghost use Rattle.std.specs.Prelude.{◌≡◌, ◌≤◌, IfOk, IfSome};
 ghost use Rattle.std.specs.Option.{option_copied};
+ghost use Rattle.shop_base.specs.declared.limits.TheConstants.{MAX_MOMENT};
 ghost use Rattle.plan_decide.specs.Pasts.{whole_case};
 ghost use Rattle.plan_decide.specs.Promises.{IsInRange};
 ghost use Rattle.command_answers.specs.Deciding.{IsDecidedAnswer, IsDecisionAnswer};
 ghost use Rattle.command_answers.specs.Deciding.{IsLineRefused, job_of};
 ghost use Rattle.command_answers.specs.DecisionLines.{never_lines, within_line};
 ghost use Rattle.command_answers.specs.Documents.{IsHeadedAnswer};
-ghost use Rattle.command_answers.specs.Commands.{IfSound, RunsDecide, WithDecision};
-ghost use Rattle.command_answers.specs.Serial.{serially as made_serial};
+ghost use Rattle.command_answers.specs.Commands.{DecidesPlan, IfFit, RunsDecide, WithNames};
 
 use crate::answer::{Answer, Answered, GOOD, REFUSED};
 use crate::asked_job::{absent_job, no_job_answer};
 use crate::command_fault::CommandFault;
 use crate::decision_lines::{push_never_lines, push_within_line};
-use crate::inputs::{Files, ParsedInputs, read_inputs, serially};
+use crate::improves::with_orders;
+use crate::inputs::{ParsedInputs, RunFiles, read_inputs, serially};
 use crate::lines::{document_answer, headed_answer, line_answer};
 use crate::naming::names_of;
+use crate::rest_decides::{logged_decided, unfit_answer};
 use crate::shape_faults::bad_numbers_answer;
 use crate::texts::Texts;
 use arc_choice::Choose;
@@ -27,58 +29,91 @@ use shop_base::{JobNo, Plan, Shaped};
 use std::alloc::{AllocError, Global};
 
 /// Whether any plan with the releases, budgets and cleaning times of the one in a file keeps all budgets, for the
-/// instance of another file, by complete searches of at most so many choices each. The orders of the given plan are
-/// read and not used. Where no plan keeps them, there is a line of jobs that exclude each other, or more than one, with
-/// their names where the file of names, which is read once the numbers are sound and the job that is asked for is
-/// found, has some. The words after `bad numbers ` are in no clause, but for those of a job that isn't of the shop. The
-/// text of a plan is read again: if it isn't that plan's, the fault is `NotReadBack`.
+/// instance of another file, by complete searches of at most so many choices each; of a run that has begun, the budgets
+/// of the jobs that aren't gone, for the rest of it. The orders of the given plan say only of what run that is a log,
+/// and a plan without any orders gets the serial ones; before a run has begun they aren't used. Where no plan keeps
+/// them, there is a line of jobs that exclude each other, or more than one, with their names where the file of names,
+/// which is read once the numbers are sound and the job that is asked for is found, has some. The words after `bad
+/// numbers ` are in no clause, but for those of a job that isn't of the shop. What comes after the log's last line feed
+/// isn't looked at, and a log or a moment is answered as by `improve`. The text of a plan is read again: if it isn't that
+/// plan's, the fault is `NotReadBack`.
 pub fn decide_answer<T: Texts, C: Choose, W: Watch>(
     alloc: Global,
     texts: &mut T,
-    files: &Files<'_>,
+    run: &RunFiles<'_>,
     aim: Aim,
     choices: u64,
     chooser: &mut C,
     watch: &mut W,
 ) -> Answered
-    ensures { RunsDecide T.gives aim files.now.inputs (option_copied files.now.names) texts.old result texts.new }
+    requires { IfSome run.now.at (λ present. present ≤ MAX_MOMENT) }
+    ensures { RunsDecide T.gives aim run.now texts.old result texts.new }
 {
-    let parsed = read_inputs(alloc, texts, &files.inputs)?;
-    parsed_decided(
-        alloc,
-        texts,
-        parsed,
-        files.names,
-        aim,
-        choices,
-        chooser,
-        watch,
-    )
+    let parsed = read_inputs(alloc, texts, &run.files.inputs)?;
+    parsed_decided(alloc, texts, parsed, run, aim, choices, chooser, watch)
 }
 
-/// What is decided for a shop with the numbers of a plan, if these are sound, else their first fault.
+/// What is decided for a shop with the numbers of a plan, if these are sound, and for a run of it that has begun also
+/// the orders fit, else the first fault.
 fn parsed_decided<T: Texts, C: Choose, W: Watch>(
     alloc: Global,
     texts: &mut T,
     parsed: ParsedInputs,
-    names: Option<&str>,
+    run: &RunFiles<'_>,
     aim: Aim,
     choices: u64,
     chooser: &mut C,
     watch: &mut W,
 ) -> Answered
-    ensures { IfSound T.gives parsed (WithDecision T.gives aim (option_copied names.entry) (made_serial parsed))
-        texts.old result texts.new }
+    requires { IfSome run.now.at (λ present. present ≤ MAX_MOMENT) }
+    ensures { IfFit T.gives run.now.log parsed (DecidesPlan T.gives aim run.now) texts.old result texts.new }
 {
-    match serially(alloc, parsed)?.shaped() {
-        Ok(shaped) => sound_decided(alloc, texts, shaped, names, aim, choices, chooser, watch),
-        Err(fault) => Ok(bad_numbers_answer(alloc, fault)?),
+    match run.log {
+        Some(_) => match with_orders(alloc, parsed)?.shaped() {
+            Ok(shaped) => fit_decided(alloc, texts, shaped, run, aim, choices, chooser, watch),
+            Err(fault) => Ok(unfit_answer(alloc, fault)?),
+        },
+        None => match serially(alloc, parsed)?.shaped() {
+            Ok(shaped) => fit_decided(alloc, texts, shaped, run, aim, choices, chooser, watch),
+            Err(fault) => Ok(bad_numbers_answer(alloc, fault)?),
+        },
     }
 }
 
-/// What is decided for a shop with the numbers of this plan, if the job that is asked for is one of it, with the names
-/// and the clock of a file.
-fn sound_decided<T: Texts, C: Choose, W: Watch>(
+/// What is decided by this plan, if the job that is asked for is one of its shop, with the names and the clock of a file.
+fn fit_decided<T: Texts, C: Choose, W: Watch>(
+    alloc: Global,
+    texts: &mut T,
+    shaped: Shaped,
+    run: &RunFiles<'_>,
+    aim: Aim,
+    choices: u64,
+    chooser: &mut C,
+    watch: &mut W,
+) -> Answered
+    requires { IfSome run.now.at (λ present. present ≤ MAX_MOMENT) }
+    ensures { DecidesPlan T.gives aim run.now shaped texts.old result texts.new }
+{
+    if let Some(absent) = absent_job(&shaped, job_of(aim)) {
+        drop(shaped);
+        return Ok(no_job_answer(alloc, absent)?);
+    }
+    match run.log {
+        Some(log) => {
+            let (names, at) = (run.files.names, run.at);
+            logged_decided(
+                alloc, texts, shaped, names, log, at, aim, choices, chooser, watch,
+            )
+        }
+        None => {
+            let names = run.files.names;
+            whole_decided(alloc, texts, shaped, names, aim, choices, chooser, watch)
+        }
+    }
+}
+
+/// What is decided for a shop with the numbers of this plan, with the names and the clock of a file.
+fn whole_decided<T: Texts, C: Choose, W: Watch>(
     alloc: Global,
     texts: &mut T,
     shaped: Shaped,
@@ -88,12 +123,10 @@ fn sound_decided<T: Texts, C: Choose, W: Watch>(
     chooser: &mut C,
     watch: &mut W,
 ) -> Answered
-    ensures { WithDecision T.gives aim (option_copied names.entry) shaped texts.old result texts.new }
+    requires { IsInRange (whole_case shaped) aim }
+    ensures { WithNames T.gives (option_copied names.entry) shaped
+        (λ book. IsDecisionAnswer book (whole_case shaped) aim) texts.old result texts.new }
 {
-    if let Some(absent) = absent_job(&shaped, job_of(aim)) {
-        drop(shaped);
-        return Ok(no_job_answer(alloc, absent)?);
-    }
     match names_of(alloc, texts, names, &shaped) {
         Ok(names) => {
             let answer = shaped_decided(alloc, &names, shaped, aim, choices, chooser, watch);

@@ -1,17 +1,18 @@
-//! The command `improve`.
+//! The command `improve`, of a whole plan or of the rest of a run.
 
-ghost use Rattle.std.specs.Prelude.{◌≡◌};
+ghost use Rattle.std.specs.Prelude.{◌≡◌, ◌≤◌, IfSome};
+ghost use Rattle.shop_base.specs.declared.limits.TheConstants.{MAX_MOMENT};
 ghost use Rattle.plan_verifier.specs.Seen.{judged};
 ghost use Rattle.command_answers.specs.Steps.{IsOrMemory};
 ghost use Rattle.command_answers.specs.Checks.{verdict_status};
 ghost use Rattle.command_answers.specs.Documents.{IsDocumentAnswer};
-ghost use Rattle.command_answers.specs.Improving.{RoundsOf, IsBestAnswer, IsImproveAnswer, ordered};
-ghost use Rattle.command_answers.specs.Commands.{RunsImprove};
+ghost use Rattle.command_answers.specs.Improving.{RoundsOf, IsBestAnswer, ordered};
+ghost use Rattle.command_answers.specs.Commands.{BettersPlan, RunsImprove};
 
 use crate::answer::{Answered, GOOD, Outcome, REFUSED};
-use crate::inputs::{InputPaths, ParsedInputs, read_inputs, serially};
+use crate::inputs::{ParsedInputs, RunFiles, read_inputs, serially};
 use crate::lines::document_answer;
-use crate::rest_improves::unfound_answer;
+use crate::rest_improves::{logged_answer, unfound_answer};
 use crate::shapes::not_shaped_answer;
 use crate::texts::Texts;
 use plan_improve::{Improver, Watch, improve};
@@ -19,37 +20,51 @@ use plan_verifier::Verdict;
 use shop_base::Shaped;
 use std::alloc::Global;
 
-/// The text of the best plan that a search from the plan of a file meets, for the instance of another file: accepted,
-/// or with a job that is still late. A plan without any orders gets the serial ones. One that isn't well
-/// shaped is answered by its first fault. More than 1000 rounds are answered by `too many rounds`.
+/// The text of the best plan that a search from the plan of a file meets, for the instance of another file, or for the
+/// rest of a run of it: accepted, or with a job that is still late. A plan without any orders gets the serial ones. One
+/// that isn't well shaped is answered by its first fault. What comes after the log's last line feed isn't looked at. A
+/// log that records no run of that plan is answered by its first bad line, a present moment before the log's last one
+/// by `log past L`, and a plan with a cycle, if a job has arrived, by the line of `check`. More than 1000 rounds are
+/// answered before these, by `too many rounds`.
 pub fn improve_answer<T: Texts, W: Watch>(
     alloc: Global,
     texts: &mut T,
-    inputs: &InputPaths<'_>,
+    run: &RunFiles<'_>,
     improvers: &[Box<dyn Improver>],
     rounds: u32,
     watch: &mut W,
 ) -> Answered
-    ensures { RunsImprove T.gives (RoundsOf rounds (λ b. may b) improvers.now) rounds inputs.now
+    requires { IfSome run.now.at (λ present. present ≤ MAX_MOMENT) }
+    ensures { RunsImprove T.gives (RoundsOf rounds (λ b. may b) improvers.now) rounds run.now
         texts.old result texts.new }
 {
-    let parsed = read_inputs(alloc, texts, inputs)?;
+    let parsed = read_inputs(alloc, texts, &run.files.inputs)?;
     let parsed = with_orders(alloc, parsed)?;
-    better_answer(alloc, parsed, improvers, rounds, watch)
+    better_answer(alloc, texts, parsed, run, improvers, rounds, watch)
 }
 
 /// The answer of the search from a plan, if it is well shaped, else its first fault.
-fn better_answer<W: Watch>(
+fn better_answer<T: Texts, W: Watch>(
     alloc: Global,
+    texts: &mut T,
     parsed: ParsedInputs,
+    run: &RunFiles<'_>,
     improvers: &[Box<dyn Improver>],
     rounds: u32,
     watch: &mut W,
 ) -> Answered
-    ensures { IsImproveAnswer (RoundsOf rounds (λ b. may b) improvers.now) rounds parsed result }
+    requires { IfSome run.now.at (λ present. present ≤ MAX_MOMENT) }
+    ensures { BettersPlan T.gives (RoundsOf rounds (λ b. may b) improvers.now) rounds run.now parsed
+        texts.old result texts.new }
 {
     match parsed.shaped() {
-        Ok(start) => best_answer(alloc, start, improvers, rounds, watch),
+        Ok(start) => match run.log {
+            Some(log) => {
+                let at = run.at;
+                logged_answer(alloc, texts, start, log, at, improvers, rounds, watch)
+            }
+            None => best_answer(alloc, start, improvers, rounds, watch),
+        },
         Err(fault) => Ok(not_shaped_answer(alloc, fault)?),
     }
 }

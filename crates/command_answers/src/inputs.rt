@@ -40,12 +40,23 @@ pub struct Files<'a> {
     pub names: Option<&'a str>,
 }
 
-/// What is ahead of a run: its files, its log, and the present moment, if another one than the log's last is given.
+/// The files of a run of which something is asked: those of its plan and of names, and its log, if it has begun; and the
+/// present moment, if another one than the log's last is given. Without a log the moment isn't looked at.
 #[derive(Drop)]
-pub struct Ahead<'a> {
+pub struct RunFiles<'a> {
     pub files: Files<'a>,
-    pub log: &'a str,
+    pub log: Option<&'a str>,
     pub at: Option<Moment>,
+}
+
+impl<'a> Model for RunFiles<'a> {
+    ghost use Rattle.std.specs.Option.{option_copied};
+    ghost use Rattle.command_answers.specs.Commands.{RunPaths};
+
+    ghost Value = { RunPaths };
+
+    ghost view = { λ r.
+        record { inputs = r.files.inputs; names = option_copied r.files.names; log = option_copied r.log; at = r.at } };
 }
 
 /// A shop and a plan for it, as two texts give them.

@@ -1,144 +1,51 @@
 //! The moves of `schedule --moves`.
 
-ghost use Rattle.std.specs.Prelude.{◌≡◌, ◌≤◌, ◌++◌, List, ℕ, IfErr, IfSome, OnOk};
-ghost use Rattle.std.specs.Option.{option_copied};
+ghost use Rattle.std.specs.Prelude.{◌≡◌, ◌≤◌, ◌++◌, List, ℕ, Ok, IfOk, IfErr, IfSome, OnOk};
 ghost use Rattle.shop_base.specs.declared.limits.TheConstants.{MAX_MOMENT};
-ghost use Rattle.shop_base.specs.Cell.{start};
 ghost use Rattle.command_answers.specs.declared.command_fault.CommandFault.TheVariants.{Memory};
-ghost use Rattle.command_answers.specs.Moves.{AreLinesBelow, AreMovesOfLog, AreMovesOfPlan, IsMovesAnswer};
+ghost use Rattle.command_answers.specs.Moves.{AreLinesBelow, IsMovesAnswer};
 ghost use Rattle.command_answers.specs.declared.rests.PlanAnswer.TheVariants.{Verdict};
 ghost use Rattle.command_answers.specs.Rests.{AnswersRest};
 ghost use Rattle.command_answers.specs.Steps.{IsOrMemory};
-ghost use Rattle.command_answers.specs.Commands.{RunsMoves, RunsRestMoves, WithNames, WithNamesAndLog};
+ghost use Rattle.command_answers.specs.Commands.{RunsMoves};
+ghost use Rattle.plan_explain.specs.Known.{IsJudged};
 
 use crate::answer::{Answer, Answered, Outcome};
-use crate::command_fault::{CommandFault, Unanswered};
-use crate::inputs::{Ahead, Files, shape_files};
-use crate::naming::{names_and_log, names_of};
-use crate::rests::{PlanAnswer, answer_rest, run_fault_answer};
-use crate::shapes::unshaped_answer;
+use crate::command_fault::Unanswered;
+use crate::inputs::RunFiles;
+use crate::known_rests::{KnownRest, rest_of_run};
+use crate::rests::{PlanAnswer, answer_judged};
 use crate::texts::Texts;
 use cell_tables::Rest;
 use people_names::Names;
 use plan_moves::{moves_from, push_move_lines};
-use run_log::{LoggedRest, rest_at};
-use shop_base::{Moment, Shaped};
+use shop_base::Shaped;
 use std::alloc::Global;
 
-/// The moves of the run in which everything is reported when it is due, by the plan of a file for the instance of
-/// another: below the line of `check` a line for each, with the names and the clock of a third file, which is read once
-/// the plan is shaped. A plan with a cycle has none.
-pub fn moves_answer<T: Texts>(alloc: Global, texts: &mut T, files: &Files<'_>) -> Answered
-    ensures { RunsMoves T.gives files.now.inputs (option_copied files.now.names) texts.old result texts.new }
+/// The moves of the run that goes on, in which everything is reported when it is due: below the line of `check` a line
+/// for each, with the names and the clock of a file, which is read once the plan is shaped. A plan with a cycle has none.
+pub fn moves_answer<T: Texts>(alloc: Global, texts: &mut T, run: &RunFiles<'_>) -> Answered
+    requires { IfSome run.now.at (λ present. present ≤ MAX_MOMENT) }
+    ensures { RunsMoves T.gives run.now texts.old result texts.new }
 {
-    match shape_files(alloc, texts, &files.inputs)? {
-        Ok(shaped) => shaped_moves(alloc, texts, shaped, files.names),
-        Err(fault) => unshaped_answer(alloc, fault),
-    }
+    let found = rest_of_run(alloc, texts, run, None)?;
+    found_moves(alloc, found)
 }
 
-/// The moves from the start of a plan on, with the names and the clock of a file.
-fn shaped_moves<T: Texts>(
-    alloc: Global,
-    texts: &mut T,
-    shaped: Shaped,
-    names: Option<&str>,
-) -> Answered
-    ensures { WithNames T.gives (option_copied names.entry) shaped
-        (λ book. IsOrMemory (AreMovesOfPlan book shaped)) texts.old result texts.new }
+/// The moves of the rest of a run, or the line that stands instead.
+fn found_moves(alloc: Global, found: Result<KnownRest, Answer>) -> Answered
+    requires { IfOk found (λ s. IsJudged s.rest.plan s.rest.cell s.rest.present s.verdict) }
+    ensures moves { IfOk found (λ s. IsOrMemory
+        (IsMovesAnswer s.names s.rest.plan s.rest.cell s.rest.present) result) }
+    ensures line { IfErr found (λ line. result ≡ Ok line) }
 {
-    match names_of(alloc, texts, names, &shaped) {
-        Ok(names) => {
-            let answer = plan_moves(alloc, &names, shaped);
-            drop(names);
-            answer
+    match found {
+        Ok(known) => {
+            let (names, rest) = (known.names, known.rest);
+            let line = answer_judged(alloc, &names, &rest, &known.verdict, PlanAnswer::Verdict)?;
+            moves_below(alloc, line, &names, rest)
         }
-        Err(fault) => {
-            drop(shaped);
-            Err(fault)
-        }
-    }
-}
-
-/// The moves ahead in the run in the log of a file, from a present moment on, or from the last one of that run.
-pub fn rest_moves_answer<T: Texts>(alloc: Global, texts: &mut T, ahead: &Ahead<'_>) -> Answered
-    requires { IfSome ahead.now.at (λ present. present ≤ MAX_MOMENT) }
-    ensures { RunsRestMoves T.gives ahead.now.at ahead.now.files.inputs
-        (option_copied ahead.now.files.names) ahead.now.log.now texts.old result texts.new }
-{
-    match shape_files(alloc, texts, &ahead.files.inputs)? {
-        Ok(shaped) => shaped_rest_moves(alloc, texts, shaped, ahead),
-        Err(fault) => unshaped_answer(alloc, fault),
-    }
-}
-
-/// The moves ahead in the run of a plan in the log of a file.
-fn shaped_rest_moves<T: Texts>(
-    alloc: Global,
-    texts: &mut T,
-    shaped: Shaped,
-    ahead: &Ahead<'_>,
-) -> Answered
-    requires { IfSome ahead.now.at (λ present. present ≤ MAX_MOMENT) }
-    ensures { WithNamesAndLog T.gives (option_copied ahead.now.files.names) ahead.now.log.now shaped
-        (λ book. AreMovesOfLog book ahead.now.at shaped) texts.old result texts.new }
-{
-    match names_and_log(alloc, texts, &shaped, ahead.files.names, ahead.log) {
-        Ok(read) => {
-            let answer = log_moves(alloc, &read.names, shaped, &read.log, ahead.at);
-            drop(read);
-            answer
-        }
-        Err(fault) => {
-            drop(shaped);
-            Err(fault)
-        }
-    }
-}
-
-/// The moves from the start on.
-fn plan_moves(alloc: Global, names: &Names, shaped: Shaped) -> Answered
-    ensures { IsOrMemory (IsMovesAnswer names.now shaped (start shaped) 0) result }
-{
-    match Rest::start(alloc, shaped) {
-        Ok(rest) => moves_ahead(alloc, names, rest),
-        Err((error, back)) => {
-            drop(back);
-            Err(CommandFault::from(error))
-        }
-    }
-}
-
-/// The moves ahead in the run in a log.
-fn log_moves(
-    alloc: Global,
-    names: &Names,
-    shaped: Shaped,
-    log: &[u8],
-    at: Option<Moment>,
-) -> Answered
-    requires { IfSome at (λ present. present ≤ MAX_MOMENT) }
-    ensures { IsOrMemory (AreMovesOfLog names.now at shaped log.now) result }
-{
-    match rest_at(alloc, shaped, log, at)? {
-        Ok(LoggedRest { rest, entries }) => {
-            drop(entries);
-            moves_ahead(alloc, names, rest)
-        }
-        Err(fault) => run_fault_answer(alloc, fault),
-    }
-}
-
-/// The moves of the rest of a run, below the line of the verdict on it.
-fn moves_ahead(alloc: Global, names: &Names, rest: Rest<Shaped>) -> Answered
-    ensures { IsOrMemory (IsMovesAnswer names.now rest.plan rest.cell rest.present) result }
-{
-    match answer_rest(alloc, names, &rest, PlanAnswer::Verdict) {
-        Ok(line) => moves_below(alloc, line, names, rest),
-        Err(error) => {
-            drop(rest);
-            Err(CommandFault::from(error))
-        }
+        Err(line) => Ok(line),
     }
 }
 

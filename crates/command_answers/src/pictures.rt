@@ -1,6 +1,6 @@
 //! The pictures of the commands `gantt` and `schedule`.
 
-ghost use Rattle.std.specs.Prelude.{◌≡◌, ◌≤◌, IfOk, IfSome};
+ghost use Rattle.std.specs.Prelude.{◌≡◌, ◌≤◌, Ok, IfOk, IfErr, IfSome};
 ghost use Rattle.std.specs.Option.{option_copied};
 ghost use Rattle.shop_base.specs.Plan.{jobs};
 ghost use Rattle.shop_base.specs.declared.limits.TheConstants.{MAX_MOMENT};
@@ -10,27 +10,28 @@ ghost use Rattle.run_picture.specs.PictureText.{IsPicture};
 ghost use Rattle.run_gantt.specs.DrawnVisits.{drawn_visits};
 ghost use Rattle.run_gantt.specs.LeavingsSoFar.{leavings_so_far};
 ghost use Rattle.plan_explain.specs.Known.{IsJudged};
+ghost use Rattle.command_answers.specs.declared.pictures.Drawn.TheVariants.{Line};
 ghost use Rattle.command_answers.specs.Steps.{IsOrMemory};
-ghost use Rattle.command_answers.specs.Commands.{WithNames, WithNamesAndLog};
+ghost use Rattle.command_answers.specs.Commands.{WithNamesAndLog};
 ghost use Rattle.command_answers.specs.Shapes.{IsRefusedLine};
-ghost use Rattle.command_answers.specs.Pictures.{DrawsLog, DrawsRest, DrawsSchedule, IsLineAlone, IsLogDrawn};
-ghost use Rattle.command_answers.specs.Pictures.{IsPlanDrawn, IsRestDrawing, IsRestDrawn, IsRunPicture, IsVerdictDrawn};
+ghost use Rattle.command_answers.specs.Pictures.{DrawsLog, DrawsRest, IsLineAlone, IsLogDrawn};
+ghost use Rattle.command_answers.specs.Pictures.{IsRunPicture, IsVerdictDrawn};
 ghost use Rattle.command_answers.specs.Pictures.{line_at, log_sheet, run_head, run_sheet};
 
 use crate::answer::{Answer, GOOD, Outcome, REFUSED};
-use crate::inputs::{Ahead, Files, shape_files};
+use crate::inputs::{Files, RunFiles, shape_files};
+use crate::known_rests::{KnownRest, rest_of_run};
 use crate::logs::log_fault_answer;
-use crate::naming::{names_and_log, names_of};
+use crate::naming::names_and_log;
 use crate::rest_improves::cycle_answer;
-use crate::rests::run_fault_answer;
 use crate::shapes::not_shaped_answer;
 use crate::texts::Texts;
 use alt_graph::Times;
 use cell_tables::{Entry, Rest};
 use people_names::Names;
 use plan_schedule::{DrawnRun, drawn_run};
-use plan_verifier::{Judged, Why, judge};
-use run_log::{Audit, audit, rest_at};
+use plan_verifier::{Judged, Why};
+use run_log::{Audit, audit};
 use run_picture::{DrawnVisit, Head, Picture, Sheet, last_moment, late_leavings, latest};
 use shop_base::{Moment, ShapeFault, Shaped};
 use std::alloc::{AllocError, Global};
@@ -137,128 +138,51 @@ fn log_sheet(shaped: &Shaped, run: &Audit) -> Sheet
     }
 }
 
-/// Draws the exact run of the plan of one file for the instance of another, whether it is in time or late, with the
-/// names of a third if there is one. A plan that isn't well shaped, or has a cycle, has the line of its check instead.
-pub fn schedule_picture<T: Texts>(alloc: Global, texts: &mut T, files: &Files<'_>) -> Outcome<Drawn>
-    ensures { DrawsSchedule T.gives files.now.inputs (option_copied files.now.names) texts.old result texts.new }
-{
-    match shape_files(alloc, texts, &files.inputs)? {
-        Ok(shaped) => shaped_drawn(alloc, texts, shaped, files.names),
-        Err(fault) => unshaped_drawn(alloc, fault),
-    }
-}
-
-/// Draws a whole plan, with the names of a file if there is one.
-fn shaped_drawn<T: Texts>(
+/// Draws a run that goes on exactly, whether it is in time or late: the one in a log with its rest, from a present moment
+/// on or from the last one of that run, or that of the whole plan, if it hasn't begun. The names are those of a file, if
+/// there is one. What comes after the log's last line feed isn't looked at. A plan that isn't well shaped or has a cycle,
+/// a log that records no run of it, or a present moment before the last one has a line instead.
+pub fn schedule_picture<T: Texts>(
     alloc: Global,
     texts: &mut T,
-    shaped: Shaped,
-    names: Option<&str>,
+    run: &RunFiles<'_>,
 ) -> Outcome<Drawn>
-    ensures { WithNames T.gives (option_copied names.entry) shaped
-        (λ book. IsOrMemory (IsPlanDrawn book shaped)) texts.old result texts.new }
+    requires { IfSome run.now.at (λ present. present ≤ MAX_MOMENT) }
+    ensures { DrawsRest T.gives run.now texts.old result texts.new }
 {
-    match names_of(alloc, texts, names, &shaped) {
-        Ok(names) => Ok(plan_drawn(alloc, names, shaped)?),
-        Err(fault) => {
-            drop(shaped);
-            Err(fault)
-        }
+    let found = rest_of_run(alloc, texts, run, None)?;
+    found_drawn(alloc, found)
+}
+
+/// Draws a run that goes on from where it is, or has the line that stands instead.
+fn found_drawn(alloc: Global, found: Result<KnownRest, Answer>) -> Outcome<Drawn>
+    requires { IfOk found (λ s. IsJudged s.rest.plan s.rest.cell s.rest.present s.verdict) }
+    ensures drawn { IfOk found (λ s. IsOrMemory (IsVerdictDrawn s.names s.rest.plan s.rest.cell s.rest.present
+        (line_at s.at s.entries.items s.rest.present) (drawn_visits s.rest.plan s.entries.items) s.verdict) result) }
+    ensures line { IfErr found (λ line. result ≡ Ok (Line line)) }
+{
+    match found {
+        Ok(known) => Ok(known_drawn(alloc, known)?),
+        Err(line) => Ok(Drawn::Line(line)),
     }
 }
 
-/// Draws a whole plan: the rest of a run that hasn't begun.
-fn plan_drawn(alloc: Global, names: Names, shaped: Shaped) -> Result<Drawn, AllocError>
-    ensures { IfOk result (IsPlanDrawn names shaped) }
+/// Draws a run that goes on from where it is, by the verdict on its rest.
+fn known_drawn(alloc: Global, known: KnownRest) -> Result<Drawn, AllocError>
+    requires { let s = known in IsJudged s.rest.plan s.rest.cell s.rest.present s.verdict }
+    ensures { let s = known in IfOk result (IsVerdictDrawn s.names s.rest.plan s.rest.cell s.rest.present
+        (line_at s.at s.entries.items s.rest.present) (drawn_visits s.rest.plan s.entries.items) s.verdict) }
 {
-    match Rest::start(alloc, shaped) {
-        Ok(rest) => {
-            let drawn = rest_drawn(alloc, names, &rest, None, &[]);
-            drop(rest);
-            drawn
-        }
-        Err((error, back)) => {
-            drop(names);
-            drop(back);
-            Err(error)
-        }
-    }
-}
-
-/// Draws the run in the log of a file and its rest, by the plan of another for the instance of a third, with the names
-/// of a fourth if there is one: from a present moment on, or from the last one of that run. What comes after the log's
-/// last line feed isn't looked at. A plan that isn't well shaped or has a cycle, a log that records no run of it, or a
-/// present moment before the last one has a line instead.
-pub fn rest_picture<T: Texts>(alloc: Global, texts: &mut T, ahead: &Ahead<'_>) -> Outcome<Drawn>
-    requires { IfSome ahead.now.at (λ present. present ≤ MAX_MOMENT) }
-    ensures { DrawsRest T.gives ahead.now.at ahead.now.files.inputs
-        (option_copied ahead.now.files.names) ahead.now.log.now texts.old result texts.new }
-{
-    match shape_files(alloc, texts, &ahead.files.inputs)? {
-        Ok(shaped) => shaped_rest(alloc, texts, shaped, ahead),
-        Err(fault) => unshaped_drawn(alloc, fault),
-    }
-}
-
-/// Draws the run of a plan in the log of a file and its rest.
-fn shaped_rest<T: Texts>(
-    alloc: Global,
-    texts: &mut T,
-    shaped: Shaped,
-    ahead: &Ahead<'_>,
-) -> Outcome<Drawn>
-    requires { IfSome ahead.now.at (λ present. present ≤ MAX_MOMENT) }
-    ensures { WithNamesAndLog T.gives (option_copied ahead.now.files.names) ahead.now.log.now shaped
-        (λ book. IsRestDrawing ahead.now.at book shaped) texts.old result texts.new }
-{
-    match names_and_log(alloc, texts, &shaped, ahead.files.names, ahead.log) {
-        Ok(read) => {
-            let drawn = rest_of_log(alloc, read.names, shaped, &read.log, ahead.at);
-            drop(read.log);
-            drawn
-        }
-        Err(fault) => {
-            drop(shaped);
-            Err(fault)
-        }
-    }
-}
-
-/// Draws the run in a log and its rest.
-fn rest_of_log(
-    alloc: Global,
-    names: Names,
-    shaped: Shaped,
-    log: &[u8],
-    at: Option<Moment>,
-) -> Outcome<Drawn>
-    requires { IfSome at (λ present. present ≤ MAX_MOMENT) }
-    ensures { IsOrMemory (IsRestDrawing at names shaped log.now) result }
-{
-    match rest_at(alloc, shaped, log, at)? {
-        Ok(run) => {
-            let drawn = run_drawn(alloc, names, &run.rest, at, &run.entries);
-            drop(run);
-            Ok(drawn?)
-        }
-        Err(fault) => Ok(Drawn::Line(run_fault_answer(alloc, fault)?)),
-    }
-}
-
-/// Draws the run of these entries and its rest.
-fn run_drawn(
-    alloc: Global,
-    names: Names,
-    rest: &Rest<Shaped>,
-    at: Option<Moment>,
-    entries: &[Entry],
-) -> Result<Drawn, AllocError>
-    ensures { let r = rest.now in let p = r.plan in let line = line_at at entries.now r.present in
-        IfOk result (IsRestDrawn names p r.cell r.present line (drawn_visits p entries.now)) }
-{
-    let visits = run_gantt::drawn_visits(alloc, rest.shaped(), entries)?;
-    let line = line_at(at, entries, rest.present());
-    rest_drawn(alloc, names, rest, line, &visits)
+    let KnownRest {
+        names,
+        rest,
+        entries,
+        at,
+        verdict,
+    } = known;
+    let visits = run_gantt::drawn_visits(alloc, rest.shaped(), &entries)?;
+    let line = line_at(at, &entries, rest.present());
+    verdict_drawn(alloc, names, &rest, line, &visits, &verdict)
 }
 
 /// The moment that has a line: the present one, unless no moment is given and the log records nothing.
@@ -271,24 +195,8 @@ fn line_at(at: Option<Moment>, entries: &[Entry], present: Moment) -> Option<Mom
     Some(present)
 }
 
-/// Draws the rest by the verdict on it: with these names, with a line at this moment, if there is one, and behind the
-/// visits that are known so far.
-fn rest_drawn(
-    alloc: Global,
-    names: Names,
-    rest: &Rest<Shaped>,
-    line: Option<Moment>,
-    visits: &[DrawnVisit],
-) -> Result<Drawn, AllocError>
-    ensures { let r = rest.now in IfOk result (IsRestDrawn names r.plan r.cell r.present line visits.now) }
-{
-    let verdict = judge(alloc, rest)?;
-    let drawn = verdict_drawn(alloc, names, rest, line, visits, &verdict);
-    drop(verdict);
-    drawn
-}
-
-/// Draws what the verdict on the rest is about, with its status. Of a cycle there is its line.
+/// Draws what the verdict on the rest is about, with its status: with these names, with a line at this moment, if there
+/// is one, and behind the visits that are known so far. Of a cycle there is its line.
 fn verdict_drawn(
     alloc: Global,
     names: Names,

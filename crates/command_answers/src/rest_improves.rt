@@ -1,21 +1,18 @@
-//! The command `improve` of the rest of a run.
+//! What `improve` answers of the rest of a run.
 
 ghost use Rattle.std.specs.Prelude.{◌≡◌, ◌≤◌, IfOk, IfSome, None};
 ghost use Rattle.shop_base.specs.declared.limits.TheConstants.{MAX_MOMENT};
 ghost use Rattle.text_lines.specs.Lines.{ended_lines};
-ghost use Rattle.command_answers.specs.ImprovingRests.{RestRoundsOf, IsRestAnswer, IsJudgedAnswer, IsUnfoundAnswer};
+ghost use Rattle.command_answers.specs.ImprovingRests.{IsRestAnswer, IsJudgedAnswer, IsUnfoundAnswer};
 ghost use Rattle.command_answers.specs.ImprovingRests.{IsLineOfCycle, IsSearchAnswer, improve_command_fault};
-ghost use Rattle.command_answers.specs.Commands.{RunsImproveRest, WithRest};
+ghost use Rattle.command_answers.specs.Improving.{RoundsOf};
 ghost use Rattle.command_answers.specs.Steps.{Concludes, Then};
 ghost use Rattle.command_answers.specs.Texts.{Asks};
 
 use crate::answer::{Answer, Answered, GOOD, REFUSED};
 use crate::command_fault::Unanswered;
-use crate::improves::with_orders;
-use crate::inputs::{Ahead, ParsedInputs, read_inputs};
 use crate::lines::{document_answer, line_answer};
 use crate::rests::run_fault_answer;
-use crate::shapes::not_shaped_answer;
 use crate::texts::Texts;
 use plan_explain::push_cycle_line;
 use plan_improve::{ImproveFault, Improved, Improver, MAX_ROUNDS, NotImproved, Watch, better_rest};
@@ -24,66 +21,25 @@ use run_log::{LoggedRest, rest_at};
 use shop_base::{Moment, Node, Shaped};
 use std::alloc::{AllocError, Global};
 
-/// The text of the best plan that a search from the plan of a file meets for the rest of the run in the log of another,
-/// for the instance of a third: its rest accepted, or with a job that is still late. A plan without any orders gets
-/// the serial ones. What comes after the log's last line feed isn't looked at. A log that records no run of that
-/// plan is answered by its first bad line, a present moment before the log's last one by `log past L`, and a plan with
-/// a cycle, if a job has arrived, by the line of `check`. More than 1000 rounds are answered first, by `too many rounds`.
-pub fn improve_rest_answer<T: Texts, W: Watch>(
-    alloc: Global,
-    texts: &mut T,
-    ahead: &Ahead<'_>,
-    improvers: &[Box<dyn Improver>],
-    rounds: u32,
-    watch: &mut W,
-) -> Answered
-    requires { IfSome ahead.now.at (λ present. present ≤ MAX_MOMENT) }
-    ensures { RunsImproveRest T.gives (RestRoundsOf rounds (λ b. may b) improvers.now) ahead.now.at rounds
-        ahead.now.files.inputs ahead.now.log.now texts.old result texts.new }
-{
-    let parsed = read_inputs(alloc, texts, &ahead.files.inputs)?;
-    let parsed = with_orders(alloc, parsed)?;
-    better_rest_answer(alloc, texts, parsed, ahead, improvers, rounds, watch)
-}
-
-/// The answer of the search from a plan for the rest of the run in a log, if it is well shaped, else its first fault.
-fn better_rest_answer<T: Texts, W: Watch>(
-    alloc: Global,
-    texts: &mut T,
-    parsed: ParsedInputs,
-    ahead: &Ahead<'_>,
-    improvers: &[Box<dyn Improver>],
-    rounds: u32,
-    watch: &mut W,
-) -> Answered
-    requires { IfSome ahead.now.at (λ present. present ≤ MAX_MOMENT) }
-    ensures { WithRest T.gives (RestRoundsOf rounds (λ b. may b) improvers.now) ahead.now.at rounds ahead.now.log.now
-        parsed texts.old result texts.new }
-{
-    match parsed.shaped() {
-        Ok(start) => shaped_rest_answer(alloc, texts, start, ahead, improvers, rounds, watch),
-        Err(fault) => Ok(not_shaped_answer(alloc, fault)?),
-    }
-}
-
 /// The answer of the search from a well-shaped plan for the rest of the run in the log of a file.
-fn shaped_rest_answer<T: Texts, W: Watch>(
+pub(crate) fn logged_answer<T: Texts, W: Watch>(
     alloc: Global,
     texts: &mut T,
     start: Shaped,
-    ahead: &Ahead<'_>,
+    log: &str,
+    at: Option<Moment>,
     improvers: &[Box<dyn Improver>],
     rounds: u32,
     watch: &mut W,
 ) -> Answered
-    requires { IfSome ahead.now.at (λ present. present ≤ MAX_MOMENT) }
-    ensures { Then (Asks T.gives ahead.now.log.now)
-        (λ log. Concludes (IsRestAnswer (RestRoundsOf rounds (λ b. may b) improvers.now) ahead.now.at rounds
-        (ended_lines log) start)) texts.old result texts.new }
+    requires { IfSome at (λ present. present ≤ MAX_MOMENT) }
+    ensures { Then (Asks T.gives log.now)
+        (λ text. Concludes (IsRestAnswer (RoundsOf rounds (λ b. may b) improvers.now) at rounds
+        (ended_lines text) start)) texts.old result texts.new }
 {
-    match texts.text(alloc, ahead.log) {
+    match texts.text(alloc, log) {
         Ok(text) => {
-            let answer = found_answer(alloc, start, &text, ahead.at, improvers, rounds, watch);
+            let answer = found_answer(alloc, start, &text, at, improvers, rounds, watch);
             drop(text);
             answer
         }
@@ -105,8 +61,7 @@ fn found_answer<W: Watch>(
     watch: &mut W,
 ) -> Answered
     requires { IfSome at (λ present. present ≤ MAX_MOMENT) }
-    ensures { IsRestAnswer (RestRoundsOf rounds (λ b. may b) improvers.now) at rounds
-        (ended_lines log.now) start result }
+    ensures { IsRestAnswer (RoundsOf rounds (λ b. may b) improvers.now) at rounds (ended_lines log.now) start result }
 {
     if rounds > MAX_ROUNDS {
         drop(start);

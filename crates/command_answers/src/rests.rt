@@ -1,31 +1,27 @@
-//! What is answered of a plan, and of the rest of a run: the commands `check`, `explain` and `schedule` of a log.
+//! What is answered of the rest of a run, of which a whole plan is one: the commands `check`, `explain` and `schedule`.
 
-ghost use Rattle.std.specs.Prelude.{◌≡◌, ◌<◌, ◌≤◌, IfOk, IfSome};
-ghost use Rattle.std.specs.Option.{option_copied};
+ghost use Rattle.std.specs.Prelude.{◌≡◌, ◌<◌, ◌≤◌, Ok, IfOk, IfErr, IfSome};
 ghost use Rattle.shop_base.specs.Plan.{jobs};
 ghost use Rattle.shop_base.specs.declared.limits.TheConstants.{MAX_MOMENT};
-ghost use Rattle.command_answers.specs.Rests.{IsRestLine, IsPastLine, AnswersPlan, AnswersRest};
-ghost use Rattle.command_answers.specs.Rests.{HasLine, IsRunFaultAnswer, IsTextOf, job_asked, rest_status};
+ghost use Rattle.command_answers.specs.Rests.{AnswersRest, HasLine, IsAnswerBy, IsPastLine, IsRunFaultAnswer};
+ghost use Rattle.command_answers.specs.Rests.{IsTextOf, job_asked, rest_status};
 ghost use Rattle.command_answers.specs.Steps.{IsOrMemory};
-ghost use Rattle.command_answers.specs.Commands.{IfThere, RunsRest, WithNamesAndLog};
+ghost use Rattle.command_answers.specs.Commands.{RunsRest};
 ghost use Rattle.plan_explain.specs.Known.{IsJudged};
-ghost use Rattle.plan_verifier.specs.{Seen.judged, Verdicts.IsReason, Verdicts.OnRefused};
 
 use crate::answer::{Answer, Answered, GOOD, REFUSED};
-use crate::asked_job::{absent_job, no_job_answer};
-use crate::inputs::{Ahead, shape_files};
+use crate::inputs::RunFiles;
+use crate::known_rests::{KnownRest, rest_of_run};
 use crate::lines::push_fact;
 use crate::logs::log_fault_answer;
-use crate::naming::names_and_log;
-use crate::shapes::unshaped_answer;
 use crate::texts::Texts;
 use cell_tables::{PresentFault, Rest};
 use people_names::Names;
 use plan_explain::{explain, first_line};
 use plan_schedule::schedule;
-use plan_verifier::{Judged, Verdict, judge, verify};
-use run_log::{RunFault, rest_at};
-use shop_base::{JobNo, Moment, Planned, Shaped};
+use plan_verifier::{Judged, judge};
+use run_log::RunFault;
+use shop_base::{JobNo, Moment, Planned};
 use std::alloc::{AllocError, Global};
 
 /// What is answered for a plan, or for the rest of a run of it.
@@ -51,76 +47,37 @@ impl PlanAnswer {
     }
 }
 
-/// What is answered for the rest of the run in the log of a file, by the plan of another for the instance of a third:
-/// from a present moment on, or from the last one of that run. What comes after the log's last line feed isn't looked
-/// at. A present moment before the last one gets the line `log past L`. Names and the clock are those of a fourth file,
-/// which is read once the plan is shaped and the job that is asked for is one of the shop.
+/// What is answered of a run: of the rest of that in a log, from a present moment on or from the last one of that run, or
+/// of the whole plan, if it hasn't begun. What comes after the log's last line feed isn't looked at. A present moment
+/// before the last one gets the line `log past L`. Names and the clock are those of a file, which is read once the plan
+/// is shaped and the job that is asked for is one of the shop.
 pub fn rest_answer<T: Texts>(
     alloc: Global,
     texts: &mut T,
-    ahead: &Ahead<'_>,
+    run: &RunFiles<'_>,
     wanted: PlanAnswer,
 ) -> Answered
-    requires { IfSome ahead.now.at (λ present. present ≤ MAX_MOMENT) }
-    ensures { RunsRest T.gives wanted ahead.now.at ahead.now.files.inputs
-        (option_copied ahead.now.files.names) ahead.now.log.now texts.old result texts.new }
+    requires { IfSome run.now.at (λ present. present ≤ MAX_MOMENT) }
+    ensures { RunsRest T.gives wanted run.now texts.old result texts.new }
 {
-    match shape_files(alloc, texts, &ahead.files.inputs)? {
-        Ok(shaped) => shaped_rest(alloc, texts, shaped, ahead, wanted),
-        Err(fault) => unshaped_answer(alloc, fault),
-    }
+    let found = rest_of_run(alloc, texts, run, wanted.job_asked())?;
+    found_answer(alloc, found, wanted)
 }
 
-/// What is answered for the rest of a run of a plan, if the job that is asked for is one of its shop.
-fn shaped_rest<T: Texts>(
-    alloc: Global,
-    texts: &mut T,
-    shaped: Shaped,
-    ahead: &Ahead<'_>,
-    wanted: PlanAnswer,
-) -> Answered
-    requires { IfSome ahead.now.at (λ present. present ≤ MAX_MOMENT) }
-    ensures { IfThere T.gives (job_asked wanted) shaped (WithNamesAndLog T.gives (option_copied ahead.now.files.names)
-        ahead.now.log.now shaped (λ book. IsRestLine book wanted ahead.now.at shaped)) texts.old result texts.new }
+/// What is answered of where a run is, or the line that stands instead.
+fn found_answer(alloc: Global, found: Result<KnownRest, Answer>, wanted: PlanAnswer) -> Answered
+    requires job { IfOk found (λ s. IfSome (job_asked wanted) (λ j. j < jobs s.rest.plan)) }
+    requires judged { IfOk found (λ s. IsJudged s.rest.plan s.rest.cell s.rest.present s.verdict) }
+    ensures answer { IfOk found (λ s. IsOrMemory
+        (IsAnswerBy s.names wanted s.rest.plan s.rest.cell s.rest.present s.verdict) result) }
+    ensures line { IfErr found (λ line. result ≡ Ok line) }
 {
-    if let Some(absent) = absent_job(&shaped, wanted.job_asked()) {
-        drop(shaped);
-        return Ok(no_job_answer(alloc, absent)?);
-    }
-    match names_and_log(alloc, texts, &shaped, ahead.files.names, ahead.log) {
-        Ok(read) => {
-            let (names, log) = (&read.names, &read.log);
-            let answer = answer_rest_of_log(alloc, names, shaped, log, ahead.at, wanted);
-            drop(read);
-            answer
+    match found {
+        Ok(known) => {
+            let (names, rest) = (&known.names, &known.rest);
+            Ok(answer_judged(alloc, names, rest, &known.verdict, wanted)?)
         }
-        Err(fault) => {
-            drop(shaped);
-            Err(fault)
-        }
-    }
-}
-
-/// What is answered for the rest of the run in a log.
-fn answer_rest_of_log(
-    alloc: Global,
-    names: &Names,
-    shaped: Shaped,
-    log: &[u8],
-    at: Option<Moment>,
-    wanted: PlanAnswer,
-) -> Answered
-    requires present { IfSome at (λ present. present ≤ MAX_MOMENT) }
-    requires job { IfSome (job_asked wanted) (λ j. j < jobs shaped) }
-    ensures { IsOrMemory (IsRestLine names.now wanted at shaped log.now) result }
-{
-    match rest_at(alloc, shaped, log, at)? {
-        Ok(run) => {
-            let answer = answer_rest(alloc, names, &run.rest, wanted);
-            drop(run);
-            Ok(answer?)
-        }
-        Err(fault) => run_fault_answer(alloc, fault),
+        Err(line) => Ok(line),
     }
 }
 
@@ -146,52 +103,6 @@ fn past_answer(alloc: Global, last: Moment) -> Result<Answer, AllocError>
     Ok(Answer { text, status })
 }
 
-/// What is answered for a whole plan, which is the rest of a run that hasn't begun.
-pub(crate) fn answer_plan(
-    alloc: Global,
-    names: &Names,
-    shaped: Shaped,
-    wanted: PlanAnswer,
-) -> Result<Answer, AllocError>
-    requires { IfSome (job_asked wanted) (λ j. j < jobs shaped) }
-    ensures { IfOk result (AnswersPlan names.now wanted shaped) }
-{
-    match verify(alloc, shaped) {
-        Ok(verdict) => answer_verdict(alloc, names, verdict, wanted),
-        Err((error, back)) => {
-            drop(back);
-            Err(error)
-        }
-    }
-}
-
-/// What is answered for a whole plan by the verdict on it.
-pub(crate) fn answer_verdict(
-    alloc: Global,
-    names: &Names,
-    verdict: Verdict,
-    wanted: PlanAnswer,
-) -> Result<Answer, AllocError>
-    requires job { IfSome (job_asked wanted) (λ j. j < jobs (judged verdict)) }
-    requires evidence { OnRefused IsReason verdict }
-    ensures { IfOk result (AnswersPlan names.now wanted (judged verdict)) }
-{
-    let (shaped, said) = verdict.into_parts();
-    match Rest::start(alloc, shaped) {
-        Ok(rest) => {
-            let answer = answer_judged(alloc, names, &rest, &said, wanted);
-            drop(rest);
-            drop(said);
-            answer
-        }
-        Err((error, back)) => {
-            drop(back);
-            drop(said);
-            Err(error)
-        }
-    }
-}
-
 /// What is answered for the rest of a run: the text of the verdict on it, with its status.
 pub fn answer_rest<P: Planned>(
     alloc: Global,
@@ -209,7 +120,7 @@ pub fn answer_rest<P: Planned>(
 }
 
 /// What is answered for the rest of a run by the verdict on it.
-fn answer_judged<P: Planned>(
+pub(crate) fn answer_judged<P: Planned>(
     alloc: Global,
     names: &Names,
     rest: &Rest<P>,
@@ -218,7 +129,8 @@ fn answer_judged<P: Planned>(
 ) -> Result<Answer, AllocError>
     requires job { IfSome (job_asked wanted) (λ j. j < jobs rest.now.plan) }
     requires judged { IsJudged rest.now.plan rest.now.cell rest.now.present verdict.now }
-    ensures { IfOk result (AnswersRest names.now wanted rest.now.plan rest.now.cell rest.now.present) }
+    ensures { let r = rest.now in
+        IfOk result (IsAnswerBy names.now wanted r.plan r.cell r.present verdict.now) }
 {
     let text = verdict_text(alloc, names, rest, verdict, wanted)?;
     let status = rest_status(verdict);

@@ -47,19 +47,3 @@ refused_status (Some path) own = by (own == 5)
     by : (five : Bool) → own ≡ (if five && false then 6 else own)
     by true = refl
     by false = refl
-
--- what is answered of the rest of a run, and of a plan, as the words ask for it
-pub ahead_asked : (Is : Option ℕ → InputPaths → Option (List ℕ) → Option (List ℕ) → Type 0) (at present : Option ℕ) (inputs files : InputPaths) (names book : Option (List ℕ)) (log path : List ℕ) (kept : Option (List ℕ))
-    → at ≡ present → inputs ≡ files → names ≡ book → log ≡ path → Some path ≡ kept → Is at inputs names (Some log) → Is present files book kept
-ahead_asked Is at present inputs files names book log path kept same_at same_pair same_names same_log asked is =
-    subst (λ (l : Option (List ℕ)). Is present files book l) asked
-    (subst (λ (l : List ℕ). Is present files book (Some l)) same_log
-    (subst (λ (n : Option (List ℕ)). Is present files n (Some log)) same_names
-    (subst (λ (q : InputPaths). Is present q names (Some log)) same_pair
-    (subst (λ (a : Option ℕ). Is a inputs names (Some log)) same_at is))))
-
-pub plan_asked : (Is : InputPaths → Option (List ℕ) → Option (List ℕ) → Type 0) (inputs files : InputPaths) (names book kept : Option (List ℕ)) → inputs ≡ files → names ≡ book → None ≡ kept → Is inputs names None → Is files book kept
-plan_asked Is inputs files names book kept same_pair same_names asked is =
-    subst (λ (l : Option (List ℕ)). Is files book l) asked
-    (subst (λ (n : Option (List ℕ)). Is files n None) same_names
-    (subst (λ (q : InputPaths). Is q names None) same_pair is))

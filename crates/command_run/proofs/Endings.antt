@@ -37,10 +37,10 @@ use Rattle.command_answers.specs.Texts.{Asks}
 use Rattle.command_answers.specs.declared.pictures.Drawn.{Drawn}
 use Rattle.command_answers.specs.declared.pictures.Drawn.TheVariants.{Picture, Line as LineDrawn}
 use Rattle.command_answers.specs.Commands.{Loads, Shapes}
-use Rattle.command_answers.specs.Pictures.{DrawsLog}
+use Rattle.command_answers.specs.Pictures.{DrawsLog, DrawsRest}
 use Rattle.command_answers.specs.Cells.{LoadsCells}
 use Rattle.command_run.specs.Streams.{Streams, Output, Errors, Devices}
-use Rattle.command_run.specs.Pictures.{Draws, DrawsTimetable, IsPictureOut, RunsTimetable, RunsDrawing}
+use Rattle.command_run.specs.Pictures.{Draws, IsPictureOut, RunsTimetable, RunsDrawing}
 use Rattle.command_run.specs.declared.pictures.Timetable.{Timetable}
 use Rattle.command_run.specs.declared.pictures.Timetable.TheVariants.{Moments, Moves, Picture as DrawnForm}
 use Rattle.command_run.specs.Drives.{Drives, IsDriveIn}
@@ -48,7 +48,7 @@ use Rattle.command_run.specs.Resumes.{IsRecovery, ResumesRecovered, ResumesText,
 use Rattle.command_run.specs.Hubs.{AreDrivesIn, DrivesAll}
 use Rattle.command_run.specs.Ending.{Ends, EndsBy, EndsAside, IsPrinted, IsFaultPrinted, IsPrintedAfter, IsOfText, IsLineOut, WasPrinted}
 use Rattle.command_run.specs.Logs.{LogEnd, is_driven, step_of}
-use Rattle.command_run.specs.Program.{AreWordsRead, RunsApart, RunsBy, RunsCommand, RunsChosen, Follows, starts_again, status_by, draws_in, file_at, form_in, kept_log_in, log_in, protocol_in, name_in, names_in, inputs_in, plans_in}
+use Rattle.command_run.specs.Program.{AreWordsRead, RunsApart, RunsBy, RunsCommand, RunsChosen, Follows, starts_again, status_by, draws_in, file_at, form_in, kept_log_in, log_in, protocol_in, name_in, names_in, inputs_in, plans_in, run_in}
 use Rattle.command_run.specs.Laws.{IsOutcomeOfWords, IsFailureOf, PrintsFaultsAlone, HoldsNothing, WereDriven, WereRefused, IsUnanswered, Ran, RanCommand, WroteNoMore}
 use Rattle.command_run.proofs.LowStatuses.{IsLow, low}
 use Rattle.command_run.proofs.Keepers.{keeper}
@@ -178,7 +178,7 @@ module _ {W : Type 0} (gives : W → List ℕ → Result (List ℕ) CommandFault
   resumes_written (Ok (Err fault)) mid later outcome shapes is = kept Resume is.1
   resumes_written (Ok (Ok p)) mid later outcome shapes is = text_written p mid shapes later outcome is.text is.asks is.resumes
 
-  schedule_drawn : (drawn : Result Drawn CommandFault) (later : W) (outcome : Result Answer CommandFault) → DrawsTimetable gives chosen.at (inputs_in chosen) (names_in chosen) (log_in chosen) texts drawn later
+  schedule_drawn : (drawn : Result Drawn CommandFault) (later : W) (outcome : Result Answer CommandFault) → DrawsRest gives (run_in chosen) texts drawn later
       → Draws drawn before after outcome → WereDriven gives Schedule chosen texts before after
   schedule_drawn (Err fault) later outcome came is = kept Schedule is.1
   schedule_drawn (Ok (LineDrawn answer)) later outcome came is = kept Schedule is.1
@@ -192,7 +192,7 @@ module _ {W : Type 0} (gives : W → List ℕ → Result (List ℕ) CommandFault
   log_drawn (Ok (Picture picture status)) later outcome came is =
       inr (inr (inr (inr (inr (refl, record { picture = picture; status = status; later = later; came = came; outcome = outcome; out = is.1 })))))
 
-  timetable_written : (form : Timetable) (later : W) (outcome : Result Answer CommandFault) → RunsTimetable gives form chosen.at (inputs_in chosen) (names_in chosen) (log_in chosen) texts before outcome later after
+  timetable_written : (form : Timetable) (later : W) (outcome : Result Answer CommandFault) → RunsTimetable gives form (run_in chosen) texts before outcome later after
       → WereDriven gives Schedule chosen texts before after
   timetable_written Moments later outcome run = kept Schedule run.1
   timetable_written Moves later outcome run = kept Schedule run.1

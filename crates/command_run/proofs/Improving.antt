@@ -4,28 +4,25 @@ use Rattle.std.proofs.lemmas.Option.{slice_get_within}
 use Rattle.shop_base.specs.Plan.{PlannedShop}
 use Rattle.plan_seek.specs.Orders.{Proposal}
 use Rattle.plan_improve.specs.Settings.{Setting, Left, whole_plan}
-use Rattle.plan_improve.specs.Runs.{Asked, EndsAfter, AfterSome, nobody, one_more, AfterRound, AfterRounds, no_round, round_more, ReportedRounds, Rounds}
+use Rattle.plan_improve.specs.Runs.{EndsAfter, AfterSome, nobody, one_more, AfterRound, AfterRounds, no_round, round_more, ReportedRounds, Rounds}
 use Rattle.plan_improve.specs.Watching.{Progress as LogAnswer}
 use Rattle.command_answers.specs.declared.answer.Answer.{Answer}
 use Rattle.command_answers.specs.declared.command_fault.CommandFault.{CommandFault}
 use Rattle.command_answers.specs.declared.command_fault.CommandFault.TheVariants.{Instance, Plan, Names, Read, Write, InputTooLong, Log, LogInUse, Memory}
-use Rattle.command_answers.specs.Improving.{IsBest, IsBestAnswer, IsImproveAnswer, ordered}
-use Rattle.command_answers.specs.Steps.{Concludes}
-use Rattle.command_answers.specs.Commands.{InputPaths, ReadsBoth, RunsImprove}
-use Rattle.command_run.specs.Improvers.{MayImprove, AsksOne}
-use Rattle.command_run.proofs.Planning.{then_more}
+use Rattle.command_answers.specs.Improving.{IsBest, IsBestAnswer, SearchBy}
+use Rattle.command_run.specs.Improvers.{MayImprove}
 
-module _ (made more : Asked) (rounds : ℕ) (less : (p q : PlannedShop) → made p q → more p q) where
+module _ (made more : SearchBy) (rounds : ℕ) (less : (s : Setting) (p q : PlannedShop) → made s p q → more s p q) where
   best_more : (start best : PlannedShop) → IsBest made start best → IsBest more start best
   best_more start best is = record {
     same = is.same;
     acyclic = is.acyclic;
     never_worse = is.never_worse;
-    found = record { begin = is.found.begin; begins_at = is.found.begins_at; run = less is.found.begin best is.found.run };
+    found = record { begin = is.found.begin; begins_at = is.found.begins_at; run = less whole_plan is.found.begin best is.found.run };
     stays_accepted = is.stays_accepted;
   }
 
-  best_answer_more : (start : PlannedShop) (outcome : Result Answer CommandFault) → IsBestAnswer made rounds start outcome → IsBestAnswer more rounds start outcome
+  pub best_answer_more : (start : PlannedShop) (outcome : Result Answer CommandFault) → IsBestAnswer made rounds start outcome → IsBestAnswer more rounds start outcome
   best_answer_more start (Ok answer) (inl text) = inl (record { few_rounds = text.few_rounds; best = text.best; is = best_more start text.best text.is; text = text.text; status = text.status })
   best_answer_more start (Ok answer) (inr line) = inr line
   best_answer_more start (Err (Plan fault)) is = (is.0, record { best = is.1.best; is = best_more start is.1.best is.1.is; unreadable = is.1.unreadable })
@@ -37,18 +34,6 @@ module _ (made more : Asked) (rounds : ℕ) (less : (p q : PlannedShop) → made
   best_answer_more start (Err InputTooLong) is = is
   best_answer_more start (Err Log) is = is
   best_answer_more start (Err LogInUse) is = is
-
-  answer_more : (start : PlannedShop) (outcome : Result Answer CommandFault) → IsImproveAnswer made rounds start outcome → IsImproveAnswer more rounds start outcome
-  answer_more start outcome (inl best) = inl (best.0, best_answer_more start outcome best.1)
-  answer_more start outcome (inr line) = inr line
-
--- what improvers do is done by ones that may answer more
-runs_more : {W : Type 0} (gives : W → List ℕ → Result (List ℕ) CommandFault → W → Type 0) (made more : Asked) → ((p q : PlannedShop) → made p q → more p q)
-    → (rounds : ℕ) (inputs : InputPaths) (before : W) (outcome : Result Answer CommandFault) (after : W)
-    → RunsImprove gives made rounds inputs before outcome after → RunsImprove gives more rounds inputs before outcome after
-runs_more gives made more less rounds inputs before outcome after =
-    then_more (ReadsBoth gives inputs) (λ p. Concludes (IsImproveAnswer made rounds (ordered p))) (λ p. Concludes (IsImproveAnswer more rounds (ordered p))) before outcome after
-    (λ p last is. (answer_more made more rounds less (ordered p) outcome is.0, is.1))
 
 pub stands_alone : (who : Unit {0}) (n : ℕ) → n < 1 → slice_get (who ∷ []) n ≡ Some who
 stands_alone who zero lt = refl
@@ -74,11 +59,3 @@ module _ (s : Setting) {B : Type 0} (may : B → PlannedShop → Left → ℕ �
 
   pub all_more : (rounds : ℕ) (p q : PlannedShop) → Rounds s may improvers rounds p q → Rounds s MayImprove (tt ∷ []) rounds p q
   all_more rounds p q found = (found.0, asked_more rounds found.0 p q found.1)
-
--- a search by one improver
-pub improves : {W B : Type 0} (may : B → PlannedShop → Left → ℕ → Proposal → Type 0) (improvers : List B) → length improvers ≡ 1 → (gives : W → List ℕ → Result (List ℕ) CommandFault → W → Type 0)
-    (rounds : ℕ) (inputs : InputPaths) (before : W) (outcome : Result Answer CommandFault) (after : W)
-    → RunsImprove gives (Rounds whole_plan may improvers rounds) rounds inputs before outcome after
-    → RunsImprove gives (AsksOne rounds) rounds inputs before outcome after
-improves may improvers alone gives rounds inputs before outcome after =
-    runs_more gives (Rounds whole_plan may improvers rounds) (AsksOne rounds) (all_more whole_plan may improvers alone rounds) rounds inputs before outcome after

@@ -14,7 +14,6 @@ use Rattle.plan_seek.specs.Tasks.{task_in}
 use Rattle.plan_seek.specs.Turns.{PlanSearch}
 use Rattle.plan_seek.specs.declared.seek_fault.SeekFault.{SeekFault}
 use Rattle.plan_seek.specs.declared.seek_fault.SeekFault.TheVariants.{BadNumbers, Exhausted, TooManyRounds, Memory as NoMemory}
-use Rattle.plan_improve.specs.Runs.{Asked}
 use Rattle.plan_decide.specs.declared.aim.Aim.{Aim}
 use Rattle.plan_decide.specs.Cases.{Case}
 use Rattle.plan_decide.specs.Pasts.{whole_case}
@@ -60,26 +59,27 @@ use Rattle.people_names.specs.NameBooks.{NameBook}
 use Rattle.plan_bounds.specs.Bounds.{ShopTimes, times_of}
 use Rattle.command_answers.specs.BoundLines.{AreBoundLines, IsBadNumbersLine}
 use Rattle.command_answers.specs.Deciding.{IsDecisionAnswer, IsDecisionText, job_of}
-use Rattle.command_answers.specs.DecidingRests.{IsUnfitLine, IsDecisionFrom, IsRestDecisionAnswer}
-use Rattle.command_answers.specs.Improving.{IsStatusOf, IsBestAnswer, IsImproveAnswer, ordered}
+use Rattle.command_answers.specs.DecidingRests.{IsRunDecision, IsUnfitLine, IsDecisionFrom, IsRestDecisionAnswer}
+use Rattle.command_answers.specs.Improving.{IsStatusOf, IsBestAnswer, SearchBy, ordered}
 use Rattle.command_answers.specs.Search.{IsSearchLine, IsSearchAnswer, IsNoPlanLine}
 use Rattle.command_answers.specs.declared.logs.LogAnswer.{LogAnswer}
 use Rattle.command_answers.specs.declared.logs.LogAnswer.TheVariants.{Numbers, Drawing}
 use Rattle.command_answers.specs.LogLines.{IsFaultLine, IsLogFaultAnswer, IsLogLine, IsLogRefused}
 use Rattle.command_answers.specs.declared.rests.PlanAnswer.{PlanAnswer}
 use Rattle.command_answers.specs.declared.rests.PlanAnswer.TheVariants.{Verdict as OfVerdict, Reasons, Moments}
-use Rattle.command_answers.specs.Rests.{AnswersPlan, IsPastLine, IsRunRefused, IsRestLine, job_asked}
+use Rattle.command_answers.specs.Rests.{IsPastLine, IsRunRefused, IsRestLine, job_asked}
 use Rattle.command_answers.specs.declared.pictures.Drawn.{Drawn}
 use Rattle.command_answers.specs.declared.pictures.Drawn.TheVariants.{Picture, Line as LineDrawn}
-use Rattle.command_answers.specs.Pictures.{IsLogDrawn, IsPlanDrawn, IsRestDrawing, IsRestDrawn, IsUnshapedDrawn, IsVerdictDrawn, IfDrawable, DrawsLog, DrawsRest, DrawsSchedule}
-use Rattle.command_answers.specs.Commands.{InputPaths, IfShaped, IfSound, IfThere, WithBoth, WithDecision, WithLogOf, WithNames, WithNamesAndLog, WithRest, WithRestDecision, WithSoundNames}
+use Rattle.command_answers.specs.Pictures.{IsLineAlone, IsLogDrawn, IsRestDrawing, IsRestDrawn, IsVerdictDrawn}
+use Rattle.command_answers.specs.Commands.{AsksOfRun, BettersPlan, DecidesPlan, IfFit, IfShaped, IfShapedBy, IfThere, IfThereBy, InputPaths, Itself, RunPaths, RunsLog, RunsRest, WithBoth, WithLogOf, WithNames, WithNamesAndRun, WithRun, WithSoundNames}
 use Rattle.command_answers.specs.Cells.{IsCellLine, AfterPlan, LoadsEach}
 use Rattle.command_answers.specs.Digests.{IsDigestAnswer}
 use Rattle.command_answers.specs.Margins.{IsMarginAnswer}
-use Rattle.command_answers.specs.Moves.{AreMovesOfLog, AreMovesOfPlan}
-use Rattle.command_answers.proofs.RestAnswers.{low_answer, low_log_moves, low_moves, low_rest}
+use Rattle.command_answers.specs.Moves.{AreMovesAhead}
+use Rattle.command_answers.proofs.AskedRuns.{OnLog, logged}
+use Rattle.command_answers.proofs.RestAnswers.{low_ahead, low_rest}
 use Rattle.command_run.specs.Streams.{Streams, Output}
-use Rattle.command_run.specs.Pictures.{Draws, DrawsTimetable, IsPictureOut, RunsTimetable, RunsDrawing, AnswersMoves}
+use Rattle.command_run.specs.Pictures.{Draws, IsPictureOut, RunsTimetable, RunsDrawing}
 use Rattle.command_run.specs.declared.pictures.Timetable.{Timetable}
 use Rattle.command_run.specs.declared.pictures.Timetable.TheVariants.{Moments as ByMoments, Moves as ByMoves, Picture as AsPicture}
 use Rattle.command_run.specs.Drives.{IsEnded, IsEndAnswer, Drives, status_at, end_of_drive}
@@ -87,11 +87,9 @@ use Rattle.command_run.specs.Resumes.{IsUnrecoveredAnswer, ResumesRecovered, Res
 use Rattle.command_run.specs.Hubs.{DrivesAll, end_of_hub}
 use Rattle.command_run.specs.Planners.{search_by_two, SeeksPlan}
 use Rattle.text_lines.specs.Lines.{ended_lines}
-use Rattle.command_answers.specs.ImprovingRests.{RestAsked, IsRestAnswer}
-use Rattle.command_run.specs.Choosers.{Decides}
-use Rattle.command_run.specs.Improvers.{AsksOne, AsksOneForRest, ImprovesPlan, ImprovesRest, Improves}
-use Rattle.command_answers.specs.Commands.{RunsPlanAnswer}
-use Rattle.command_run.specs.Program.{RunsCommand, aim_in, file_at, form_in, log_in, names_in, protocol_in, name_in, inputs_in, plans_in}
+use Rattle.command_answers.specs.ImprovingRests.{IsBetterAnswer, IsRestAnswer}
+use Rattle.command_run.specs.Improvers.{AsksOne, Improves}
+use Rattle.command_run.specs.Program.{RunsCommand, aim_in, file_at, form_in, log_in, names_in, protocol_in, name_in, inputs_in, plans_in, run_in}
 
 -- the answer's status is 0 or 1
 abbrev pub IsLow : Result Answer CommandFault → Type 0
@@ -136,12 +134,6 @@ low_shape : (p : PlannedShop) (answer : Answer) → IsShapeLine p answer → ans
 low_shape p answer (inl shaped) = zero_low answer.status shaped.good
 low_shape p answer (inr not_shaped) = low_not_shaped p answer not_shaped
 
-low_check : (p : PlannedShop) (answer : Answer) → IsCheckLine p answer → answer.status ≤ 1
-low_check p answer (inl not_shaped) = low_not_shaped p answer not_shaped
-low_check p answer (inr (shaped, inl accepted)) = zero_low answer.status accepted.good
-low_check p answer (inr (shaped, inr (inl cycle))) = one_low answer.status cycle.refused
-low_check p answer (inr (shaped, inr (inr late))) = one_low answer.status late.refused
-
 low_digest : (p : PlannedShop) (answer : Answer) → IsDigestAnswer p answer → answer.status ≤ 1
 low_digest p answer (inl digits) = zero_low answer.status digits.good
 low_digest p answer (inr not_shaped) = low_not_shaped p answer not_shaped
@@ -172,9 +164,6 @@ low_log names wanted p log answer (inr refused) = one_low answer.status refused.
 low_verdict : (verdict : Verdict) (status : ℕ) → status ≡ verdict_status verdict → status ≤ 1
 low_verdict (Accepted v) status is = zero_low status is
 low_verdict (Refused back why) status is = one_low status is
-
-low_plan : (names : NameBook) (wanted : PlanAnswer) (p : PlannedShop) (answer : Answer) → AnswersPlan names wanted p answer → answer.status ≤ 1
-low_plan names wanted p answer answered = low_answer names wanted p (start p) 0 answer answered
 
 low_bounds : (names : NameBook) (t : ShopTimes) (budgets : List ℕ) (answer : Answer) → AreBoundLines names t budgets answer → answer.status ≤ 1
 low_bounds names t budgets answer are = elim are.status [
@@ -211,12 +200,12 @@ low_status : (best : PlannedShop) (status : ℕ) → IsStatusOf best status → 
 low_status best status (inl accepted) = zero_low status accepted.1
 low_status best status (inr late) = one_low status late.1
 
-low_best : (made : Asked) (rounds : ℕ) (start : PlannedShop) (outcome : Result Answer CommandFault) → IsBestAnswer made rounds start outcome → IsLow outcome
+low_best : (made : SearchBy) (rounds : ℕ) (start : PlannedShop) (outcome : Result Answer CommandFault) → IsBestAnswer made rounds start outcome → IsLow outcome
 low_best made rounds start (Ok answer) (inl text) = low_status text.best answer.status text.status
 low_best made rounds start (Ok answer) (inr line) = one_low answer.status line.refused
 low_best made rounds start (Err fault) is = tt
 
-low_rest_answer : (made : RestAsked) (at : Option ℕ) (rounds : ℕ) (lines : List (List ℕ)) (start : PlannedShop) (outcome : Result Answer CommandFault)
+low_rest_answer : (made : SearchBy) (at : Option ℕ) (rounds : ℕ) (lines : List (List ℕ)) (start : PlannedShop) (outcome : Result Answer CommandFault)
     → IsRestAnswer made at rounds lines start outcome → IsLow outcome
 low_rest_answer made at rounds lines start (Ok answer) (inl (few, inl run)) = elim run.comes [
   | inl text ↦ elim text.status [
@@ -254,10 +243,6 @@ low_revised prints description at changes values p log outcome (inl rest) = go r
     go (inr (none, inl text)) = low_printed prints description text.revised outcome text.printed
     go (inr (none, inr refused)) = low_or _ outcome (λ answer line. one_low answer.status line.refused) refused
 
-low_improved : (made : Asked) (rounds : ℕ) (start : PlannedShop) (outcome : Result Answer CommandFault) → IsImproveAnswer made rounds start outcome → IsLow outcome
-low_improved made rounds start outcome (inl best) = low_best made rounds start outcome best.1
-low_improved made rounds start outcome (inr line) = low_or (IsNotShapedLine start) outcome (low_not_shaped start) line
-
 pub low_line_of : (loaded : Loaded) (answer : Answer) → IsLineOf loaded answer → answer.status ≤ 1
 low_line_of (NotShaped fault) answer is = one_low answer.status is.refused
 low_line_of (Judged verdict) answer is = low_verdict verdict answer.status is.1
@@ -284,15 +269,12 @@ low_verdict_drawn names p c t line visits (NotInTime (Cycle nodes)) (LineDrawn a
 low_rest_drawn : (names : NameBook) (p : PlannedShop) (c : Cell) (t : ℕ) (line : Option ℕ) (visits : List DrawnVisit) (drawn : Drawn) → IsRestDrawn names p c t line visits drawn → IsLowDrawn (Ok drawn)
 low_rest_drawn names p c t line visits drawn is = low_verdict_drawn names p c t line visits is.verdict drawn is.is
 
-low_rest_drawing : (at : Option ℕ) (names : NameBook) (p : PlannedShop) (log : List ℕ) (drawn : Result Drawn CommandFault) → IsOrMemory (IsRestDrawing at names p log) drawn → IsLowDrawn drawn
-low_rest_drawing at names p log (Ok drawn) (inl run) = low_rest_drawn names p run.cell run.present _ _ drawn run.comes
-low_rest_drawing at names p log (Ok (LineDrawn answer)) (inr refused) = low_run_refused at (ended_lines log) p answer refused
-low_rest_drawing at names p log (Ok (Picture picture status)) (inr none) = absurd none
-low_rest_drawing at names p log (Err fault) is = tt
-
-low_plan_drawn : (names : NameBook) (p : PlannedShop) (drawn : Result Drawn CommandFault) → IsOrMemory (IsPlanDrawn names p) drawn → IsLowDrawn drawn
-low_plan_drawn names p (Ok drawn) rest = low_rest_drawn names p _ 0 None [] drawn rest
-low_plan_drawn names p (Err fault) is = tt
+low_rest_drawing : (names : NameBook) (at : Option ℕ) (p : PlannedShop) (log : Option (List ℕ)) (drawn : Result Drawn CommandFault) → IsOrMemory (IsRestDrawing names at p log) drawn → IsLowDrawn drawn
+low_rest_drawing names at p None (Ok drawn) rest = low_rest_drawn names p _ 0 None [] drawn rest
+low_rest_drawing names at p (Some log) (Ok drawn) (inl run) = low_rest_drawn names p run.cell run.present _ _ drawn run.comes
+low_rest_drawing names at p (Some log) (Ok (LineDrawn answer)) (inr refused) = low_run_refused at (ended_lines log) p answer refused
+low_rest_drawing names at p (Some log) (Ok (Picture picture status)) (inr none) = absurd none
+low_rest_drawing names at p log (Err fault) is = tt
 
 low_log_drawn : (names : NameBook) (p : PlannedShop) (log : List ℕ) (drawn : Result Drawn CommandFault) → IsOrMemory (IsLogDrawn names p log) drawn → IsLowDrawn drawn
 low_log_drawn names p log (Ok (LineDrawn answer)) (inl none) = absurd none
@@ -301,10 +283,10 @@ low_log_drawn names p log (Ok (Picture picture status)) (inl is) = zero_low stat
 low_log_drawn names p log (Ok (Picture picture status)) (inr none) = absurd none
 low_log_drawn names p log (Err fault) is = tt
 
-low_unshaped_drawn : (p : PlannedShop) (drawn : Result Drawn CommandFault) → IsOrMemory (IsUnshapedDrawn p) drawn → IsLowDrawn drawn
-low_unshaped_drawn p (Ok (LineDrawn answer)) is = low_not_shaped p answer is
-low_unshaped_drawn p (Ok (Picture picture status)) none = absurd none
-low_unshaped_drawn p (Err fault) is = tt
+low_line_drawn : (Is : Answer → Type 0) → ((answer : Answer) → Is answer → answer.status ≤ 1) → (drawn : Result Drawn CommandFault) → IsOrMemory (IsLineAlone Is) drawn → IsLowDrawn drawn
+low_line_drawn Is each (Ok (LineDrawn answer)) is = each answer is
+low_line_drawn Is each (Ok (Picture picture status)) none = absurd none
+low_line_drawn Is each (Err fault) is = tt
 
 low_picture : (picture : List ℕ) (status : ℕ) (before after : Output) (outcome : Result Answer CommandFault) → status ≤ 1 → IsPictureOut picture status before after outcome → IsLow outcome
 low_picture picture status before after (Ok answer) low is = subst (λ n. n ≤ 1) (sym is.1) low
@@ -401,6 +383,44 @@ low_drives_all protocol (Ok (AllAccepted cells)) before after outcome low is = l
 
 -- ---- the commands
 
+low_said : (Is : Answer → Type 0) → ((answer : Answer) → Is answer → answer.status ≤ 1) → (outcome : Result Answer CommandFault) → IsOrMemory (Itself Is) outcome → IsLow outcome
+low_said Is each outcome is = low_or Is outcome each is
+
+-- what is asked of a run
+module _ {W B : Type 0} (gives : W → List ℕ → Result (List ℕ) CommandFault → W → Type 0) (Line : (Answer → Type 0) → B → Type 0) (Low : Result B CommandFault → Type 0) (fails : (fault : CommandFault) → Low (Err fault))
+    (lines : (Is : Answer → Type 0) → ((answer : Answer) → Is answer → answer.status ≤ 1) → (outcome : Result B CommandFault) → IsOrMemory (Line Is) outcome → Low outcome)
+    (job : Option ℕ) (Comes : PlannedShop → NameBook → Option (List ℕ) → B → Type 0) (run : RunPaths)
+    (each : (p : PlannedShop) (book : NameBook) (log : Option (List ℕ)) (outcome : Result B CommandFault) → IsOrMemory (Comes p book log) outcome → Low outcome) where
+  low_of_log : (p : PlannedShop) (book : NameBook) (log : Option (List ℕ)) (mid : W) (outcome : Result B CommandFault) (after : W) → WithRun gives log (λ text. IsOrMemory (Comes p book text)) mid outcome after → Low outcome
+  low_of_log p book None mid outcome after on = each p book None outcome on.0
+  low_of_log p book (Some path) mid outcome after on = held Low _ (λ text. Concludes (IsOrMemory (Comes p book (Some text)))) mid outcome after fails (λ text last said. each p book (Some text) outcome said.0) on
+
+  low_read : (p : PlannedShop) (mid : W) (outcome : Result B CommandFault) (after : W) → WithNamesAndRun gives run.names run.log p (λ book log. IsOrMemory (Comes p book log)) mid outcome after → Low outcome
+  low_read p mid outcome after on =
+      held Low _ (λ book. WithRun gives run.log (λ log. IsOrMemory (Comes p book log))) mid outcome after fails (λ book later goes. low_of_log p book run.log later outcome after goes) on
+
+  low_there : (p : PlannedShop) (asked : Option ℕ) (mid : W) (outcome : Result B CommandFault) (after : W) → IfThereBy Line asked p (WithNamesAndRun gives run.names run.log p (λ book log. IsOrMemory (Comes p book log))) mid outcome after
+      → Low outcome
+  low_there p None mid outcome after on = low_read p mid outcome after on
+  low_there p (Some j) mid outcome after (inl (few, on)) = low_read p mid outcome after on
+  low_there p (Some j) mid outcome after (inr (many, said)) = lines (IsNoJobLine j) (λ answer line. one_low answer.status line.1) outcome said.0
+
+  low_shaped : (p : PlannedShop) (mid : W) (outcome : Result B CommandFault) (after : W)
+      → IfShapedBy Line p (IfThereBy Line job p (WithNamesAndRun gives run.names run.log p (λ book log. IsOrMemory (Comes p book log)))) mid outcome after → Low outcome
+  low_shaped p mid outcome after (inl (shaped, on)) = low_there p job mid outcome after on
+  low_shaped p mid outcome after (inr said) = lines (IsNotShapedLine p) (low_not_shaped p) outcome said.0
+
+  low_asked : (texts : W) (outcome : Result B CommandFault) (after : W) → AsksOfRun gives Line job Comes run texts outcome after → Low outcome
+  low_asked texts outcome after asks =
+      held Low _ (λ p. IfShapedBy Line p (IfThereBy Line job p (WithNamesAndRun gives run.names run.log p (λ book log. IsOrMemory (Comes p book log))))) texts outcome after fails (λ p mid. low_shaped p mid outcome after) asks
+
+-- where its log is given
+low_on_log : {B : Type 0} (Low : Result B CommandFault → Type 0) (Is : List ℕ → B → Type 0) → ((fault : CommandFault) → Low (Err fault)) → ((log : List ℕ) (outcome : Result B CommandFault) → IsOrMemory (Is log) outcome → Low outcome)
+    → (log : Option (List ℕ)) (outcome : Result B CommandFault) → IsOrMemory (OnLog Is log) outcome → Low outcome
+low_on_log Low Is fails each (Some log) outcome is = each log outcome is
+low_on_log Low Is fails each None (Ok b) is = absurd is
+low_on_log Low Is fails each None (Err fault) is = fails fault
+
 module _ {W : Type 0} (gives : W → List ℕ → Result (List ℕ) CommandFault → W → Type 0) where
   low_both : (inputs : InputPaths) (next : PlannedShop → W → Result Answer CommandFault → W → Type 0) (texts : W) (outcome : Result Answer CommandFault) (after : W)
       → ((p : PlannedShop) (mid : W) → next p mid outcome after → IsLow outcome) → WithBoth gives inputs next texts outcome after → IsLow outcome
@@ -429,12 +449,9 @@ module _ {W : Type 0} (gives : W → List ℕ → Result (List ℕ) CommandFault
       → (names : Option (List ℕ)) (p : PlannedShop) (mid : W) (outcome : Result Answer CommandFault) (after : W) → WithNames gives names p Comes mid outcome after → IsLow outcome
   low_with_names Comes each names p mid outcome after run = held IsLow _ (λ book. Concludes (Comes book)) mid outcome after low_failed (λ book later on. each book outcome on.0) run
 
-  low_names_and_log : (IsLine : NameBook → List ℕ → Answer → Type 0) → ((book : NameBook) (text : List ℕ) (answer : Answer) → IsLine book text answer → answer.status ≤ 1)
-      → (names : Option (List ℕ)) (log : List ℕ) (p : PlannedShop) (mid : W) (outcome : Result Answer CommandFault) (after : W) → WithNamesAndLog gives names log p IsLine mid outcome after → IsLow outcome
-  low_names_and_log IsLine each names log p mid outcome after run =
-      held IsLow _ (λ book. Then (Asks gives log) (λ text. Concludes (IsOrMemory (IsLine book text)))) mid outcome after low_failed
-      (λ book later on. held IsLow _ (λ text. Concludes (IsOrMemory (IsLine book text))) later outcome after low_failed
-      (λ text last said. low_or (IsLine book text) outcome (each book text) said.0) on) run
+  low_asked_rest : (wanted : PlanAnswer) (run : RunPaths) (texts : W) (outcome : Result Answer CommandFault) (after : W) → RunsRest gives wanted run texts outcome after → IsLow outcome
+  low_asked_rest wanted run texts outcome after runs =
+      low_asked gives Itself IsLow low_failed low_said (job_asked wanted) (λ p book. IsRestLine book wanted run.at p) run (λ p book log answered. low_or (IsRestLine book wanted run.at p log) answered (low_rest book wanted run.at p log)) texts outcome after runs
 
   -- a line for a plan that is well shaped, with names
   low_named : (Is : NameBook → PlannedShop → Answer → Type 0) → ((book : NameBook) (p : PlannedShop) (answer : Answer) → Is book p answer → answer.status ≤ 1)
@@ -445,82 +462,28 @@ module _ {W : Type 0} (gives : W → List ℕ → Result (List ℕ) CommandFault
       (λ p mid on. low_if_shaped (WithNames gives names p (λ book. IsOrMemory (Is book p))) p mid outcome after
       (low_with_names (λ book. IsOrMemory (Is book p)) (λ book answered. low_or (Is book p) answered (each book p)) names p mid outcome after) on) run
 
-  -- and with a log
-  low_named_and_logged : (Is : NameBook → PlannedShop → List ℕ → Answer → Type 0) → ((book : NameBook) (p : PlannedShop) (text : List ℕ) (answer : Answer) → Is book p text answer → answer.status ≤ 1)
-      → (inputs : InputPaths) (names : Option (List ℕ)) (log : List ℕ) (texts : W) (outcome : Result Answer CommandFault) (after : W)
-      → WithBoth gives inputs (λ p. IfShaped gives p (WithNamesAndLog gives names log p (λ book. Is book p))) texts outcome after → IsLow outcome
-  low_named_and_logged Is each inputs names log texts outcome after run =
-      low_both inputs (λ p. IfShaped gives p (WithNamesAndLog gives names log p (λ book. Is book p))) texts outcome after
-      (λ p mid on. low_if_shaped (WithNamesAndLog gives names log p (λ book. Is book p)) p mid outcome after
-      (low_names_and_log (λ book. Is book p) (λ book. each book p) names log p mid outcome after) on) run
+  low_logged : (wanted : LogAnswer) (inputs : InputPaths) (names : Option (List ℕ)) (log : List ℕ) (texts : W) (outcome : Result Answer CommandFault) (after : W) → RunsLog gives wanted inputs names log texts outcome after → IsLow outcome
+  low_logged wanted inputs names log texts outcome after run =
+      low_asked gives Itself IsLow low_failed low_said None (λ p book. OnLog (IsLogLine book wanted p)) (logged inputs names log)
+      (λ p book. low_on_log IsLow (IsLogLine book wanted p) low_failed (λ text answered. low_or (IsLogLine book wanted p text) answered (low_log book wanted p text))) texts outcome after run
 
-  low_answer_by : (wanted : PlanAnswer) (at : Option ℕ) (inputs : InputPaths) (names log : Option (List ℕ)) (texts : W) (outcome : Result Answer CommandFault) (after : W)
-      → RunsPlanAnswer gives wanted at inputs names log texts outcome after → IsLow outcome
-  low_answer_by wanted at inputs names (Some log) texts outcome after run =
-      low_both inputs (λ p. IfShaped gives p (IfThere gives (job_asked wanted) p (WithNamesAndLog gives names log p (λ book. IsRestLine book wanted at p)))) texts outcome after
-      (λ p mid on. low_if_shaped (IfThere gives (job_asked wanted) p (WithNamesAndLog gives names log p (λ book. IsRestLine book wanted at p))) p mid outcome after
-      (low_if_there (job_asked wanted) (WithNamesAndLog gives names log p (λ book. IsRestLine book wanted at p)) p mid outcome after
-      (low_names_and_log (λ book. IsRestLine book wanted at p) (λ book. low_rest book wanted at p) names log p mid outcome after)) on) run
-  low_answer_by OfVerdict at inputs names None texts outcome after run =
-      low_both inputs (λ p. Concludes (IsOrMemory (IsCheckLine p))) texts outcome after (λ p mid on. low_or (IsCheckLine p) outcome (low_check p) on.0) run
-  low_answer_by (Reasons job) at inputs names None texts outcome after run =
-      low_both inputs (λ p. IfShaped gives p (IfThere gives job p (WithNames gives names p (λ book. IsOrMemory (AnswersPlan book (Reasons job) p))))) texts outcome after
-      (λ p mid on. low_if_shaped (IfThere gives job p (WithNames gives names p (λ book. IsOrMemory (AnswersPlan book (Reasons job) p)))) p mid outcome after
-      (low_if_there job (WithNames gives names p (λ book. IsOrMemory (AnswersPlan book (Reasons job) p))) p mid outcome after
-      (low_with_names (λ book. IsOrMemory (AnswersPlan book (Reasons job) p)) (λ book said. low_or (AnswersPlan book (Reasons job) p) said (low_plan book (Reasons job) p)) names p mid outcome after)) on) run
-  low_answer_by Moments at inputs names None texts outcome after run = low_named (λ book. AnswersPlan book Moments) (λ book. low_plan book Moments) inputs names texts outcome after run
-
-  low_moves_answered : (at : Option ℕ) (inputs : InputPaths) (names log : Option (List ℕ)) (texts : W) (outcome : Result Answer CommandFault) (after : W) → AnswersMoves gives at inputs names log texts outcome after → IsLow outcome
-  low_moves_answered at inputs names None texts outcome after run = low_named AreMovesOfPlan (λ book p. low_moves book p (start p) 0) inputs names texts outcome after run
-  low_moves_answered at inputs names (Some log) texts outcome after run =
-      low_named_and_logged (λ book p. AreMovesOfLog book at p) (λ book p. low_log_moves book at p) inputs names log texts outcome after run
-
-  low_drawable : (next : W → Result Drawn CommandFault → W → Type 0) (p : PlannedShop) (mid : W) (drawn : Result Drawn CommandFault) (after : W)
-      → (next mid drawn after → IsLowDrawn drawn) → IfDrawable p next mid drawn after → IsLowDrawn drawn
-  low_drawable next p mid drawn after each (inl (shaped, run)) = each run
-  low_drawable next p mid drawn after each (inr answered) = low_unshaped_drawn p drawn answered.0
-
-  low_named_log : (IsDrawing : NameBook → List ℕ → Drawn → Type 0) → ((book : NameBook) (text : List ℕ) (drawn : Result Drawn CommandFault) → IsOrMemory (IsDrawing book text) drawn → IsLowDrawn drawn)
-      → (names : Option (List ℕ)) (log : List ℕ) (p : PlannedShop) (mid : W) (drawn : Result Drawn CommandFault) (after : W) → WithNamesAndLog gives names log p IsDrawing mid drawn after → IsLowDrawn drawn
-  low_named_log IsDrawing each names log p mid drawn after run =
-      held IsLowDrawn _ (λ book. Then (Asks gives log) (λ text. Concludes (IsOrMemory (IsDrawing book text)))) mid drawn after low_drawn_failed
-      (λ book later on. held IsLowDrawn _ (λ text. Concludes (IsOrMemory (IsDrawing book text))) later drawn after low_drawn_failed (λ text last said. each book text drawn said.0) on) run
-
-  low_schedule_picture : (inputs : InputPaths) (names : Option (List ℕ)) (texts : W) (drawn : Result Drawn CommandFault) (after : W) → DrawsSchedule gives inputs names texts drawn after → IsLowDrawn drawn
-  low_schedule_picture inputs names texts drawn after came =
-      held IsLowDrawn _ (λ p. IfDrawable p (WithNames gives names p (λ book. IsOrMemory (IsPlanDrawn book p)))) texts drawn after low_drawn_failed
-      (λ p mid on. low_drawable (WithNames gives names p (λ book. IsOrMemory (IsPlanDrawn book p))) p mid drawn after
-      (λ run. held IsLowDrawn _ (λ book. Concludes (IsOrMemory (IsPlanDrawn book p))) mid drawn after low_drawn_failed (λ book later said. low_plan_drawn book p drawn said.0) run) on) came
-
-  low_rest_picture : (at : Option ℕ) (inputs : InputPaths) (names : Option (List ℕ)) (log : List ℕ) (texts : W) (drawn : Result Drawn CommandFault) (after : W) → DrawsRest gives at inputs names log texts drawn after → IsLowDrawn drawn
-  low_rest_picture at inputs names log texts drawn after came =
-      held IsLowDrawn _ (λ p. IfDrawable p (WithNamesAndLog gives names log p (λ book. IsRestDrawing at book p))) texts drawn after low_drawn_failed
-      (λ p mid on. low_drawable (WithNamesAndLog gives names log p (λ book. IsRestDrawing at book p)) p mid drawn after
-      (low_named_log (λ book. IsRestDrawing at book p) (λ book. low_rest_drawing at book p) names log p mid drawn after) on) came
-
-  low_timetable_picture : (at : Option ℕ) (inputs : InputPaths) (names log : Option (List ℕ)) (texts : W) (drawn : Result Drawn CommandFault) (after : W) → DrawsTimetable gives at inputs names log texts drawn after → IsLowDrawn drawn
-  low_timetable_picture at inputs names None texts drawn after came = low_schedule_picture inputs names texts drawn after came
-  low_timetable_picture at inputs names (Some log) texts drawn after came = low_rest_picture at inputs names log texts drawn after came
-
-  low_log_picture : (inputs : InputPaths) (names : Option (List ℕ)) (log : List ℕ) (texts : W) (drawn : Result Drawn CommandFault) (after : W) → DrawsLog gives inputs names log texts drawn after → IsLowDrawn drawn
-  low_log_picture inputs names log texts drawn after came =
-      held IsLowDrawn _ (λ p. IfDrawable p (WithNamesAndLog gives names log p (λ book. IsLogDrawn book p))) texts drawn after low_drawn_failed
-      (λ p mid on. low_drawable (WithNamesAndLog gives names log p (λ book. IsLogDrawn book p)) p mid drawn after
-      (low_named_log (λ book. IsLogDrawn book p) (λ book. low_log_drawn book p) names log p mid drawn after) on) came
-
-  low_timetable : (form : Timetable) (at : Option ℕ) (inputs : InputPaths) (names log : Option (List ℕ)) (texts : W) (before : Streams) (outcome : Result Answer CommandFault) (texts_after : W) (after : Streams)
-      → RunsTimetable gives form at inputs names log texts before outcome texts_after after → IsLow outcome
-  low_timetable ByMoments at inputs names log texts before outcome texts_after after run = low_answer_by Moments at inputs names log texts outcome texts_after run.0
-  low_timetable ByMoves at inputs names log texts before outcome texts_after after run = low_moves_answered at inputs names log texts outcome texts_after run.0
-  low_timetable AsPicture at inputs names log texts before outcome texts_after after run =
-      low_draws run.drawn before after outcome (low_timetable_picture at inputs names log texts run.drawn texts_after run.came) run.draws
+  low_timetable : (form : Timetable) (run : RunPaths) (texts : W) (before : Streams) (outcome : Result Answer CommandFault) (texts_after : W) (after : Streams)
+      → RunsTimetable gives form run texts before outcome texts_after after → IsLow outcome
+  low_timetable ByMoments run texts before outcome texts_after after runs = low_asked_rest Moments run texts outcome texts_after runs.0
+  low_timetable ByMoves run texts before outcome texts_after after runs =
+      low_asked gives Itself IsLow low_failed low_said None (λ p book. AreMovesAhead book run.at p) run (λ p book log answered. low_or (AreMovesAhead book run.at p log) answered (low_ahead book run.at p log)) texts outcome texts_after runs.0
+  low_timetable AsPicture run texts before outcome texts_after after runs =
+      low_draws runs.drawn before after outcome
+      (low_asked gives IsLineAlone IsLowDrawn low_drawn_failed low_line_drawn None (λ p book. IsRestDrawing book run.at p) run (λ p book log drawn. low_rest_drawing book run.at p log drawn) texts runs.drawn texts_after runs.came) runs.draws
 
   low_drawing : (svg : Bool) (inputs : InputPaths) (names : Option (List ℕ)) (log : List ℕ) (texts : W) (before : Streams) (outcome : Result Answer CommandFault) (texts_after : W) (after : Streams)
       → RunsDrawing gives svg inputs names log texts before outcome texts_after after → IsLow outcome
   low_drawing false inputs names log texts before outcome texts_after after run =
-      low_named_and_logged (λ book. IsLogLine book Drawing) (λ book. low_log book Drawing) inputs names log texts outcome texts_after run.0
+      low_logged Drawing inputs names log texts outcome texts_after run.0
   low_drawing true inputs names log texts before outcome texts_after after run =
-      low_draws run.drawn before after outcome (low_log_picture inputs names log texts run.drawn texts_after run.came) run.draws
+      low_draws run.drawn before after outcome
+      (low_asked gives IsLineAlone IsLowDrawn low_drawn_failed low_line_drawn None (λ p book. OnLog (IsLogDrawn book p)) (logged inputs names log)
+      (λ p book. low_on_log IsLowDrawn (IsLogDrawn book p) low_drawn_failed (low_log_drawn book p)) texts run.drawn texts_after run.came) run.draws
 
   low_seeks : (rounds : ℕ) (inputs : InputPaths) (texts : W) (outcome : Result Answer CommandFault) (after : W)
       → SeeksPlan gives rounds inputs texts outcome after → IsLow outcome
@@ -528,27 +491,17 @@ module _ {W : Type 0} (gives : W → List ℕ → Result (List ℕ) CommandFault
       low_both inputs (λ p. Concludes (IsSearchAnswer (search_by_two (task_in p)) rounds)) texts outcome after (λ p mid on. low_sought (search_by_two (task_in p)) rounds outcome on.0) run
   low_seeks rounds inputs texts outcome after (inr no_memory) = subst IsLow (sym no_memory.0) tt
 
-  low_improves : (rounds : ℕ) (inputs : InputPaths) (texts : W) (outcome : Result Answer CommandFault) (after : W)
-      → ImprovesPlan gives rounds inputs texts outcome after → IsLow outcome
-  low_improves rounds inputs texts outcome after (inl run) =
-      low_both inputs (λ p. Concludes (IsImproveAnswer (AsksOne rounds) rounds (ordered p))) texts outcome after (λ p mid on. low_improved (AsksOne rounds) rounds (ordered p) outcome on.0) run
-  low_improves rounds inputs texts outcome after (inr no_memory) = subst IsLow (sym no_memory.0) tt
+  low_better : (made : SearchBy) (rounds : ℕ) (at : Option ℕ) (p : PlannedShop) (log : Option (List ℕ)) (mid : W) (outcome : Result Answer CommandFault) (after : W) → WithRun gives log (IsBetterAnswer made rounds at p) mid outcome after → IsLow outcome
+  low_better made rounds at p None mid outcome after on = low_best made rounds p outcome on.0
+  low_better made rounds at p (Some path) mid outcome after on =
+      held IsLow _ (λ text. Concludes (IsRestAnswer made at rounds (ended_lines text) p)) mid outcome after low_failed (λ text later is. low_rest_answer made at rounds (ended_lines text) p outcome is.0) on
 
-  low_with_rest : (at : Option ℕ) (rounds : ℕ) (log : List ℕ) (p : PlannedShop) (mid : W) (outcome : Result Answer CommandFault) (after : W)
-      → WithRest gives (AsksOneForRest rounds) at rounds log p mid outcome after → IsLow outcome
-  low_with_rest at rounds =
-      low_with_log_of (λ p text. IsRestAnswer (AsksOneForRest rounds) at rounds (ended_lines text) p) (λ p text. low_rest_answer (AsksOneForRest rounds) at rounds (ended_lines text) p)
-
-  low_rest_improves : (at : Option ℕ) (rounds : ℕ) (inputs : InputPaths) (log : List ℕ) (texts : W) (outcome : Result Answer CommandFault) (after : W)
-      → ImprovesRest gives at rounds inputs log texts outcome after → IsLow outcome
-  low_rest_improves at rounds inputs log texts outcome after (inl run) =
-      low_both inputs (λ p. WithRest gives (AsksOneForRest rounds) at rounds log (ordered p)) texts outcome after (λ p mid on. low_with_rest at rounds log (ordered p) mid outcome after on) run
-  low_rest_improves at rounds inputs log texts outcome after (inr no_memory) = subst IsLow (sym no_memory.0) tt
-
-  low_bettered : (at : Option ℕ) (rounds : ℕ) (inputs : InputPaths) (log : Option (List ℕ)) (texts : W) (outcome : Result Answer CommandFault) (after : W)
-      → Improves gives at rounds inputs log texts outcome after → IsLow outcome
-  low_bettered at rounds inputs None texts outcome after run = low_improves rounds inputs texts outcome after run
-  low_bettered at rounds inputs (Some log) texts outcome after run = low_rest_improves at rounds inputs log texts outcome after run
+  low_improves : (rounds : ℕ) (run : RunPaths) (texts : W) (outcome : Result Answer CommandFault) (after : W) → Improves gives rounds run texts outcome after → IsLow outcome
+  low_improves rounds run texts outcome after (inl runs) =
+      low_both run.inputs (λ p. BettersPlan gives (AsksOne rounds) rounds run (ordered p)) texts outcome after
+      (λ p mid on. low_if_shaped (WithRun gives run.log (IsBetterAnswer (AsksOne rounds) rounds run.at (ordered p))) (ordered p) mid outcome after
+      (low_better (AsksOne rounds) rounds run.at (ordered p) run.log mid outcome after) on) runs
+  low_improves rounds run texts outcome after (inr no_memory) = subst IsLow (sym no_memory.0) tt
 
   low_revises : (file : Bool) (at : Option ℕ) (asked : List AskedChange) (inputs : InputPaths) (log : List ℕ) (texts : W) (outcome : Result Answer CommandFault) (after : W)
       → Revises gives file at asked inputs log texts outcome after → IsLow outcome
@@ -565,29 +518,21 @@ module _ {W : Type 0} (gives : W → List ℕ → Result (List ℕ) CommandFault
   low_sound Comes names p mid outcome after each (inl (sound, is)) = held IsLow _ (λ book. Concludes (Comes book)) mid outcome after low_failed (λ book later on. each book on.0) is
   low_sound Comes names p mid outcome after each (inr answered) = low_or (IsBadNumbersLine p) outcome (λ answer line. one_low answer.status line.line.refused) answered.0
 
-  low_sound_decision : (aim : Aim) (names : Option (List ℕ)) (p : PlannedShop) (mid : W) (outcome : Result Answer CommandFault) (after : W)
-      → IfSound gives p (WithDecision gives aim names (serially p)) mid outcome after → IsLow outcome
-  low_sound_decision aim names p mid outcome after (inl (sound, is)) =
-      let q = serially p in
-      low_if_there (job_of aim) (WithNames gives names q (λ book. IsDecisionAnswer book (whole_case q) aim)) q mid outcome after
-      (held IsLow _ (λ book. Concludes (IsDecisionAnswer book (whole_case q) aim)) mid outcome after low_failed (λ book later on. low_decided book (whole_case q) aim outcome on.0)) is
-  low_sound_decision aim names p mid outcome after (inr answered) = low_or (IsBadNumbersLine p) outcome (λ answer line. one_low answer.status line.line.refused) answered.0
+  low_run_decided : (aim : Aim) (at : Option ℕ) (book : NameBook) (p : PlannedShop) (log : Option (List ℕ)) (mid : W) (outcome : Result Answer CommandFault) (after : W) → WithRun gives log (IsRunDecision book aim at p) mid outcome after → IsLow outcome
+  low_run_decided aim at book p None mid outcome after on = low_decided book (whole_case p) aim outcome on.0
+  low_run_decided aim at book p (Some path) mid outcome after on =
+      held IsLow _ (λ text. Concludes (IsRestDecisionAnswer book at (ended_lines text) p aim)) mid outcome after low_failed (λ text later is. low_rest_decided book at (ended_lines text) p aim outcome is.0) on
 
-  low_with_decision : (aim : Aim) (at : Option ℕ) (names : Option (List ℕ)) (log : List ℕ) (p : PlannedShop) (mid : W) (outcome : Result Answer CommandFault) (after : W)
-      → WithRestDecision gives aim at names log p mid outcome after → IsLow outcome
-  low_with_decision aim at names log p mid outcome after (inl (shaped, is)) =
-      low_if_there (job_of aim) (Then (ReadsNames gives names p) (λ book. Then (Asks gives log) (λ text. Concludes (IsRestDecisionAnswer book at (ended_lines text) p aim)))) p mid outcome after
-      (held IsLow _ _ mid outcome after low_failed
-      (λ book named on. held IsLow _ (λ text. Concludes (IsRestDecisionAnswer book at (ended_lines text) p aim)) named outcome after low_failed
-      (λ text later goes. low_rest_decided book at (ended_lines text) p aim outcome goes.0) on)) is
-  low_with_decision aim at names log p mid outcome after (inr answered) = low_or (IsUnfitLine p) outcome (λ answer line. one_low answer.status line.line.refused) answered.0
+  low_decides : (aim : Aim) (run : RunPaths) (p : PlannedShop) (mid : W) (outcome : Result Answer CommandFault) (after : W) → DecidesPlan gives aim run p mid outcome after → IsLow outcome
+  low_decides aim run p mid outcome after =
+      low_if_there (job_of aim) (WithNamesAndRun gives run.names run.log p (λ book. IsRunDecision book aim run.at p)) p mid outcome after
+      (held IsLow _ (λ book. WithRun gives run.log (IsRunDecision book aim run.at p)) mid outcome after low_failed (λ book later. low_run_decided aim run.at book p run.log later outcome after))
 
-  low_all_decided : (aim : Aim) (at : Option ℕ) (inputs : InputPaths) (names log : Option (List ℕ)) (texts : W) (outcome : Result Answer CommandFault) (after : W)
-      → Decides gives aim at inputs names log texts outcome after → IsLow outcome
-  low_all_decided aim at inputs names None texts outcome after run =
-      low_both inputs (λ p. IfSound gives p (WithDecision gives aim names (serially p))) texts outcome after (λ p mid on. low_sound_decision aim names p mid outcome after on) run
-  low_all_decided aim at inputs names (Some log) texts outcome after run =
-      low_both inputs (λ p. WithRestDecision gives aim at names log (ordered p)) texts outcome after (λ p mid on. low_with_decision aim at names log (ordered p) mid outcome after on) run
+  low_fit : (aim : Aim) (run : RunPaths) (p : PlannedShop) (log : Option (List ℕ)) (mid : W) (outcome : Result Answer CommandFault) (after : W) → IfFit gives log p (DecidesPlan gives aim run) mid outcome after → IsLow outcome
+  low_fit aim run p None mid outcome after (inl (sound, is)) = low_decides aim run (serially p) mid outcome after is
+  low_fit aim run p None mid outcome after (inr said) = low_or (IsBadNumbersLine p) outcome (λ answer line. one_low answer.status line.line.refused) said.0
+  low_fit aim run p (Some log) mid outcome after (inl (shaped, is)) = low_decides aim run (ordered p) mid outcome after is
+  low_fit aim run p (Some log) mid outcome after (inr said) = low_or (IsUnfitLine (ordered p)) outcome (λ answer line. one_low answer.status line.line.refused) said.0
 
   low_resumes : (protocol : Protocol) (at : Option ℕ) (log : List ℕ) (shaped : Result (Result PlannedShop ShapeFault) CommandFault) (texts : W) (before : Streams) (outcome : Result Answer CommandFault) (texts_after : W) (after : Streams)
       → Resumes gives protocol at log shaped texts before outcome texts_after after → IsLow outcome
@@ -605,19 +550,19 @@ module _ {W : Type 0} (gives : W → List ℕ → Result (List ℕ) CommandFault
       held IsLow _ (λ text. Concludes (AreFactsAnswered text (name_in chosen))) texts outcome texts_after low_failed (λ text mid on. low_facts text (name_in chosen) outcome on.0) run.0
   low Shape chosen texts before outcome texts_after after run =
       low_both (inputs_in chosen) (λ p. Concludes (IsOrMemory (IsShapeLine p))) texts outcome texts_after (λ p mid on. low_or (IsShapeLine p) outcome (low_shape p) on.0) run.0
-  low Check chosen texts before outcome texts_after after run =
-      low_answer_by OfVerdict chosen.at (inputs_in chosen) (names_in chosen) (log_in chosen) texts outcome texts_after run.0
-  low Explain chosen texts before outcome texts_after after run =
-      low_answer_by (Reasons chosen.job) chosen.at (inputs_in chosen) (names_in chosen) (log_in chosen) texts outcome texts_after run.0
-  low Schedule chosen texts before outcome texts_after after run = low_timetable (form_in chosen) chosen.at (inputs_in chosen) (names_in chosen) (log_in chosen) texts before outcome texts_after after run
+  low Check chosen texts before outcome texts_after after run = low_asked_rest OfVerdict (run_in chosen) texts outcome texts_after run.0
+  low Explain chosen texts before outcome texts_after after run = low_asked_rest (Reasons chosen.job) (run_in chosen) texts outcome texts_after run.0
+  low Schedule chosen texts before outcome texts_after after run = low_timetable (form_in chosen) (run_in chosen) texts before outcome texts_after after run
   low Bounds chosen texts before outcome texts_after after run =
       low_both (inputs_in chosen) (λ p. WithSoundNames gives (λ book. IsOrMemory (AreBoundLines book (times_of p) p.plan.budget)) (names_in chosen) p) texts outcome texts_after
       (λ p mid on. low_sound (λ book. IsOrMemory (AreBoundLines book (times_of p) p.plan.budget)) (names_in chosen) p mid outcome texts_after
       (λ book is. low_or (AreBoundLines book (times_of p) p.plan.budget) outcome (low_bounds book (times_of p) p.plan.budget) is) on) run.0
   low Margin chosen texts before outcome texts_after after run = low_named IsMarginAnswer low_margin (inputs_in chosen) (names_in chosen) texts outcome texts_after run.0
   low Plan chosen texts before outcome texts_after after run = low_seeks chosen.rounds _ texts outcome texts_after run.0
-  low Decide chosen texts before outcome texts_after after run = low_all_decided (aim_in chosen) chosen.at (inputs_in chosen) (names_in chosen) (log_in chosen) texts outcome texts_after run.0
-  low Improve chosen texts before outcome texts_after after run = low_bettered chosen.at chosen.rounds (inputs_in chosen) (log_in chosen) texts outcome texts_after run.0
+  low Decide chosen texts before outcome texts_after after run =
+      low_both (inputs_in chosen) (λ p. IfFit gives (log_in chosen) p (DecidesPlan gives (aim_in chosen) (run_in chosen))) texts outcome texts_after
+      (λ p mid on. low_fit (aim_in chosen) (run_in chosen) p (log_in chosen) mid outcome texts_after on) run.0
+  low Improve chosen texts before outcome texts_after after run = low_improves chosen.rounds (run_in chosen) texts outcome texts_after run.0
   low Revise chosen texts before outcome texts_after after run = low_revises chosen.file chosen.at chosen.changes.items (inputs_in chosen) (file_at chosen 2) texts outcome texts_after run.0
   low Drive chosen texts before outcome texts_after after run = low_drives (protocol_in chosen) run.loaded before after outcome run.drives
   low Resume chosen texts before outcome texts_after after run = low_resumes (protocol_in chosen) chosen.at _ run.shaped run.texts_mid before outcome texts_after after run.resumes
@@ -627,5 +572,5 @@ module _ {W : Type 0} (gives : W → List ℕ → Result (List ℕ) CommandFault
   low Digest chosen texts before outcome texts_after after run =
       low_both (inputs_in chosen) (λ p. Concludes (IsOrMemory (IsDigestAnswer p))) texts outcome texts_after (λ p mid on. low_or (IsDigestAnswer p) outcome (low_digest p) on.0) run.0
   low Audit chosen texts before outcome texts_after after run =
-      low_named_and_logged (λ book. IsLogLine book Numbers) (λ book. low_log book Numbers) (inputs_in chosen) None (file_at chosen 2) texts outcome texts_after run.0
+      low_logged Numbers (inputs_in chosen) None (file_at chosen 2) texts outcome texts_after run.0
   low Gantt chosen texts before outcome texts_after after run = low_drawing chosen.svg (inputs_in chosen) (names_in chosen) (file_at chosen 2) texts before outcome texts_after after run

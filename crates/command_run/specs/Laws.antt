@@ -41,34 +41,33 @@ use Rattle.command_answers.specs.Plans.{BothParse}
 use Rattle.command_answers.specs.Facts.{AreFacts}
 use Rattle.command_answers.specs.Shapes.{IsNotShapedLine, IsShapeLine}
 use Rattle.command_answers.specs.Checks.{IsCheckLine}
-use Rattle.command_answers.specs.Explains.{IsExplanation}
-use Rattle.command_answers.specs.Timetables.{IsTimetable}
 use Rattle.command_answers.specs.BoundLines.{AreBounds}
 use Rattle.command_answers.specs.Digests.{IsDigestAnswer}
 use Rattle.command_answers.specs.Margins.{IsMarginAnswer}
-use Rattle.command_answers.specs.Moves.{AreMovesOfLog, AreMovesOfPlan}
+use Rattle.command_answers.specs.Moves.{AreMovesAhead}
 use Rattle.command_answers.specs.LogLines.{IsLogLine}
 use Rattle.command_answers.specs.Search.{IsSearchAnswer}
-use Rattle.command_answers.specs.Improving.{IsImproveAnswer, ordered}
+use Rattle.command_answers.specs.Improving.{ordered}
+use Rattle.command_answers.specs.Steps.{IsOrMemory}
 use Rattle.command_answers.specs.declared.rests.PlanAnswer.{PlanAnswer}
 use Rattle.command_answers.specs.Rests.{IsRestLine, job_asked}
-use Rattle.command_answers.specs.ImprovingRests.{IsRestAnswer}
-use Rattle.command_answers.specs.Commands.{InputPaths, RunsFacts, RunsShape, RunsDigest, RunsCheck, RunsExplain, RunsSchedule, RunsMoves, RunsRestMoves, RunsBounds, RunsMargin, RunsLog, RunsRest, Loads, Shapes}
-use Rattle.command_answers.specs.Pictures.{IsLogDrawn, IsAnyPlanDrawn, IsRestDrawing, DrawsLog, DrawsRest, DrawsSchedule}
+use Rattle.command_answers.specs.ImprovingRests.{IsBetterAnswer}
+use Rattle.command_answers.specs.Commands.{InputPaths, RunPaths, RunsFacts, RunsShape, RunsDigest, RunsMoves, RunsBounds, RunsMargin, RunsLog, RunsRest, Loads, Shapes}
+use Rattle.command_answers.specs.Pictures.{IsLineAlone, IsLogDrawn, IsRestDrawing, DrawsLog, DrawsRest}
 use Rattle.command_answers.specs.declared.loading.Loaded.TheVariants.{Judged}
 use Rattle.command_answers.specs.declared.cells.Cells.{Cells}
 use Rattle.command_answers.specs.Cells.{AreAccepted, LoadsCells}
 use Rattle.command_run.specs.Streams.{Streams, Input, Output, Errors, Devices}
 use Rattle.command_run.specs.Inputs.{RunsInput}
 use Rattle.command_run.specs.Planners.{search_by_two, SeeksPlan}
-use Rattle.command_run.specs.Improvers.{AsksOne, ImprovesPlan, AsksOneForRest, ImprovesRest}
-use Rattle.command_run.specs.Pictures.{IsPictureOut, Draws, DrawsTimetable, RunsPicture}
+use Rattle.command_run.specs.Improvers.{AsksOne, Improves}
+use Rattle.command_run.specs.Pictures.{IsPictureOut, Draws, RunsPicture}
 use Rattle.command_run.specs.Drives.{IsDriveIn, DrivesCell, end_of_drive}
 use Rattle.command_run.specs.Logs.{DrivesWithLog, GoesOnWithLog, LogEnd, step_of}
 use Rattle.command_run.specs.Resumes.{ResumesText, IsRecovery}
 use Rattle.command_run.specs.Hubs.{AreDrivesIn, DrivesCells}
 use Rattle.command_run.specs.Ending.{WasPrinted, IsLineOut, IsOfText}
-use Rattle.command_run.specs.Program.{RunsApart, RunsDrive, RunsResume, RunsHub, RunsProgram, draws_in, file_at, log_in, protocol_in, name_in, names_in, inputs_in, plans_in}
+use Rattle.command_run.specs.Program.{RunsApart, RunsDrive, RunsResume, RunsHub, RunsProgram, draws_in, file_at, log_in, protocol_in, name_in, names_in, inputs_in, plans_in, run_in}
 
 -- ---- what is printed first where the files don't change
 
@@ -95,34 +94,26 @@ ShapeReadsInstanceFirst = ReadsInstanceFirst (λ gives inputs. RunsShape gives i
 abbrev pub DigestReadsInstanceFirst : Type 0
 DigestReadsInstanceFirst = ReadsInstanceFirst (λ gives inputs. RunsDigest gives inputs)
 
-abbrev pub CheckReadsInstanceFirst : Type 0
-CheckReadsInstanceFirst = ReadsInstanceFirst (λ gives inputs. RunsCheck gives inputs)
-
-abbrev pub ExplainReadsInstanceFirst : Type 0
-ExplainReadsInstanceFirst = (names : Option (List ℕ)) (job : Option ℕ) → ReadsInstanceFirst (λ gives inputs. RunsExplain gives inputs names job)
-
-abbrev pub ScheduleReadsInstanceFirst : Type 0
-ScheduleReadsInstanceFirst = (names : Option (List ℕ)) → ReadsInstanceFirst (λ gives inputs. RunsSchedule gives inputs names)
-
 abbrev pub BoundsReadsInstanceFirst : Type 0
 BoundsReadsInstanceFirst = (names : Option (List ℕ)) → ReadsInstanceFirst (λ gives inputs. RunsBounds gives inputs names)
 
 abbrev pub MarginReadsInstanceFirst : Type 0
 MarginReadsInstanceFirst = (names : Option (List ℕ)) → ReadsInstanceFirst (λ gives inputs. RunsMargin gives inputs names)
 
-abbrev pub MovesReadsInstanceFirst : Type 0
-MovesReadsInstanceFirst = (names : Option (List ℕ)) → ReadsInstanceFirst (λ gives inputs. RunsMoves gives inputs names)
-
 -- so it is for `audit` and for `gantt`
 abbrev pub LogReadsInstanceFirst : Type 0
 LogReadsInstanceFirst = (wanted : LogAnswer) (names : Option (List ℕ)) (log : List ℕ) → ReadsInstanceFirst (λ gives inputs. RunsLog gives wanted inputs names log)
 
--- so it is for `check`, `explain` and `schedule` of the rest of a run
-abbrev pub RestReadsInstanceFirst : Type 0
-RestReadsInstanceFirst = (wanted : PlanAnswer) (at : Option ℕ) (names : Option (List ℕ)) (log : List ℕ) → ReadsInstanceFirst (λ gives inputs. RunsRest gives wanted at inputs names log)
+-- the run with this plan, and otherwise with the files and the moment of another one
+abbrev pub with_inputs : RunPaths → InputPaths → RunPaths
+with_inputs run inputs = record { inputs = inputs; names = run.names; log = run.log; at = run.at }
 
-abbrev pub RestMovesReadsInstanceFirst : Type 0
-RestMovesReadsInstanceFirst = (at : Option ℕ) (names : Option (List ℕ)) (log : List ℕ) → ReadsInstanceFirst (λ gives inputs. RunsRestMoves gives at inputs names log)
+-- so it is for `check`, `explain` and `schedule`
+abbrev pub RestReadsInstanceFirst : Type 0
+RestReadsInstanceFirst = (wanted : PlanAnswer) (run : RunPaths) → ReadsInstanceFirst (λ gives inputs. RunsRest gives wanted (with_inputs run inputs))
+
+abbrev pub MovesReadsInstanceFirst : Type 0
+MovesReadsInstanceFirst = (run : RunPaths) → ReadsInstanceFirst (λ gives inputs. RunsMoves gives (with_inputs run inputs))
 
 -- so it is, unless memory runs out for planners or improvers before any file is asked for
 abbrev pub ReadsInstanceFirstOrNothing : ((List (List ℕ) → List ℕ → Result (List ℕ) CommandFault → List (List ℕ) → Type 0) → InputPaths
@@ -135,11 +126,7 @@ abbrev pub PlanReadsInstanceFirst : Type 0
 PlanReadsInstanceFirst = (rounds : ℕ) → ReadsInstanceFirstOrNothing (λ gives inputs. SeeksPlan gives rounds inputs)
 
 abbrev pub ImproveReadsInstanceFirst : Type 0
-ImproveReadsInstanceFirst = (rounds : ℕ) → ReadsInstanceFirstOrNothing (λ gives inputs. ImprovesPlan gives rounds inputs)
-
--- for the rest of a run too
-abbrev pub ImproveRestReadsInstanceFirst : Type 0
-ImproveRestReadsInstanceFirst = (at : Option ℕ) (rounds : ℕ) (log : List ℕ) → ReadsInstanceFirstOrNothing (λ gives inputs. ImprovesRest gives at rounds inputs log)
+ImproveReadsInstanceFirst = (rounds : ℕ) (run : RunPaths) → ReadsInstanceFirstOrNothing (λ gives inputs. Improves gives rounds (with_inputs run inputs))
 
 -- so it is, with no byte read or written
 abbrev pub ReadsInstanceFirstAlone : ((List (List ℕ) → List ℕ → Result (List ℕ) CommandFault → List (List ℕ) → Type 0) → InputPaths
@@ -156,10 +143,7 @@ ResumeReadsInstanceFirst = (protocol : Protocol) (at : Option ℕ) (log : List �
 
 -- so it is where pictures are asked for
 abbrev pub ScheduleDrawsInstanceFirst : Type 0
-ScheduleDrawsInstanceFirst = (names : Option (List ℕ)) → ReadsInstanceFirstAlone (λ gives inputs. RunsPicture (DrawsSchedule gives inputs names))
-
-abbrev pub RestDrawsInstanceFirst : Type 0
-RestDrawsInstanceFirst = (at : Option ℕ) (names : Option (List ℕ)) (log : List ℕ) → ReadsInstanceFirstAlone (λ gives inputs. RunsPicture (DrawsRest gives at inputs names log))
+ScheduleDrawsInstanceFirst = (run : RunPaths) → ReadsInstanceFirstAlone (λ gives inputs. RunsPicture (DrawsRest gives (with_inputs run inputs)))
 
 abbrev pub LogDrawsInstanceFirst : Type 0
 LogDrawsInstanceFirst = (names : Option (List ℕ)) (log : List ℕ) → ReadsInstanceFirstAlone (λ gives inputs. RunsPicture (DrawsLog gives inputs names log))
@@ -200,65 +184,79 @@ ShapeAnswersPlan = AnswersPlan (λ gives inputs. RunsShape gives inputs) IsShape
 abbrev pub DigestAnswersPlan : Type 0
 DigestAnswersPlan = AnswersPlan (λ gives inputs. RunsDigest gives inputs) IsDigestAnswer
 
-abbrev pub CheckAnswersPlan : Type 0
-CheckAnswersPlan = AnswersPlan (λ gives inputs. RunsCheck gives inputs) IsCheckLine
-
--- without names, and with no job asked for
-abbrev pub ExplainAnswersPlan : Type 0
-ExplainAnswersPlan = AnswersPlan (λ gives inputs. RunsExplain gives inputs None None) IsExplanation
-
-abbrev pub ScheduleAnswersPlan : Type 0
-ScheduleAnswersPlan = AnswersPlan (λ gives inputs. RunsSchedule gives inputs None) IsTimetable
-
+-- without names
 abbrev pub BoundsAnswerPlan : Type 0
 BoundsAnswerPlan = AnswersPlan (λ gives inputs. RunsBounds gives inputs None) AreBounds
 
 abbrev pub MarginAnswersPlan : Type 0
 MarginAnswersPlan = AnswersPlan (λ gives inputs. RunsMargin gives inputs None) (λ p answer. IsNotShapedLine p answer ⊎ IsMarginAnswer no_names p answer)
 
-abbrev pub MovesAnswerPlan : Type 0
-MovesAnswerPlan = AnswersPlan (λ gives inputs. RunsMoves gives inputs None) (λ p answer. IsNotShapedLine p answer ⊎ AreMovesOfPlan no_names p answer)
+-- the paths of the files of a run without names: those of its plan, and of its log, if it has begun
+abbrev pub log_paths : Option (List ℕ) → List (List ℕ)
+log_paths None = []
+log_paths (Some log) = log ∷ []
 
--- `audit` and `gantt`: where the plan is well shaped, what is answered of the log
-abbrev pub LogIsAnswered : Type 0
-LogIsAnswered = (wanted : LogAnswer) (content : List ℕ → Result (List ℕ) CommandFault) (inputs : InputPaths) (log text : List ℕ) (p : PlannedShop) (outcome : Result Answer CommandFault) (asked : List (List ℕ))
-    → ParseAsPlan content inputs p → content log ≡ Ok text → IsWellShaped p → RunsLog (Shelf content) wanted inputs None log [] outcome asked
-    → IsAnswered (IsLogLine no_names wanted p text) (inputs.path ∷ inputs.plan ∷ log ∷ []) outcome asked
+-- the log has this text, if there is one
+abbrev pub HasText : (List ℕ → Result (List ℕ) CommandFault) → Option (List ℕ) → Option (List ℕ) → Type 0
+HasText content None text = text ≡ None
+HasText content (Some log) text = (bytes : List ℕ) × (content log ≡ Ok bytes) × (text ≡ Some bytes)
 
--- `check`, `explain` and `schedule` of the rest of a run: where the plan is well shaped, and no job asked for, what is answered of its log
+-- the files of these paths give this shop, this plan, and this log, if the run has begun, and none are given for names
+pub record GivesRun (content : List ℕ → Result (List ℕ) CommandFault) (run : RunPaths) (p : PlannedShop) (text : Option (List ℕ)) : Type 0 where
+  pub plan : ParseAsPlan content run.inputs p
+  pub log : HasText content run.log text
+  pub unnamed : run.names ≡ None
+
+-- where the plan is well shaped this is so, with the log asked for too, if there is one; else that
+abbrev pub ByShape : PlannedShop → RunPaths → (List (List ℕ) → Type 0) → (List (List ℕ) → Type 0) → Type 0
+ByShape p run Shaped Unshaped = (IsWellShaped p × Shaped (run.inputs.path ∷ run.inputs.plan ∷ log_paths run.log)) ⊎ Unshaped (run.inputs.path ∷ run.inputs.plan ∷ [])
+
+-- one of these is answered, or the line of the plan's first fault; no answer is given only where memory ran out
+abbrev pub IsRunAnswered : (Answer → Type 0) → PlannedShop → RunPaths → Result Answer CommandFault → List (List ℕ) → Type 0
+IsRunAnswered Is p run outcome asked = ByShape p run (λ files. IsAnswered Is files outcome asked) (λ files. IsAnswered (IsNotShapedLine p) files outcome asked)
+
+-- `check`, `explain` and `schedule`: with no job asked for, what is answered of the plan, or of the rest of the run in its log
 abbrev pub RestIsAnswered : Type 0
-RestIsAnswered = (wanted : PlanAnswer) (at : Option ℕ) (content : List ℕ → Result (List ℕ) CommandFault) (inputs : InputPaths) (log text : List ℕ) (p : PlannedShop) (outcome : Result Answer CommandFault) (asked : List (List ℕ))
-    → ParseAsPlan content inputs p → content log ≡ Ok text → IsWellShaped p → job_asked wanted ≡ None → RunsRest (Shelf content) wanted at inputs None log [] outcome asked
-    → IsAnswered (IsRestLine no_names wanted at p text) (inputs.path ∷ inputs.plan ∷ log ∷ []) outcome asked
+RestIsAnswered = (wanted : PlanAnswer) (content : List ℕ → Result (List ℕ) CommandFault) (run : RunPaths) (p : PlannedShop) (text : Option (List ℕ)) (outcome : Result Answer CommandFault) (asked : List (List ℕ))
+    → GivesRun content run p text → job_asked wanted ≡ None → RunsRest (Shelf content) wanted run [] outcome asked
+    → IsRunAnswered (IsRestLine no_names wanted run.at p text) p run outcome asked
 
--- `schedule --moves` of the rest of a run: where the plan is well shaped, the moves ahead by its log
-abbrev pub RestMovesAreAnswered : Type 0
-RestMovesAreAnswered = (at : Option ℕ) (content : List ℕ → Result (List ℕ) CommandFault) (inputs : InputPaths) (log text : List ℕ) (p : PlannedShop) (outcome : Result Answer CommandFault) (asked : List (List ℕ))
-    → ParseAsPlan content inputs p → content log ≡ Ok text → IsWellShaped p → RunsRestMoves (Shelf content) at inputs None log [] outcome asked
-    → IsAnswered (AreMovesOfLog no_names at p text) (inputs.path ∷ inputs.plan ∷ log ∷ []) outcome asked
+-- `schedule --moves`: the moves ahead
+abbrev pub MovesAreAnswered : Type 0
+MovesAreAnswered = (content : List ℕ → Result (List ℕ) CommandFault) (run : RunPaths) (p : PlannedShop) (text : Option (List ℕ)) (outcome : Result Answer CommandFault) (asked : List (List ℕ))
+    → GivesRun content run p text → RunsMoves (Shelf content) run [] outcome asked
+    → IsRunAnswered (AreMovesAhead no_names run.at p text) p run outcome asked
 
 -- one of these was drawn, for which these files were asked for; nothing is only where memory ran out, with no byte read or written
 abbrev pub IsDrawn : (Drawn → Type 0) → List (List ℕ) → Streams → Result Answer CommandFault → List (List ℕ) → Streams → Type 0
 IsDrawn Is files before outcome asked after =
     ((asked ≡ files) × ((drawn : Drawn) × Is drawn × Draws (Ok drawn) before after outcome)) ⊎ ((outcome ≡ Err Memory) × (after ≡ before))
 
--- `schedule --svg`: what comes of the plan is drawn
+-- so one of these, or the line of the plan's first fault
+abbrev pub IsRunDrawn : (Drawn → Type 0) → PlannedShop → RunPaths → Streams → Result Answer CommandFault → List (List ℕ) → Streams → Type 0
+IsRunDrawn Is p run before outcome asked after = ByShape p run (λ files. IsDrawn Is files before outcome asked after) (λ files. IsDrawn (IsLineAlone (IsNotShapedLine p)) files before outcome asked after)
+
+-- `schedule --svg`: what comes of the plan, or of the rest of the run in its log, is drawn
 abbrev pub ScheduleIsDrawn : Type 0
-ScheduleIsDrawn = (before after : Streams) (content : List ℕ → Result (List ℕ) CommandFault) (inputs : InputPaths) (p : PlannedShop) (outcome : Result Answer CommandFault) (asked : List (List ℕ))
-    → ParseAsPlan content inputs p → RunsPicture (DrawsSchedule (Shelf content) inputs None) [] before outcome asked after
-    → IsDrawn (IsAnyPlanDrawn p) (inputs.path ∷ inputs.plan ∷ []) before outcome asked after
+ScheduleIsDrawn = (before after : Streams) (content : List ℕ → Result (List ℕ) CommandFault) (run : RunPaths) (p : PlannedShop) (text : Option (List ℕ)) (outcome : Result Answer CommandFault) (asked : List (List ℕ))
+    → GivesRun content run p text → RunsPicture (DrawsRest (Shelf content) run) [] before outcome asked after
+    → IsRunDrawn (IsRestDrawing no_names run.at p text) p run before outcome asked after
 
--- `schedule --svg` of the rest of a run: where the plan is well shaped, what comes of the log is drawn
-abbrev pub RestIsDrawn : Type 0
-RestIsDrawn = (at : Option ℕ) (before after : Streams) (content : List ℕ → Result (List ℕ) CommandFault) (inputs : InputPaths) (log text : List ℕ) (p : PlannedShop) (outcome : Result Answer CommandFault) (asked : List (List ℕ))
-    → ParseAsPlan content inputs p → content log ≡ Ok text → IsWellShaped p → RunsPicture (DrawsRest (Shelf content) at inputs None log) [] before outcome asked after
-    → IsDrawn (IsRestDrawing at no_names p text) (inputs.path ∷ inputs.plan ∷ log ∷ []) before outcome asked after
+-- a run with this log
+abbrev pub in_log : InputPaths → List ℕ → RunPaths
+in_log inputs log = record { inputs = inputs; names = None; log = Some log; at = None }
 
--- `gantt --svg`: where the plan is well shaped, what comes of the log is drawn
+-- `audit` and `gantt`: what is answered of the log
+abbrev pub LogIsAnswered : Type 0
+LogIsAnswered = (wanted : LogAnswer) (content : List ℕ → Result (List ℕ) CommandFault) (inputs : InputPaths) (log text : List ℕ) (p : PlannedShop) (outcome : Result Answer CommandFault) (asked : List (List ℕ))
+    → ParseAsPlan content inputs p → content log ≡ Ok text → RunsLog (Shelf content) wanted inputs None log [] outcome asked
+    → IsRunAnswered (IsLogLine no_names wanted p text) p (in_log inputs log) outcome asked
+
+-- `gantt --svg`: what comes of the log is drawn
 abbrev pub LogIsDrawn : Type 0
 LogIsDrawn = (before after : Streams) (content : List ℕ → Result (List ℕ) CommandFault) (inputs : InputPaths) (log text : List ℕ) (p : PlannedShop) (outcome : Result Answer CommandFault) (asked : List (List ℕ))
-    → ParseAsPlan content inputs p → content log ≡ Ok text → IsWellShaped p → RunsPicture (DrawsLog (Shelf content) inputs None log) [] before outcome asked after
-    → IsDrawn (IsLogDrawn no_names p text) (inputs.path ∷ inputs.plan ∷ log ∷ []) before outcome asked after
+    → ParseAsPlan content inputs p → content log ≡ Ok text → RunsPicture (DrawsLog (Shelf content) inputs None log) [] before outcome asked after
+    → IsRunDrawn (IsLogDrawn no_names p text) p (in_log inputs log) before outcome asked after
 
 -- `plan`: what the search allows for the numbers of this plan, with exactly these files asked for, unless memory runs out before
 abbrev pub PlanAnswersPlan : Type 0
@@ -266,17 +264,12 @@ PlanAnswersPlan = (rounds : ℕ) (content : List ℕ → Result (List ℕ) Comma
     → ParseAsPlan content inputs p → SeeksPlan (Shelf content) rounds inputs [] outcome asked
     → (IsSearchAnswer (search_by_two (task_in p)) rounds outcome × (asked ≡ inputs.path ∷ inputs.plan ∷ [])) ⊎ (outcome ≡ Err Memory)
 
--- `improve`: what the search from this plan comes to, with exactly these files asked for, unless memory runs out before
-abbrev pub ImproveAnswersPlan : Type 0
-ImproveAnswersPlan = (rounds : ℕ) (content : List ℕ → Result (List ℕ) CommandFault) (inputs : InputPaths) (p : PlannedShop) (outcome : Result Answer CommandFault) (asked : List (List ℕ))
-    → ParseAsPlan content inputs p → ImprovesPlan (Shelf content) rounds inputs [] outcome asked
-    → (IsImproveAnswer (AsksOne rounds) rounds (ordered p) outcome × (asked ≡ inputs.path ∷ inputs.plan ∷ [])) ⊎ (outcome ≡ Err Memory)
-
--- `improve` of the rest of a run: where the plan is well shaped, what the search from it comes to for the rest of this log, with exactly these files asked for, unless memory runs out before
-abbrev pub ImproveAnswersRest : Type 0
-ImproveAnswersRest = (at : Option ℕ) (rounds : ℕ) (content : List ℕ → Result (List ℕ) CommandFault) (inputs : InputPaths) (log text : List ℕ) (p : PlannedShop) (outcome : Result Answer CommandFault) (asked : List (List ℕ))
-    → ParseAsPlan content inputs p → content log ≡ Ok text → IsWellShaped (ordered p) → ImprovesRest (Shelf content) at rounds inputs log [] outcome asked
-    → (IsRestAnswer (AsksOneForRest rounds) at rounds (ended_lines text) (ordered p) outcome × (asked ≡ inputs.path ∷ inputs.plan ∷ log ∷ [])) ⊎ (outcome ≡ Err Memory)
+-- `improve`: what the search from this plan comes to, for the rest of the run in its log, if there is one, with exactly these files asked for, unless memory runs out before
+abbrev pub ImproveIsAnswered : Type 0
+ImproveIsAnswered = (rounds : ℕ) (content : List ℕ → Result (List ℕ) CommandFault) (run : RunPaths) (p : PlannedShop) (text : Option (List ℕ)) (outcome : Result Answer CommandFault) (asked : List (List ℕ))
+    → ParseAsPlan content run.inputs p → HasText content run.log text → Improves (Shelf content) rounds run [] outcome asked
+    → ByShape (ordered p) run (λ files. IsBetterAnswer (AsksOne rounds) rounds run.at (ordered p) text outcome × (asked ≡ files)) (λ files. IsOrMemory (IsNotShapedLine (ordered p)) outcome × (asked ≡ files))
+    ⊎ (outcome ≡ Err Memory)
 
 -- `drive`: where the plan is accepted, its cell is driven, with exactly these files asked for, unless memory runs out before, with no byte read or written
 abbrev pub DriveDrivesPlan : Type 0
@@ -505,7 +498,7 @@ module _ {W : Type 0} (gives : W → List ℕ → Result (List ℕ) CommandFault
       ⊎ (((name ≡ Drive) × (DroveCell (protocol_in chosen) (inputs_in chosen) texts before after ⊎ DroveWithLog (protocol_in chosen) (inputs_in chosen) texts before after))
       ⊎ (((name ≡ Resume) × DroveOn (protocol_in chosen) chosen.at (inputs_in chosen) (file_at chosen 2) texts before after)
       ⊎ (((name ≡ Hub) × DroveCells (protocol_in chosen) (file_at chosen 0) (name_in chosen) (plans_in chosen) texts before after)
-      ⊎ (((name ≡ Schedule) × DrewPicture (DrawsTimetable gives chosen.at (inputs_in chosen) (names_in chosen) (log_in chosen)) texts before after)
+      ⊎ (((name ≡ Schedule) × DrewPicture (DrawsRest gives (run_in chosen)) texts before after)
       ⊎ ((name ≡ Gantt) × DrewPicture (DrawsLog gives (inputs_in chosen) (names_in chosen) (file_at chosen 2)) texts before after)))))
 
   -- the command that the words choose was run to an outcome

@@ -4,7 +4,6 @@ pub mod Inputs
 pub mod Pictures
 pub mod Planners
 pub mod Improvers
-pub mod Choosers
 pub mod Drives
 pub mod Resumes
 pub mod Revisions

@@ -1,5 +1,5 @@
 -- What drawing a picture comes to.
-use Rattle.std.specs.Prelude.{◌≡◌, ℕ, List, [], Bool, true, false, Option, None, Some, Result, Ok, Err}
+use Rattle.std.specs.Prelude.{◌≡◌, ℕ, List, [], Bool, true, false, Option, Result, Ok, Err}
 use Rattle.std.specs.Io.KnownBytes.{Appends}
 use Rattle.byte_streams.specs.Sinks.{TookPart}
 use Rattle.command_answers.specs.declared.answer.Answer.{Answer}
@@ -9,10 +9,9 @@ use Rattle.command_answers.specs.declared.logs.LogAnswer.TheVariants.{Drawing}
 use Rattle.command_answers.specs.declared.pictures.Drawn.{Drawn}
 use Rattle.command_answers.specs.declared.pictures.Drawn.TheVariants.{Picture, Line}
 use Rattle.command_answers.specs.declared.rests.PlanAnswer.TheVariants.{Moments}
-use Rattle.command_answers.specs.Commands.{InputPaths, RunsLog, RunsMoves, RunsRestMoves}
-use Rattle.command_answers.specs.Pictures.{DrawsLog, DrawsRest, DrawsSchedule}
+use Rattle.command_answers.specs.Commands.{InputPaths, RunPaths, RunsLog, RunsMoves, RunsRest}
+use Rattle.command_answers.specs.Pictures.{DrawsLog, DrawsRest}
 use Rattle.command_run.specs.Streams.{Streams, Output}
-use Rattle.command_answers.specs.Commands.{RunsPlanAnswer}
 use Rattle.command_run.specs.declared.pictures.Timetable.{Timetable}
 use Rattle.command_run.specs.declared.pictures.Timetable.TheVariants.{Moments as ByMoments, Moves as ByMoves, Picture as AsPicture}
 
@@ -35,21 +34,11 @@ pub record RunsPicture {W : Type 0} (comes : W → Result Drawn CommandFault →
   pub draws : Draws drawn before after outcome
 
 module _ {W : Type 0} (gives : W → List ℕ → Result (List ℕ) CommandFault → W → Type 0) where
-  -- the exact run of the plan comes to be drawn, or the run in a log and its rest, if there is one
-  abbrev pub DrawsTimetable : Option ℕ → InputPaths → Option (List ℕ) → Option (List ℕ) → W → Result Drawn CommandFault → W → Type 0
-  DrawsTimetable at inputs names None = DrawsSchedule gives inputs names
-  DrawsTimetable at inputs names (Some log) = DrawsRest gives at inputs names log
-
-  -- the moves of the plan are printed, or those ahead in the run in a log, if there is one
-  abbrev pub AnswersMoves : Option ℕ → InputPaths → Option (List ℕ) → Option (List ℕ) → W → Result Answer CommandFault → W → Type 0
-  AnswersMoves at inputs names None = RunsMoves gives inputs names
-  AnswersMoves at inputs names (Some log) = RunsRestMoves gives at inputs names log
-
-  -- `schedule`: the schedule of the plan is printed, or that of the rest of the run in a log; or with `--moves` the moves are, or with `--svg` it is drawn
-  abbrev pub RunsTimetable : Timetable → Option ℕ → InputPaths → Option (List ℕ) → Option (List ℕ) → W → Streams → Result Answer CommandFault → W → Streams → Type 0
-  RunsTimetable ByMoments at inputs names log texts before outcome texts_after after = RunsPlanAnswer gives Moments at inputs names log texts outcome texts_after × (after ≡ before)
-  RunsTimetable ByMoves at inputs names log texts before outcome texts_after after = AnswersMoves at inputs names log texts outcome texts_after × (after ≡ before)
-  RunsTimetable AsPicture at inputs names log texts before outcome texts_after after = RunsPicture (DrawsTimetable at inputs names log) texts before outcome texts_after after
+  -- `schedule`: the schedule of the rest of the run is printed; or with `--moves` the moves ahead are, or with `--svg` it is drawn
+  abbrev pub RunsTimetable : Timetable → RunPaths → W → Streams → Result Answer CommandFault → W → Streams → Type 0
+  RunsTimetable ByMoments run texts before outcome texts_after after = RunsRest gives Moments run texts outcome texts_after × (after ≡ before)
+  RunsTimetable ByMoves run texts before outcome texts_after after = RunsMoves gives run texts outcome texts_after × (after ≡ before)
+  RunsTimetable AsPicture run texts before outcome texts_after after = RunsPicture (DrawsRest gives run) texts before outcome texts_after after
 
   -- `gantt`: the log is drawn in text, or with `--svg` as a picture
   abbrev pub RunsDrawing : Bool → InputPaths → Option (List ℕ) → List ℕ → W → Streams → Result Answer CommandFault → W → Streams → Type 0

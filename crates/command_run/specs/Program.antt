@@ -24,17 +24,15 @@ use Rattle.command_answers.specs.declared.command_fault.CommandFault.TheVariants
 use Rattle.command_answers.specs.declared.loading.Loaded.{Loaded}
 use Rattle.command_answers.specs.declared.logs.LogAnswer.TheVariants.{Numbers}
 use Rattle.command_answers.specs.declared.rests.PlanAnswer.TheVariants.{Verdict, Reasons}
-use Rattle.command_answers.specs.Commands.{InputPaths, RunsFacts, RunsShape, RunsDigest, RunsBounds, RunsMargin, RunsLog, Loads, Shapes}
+use Rattle.command_answers.specs.Commands.{InputPaths, RunPaths, RunsFacts, RunsShape, RunsDigest, RunsBounds, RunsMargin, RunsLog, RunsRest, RunsDecide, Loads, Shapes}
 use Rattle.command_answers.specs.Cells.{LoadsCells}
 use Rattle.command_run.specs.Streams.{Streams, Devices}
 use Rattle.command_run.specs.Inputs.{RunsInput}
-use Rattle.command_answers.specs.Commands.{RunsPlanAnswer}
 use Rattle.command_run.specs.Pictures.{RunsTimetable, RunsDrawing}
 use Rattle.command_run.specs.declared.pictures.Timetable.{Timetable}
 use Rattle.command_run.specs.declared.pictures.Timetable.TheVariants.{Moments, Moves, Picture}
 use Rattle.command_run.specs.Planners.{SeeksPlan}
 use Rattle.command_run.specs.Improvers.{Improves}
-use Rattle.command_run.specs.Choosers.{Decides}
 use Rattle.command_run.specs.Drives.{Drives}
 use Rattle.command_run.specs.Resumes.{Resumes}
 use Rattle.command_run.specs.Revisions.{Revises}
@@ -148,6 +146,10 @@ protocol_in chosen = record { version_2 = is_second chosen.lines; max_gap = chos
 abbrev pub inputs_in : Chosen → InputPaths
 inputs_in chosen = record { path = file_at chosen 0; name = name_in chosen; plan = file_at chosen 1 }
 
+-- the files of the run of whose rest is asked, and the present moment
+abbrev pub run_in : Chosen → RunPaths
+run_in chosen = record { inputs = inputs_in chosen; names = names_in chosen; log = log_in chosen; at = chosen.at }
+
 -- where starting again is right: the output couldn't be written, another process has the log, or the input couldn't be read to its end
 abbrev pub starts_again : Bool → Result Answer CommandFault → Bool
 starts_again driven (Ok answer) = true
@@ -201,11 +203,11 @@ module _ {W : Type 0} (gives : W → List ℕ → Result (List ℕ) CommandFault
   RunsCommand Shape chosen texts before outcome texts_after after =
       RunsShape gives (inputs_in chosen) texts outcome texts_after × (after ≡ before)
   RunsCommand Check chosen texts before outcome texts_after after =
-      RunsPlanAnswer gives Verdict chosen.at (inputs_in chosen) (names_in chosen) (log_in chosen) texts outcome texts_after × (after ≡ before)
+      RunsRest gives Verdict (run_in chosen) texts outcome texts_after × (after ≡ before)
   RunsCommand Explain chosen texts before outcome texts_after after =
-      RunsPlanAnswer gives (Reasons chosen.job) chosen.at (inputs_in chosen) (names_in chosen) (log_in chosen) texts outcome texts_after × (after ≡ before)
+      RunsRest gives (Reasons chosen.job) (run_in chosen) texts outcome texts_after × (after ≡ before)
   RunsCommand Schedule chosen texts before outcome texts_after after =
-      RunsTimetable gives (form_in chosen) chosen.at (inputs_in chosen) (names_in chosen) (log_in chosen) texts before outcome texts_after after
+      RunsTimetable gives (form_in chosen) (run_in chosen) texts before outcome texts_after after
   RunsCommand Bounds chosen texts before outcome texts_after after =
       RunsBounds gives (inputs_in chosen) (names_in chosen) texts outcome texts_after × (after ≡ before)
   RunsCommand Margin chosen texts before outcome texts_after after =
@@ -213,9 +215,9 @@ module _ {W : Type 0} (gives : W → List ℕ → Result (List ℕ) CommandFault
   RunsCommand Plan chosen texts before outcome texts_after after =
       SeeksPlan gives chosen.rounds (inputs_in chosen) texts outcome texts_after × (after ≡ before)
   RunsCommand Improve chosen texts before outcome texts_after after =
-      Improves gives chosen.at chosen.rounds (inputs_in chosen) (log_in chosen) texts outcome texts_after × (after ≡ before)
+      Improves gives chosen.rounds (run_in chosen) texts outcome texts_after × (after ≡ before)
   RunsCommand Decide chosen texts before outcome texts_after after =
-      Decides gives (aim_in chosen) chosen.at (inputs_in chosen) (names_in chosen) (log_in chosen) texts outcome texts_after × (after ≡ before)
+      RunsDecide gives (aim_in chosen) (run_in chosen) texts outcome texts_after × (after ≡ before)
   RunsCommand Revise chosen texts before outcome texts_after after =
       Revises gives chosen.file chosen.at chosen.changes.items (inputs_in chosen) (file_at chosen 2) texts outcome texts_after × (after ≡ before)
   RunsCommand Drive chosen texts before outcome texts_after after =

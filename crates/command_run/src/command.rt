@@ -5,16 +5,15 @@ ghost use Rattle.std.specs.Option.{option_copied};
 ghost use Rattle.std.specs.String.{string_bytes};
 ghost use Rattle.shop_base.specs.declared.limits.TheConstants.{MAX_MOMENT};
 ghost use Rattle.command_words.specs.Choice.{IsWithin};
-ghost use Rattle.command_answers.specs.Commands.{RunsPlanAnswer};
-ghost use Rattle.command_run.specs.Improvers.{Improves};
+ghost use Rattle.command_answers.specs.Commands.{RunsRest};
 ghost use Rattle.command_run.specs.Program.{RunsCommand, aim_in, file_at, is_second, kept_log_in, form_in, log_in};
-ghost use Rattle.command_run.specs.Program.{names_in, protocol_in, name_in, overall_aim, inputs_in};
+ghost use Rattle.command_run.specs.Program.{names_in, protocol_in, name_in, overall_aim, inputs_in, run_in};
 
 use crate::choosers::decided_answer;
 use crate::devices::{Screen, Streams};
 use crate::drives::drive_answer;
 use crate::hubs::hub_answer;
-use crate::improvers::{better_answer, better_rest_answer};
+use crate::improvers::better_answer;
 use crate::input::input_answer;
 use crate::pictures::{Timetable, drawing_answer, timetable_answer};
 use crate::planners::seek_answer;
@@ -22,9 +21,8 @@ use crate::resumes::resume_answer;
 use crate::revisions::revision_answer;
 use cell_drive::{BufferedSink, Protocol, Source};
 use command_answers::{
-    Ahead, Answered, Files, InputPaths, LogAnswer, PlanAnswer, Texts, answer_of_plan,
-    bounds_answer, digest_answer, facts_answer, log_answer, margin_answer, rest_answer,
-    shape_answer,
+    Answered, Files, InputPaths, LogAnswer, PlanAnswer, RunFiles, Texts, bounds_answer,
+    digest_answer, facts_answer, log_answer, margin_answer, rest_answer, shape_answer,
 };
 use command_words::{Chosen, CommandName, Lines};
 use plan_decide::{Aim, Objective};
@@ -96,22 +94,20 @@ pub(crate) fn files(chosen: &Chosen) -> Files<'_>
     }
 }
 
-/// What is ahead of the run in this log.
-pub(crate) fn ahead<'a>(chosen: &'a Chosen, log: &'a str) -> Ahead<'a>
+/// The run of whose rest is asked.
+pub(crate) fn run_files(chosen: &Chosen) -> RunFiles<'_>
     requires { 1 < length chosen.now.files.items }
-    ensures inputs { result.files.inputs ≡ inputs_in chosen.now }
-    ensures names { option_copied result.files.names ≡ names_in chosen.now }
-    ensures log { result.log.now ≡ log.now }
-    ensures at { result.at ≡ chosen.now.at }
+    ensures { result ≡ run_in chosen.now }
 {
-    Ahead {
+    let (log, at) = (rest_log(chosen), chosen.at);
+    RunFiles {
         files: files(chosen),
         log,
-        at: chosen.at,
+        at,
     }
 }
 
-/// What is answered for the plan, or for the rest of a run of it.
+/// What is answered of the rest of the run.
 pub(crate) fn answered<T: Texts>(
     alloc: Global,
     chosen: &Chosen,
@@ -120,13 +116,9 @@ pub(crate) fn answered<T: Texts>(
 ) -> Answered
     requires files { 1 < length chosen.now.files.items }
     requires at { IfSome chosen.now.at (λ present. present ≤ MAX_MOMENT) }
-    ensures { RunsPlanAnswer T.gives wanted chosen.now.at (inputs_in chosen.now) (names_in chosen.now)
-        (log_in chosen.now) texts.old result texts.new }
+    ensures { RunsRest T.gives wanted (run_in chosen.now) texts.old result texts.new }
 {
-    match rest_log(chosen) {
-        Some(log) => rest_answer(alloc, texts, &ahead(chosen, log), wanted),
-        None => answer_of_plan(alloc, texts, &files(chosen), wanted),
-    }
+    rest_answer(alloc, texts, &run_files(chosen), wanted)
 }
 
 /// Whether this is version 2.
@@ -151,25 +143,6 @@ pub(crate) fn protocol(chosen: &Chosen) -> Protocol
         version_2: is_second(chosen.lines),
         max_gap: chosen.leap,
         from,
-    }
-}
-
-/// The search for a better plan, or for a better rest of a run.
-fn bettered<T: Texts, S: Screen>(
-    alloc: Global,
-    chosen: &Chosen,
-    texts: &mut T,
-    screen: &mut S,
-) -> Answered
-    requires files { 1 < length chosen.now.files.items }
-    requires at { IfSome chosen.now.at (λ present. present ≤ MAX_MOMENT) }
-    ensures { Improves T.gives chosen.now.at chosen.now.rounds (inputs_in chosen.now)
-        (log_in chosen.now) texts.old result texts.new }
-{
-    let (rounds, seed) = (chosen.rounds, chosen.seed);
-    match rest_log(chosen) {
-        Some(log) => { better_rest_answer(alloc, texts, &ahead(chosen, log), rounds, seed, screen) }
-        None => better_answer(alloc, texts, &inputs(chosen), rounds, seed, screen),
     }
 }
 
@@ -237,8 +210,21 @@ pub(crate) fn command<T: Texts, R: Source, W: BufferedSink, S: Screen>(
         CommandName::Bounds => bounds_answer(alloc, texts, &files(chosen)),
         CommandName::Margin => margin_answer(alloc, texts, &files(chosen)),
         CommandName::Plan => seek_answer(alloc, texts, &inputs(chosen), chosen.rounds),
-        CommandName::Improve => bettered(alloc, chosen, texts, screen),
-        CommandName::Decide => decided_answer(alloc, chosen, aim(chosen), texts, screen),
+        CommandName::Improve => {
+            let (run, rounds, seed) = (run_files(chosen), chosen.rounds, chosen.seed);
+            better_answer(alloc, texts, &run, rounds, seed, screen)
+        }
+        CommandName::Decide => {
+            let choices = u64::from(chosen.choices);
+            decided_answer(
+                alloc,
+                texts,
+                &run_files(chosen),
+                aim(chosen),
+                choices,
+                screen,
+            )
+        }
         CommandName::Revise => {
             let (inputs, log) = (inputs(chosen), file(chosen, 2));
             let changes = chosen.changes.as_slice();

@@ -4,16 +4,15 @@ ghost use Rattle.std.specs.Prelude.{◌<◌, ◌≤◌, length, IfSome};
 ghost use Rattle.std.specs.Option.{option_copied};
 ghost use Rattle.shop_base.specs.declared.limits.TheConstants.{MAX_MOMENT};
 ghost use Rattle.command_run.specs.Streams.{output_of};
-ghost use Rattle.command_run.specs.Pictures.{Draws, DrawsTimetable, IsPictureOut, RunsDrawing};
-ghost use Rattle.command_run.specs.Pictures.{RunsTimetable, AnswersMoves};
-ghost use Rattle.command_run.specs.Program.{log_in, names_in, inputs_in};
+ghost use Rattle.command_run.specs.Pictures.{Draws, IsPictureOut, RunsDrawing, RunsTimetable};
+ghost use Rattle.command_run.specs.Program.{run_in};
 
-use crate::command::{ahead, answered, files, rest_log};
+use crate::command::{answered, run_files};
 use crate::devices::Streams;
 use cell_drive::{BufferedSink, Source};
 use command_answers::{
     Answer, Answered, CommandFault, Drawn, Files, LogAnswer, Outcome, PlanAnswer, Texts,
-    log_answer, log_picture, moves_answer, rest_moves_answer, rest_picture, schedule_picture,
+    log_answer, log_picture, moves_answer, schedule_picture,
 };
 use command_words::Chosen;
 use run_picture::Picture;
@@ -30,7 +29,7 @@ pub(crate) enum Timetable {
     Picture,
 }
 
-/// The schedule of a plan, or of the rest of the run in a log, in this form.
+/// The schedule of the rest of the run, in this form.
 pub(crate) fn timetable_answer<T: Texts, R: Source, W: BufferedSink>(
     alloc: Global,
     chosen: &Chosen,
@@ -40,42 +39,15 @@ pub(crate) fn timetable_answer<T: Texts, R: Source, W: BufferedSink>(
 ) -> Answered
     requires files { 1 < length chosen.now.files.items }
     requires at { IfSome chosen.now.at (λ present. present ≤ MAX_MOMENT) }
-    ensures { RunsTimetable T.gives form chosen.now.at (inputs_in chosen.now) (names_in chosen.now) (log_in chosen.now)
-        texts.old streams.old result texts.new streams.new }
+    ensures { RunsTimetable T.gives form (run_in chosen.now) texts.old streams.old result texts.new streams.new }
 {
     match form {
         Timetable::Moments => answered(alloc, chosen, texts, PlanAnswer::Moments),
-        Timetable::Moves => answer_moves(alloc, chosen, texts),
+        Timetable::Moves => moves_answer(alloc, texts, &run_files(chosen)),
         Timetable::Picture => {
-            let drawn = timetable_drawn(alloc, chosen, texts);
+            let drawn = schedule_picture(alloc, texts, &run_files(chosen));
             drawn_answer(alloc, drawn, streams)
         }
-    }
-}
-
-/// The moves of a plan, or those ahead in the run in a log.
-fn answer_moves<T: Texts>(alloc: Global, chosen: &Chosen, texts: &mut T) -> Answered
-    requires files { 1 < length chosen.now.files.items }
-    requires at { IfSome chosen.now.at (λ present. present ≤ MAX_MOMENT) }
-    ensures { AnswersMoves T.gives chosen.now.at (inputs_in chosen.now) (names_in chosen.now) (log_in chosen.now)
-        texts.old result texts.new }
-{
-    match rest_log(chosen) {
-        Some(log) => rest_moves_answer(alloc, texts, &ahead(chosen, log)),
-        None => moves_answer(alloc, texts, &files(chosen)),
-    }
-}
-
-/// The picture of a plan's exact run, or of the run in a log and its rest.
-fn timetable_drawn<T: Texts>(alloc: Global, chosen: &Chosen, texts: &mut T) -> Outcome<Drawn>
-    requires files { 1 < length chosen.now.files.items }
-    requires at { IfSome chosen.now.at (λ present. present ≤ MAX_MOMENT) }
-    ensures { DrawsTimetable T.gives chosen.now.at (inputs_in chosen.now) (names_in chosen.now) (log_in chosen.now)
-        texts.old result texts.new }
-{
-    match rest_log(chosen) {
-        Some(log) => rest_picture(alloc, texts, &ahead(chosen, log)),
-        None => schedule_picture(alloc, texts, &files(chosen)),
     }
 }
 

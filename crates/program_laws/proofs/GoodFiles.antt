@@ -39,7 +39,6 @@ use Rattle.command_answers.specs.declared.loading.Loaded.TheVariants.{NotShaped,
 use Rattle.command_answers.specs.declared.command_fault.CommandFault.{CommandFault}
 use Rattle.command_answers.specs.declared.command_fault.CommandFault.TheVariants.{Memory}
 use Rattle.command_answers.specs.declared.pictures.Drawn.{Drawn}
-use Rattle.command_answers.specs.declared.pictures.Drawn.TheVariants.{Picture, Line}
 use Rattle.command_answers.specs.Instances.{ParsesAs}
 use Rattle.command_answers.specs.Facts.{AreFacts}
 use Rattle.command_answers.specs.Steps.{Then, AndThen, Concludes, IsOrMemory}
@@ -48,20 +47,14 @@ use Rattle.command_answers.specs.Readings.{IsInstanceRead, IsPlanRead, AreFactsA
 use Rattle.command_answers.specs.Shapes.{IsNotShapedLine, IsShapedOrNot}
 use Rattle.command_answers.specs.Checks.{IsLoaded, IsCheckLine}
 use Rattle.command_answers.specs.Search.{IsSearchAnswer}
-use Rattle.command_answers.specs.Improving.{IsImproveAnswer, ordered}
-use Rattle.command_answers.specs.ImprovingRests.{IsRestAnswer}
-use Rattle.command_answers.specs.declared.rests.PlanAnswer.{PlanAnswer}
-use Rattle.command_answers.specs.Rests.{IsRestLine, job_asked}
-use Rattle.command_answers.specs.Commands.{InputPaths, IfShaped, IfThere, RunsRest, ReadsPlan, ReadsBoth, WithBoth, WithNames, WithNamesAndLog, WithRest, WithSoundNames, RunsBounds, RunsFacts}
-use Rattle.command_answers.specs.Pictures.{IsLogDrawn, IsAnyPlanDrawn, IsPlanDrawn, IsRestDrawing, IsUnshapedDrawn, IfDrawable, DrawsLog, DrawsRest, DrawsSchedule}
+use Rattle.command_answers.specs.Commands.{InputPaths, IfShaped, ReadsPlan, ReadsBoth, WithBoth, WithNames, WithSoundNames, RunsBounds, RunsFacts}
 use Rattle.command_answers.specs.BoundLines.{AreBoundLines, AreBounds}
 use Rattle.command_answers.specs.Serial.{serially}
 use Rattle.command_answers.proofs.CheckLines.{line_of_loaded}
 use Rattle.command_answers.proofs.Unnamed.{unnamed}
 use Rattle.command_run.specs.Streams.{Streams}
 use Rattle.command_run.specs.Planners.{search_by_two, SeeksPlan}
-use Rattle.command_run.specs.Improvers.{AsksOne, ImprovesPlan, AsksOneForRest, ImprovesRest}
-use Rattle.command_run.specs.Pictures.{Draws, RunsPicture}
+use Rattle.command_run.specs.Pictures.{Draws}
 use Rattle.command_run.specs.Drives.{DrivesCell, Drives, IsLineAnswer}
 use Rattle.command_run.specs.Resumes.{IsUnrecoveredAnswer, ResumesText, Resumes}
 use Rattle.command_run.specs.Program.{RunsDrive, RunsResume}
@@ -76,7 +69,7 @@ pub no_memory : {A : Type 0} (Is : A → Type 0) (files : List (List ℕ)) (outc
 no_memory Is files outcome asked is = subst (λ r. IsAnswered Is files r asked) (sym is) refl
 
 -- what came was drawn
-came_drawn : (Is : Drawn → Type 0) (files : List (List ℕ)) (drawn : Result Drawn CommandFault) (before after : Streams) (outcome : Result Answer CommandFault) (asked : List (List ℕ))
+pub came_drawn : (Is : Drawn → Type 0) (files : List (List ℕ)) (drawn : Result Drawn CommandFault) (before after : Streams) (outcome : Result Answer CommandFault) (asked : List (List ℕ))
     → IsAnswered Is files drawn asked → Draws drawn before after outcome → IsDrawn Is files before outcome asked after
 came_drawn Is files (Ok drawn) before after outcome asked is draws = inl (is.1, (drawn, is.0, draws))
 came_drawn Is files (Err fault) before after outcome asked is draws = inr (draws.0 ∙ ap Err is, draws.1)
@@ -165,10 +158,6 @@ module _ (content : List ℕ → Result (List ℕ) CommandFault) (inputs : Input
   good_bounds outcome asked run =
       bounds_answered outcome asked (with_both (λ q. WithSoundNames (Shelf content) (λ book. IsOrMemory (AreBoundLines book (times_of q) q.plan.budget)) None q) outcome asked run)
 
-  shaped_after_all : (q : PlannedShop) (outcome : Result Answer CommandFault) → IsWellShaped q → IsOrMemory (IsNotShapedLine q) outcome → outcome ≡ Err Memory
-  shaped_after_all q (Ok answer) shaped is = absurd (shape_fault_refutes q is.fault is.first shaped)
-  shaped_after_all q (Err fault) shaped is = ap Err is
-
   -- without names
   named_answered : (Is : NameBook → PlannedShop → Answer → Type 0) (outcome : Result Answer CommandFault) (before asked : List (List ℕ))
       → IfShaped (Shelf content) p (WithNames (Shelf content) None p (λ book. IsOrMemory (Is book p))) before outcome asked
@@ -189,101 +178,10 @@ module _ (content : List ℕ → Result (List ℕ) CommandFault) (inputs : Input
       → IsAnswered (λ answer. IsNotShapedLine p answer ⊎ Is no_names p answer) (inputs.path ∷ inputs.plan ∷ []) outcome asked
   good_named Is outcome asked run = named_came Is outcome asked (with_both (λ q. IfShaped (Shelf content) q (WithNames (Shelf content) None q (λ book. IsOrMemory (Is book q)))) outcome asked run)
 
-  named_log_came : (IsLine : NameBook → PlannedShop → List ℕ → Answer → Type 0) (log text : List ℕ) (outcome : Result Answer CommandFault) (asked : List (List ℕ)) → content log ≡ Ok text → IsWellShaped p
-      → IfShaped (Shelf content) p (WithNamesAndLog (Shelf content) None log p (λ book. IsLine book p)) (inputs.path ∷ inputs.plan ∷ []) outcome asked ⊎ (outcome ≡ Err Memory)
-      → IsAnswered (IsLine no_names p text) (inputs.path ∷ inputs.plan ∷ log ∷ []) outcome asked
-  named_log_came IsLine log text outcome asked is shaped (inl (inl (also, run))) =
-      let later = unnamed (λ book. Then (Asks (Shelf content) log) (λ t. Concludes (IsOrMemory (IsLine book p t)))) (inputs.path ∷ inputs.plan ∷ []) asked outcome (Shelf content) p run in
-      let read = asked_and_read content (λ t. IsOrMemory (IsLine no_names p t)) log text is (inputs.path ∷ inputs.plan ∷ []) later.came later.mid outcome asked later.is later.goes_on in
-      answered _ _ outcome asked read.0 read.1
-  named_log_came IsLine log text outcome asked is shaped (inl (inr unshaped)) = no_memory _ _ outcome asked (shaped_after_all p outcome shaped unshaped.0)
-  named_log_came IsLine log text outcome asked is shaped (inr none) = no_memory _ _ outcome asked none
-
-  pub good_named_log : (IsLine : NameBook → PlannedShop → List ℕ → Answer → Type 0) (log text : List ℕ) (outcome : Result Answer CommandFault) (asked : List (List ℕ)) → content log ≡ Ok text → IsWellShaped p
-      → WithBoth (Shelf content) inputs (λ q. IfShaped (Shelf content) q (WithNamesAndLog (Shelf content) None log q (λ book. IsLine book q))) [] outcome asked
-      → IsAnswered (IsLine no_names p text) (inputs.path ∷ inputs.plan ∷ log ∷ []) outcome asked
-  good_named_log IsLine log text outcome asked is shaped run =
-      named_log_came IsLine log text outcome asked is shaped (with_both (λ q. IfShaped (Shelf content) q (WithNamesAndLog (Shelf content) None log q (λ book. IsLine book q))) outcome asked run)
-
-  -- of the rest of a run, with no job asked for
-  rest_came : (wanted : PlanAnswer) (at : Option ℕ) (job : Option ℕ) (log text : List ℕ) (outcome : Result Answer CommandFault) (asked : List (List ℕ)) → content log ≡ Ok text → IsWellShaped p → job ≡ None
-      → WithBoth (Shelf content) inputs (λ q. IfShaped (Shelf content) q (IfThere (Shelf content) job q (WithNamesAndLog (Shelf content) None log q (λ book. IsRestLine book wanted at q)))) [] outcome asked
-      → IsAnswered (IsRestLine no_names wanted at p text) (inputs.path ∷ inputs.plan ∷ log ∷ []) outcome asked
-  rest_came wanted at None log text outcome asked is shaped none run = good_named_log (λ book. IsRestLine book wanted at) log text outcome asked is shaped run
-  rest_came wanted at (Some j) log text outcome asked is shaped none run = absurd (cc none)
-
-  pub good_rest : (wanted : PlanAnswer) (at : Option ℕ) (log text : List ℕ) (outcome : Result Answer CommandFault) (asked : List (List ℕ)) → content log ≡ Ok text → IsWellShaped p → job_asked wanted ≡ None
-      → RunsRest (Shelf content) wanted at inputs None log [] outcome asked → IsAnswered (IsRestLine no_names wanted at p text) (inputs.path ∷ inputs.plan ∷ log ∷ []) outcome asked
-  good_rest wanted at log text outcome asked is shaped none run = rest_came wanted at (job_asked wanted) log text outcome asked is shaped none run
-
-  any_drawn : (drawn : Result Drawn CommandFault) (before asked : List (List ℕ)) → IfDrawable p (WithNames (Shelf content) None p (λ book. IsOrMemory (IsPlanDrawn book p))) before drawn asked
-      → Concludes (IsOrMemory (IsAnyPlanDrawn p)) before drawn asked
-  any_drawn (Ok drawn) before asked (inl (shaped, run)) = let concluded = unnamed (λ book. Concludes (IsOrMemory (IsPlanDrawn book p))) before asked (Ok drawn) (Shelf content) p run in (inl concluded.0, concluded.1)
-  any_drawn (Err fault) before asked (inl (shaped, run)) = unnamed (λ book. Concludes (IsOrMemory (IsPlanDrawn book p))) before asked (Err fault) (Shelf content) p run
-  any_drawn (Ok drawn) before asked (inr concluded) = (inr concluded.0, concluded.1)
-  any_drawn (Err fault) before asked (inr concluded) = concluded
-
-  plan_came_drawn : (drawn : Result Drawn CommandFault) (asked : List (List ℕ))
-      → IfDrawable p (WithNames (Shelf content) None p (λ book. IsOrMemory (IsPlanDrawn book p))) (inputs.path ∷ inputs.plan ∷ []) drawn asked ⊎ (drawn ≡ Err Memory)
-      → IsAnswered (IsAnyPlanDrawn p) (inputs.path ∷ inputs.plan ∷ []) drawn asked
-  plan_came_drawn drawn asked (inl run) = parsed_answered (IsAnyPlanDrawn p) drawn asked (inl (any_drawn drawn (inputs.path ∷ inputs.plan ∷ []) asked run))
-  plan_came_drawn drawn asked (inr none) = parsed_answered (IsAnyPlanDrawn p) drawn asked (inr none)
-
-  pub good_schedule_picture : (before after : Streams) (outcome : Result Answer CommandFault) (asked : List (List ℕ)) → RunsPicture (DrawsSchedule (Shelf content) inputs None) [] before outcome asked after
-      → IsDrawn (IsAnyPlanDrawn p) (inputs.path ∷ inputs.plan ∷ []) before outcome asked after
-  good_schedule_picture before after outcome asked run =
-      came_drawn (IsAnyPlanDrawn p) _ run.drawn before after outcome asked
-      (plan_came_drawn run.drawn asked (with_both (λ q. IfDrawable q (WithNames (Shelf content) None q (λ book. IsOrMemory (IsPlanDrawn book q)))) run.drawn asked run.came)) run.draws
-
-  drawn_after_all : (drawn : Result Drawn CommandFault) → IsWellShaped p → IsOrMemory (IsUnshapedDrawn p) drawn → drawn ≡ Err Memory
-  drawn_after_all (Ok (Picture picture status)) shaped is = absurd is
-  drawn_after_all (Ok (Line answer)) shaped is = absurd (shape_fault_refutes p is.fault is.first shaped)
-  drawn_after_all (Err fault) shaped is = ap Err is
-
-  drawn_log_came : (IsDrawing : NameBook → PlannedShop → List ℕ → Drawn → Type 0) (log text : List ℕ) (drawn : Result Drawn CommandFault) (asked : List (List ℕ)) → content log ≡ Ok text → IsWellShaped p
-      → IfDrawable p (WithNamesAndLog (Shelf content) None log p (λ book. IsDrawing book p)) (inputs.path ∷ inputs.plan ∷ []) drawn asked ⊎ (drawn ≡ Err Memory) → IsAnswered (IsDrawing no_names p text) (inputs.path ∷ inputs.plan ∷ log ∷ []) drawn asked
-  drawn_log_came IsDrawing log text drawn asked is shaped (inl (inl (also, run))) =
-      let later = unnamed (λ book. Then (Asks (Shelf content) log) (λ t. Concludes (IsOrMemory (IsDrawing book p t)))) (inputs.path ∷ inputs.plan ∷ []) asked drawn (Shelf content) p run in
-      let read = asked_and_read content (λ t. IsOrMemory (IsDrawing no_names p t)) log text is (inputs.path ∷ inputs.plan ∷ []) later.came later.mid drawn asked later.is later.goes_on in
-      answered _ _ drawn asked read.0 read.1
-  drawn_log_came IsDrawing log text drawn asked is shaped (inl (inr unshaped)) = no_memory _ _ drawn asked (drawn_after_all drawn shaped unshaped.0)
-  drawn_log_came IsDrawing log text drawn asked is shaped (inr none) = no_memory _ _ drawn asked none
-
-  pub good_rest_picture : (at : Option ℕ) (before after : Streams) (log text : List ℕ) (outcome : Result Answer CommandFault) (asked : List (List ℕ)) → content log ≡ Ok text → IsWellShaped p
-      → RunsPicture (DrawsRest (Shelf content) at inputs None log) [] before outcome asked after → IsDrawn (IsRestDrawing at no_names p text) (inputs.path ∷ inputs.plan ∷ log ∷ []) before outcome asked after
-  good_rest_picture at before after log text outcome asked is shaped run =
-      came_drawn (IsRestDrawing at no_names p text) _ run.drawn before after outcome asked
-      (drawn_log_came (IsRestDrawing at) log text run.drawn asked is shaped (with_both (λ q. IfDrawable q (WithNamesAndLog (Shelf content) None log q (λ book. IsRestDrawing at book q))) run.drawn asked run.came)) run.draws
-
-  pub good_log_picture : (before after : Streams) (log text : List ℕ) (outcome : Result Answer CommandFault) (asked : List (List ℕ)) → content log ≡ Ok text → IsWellShaped p
-      → RunsPicture (DrawsLog (Shelf content) inputs None log) [] before outcome asked after → IsDrawn (IsLogDrawn no_names p text) (inputs.path ∷ inputs.plan ∷ log ∷ []) before outcome asked after
-  good_log_picture before after log text outcome asked is shaped run =
-      came_drawn (IsLogDrawn no_names p text) _ run.drawn before after outcome asked (drawn_log_came IsLogDrawn log text run.drawn asked is shaped (with_both (λ q. IfDrawable q (WithNamesAndLog (Shelf content) None log q (λ book. IsLogDrawn book q))) run.drawn asked run.came)) run.draws
-
   pub good_search : (rounds : ℕ) (outcome : Result Answer CommandFault) (asked : List (List ℕ)) → SeeksPlan (Shelf content) rounds inputs [] outcome asked
       → (IsSearchAnswer (search_by_two (task_in p)) rounds outcome × (asked ≡ inputs.path ∷ inputs.plan ∷ [])) ⊎ (outcome ≡ Err Memory)
   good_search rounds outcome asked (inl run) = with_both (λ q. Concludes (IsSearchAnswer (search_by_two (task_in q)) rounds)) outcome asked run
   good_search rounds outcome asked (inr none) = inr none.0
-
-  pub good_improvement : (rounds : ℕ) (outcome : Result Answer CommandFault) (asked : List (List ℕ)) → ImprovesPlan (Shelf content) rounds inputs [] outcome asked
-      → (IsImproveAnswer (AsksOne rounds) rounds (ordered p) outcome × (asked ≡ inputs.path ∷ inputs.plan ∷ [])) ⊎ (outcome ≡ Err Memory)
-  good_improvement rounds outcome asked (inl run) = with_both (λ q. Concludes (IsImproveAnswer (AsksOne rounds) rounds (ordered q))) outcome asked run
-  good_improvement rounds outcome asked (inr none) = inr none.0
-
-  improvement_came : (at : Option ℕ) (rounds : ℕ) (log text : List ℕ) (outcome : Result Answer CommandFault) (asked : List (List ℕ)) → content log ≡ Ok text → IsWellShaped (ordered p)
-      → WithRest (Shelf content) (AsksOneForRest rounds) at rounds log (ordered p) (inputs.path ∷ inputs.plan ∷ []) outcome asked ⊎ (outcome ≡ Err Memory)
-      → (IsRestAnswer (AsksOneForRest rounds) at rounds (ended_lines text) (ordered p) outcome × (asked ≡ inputs.path ∷ inputs.plan ∷ log ∷ [])) ⊎ (outcome ≡ Err Memory)
-  improvement_came at rounds log text outcome asked is shaped (inl (inl (also, run))) =
-      inl (asked_and_read content (λ t. IsRestAnswer (AsksOneForRest rounds) at rounds (ended_lines t) (ordered p)) log text is (inputs.path ∷ inputs.plan ∷ []) run.came run.mid outcome asked run.is run.goes_on)
-  improvement_came at rounds log text outcome asked is shaped (inl (inr unshaped)) = inr (shaped_after_all (ordered p) outcome shaped unshaped.0)
-  improvement_came at rounds log text outcome asked is shaped (inr none) = inr none
-
-  pub good_rest_improvement : (at : Option ℕ) (rounds : ℕ) (log text : List ℕ) (outcome : Result Answer CommandFault) (asked : List (List ℕ)) → content log ≡ Ok text → IsWellShaped (ordered p)
-      → ImprovesRest (Shelf content) at rounds inputs log [] outcome asked
-      → (IsRestAnswer (AsksOneForRest rounds) at rounds (ended_lines text) (ordered p) outcome × (asked ≡ inputs.path ∷ inputs.plan ∷ log ∷ [])) ⊎ (outcome ≡ Err Memory)
-  good_rest_improvement at rounds log text outcome asked is shaped (inl run) =
-      improvement_came at rounds log text outcome asked is shaped (with_both (λ q. WithRest (Shelf content) (AsksOneForRest rounds) at rounds log (ordered q)) outcome asked run)
-  good_rest_improvement at rounds log text outcome asked is shaped (inr none) = inr none.0
 
   -- ---- what follows what is to be said of the plan
 

@@ -2,6 +2,7 @@ pub mod PlainWords
 pub mod GoodFiles
 pub mod GoodHubs
 pub mod GoodInputs
+pub mod GoodRuns
 mod CommandNames
 mod ShownLogs
 pub mod SameWriting

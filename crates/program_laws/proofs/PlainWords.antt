@@ -15,7 +15,7 @@ use Rattle.command_answers.specs.Instances.{IsFirstInstanceFault, IsInstanceRefu
 use Rattle.command_answers.specs.Steps.{AndThen, Concludes}
 use Rattle.command_answers.specs.Texts.{Asks}
 use Rattle.command_answers.specs.Readings.{IsInstanceRead, AreFactsAnswered}
-use Rattle.command_answers.specs.Commands.{InputPaths, ReadsInstance, ReadsBoth, WithBoth, RunsFacts}
+use Rattle.command_answers.specs.Commands.{InputPaths, RunPaths, ReadsInstance, ReadsBoth, WithBoth, RunsFacts}
 use Rattle.command_answers.specs.Cells.{LoadsEach}
 use Rattle.command_run.specs.Streams.{Streams}
 use Rattle.command_run.specs.Drives.{Drives}
@@ -23,9 +23,9 @@ use Rattle.command_run.specs.Pictures.{Draws, RunsPicture}
 use Rattle.command_run.specs.Hubs.{DrivesAll}
 use Rattle.command_run.specs.Resumes.{Resumes}
 use Rattle.command_run.specs.Planners.{SeeksPlan}
-use Rattle.command_run.specs.Improvers.{ImprovesPlan, ImprovesRest}
+use Rattle.command_run.specs.Improvers.{Improves}
 use Rattle.command_run.specs.Program.{RunsDrive, RunsResume, RunsHub}
-use Rattle.command_run.specs.Laws.{Shelf, IsInstanceRefused}
+use Rattle.command_run.specs.Laws.{Shelf, IsInstanceRefused, with_inputs}
 
 -- the fault of an instance, or that memory ran out
 abbrev IsRefusalOf : {A : Type 0} → OrFault → Result A CommandFault → Type 0
@@ -140,15 +140,10 @@ module _ (content : List ℕ → Result (List ℕ) CommandFault) (inputs : Input
   plan_first rounds outcome asked (inl run) = inl (instance_first_of _ outcome asked run)
   plan_first rounds outcome asked (inr no_memory) = inr no_memory
 
-  pub improve_first : (rounds : ℕ) (outcome : Result Answer CommandFault) (asked : List (List ℕ)) → ImprovesPlan (Shelf content) rounds inputs [] outcome asked
+  pub improve_first : (rounds : ℕ) (run : RunPaths) (outcome : Result Answer CommandFault) (asked : List (List ℕ)) → Improves (Shelf content) rounds (with_inputs run inputs) [] outcome asked
       → IsInstanceRefused inputs.path fault outcome asked ⊎ ((outcome ≡ Err Memory) × (asked ≡ []))
-  improve_first rounds outcome asked (inl run) = inl (instance_first_of _ outcome asked run)
-  improve_first rounds outcome asked (inr no_memory) = inr no_memory
-
-  pub improve_rest_first : (at : Option ℕ) (rounds : ℕ) (log : List ℕ) (outcome : Result Answer CommandFault) (asked : List (List ℕ)) → ImprovesRest (Shelf content) at rounds inputs log [] outcome asked
-      → IsInstanceRefused inputs.path fault outcome asked ⊎ ((outcome ≡ Err Memory) × (asked ≡ []))
-  improve_rest_first at rounds log outcome asked (inl run) = inl (instance_first_of _ outcome asked run)
-  improve_rest_first at rounds log outcome asked (inr no_memory) = inr no_memory
+  improve_first rounds run outcome asked (inl runs) = inl (instance_first_of _ outcome asked runs)
+  improve_first rounds run outcome asked (inr no_memory) = inr no_memory
 
   pub drive_first : (protocol : Protocol) (before after : Streams) (outcome : Result Answer CommandFault) (asked : List (List ℕ)) → RunsDrive (Shelf content) protocol inputs [] before outcome asked after
       → IsInstanceRefused inputs.path fault outcome asked × (after ≡ before)

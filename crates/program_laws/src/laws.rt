@@ -1,26 +1,23 @@
 //! The laws of the program. The first seven speak of files that don't change (`Shelf`), and the first three also of
 //! which paths are asked for. The others speak of every run of the whole program, over any files, input, output and
 //! error output, but for `a_log_has_history`, which is of what `run` asks, and `a_log_is_of_one_run`, of the log of
-//! a driven run. For `audit`, `gantt` and `--after` `good_files_are_answered` takes a well shaped plan. The clause of
-//! `run` says what else they do.
+//! a driven run.
 
 // Nothing is done here, but that a law of another crate is called: a function's contract is the law, so a check of this
 // crate proves it.
 
 ghost use Rattle.command_run.specs.Laws.{FactsReadsInstanceFirst, ShapeReadsInstanceFirst};
-ghost use Rattle.command_run.specs.Laws.{DigestReadsInstanceFirst, CheckReadsInstanceFirst};
-ghost use Rattle.command_run.specs.Laws.{ExplainReadsInstanceFirst, ScheduleReadsInstanceFirst};
+ghost use Rattle.command_run.specs.Laws.{DigestReadsInstanceFirst, MovesReadsInstanceFirst};
 ghost use Rattle.command_run.specs.Laws.{BoundsReadsInstanceFirst, MarginReadsInstanceFirst};
-ghost use Rattle.command_run.specs.Laws.{MovesReadsInstanceFirst, RestMovesReadsInstanceFirst};
 ghost use Rattle.command_run.specs.Laws.{LogReadsInstanceFirst, RestReadsInstanceFirst, PlanReadsInstanceFirst};
-ghost use Rattle.command_run.specs.Laws.{ImproveReadsInstanceFirst, ImproveRestReadsInstanceFirst};
+ghost use Rattle.command_run.specs.Laws.{ImproveReadsInstanceFirst};
 ghost use Rattle.command_run.specs.Laws.{DriveReadsInstanceFirst, ResumeReadsInstanceFirst, HubReadsInstanceFirst};
-ghost use Rattle.command_run.specs.Laws.{ScheduleDrawsInstanceFirst, RestDrawsInstanceFirst};
-ghost use Rattle.command_run.specs.Laws.{LogDrawsInstanceFirst, ScheduleIsDrawn, RestIsDrawn, LogIsDrawn};
-ghost use Rattle.command_run.specs.Laws.{FactsAnswerShop, ShapeAnswersPlan, DigestAnswersPlan, CheckAnswersPlan};
-ghost use Rattle.command_run.specs.Laws.{ExplainAnswersPlan, ScheduleAnswersPlan, BoundsAnswerPlan, MarginAnswersPlan};
-ghost use Rattle.command_run.specs.Laws.{MovesAnswerPlan, RestMovesAreAnswered, LogIsAnswered, RestIsAnswered};
-ghost use Rattle.command_run.specs.Laws.{PlanAnswersPlan, ImproveAnswersPlan, ImproveAnswersRest};
+ghost use Rattle.command_run.specs.Laws.{ScheduleDrawsInstanceFirst, LogDrawsInstanceFirst};
+ghost use Rattle.command_run.specs.Laws.{ScheduleIsDrawn, LogIsDrawn};
+ghost use Rattle.command_run.specs.Laws.{FactsAnswerShop, ShapeAnswersPlan, DigestAnswersPlan};
+ghost use Rattle.command_run.specs.Laws.{BoundsAnswerPlan, MarginAnswersPlan};
+ghost use Rattle.command_run.specs.Laws.{MovesAreAnswered, LogIsAnswered, RestIsAnswered};
+ghost use Rattle.command_run.specs.Laws.{PlanAnswersPlan, ImproveIsAnswered};
 ghost use Rattle.command_run.specs.Laws.{DriveDrivesPlan, ResumeGoesOn};
 ghost use Rattle.command_run.specs.Laws.{HubDrivesPlans, InputAnswersShop};
 ghost use Rattle.command_run.specs.Laws.{DriveAnswersByCheck, ResumeAnswersUnshaped, ResumeAnswersByCheck};
@@ -44,21 +41,15 @@ pub fn instance_first()
     ensures facts { FactsReadsInstanceFirst }
     ensures shape { ShapeReadsInstanceFirst }
     ensures digest { DigestReadsInstanceFirst }
-    ensures check { CheckReadsInstanceFirst }
-    ensures explain { ExplainReadsInstanceFirst }
-    ensures schedule { ScheduleReadsInstanceFirst }
+    ensures rest { RestReadsInstanceFirst }
     ensures moves { MovesReadsInstanceFirst }
-    ensures rest_moves { RestMovesReadsInstanceFirst }
     ensures bounds { BoundsReadsInstanceFirst }
     ensures margin { MarginReadsInstanceFirst }
     ensures log { LogReadsInstanceFirst }
-    ensures rest { RestReadsInstanceFirst }
     ensures schedule_picture { ScheduleDrawsInstanceFirst }
-    ensures rest_picture { RestDrawsInstanceFirst }
     ensures log_picture { LogDrawsInstanceFirst }
     ensures plan { PlanReadsInstanceFirst }
     ensures improve { ImproveReadsInstanceFirst }
-    ensures improve_rest { ImproveRestReadsInstanceFirst }
     ensures drive { DriveReadsInstanceFirst }
     ensures resume { ResumeReadsInstanceFirst }
     ensures hub { HubReadsInstanceFirst }
@@ -75,21 +66,15 @@ pub fn good_files_are_answered()
     ensures facts { FactsAnswerShop }
     ensures shape { ShapeAnswersPlan }
     ensures digest { DigestAnswersPlan }
-    ensures check { CheckAnswersPlan }
-    ensures explain { ExplainAnswersPlan }
-    ensures schedule { ScheduleAnswersPlan }
-    ensures moves { MovesAnswerPlan }
-    ensures rest_moves { RestMovesAreAnswered }
+    ensures rest { RestIsAnswered }
+    ensures moves { MovesAreAnswered }
     ensures bounds { BoundsAnswerPlan }
     ensures margin { MarginAnswersPlan }
     ensures log { LogIsAnswered }
-    ensures rest { RestIsAnswered }
     ensures schedule_picture { ScheduleIsDrawn }
-    ensures rest_picture { RestIsDrawn }
     ensures log_picture { LogIsDrawn }
     ensures plan { PlanAnswersPlan }
-    ensures improve { ImproveAnswersPlan }
-    ensures improve_rest { ImproveAnswersRest }
+    ensures improve { ImproveIsAnswered }
     ensures drive { DriveDrivesPlan }
     ensures resume { ResumeGoesOn }
     ensures hub { HubDrivesPlans }

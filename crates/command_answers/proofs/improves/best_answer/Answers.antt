@@ -1,11 +1,10 @@
-use Rattle.plan_improve.specs.Settings.{whole_plan}
-use Rattle.plan_improve.specs.Runs.{Rounds}
+use Rattle.command_answers.specs.Improving.{RoundsOf}
 use Rattle.command_answers.proofs.ImproveLines.{best_answer_is, no_best_is}
 use Rattle.command_answers.proofs.improves.best_answer.Goals as goal
 
 pub returns-in-Ok : goal.returns-in-Ok
 returns-in-Ok g c =
-    best_answer_is (Rounds whole_plan (λ b. (goal.Improver-dyn g (b.vtable, b.value)).may b.value) c.args.improvers.now c.args.rounds) c.args.rounds c.args.start c.in-Ok.verdict c.verdict_answer-answer.result
+    best_answer_is (RoundsOf c.args.rounds (λ b. (goal.Improver-dyn g (b.vtable, b.value)).may b.value) c.args.improvers.now) c.args.rounds c.args.start c.in-Ok.verdict c.verdict_answer-answer.result
     (record {
       same = c.in-Ok.ensures.same;
       acyclic = c.in-Ok.ensures.acyclic;
@@ -17,5 +16,5 @@ returns-in-Ok g c =
 
 pub returns-in-Err : goal.returns-in-Err
 returns-in-Err g c =
-    no_best_is (Rounds whole_plan (λ b. (goal.Improver-dyn g (b.vtable, b.value)).may b.value) c.args.improvers.now c.args.rounds) c.args.rounds c.args.start c.in-Err.refused.fault c.unfound_answer.result
+    no_best_is (RoundsOf c.args.rounds (λ b. (goal.Improver-dyn g (b.vtable, b.value)).may b.value) c.args.improvers.now) c.args.rounds c.args.start c.in-Err.refused.fault c.unfound_answer.result
     c.in-Err.ensures.refused c.unfound_answer.ensures

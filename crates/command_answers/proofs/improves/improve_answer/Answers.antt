@@ -1,10 +1,10 @@
-use Rattle.std.proofs.Common.{Ok, refl}
+use Rattle.std.proofs.Common.{Ok}
 use Rattle.command_answers.proofs.improves.improve_answer.Goals as goal
 
 pub returns : goal.returns
 returns g c = record {
   came = Ok c.in_ok-parsed.parsed;
   mid = c.read_inputs.new.texts;
-  is = rw (← c.in_ok-parsed.was) c.read_inputs.ensures;
-  goes_on = (rw (← c.in_ok-parsed-2.ensures) c.better_answer.ensures, refl);
+  is = rw (← c.in_ok-parsed.was, ← c.run.view_is) c.read_inputs.ensures;
+  goes_on = rw (← c.in_ok-parsed-2.ensures) c.better_answer.ensures;
 }

@@ -1,15 +1,17 @@
-use Rattle.command_answers.proofs.ShapedPlans.{drawn, failed_drawing, undrawn}
+use Rattle.command_answers.specs.Pictures.{IsLineAlone}
+use Rattle.command_answers.proofs.ShapedPlans.{failed, followed, line_alone, refused}
 use Rattle.command_answers.proofs.pictures.log_picture.Goals as goal
 
 pub returns-in_err-shaped : goal.returns-in_err-shaped
 returns-in_err-shaped g c =
-    failed_drawing g.T.Texts.gives _ _ c.args.texts.now c.shape_files.new.texts c.shape_files.result c.shape_files.ensures c.in_err-shaped.field-0.0 c.from_residual.result c.in_err-shaped.was c.from_residual.ensures.1
+    failed g.T.Texts.gives IsLineAlone _ _ c.args.texts.now c.shape_files.new.texts c.shape_files.result c.shape_files.ensures c.in_err-shaped.field-0.0 c.from_residual.result c.in_err-shaped.was c.from_residual.ensures.1
 
 pub returns-in-Ok : goal.returns-in-Ok
 returns-in-Ok g c =
-    drawn g.T.Texts.gives _ _ c.args.texts.now c.shape_files.new.texts c.shape_files.result c.shape_files.ensures c.in_ok-shaped.field-0 c.in-Ok.shaped c.shaped_log-drawn.result c.shaped_log-drawn.new.texts c.in_ok-shaped.was c.in-Ok.is
-    c.shaped_log-drawn.ensures
+    followed g.T.Texts.gives IsLineAlone _ _ c.args.texts.now c.shape_files.new.texts c.shape_files.result c.shape_files.ensures c.in_ok-shaped.field-0 c.in-Ok.shaped c.shaped_log-drawn.result c.shaped_log-drawn.new.texts c.in_ok-shaped.was
+    c.in-Ok.is c.shaped_log-drawn.ensures
 
 pub returns-in-Err : goal.returns-in-Err
 returns-in-Err g c =
-    undrawn g.T.Texts.gives _ _ c.args.texts.now c.shape_files.new.texts c.shape_files.result c.shape_files.ensures c.in_ok-shaped.field-0 c.in-Err.fault c.unshaped_drawn.result c.in_ok-shaped.was c.in-Err.is c.unshaped_drawn.ensures
+    refused g.T.Texts.gives IsLineAlone _ _ c.args.texts.now c.shape_files.new.texts c.shape_files.result c.shape_files.ensures c.in_ok-shaped.field-0 c.in-Err.fault c.unshaped_drawn.result c.in_ok-shaped.was c.in-Err.is
+    (λ q first. line_alone q c.in-Err.fault c.unshaped_drawn.result first c.unshaped_drawn.ensures)

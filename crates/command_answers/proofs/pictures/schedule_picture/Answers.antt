@@ -1,15 +1,24 @@
-use Rattle.command_answers.proofs.ShapedPlans.{drawn, failed_drawing, undrawn}
+use Rattle.std.proofs.Common.{None, Ok, Result}
+use Rattle.command_answers.specs.declared.pictures.Drawn.{Drawn}
+use Rattle.command_answers.specs.declared.command_fault.CommandFault.{CommandFault}
+use Rattle.command_answers.specs.Pictures.{DrawsRest, IsLineAlone, IsRestDrawing}
+use Rattle.command_answers.proofs.Passing.{at_fault}
+use Rattle.command_answers.proofs.AskedRuns.{asked_failed, asked_on, drawn_instead, pictured}
 use Rattle.command_answers.proofs.pictures.schedule_picture.Goals as goal
 
-pub returns-in_err-shaped : goal.returns-in_err-shaped
-returns-in_err-shaped g c =
-    failed_drawing g.T.Texts.gives _ _ c.args.texts.now c.shape_files.new.texts c.shape_files.result c.shape_files.ensures c.in_err-shaped.field-0.0 c.from_residual.result c.in_err-shaped.was c.from_residual.ensures.1
+pub returns-in_err-found : goal.returns-in_err-found
+returns-in_err-found g c =
+    let run = c.args.run.now in
+    let asks = rw c.in_err-found.was at c.rest_of_run.ensures.asks in
+    at_fault (λ (r : Result Drawn CommandFault). DrawsRest g.T.Texts.gives run c.args.texts.now r c.rest_of_run.new.texts) c.from_residual.result c.in_err-found.field-0.0 c.from_residual.ensures.1
+    (asked_failed g.T.Texts.gives IsLineAlone None (λ p book. IsRestDrawing book run.at p) run c.args.texts.now c.rest_of_run.new.texts c.in_err-found.field-0.0 asks)
 
-pub returns-in-Ok : goal.returns-in-Ok
-returns-in-Ok g c =
-    drawn g.T.Texts.gives _ _ c.args.texts.now c.shape_files.new.texts c.shape_files.result c.shape_files.ensures c.in_ok-shaped.field-0 c.in-Ok.shaped c.shaped_drawn.result c.shaped_drawn.new.texts c.in_ok-shaped.was c.in-Ok.is
-    c.shaped_drawn.ensures
-
-pub returns-in-Err : goal.returns-in-Err
-returns-in-Err g c =
-    undrawn g.T.Texts.gives _ _ c.args.texts.now c.shape_files.new.texts c.shape_files.result c.shape_files.ensures c.in_ok-shaped.field-0 c.in-Err.fault c.unshaped_drawn.result c.in_ok-shaped.was c.in-Err.is c.unshaped_drawn.ensures
+pub returns : goal.returns
+returns g c =
+    let run = c.args.run.now in
+    let asks = rw c.in_ok-found.was at c.rest_of_run.ensures.asks in
+    let judged = rw c.in_ok-found.was at c.rest_of_run.ensures.judged in
+    asked_on g.T.Texts.gives IsLineAlone None (λ p book. IsRestDrawing book run.at p) run (Ok c.in_ok-found.found) c.found_drawn.result c.rest_of_run.new.texts
+    (λ fault is. absurd (cc is)) (λ Is is. drawn_instead Is c.in_ok-found.found c.found_drawn.result c.found_drawn.ensures.line is)
+    (λ p names log is. pictured run.at p names log c.in_ok-found.found c.found_drawn.result is judged c.found_drawn.ensures.drawn c.found_drawn.ensures.line)
+    c.args.texts.now asks

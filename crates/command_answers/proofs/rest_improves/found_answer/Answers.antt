@@ -2,14 +2,15 @@ use Rattle.std.proofs.Common.{sym, subst}
 use Rattle.shop_base.specs.Plan.{PlannedShop}
 use Rattle.text_lines.specs.Lines.{ended_lines}
 use Rattle.run_log.specs.Present.{IsRunAt}
-use Rattle.command_answers.specs.ImprovingRests.{IsRestAnswer, RestRoundsOf}
+use Rattle.command_answers.specs.Improving.{RoundsOf}
+use Rattle.command_answers.specs.ImprovingRests.{IsRestAnswer}
 use Rattle.command_answers.proofs.ImproveRestLines.{no_run_is, search_is, too_many_is}
 use Rattle.command_answers.proofs.RunFaults.{has_line}
 use Rattle.command_answers.proofs.rest_improves.found_answer.Goals as goal
 
 pub returns-then-rounds-gt-MAX_ROUNDS : goal.returns-then-rounds-gt-MAX_ROUNDS
 returns-then-rounds-gt-MAX_ROUNDS g c =
-    too_many_is (RestRoundsOf c.args.rounds (λ b. (goal.Improver-dyn g (b.vtable, b.value)).may b.value) c.args.improvers.now) c.args.at c.args.rounds (ended_lines c.args.log.now) c.args.start
+    too_many_is (RoundsOf c.args.rounds (λ b. (goal.Improver-dyn g (b.vtable, b.value)).may b.value) c.args.improvers.now) c.args.at c.args.rounds (ended_lines c.args.log.now) c.args.start
     c.unfound_answer.result c.if-rounds-gt-MAX_ROUNDS.true c.unfound_answer.ensures
 
 pub run_fault_answer-requires : goal.run_fault_answer-requires
@@ -17,7 +18,7 @@ run_fault_answer-requires g c = has_line c.args.at (ended_lines c.args.log.now) 
 
 pub returns-in-Ok : goal.returns-in-Ok
 returns-in-Ok g c =
-    let made = RestRoundsOf c.args.rounds (λ b. (goal.Improver-dyn g (b.vtable, b.value)).may b.value) c.args.improvers.now in
+    let made = RoundsOf c.args.rounds (λ b. (goal.Improver-dyn g (b.vtable, b.value)).may b.value) c.args.improvers.now in
     let lines = ended_lines c.args.log.now in
     let run = c.in-Ok.field-0 in
     let plan = rw c.in-Ok.is at c.in_ok-rest.ensures.plan in
@@ -31,5 +32,5 @@ returns-in-Ok g c =
 
 pub returns-in-Err : goal.returns-in-Err
 returns-in-Err g c =
-    no_run_is (RestRoundsOf c.args.rounds (λ b. (goal.Improver-dyn g (b.vtable, b.value)).may b.value) c.args.improvers.now) c.args.at c.args.rounds (ended_lines c.args.log.now) c.args.start
+    no_run_is (RoundsOf c.args.rounds (λ b. (goal.Improver-dyn g (b.vtable, b.value)).may b.value) c.args.improvers.now) c.args.at c.args.rounds (ended_lines c.args.log.now) c.args.start
     c.in-Err.fault c.run_fault_answer.result c.requires c.if-rounds-gt-MAX_ROUNDS.false (rw c.in-Err.is at c.in_ok-rest.ensures.fault) c.run_fault_answer.ensures

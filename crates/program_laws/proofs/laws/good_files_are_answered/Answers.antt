@@ -1,15 +1,19 @@
-use Rattle.std.proofs.Common.{None}
+use Rattle.std.proofs.Common.{None, Some, refl}
+use Rattle.people_names.specs.NameBooks.{no_names}
 use Rattle.command_answers.specs.Shapes.{IsShapeLine}
-use Rattle.command_answers.specs.Checks.{IsCheckLine}
-use Rattle.command_answers.specs.declared.rests.PlanAnswer.TheVariants.{Reasons, Moments}
-use Rattle.command_answers.specs.Rests.{AnswersPlan}
+use Rattle.command_answers.specs.Commands.{Itself}
+use Rattle.command_answers.specs.Rests.{IsRestLine, job_asked}
 use Rattle.command_answers.specs.Digests.{IsDigestAnswer}
 use Rattle.command_answers.specs.LogLines.{IsLogLine}
 use Rattle.command_answers.specs.Margins.{IsMarginAnswer}
-use Rattle.command_answers.specs.Moves.{AreMovesOfLog, AreMovesOfPlan}
-use Rattle.program_laws.proofs.GoodFiles.{good_facts, good_plan, good_bounds, good_named, good_named_log, good_rest, good_schedule_picture, good_rest_picture, good_log_picture, good_search, good_improvement, good_rest_improvement, good_drive, good_resume}
+use Rattle.command_answers.specs.Moves.{AreMovesAhead}
+use Rattle.command_answers.specs.Pictures.{IsLineAlone, IsLogDrawn, IsRestDrawing}
+use Rattle.command_answers.proofs.AskedRuns.{OnLog}
+use Rattle.command_run.specs.Laws.{in_log}
+use Rattle.program_laws.proofs.GoodFiles.{good_facts, good_plan, good_bounds, good_named, good_search, good_drive, good_resume}
 use Rattle.program_laws.proofs.GoodHubs.{good_hub}
 use Rattle.program_laws.proofs.GoodInputs.{good_input}
+use Rattle.program_laws.proofs.GoodRuns.{good_improvement, good_run, run_drawn}
 use Rattle.program_laws.proofs.laws.good_files_are_answered.Goals as goal
 
 pub returns-clause-facts : goal.returns-clause-facts
@@ -21,50 +25,37 @@ returns-clause-shape c = λ content inputs p outcome asked good run. good_plan c
 pub returns-clause-digest : goal.returns-clause-digest
 returns-clause-digest c = λ content inputs p outcome asked good run. good_plan content inputs p good IsDigestAnswer outcome asked run
 
-pub returns-clause-check : goal.returns-clause-check
-returns-clause-check c = λ content inputs p outcome asked good run. good_plan content inputs p good IsCheckLine outcome asked run
-
-pub returns-clause-explain : goal.returns-clause-explain
-returns-clause-explain c = λ content inputs p outcome asked good run. good_named content inputs p good (λ book. AnswersPlan book (Reasons None)) outcome asked run
-
-pub returns-clause-schedule : goal.returns-clause-schedule
-returns-clause-schedule c = λ content inputs p outcome asked good run. good_named content inputs p good (λ book. AnswersPlan book Moments) outcome asked run
-
 pub returns-clause-bounds : goal.returns-clause-bounds
 returns-clause-bounds c = λ content inputs p outcome asked good run. good_bounds content inputs p good outcome asked run
 
 pub returns-clause-margin : goal.returns-clause-margin
 returns-clause-margin c = λ content inputs p outcome asked good run. good_named content inputs p good IsMarginAnswer outcome asked run
 
-pub returns-clause-moves : goal.returns-clause-moves
-returns-clause-moves c = λ content inputs p outcome asked good run. good_named content inputs p good AreMovesOfPlan outcome asked run
-
-pub returns-clause-rest_moves : goal.returns-clause-rest_moves
-returns-clause-rest_moves c = λ at content inputs log text p outcome asked good is shaped run. good_named_log content inputs p good (λ book. AreMovesOfLog book at) log text outcome asked is shaped run
-
-pub returns-clause-log : goal.returns-clause-log
-returns-clause-log c = λ wanted content inputs log text p outcome asked good is shaped run. good_named_log content inputs p good (λ book. IsLogLine book wanted) log text outcome asked is shaped run
-
 pub returns-clause-rest : goal.returns-clause-rest
-returns-clause-rest c = λ wanted at content inputs log text p outcome asked good is shaped none run. good_rest content inputs p good wanted at log text outcome asked is shaped none run
+returns-clause-rest c = λ wanted content run p text outcome asked good none runs. good_run content run p text Itself (λ q book. IsRestLine book wanted run.at q) good (job_asked wanted) outcome asked none runs
+
+pub returns-clause-moves : goal.returns-clause-moves
+returns-clause-moves c = λ content run p text outcome asked good runs. good_run content run p text Itself (λ q book. AreMovesAhead book run.at q) good None outcome asked refl runs
 
 pub returns-clause-schedule_picture : goal.returns-clause-schedule_picture
-returns-clause-schedule_picture c = λ before after content inputs p outcome asked good run. good_schedule_picture content inputs p good before after outcome asked run
+returns-clause-schedule_picture c = λ before after content run p text outcome asked good runs.
+    run_drawn p run (IsRestDrawing no_names run.at p text) runs.drawn before after outcome asked
+    (good_run content run p text IsLineAlone (λ q book. IsRestDrawing book run.at q) good None runs.drawn asked refl runs.came) runs.draws
 
-pub returns-clause-rest_picture : goal.returns-clause-rest_picture
-returns-clause-rest_picture c = λ at before after content inputs log text p outcome asked good is shaped run. good_rest_picture content inputs p good at before after log text outcome asked is shaped run
+pub returns-clause-log : goal.returns-clause-log
+returns-clause-log c = λ wanted content inputs log text p outcome asked good is run.
+    good_run content (in_log inputs log) p (Some text) Itself (λ q book. OnLog (IsLogLine book wanted q)) (record { plan = good; log = (text, is, refl); unnamed = refl }) None outcome asked refl run
 
 pub returns-clause-log_picture : goal.returns-clause-log_picture
-returns-clause-log_picture c = λ before after content inputs log text p outcome asked good is shaped run. good_log_picture content inputs p good before after log text outcome asked is shaped run
+returns-clause-log_picture c = λ before after content inputs log text p outcome asked good is run.
+    run_drawn p (in_log inputs log) (IsLogDrawn no_names p text) run.drawn before after outcome asked
+    (good_run content (in_log inputs log) p (Some text) IsLineAlone (λ q book. OnLog (IsLogDrawn book q)) (record { plan = good; log = (text, is, refl); unnamed = refl }) None run.drawn asked refl run.came) run.draws
 
 pub returns-clause-plan : goal.returns-clause-plan
 returns-clause-plan c = λ rounds content inputs p outcome asked good run. good_search content inputs p good rounds outcome asked run
 
 pub returns-clause-improve : goal.returns-clause-improve
-returns-clause-improve c = λ rounds content inputs p outcome asked good run. good_improvement content inputs p good rounds outcome asked run
-
-pub returns-clause-improve_rest : goal.returns-clause-improve_rest
-returns-clause-improve_rest c = λ at rounds content inputs log text p outcome asked good is shaped run. good_rest_improvement content inputs p good at rounds log text outcome asked is shaped run
+returns-clause-improve c = λ rounds content run p text outcome asked parses has runs. good_improvement content run p text rounds has outcome asked parses runs
 
 pub returns-clause-drive : goal.returns-clause-drive
 returns-clause-drive c = λ protocol before after content inputs p outcome asked good shaped acceptable run. good_drive content inputs p good protocol before after outcome asked shaped acceptable run
