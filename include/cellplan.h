@@ -48,7 +48,7 @@ extern "C" {
 #endif
 
 /* The version of this header's calls. The library is of the same where cellplan_version() gives it. */
-#define CELLPLAN_VERSION 2
+#define CELLPLAN_VERSION 3
 
 /* The version of cellplan that this header comes from: `cellplan --version` prints that of a program. */
 #define CELLPLAN_VERSION_TEXT "2.0.0"
@@ -74,7 +74,8 @@ enum {
   CELLPLAN_BACKWARDS = 19,            /* with the last moment: of the last accepted report, or of the orders at a handing over */
   CELLPLAN_NOT_EXPECTED = 20,         /* the job waits for its move or is gone; the machine isn't being cleaned, or not after this job */
   CELLPLAN_WRONG_KIND = 21,           /* an arrival of a job that is inside, or a finish of one that is outside */
-  CELLPLAN_WRONG_MACHINE = 22         /* with the machine on which the job is */
+  CELLPLAN_WRONG_MACHINE = 22,        /* with the machine on which the job is */
+  CELLPLAN_STEP_OUT_OF_RANGE = 23     /* of cellplan_cell_report_step after that of the job: the route has no such step */
 };
 
 /* The kinds of reports. */
@@ -183,6 +184,15 @@ uint32_t cellplan_cell_schedule(struct cellplan_cell *cell, uint64_t at, uint8_t
 uint32_t cellplan_cell_report(struct cellplan_cell *cell, uint32_t kind, uint32_t job, uint32_t machine, uint64_t at,
                               struct cellplan_order *orders, size_t room, size_t *count, bool *late, uint64_t *detail);
 
+/* Reports that an operation, or the cleaning behind it, has ended, which is named by its job and its step: the same, of the kinds
+   CELLPLAN_FINISH (the machine isn't read) and CELLPLAN_CLEAN_AFTER. A route's steps are numbered from 0. Where a job visits a
+   machine again, a copy of such a report is never one of another visit.
+   NO_KIND for any other kind. The reasons are those of the kind, with STEP_OUT_OF_RANGE after JOB_OUT_OF_RANGE; NOT_EXPECTED where
+   the job isn't at work on this step, or the machine isn't being cleaned after it, in the place of WRONG_MACHINE. */
+uint32_t cellplan_cell_report_step(struct cellplan_cell *cell, uint32_t kind, uint32_t job, uint32_t step, uint32_t machine,
+                                   uint64_t at, struct cellplan_order *orders, size_t room, size_t *count, bool *late,
+                                   uint64_t *detail);
+
 /* Writes the orders of the last accepted report, or of the handing over that came after it, from number `first` on, as many as
    there is room for, and the number of all its orders, whatever `first` is: 0 before the first report. There is at most one for
    each job. `room` is a number of orders, not of bytes. GOOD; or NO_CELL, and then the number is 0. */
@@ -208,6 +218,12 @@ uint32_t cellplan_cell_clean_due(struct cellplan_cell *cell, uint32_t machine, u
 
 /* The job after which the machine is being cleaned, the last that was on it. NONE where it isn't being cleaned. */
 uint32_t cellplan_cell_cleaned_after(struct cellplan_cell *cell, uint32_t machine, uint32_t *job);
+
+/* The step at which the job is; NONE where it is on no machine. */
+uint32_t cellplan_cell_step(struct cellplan_cell *cell, uint32_t job, uint32_t *step);
+
+/* The job and its step after which the machine is being cleaned. NONE where it isn't being cleaned. */
+uint32_t cellplan_cell_cleaned_after_step(struct cellplan_cell *cell, uint32_t machine, uint32_t *job, uint32_t *step);
 
 /* The last moment: of the last accepted report, or of the orders at a handing over; 0 before the first of them. */
 uint32_t cellplan_cell_now(struct cellplan_cell *cell, uint64_t *at);

@@ -1,14 +1,15 @@
 -- What is said of the controller that a cell holds, and what the calls that report to it or ask for its orders answer.
-use Rattle.std.specs.Prelude.{◌≡◌, ◌≢◌, ℕ, ◌+◌, ◌<◌, ◌≤◌, ◌↔◌, Bool, List, IfSome, length, slice_get, option_map}
+use Rattle.std.specs.Prelude.{◌≡◌, ◌≢◌, ℕ, ◌+◌, ◌<◌, ◌≤◌, ◌↔◌, Bool, List, Option, IfSome, length, slice_get, option_map}
 use Rattle.shop_base.specs.declared.move_order.MoveOrder.{MoveOrder}
 use Rattle.cell_control.specs.declared.report_fault.ReportFault.{ReportFault}
 use Rattle.cell_control.specs.Control.{Control, IsAnswered}
 use Rattle.cell_control.specs.Promises.{NeverGoesWrong, KeepsLeavings}
 use Rattle.cellplan_c.specs.declared.cell.Cell.{Cell}
 use Rattle.cellplan_c.specs.declared.numbers.Order.{Order}
-use Rattle.cellplan_c.specs.declared.numbers.Ended.{Ended}
-use Rattle.cellplan_c.specs.Numbers.{report_by, order_numbers, fault_number, fault_detail}
-use Rattle.cellplan_c.specs.Ended.{ended_by, CanEnd, IsFirstFor, IsOnlyFor, IfGoesOnNow, Calls}
+use Rattle.cell_tables.specs.{declared.claim.Claim.Claim, Claims.claimed}
+use Rattle.cell_control.specs.Claims.{CanClaim, IsClaimReason, IsOnlyClaimReason}
+use Rattle.cellplan_c.specs.Numbers.{order_numbers, fault_number, fault_detail}
+use Rattle.cellplan_c.specs.Claimed.{IfGoesOnNow, Calls}
 
 -- of the controller that the cell holds, if it holds one
 abbrev pub Holding : Cell → (Control → Type 0) → Type 0
@@ -23,23 +24,22 @@ pub record GoesAsPromised (v : Control) : Type 0 where
 abbrev pub Handing : Cell → Cell → (Control → Control → Type 0) → Type 0
 Handing old new Is = Holding old (λ before. Holding new (λ after. Is before after))
 
--- of the controller before, what has ended by this kind and these numbers, and the controller after, if there are all three
-abbrev pub Reporting : Cell → Cell → ℕ → ℕ → ℕ → ℕ → (Control → Ended → Control → Type 0) → Type 0
-Reporting old new kind job machine at Is =
-    Holding old (λ before. Holding new (λ after. IfSome (report_by kind job machine at) (λ ended. Is before ended after)))
+-- of the controller before, what is claimed to have ended, and the controller after, if there are all three
+abbrev pub Claiming : Cell → Cell → Option Claim → (Control → Claim → Control → Type 0) → Type 0
+Claiming old new claim Is = Holding old (λ before. Holding new (λ after. IfSome claim (λ claim. Is before claim after)))
 
 -- the report is refused for its first reason, which is the only one: its number is answered, and what it names is answered
-abbrev pub IsReasonNumber : Control → Ended → ℕ → ℕ → Type 0
-IsReasonNumber control ended number detail = (fault : ReportFault) × (number ≡ fault_number fault) × (detail ≡ fault_detail fault)
-    × IsFirstFor control ended fault × IsOnlyFor control ended fault
+abbrev pub IsReasonNumber : Control → Claim → ℕ → ℕ → Type 0
+IsReasonNumber control claim number detail = (fault : ReportFault) × (number ≡ fault_number fault) × (detail ≡ fault_detail fault)
+    × IsClaimReason control.planned control.cell claim fault × IsOnlyClaimReason control.planned control.cell claim fault
 
 -- what a report comes to, by its status, whether it was late, and what is answered of its reason
-pub record IsReportAnswered (status : ℕ) (late : Bool) (detail : ℕ) (old : Control) (ended : Ended) (new : Control) : Type 0 where
-  pub possible : (status ≡ 0) ↔ CanEnd old ended
-  pub answered : status ≡ 0 → IsAnswered old (ended_by ended) (record { late = late }) new
-  pub reason : status ≢ 0 → IsReasonNumber old ended status detail
-  pub called : Calls old ended new
-  pub never_refused : IfGoesOnNow old ended (status ≡ 0)
+pub record IsReportAnswered (status : ℕ) (late : Bool) (detail : ℕ) (old : Control) (claim : Claim) (new : Control) : Type 0 where
+  pub possible : (status ≡ 0) ↔ CanClaim old.planned old.cell claim
+  pub answered : status ≡ 0 → IsAnswered old (claimed old.planned claim) (record { late = late }) new
+  pub reason : status ≢ 0 → IsReasonNumber old claim status detail
+  pub called : Calls old claim new
+  pub never_refused : IfGoesOnNow old claim (status ≡ 0)
 
 -- each order from a first one on, for which there is room, stands in its place as its numbers
 abbrev pub AreOrdersPut : List MoveOrder → ℕ → List Order → List Order → Type 0

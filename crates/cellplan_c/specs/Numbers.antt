@@ -4,19 +4,24 @@ use Rattle.shop_base.specs.declared.move_order.Spot.{Spot}
 use Rattle.shop_base.specs.declared.move_order.Spot.TheVariants.{Out, At}
 use Rattle.shop_base.specs.declared.move_order.MoveOrder.{MoveOrder}
 use Rattle.shop_base.specs.declared.report.Report.TheVariants.{Arrive, Finish, Clean}
+use Rattle.cell_tables.specs.declared.claim.Claim.{Claim}
+use Rattle.cell_tables.specs.declared.claim.Claim.TheVariants.{Report, CleanAfter, FinishStep, CleanAfterStep}
 use Rattle.cell_control.specs.declared.phase.Phase.{Phase as Whereabouts}
 use Rattle.cell_control.specs.declared.phase.Phase.TheVariants.{Outside, OnMachine, Gone}
 use Rattle.cell_control.specs.declared.report_fault.ReportFault.{ReportFault}
-use Rattle.cell_control.specs.declared.report_fault.ReportFault.TheVariants.{JobOutOfRange, MachineOutOfRange, MomentTooLarge, Backwards, NotExpected, WrongKind, WrongMachine}
+use Rattle.cell_control.specs.declared.report_fault.ReportFault.TheVariants.{JobOutOfRange, MachineOutOfRange, StepOutOfRange, MomentTooLarge, Backwards, NotExpected, WrongKind, WrongMachine}
 use Rattle.cellplan_c.specs.declared.numbers.Order.{Order}
 use Rattle.cellplan_c.specs.declared.numbers.Phase.{Phase}
-use Rattle.cellplan_c.specs.declared.numbers.Ended.{Ended}
-use Rattle.cellplan_c.specs.declared.numbers.Ended.TheVariants.{Reported, CleanedAfter}
 
--- what has ended by kind 0, an arrival, 1, an operation, 2, a cleaning, or 3, a cleaning after a job
-abbrev pub report_by : ℕ → ℕ → ℕ → ℕ → Option Ended
+-- what is claimed to have ended by kind 0, an arrival, 1, an operation, 2, a cleaning, or 3, a cleaning after a job
+abbrev pub report_by : ℕ → ℕ → ℕ → ℕ → Option Claim
 report_by kind job machine at =
-    if nat_eq kind 0 then Some (Reported (Arrive job at)) else (if nat_eq kind 1 then Some (Reported (Finish job machine at)) else (if nat_eq kind 2 then Some (Reported (Clean machine at)) else (if nat_eq kind 3 then Some (CleanedAfter machine job at) else None)))
+    if nat_eq kind 0 then Some (Report (Arrive job at)) else (if nat_eq kind 1 then Some (Report (Finish job machine at)) else (if nat_eq kind 2 then Some (Report (Clean machine at)) else (if nat_eq kind 3 then Some (CleanAfter machine job at) else None)))
+
+-- what is claimed to have ended by kind 1, the operation of a step, or 3, a cleaning after a step
+abbrev pub step_report_by : ℕ → ℕ → ℕ → ℕ → ℕ → Option Claim
+step_report_by kind job step machine at =
+    if nat_eq kind 1 then Some (FinishStep job step at) else (if nat_eq kind 3 then Some (CleanAfterStep machine job step at) else None)
 
 -- the number of a reason, from 16 on
 abbrev pub fault_number : ReportFault → ℕ
@@ -27,6 +32,7 @@ fault_number (Backwards last) = 19
 fault_number NotExpected = 20
 fault_number WrongKind = 21
 fault_number (WrongMachine actual) = 22
+fault_number StepOutOfRange = 23
 
 -- no reason has this number
 abbrev pub NoReason : ℕ → Type 0

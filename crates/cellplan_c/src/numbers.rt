@@ -1,10 +1,10 @@
 //! Reports, reasons, orders and phases as numbers.
 
 ghost use Rattle.std.specs.Prelude.{◌≡◌, MatchOption};
-ghost use Rattle.cellplan_c.specs.Numbers.{report_by, fault_number, NoReason, fault_detail};
+ghost use Rattle.cellplan_c.specs.Numbers.{report_by, step_report_by, fault_number, NoReason, fault_detail};
 ghost use Rattle.cellplan_c.specs.Numbers.{order_numbers, spot_number, phase_numbers};
 
-use cell_control::{MoveOrder, Phase as Whereabouts, Report, ReportFault, Spot};
+use cell_control::{Claim, MoveOrder, Phase as Whereabouts, Report, ReportFault, Spot};
 
 /// The number in place of a machine that stands for outside the cell.
 pub const OUT: u32 = u32::MAX;
@@ -29,22 +29,32 @@ pub struct Phase {
     pub at: u64,
 }
 
-/// What has ended: an activity that a report names, or the cleaning of the machine after just this job.
-#[derive(Clone, Copy)]
-pub enum Ended {
-    Reported(Report),
-    CleanedAfter { machine: u32, job: u32, at: u64 },
-}
-
-/// What has ended by this kind, if it is one: an arrival, an operation, a cleaning, or a cleaning after a job.
-pub fn report_by(kind: u32, job: u32, machine: u32, at: u64) -> Option<Ended>
+/// What is claimed to have ended by this kind, if it is one: an arrival, an operation, a cleaning, or a cleaning after a
+/// job.
+pub fn report_by(kind: u32, job: u32, machine: u32, at: u64) -> Option<Claim>
     ensures { result ≡ report_by kind job machine at }
 {
     match kind {
-        0 => Some(Ended::Reported(Report::Arrive { job, at })),
-        1 => Some(Ended::Reported(Report::Finish { job, machine, at })),
-        2 => Some(Ended::Reported(Report::Clean { machine, at })),
-        3 => Some(Ended::CleanedAfter { machine, job, at }),
+        0 => Some(Claim::Report(Report::Arrive { job, at })),
+        1 => Some(Claim::Report(Report::Finish { job, machine, at })),
+        2 => Some(Claim::Report(Report::Clean { machine, at })),
+        3 => Some(Claim::CleanAfter { machine, job, at }),
+        _ => None,
+    }
+}
+
+/// What is claimed to have ended by this kind, if it is one that names a step: an operation, or a cleaning after one.
+pub fn step_report_by(kind: u32, job: u32, step: u32, machine: u32, at: u64) -> Option<Claim>
+    ensures { result ≡ step_report_by kind job step machine at }
+{
+    match kind {
+        1 => Some(Claim::FinishStep { job, step, at }),
+        3 => Some(Claim::CleanAfterStep {
+            machine,
+            job,
+            step,
+            at,
+        }),
         _ => None,
     }
 }
@@ -61,6 +71,7 @@ pub fn fault_number(fault: ReportFault) -> u32
         ReportFault::NotExpected => 20,
         ReportFault::WrongKind => 21,
         ReportFault::WrongMachine { actual: _ } => 22,
+        ReportFault::StepOutOfRange => 23,
     }
 }
 
@@ -76,6 +87,7 @@ pub fn reason_by(number: u32) -> Option<ReportFault>
         20 => Some(ReportFault::NotExpected),
         21 => Some(ReportFault::WrongKind),
         22 => Some(ReportFault::WrongMachine { actual: 0 }),
+        23 => Some(ReportFault::StepOutOfRange),
         _ => None,
     }
 }

@@ -3,7 +3,7 @@
 ghost use Rattle.std.specs.Prelude.{◌≡◌, ◌↔◌, IsTrue};
 ghost use Rattle.shop_base.specs.Plan.{jobs, machines};
 ghost use Rattle.shop_base.specs.Ends.{HasEnded};
-ghost use Rattle.cell_tables.specs.Readings.{IsCleanedFor};
+ghost use Rattle.cell_tables.specs.Readings.{IsCleanedFor, IsCleanedForStep, IsCurrentStep};
 ghost use Rattle.cell_control.specs.Readings.{IsJobOn, IsDueOf, IsDueOfCleaning};
 ghost use Rattle.cellplan_c.specs.Readings.{Finds, Reads, IsPhaseFound, IsLeaveOf, AreReportsLeft};
 
@@ -102,6 +102,47 @@ pub extern "C" fn cellplan_cell_cleaned_after(
     let found = inner.controller.cleaned_after(machine);
     cell.put(inner);
     put_found(found, job)
+}
+
+/// The step of the job that is on a machine; `NONE` if it is outside or gone, or no job.
+#[unsafe(no_mangle)]
+pub extern "C" fn cellplan_cell_step(
+    alloc: Global,
+    cell: &mut Cell,
+    job: u32,
+    step: &mut u32,
+) -> u32
+    ensures { Finds cell.old cell.new result step.old step.new (λ held. IsCurrentStep held.planned held.cell job) }
+{
+    let Some(inner) = cell.take(alloc) else {
+        return NO_CELL;
+    };
+    let found = inner.controller.current_step(job);
+    cell.put(inner);
+    put_found(found, step)
+}
+
+/// The job, and its step, after which the machine is being cleaned; `NONE` if it isn't being cleaned.
+#[unsafe(no_mangle)]
+pub extern "C" fn cellplan_cell_cleaned_after_step(
+    alloc: Global,
+    cell: &mut Cell,
+    machine: u32,
+    job: &mut u32,
+    step: &mut u32,
+) -> u32
+    ensures { Finds cell.old cell.new result (job.old, step.old) (job.new, step.new)
+        (λ held. IsCleanedForStep held.planned held.cell machine) }
+{
+    let Some(inner) = cell.take(alloc) else {
+        return NO_CELL;
+    };
+    let found = inner.controller.cleaned_after_step(machine);
+    cell.put(inner);
+    let mut both = (*job, *step);
+    let status = put_found(found, &mut both);
+    (*job, *step) = both;
+    status
 }
 
 /// The moment of the last event, 0 before the first report.

@@ -2,18 +2,20 @@
 
 ghost use Rattle.std.specs.Prelude.{◌≡◌, ◌≢◌, ◌<◌, ◌≤◌, ◌↔◌, None, IsSome, IfSome, IfOk, IfErr, IsOk, length, false};
 ghost use Rattle.cell_control.specs.Control.{IsAnswered};
-ghost use Rattle.cellplan_c.specs.Numbers.{report_by};
-ghost use Rattle.cellplan_c.specs.Ended.{ended_by, CanEnd, IsFirstFor, IsOnlyFor, IfGoesOnNow, Calls};
-ghost use Rattle.cellplan_c.specs.Cells.{Holding, GoesAsPromised, Reporting, IsReportAnswered};
+ghost use Rattle.cell_tables.specs.Claims.{claimed};
+ghost use Rattle.cell_control.specs.Claims.{CanClaim, IsClaimReason, IsOnlyClaimReason};
+ghost use Rattle.cellplan_c.specs.Numbers.{report_by, step_report_by};
+ghost use Rattle.cellplan_c.specs.Claimed.{IfGoesOnNow, Calls};
+ghost use Rattle.cellplan_c.specs.Cells.{Holding, GoesAsPromised, Claiming, IsReportAnswered};
 ghost use Rattle.cellplan_c.specs.Cells.{AreOrdersPut, IsKeptBehind};
 
 use crate::cell::Cell;
 use crate::inner::Inner;
-use crate::numbers::{Ended, Order, fault_detail, fault_number, report_by};
+use crate::numbers::{Order, fault_detail, fault_number, report_by, step_report_by};
 use crate::promised::is_as_promised;
 use crate::rooms::put_orders;
 use crate::statuses::{GOOD, NO_CELL, NO_KIND};
-use cell_control::{Ack, ReportFault, RestController, TourneyDues};
+use cell_control::{Ack, Claim, ReportFault, RestController, TourneyDues};
 use std::alloc::Global;
 
 /// Takes a report: of kind 0, that the job has arrived, 1, that its operation on the machine has ended, 2, that the
@@ -35,8 +37,68 @@ pub extern "C" fn cellplan_cell_report(
 ) -> u32
     ensures full { IsSome cell.old.slot.held → IsSome cell.new.slot.held }
     ensures no_kind { (report_by kind job machine at ≡ None) ↔ (result ≡ 9) }
-    ensures no_cell { IfSome (report_by kind job machine at) (λ ended. (cell.old.slot.held ≡ None) ↔ (result ≡ 8)) }
-    ensures reported { Reporting cell.old cell.new kind job machine at (IsReportAnswered result late.new detail.new) }
+    ensures no_cell { IfSome (report_by kind job machine at) (λ claim. (cell.old.slot.held ≡ None) ↔ (result ≡ 8)) }
+    ensures reported { Claiming cell.old cell.new (report_by kind job machine at) (IsReportAnswered result late.new detail.new) }
+    ensures unchanged { result ≢ 0 → cell.new.slot.held ≡ cell.old.slot.held }
+    ensures never_wrong { result ≢ 9 → Holding cell.new GoesAsPromised }
+    ensures not_late { result ≢ 0 → late.new ≡ false }
+    ensures no_detail { result < 16 → detail.new ≡ 0 }
+    ensures no_orders { result ≢ 0 → (count.new ≡ 0) × (orders.new ≡ orders.old) }
+    ensures count { Holding cell.new (λ new. result ≡ 0 → count.new ≡ length new.orders) }
+    ensures orders { Holding cell.new (λ new. result ≡ 0 → AreOrdersPut new.orders 0 orders.old orders.new) }
+    ensures kept { Holding cell.new (λ new. result ≡ 0 → IsKeptBehind new.orders 0 orders.old orders.new) }
+{
+    let claim = report_by(kind, job, machine, at);
+    report_claim(alloc, cell, claim, orders, count, late, detail)
+}
+
+/// Takes a report that names a step: of kind 1, that the operation of the job's step has ended, or 3, that the machine is
+/// clean after just this step of the job. All else is as for [`cellplan_cell_report`].
+#[unsafe(no_mangle)]
+pub extern "C" fn cellplan_cell_report_step(
+    alloc: Global,
+    cell: &mut Cell,
+    kind: u32,
+    job: u32,
+    step: u32,
+    machine: u32,
+    at: u64,
+    orders: &mut [Order],
+    count: &mut usize,
+    late: &mut bool,
+    detail: &mut u64,
+) -> u32
+    ensures full { IsSome cell.old.slot.held → IsSome cell.new.slot.held }
+    ensures no_kind { (step_report_by kind job step machine at ≡ None) ↔ (result ≡ 9) }
+    ensures no_cell { IfSome (step_report_by kind job step machine at) (λ claim. (cell.old.slot.held ≡ None) ↔ (result ≡ 8)) }
+    ensures reported { Claiming cell.old cell.new (step_report_by kind job step machine at) (IsReportAnswered result late.new detail.new) }
+    ensures unchanged { result ≢ 0 → cell.new.slot.held ≡ cell.old.slot.held }
+    ensures never_wrong { result ≢ 9 → Holding cell.new GoesAsPromised }
+    ensures not_late { result ≢ 0 → late.new ≡ false }
+    ensures no_detail { result < 16 → detail.new ≡ 0 }
+    ensures no_orders { result ≢ 0 → (count.new ≡ 0) × (orders.new ≡ orders.old) }
+    ensures count { Holding cell.new (λ new. result ≡ 0 → count.new ≡ length new.orders) }
+    ensures orders { Holding cell.new (λ new. result ≡ 0 → AreOrdersPut new.orders 0 orders.old orders.new) }
+    ensures kept { Holding cell.new (λ new. result ≡ 0 → IsKeptBehind new.orders 0 orders.old orders.new) }
+{
+    let claim = step_report_by(kind, job, step, machine, at);
+    report_claim(alloc, cell, claim, orders, count, late, detail)
+}
+
+/// Takes what is claimed to have ended, if it is of a kind.
+fn report_claim(
+    alloc: Global,
+    cell: &mut Cell,
+    claim: Option<Claim>,
+    orders: &mut [Order],
+    count: &mut usize,
+    late: &mut bool,
+    detail: &mut u64,
+) -> u32
+    ensures full { IsSome cell.old.slot.held → IsSome cell.new.slot.held }
+    ensures no_kind { (claim ≡ None) ↔ (result ≡ 9) }
+    ensures no_cell { IfSome claim (λ claim. (cell.old.slot.held ≡ None) ↔ (result ≡ 8)) }
+    ensures reported { Claiming cell.old cell.new claim (IsReportAnswered result late.new detail.new) }
     ensures unchanged { result ≢ 0 → cell.new.slot.held ≡ cell.old.slot.held }
     ensures never_wrong { result ≢ 9 → Holding cell.new GoesAsPromised }
     ensures not_late { result ≢ 0 → late.new ≡ false }
@@ -49,13 +111,13 @@ pub extern "C" fn cellplan_cell_report(
     *count = 0;
     *late = false;
     *detail = 0;
-    let Some(ended) = report_by(kind, job, machine, at) else {
+    let Some(claim) = claim else {
         return NO_KIND;
     };
     let Some(mut inner) = cell.take(alloc) else {
         return NO_CELL;
     };
-    let status = report_to(&mut inner, ended, late, detail);
+    let status = report_to(&mut inner, claim, late, detail);
     if status == GOOD {
         let released = inner.controller.orders();
         *count = released.len();
@@ -94,16 +156,16 @@ pub extern "C" fn cellplan_cell_orders(
     GOOD
 }
 
-/// Takes what has ended, and gives 0 or the number of the reason.
-fn report_to(inner: &mut Inner, ended: Ended, late: &mut bool, detail: &mut u64) -> u32
-    ensures reported { IsReportAnswered result late.new detail.new inner.old.controller ended inner.new.controller }
+/// Takes what is claimed to have ended, and gives 0 or the number of the reason.
+fn report_to(inner: &mut Inner, claim: Claim, late: &mut bool, detail: &mut u64) -> u32
+    ensures reported { IsReportAnswered result late.new detail.new inner.old.controller claim inner.new.controller }
     ensures unchanged { result ≢ 0 → inner.new ≡ inner.old }
     ensures numbers { result ≢ 0 → 16 ≤ result }
     ensures not_late { result ≢ 0 → late.new ≡ late.old }
     ensures no_detail { result ≡ 0 → detail.new ≡ detail.old }
     ensures never_wrong { GoesAsPromised inner.new.controller }
 {
-    let answered = accept(&mut inner.controller, ended);
+    let answered = accept(&mut inner.controller, claim);
     is_as_promised(&inner.controller);
     match answered {
         Ok(ack) => {
@@ -117,22 +179,23 @@ fn report_to(inner: &mut Inner, ended: Ended, late: &mut bool, detail: &mut u64)
     }
 }
 
-/// Accepts what has ended, or answers the first reason for which it isn't possible.
-fn accept(controller: &mut RestController<TourneyDues>, ended: Ended) -> Result<Ack, ReportFault>
-    ensures possible { IsOk result ↔ CanEnd controller.old ended }
-    ensures answered { IfOk result (λ ack. IsAnswered controller.old (ended_by ended) ack controller.new) }
-    ensures first_reason { IfErr result (IsFirstFor controller.old ended) }
-    ensures only_reason { IfErr result (IsOnlyFor controller.old ended) }
+/// Accepts what is claimed to have ended, or answers the first reason for which it isn't possible.
+fn accept(controller: &mut RestController<TourneyDues>, claim: Claim) -> Result<Ack, ReportFault>
+    ensures possible { IsOk result ↔ CanClaim controller.old.planned controller.old.cell claim }
+    ensures answered { IfOk result
+        (λ ack. IsAnswered controller.old (claimed controller.old.planned claim) ack controller.new) }
+    ensures first_reason { IfErr result (IsClaimReason controller.old.planned controller.old.cell claim) }
+    ensures only_reason { IfErr result (IsOnlyClaimReason controller.old.planned controller.old.cell claim) }
     ensures unchanged { IfErr result (λ fault. controller.new ≡ controller.old) }
-    ensures called { Calls controller.old ended controller.new }
-    ensures never_refused { IfGoesOnNow controller.old ended (IsOk result) }
+    ensures called { Calls controller.old claim controller.new }
+    ensures never_refused { IfGoesOnNow controller.old claim (IsOk result) }
 {
-    match ended {
-        Ended::Reported(report) => controller.report(report),
-        Ended::CleanedAfter { machine, job, at } => {
+    match claim {
+        Claim::Report(report) => controller.report(report),
+        _ => {
             // Called for its clause alone: the cell is sound.
             let _plan = controller.shaped();
-            controller.clean_after(machine, job, at)
+            controller.claim(claim)
         }
     }
 }

@@ -11,7 +11,7 @@ returns-in-Ok c =
         answered = λ good. accepted.answered;
         reason = λ bad. absurd (bad refl);
         called = accepted.called;
-        never_refused = goes_anyway c.args.inner.now.controller c.args.ended _ refl;
+        never_refused = goes_anyway c.args.inner.now.controller c.args.claim _ refl;
       };
       unchanged = λ bad. absurd (bad refl);
       numbers = λ bad. absurd (bad refl);
@@ -23,5 +23,5 @@ returns-in-Ok c =
 pub returns-in-Err-clause-reported : goal.returns-in-Err-clause-reported
 returns-in-Err-clause-reported c =
     let refused = c.in-Err.ensures in
-    refused_answer c.args.inner.now.controller c.args.ended c.in-Err.fault _ _ _ _ _ (λ ok. absurd (cc ok)) refused.possible refused.first_reason refused.only_reason refused.called refused.never_refused
+    refused_answer c.args.inner.now.controller c.args.claim c.in-Err.fault _ _ _ _ _ (λ ok. absurd (cc ok)) refused.possible refused.first_reason refused.only_reason refused.called refused.never_refused
     c.fault_number.ensures c.fault_detail.ensures

@@ -1,14 +1,13 @@
 use Rattle.std.proofs.Common.{◌≡◌, ◌≢◌, None, Some, refl, sym, ap, ◌∙◌, arith}
 use Rattle.std.specs.Prelude.{is_some}
-use Rattle.cellplan_c.specs.Numbers.{report_by}
 use Rattle.cellplan_c.proofs.Found.{of_three, of_none, unless_good}
-use Rattle.cellplan_c.proofs.reports.cellplan_cell_report.Goals as goal
-use Rattle.cellplan_c.proofs.reports.cellplan_cell_report.Goals.{then-status-eq-GOOD, else-status-eq-GOOD}
+use Rattle.cellplan_c.proofs.reports.report_claim.Goals as goal
+use Rattle.cellplan_c.proofs.reports.report_claim.Goals.{then-status-eq-GOOD, else-status-eq-GOOD}
 
 pub returns-in_default : goal.returns-in_default
 returns-in_default c =
     let held = c.args.cell.now.slot.held in
-    let no_report : report_by c.args.kind c.args.job c.args.machine c.args.at ≡ None = sym c.in_default.ensures in
+    let no_report : c.args.claim ≡ None = c.in_default.is in
     let bad : 9 ≢ 0 = λ good. omega (arith, good) in
     record {
       full = λ some. some;
@@ -27,7 +26,7 @@ returns-in_default c =
 
 pub returns-in_default-take : goal.returns-in_default-take
 returns-in_default-take c =
-    let report : report_by c.args.kind c.args.job c.args.machine c.args.at ≡ Some c.in-Some.ended = sym c.in-Some.ensures in
+    let report : c.args.claim ≡ Some c.in-Some.claim = c.in-Some.is in
     let none = c.in_default-take.ensures.lent in
     let emptied = c.in_default-take.ensures.emptied in
     record {
@@ -49,7 +48,7 @@ pub returns : goal.returns
 returns c =
     let held : c.args.cell.now.slot.held ≡ Some c.deref_mut.result.now = rw c.deref_mut.ensures.value c.in-Some-take.ensures.lent in
     let after = c.put.ensures in
-    let report : report_by c.args.kind c.args.job c.args.machine c.args.at ≡ Some c.in-Some.ended = sym c.in-Some.ensures in
+    let report : c.args.claim ≡ Some c.in-Some.claim = c.in-Some.is in
     let answered = c.report_to-status.ensures in
     record {
       full = λ some. ap is_some after;
