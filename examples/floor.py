@@ -21,8 +21,9 @@ it may be killed within that too. A change that cellplan refuses is printed with
 lasts longer then, as the search for a plan takes some time.
 
 The gateway asks for the state behind each batch of reports, so it has no model of the cell; a floor with many reports a second follows the
-lines itself. It sends the next order once the floor has confirmed that the one before is carried out, so a copy that comes late finds its part
-elsewhere; that costs a way there and back for each order. Where a log wants another plan than it did a moment ago, a cellplan whose gateway has
+lines itself. It sends the next order once the floor has confirmed that the one before is carried out; that costs a way there and back for each
+order. Each order says which move of its part it is, so the floor knows a copy that comes late, also where the part stands at its machine again.
+Where a log wants another plan than it did a moment ago, a cellplan whose gateway has
 died has handed the run over meanwhile: the gateway then ends with 6, looks anew for the texts at its next start, and doesn't need a lock of its
 own.
 
@@ -213,11 +214,11 @@ class Gateway:
 
 
 def activity(words):
-    """What a line of a state says to go on, as a report without its moment."""
+    """What a line of a state says to go on, as a report without its moment. Where jobs visit machines again, its words for a job have the step."""
     if words[0] == "job" and words[2] == "arrives":
         yield "arrive " + words[1]
     elif words[0] == "job" and words[2] == "on":
-        yield "finish %s %s" % (words[1], words[4])
+        yield "finish " + words[1] if "." in words[1] else "finish %s %s" % (words[1], words[4])
     elif words[0] == "machine":
         yield "clean %s %s" % (words[1], words[5])
 
@@ -246,18 +247,28 @@ class Shop:
 
     def __init__(self, instance, plan):
         with open(instance) as text:
-            lines = iter([line.split() for line in text])
-        jobs, machines = next(map(int, line) for line in lines if len(line) == 2 and all(map(str.isdigit, line)))
-        numbers = [list(map(int, next(lines))) for _ in range(jobs)]
+            lines = [line.split() for line in text]
+        begin = next(place for place, line in enumerate(lines) if len(line) == 2 and all(map(str.isdigit, line)) or place and line[2:] == ["recrc"])
+        jobs, machines = map(int, lines[begin][:2])
+        self.again = len(lines[begin]) == 3  # whether jobs visit machines again
+        numbers = [list(map(int, line)) for line in lines[begin + 1:begin + 1 + jobs]]
         self.routes = [list(zip(row[0::2], row[1::2])) for row in numbers]
         with open(plan) as text:  # one key a line, as `cellplan plan` writes it
             lists = {key: json.loads(value) for key, value in re.findall(r"^(\w+) *= *(\[.*\])", text.read(), re.MULTILINE)}
-        self.release, self.clean = lists["release"], lists.get("clean", [0] * machines)
+        self.release, self.cleaning = lists["release"], lists.get("clean", [0] * machines)
+
+    def finish(self, job, step):
+        """The words for the end of an operation."""
+        return "finish %d.%d" % (job, step) if self.again else "finish %d %d" % (job, self.routes[job][step][0])
+
+    def clean(self, job, step):
+        """The words for the end of the cleaning behind an operation."""
+        return "clean %d %s" % (self.routes[job][step][0], "%d.%d" % (job, step) if self.again else job)
 
     def totals(self):
         """The numbers of reports and of orders of a whole run."""
         moves = sum(len(route) + 1 for route in self.routes)
-        cleanings = sum(self.clean[machine] > 0 for route in self.routes for machine, _ in route)
+        cleanings = sum(self.cleaning[machine] > 0 for route in self.routes for machine, _ in route)
         return moves + cleanings, moves
 
 
@@ -330,15 +341,18 @@ class Floor:
         for telegram in self.line_in.passes(come, self.now()):
             number, *orders = json.loads(telegram)
             self.driven_by(number)
-            for job, _, source, target in orders:
-                self.carry(number, job, source, target)
-        moves = collections.Counter(job for job, _, _ in self.made)  # how many each part has made
-        state = {"now": self.now(), "moves": moves, "ended": self.ended, "changes": self.changes}
+            for order in orders:
+                self.carry(number, *order)
+        state = {"now": self.now(), "moves": self.moves(), "ended": self.ended, "changes": self.changes}
         for telegram in self.line_out.passes([json.dumps(state).encode()], self.now()):
             try:
                 self.here.send(telegram, socket.MSG_DONTWAIT)
             except BlockingIOError:
                 pass  # nobody reads at the moment
+
+    def moves(self):
+        """How many moves each part has made."""
+        return collections.Counter(job for job, _, _ in self.made)
 
     def change(self):
         """What changes now is told to the gateway. A part that is cancelled never comes, which is told like its arrival."""
@@ -351,22 +365,22 @@ class Floor:
             if kind == "--scrap" and int(value) < len(self.places) and self.places[int(value)] == "out":
                 self.ended.setdefault("arrive " + value, int(self.now()))
 
-    def carry(self, number, job, source, target):
-        """Carries out an order by these texts, unless it is a copy of one that was carried out, or the carrier is on its way."""
-        shop = self.driven_by(number)
-        if (job, source, target) in self.made or self.now() < self.carrier_free:
+    def carry(self, number, job, count, source, target):
+        """Carries out an order by these texts, after which its part has made so many moves, unless it has, or the carrier is on its way."""
+        shop, step = self.driven_by(number), self.moves()[job] - 1
+        if step + 1 >= count or self.now() < self.carrier_free:
             return
-        before = "arrive %d" % job if source == "out" else "finish %d %s" % (job, source)
+        before = "arrive %d" % job if source == "out" else shop.finish(job, step)
         if self.places[job] != source or before not in self.ended or not self.is_free(number, target):
             raise Wrong("the order to take %d from %s to %s: parts are at %s, cleaned is %s" % (job, source, target, self.places, self.cleaning))
         self.made.append((job, source, target))
         self.places[job] = "gone" if target == "out" else target
         if target != "out":
-            end = self.lasts(dict(shop.routes[job])[int(target)])
-            self.ends_at("finish %d %s" % (job, target), max(end, self.until) if target == str(self.broken) else end)
-        if source != "out" and shop.clean[int(source)] > 0:
+            end = self.lasts(shop.routes[job][step + 1][1])
+            self.ends_at(shop.finish(job, step + 1), max(end, self.until) if target == str(self.broken) else end)
+        if source != "out" and shop.cleaning[int(source)] > 0:
             self.cleaning.add(source)
-            self.ends_at("clean %s %d" % (source, job), self.lasts(shop.clean[int(source)]))
+            self.ends_at(shop.clean(job, step), self.lasts(shop.cleaning[int(source)]))
         self.carrier_free = self.now() + self.rng.uniform(0, 1)
 
     def is_free(self, number, target):
@@ -473,10 +487,15 @@ class Run:
         orders = [(int(words[2]), words[3], words[4]) for words in lines if words[:1] == ["order"]]
         if orders != self.floor.made:
             raise Wrong("the log has the orders %s, and the moves are %s" % (orders, self.floor.made))
-        for words in lines:
-            if words[:1] == ["report"] and words[2] != "clean" and self.floor.ended.get(" ".join(words[2:]), 10**13) > int(words[1]):
-                raise Wrong("reported before it has ended: " + " ".join(words))
         number = self.gateway.wanted()
+        shop, moves = self.floor.driven_by(number), collections.Counter()
+        for words in lines:
+            if words[:1] == ["order"]:
+                moves[words[2]] += 1
+            elif words[:1] == ["report"] and words[2] != "clean":
+                what = "arrive " + words[3] if words[2] == "arrive" else shop.finish(int(words[3]), moves[words[3]] - 1)
+                if self.floor.ended.get(what, 10**13) > int(words[1]):
+                    raise Wrong("reported before it has ended: " + " ".join(words))
         found = self.gateway.answer("audit", *self.gateway.texts(number), self.gateway.log).strip()
         if not re.fullmatch(r"log kept reports %d orders %d last \d+ complete" % self.floor.driven_by(number).totals(), found):
             raise Wrong("the audit says: " + found)

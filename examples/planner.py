@@ -10,7 +10,7 @@ The search knows nothing of machines or times. It asks, and goes by the lines th
 
     5 1.0 machine 1 from job 0 to job 1
 
-says that job 1 waits there for job 0. Of a plan that is late, or longer than it need be, one such line of the chain is chosen,
+says that job 1 waits there for job 0; where jobs visit machines again, job 0.2 is that of its step 2. Of a plan that is late, or longer than it need be, one such line of the chain is chosen,
 and the two jobs are exchanged in that machine's order. Where the new plan has a cycle, it can't be run: then two jobs that wait for
 each other on the cycle are exchanged too, but none of those that have been exchanged already, until there is no cycle or nothing is left
 to exchange. The new plan is kept if it isn't worse, and at times if it is. `cellplan` judges each plan, so this search may be as
@@ -19,14 +19,25 @@ careless as it likes: what it prints as accepted can be run.
 import argparse, json, os, random, re, shutil, subprocess, sys, tempfile
 
 HERE = os.path.dirname(os.path.abspath(__file__))
-WAITS = re.compile(r"machine (\d+) from job (\d+) to job (\d+)")
+WAITS = re.compile(r"machine (\d+) from job ([\d.]+) to job ([\d.]+)")
 WORSE = 0.1  # the share of worse plans that is kept
 
 
-class Plan:
-    """The lists of a plan text, one key a line as `cellplan plan` writes them."""
+def routes_of(path):
+    """The machines of each route of an instance in which jobs visit machines again, nothing of another one."""
+    with open(path) as text:
+        lines = [line.split() for line in text]
+    for place, sizes in enumerate(lines[1:], 2):
+        if len(sizes) == 3 and sizes[2] == "recrc":
+            return [list(map(int, row[0::2])) for row in lines[place:place + int(sizes[0])]]
+    return []
 
-    def __init__(self, text):
+
+class Plan:
+    """The lists of a plan text, one key a line as `cellplan plan` writes them, for these routes."""
+
+    def __init__(self, text, routes):
+        self.routes = routes
         self.lists = {key: json.loads(value) for key, value in re.findall(r"^(\w+) *= *(\[.*\])", text, re.MULTILINE)}
 
     def text(self):
@@ -35,13 +46,23 @@ class Plan:
 
     def exchanged(self, machine, first, second):
         """The plan in which two jobs that follow each other on a machine have changed their places."""
-        other = Plan(self.text())
-        order = other.lists["order"][machine]
-        place = order.index(first)
-        if order[place:place + 2] != [first, second]:
-            raise SystemExit("planner: job %d isn't directly behind job %d on machine %d" % (second, first, machine))
-        order[place:place + 2] = [second, first]
+        other = Plan(self.text(), self.routes)
+        order, job = other.lists["order"][machine], job_of(second)
+        place = [place for place, each in enumerate(order) if each == job_of(first)][self.visit(machine, first)]
+        if order[place + 1:place + 2] != [job]:
+            raise SystemExit("planner: job %s isn't directly behind job %s on machine %d" % (second, first, machine))
+        order[place:place + 2] = reversed(order[place:place + 2])
         return other
+
+    def visit(self, machine, word):
+        """How often the job of this word has been on the machine before."""
+        job, _, step = word.partition(".")
+        return self.routes[int(job)][:int(step)].count(machine) if step else 0
+
+
+def job_of(word):
+    """The job of a word as 0, or 0.2 with its step."""
+    return int(word.split(".")[0])
 
 
 class Answer:
@@ -52,8 +73,9 @@ class Answer:
         self.first = lines[0].split(" ")
         if self.first[0] == "not":
             raise SystemExit("planner: " + lines[0])
-        # who waits for whom: a machine, the job that it waits for, and the job that waits
-        self.waits = [tuple(map(int, found.groups())) for found in map(WAITS.search, lines[1:]) if found]
+        # who waits for whom: a machine, the words of the job that it waits for, and of the job that waits, if that isn't the same one
+        waits = [found.groups() for found in map(WAITS.search, lines[1:]) if found]
+        self.waits = [(int(machine), first, second) for machine, first, second in waits if job_of(first) != job_of(second)]
 
     def has_cycle(self):
         return self.first[:2] == ["refused", "cycle"]
@@ -142,7 +164,7 @@ def words():
 def main():
     options = words()
     with open(options.plan) as file:
-        start = Plan(file.read())
+        start = Plan(file.read(), routes_of(options.instance))
     with tempfile.TemporaryDirectory() as work:
         best = Search(options, work).run(start)
     print("planner: " + " ".join(best.first), file=sys.stderr)

@@ -10,7 +10,7 @@ import pathlib
 import sys
 from ctypes import POINTER, byref, c_bool, c_size_t, c_uint32, c_uint64, c_void_p, c_char_p
 
-VERSION = 2
+VERSION = 3
 GOOD = 0
 ARRIVE, FINISH, CLEAN = 0, 1, 2
 OUTSIDE = 0

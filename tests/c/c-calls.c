@@ -215,9 +215,32 @@ static void reported(struct cellplan_cell *cell, uint32_t kind, uint32_t job, ui
   same("late", was_late, late);
 }
 
+static void reported_step(struct cellplan_cell *cell, uint32_t kind, uint32_t job, uint32_t step, uint32_t machine, uint64_t at,
+                          uint32_t status, uint64_t detail) {
+  struct cellplan_order orders[4];
+  size_t got = 9;
+  bool was_late = true;
+  uint64_t named = 9;
+  same("a report of a step", cellplan_cell_report_step(cell, kind, job, step, machine, at, orders, 4, &got, &was_late, &named), status);
+  same("its orders", got, 0);
+  same("what it names", named, detail);
+  same("not late", was_late, false);
+}
+
 /* Each reason for which a report is refused, and the reports before them. */
 static void refused(struct cellplan_cell *cell) {
   struct cellplan_phase phase = {0};
+  uint32_t step = 9;
+  reported_step(cell, CELLPLAN_ARRIVE, 0, 0, 0, 0, CELLPLAN_NO_KIND, 0);
+  reported_step(cell, CELLPLAN_CLEAN, 0, 0, 0, 0, CELLPLAN_NO_KIND, 0);
+  reported_step(cell, CELLPLAN_FINISH, 2, 0, 0, 0, CELLPLAN_JOB_OUT_OF_RANGE, 0);
+  reported_step(cell, CELLPLAN_FINISH, 0, 100, 0, UINT64_MAX, CELLPLAN_STEP_OUT_OF_RANGE, 0);
+  reported_step(cell, CELLPLAN_CLEAN_AFTER, 0, 100, 0, 0, CELLPLAN_STEP_OUT_OF_RANGE, 0);
+  reported_step(cell, CELLPLAN_CLEAN_AFTER, 0, 100, 2, 0, CELLPLAN_MACHINE_OUT_OF_RANGE, 0);
+  reported_step(cell, CELLPLAN_FINISH, 0, 0, 0, UINT64_MAX, CELLPLAN_MOMENT_TOO_LARGE, 0);
+  reported_step(cell, CELLPLAN_FINISH, 0, 0, 9, 0, CELLPLAN_WRONG_KIND, 0);
+  reported_step(cell, CELLPLAN_CLEAN_AFTER, 0, 0, 0, 0, CELLPLAN_NOT_EXPECTED, 0);
+  same("no step outside", cellplan_cell_step(cell, 0, &step), CELLPLAN_NONE);
   reported(cell, 4, 0, 0, 0, CELLPLAN_NO_KIND, 0, 0, false);
   reported(cell, CELLPLAN_ARRIVE, 2, 0, 0, CELLPLAN_JOB_OUT_OF_RANGE, 0, 0, false);
   reported(cell, CELLPLAN_CLEAN_AFTER, 2, 0, 0, CELLPLAN_JOB_OUT_OF_RANGE, 0, 0, false);
@@ -330,8 +353,10 @@ static void to_the_end(struct cellplan_cell *cell) {
 static void gone(struct cellplan_cell *cell) {
   struct cellplan_phase phase = {0};
   uint64_t at = 0;
-  uint32_t number = 9;
+  uint32_t number = 9, step = 9;
   reported(cell, CELLPLAN_ARRIVE, 0, 0, 0, CELLPLAN_GOOD, 0, 1, false);
+  same("the step of a job inside", cellplan_cell_step(cell, 0, &step), CELLPLAN_GOOD);
+  same("its first one", step, 0);
   reported(cell, CELLPLAN_ARRIVE, 1, 0, 0, CELLPLAN_GOOD, 0, 0, false);
   reported(cell, CELLPLAN_FINISH, 0, 0, 3, CELLPLAN_GOOD, 0, 1, false);
   reported(cell, CELLPLAN_FINISH, 0, 1, 5, CELLPLAN_GOOD, 0, 1, false);
@@ -347,6 +372,11 @@ static void gone(struct cellplan_cell *cell) {
   same("after a job", cellplan_cell_cleaned_after(cell, 1, &number), CELLPLAN_GOOD);
   same("after job 0", number, 0);
   same("no cleaning of machine 0", cellplan_cell_cleaned_after(cell, 0, &number), CELLPLAN_NONE);
+  same("no step of a cleaning there", cellplan_cell_cleaned_after_step(cell, 0, &number, &step), CELLPLAN_NONE);
+  same("after a step", cellplan_cell_cleaned_after_step(cell, 1, &number, &step), CELLPLAN_GOOD);
+  same("after step 1 of job 0", number + 10 * step, 10);
+  same("no step of a gone job", cellplan_cell_step(cell, 0, &step), CELLPLAN_NONE);
+  same("no step of a job outside", cellplan_cell_step(cell, 1, &step), CELLPLAN_NONE);
   reported(cell, CELLPLAN_CLEAN_AFTER, 1, 1, 7, CELLPLAN_NOT_EXPECTED, 0, 0, false);
   reported(cell, CELLPLAN_CLEAN_AFTER, 0, 1, 4, CELLPLAN_BACKWARDS, 5, 0, false);
   reported(cell, CELLPLAN_CLEAN_AFTER, 0, 1, 7, CELLPLAN_GOOD, 0, 1, false);
@@ -527,8 +557,9 @@ static void names(void) {
   named(CELLPLAN_NOT_EXPECTED, "NotExpected");
   named(CELLPLAN_WRONG_KIND, "WrongKind");
   named(CELLPLAN_WRONG_MACHINE, "WrongMachine");
+  named(CELLPLAN_STEP_OUT_OF_RANGE, "StepOutOfRange");
   same("no reason", cellplan_reason(15, name, sizeof name, &length) + length, CELLPLAN_NONE);
-  same("no reason behind them", cellplan_reason(23, name, sizeof name, &length) + length, CELLPLAN_NONE);
+  same("no reason behind them", cellplan_reason(24, name, sizeof name, &length) + length, CELLPLAN_NONE);
 }
 
 static void said(const char *line) {

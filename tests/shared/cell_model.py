@@ -1,10 +1,14 @@
 """A model of the cell for the scripts of tests, which shares no code with the program.
 
 It knows where the parts are and what each machine's order is: it has no graph, and moves parts as soon as they can move.
+
+Half of the shops that are drawn have recirculation, and half of the ends that are sent by lines of version 2 name their step. With
+CELLPLAN_ONCE in the environment none do.
 """
 import ast, heapq, os, re, subprocess
 from counting import Count
 
+RECIRCULATES = "CELLPLAN_ONCE" not in os.environ
 TOP = os.path.dirname(os.path.dirname(os.path.dirname(os.path.abspath(__file__))))
 PROGRAM = os.path.join(TOP, "crates/cellplan/out/cellplan")
 
@@ -36,22 +40,35 @@ def want(what, got, wanted):
 
 
 class Shop:
-    """Routes of pairs of machine and nominal time."""
+    """Routes of pairs of machine and nominal time. With recirculation a job may visit a machine again, but not in its next step."""
 
-    def __init__(self, machines, routes):
-        self.jobs, self.machines, self.routes = len(routes), machines, routes
+    def __init__(self, machines, routes, again=False):
+        self.jobs, self.machines, self.routes, self.again = len(routes), machines, routes, again
         self.operations = sum(map(len, routes))
 
     @classmethod
     def read(cls, text):
         """The shop of a text with a line for its name, one for its sizes, and one for each job."""
         _, sizes, *rows = [line.split() for line in text.splitlines()]
-        return cls(int(sizes[1]), [list(zip(map(int, row[0::2]), map(int, row[1::2]))) for row in rows])
+        routes = [list(zip(map(int, row[0::2]), map(int, row[1::2]))) for row in rows]
+        return cls(int(sizes[1]), routes, sizes[2:] == ["recrc"])
 
     def text(self):
-        return "".join(
-            ["%d %d\n" % (self.jobs, self.machines)] + [" ".join("%d %d" % step for step in route) + "\n" for route in self.routes]
-        )
+        sizes = "%d %d%s\n" % (self.jobs, self.machines, " recrc" if self.again else "")
+        return "".join([sizes] + [" ".join("%d %d" % step for step in route) + "\n" for route in self.routes])
+
+    def visits(self, job, machine):
+        """The steps of the job on the machine."""
+        return [step for step, (other, _) in enumerate(self.routes[job]) if other == machine]
+
+    def row(self, machine, order):
+        """The job and the step at each place of an order of the machine: the k-th place of a job is its k-th visit."""
+        left = {job: iter(self.visits(job, machine)) for job in set(order)}
+        return [(job, next(left[job])) for job in order]
+
+    def named(self, job, step):
+        """The word for the job at this step, in the lines that say which step it is where a job may visit a machine again."""
+        return "%d.%d" % (job, step) if self.again else str(job)
 
     def facts(self):
         work = sum(nominal for route in self.routes for _, nominal in route)
@@ -94,7 +111,7 @@ class Floor:
         self.holder = [None] * shop.machines
         self.dirty = [False] * shop.machines
         self.entered = [0] * shop.machines
-        self.left_last = {}  # the job that left each machine last
+        self.left_last = {}  # the job that left each machine last, and its step there
         self.due, self.dues, self.begun = {}, [], []
         for job, moment in enumerate(plan.release):
             self.goes_on(("arrive", job), moment)
@@ -145,14 +162,19 @@ class Floor:
             return "job %d arrives %d" % (activity[1], due)
         if activity[0] == "finish":
             _, job, machine = activity
-            return "job %d on machine %d since %d due %d" % (job, machine, due - dict(self.shop.routes[job])[machine], due)
+            named, nominal = self.shop.named(job, self.step[job]), self.shop.routes[job][self.step[job]][1]
+            return "job %s on machine %d since %d due %d" % (named, machine, due - nominal, due)
         machine = activity[1]
-        return "machine %d cleaned after job %d since %d due %d" % (machine, self.left_last[machine], due - self.plan.cleaned(machine), due)
+        named = self.shop.named(*self.left_last[machine])
+        return "machine %d cleaned after job %s since %d due %d" % (machine, named, due - self.plan.cleaned(machine), due)
 
-    def sent(self, activity, at):
-        """The line that reports it."""
-        after = [self.left_last[activity[1]]] if activity[0] == "clean" and self.version == 2 else []
-        return " ".join(map(str, [*activity, *after, at]))
+    def sent(self, activity, at, by_step=False):
+        """The line that reports it, which may name the step."""
+        if activity[0] == "finish" and by_step:
+            activity = "finish", "%d.%d" % (activity[1], self.step[activity[1]])
+        elif activity[0] == "clean" and self.version == 2:
+            activity += ("%d.%d" % self.left_last[activity[1]] if by_step else self.left_last[activity[1]][0],)
+        return " ".join(map(str, [*activity, at]))
 
     def next_at(self, machine):
         """The job that enters the machine next by its order."""
@@ -182,7 +204,7 @@ class Floor:
         if source is None:
             return None
         self.holder[source] = None
-        self.left_last[source] = job
+        self.left_last[source] = job, step - 1
         if self.plan.cleaned(source):
             self.dirty[source] = True
             self.goes_on(("clean", source), at + self.plan.cleaned(source))
@@ -212,7 +234,8 @@ def driven(rng, shop, plan, jitter, version=1):
             heapq.heappush(waiting, (floor.due[activity] + rng.choice([0, 0, rng.randint(-jitter, jitter)]), activity))
         at, activity = heapq.heappop(waiting)
         at = max(at, floor.last)
-        asked.append((floor.sent(activity, at), floor.report(activity, at)))
+        by_step = version == 2 and RECIRCULATES and rng.random() < 0.5
+        asked.append((floor.sent(activity, at, by_step), floor.report(activity, at)))
     return asked, floor
 
 
@@ -225,10 +248,25 @@ def leavings(shop, plan):
     return [floor.gone[job] for job in range(shop.jobs)] if len(floor.gone) == shop.jobs else None
 
 
+def alone(plan, at, route):
+    """When a job leaves that goes this route from this moment on with no other one in the cell: only what it soils itself is in its way."""
+    clean_from, here = {}, None
+    for machine, nominal in route:
+        at = max(at, clean_from.get(machine, 0))
+        if here is not None:
+            clean_from[here] = at + plan.cleaned(here)
+        here = machine
+        at += nominal
+    return at
+
+
 def serial(shop):
-    """The orders by which each machine takes its jobs in ascending order."""
-    visited = [{machine for machine, _ in route} for route in shop.routes]
-    return [[job for job in range(shop.jobs) if machine in visited[job]] for machine in range(shop.machines)]
+    """The orders by which each machine takes its jobs in ascending order, each as often as the job visits it."""
+    order = [[] for _ in range(shop.machines)]
+    for job, route in enumerate(shop.routes):
+        for machine, _ in route:
+            order[machine].append(job)
+    return order
 
 
 def worth(plan, leaves):

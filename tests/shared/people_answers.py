@@ -28,8 +28,15 @@ class Names:
         clock = "%02d:%02d:%02d" % (seconds // 3600, seconds // 60 % 60, seconds % 60)
         return clock[:5 if unit == 60 else 8] + ("+%d" % days if days else "")
 
-    def of(self, before, number):
-        """The word for a number behind the word before it, none where a line begins with it."""
+    def of(self, before, word):
+        """The word for a number, or for a job's step, behind the word before it, none where a line begins with it; other words stay."""
+        number, dot, step = word.partition(".")
+        if not number.isdigit() or dot and before != "job":
+            return word
+        return self.numbered(before, int(number)) + dot + step
+
+    def numbered(self, before, number):
+        """The word for a number behind the word before it."""
         named = {"job": self.job, "machine": self.machine}.get(before)
         if named is None and (before is None or before in MOMENT_BEHIND):
             named = self.moment
@@ -41,7 +48,7 @@ def named(names, line):
     line = re.sub(r"budget %d( slack \d+)?$" % NOT_PROMISED, "no budget", line)
     line = re.sub(r" by (\d+)(?= leaves|$)", lambda by: by[0] if int(by[1]) <= LAST_PRINTED_DEADLINE else "", line)
     words = line.split(" ")
-    return " ".join(names.of(words[place - 1] if place else None, int(word)) if word.isdigit() else word for place, word in enumerate(words))
+    return " ".join(names.of(words[place - 1] if place else None, word) for place, word in enumerate(words))
 
 
 def named_visits(names, line):
@@ -97,7 +104,7 @@ def move_lines(rest):
 
 def late_with(shop, plan, reserve):
     """The first job that isn't out by its budget where each time is so many thousandths longer, none where all are."""
-    longer = Shop(shop.machines, [[(machine, nominal * (1000 + reserve)) for machine, nominal in route] for route in shop.routes])
+    longer = Shop(shop.machines, [[(machine, nominal * (1000 + reserve)) for machine, nominal in route] for route in shop.routes], shop.again)
     clean = None if plan.clean is None else [time * (1000 + reserve) for time in plan.clean]
     at = leavings(longer, Plan([1000 * moment for moment in plan.release], [], clean, plan.order))
     return next((job for job, moment in enumerate(at) if moment > 1000 * plan.budget[job]), None)

@@ -8,20 +8,23 @@ def node(text):
 
 
 def arc(shop, plan, source, target):
-    """The words of an arc and its length."""
-    (job, place), (other, there) = source, target
-    if job == other:
-        want("the arc from %d.%d" % source, target, (job, place + 1))
+    """The words of an arc and its length: those of the longer one where two join the same nodes, and of equal ones the job's own."""
+    job, place = source
+    arcs = []
+    if target == (job, place + 1):
         machine, nominal = shop.routes[job][place]
-        return "job %d on machine %d for %d" % (job, machine, nominal), nominal
-    if place == 0:
-        raise Wrong("no arc leads from %d.0 to another job" % job)
-    machine = shop.routes[job][place - 1][0]
-    want("the machine entered at %d.%d" % target, shop.routes[other][there][0], machine)
-    order = plan.order[machine]
-    want("the place behind job %d on machine %d" % (job, machine), order.index(other), order.index(job) + 1)
-    cleaned = plan.cleaned(machine)
-    return "machine %d from job %d to job %d" % (machine, job, other) + (" cleaned for %d" % cleaned if cleaned else ""), cleaned
+        arcs.append((nominal, "job %s on machine %d for %d" % (shop.named(job, place), machine, nominal)))
+    if place > 0:
+        machine = shop.routes[job][place - 1][0]
+        row = shop.row(machine, plan.order[machine])
+        if target in row[row.index((job, place - 1)) + 1:][:1]:
+            cleaned = plan.cleaned(machine)
+            words = "machine %d from job %s to job %s" % (machine, shop.named(job, place - 1), shop.named(*target))
+            arcs.append((cleaned, words + (" cleaned for %d" % cleaned if cleaned else "")))
+    if not arcs:
+        raise Wrong("no arc leads from %d.%d to %d.%d" % (source + target))
+    length, words = max(arcs, key=lambda arc: arc[0])
+    return words, length
 
 
 def cycle_lines(shop, plan, nodes):

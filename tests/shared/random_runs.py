@@ -3,24 +3,87 @@
 The logs are of eager and lazy controllers, with early, exact and late reports, cut anywhere; some lines are bad. The plan and the instance
 are those of the log or others.
 """
-import os
-from cell_model import Plan, Shop, serial
+import math, os
+from cell_model import RECIRCULATES, Plan, Shop, serial
 from rest_answers import Cell, Rest, cell_of
 
 MOST = 10**12
 
 
-def some_shop(rng, jobs, machines, longest):
-    visits = [rng.sample(range(machines), rng.randint(1, machines)) for _ in range(jobs)]
-    return Shop(machines, [[(machine, rng.randint(0, longest)) for machine in route] for route in visits])
+def some_shop(rng, jobs, machines, longest, least=1):
+    """A shop whose routes have at least so many steps. In half of the shops a job may visit a machine again; in some of these it goes by a robot,
+    which is machine 0."""
+    again = RECIRCULATES and rng.random() < 0.5
+    by_robot = again and machines > 1 and rng.random() < 0.4
+    routes = []
+    for _ in range(jobs):
+        route = rng.sample(range(machines), rng.randint(least, machines))
+        if by_robot:
+            route = [0] + sum([[rng.randrange(1, machines), 0] for _ in range(rng.randint(1, max(1, len(route) - 1)))], [])
+        elif again:
+            route = walk(rng, machines, None, len(route) + rng.choice([0, 0, 1, 2]))
+        routes.append([(machine, rng.randint(0, longest)) for machine in route])
+    return Shop(machines, routes, again)
+
+
+def walk(rng, machines, last, steps):
+    """So many machines, each another one than that before it, behind this last one; none more where there is no other one."""
+    route = []
+    while len(route) < steps:
+        others = [machine for machine in range(machines) if machine != last]
+        if not others:
+            break
+        last = rng.choice(others)
+        route.append(last)
+    return route
+
+
+def some_orders(rng, shop, ranked=0.7):
+    """Orders without a cycle: serial ones, by a ranking or not, and, where jobs visit machines again, mostly those of a run."""
+    if shop.again and rng.random() < 0.6:
+        return orders_of_a_run(rng, shop)
+    if rng.random() < ranked:
+        ranking = rng.sample(range(shop.jobs), shop.jobs)
+        return [sorted(row, key=ranking.index) for row in serial(shop)]
+    return serial(shop)
+
+
+def orders_of_a_run(rng, shop):
+    """The orders of a run in which parts go on as they like wherever the next machine is free; the serial ones where that locks ten times."""
+    for _ in range(10):
+        step, order, movers = [-1] * shop.jobs, [[] for _ in range(shop.machines)], list(range(shop.jobs))
+        while movers:
+            job = rng.choice(movers)
+            step[job] += 1
+            if step[job] < len(shop.routes[job]):
+                order[shop.routes[job][step[job]][0]].append(job)
+            there = [route[at][0] for route, at in zip(shop.routes, step) if 0 <= at < len(route)]
+            ahead = [(job, route[at + 1:at + 2]) for job, (route, at) in enumerate(zip(shop.routes, step)) if at < len(route)]
+            movers = [job for job, next in ahead if not next or next[0][0] not in there]
+        if all(at == len(route) for route, at in zip(shop.routes, step)):
+            return order
+    return serial(shop)
+
+
+def arrangements(row):
+    """All orders in which these jobs may stand, some of them more than once."""
+    if not row:
+        yield []
+    for job in sorted(set(row)):
+        left = list(row)
+        left.remove(job)
+        for behind in arrangements(left):
+            yield [job, *behind]
+
+
+def plans_of(rows):
+    """How many plans there are where these jobs are to stand in each row."""
+    return math.prod(math.factorial(len(row)) // math.prod(math.factorial(row.count(job)) for job in set(row)) for row in rows)
 
 
 def some_plan(rng, shop, longest, cleanest):
     """A plan for the shop, which locks at times."""
-    order = serial(shop)
-    if rng.random() < 0.7:
-        ranking = rng.sample(range(shop.jobs), shop.jobs)
-        order = [sorted(row, key=ranking.index) for row in order]
+    order = some_orders(rng, shop)
     if rng.random() < 0.2:
         rng.choice(order).reverse()
     clean = [rng.choice([0, rng.randint(0, cleanest)]) for _ in range(shop.machines)] if rng.random() < 0.8 else None
@@ -111,22 +174,30 @@ def other_routes(rng, shop, cell, longest):
         if rng.random() < 0.2 and not cell.gone(job):
             kept = routes[job][:max(0, cell.step[job]) + 1]
             left = [machine for machine in range(shop.machines) if machine not in [other for other, _ in kept]]
-            routes[job] = kept + [(machine, rng.randint(0, longest)) for machine in rng.sample(left, rng.randint(0, len(left)))]
+            more = rng.sample(left, rng.randint(0, len(left)))
+            if shop.again:
+                more = walk(rng, shop.machines, kept[-1][0], rng.randint(0, 3))
+            routes[job] = kept + [(machine, rng.randint(0, longest)) for machine in more]
     for _ in range(rng.choice([0, 0, 0, 1, 2])):
         machines = rng.sample(range(shop.machines), rng.randint(1, shop.machines))
+        if shop.again:
+            machines = walk(rng, shop.machines, None, rng.randint(1, shop.machines + 1))
         routes.append([(machine, rng.randint(0, longest)) for machine in machines])
-    return Shop(shop.machines, routes)
+    return Shop(shop.machines, routes, shop.again)
 
 
 def other_plan(rng, shop, plan, cell, longest):
     """A plan for this shop that mostly keeps the run up to the cell, of a plan for another one."""
     order = []
     for machine, visitors in enumerate(serial(shop)):
-        first = plan.order[machine][:cell.entered[machine]]
-        left = [job for job in plan.order[machine][cell.entered[machine]:] if job in visitors]
-        for job in visitors:
-            if job not in first + left:
-                left.insert(rng.randint(0, len(left)), job)
+        first, left, missing = plan.order[machine][:cell.entered[machine]], [], visitors[:]
+        for job in plan.order[machine]:
+            if job in missing:
+                missing.remove(job)
+                left.append(job)
+        left = left[len(first):]
+        for job in missing:
+            left.insert(rng.randint(0, len(left)), job)
         if rng.random() < 0.4:
             rng.shuffle(left)
         order.append(first + left if rng.random() < 0.97 else rng.sample(visitors, len(visitors)))

@@ -134,6 +134,7 @@ class Rest:
         self.cell, self.now, self.shop, self.plan = cell, now, cell.shop, cell.plan
         self.ahead = [(job, place) for job, route in enumerate(self.shop.routes) for place in range(cell.step[job] + 1, len(route) + 1)]
         self.jobs = [job for job in range(self.shop.jobs) if not cell.gone(job)]
+        self.rows = [self.shop.row(machine, order) for machine, order in enumerate(self.plan.order)]
         self.arcs = {}
         self.join_steps()
         self.join_entries()
@@ -147,28 +148,35 @@ class Rest:
         for job, place in self.ahead:
             if place < len(self.shop.routes[job]):
                 machine, nominal = self.shop.routes[job][place]
-                self.arcs[(job, place), (job, place + 1)] = nominal, "job %d on machine %d for %d" % (job, machine, nominal)
+                words = "job %s on machine %d for %d" % (self.shop.named(job, place), machine, nominal)
+                self.arcs[(job, place), (job, place + 1)] = nominal, words
 
-    def entry(self, job, machine):
-        """The move by which the job enters the machine."""
-        return job, [other for other, _ in self.shop.routes[job]].index(machine)
+    def entry(self, machine, count):
+        """The move by which a job enters the machine after so many, none after the last one."""
+        return (self.rows[machine] + [None])[count]
 
-    def follower(self, job, machine):
-        """The move by which the next job enters the machine after this one, none after the last one."""
-        order = self.plan.order[machine]
-        place = order.index(job) + 1
-        return self.entry(order[place], machine) if place < len(order) else None
+    def next_entry(self, machine):
+        """The move by which a job enters the machine next."""
+        return self.entry(machine, self.cell.entered[machine])
+
+    def follower(self, job, step):
+        """The move by which a job enters the machine of this step after this visit, none after the last one."""
+        machine = self.cell.spot(job, step)
+        return self.entry(machine, self.rows[machine].index((job, step)) + 1)
 
     def join_entries(self):
-        """The arcs from a job's move away from a machine to the entry of the next one. None leads to a move that is made."""
+        """The arcs from a job's move away from a machine to the entry of the next one. None leads to a move that is made. Where the same job
+        comes again and its own arc joins the two moves, the longer arc counts."""
         for job, place in self.ahead:
             machine = self.cell.spot(job, place - 1)
-            target = None if machine is None else self.follower(job, machine)
+            target = None if machine is None else self.follower(job, place - 1)
             if target is not None:
                 want("the move after %d.%d" % (job, place), target in self.ahead, True)
                 cleaned = self.plan.cleaned(machine)
-                words = "machine %d from job %d to job %d" % (machine, job, target[0]) + (" cleaned for %d" % cleaned if cleaned else "")
-                self.arcs[(job, place), target] = cleaned, words
+                words = "machine %d from job %s to job %s" % (machine, self.shop.named(job, place - 1), self.shop.named(*target))
+                arc = cleaned, words + (" cleaned for %d" % cleaned if cleaned else "")
+                own = self.arcs.get(((job, place), target))
+                self.arcs[(job, place), target] = arc if own is None or cleaned > own[0] else own
 
     def bound(self, node, due, words, rank):
         """The move isn't made before now, nor before the due moment, if there is one. Of equal bounds the one of the lower rank is printed."""
@@ -180,22 +188,23 @@ class Rest:
         due = self.cell.going()
         for job in self.jobs:
             step, machine = self.cell.step[job], self.cell.spot(job, self.cell.step[job])
+            named = self.shop.named(job, step)
             if step < 0 and not self.cell.done[job]:
                 self.bound((job, 0), due["arrive", job], "release of job %d" % job, 0)
             elif step < 0:
                 self.bound((job, 0), None, "job %d has arrived" % job, 2)
             elif not self.cell.done[job]:
-                words = "job %d on machine %d since %d for %d" % (job, machine, self.cell.since[job], self.shop.routes[job][step][1])
+                words = "job %s on machine %d since %d for %d" % (named, machine, self.cell.since[job], self.shop.routes[job][step][1])
                 self.bound((job, step + 1), due["finish", job, machine], words, 0)
             else:
-                self.bound((job, step + 1), None, "job %d done on machine %d" % (job, machine), 2)
+                self.bound((job, step + 1), None, "job %s done on machine %d" % (named, machine), 2)
 
     def bound_entries(self):
         for machine, since in enumerate(self.cell.cleaning):
-            job = self.cell.next_on(machine)
-            if since is not None and job is not None:
+            entry = self.next_entry(machine)
+            if since is not None and entry is not None:
                 words = "machine %d cleaned since %d for %d" % (machine, since, self.plan.clean[machine])
-                self.bound(self.entry(job, machine), since + self.plan.clean[machine], words, 1)
+                self.bound(entry, since + self.plan.clean[machine], words, 1)
 
     def sorted(self):
         """The moves, each after all that it waits for; none where some wait for one another."""
@@ -324,9 +333,8 @@ def scheduled(rest, printed):
         lines += scheduled_job(rest, job, by)
     for machine, since in enumerate(rest.cell.cleaning):
         if since is not None:
-            job = rest.cell.next_on(machine)
             ends = max(rest.now, since + rest.plan.clean[machine])
-            lines.append("machine %d cleaned since %d to %d%s" % (machine, since, ends, by(None if job is None else rest.entry(job, machine))))
+            lines.append("machine %d cleaned since %d to %d%s" % (machine, since, ends, by(rest.next_entry(machine))))
     return lines
 
 
@@ -349,10 +357,10 @@ def scheduled_job(rest, job, by):
             when = "since %d done" % since
         else:
             when = "since %d to %d%s" % (since, max(rest.now, since + nominal), by((job, place + 1)))
-        lines.append("job %d on machine %d %s leaves %d" % (job, machine, when, leaves))
+        lines.append("job %s on machine %d %s leaves %d" % (rest.shop.named(job, place), machine, when, leaves))
         clean = rest.plan.cleaned(machine)
         if clean:
-            lines.append("machine %d cleaned from %d to %d%s" % (machine, leaves, leaves + clean, by(rest.follower(job, machine))))
+            lines.append("machine %d cleaned from %d to %d%s" % (machine, leaves, leaves + clean, by(rest.follower(job, place))))
     return lines
 
 

@@ -2,7 +2,7 @@
 from cell_model import Plan, Shop
 
 NO_PROMISE = 10**12
-MOST_RELEASE, MOST_NOMINAL, MOST_JOBS, MOST_MACHINES = 10**9, 10**6, 200, 100
+MOST_RELEASE, MOST_NOMINAL, MOST_JOBS, MOST_MACHINES, MOST_STEPS = 10**9, 10**6, 200, 100, 100
 
 
 class Refused(Exception):
@@ -14,14 +14,14 @@ class Shift:
 
     def __init__(self, cell, now):
         shop, plan = cell.shop, cell.plan
-        self.cell, self.now = cell, now
+        self.cell, self.now, self.again = cell, now, shop.again
         self.routes, self.machines = [list(route) for route in shop.routes], shop.machines
         self.release, self.budget = plan.release[:], plan.budget[:]
         self.orders, self.clean = [row[:] for row in plan.order], None if plan.clean is None else plan.clean[:]
         self.spare = self.machine_aside()  # the machine of what is put aside, if there is one
 
     def shop(self):
-        return Shop(self.machines, self.routes)
+        return Shop(self.machines, self.routes, self.again)
 
     def plan(self):
         return Plan(self.release, self.budget, self.clean, self.orders)
@@ -46,8 +46,10 @@ class Shift:
         step = self.step(job)
         return not self.is_gone(job) and step >= 0 and self.routes[job][step][0] == machine
 
-    def visits_later(self, job, machine):
-        return not self.is_gone(job) and machine in [other for other, _ in self.routes[job][self.step(job) + 1:]]
+    def next_visit(self, job, machine):
+        """The next step of the job on the machine, none where it doesn't come there any more."""
+        ahead = range(len(self.routes[job]) if self.is_gone(job) else self.step(job) + 1, len(self.routes[job]))
+        return next((step for step in ahead if self.routes[job][step][0] == machine), None)
 
     def plant_machine(self, machine):
         if machine >= self.machines or machine == self.spare:
@@ -78,9 +80,12 @@ class Shift:
             raise Refused("TooManyJobs")
         if not route:
             raise Refused("EmptyRoute")
+        if self.again and len(route) > MOST_STEPS:
+            raise Refused("TooManySteps")
         for step, (machine, nominal) in enumerate(route):
             self.plant_machine(machine)
-            if machine in [other for other, _ in route[:step]]:
+            before = [other for other, _ in route[:step]]
+            if machine in (before[-1:] if self.again else before):
                 raise Refused("MachineTwice")
             if nominal > MOST_NOMINAL:
                 raise Refused("NominalTooLarge")
@@ -115,25 +120,26 @@ class Shift:
             if self.is_on(job, machine):
                 self.end_behind(job, self.step(job))
         for job in range(len(self.routes)):
-            if not self.visits_later(job, machine):
+            step = self.next_visit(job, machine)
+            if step is None:
                 continue
             if self.step(job) < 0:
                 self.put_aside(job)
             else:
-                self.end_behind(job, [other for other, _ in self.routes[job]].index(machine) - 1)
+                self.end_behind(job, step - 1)
 
     def end_behind(self, job, step):
+        """The visits behind go out of the orders: of the job's places in each the last ones."""
         for machine, _ in self.routes[job][step + 1:]:
-            self.orders[machine].remove(job)
+            places = [place for place, other in enumerate(self.orders[machine]) if other == job]
+            del self.orders[machine][places[-1]]
         self.routes[job] = self.routes[job][:step + 1]
         self.budget[job] = NO_PROMISE
 
     def put_aside(self, job):
         if self.spare is None:
             self.bring_spare()
-        for row in self.orders:
-            if job in row:
-                row.remove(job)
+        self.orders = [[other for other in row if other != job] for row in self.orders]
         self.orders[self.spare].append(job)
         self.routes[job] = [(self.spare, 0)]
         self.release[job], self.budget[job] = min(self.now, MOST_RELEASE), NO_PROMISE
