@@ -77,9 +77,9 @@ module _ (p : PlannedShop) (c : Cell) (m j : ℕ) (shaped : IsWellShaped p) (sou
   latest_is k latest = let (l, is) = cleaned_step in subst (IsCleanedAfterStep p c m j) (same_step k l latest is) is
 
   -- and the latest by its number
-  pub told_latest : (step : Option ℕ) → IsLatestStep p c j m step → step ≡ Some (latest_on p j m (made c j))
-  told_latest None none = let (k, is) = cleaned_step in absurd (none k (cleaned_entered k is) is.last_in.visits)
-  told_latest (Some k) latest = ap Some (sym (latest_on_is p j m (made c j) k latest.entered latest.visits latest.latest))
+  pub shown_latest : (step : Option ℕ) → IsLatestStep p c j m step → step ≡ Some (latest_on p j m (made c j))
+  shown_latest None none = let (k, is) = cleaned_step in absurd (none k (cleaned_entered k is) is.last_in.visits)
+  shown_latest (Some k) latest = ap Some (sym (latest_on_is p j m (made c j) k latest.entered latest.visits latest.latest))
 
 -- a step after which a machine is being cleaned is one of its job's
 pub step_after : (p : PlannedShop) (c : Cell) (m j k : ℕ) → IsCleanedAfterStep p c m j k → IsCleanedAfter p c m j

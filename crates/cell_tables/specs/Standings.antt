@@ -3,14 +3,14 @@ use Rattle.std.specs.Prelude.{ℕ, zero, suc, ◌+◌, ◌-◌, length, Option, 
 use Rattle.shop_base.specs.Plan.{PlannedShop, steps, machine_of, nominal, release, clean, job_at}
 use Rattle.shop_base.specs.Cell.{Cell, made, ready, since, entries, cleaning}
 use Rattle.shop_base.specs.Move.{target}
-use Rattle.shop_base.specs.Shop.{told_step}
+use Rattle.shop_base.specs.Shop.{shown_step}
 use Rattle.cell_tables.specs.declared.standing.Visit.{Visit}
 use Rattle.cell_tables.specs.declared.standing.Standing.{Standing}
 use Rattle.cell_tables.specs.declared.standing.Standing.TheVariants.{Awaited, Outside, Worked, Done, Gone, Cleaned, Clean}
 
 -- a visit of a job by its step, as lines tell it
-abbrev pub told_visit : PlannedShop → ℕ → ℕ → Visit
-told_visit p j k = record { job = j; step = told_step p.shop k }
+abbrev pub shown_visit : PlannedShop → ℕ → ℕ → Visit
+shown_visit p j k = record { job = j; step = shown_step p.shop k }
 
 -- the latest of the first n steps of job j that is on machine m
 abbrev pub latest_on : PlannedShop → ℕ → ℕ → ℕ → ℕ
@@ -25,7 +25,7 @@ module _ (p : PlannedShop) (c : Cell) where
   -- a job on the machine of its step k: its operation goes on, or is done and it waits for the next machine
   abbrev pub inside_standing : ℕ → ℕ → Bool → Standing
   inside_standing j k is_ready =
-      if is_ready then Done (told_visit p j k) (machine_of p j k) (target p c j) else Worked (told_visit p j k) (machine_of p j k) (since c j) (since c j + nominal p j k)
+      if is_ready then Done (shown_visit p j k) (machine_of p j k) (target p c j) else Worked (shown_visit p j k) (machine_of p j k) (since c j) (since c j + nominal p j k)
 
   -- a job that has made so many moves
   abbrev pub standing_after : ℕ → ℕ → Standing
@@ -38,7 +38,7 @@ module _ (p : PlannedShop) (c : Cell) where
 
   -- the latest visit of job j to machine m
   abbrev pub latest_visit : ℕ → ℕ → Visit
-  latest_visit j m = told_visit p j (latest_on p j m (made c j))
+  latest_visit j m = shown_visit p j (latest_on p j m (made c j))
 
   -- a machine that is being cleaned since a moment, after the visit for which it was entered last; or one that isn't
   abbrev pub cleaning_standing : ℕ → Option ℕ → Standing

@@ -3,7 +3,7 @@
 ghost use Rattle.std.specs.Prelude.{◌≡◌, ◌<◌};
 ghost use Rattle.shop_base.specs.Plan.{jobs, machines};
 ghost use Rattle.cell_tables.specs.Readings.{IsCleanedAfter};
-ghost use Rattle.cell_tables.specs.Standings.{outside_standing, job_standing, machine_standing, told_visit, latest_visit, is_overdue};
+ghost use Rattle.cell_tables.specs.Standings.{outside_standing, job_standing, machine_standing, shown_visit, latest_visit, is_overdue};
 
 use crate::work_cell::WorkCell;
 use shop_base::{JobNo, MachineNo, Moment, Planned, Spot};
@@ -160,11 +160,11 @@ impl<P: Planned> WorkCell<P> {
 
     /// The visit of a job by its step, as lines tell it.
     fn visit_of(&self, job: JobNo, step: u32) -> Visit
-        ensures { result ≡ told_visit self.now.plan job step }
+        ensures { result ≡ shown_visit self.now.plan job step }
     {
         Visit {
             job,
-            step: self.shaped().shop().told_step(step),
+            step: self.shaped().shop().shown_step(step),
         }
     }
 

@@ -6,7 +6,7 @@ use Rattle.shop_base.specs.{Cell.{Cell, ready, since}, Sound.IsSound}
 use Rattle.shop_base.specs.Activity.{Activity, Arrival, Operation, Cleaning, GoesOn, IsAwaited, IsWorked, IsCleaned}
 use Rattle.shop_base.proofs.{InShop.{outside_in_shop, cleaned_in_shop}, Visits.visits_job}
 use Rattle.cell_tables.specs.declared.standing.Standing.{Standing, TheVariants.{Awaited, Worked, Gone}}
-use Rattle.cell_tables.specs.Standings.{told_visit, job_standing, machine_standing, outside_standing, inside_standing, standing_after, cleaning_standing, is_overdue}
+use Rattle.cell_tables.specs.Standings.{shown_visit, job_standing, machine_standing, outside_standing, inside_standing, standing_after, cleaning_standing, is_overdue}
 use Rattle.event_lines.specs.declared.details.Overdue.{Overdue}
 use Rattle.cell_drive.specs.{Refusals.standing_of, States.{one_more, with_one, with_those, with_jobs, own_first}}
 use Rattle.cell_drive.specs.ProtocolLaw.{ALateReportFindsSomethingOverdue}
@@ -39,7 +39,7 @@ module _ (t : ℕ) where
     awaited : (j due : ℕ) → IsAwaited p c j due → job_standing p c j ≡ Awaited j (release p j)
     awaited j due is = ap (standing_after p c j) is.outside ∙ ap (outside_standing p c j) is.not_ready
 
-    worked : (j k m due : ℕ) → IsWorked p c j k m due → job_standing p c j ≡ Worked (told_visit p j k) (machine_of p j k) (since c j) (since c j + nominal p j k)
+    worked : (j k m due : ℕ) → IsWorked p c j k m due → job_standing p c j ≡ Worked (shown_visit p j k) (machine_of p j k) (since c j) (since c j + nominal p j k)
     worked j k m due is =
         ap (standing_after p c j) (is.on.entered ∙ add-one k)
         ∙ ap (λ (b : Bool). cond b (inside_standing p c j k (ready c j)) (Gone j (since c j))) (lt-ltb k (steps p j) is.on.visits.within)

@@ -10,7 +10,7 @@ use Rattle.text_lines.{specs.Lines.lines_of, proofs.NextLines.lines_of-le}
 use Rattle.byte_streams.specs.Lines.{within_limit}
 use Rattle.cell_tables.specs.{declared.claim.Claim.{Claim, TheVariants.{Report, FinishStep, CleanAfter, CleanAfterStep}}, Claims.claimed}
 use Rattle.cell_tables.specs.{declared.standing.Standing.TheVariants.Gone, Events.events_of}
-use Rattle.cell_tables.specs.Standings.{outside_standing, inside_standing, standing_after, job_standing, cleaning_standing, machine_standing, told_visit, latest_on}
+use Rattle.cell_tables.specs.Standings.{outside_standing, inside_standing, standing_after, job_standing, cleaning_standing, machine_standing, shown_visit, latest_on}
 use Rattle.cell_control.specs.{declared.report_fault.ReportFault.ReportFault, Reports.IsOfShop}
 use Rattle.cell_control.specs.declared.report_fault.ReportFault.TheVariants.{WrongKind, WrongMachine, JobOutOfRange, MachineOutOfRange, StepOutOfRange, MomentTooLarge, Backwards, NotExpected}
 use Rattle.event_lines.specs.declared.details.Detail.{Detail, TheVariants.Nothing}
@@ -54,7 +54,7 @@ module _ (p : PlannedShop) (c : Cell) (shaped : IsWellShaped p) (sound : IsSound
   few_steps : (j : ℕ) → j < jobs p → steps p j < 1000
   few_steps j below = omega (arith, (shaped.shop.routes j below).few_steps)
 
-  visit_short : (j k : ℕ) → j < jobs p → k < 1000 → IsShortVisit (told_visit p j k)
+  visit_short : (j k : ℕ) → j < jobs p → k < 1000 → IsShortVisit (shown_visit p j k)
   visit_short j k below few = (short_job j below, shown_short p.shop.recirculates k few)
 
   latest_short : (j m n : ℕ) → j < jobs p → latest_on p j m n < 1000

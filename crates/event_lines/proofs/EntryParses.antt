@@ -18,7 +18,7 @@ use Rattle.cell_tables.specs.declared.standing.Standing.TheVariants.{Awaited, Ou
 use Rattle.event_lines.specs.declared.details.Detail.{Detail}
 use Rattle.event_lines.specs.declared.details.Detail.TheVariants.{Nothing, Last, Stands}
 use Rattle.event_lines.specs.AnswerLines.{late_words, refused_words, done_words, unfinished_words, is_passed_over}
-use Rattle.event_lines.specs.StandingLines.{told_word, standing_words, detail_words, others_words, unfinished_standing_words, refused_detail_words, late_overdue_words}
+use Rattle.event_lines.specs.StandingLines.{shown_word, standing_words, detail_words, others_words, unfinished_standing_words, refused_detail_words, late_overdue_words}
 use Rattle.event_lines.specs.LogLines.{IsEntryOf, LineParses, LinesParse}
 use Rattle.event_lines.specs.ReadBack.{IsSpaceless, IsFitting, AreFitting, ParsesFirst, WrittenEntriesParse, OtherAnswersParseNone}
 use Rattle.event_lines.proofs.WrittenWords.{AreSpaceless, decimal_spaceless, step_spaceless, all_spaceless, line_first, read_back}
@@ -29,7 +29,7 @@ spot_spaceless : (spot : Spot) → IsSpaceless (written (spot_word spot))
 spot_spaceless Out = refl
 spot_spaceless (At m) = decimal_spaceless m
 
-visit_spaceless : (job : ℕ) (step : Option ℕ) → IsSpaceless (written (told_word job step))
+visit_spaceless : (job : ℕ) (step : Option ℕ) → IsSpaceless (written (shown_word job step))
 visit_spaceless job None = decimal_spaceless job
 visit_spaceless job (Some step) = step_spaceless job step
 

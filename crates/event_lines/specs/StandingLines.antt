@@ -26,13 +26,13 @@ abbrev pub target_words : Spot → List Word
 target_words to = Text (codes "for") ∷ Text (codes "machine") ∷ spot_word to ∷ []
 
 -- a job, and its step where the visit is told by it
-abbrev pub told_word : ℕ → Option ℕ → Word
-told_word job None = short job
-told_word job (Some step) = JobStep job step
+abbrev pub shown_word : ℕ → Option ℕ → Word
+shown_word job None = short job
+shown_word job (Some step) = JobStep job step
 
 -- `job J`, or `job J.K`
 abbrev pub visit_words : Visit → List Word → List Word
-visit_words visit words = Text (codes "job") ∷ told_word visit.job visit.step ∷ words
+visit_words visit words = Text (codes "job") ∷ shown_word visit.job visit.step ∷ words
 
 -- how it stands with a job or with a machine
 abbrev pub standing_words : Standing → List Word

@@ -3,7 +3,7 @@
 
 ghost use Rattle.std.specs.Prelude.{◌≡◌, ◌+◌, ◌≤◌, [], ◌∷◌, ◌++◌, length, codes, decimal};
 ghost use Rattle.event_lines.specs.Words.{words_before, written};
-ghost use Rattle.event_lines.specs.StandingLines.{since_words, target_words, told_word, standing_words, detail_end, others_end};
+ghost use Rattle.event_lines.specs.StandingLines.{since_words, target_words, shown_word, standing_words, detail_end, others_end};
 ghost use Rattle.event_lines.specs.StandingLines.{unfinished_standing_line, refused_detail_line, late_overdue_line};
 
 use crate::orders::put_spot;
@@ -57,7 +57,7 @@ fn put_target<const ROOM: usize>(line: &mut LineText<ROOM>, target: Spot)
 /// Writes the number of a job, and behind a dot its step if the visit is told by it, before what there is.
 fn put_visit<const ROOM: usize>(line: &mut LineText<ROOM>, visit: Visit)
     requires { 21 + length line.old ≤ ROOM }
-    ensures written { line.new ≡ written (told_word visit.job visit.step) ++ line.old }
+    ensures written { line.new ≡ written (shown_word visit.job visit.step) ++ line.old }
     ensures length { length line.new ≤ 21 + length line.old }
 {
     if let Some(step) = visit.step {

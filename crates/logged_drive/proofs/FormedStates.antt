@@ -9,7 +9,7 @@ use Rattle.shop_base.proofs.Visits.{visits_job, visits_machine}
 use Rattle.cell_tables.specs.{Claims.claimed, declared.entry.Entry.{Entry, TheVariants.Report as ReportEntry}}
 use Rattle.cell_tables.specs.declared.standing.Standing.{Standing, TheVariants.Gone}
 use Rattle.cell_tables.specs.Standings.{job_standing, machine_standing, is_overdue, outside_standing, inside_standing, standing_after, cleaning_standing, latest_on}
-use Rattle.event_lines.specs.StandingLines.{since_words, told_word, standing_words, others_words, unfinished_standing_line, refused_detail_line}
+use Rattle.event_lines.specs.StandingLines.{since_words, shown_word, standing_words, others_words, unfinished_standing_line, refused_detail_line}
 use Rattle.event_lines.specs.declared.requests.Request.{Request, TheVariants.{Claim as ClaimRequest, Status}}
 use Rattle.event_lines.specs.{EventLines.{report_line, order_lines}, AnswerLines.{done_line, unfinished_line}}
 use Rattle.event_lines.specs.{declared.details.Overdue.Overdue, Words.Word, LogLines.IsEntryOf}
@@ -73,7 +73,7 @@ module _ (p : PlannedShop) (shaped : IsWellShaped p) (c : Cell) (at : ℕ) (in_r
   since_fits from time in_time = (refl, (moment_fits from (omega (arith, in_time)), (refl, (moment_fits (from + time) in_time, tt))))
 
   -- a visit by its job alone, or by its step too
-  shown_fits : (again : Bool) (j k : ℕ) → j < jobs p → k < 1000 → IsNarrow (told_word j (if again then Some k else None))
+  shown_fits : (again : Bool) (j k : ℕ) → j < jobs p → k < 1000 → IsNarrow (shown_word j (if again then Some k else None))
   shown_fits true j k within few = ((omega (arith, within, shaped.shop.counts.few_jobs), omega (arith, few)), omega (arith, within, shaped.shop.counts.few_jobs), omega (arith, few))
   shown_fits false j k within few = job_fits p shaped j within
 

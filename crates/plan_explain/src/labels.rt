@@ -20,7 +20,7 @@ impl Label {
     {
         Label {
             job,
-            step: shop.told_step(step),
+            step: shop.shown_step(step),
         }
     }
 }

@@ -10,7 +10,6 @@ pub mod Cleanings
 pub mod Sizes
 pub mod Counting
 pub mod Visits
-pub mod OneVisit
 pub mod Reports
 pub mod Changes
 pub mod Keeping

@@ -22,8 +22,8 @@ abbrev pub route_at : List (List Step) → ℕ → List Step
 route_at routes job = slice_index_or routes job []
 
 -- the step by which lines tell a visit of a job from its others: in shops with recirculation alone
-abbrev pub told_step : JobShop → ℕ → Option ℕ
-told_step shop k = if shop.recirculates then Some k else None
+abbrev pub shown_step : JobShop → ℕ → Option ℕ
+shown_step shop k = if shop.recirculates then Some k else None
 
 -- how many steps all routes have
 abbrev pub operations_of : JobShop → ℕ

@@ -1,6 +1,6 @@
 ghost use Rattle.std.specs.Prelude.{◌≡◌, ◌↔◌, ◌^◌, ◌<◌, ◌≤◌, MatchBool, MatchOption, sum_by, IfOk, IfErr};
 ghost use Rattle.std.specs.Prelude.{IsOk, OnOk, length, slice_get, Some, Bool, true, false, List};
-ghost use Rattle.shop_base.specs.Shop.{IsShop, IsRoute, AreCounts, IsSoundStep, operations_of, route_at, step_at, told_step};
+ghost use Rattle.shop_base.specs.Shop.{IsShop, IsRoute, AreCounts, IsSoundStep, operations_of, route_at, step_at, shown_step};
 ghost use Rattle.shop_base.specs.Vectors.{lists_of};
 ghost use Rattle.shop_base.specs.Work.{work_of, route_work};
 ghost use Rattle.shop_base.specs.declared.shop_fault.ShopFault.{ShopFault};
@@ -104,8 +104,8 @@ impl Shop {
     }
 
     /// The step by which lines tell a visit of a job from its others: none where a job visits a machine once.
-    pub fn told_step(&self, step: u32) -> Option<u32>
-        ensures { result ≡ told_step self.now step }
+    pub fn shown_step(&self, step: u32) -> Option<u32>
+        ensures { result ≡ shown_step self.now step }
     {
         if self.recirculates { Some(step) } else { None }
     }
