@@ -1,7 +1,7 @@
 -- The step after which a machine is being cleaned: the latest of the job's steps on it that the job has entered.
 use Rattle.std.proofs.Common.{◌≡◌, ℕ, zero, suc, ◌-◌, ◌<◌, ◌≤◌, false, length, Option, None, Some, ◌⊎◌, inl, inr, sym, ◌∙◌, ap, subst, arith, length-append}
 use Rattle.std.proofs.lemmas.Bool.{cases_order, cases_Bool, false≢true}
-use Rattle.shop_base.specs.{Plan.{PlannedShop, jobs, machines, order, Visits, Stands, IsWellShaped}, Cell.{Cell, made, entries}, Sound.IsSound}
+use Rattle.shop_base.specs.{Plan.{PlannedShop, jobs, machines, steps, order, Visits, Stands, IsWellShaped}, Cell.{Cell, made, entries}, Sound.IsSound}
 use Rattle.shop_base.proofs.{Visits.{visits-stands, stands_step, stands_in_turn}, Places.stands_at, Sizes.place_job, InShop.cleaned_in_shop}
 use Rattle.shop_base.proofs.CellTests.{visits_test, visits_decides}
 use Rattle.cell_tables.specs.{Readings.{IsCleanedAfter, IsCleanedAfterStep, IsLatestOn, IsLatestStep}, Standings.latest_on}
@@ -9,6 +9,14 @@ use Rattle.cell_tables.specs.{Readings.{IsCleanedAfter, IsCleanedAfterStep, IsLa
 -- no more jobs have entered a machine than its order has
 pub entered_few : (p : PlannedShop) (c : Cell) (m : ℕ) → IsSound p c → length (entries c m) ≤ length (order p m)
 entered_few p c m sound = let (rest, is) = sound.in_order m in omega (arith, ap length is, length-append (entries c m) rest)
+
+-- no such step is past the job's route
+pub latest_on_few : (p : PlannedShop) (j m n : ℕ) → latest_on p j m n ≤ steps p j
+latest_on_few p j m zero = omega arith
+latest_on_few p j m (suc k) = elim (cases_Bool (visits_test p j k m)) [
+  | inl is ↦ (let visits = (visits_decides p j k m).0 is in rw is (omega (arith, visits.within)))
+  | inr is ↦ rw is (latest_on_few p j m k)
+]
 
 -- the latest of a job's steps on a machine, of which there is one
 pub latest_on_is : (p : PlannedShop) (j m n k : ℕ) → k < n → Visits p j k m → ((l : ℕ) → l < n → Visits p j l m → l ≤ k) → latest_on p j m n ≡ k

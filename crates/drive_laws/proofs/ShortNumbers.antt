@@ -1,6 +1,6 @@
 -- In every run the numbers that are printed of a cell are short.
-use Rattle.std.proofs.Common.{◌≡◌, ℕ, zero, suc, ◌+◌, ◌-◌, ◌<◌, ◌≤◌, nat_lt, nat_eq, ◌&&◌, if◌then◌else◌, length, Bool, true, false, cond, Option, Some, None, inl, inr, ltb-true, refl, sym, ap, subst, arith}
-use Rattle.std.proofs.lemmas.{Bool.{cases_lt, cases_Bool, and_parts}, List.{length-append, length-map}}
+use Rattle.std.proofs.Common.{◌≡◌, ℕ, zero, suc, ◌+◌, ◌-◌, ◌<◌, ◌≤◌, nat_lt, if◌then◌else◌, length, Bool, true, false, cond, Option, Some, None, inl, inr, ltb-true, refl, sym, ap, subst, arith}
+use Rattle.std.proofs.lemmas.{Bool.cases_lt, List.{length-append, length-map}}
 use Rattle.shop_base.specs.declared.{limits.TheConstants.MAX_MOMENT, report.Report.TheVariants.{Arrive, Finish, Clean}}
 use Rattle.shop_base.specs.Plan.{PlannedShop, IsWellShaped, jobs, machines, steps, machine_of, order, job_at}
 use Rattle.shop_base.specs.{Cell.{Cell, made, ready, since, entries, cleaning}, Move.target, Sound.IsSound}
@@ -8,6 +8,7 @@ use Rattle.shop_base.specs.Report.{ended, at}
 use Rattle.shop_base.proofs.{Keeping.run-sound, Visits.{stop_at, stop_past, visits_job}}
 use Rattle.text_lines.{specs.Lines.lines_of, proofs.NextLines.lines_of-le}
 use Rattle.byte_streams.specs.Lines.{within_limit}
+use Rattle.cell_tables.proofs.CleanedSteps.latest_on_few
 use Rattle.cell_tables.specs.{declared.claim.Claim.{Claim, TheVariants.{Report, FinishStep, CleanAfter, CleanAfterStep}}, Claims.claimed}
 use Rattle.cell_tables.specs.{declared.standing.Standing.TheVariants.Gone, Events.events_of}
 use Rattle.cell_tables.specs.Standings.{outside_standing, inside_standing, standing_after, job_standing, cleaning_standing, machine_standing, shown_visit, latest_on}
@@ -57,13 +58,6 @@ module _ (p : PlannedShop) (c : Cell) (shaped : IsWellShaped p) (sound : IsSound
   visit_short : (j k : ℕ) → j < jobs p → k < 1000 → IsShortVisit (shown_visit p j k)
   visit_short j k below few = (short_job j below, shown_short p.shop.recirculates k few)
 
-  latest_short : (j m n : ℕ) → j < jobs p → latest_on p j m n < 1000
-  latest_short j m zero below = omega arith
-  latest_short j m (suc k) below = elim (cases_Bool (nat_lt k (steps p j) && nat_eq (machine_of p j k) m)) [
-    | inl is ↦ rw is (omega (arith, ltb-true k (steps p j) (and_parts (nat_lt k (steps p j)) (nat_eq (machine_of p j k) m) is).0, few_steps j below))
-    | inr is ↦ rw is (latest_short j m k below)
-  ]
-
   outside_short : (j : ℕ) (is_ready : Bool) → j < jobs p → IsShortStanding (outside_standing p c j is_ready)
   outside_short j true below = (short_job j below, target_short j below)
   outside_short j false below = (short_job j below, omega (arith, shaped.limits.releases j below))
@@ -98,7 +92,7 @@ module _ (p : PlannedShop) (c : Cell) (shaped : IsWellShaped p) (sound : IsSound
       let early = begun m from is in
       let j = job_at p m (length (entries c m) - 1) in
       let of_shop = last_job m below (sound.cleaned_entered m from is) in
-      (short_machine m below, visit_short j (latest_on p j m (made c j)) of_shop (latest_short j m (made c j) of_shop), omega (arith, early, sound.last_in_range), omega (arith, early, sound.last_in_range, shaped.limits.cleanings m below))
+      (short_machine m below, visit_short j (latest_on p j m (made c j)) of_shop (omega (arith, latest_on_few p j m (made c j), few_steps j of_shop)), omega (arith, early, sound.last_in_range), omega (arith, early, sound.last_in_range, shaped.limits.cleanings m below))
 
   machines_short : (m : ℕ) → m < machines p → IsShortStanding (machine_standing p c m)
   machines_short m below = cleaning_short m (cleaning c m) below refl

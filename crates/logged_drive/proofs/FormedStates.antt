@@ -1,11 +1,12 @@
 -- What a cell that is driven by a protocol answers, as a log gets it.
-use Rattle.std.proofs.Common.{◌≡◌, ℕ, zero, suc, ◌+◌, ◌-◌, ◌^◌, ◌<◌, ◌≤◌, ◌==◌, nat_lt, nat_eq, ◌&&◌, if◌then◌else◌, List, [], ◌∷◌, ◌++◌, length, codes, Option, None, Some, Bool, true, false, cond, inl, inr, refl, sym, ap, ◌∙◌, subst, arith}
-use Rattle.std.proofs.lemmas.{Bool.{cases_lt, cases_Bool, and_parts, le-ltb, lt-ltb, ltb-true}, List.get_or_past}
+use Rattle.std.proofs.Common.{◌≡◌, ℕ, zero, suc, ◌+◌, ◌-◌, ◌^◌, ◌<◌, ◌≤◌, ◌==◌, nat_lt, if◌then◌else◌, List, [], ◌∷◌, ◌++◌, length, codes, Option, None, Some, Bool, true, false, cond, inl, inr, refl, sym, ap, ◌∙◌, subst, arith}
+use Rattle.std.proofs.lemmas.{Bool.{cases_lt, le-ltb, lt-ltb, ltb-true}, List.get_or_past}
 use Rattle.shop_base.specs.declared.report.Report.{Report, TheVariants.{Arrive, Finish, Clean as CleanReport}}
 use Rattle.shop_base.specs.{declared.limits.TheConstants.MAX_MOMENT, Sound.IsSound, Controlled.step_orders, Report.at}
 use Rattle.shop_base.specs.Plan.{nominal, clean, PlannedShop, IsWellShaped, jobs, machines, steps, machine_of, order, job_at, release}
 use Rattle.shop_base.specs.{ReportsLeft.reports_left, Cell.{Cell, made, ready, since, entries, cleaning}}
 use Rattle.shop_base.proofs.Visits.{visits_job, visits_machine}
+use Rattle.cell_tables.proofs.CleanedSteps.latest_on_few
 use Rattle.cell_tables.specs.{Claims.claimed, declared.entry.Entry.{Entry, TheVariants.Report as ReportEntry}}
 use Rattle.cell_tables.specs.declared.standing.Standing.{Standing, TheVariants.Gone}
 use Rattle.cell_tables.specs.Standings.{job_standing, machine_standing, is_overdue, outside_standing, inside_standing, standing_after, cleaning_standing, latest_on}
@@ -80,13 +81,6 @@ module _ (p : PlannedShop) (shaped : IsWellShaped p) (c : Cell) (at : ℕ) (in_r
   few_steps : (j : ℕ) → j < jobs p → steps p j < 1000
   few_steps j within = omega (arith, (shaped.shop.routes j within).few_steps)
 
-  latest_few : (j m n : ℕ) → j < jobs p → latest_on p j m n < 1000
-  latest_few j m zero within = omega arith
-  latest_few j m (suc k) within = elim (cases_Bool (nat_lt k (steps p j) && nat_eq (machine_of p j k) m)) [
-    | inl is ↦ rw is (omega (arith, ltb-true k (steps p j) (and_parts (nat_lt k (steps p j)) (nat_eq (machine_of p j k) m) is).0, few_steps j within))
-    | inr is ↦ rw is (latest_few j m k within)
-  ]
-
   inside_fits : (j k : ℕ) (is_ready : Bool) → j < jobs p → k < steps p j → FitsAt at (inside_standing p c j k is_ready)
   inside_fits j k true within on is = absurd (cc is)
   inside_fits j k false within on is =
@@ -119,7 +113,7 @@ module _ (p : PlannedShop) (shaped : IsWellShaped p) (c : Cell) (at : ℕ) (in_r
   cleaning_fits m (Some from) within is =
       let j = job_at p m (length (entries c m) - 1) in
       let job = job_in_order m (length (entries c m) - 1) within in
-      let visit = shown_fits p.shop.recirculates j (latest_on p j m (made c j)) job (latest_few j m (made c j) job) in
+      let visit = shown_fits p.shop.recirculates j (latest_on p j m (made c j)) job (omega (arith, latest_on_few p j m (made c j), few_steps j job)) in
       (refl, (machine_fits p shaped m within, (refl, (refl, (refl, (visit, since_fits from (clean p m) (before_at (from + clean p m) is)))))))
 
   -- of a report's own job or machine
