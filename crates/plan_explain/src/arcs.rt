@@ -91,6 +91,7 @@ impl<'a> Arcs<'a> {
     }
 
     /// The arc from the one node to the other: of two the longer one, of two of one length the job's own.
+    #[inline(always)]
     pub(crate) fn kind(&self, from: Node, to: Node) -> ArcKind
         requires { HasArc self.now from to }
         ensures { result ≡ arc_kind self.now from to }
@@ -123,6 +124,7 @@ impl<'a> Arcs<'a> {
 }
 
 /// Whether the second node is the next place of the first one's job.
+#[inline(always)]
 fn is_next(from: Node, to: Node) -> bool
     ensures { IsTrue result ↔ IsNext from to }
 {
@@ -140,6 +142,7 @@ fn length_from(graph: &Graph<'_>, from: Node, to: Node) -> Option<Moment>
     }
 }
 
+#[inline(always)]
 fn job_arc(shaped: &Shaped, from: Node) -> ArcKind
     requires { from.place < steps shaped.now from.job }
     ensures { result ≡ job_arc_kind shaped.now from }
@@ -154,6 +157,7 @@ fn job_arc(shaped: &Shaped, from: Node) -> ArcKind
     }
 }
 
+#[inline(always)]
 fn blocking_arc(shaped: &Shaped, from: Node, to: Node) -> ArcKind
     requires from { 0 < from.place }
     requires to { to.place < steps shaped.now to.job }

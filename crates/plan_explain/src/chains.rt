@@ -153,10 +153,11 @@ fn push_reached_lines(
 {
     let mut at = start;
     let mut last = from;
+    let mut line = Line::ended();
     for node in along {
         let arc = arcs.kind(last, *node);
         at += arc.time();
-        let mut line = Line::ended();
+        line.end_anew();
         put_arc(&mut line, names, arc);
         push_node_at(text, names, &mut line, *node, at)?;
         last = *node;

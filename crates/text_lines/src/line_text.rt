@@ -35,6 +35,16 @@ impl<const ROOM: usize> LineText<ROOM> {
         }
     }
 
+    /// Makes it the line feed alone again: a line after another takes its room.
+    #[inline(always)]
+    pub fn end_anew(&mut self)
+        requires { 0 < ROOM }
+        ensures { self.new ≡ 10 ∷ [] }
+    {
+        self.bytes[ROOM - 1] = b'\n';
+        self.start = ROOM - 1;
+    }
+
     /// No bytes, for what comes before a line.
     pub fn empty() -> LineText<ROOM>
         ensures { result ≡ [] }

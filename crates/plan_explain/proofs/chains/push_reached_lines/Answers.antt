@@ -17,7 +17,7 @@ loop-node-preserved c =
     let along = c.args.along.now in
     let i = c.loop-node.node-index in
     record {
-      printed = reached_printed p c.loop-node.last along i _ (omega arith) c.loop-node.at _ _ c.kind-arc.ensures c.time-at.ensures c.args.names.now _ _ _ c.loop-node.invariant.printed (rw (c.put_arc.ensures.written, c.ended-line.ensures) at c.in_ok-push_node_at.ensures);
+      printed = reached_printed p c.loop-node.last along i _ (omega arith) c.loop-node.at _ _ c.kind-arc.ensures c.time-at.ensures c.args.names.now _ _ _ c.loop-node.invariant.printed (rw (c.put_arc.ensures.written, c.end_anew.ensures) at c.in_ok-push_node_at.ensures);
       arcs = (along_next p c.loop-node.last along i _ (omega arith) c.loop-node.invariant.arcs).1;
       size = length_next p c.loop-node.last along i _ (omega arith) c.loop-node.at _ _ c.kind-arc.ensures c.time-at.ensures _ c.loop-node.invariant.size;
     }
