@@ -16,7 +16,7 @@ use crate::asked_job::{absent_job, no_job_answer};
 use crate::command_fault::CommandFault;
 use crate::decision_lines::{push_never_lines, push_within_line};
 use crate::improves::with_orders;
-use crate::inputs::{ParsedInputs, RunFiles, read_inputs, serially};
+use crate::inputs::{ParsedInputs, RunFiles, read_inputs, serially_beside};
 use crate::lines::{document_answer, headed_answer, line_answer};
 use crate::naming::names_of;
 use crate::rest_decides::{logged_decided, unfit_answer};
@@ -30,9 +30,10 @@ use std::alloc::{AllocError, Global};
 
 /// Whether any plan with the releases, budgets and cleaning times of the one in a file keeps all budgets, for the
 /// instance of another file, by complete searches of at most so many choices each; of a run that has begun, the budgets
-/// of the jobs that aren't gone, for the rest of it. The orders of the given plan say only of what run that is a log,
-/// and a plan without any orders gets the serial ones; before a run has begun they aren't used. Where no plan keeps
-/// them, there is a line of jobs that exclude each other, or more than one, with their names where the file of names,
+/// of the jobs that aren't gone, for the rest of it. The orders of the given plan say of what run that is a log, and may
+/// show that some plan has no cycle; a plan without any orders gets the serial ones. The least makespan is halved from the
+/// plan itself, if it is accepted and better than what a search has found, or if the question is too large for one. Where
+/// no plan keeps the budgets, there is a line of jobs that exclude each other, or more than one, with their names where the file of names,
 /// which is read once the numbers are sound and the job that is asked for is found, has some. The words after `bad
 /// numbers ` are in no clause, but for those of a job that isn't of the shop. What comes after the log's last line feed
 /// isn't looked at, and a log or a moment is answered as by `improve`. The text of a plan is read again: if it isn't that
@@ -70,21 +71,33 @@ fn parsed_decided<T: Texts, C: Choose, W: Watch>(
 {
     match run.log {
         Some(_) => match with_orders(alloc, parsed)?.shaped() {
-            Ok(shaped) => fit_decided(alloc, texts, shaped, run, aim, choices, chooser, watch),
+            Ok(shaped) => {
+                let none = Vec::new(alloc);
+                fit_decided(
+                    alloc, texts, shaped, &none, run, aim, choices, chooser, watch,
+                )
+            }
             Err(fault) => Ok(unfit_answer(alloc, fault)?),
         },
-        None => match serially(alloc, parsed)?.shaped() {
-            Ok(shaped) => fit_decided(alloc, texts, shaped, run, aim, choices, chooser, watch),
-            Err(fault) => Ok(bad_numbers_answer(alloc, fault)?),
-        },
+        None => {
+            let (serial, given) = serially_beside(alloc, parsed)?;
+            match serial.shaped() {
+                Ok(shaped) => fit_decided(
+                    alloc, texts, shaped, &given, run, aim, choices, chooser, watch,
+                ),
+                Err(fault) => Ok(bad_numbers_answer(alloc, fault)?),
+            }
+        }
     }
 }
 
 /// What is decided by this plan, if the job that is asked for is one of its shop, with the names and the clock of a file.
+/// Of a run that has begun the plan's own orders are the given ones.
 fn fit_decided<T: Texts, C: Choose, W: Watch>(
     alloc: Global,
     texts: &mut T,
     shaped: Shaped,
+    given: &[Vec<JobNo>],
     run: &RunFiles<'_>,
     aim: Aim,
     choices: u64,
@@ -107,7 +120,9 @@ fn fit_decided<T: Texts, C: Choose, W: Watch>(
         }
         None => {
             let names = run.files.names;
-            whole_decided(alloc, texts, shaped, names, aim, choices, chooser, watch)
+            whole_decided(
+                alloc, texts, shaped, given, names, aim, choices, chooser, watch,
+            )
         }
     }
 }
@@ -117,6 +132,7 @@ fn whole_decided<T: Texts, C: Choose, W: Watch>(
     alloc: Global,
     texts: &mut T,
     shaped: Shaped,
+    given: &[Vec<JobNo>],
     names: Option<&str>,
     aim: Aim,
     choices: u64,
@@ -129,7 +145,8 @@ fn whole_decided<T: Texts, C: Choose, W: Watch>(
 {
     match names_of(alloc, texts, names, &shaped) {
         Ok(names) => {
-            let answer = shaped_decided(alloc, &names, shaped, aim, choices, chooser, watch);
+            let answer =
+                shaped_decided(alloc, &names, shaped, given, aim, choices, chooser, watch);
             drop(names);
             answer
         }
@@ -145,6 +162,7 @@ fn shaped_decided<C: Choose, W: Watch>(
     alloc: Global,
     names: &Names,
     shaped: Shaped,
+    given: &[Vec<JobNo>],
     aim: Aim,
     choices: u64,
     chooser: &mut C,
@@ -153,7 +171,7 @@ fn shaped_decided<C: Choose, W: Watch>(
     requires { IsInRange (whole_case shaped) aim }
     ensures { IsDecisionAnswer names.now (whole_case shaped) aim result }
 {
-    let decided = decide(alloc, &shaped, aim, choices, chooser, watch);
+    let decided = decide(alloc, &shaped, given, aim, choices, chooser, watch);
     drop(shaped);
     match decided {
         Ok(decided) => {

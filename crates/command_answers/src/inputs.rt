@@ -11,7 +11,7 @@ use crate::answer::Outcome;
 use crate::readings::{instance, plan};
 use crate::texts::Texts;
 use plan_seek::serial_orders;
-use shop_base::{Moment, Plan, ShapeFault, Shaped, Shop, shape};
+use shop_base::{JobNo, Moment, Plan, ShapeFault, Shaped, Shop, shape};
 use std::alloc::Global;
 use std::marker::Model;
 
@@ -116,8 +116,31 @@ pub fn shape_files<T: Texts>(
 pub(crate) fn serially(alloc: Global, parsed: ParsedInputs) -> Outcome<ParsedInputs>
     ensures { IsOrMemory (λ serial. serial ≡ serially parsed) result }
 {
+    let (serial, order) = serially_beside(alloc, parsed)?;
+    drop(order);
+    Ok(serial)
+}
+
+/// The serial plan with the numbers of this one, and the orders that this one has.
+pub(crate) fn serially_beside(
+    alloc: Global,
+    parsed: ParsedInputs,
+) -> Outcome<(ParsedInputs, Vec<Vec<JobNo>>)>
+    ensures { IsOrMemory (λ both. both.0 ≡ serially parsed) result }
+{
     let ParsedInputs { shop, plan } = parsed;
-    let order = serial_orders(alloc, &shop)?;
-    let plan = Plan { order, ..plan };
-    Ok(ParsedInputs { shop, plan })
+    let serial = serial_orders(alloc, &shop)?;
+    let Plan {
+        release,
+        budget,
+        order,
+        clean,
+    } = plan;
+    let plan = Plan {
+        release,
+        budget,
+        order: serial,
+        clean,
+    };
+    Ok((ParsedInputs { shop, plan }, order))
 }

@@ -33,7 +33,7 @@ pub(crate) struct Asker<'a, C, W> {
     choices: u64,
     /// The most choices of the present search.
     limit: u64,
-    /// How many choices it has made.
+    /// How many choices it has made so far.
     made: u64,
     /// What is known of the objective.
     found: Option<Within>,
@@ -55,6 +55,11 @@ impl<C: Choose, W: Watch> Asker<'_, C, W> {
     /// From now on this is known of the objective.
     pub(crate) fn report(&mut self, found: Within) {
         self.found = Some(found);
+    }
+
+    /// How many choices the last search made: none, where its question is too large.
+    pub(crate) fn last_choices(&self) -> u64 {
+        self.made
     }
 
     /// Whether any plan keeps what is asked for.
@@ -108,6 +113,7 @@ impl<C: Choose, W: Watch> Asker<'_, C, W> {
         ensures { IfOk result (OnNever (NoPlanKeeps (case_in setting.now) limits.now)) }
     {
         self.limit = choices;
+        self.made = 0;
         let present = setting.present();
         ask(alloc, setting.cell(), present, limits, self, choices)
     }
@@ -115,7 +121,6 @@ impl<C: Choose, W: Watch> Asker<'_, C, W> {
 
 impl<C: Choose, W: Watch> Choose for Asker<'_, C, W> {
     fn begin(&mut self, alloc: Global, question: &Question) -> Result<(), AllocError> {
-        self.made = 0;
         self.chooser.begin(alloc, question)
     }
 

@@ -12,6 +12,7 @@ mod cycles;
 mod decide_fault;
 mod decided;
 mod deciding;
+mod first_plan;
 mod halving;
 mod judging;
 mod keeping;

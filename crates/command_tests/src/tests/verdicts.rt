@@ -32,6 +32,7 @@ pub(super) fn decided(alloc: Global, shaped: &Shaped, aim: Aim) -> Result<Decide
     decide(
         alloc,
         shaped,
+        &shaped.plan().order,
         aim,
         10,
         &mut LeastSlack::new(alloc),

@@ -2,7 +2,7 @@ use Rattle.std.proofs.Common.{sym, subst}
 use Rattle.plan_decide.specs.Pasts.{case_of}
 use Rattle.plan_decide.specs.Found.{IsReady, IsFound}
 use Rattle.plan_decide.proofs.Deciders.{asked_ready}
-use Rattle.plan_decide.proofs.deciding.decide_rest.Goals as goal
+use Rattle.plan_decide.proofs.deciding.decide_from.Goals as goal
 
 pub find-found-requires : goal.find-found-requires
 find-found-requires g c =
