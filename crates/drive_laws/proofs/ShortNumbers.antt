@@ -8,7 +8,7 @@ use Rattle.shop_base.specs.Report.{ended, at}
 use Rattle.shop_base.proofs.{Keeping.run-sound, Visits.{stop_at, stop_past, visits_job}}
 use Rattle.text_lines.{specs.Lines.lines_of, proofs.NextLines.lines_of-le}
 use Rattle.byte_streams.specs.Lines.{within_limit}
-use Rattle.cell_tables.proofs.CleanedSteps.latest_on_few
+use Rattle.cell_tables.proofs.CleanedSteps.{latest_on_few}
 use Rattle.cell_tables.specs.{declared.claim.Claim.{Claim, TheVariants.{Report, FinishStep, CleanAfter, CleanAfterStep}}, Claims.claimed}
 use Rattle.cell_tables.specs.{declared.standing.Standing.TheVariants.Gone, Events.events_of}
 use Rattle.cell_tables.specs.Standings.{outside_standing, inside_standing, standing_after, job_standing, cleaning_standing, machine_standing, shown_visit, latest_on}

@@ -6,7 +6,7 @@ use Rattle.shop_base.specs.{declared.limits.TheConstants.MAX_MOMENT, Sound.IsSou
 use Rattle.shop_base.specs.Plan.{nominal, clean, PlannedShop, IsWellShaped, jobs, machines, steps, machine_of, order, job_at, release}
 use Rattle.shop_base.specs.{ReportsLeft.reports_left, Cell.{Cell, made, ready, since, entries, cleaning}}
 use Rattle.shop_base.proofs.Visits.{visits_job, visits_machine}
-use Rattle.cell_tables.proofs.CleanedSteps.latest_on_few
+use Rattle.cell_tables.proofs.CleanedSteps.{latest_on_few}
 use Rattle.cell_tables.specs.{Claims.claimed, declared.entry.Entry.{Entry, TheVariants.Report as ReportEntry}}
 use Rattle.cell_tables.specs.declared.standing.Standing.{Standing, TheVariants.Gone}
 use Rattle.cell_tables.specs.Standings.{job_standing, machine_standing, is_overdue, outside_standing, inside_standing, standing_after, cleaning_standing, latest_on}
