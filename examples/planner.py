@@ -10,11 +10,11 @@ The search knows nothing of machines or times. It asks, and goes by the lines th
 
     5 1.0 machine 1 from job 0 to job 1
 
-says that job 1 waits there for job 0; where jobs visit machines again, job 0.2 is that of its step 2. Of a plan that is late, or longer than it need be, one such line of the chain is chosen,
-and the two jobs are exchanged in that machine's order. Where the new plan has a cycle, it can't be run: then two jobs that wait for
-each other on the cycle are exchanged too, but none of those that have been exchanged already, until there is no cycle or nothing is left
-to exchange. The new plan is kept if it isn't worse, and at times if it is. `cellplan` judges each plan, so this search may be as
-careless as it likes: what it prints as accepted can be run.
+says that job 1 waits there for job 0; where jobs visit machines again, `job 0.2` is job 0 at its step 2. Of a plan that is late, or longer
+than it need be, one such line of the chain is chosen, and the two jobs are exchanged in that machine's order, but never two visits of one
+job. Where the new plan has a cycle, it can't be run: then two jobs that wait for each other on the cycle are exchanged too, but none of
+those that have been exchanged already, until there is no cycle or nothing is left to exchange. The new plan is kept if it isn't worse, and
+at times if it is. `cellplan` judges each plan, so this search may be as careless as it likes: what it prints as accepted can be run.
 """
 import argparse, json, os, random, re, shutil, subprocess, sys, tempfile
 
