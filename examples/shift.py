@@ -25,7 +25,8 @@ parts: the machine NAME, to which a job comes before each operation and behind t
 and then the mover comes back without a part, for which BACK is its cleaning time. The plan then has orders: those of a run in which the mover takes
 the next part that it may, of several the one that is due first. In both cases the instance has the word `recrc`.
 
-The table of --back has a column `step` where the lines have one.
+The table of --back has a column `step` where the lines have one. Of a rest of a run in which no job arrives any more this is a guess, and wrong
+where none visits a machine again, but each has a name like `A.1` and one visit left.
 
 In names blanks become hyphens, and what cellplan takes for no name (a number, `out`, `or`, `fewer`) gets a hyphen in front.
 """
@@ -289,9 +290,14 @@ def row_of(line):
 
 
 def have_steps(rows):
-    """Whether each visit is said with its step, behind a dot: then no two lines have the same word for a job."""
-    visits = [row[0] for row in rows if row[0] and row[1]]
+    """Whether a visit is said with its step, behind a dot: where a job arrives, its first visit shows that. Else it is a guess: no two lines have
+    the same word for a job."""
+    rows = [row for row in rows if row[0]]
+    for outside, row in zip(rows, rows[1:]):
+        if not outside[1] and not outside[5] and row[1]:
+            return row[0] == outside[0] + ".0"
     counts = collections.Counter(row[0] for row in rows)
+    visits = [row[0] for row in rows if row[1]]
     return visits != [] and all(re.fullmatch(r".+\.\d+", word) and counts[word] == 1 for word in visits)
 
 
