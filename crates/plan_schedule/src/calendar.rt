@@ -212,7 +212,8 @@ impl<'a, P: Planned> Calendar<'a, P> {
         })
     }
 
-    /// The deadline of the cleaning after a node by which its job leaves a machine, if another job waits for it.
+    /// The deadline of the cleaning after a node by which its job leaves a machine, if a job, or this one again, is to
+    /// enter it.
     fn cleaning_due(&self, left: Node) -> Option<Moment>
         ensures { let k = self.now in IsCleaningDue k.plan (due_at k) left result }
     {
