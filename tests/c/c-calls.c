@@ -25,6 +25,8 @@ static const char first_0[] = "release = [0, 0]\nbudget = [20, 20]\norder = [[0,
 static const char first_1[] = "release = [0, 0]\nbudget = [20, 20]\norder = [[1, 0]]\n";
 static const char in_a_hurry[] = "release = [0, 0]\nbudget = [8, 20]\norder = [[1, 0]]\n";
 static const char collection[] = "instance one\none\n1 1\n0 7\n\ninstance two\ntwo\n2 2\n0 3 1 2\n1 4 0 1\n";
+static const char rinse[] = "a rinse tank\n2 2 recrc\n0 3 1 2 0 3\n0 3\n";
+static const char rinsed[] = "version = 2\nrelease = [0, 0]\nbudget = [40, 40]\norder = [[0, 0, 1], [0]]\nclean = [6, 0]\n";
 static const uint8_t nothing[1];
 static int missed;
 
@@ -216,30 +218,35 @@ static void reported(struct cellplan_cell *cell, uint32_t kind, uint32_t job, ui
 }
 
 static void reported_step(struct cellplan_cell *cell, uint32_t kind, uint32_t job, uint32_t step, uint32_t machine, uint64_t at,
-                          uint32_t status, uint64_t detail) {
+                          uint32_t status, uint64_t detail, size_t count, bool late) {
   struct cellplan_order orders[4];
   size_t got = 9;
-  bool was_late = true;
+  bool was_late = !late;
   uint64_t named = 9;
   same("a report of a step", cellplan_cell_report_step(cell, kind, job, step, machine, at, orders, 4, &got, &was_late, &named), status);
-  same("its orders", got, 0);
+  same("its orders", got, count);
   same("what it names", named, detail);
-  same("not late", was_late, false);
+  same("late", was_late, late);
+}
+
+/* A report of a step that the cell doesn't expect. */
+static void unexpected_step(struct cellplan_cell *cell, uint32_t kind, uint32_t job, uint32_t step, uint64_t at) {
+  reported_step(cell, kind, job, step, 0, at, CELLPLAN_NOT_EXPECTED, 0, 0, false);
 }
 
 /* Each reason for which a report is refused, and the reports before them. */
 static void refused(struct cellplan_cell *cell) {
   struct cellplan_phase phase = {0};
   uint32_t step = 9;
-  reported_step(cell, CELLPLAN_ARRIVE, 0, 0, 0, 0, CELLPLAN_NO_KIND, 0);
-  reported_step(cell, CELLPLAN_CLEAN, 0, 0, 0, 0, CELLPLAN_NO_KIND, 0);
-  reported_step(cell, CELLPLAN_FINISH, 2, 0, 0, 0, CELLPLAN_JOB_OUT_OF_RANGE, 0);
-  reported_step(cell, CELLPLAN_FINISH, 0, 100, 0, UINT64_MAX, CELLPLAN_STEP_OUT_OF_RANGE, 0);
-  reported_step(cell, CELLPLAN_CLEAN_AFTER, 0, 100, 0, 0, CELLPLAN_STEP_OUT_OF_RANGE, 0);
-  reported_step(cell, CELLPLAN_CLEAN_AFTER, 0, 100, 2, 0, CELLPLAN_MACHINE_OUT_OF_RANGE, 0);
-  reported_step(cell, CELLPLAN_FINISH, 0, 0, 0, UINT64_MAX, CELLPLAN_MOMENT_TOO_LARGE, 0);
-  reported_step(cell, CELLPLAN_FINISH, 0, 0, 9, 0, CELLPLAN_WRONG_KIND, 0);
-  reported_step(cell, CELLPLAN_CLEAN_AFTER, 0, 0, 0, 0, CELLPLAN_NOT_EXPECTED, 0);
+  reported_step(cell, CELLPLAN_ARRIVE, 0, 0, 0, 0, CELLPLAN_NO_KIND, 0, 0, false);
+  reported_step(cell, CELLPLAN_CLEAN, 0, 0, 0, 0, CELLPLAN_NO_KIND, 0, 0, false);
+  reported_step(cell, CELLPLAN_FINISH, 2, 0, 0, 0, CELLPLAN_JOB_OUT_OF_RANGE, 0, 0, false);
+  reported_step(cell, CELLPLAN_FINISH, 0, 100, 0, UINT64_MAX, CELLPLAN_STEP_OUT_OF_RANGE, 0, 0, false);
+  reported_step(cell, CELLPLAN_CLEAN_AFTER, 0, 100, 0, 0, CELLPLAN_STEP_OUT_OF_RANGE, 0, 0, false);
+  reported_step(cell, CELLPLAN_CLEAN_AFTER, 0, 100, 2, 0, CELLPLAN_MACHINE_OUT_OF_RANGE, 0, 0, false);
+  reported_step(cell, CELLPLAN_FINISH, 0, 0, 0, UINT64_MAX, CELLPLAN_MOMENT_TOO_LARGE, 0, 0, false);
+  reported_step(cell, CELLPLAN_FINISH, 0, 0, 9, 0, CELLPLAN_WRONG_KIND, 0, 0, false);
+  reported_step(cell, CELLPLAN_CLEAN_AFTER, 0, 0, 0, 0, CELLPLAN_NOT_EXPECTED, 0, 0, false);
   same("no step outside", cellplan_cell_step(cell, 0, &step), CELLPLAN_NONE);
   reported(cell, 4, 0, 0, 0, CELLPLAN_NO_KIND, 0, 0, false);
   reported(cell, CELLPLAN_ARRIVE, 2, 0, 0, CELLPLAN_JOB_OUT_OF_RANGE, 0, 0, false);
@@ -387,6 +394,51 @@ static void gone(struct cellplan_cell *cell) {
   same("its number", number, 1);
 }
 
+/* Job 0 is at this step. */
+static void at_step(struct cellplan_cell *cell, uint32_t wanted) {
+  uint32_t step = 9;
+  same("a step", cellplan_cell_step(cell, 0, &step), CELLPLAN_GOOD);
+  same("its number", step, wanted);
+}
+
+/* Machine 0 is being cleaned after this step of job 0. */
+static void cleaned_after_step(struct cellplan_cell *cell, uint32_t wanted) {
+  uint32_t job = 9, step = 9;
+  same("after a step", cellplan_cell_cleaned_after_step(cell, 0, &job, &step), CELLPLAN_GOOD);
+  same("of job 0", job, 0);
+  same("the step before", step, wanted);
+}
+
+/* A tank, machine 0, in which job 0 rinses twice and then job 1, driven to its end by steps. Copies are refused, and reports of other steps. */
+static void rinsed_twice(struct cellplan_cell *cell) {
+  uint32_t step = 9;
+  bool done = false;
+  reported(cell, CELLPLAN_ARRIVE, 0, 0, 0, CELLPLAN_GOOD, 0, 1, false);
+  reported(cell, CELLPLAN_ARRIVE, 1, 0, 0, CELLPLAN_GOOD, 0, 0, false);
+  at_step(cell, 0);
+  unexpected_step(cell, CELLPLAN_FINISH, 0, 2, 3);
+  reported_step(cell, CELLPLAN_FINISH, 0, 0, 9, 3, CELLPLAN_GOOD, 0, 1, false);
+  unexpected_step(cell, CELLPLAN_FINISH, 0, 0, 3);
+  at_step(cell, 1);
+  cleaned_after_step(cell, 0);
+  reported_step(cell, CELLPLAN_FINISH, 0, 1, 0, 5, CELLPLAN_GOOD, 0, 0, false);
+  unexpected_step(cell, CELLPLAN_CLEAN_AFTER, 0, 2, 9);
+  reported_step(cell, CELLPLAN_CLEAN_AFTER, 0, 0, 0, 9, CELLPLAN_GOOD, 0, 1, false);
+  unexpected_step(cell, CELLPLAN_CLEAN_AFTER, 0, 0, 9);
+  at_step(cell, 2);
+  unexpected_step(cell, CELLPLAN_FINISH, 0, 0, 12);
+  reported_step(cell, CELLPLAN_FINISH, 0, 2, 0, 12, CELLPLAN_GOOD, 0, 1, false);
+  same("no step behind the last", cellplan_cell_step(cell, 0, &step), CELLPLAN_NONE);
+  cleaned_after_step(cell, 2);
+  unexpected_step(cell, CELLPLAN_CLEAN_AFTER, 0, 0, 18);
+  reported_step(cell, CELLPLAN_CLEAN_AFTER, 0, 2, 0, 18, CELLPLAN_GOOD, 0, 1, false);
+  reported_step(cell, CELLPLAN_FINISH, 1, 0, 0, 21, CELLPLAN_GOOD, 0, 1, false);
+  unexpected_step(cell, CELLPLAN_CLEAN_AFTER, 0, 2, 27);
+  reported_step(cell, CELLPLAN_CLEAN_AFTER, 1, 0, 0, 28, CELLPLAN_GOOD, 0, 0, true);
+  same("all is rinsed", cellplan_cell_is_done(cell, &done), CELLPLAN_GOOD);
+  same("it is", done, true);
+}
+
 /* Cells of the instances of a collection. Where there is no new one, the cell is that of before. */
 static void of_a_collection(struct cellplan_cell *cell) {
   uint32_t number = 0;
@@ -411,6 +463,7 @@ static void without_a_cell(struct cellplan_cell *cell) {
   reported(cell, 4, 0, 0, 0, CELLPLAN_NO_KIND, 0, 0, false);
   reported(cell, CELLPLAN_ARRIVE, 0, 0, 0, CELLPLAN_NO_CELL, 0, 0, false);
   reported(cell, CELLPLAN_CLEAN_AFTER, 0, 0, 0, CELLPLAN_NO_CELL, 0, 0, false);
+  reported_step(cell, CELLPLAN_FINISH, 0, 0, 0, 0, CELLPLAN_NO_CELL, 0, 0, false);
   same("none handed over", cellplan_cell_hand_over(cell, TEXT("x"), NO_NAME, TEXT("x"), UINT64_MAX, orders, 4, &count), CELLPLAN_NO_CELL);
   same("without orders", count, 0);
   count = 7;
@@ -426,6 +479,8 @@ static void without_a_cell(struct cellplan_cell *cell) {
   same("no due", cellplan_cell_due(cell, 0, &at), CELLPLAN_NO_CELL);
   same("no clean due", cellplan_cell_clean_due(cell, 0, &at), CELLPLAN_NO_CELL);
   same("no job before", cellplan_cell_cleaned_after(cell, 0, &number), CELLPLAN_NO_CELL);
+  same("no step", cellplan_cell_step(cell, 0, &number), CELLPLAN_NO_CELL);
+  same("no step before", cellplan_cell_cleaned_after_step(cell, 0, &number, &number), CELLPLAN_NO_CELL);
   same("no now", cellplan_cell_now(cell, &at), CELLPLAN_NO_CELL);
   same("no left", cellplan_cell_reports_left(cell, &at), CELLPLAN_NO_CELL);
   same("no punctual", cellplan_cell_punctual(cell, &yes), CELLPLAN_NO_CELL);
@@ -583,7 +638,7 @@ static void all_move(struct cellplan_cell *cell) {
 
 /* The calls that take no memory. */
 static int asked(void) {
-  struct cellplan_cell cells[6] = {{0}, {0}, {0}, {0}, {0}, {0}}, none = {0};
+  struct cellplan_cell cells[7] = {{0}, {0}, {0}, {0}, {0}, {0}, {0}}, none = {0};
   struct cellplan_order orders[2];
   size_t count = 9;
   same("begun", cellplan_cell_new(TEXT(two), NO_NAME, TEXT(in_time), &cells[0]), CELLPLAN_GOOD);
@@ -594,6 +649,7 @@ static int asked(void) {
     same("one for another plan", cellplan_cell_new(TEXT(two), NO_NAME, TEXT(in_time), &cells[i]), CELLPLAN_GOOD);
     same("which takes over", cellplan_cell_hand_over(&cells[i], TEXT(i == 4 ? chain : two), NO_NAME, TEXT(i == 4 ? chained : cleaned), 0, orders, 2, &count), CELLPLAN_GOOD);
   }
+  same("one with a tank", cellplan_cell_new(TEXT(rinse), NO_NAME, TEXT(rinsed), &cells[6]), CELLPLAN_GOOD);
   said("asked\n");
   same("version", cellplan_version(), CELLPLAN_VERSION);
   driven(&cells[0]);
@@ -604,10 +660,11 @@ static int asked(void) {
   all_move(&cells[3]);
   all_move(&cells[4]);
   gone(&cells[5]);
+  rinsed_twice(&cells[6]);
   without_a_cell(&none);
   names();
   said("ended\n");
-  for (int i = 0; i < 6; i++) cellplan_cell_free(&cells[i]);
+  for (int i = 0; i < 7; i++) cellplan_cell_free(&cells[i]);
   return missed != 0;
 }
 
@@ -646,6 +703,8 @@ int main(int argc, char **argv) {
   beyond_the_room(&cell);
   to_the_end(&cell);
   of_a_collection(&cell);
+  same("a tank", cellplan_cell_new(TEXT(rinse), NO_NAME, TEXT(rinsed), &cell), CELLPLAN_GOOD);
+  rinsed_twice(&cell);
   same("begun for another plan", cellplan_cell_new(TEXT(two), NO_NAME, TEXT(in_time), &cell), CELLPLAN_GOOD);
   never_over(&cell);
   over(&cell);
