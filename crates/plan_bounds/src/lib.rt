@@ -7,6 +7,7 @@ mod bounds;
 pub mod laws;
 mod makespan;
 mod visits;
+pub mod worked_runs;
 
 pub use alone::out_alone;
 pub use bounds::{job_bound, machine_bound};
