@@ -1,15 +1,14 @@
 -- A driven cell stays as promised where driving it is broken off.
-use Rattle.std.proofs.Common.{◌≡◌, ℕ, ◌+◌, List, [], ◌∷◌, ◌++◌, take, length, Option, Result, Ok, Err, inl, inr, ap, sym, subst, refl}
+use Rattle.std.proofs.Common.{ℕ, ◌+◌, List, [], ◌∷◌, ◌++◌, take, length, Option, Ok, Err, inl, inr, sym, subst, refl}
 use Rattle.shop_base.specs.{Plan.PlannedShop, Controlled.IsControlledRun}
 use Rattle.text_lines.specs.declared.limits.TheConstants.{MAX_INPUT}
 use Rattle.cell_tables.specs.{declared.entry.Entry.Entry, Events.events_of}
 use Rattle.plan_verifier.specs.Accepted.{VerifiedPlan, IsVerified}
-use Rattle.byte_streams.specs.{declared.drive_fault.DriveFault.DriveFault, Lent.Streams, Answering.{AnswerAll, AreCutOff}}
+use Rattle.byte_streams.specs.{Lent.Streams, Answering.{AnswerAll, AreCutOff}}
 use Rattle.byte_streams.specs.declared.drive_fault.DriveFault.TheVariants.{Read, Write, InputTooLong, Memory}
 use Rattle.byte_streams.specs.{Lines.{complete_lines, input_lines}, Streams.IsCutOff}
 use Rattle.byte_streams.proofs.AnsweredLines.{AnswerAll-append, AnswerAll-one}
-use Rattle.cell_drive.specs.{declared.protocol.Protocol.Protocol, declared.begin.DriveEnd.DriveEnd, AnswerText.undriven}
-use Rattle.cell_drive.specs.{InProtocol.IsDriveIn, OneRun.{IsRunOf, NeverWentWrong}}
+use Rattle.cell_drive.specs.{declared.protocol.Protocol.Protocol, AnswerText.undriven}
 use Rattle.cell_drive.specs.Session.{SessionAnswer, SessionCloses, SessionState, seen, session_start}
 use Rattle.cell_drive.proofs.{CutLogs.{protocol_answers_lead, run_of_leads}, PromisesKept.stays_as_promised}
 use Rattle.cell_drive.proofs.Sessions.{a_session_answers_so}

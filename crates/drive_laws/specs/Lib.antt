@@ -3,6 +3,7 @@ pub mod CellsAlone
 pub mod AnswerLaw
 pub mod RecoveryLaw
 pub mod FloorLaw
+pub mod CopiesLaw
 pub mod StatesLaw
 pub mod LeapLaw
 pub mod VersionsLaw

@@ -1,5 +1,5 @@
 -- The laws of runs that were recovered.
-use Rattle.std.specs.Prelude.{◌≡◌, ℕ, List, ◌∷◌, ◌++◌, Bool, true, false, Option, Some}
+use Rattle.std.specs.Prelude.{ℕ, List, ◌∷◌, ◌++◌, Bool, true, false, Option}
 use Rattle.shop_base.specs.{declared.report.Report.Report, Plan.PlannedShop, Plan.IsWellShaped}
 use Rattle.cell_tables.specs.{declared.claim.Claim.Claim, declared.entry.Entry.Entry, declared.entry.Entry.TheVariants.Report as ReportEntry}
 use Rattle.cell_control.specs.{Claims.CanClaim, OnceLaw.NamedEnd, OnceLaw.ReportsEnd, OnceLaw.Names}

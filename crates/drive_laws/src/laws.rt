@@ -19,6 +19,7 @@ ghost use Rattle.drive_laws.specs.OneRunLaw.{ItIsRecoveredAsOne, ItIsOneSoFar, A
 ghost use Rattle.drive_laws.specs.OneRunLaw.{ItStaysAsPromised, TheFirstEventsHaveTheirOrders};
 ghost use Rattle.drive_laws.specs.{OneRunLaw.WhatWasResumedHasItsOrders, CellsAlone.EachCellIsAsAlone};
 ghost use Rattle.drive_laws.specs.BrokenLaw.{ABrokenDriveStaysAsPromised};
+ghost use Rattle.drive_laws.specs.CopiesLaw.{ARunRefusesCopies, ADrivenCellRefusesCopies, ARunThatGoesOnRefusesCopies};
 ghost use Rattle.drive_laws.specs.{CellsVersionsLaw.Version2OnlyAddsForCells, LeapLaw.NoPunctualReportLeaps};
 ghost use Rattle.drive_laws.specs.FloorLaw.{NothingIsOrderedWrongly, ADrivenCellOrdersRightly};
 ghost use Rattle.drive_laws.specs.FloorLaw.{ARunThatGoesOnOrdersRightly, EachCellOrdersRightly};
@@ -207,6 +208,17 @@ pub fn nothing_is_accepted_twice()
     ensures driven { NothingIsAcceptedTwice }
     ensures run { NothingOfARunIsClaimedAgain }
     ensures resumed { NothingOfALogIsAcceptedAgain }
+{}
+
+/// Else a driven cell takes a copy of a line, with whatever moment, in two cases alone: of a finish on a machine or of a
+/// cleaning after a job once the job has entered that machine again, to which an order of the same answer may have
+/// brought it; and of a cleaning that names no job once the operation of another visit to that machine has ended since,
+/// and its job has left. So it is in any run, and in one that was recovered from a log.
+#[tactic(auto, using(crate::proofs::LawProofs::of_copies_are_refused))]
+pub fn copies_are_refused()
+    ensures driven { ADrivenCellRefusesCopies }
+    ensures run { ARunRefusesCopies }
+    ensures resumed { ARunThatGoesOnRefusesCopies }
 {}
 
 /// Let what has ended so far on a floor be given, in one run: each arrival, each operation, and each cleaning after a
