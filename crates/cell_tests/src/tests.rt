@@ -16,6 +16,7 @@ mod from_nothing;
 mod full_logs;
 mod gantt_texts;
 mod hubs;
+mod kept_runs;
 mod log_lines;
 mod many_orders;
 mod memory_log;

@@ -32,6 +32,16 @@ pub(super) const FOLLOWING: Texts = (
     b"release = [0, 0, 0]\nbudget = [7, 8, 9]\norder = [[0, 1, 2], [0, 1, 2], [0, 1, 2]]\n",
 );
 
+/// A rack is rinsed in a tank, machine 0, dipped into a bath, machine 1, and rinsed again. Another one is rinsed once.
+pub(super) const RACKS: &[u8] = b"rinse\n2 2 recrc\n0 3 1 2 0 3\n0 3\n";
+
+/// The rack that is rinsed again goes first. The tank has to be cleaned for 6 after each rinsing: so it is out at
+/// 3 + 6 + 3, not at the 8 that its own times come to, and the other one 6 + 3 behind it.
+pub(super) const RINSED: Texts = (
+    RACKS,
+    b"version = 2\nrelease = [0, 0]\nbudget = [12, 21]\norder = [[0, 0, 1], [0]]\nclean = [6, 0]\n",
+);
+
 /// One job on one machine, which takes no time.
 pub(super) const INSTANT: Texts = (
     b"z\n1 1\n0 0\n",

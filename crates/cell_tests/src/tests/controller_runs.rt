@@ -1,14 +1,14 @@
 //! Runs of a controller, report by report, and what its readers give then.
 
 use super::calling::moves_of;
-use super::cells::{CLEANED, CROSSING, FOLLOWING, INSTANT, Texts, controller};
+use super::cells::{CLEANED, CROSSING, FOLLOWING, INSTANT, RINSED, Texts, controller};
 use super::events::{arrive, enter, finish, move_on};
 use super::worked_runs::{
-    AT_ONCE, AT_THE_LIMIT, CLEANING, CLEANING_END, EARLY, EARLY_END, FIRST, FOLLOWED, FOLLOWED_END,
-    LATE_LEAVING, LATE_RUN, LATE_WAITING, REFUSED, Row, SECOND_LEAVING, THIRD_LEAVING, UNCLEAN,
-    are_orders,
+    AT_ONCE, AT_THE_LIMIT, BACK, CLEANING, CLEANING_END, COPIED, DIPPED, EARLY, EARLY_END, FIRST,
+    FOLLOWED, FOLLOWED_END, LATE_LEAVING, LATE_RUN, LATE_WAITING, REFUSED, RINSED_END, Row,
+    SECOND_LEAVING, THIRD_LEAVING, UNCLEAN, are_orders,
 };
-use cell_control::{Controller, Dues, Phase, Report, ScanDues, TourneyDues};
+use cell_control::{Controller, Core, Dues, Phase, Report, ScanDues, Timed, TourneyDues};
 use shop_base::{JobNo, MachineNo, Moment, MoveOrder};
 use std::alloc::Global;
 use std::process::Abort;
@@ -233,10 +233,60 @@ const RUNS: &[Run] = &[
         ],
         machines: &[],
     },
+    // A rack comes to the tank again: it waits for the cleaning after its own first visit, and stays in time. A copy of
+    // that visit's end is refused until the rack is back, and then ends the second one.
+    Run {
+        texts: RINSED,
+        parts: &[FIRST, DIPPED],
+        end: (5, 5, true),
+        jobs: &[
+            (
+                0,
+                Some(Phase::OnMachine {
+                    machine: 1,
+                    ready: true,
+                }),
+                None,
+            ),
+            (1, Some(Phase::Outside { ready: true }), None),
+        ],
+        machines: &[(0, None, Some(9)), (1, Some(0), None)],
+    },
+    Run {
+        texts: RINSED,
+        parts: &[FIRST, DIPPED, BACK],
+        end: (4, 9, true),
+        jobs: &[(
+            0,
+            Some(Phase::OnMachine {
+                machine: 0,
+                ready: false,
+            }),
+            Some(12),
+        )],
+        machines: &[(0, Some(0), None), (1, None, None)],
+    },
+    Run {
+        texts: RINSED,
+        parts: &[FIRST, DIPPED, BACK, RINSED_END],
+        end: (0, 27, true),
+        jobs: &[
+            (0, Some(Phase::Gone { at: 12 }), None),
+            (1, Some(Phase::Gone { at: 21 }), None),
+        ],
+        machines: &[(0, None, None)],
+    },
+    Run {
+        texts: RINSED,
+        parts: &[FIRST, DIPPED, BACK, COPIED],
+        end: (3, 9, true),
+        jobs: &[(0, Some(Phase::Gone { at: 9 }), None)],
+        machines: &[(0, None, Some(15))],
+    },
 ];
 
 /// Gives the reports to the controller.
-fn gives<D: Dues>(rt: &impl Abort, cell: &mut Controller<D>, rows: &[Row]) {
+pub(super) fn gives<P: Timed, D: Dues>(rt: &impl Abort, cell: &mut Core<P, D>, rows: &[Row]) {
     for &(report, answer, orders) in rows {
         assert!(rt;
             cell.report(report) == answer && are_orders(cell.orders(), orders),

@@ -3,7 +3,7 @@
 use super::cells::{CROSSING, accepted, shaped};
 use super::from_nothing::{driven_from_nothing, gone_on_from_nothing};
 use super::memory_log::MemoryLog;
-use super::two_jobs::{FIRST, LATER, PLAIN, REPORTS, driven, is_joined};
+use super::two_jobs::{CROSSED, FIRST, LATER, PLAIN, REPORTS, driven, is_joined};
 use byte_streams::{Buffered, DriveFault};
 use cell_drive::DriveEnd;
 use logged_drive::LoggedEnd;
@@ -43,7 +43,7 @@ fn left_of(
 #[test]
 fn nothing_is_shown_that_is_not_in_the_log(rt: HostRuntime) -> Result<(), Fail> {
     for calls in 0..2 {
-        let run = driven(rt.alloc(), PLAIN, b"", calls, 1000)?;
+        let run = driven(rt.alloc(), CROSSED, b"", calls, 1000)?;
         assert!(rt; left_of(rt.alloc(), run)? == (true, 0, 0));
     }
     Ok(())

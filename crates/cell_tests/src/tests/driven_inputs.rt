@@ -1,6 +1,6 @@
 //! What is driven by the tests of devices: inputs, with the whole answers to them.
 
-use super::cells::{CLEANED, CROSSING, Texts};
+use super::cells::{CLEANED, CROSSING, RINSED, Texts};
 use shop_base::Moment;
 
 /// What answers the lines: a cell with this plan, several, or an echo.
@@ -72,6 +72,29 @@ pub(super) const DRIVEN: &[Driven] = &[
         ],
         end: (true, 13, 0),
         writers: &[(1000, 0, false), (1000, 0, true), (1000, 1000, false)],
+    },
+    // A rack comes to machine 0 again.
+    Driven {
+        driver: Driver::Cell(RINSED),
+        input: b"arrive 0 0\narrive 1 0\nfinish 0 0 3\nfinish 0 1 5\nclean 0 9\nfinish 0 0 12\n\
+            clean 0 18\nfinish 1 0 21\nclean 0 27\n",
+        text: b"report 0 arrive 0\norder 0 0 out 0\nreport 0 arrive 1\nreport 3 finish 0 0\n\
+            order 3 0 0 1\nreport 5 finish 0 1\nreport 9 clean 0\norder 9 0 1 0\n\
+            report 12 finish 0 0\norder 12 0 0 out\nreport 18 clean 0\norder 18 1 out 0\n\
+            report 21 finish 1 0\norder 21 1 0 out\nreport 27 clean 0\ndone 27\n",
+        answered: &[
+            (11, 34),
+            (22, 52),
+            (35, 86),
+            (48, 106),
+            (58, 137),
+            (72, 175),
+            (83, 210),
+            (97, 248),
+            (108, 266),
+        ],
+        end: (true, 27, 0),
+        writers: &[],
     },
     // The run is left.
     Driven {

@@ -1,8 +1,8 @@
 //! Cells under tickets. How cells under numbers run apart is shown by `tests/commands/runs`.
 
-use super::cells::{CROSSING, INSTANT, Texts, accepted};
+use super::cells::{CROSSING, INSTANT, RINSED, Texts, accepted};
 use super::events::arrive;
-use cell_control::{Ack, Dues, ScanDues, TourneyDues};
+use cell_control::{Ack, Dues, ReportFault, ScanDues, TourneyDues};
 use cell_hub::{Hub, HubFault, Ticket};
 use plan_verifier::Verified;
 use std::alloc::Global;
@@ -139,4 +139,40 @@ fn slots_are_filled_again_and_again(rt: HostRuntime) -> Result<(), Fail> {
     drop(hub);
     drop(tickets);
     filled
+}
+
+const NOT_EXPECTED: Result<Ack, HubFault> = Err(HubFault::Cell(ReportFault::NotExpected));
+
+/// Whether a rack comes to the tank again, where the end of its first rinsing isn't taken once more.
+fn comes_again<D: Dues>(hub: &mut Hub<D>, ticket: Ticket) -> bool {
+    hub.report(ticket, arrive(0, 0)).is_ok()
+        && hub.report(ticket, arrive(1, 0)).is_ok()
+        && hub.finish_step(ticket, 0, 0, 3).is_ok()
+        && hub.finish_step(ticket, 0, 1, 5).is_ok()
+        && hub.clean_after_step(ticket, 0, 0, 0, 9).is_ok()
+        && hub.finish_step(ticket, 0, 0, 12) == NOT_EXPECTED
+        && hub.finish_step(ticket, 0, 2, 12) == Ok(Ack { late: false })
+}
+
+/// Whether it does in two cells, each of which waits for its own reports.
+fn come_again<D: Dues>(alloc: Global, hub: &mut Hub<D>) -> Result<bool, Fail> {
+    let first = admitted(alloc, hub, RINSED)?;
+    let second = admitted(alloc, hub, RINSED)?;
+    Ok(
+        comes_again(hub, first)
+            && waits_for(hub, second, 9)
+            && comes_again(hub, second)
+            && waits_for(hub, first, 3)
+            && waits_for(hub, second, 3),
+    )
+}
+
+/// Two cells of `cells_are_apart` and `calls_make_the_controlled_runs` in which a job comes to a machine again.
+#[test]
+fn a_job_comes_again_in_its_own_cell(rt: HostRuntime) -> Result<(), Fail> {
+    let mut hub: Hub<ScanDues> = Hub::new(rt.alloc());
+    let come = come_again(rt.alloc(), &mut hub);
+    drop(hub);
+    assert!(rt; come?);
+    Ok(())
 }

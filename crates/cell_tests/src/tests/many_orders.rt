@@ -2,7 +2,7 @@
 
 ghost use Rattle.std.specs.Prelude.{◌<◌, length};
 
-use super::cells::{CLEANED, CROSSING, FOLLOWING, Texts, controller};
+use super::cells::{CLEANED, CROSSING, FOLLOWING, RINSED, Texts, controller};
 use super::events::{arrive, clean, finish};
 use cell_control::{Controller, Dues, Report, ScanDues, TourneyDues};
 use shop_base::{JobNo, MachineNo, Moment};
@@ -42,6 +42,19 @@ const FOLLOWED: &[Ended] = &[
     Ended::Operation(1, 2),
     Ended::Operation(2, 1),
     Ended::Operation(2, 2),
+];
+
+/// What the racks report, one of which comes to the tank again, so that its words come twice.
+const RINSES: &[Ended] = &[
+    Ended::Arrival(0),
+    Ended::Arrival(1),
+    Ended::Operation(0, 0),
+    Ended::Operation(0, 1),
+    Ended::Cleaning(0),
+    Ended::Operation(0, 0),
+    Ended::Cleaning(0),
+    Ended::Operation(1, 0),
+    Ended::Cleaning(0),
 ];
 
 /// The report of it at this moment.
@@ -137,5 +150,6 @@ fn an_accepted_plan_goes_on_in_many_orders(rt: HostRuntime) -> Result<(), Fail> 
     ends_without_each::<TourneyDues>(&rt, CROSSING, CROSSED)?;
     ends_without_each::<TourneyDues>(&rt, CLEANED, CROSSED)?;
     ends_without_each::<TourneyDues>(&rt, FOLLOWING, FOLLOWED)?;
+    ends_without_each::<TourneyDues>(&rt, RINSED, RINSES)?;
     ends_without_each::<ScanDues>(&rt, FOLLOWING, FOLLOWED)
 }

@@ -465,3 +465,124 @@ pub(super) const THIRD_LEAVING: &[Row] = &[(
     IN_TIME,
     &[(2, Spot::At(2), Spot::Out, 15)],
 )];
+
+/// The first rack is rinsed, and is done in the bath before the tank is clean. No copy of the end of its rinsing is
+/// possible meanwhile.
+pub(super) const DIPPED: &[Row] = &[
+    (Report::Arrive { job: 1, at: 0 }, IN_TIME, &[]),
+    (
+        Report::Finish {
+            job: 0,
+            machine: 0,
+            at: 3,
+        },
+        IN_TIME,
+        &[(0, Spot::At(0), Spot::At(1), 3)],
+    ),
+    (
+        Report::Finish {
+            job: 0,
+            machine: 0,
+            at: 4,
+        },
+        Err(ReportFault::WrongMachine { actual: 1 }),
+        &[(0, Spot::At(0), Spot::At(1), 3)],
+    ),
+    (
+        Report::Finish {
+            job: 0,
+            machine: 1,
+            at: 5,
+        },
+        IN_TIME,
+        &[],
+    ),
+    (
+        Report::Finish {
+            job: 0,
+            machine: 0,
+            at: 9,
+        },
+        Err(ReportFault::NotExpected),
+        &[],
+    ),
+];
+
+/// Then the tank is clean, and the rack is rinsed again.
+pub(super) const BACK: &[Row] = &[(
+    Report::Clean { machine: 0, at: 9 },
+    IN_TIME,
+    &[(0, Spot::At(1), Spot::At(0), 9)],
+)];
+
+/// How the run of the racks ends.
+pub(super) const RINSED_END: &[Row] = &[
+    (
+        Report::Finish {
+            job: 0,
+            machine: 0,
+            at: 12,
+        },
+        IN_TIME,
+        &[(0, Spot::At(0), Spot::Out, 12)],
+    ),
+    (
+        Report::Clean { machine: 0, at: 18 },
+        IN_TIME,
+        &[(1, Spot::Out, Spot::At(0), 18)],
+    ),
+    (
+        Report::Finish {
+            job: 1,
+            machine: 0,
+            at: 21,
+        },
+        IN_TIME,
+        &[(1, Spot::At(0), Spot::Out, 21)],
+    ),
+    (Report::Clean { machine: 0, at: 27 }, IN_TIME, &[]),
+];
+
+/// In its place a copy of the end of the first rinsing: it is that of the second one.
+pub(super) const COPIED: &[Row] = &[(
+    Report::Finish {
+        job: 0,
+        machine: 0,
+        at: 9,
+    },
+    IN_TIME,
+    &[(0, Spot::At(0), Spot::Out, 9)],
+)];
+
+/// Where the other rack takes its turn while the first one is dipped, the tank is clean for that.
+pub(super) const OTHER_BETWEEN: &[Row] = &[
+    (
+        Report::Clean { machine: 0, at: 9 },
+        IN_TIME,
+        &[(1, Spot::Out, Spot::At(0), 9)],
+    ),
+    (
+        Report::Finish {
+            job: 1,
+            machine: 0,
+            at: 12,
+        },
+        IN_TIME,
+        &[(1, Spot::At(0), Spot::Out, 12)],
+    ),
+    (
+        Report::Clean { machine: 0, at: 18 },
+        IN_TIME,
+        &[(0, Spot::At(1), Spot::At(0), 18)],
+    ),
+    (
+        Report::Finish {
+            job: 0,
+            machine: 0,
+            at: 21,
+        },
+        IN_TIME,
+        &[(0, Spot::At(0), Spot::Out, 21)],
+    ),
+    (Report::Clean { machine: 0, at: 27 }, IN_TIME, &[]),
+];
