@@ -8,7 +8,7 @@ ghost use Rattle.event_lines.specs.StandingLines.{unfinished_standing_line, refu
 
 use crate::orders::put_spot;
 use cell_tables::{Standing, Visit};
-use shop_base::{JobNo, MachineNo, Moment, Spot};
+use shop_base::{MachineNo, Moment, Spot};
 use text_lines::LineText;
 
 /// What the controller has instead of what was reported.
@@ -67,95 +67,33 @@ fn put_visit<const ROOM: usize>(line: &mut LineText<ROOM>, visit: Visit)
     line.put_short_number(visit.job);
 }
 
-fn put_worked<const ROOM: usize>(
-    line: &mut LineText<ROOM>,
-    visit: Visit,
-    machine: MachineNo,
-    since: Moment,
-    due: Moment,
-)
-    requires { 100 + length line.old ≤ ROOM }
-    ensures written { line.new ≡ words_before (standing_words (Standing.Worked visit machine since due)) line.old }
-    ensures length { length line.new ≤ 100 + length line.old }
+/// Writes this text, the number of a job or a machine, and these words before what there is.
+fn put_named<const ROOM: usize>(line: &mut LineText<ROOM>, text: &[u8], number: u32, words: &[u8])
+    requires { length text.now + (10 + (length words.now + length line.old)) ≤ ROOM }
+    ensures written { line.new ≡ text.now ++ (decimal number ++ (words.now ++ line.old)) }
+    ensures length { length line.new ≤ length text.now + (10 + (length words.now + length line.old)) }
 {
-    put_since(line, since, due);
-    line.put_text(b" ");
-    line.put_short_number(machine);
-    line.put_text(b" on machine ");
-    put_visit(line, visit);
-    line.put_text(b"job ");
-}
-
-fn put_done<const ROOM: usize>(
-    line: &mut LineText<ROOM>,
-    visit: Visit,
-    machine: MachineNo,
-    target: Spot,
-)
-    requires { 76 + length line.old ≤ ROOM }
-    ensures written { line.new ≡ words_before (standing_words (Standing.Done visit machine target)) line.old }
-    ensures length { length line.new ≤ 76 + length line.old }
-{
-    put_target(line, target);
-    line.put_text(b" ");
-    line.put_short_number(machine);
-    line.put_text(b" waits on machine ");
-    put_visit(line, visit);
-    line.put_text(b"job ");
-}
-
-fn put_cleaned<const ROOM: usize>(
-    line: &mut LineText<ROOM>,
-    machine: MachineNo,
-    after: Visit,
-    since: Moment,
-    due: Moment,
-)
-    requires { 111 + length line.old ≤ ROOM }
-    ensures written { line.new ≡ words_before (standing_words (Standing.Cleaned machine after since due)) line.old }
-    ensures length { length line.new ≤ 111 + length line.old }
-{
-    put_since(line, since, due);
-    line.put_text(b" ");
-    put_visit(line, after);
-    line.put_text(b" cleaned after job ");
-    line.put_short_number(machine);
-    line.put_text(b"machine ");
-}
-
-/// Writes the words of a job that is outside, or has been there, before what there is.
-fn put_outside<const ROOM: usize>(line: &mut LineText<ROOM>, job: JobNo, target: Spot)
-    requires { 52 + length line.old ≤ ROOM }
-    ensures written { line.new ≡ words_before (standing_words (Standing.Outside job target)) line.old }
-    ensures length { length line.new ≤ 52 + length line.old }
-{
-    put_target(line, target);
-    line.put_text(b" waits outside ");
-    line.put_short_number(job);
-    line.put_text(b"job ");
-}
-
-/// Writes the number of a job, these words with a space on each side, and a moment, before what there is.
-fn put_job_at<const ROOM: usize>(line: &mut LineText<ROOM>, job: JobNo, words: &[u8], at: Moment)
-    requires words { length words.now ≤ 13 }
-    requires room { 47 + length line.old ≤ ROOM }
-    ensures written { line.new ≡ codes "job " ++ (decimal job ++ (words.now ++ (decimal at ++ line.old))) }
-    ensures length { length line.new ≤ 47 + length line.old }
-{
-    line.put_number(at);
     line.put_text(words);
-    line.put_short_number(job);
-    line.put_text(b"job ");
+    line.put_short_number(number);
+    line.put_text(text);
 }
 
-fn put_clean<const ROOM: usize>(line: &mut LineText<ROOM>, machine: MachineNo)
-    requires { 27 + length line.old ≤ ROOM }
-    ensures written { line.new ≡ words_before (standing_words (Standing.Clean machine)) line.old }
-    ensures length { length line.new ≤ 27 + length line.old }
+/// Writes the words of a job that is on the machine before what there is.
+fn put_on<const ROOM: usize>(
+    line: &mut LineText<ROOM>,
+    visit: Visit,
+    words: &[u8],
+    machine: MachineNo,
+)
+    requires words { length words.now ≤ 18 }
+    requires room { 54 + length line.old ≤ ROOM }
+    ensures written { line.new ≡ codes "job "
+        ++ (written (shown_word visit.job visit.step) ++ (words.now ++ (decimal machine ++ 32 ∷ line.old))) }
+    ensures length { length line.new ≤ 54 + length line.old }
 {
-    line.put_text(b" is clean");
-    line.put_short_number(machine);
-    line.put_text(b"machine ");
+    put_named(line, words, machine, b" ");
+    put_visit(line, visit);
+    line.put_text(b"job ");
 }
 
 /// Writes the words of the state before what the line has.
@@ -165,27 +103,47 @@ fn put_standing<const ROOM: usize>(line: &mut LineText<ROOM>, standing: Standing
     ensures length { length line.new ≤ 111 + length line.old }
 {
     match standing {
-        Standing::Awaited { job, due } => put_job_at(line, job, b" arrives ", due),
-        Standing::Outside { job, target } => put_outside(line, job, target),
+        Standing::Awaited { job, due } => {
+            line.put_number(due);
+            put_named(line, b"job ", job, b" arrives ");
+        }
+        Standing::Outside { job, target } => {
+            put_target(line, target);
+            put_named(line, b"job ", job, b" waits outside ");
+        }
         Standing::Worked {
             visit,
             machine,
             since,
             due,
-        } => put_worked(line, visit, machine, since, due),
+        } => {
+            put_since(line, since, due);
+            put_on(line, visit, b" on machine ", machine);
+        }
         Standing::Done {
             visit,
             machine,
             target,
-        } => put_done(line, visit, machine, target),
-        Standing::Gone { job, at } => put_job_at(line, job, b" has left at ", at),
+        } => {
+            put_target(line, target);
+            put_on(line, visit, b" waits on machine ", machine);
+        }
+        Standing::Gone { job, at } => {
+            line.put_number(at);
+            put_named(line, b"job ", job, b" has left at ");
+        }
         Standing::Cleaned {
             machine,
             after,
             since,
             due,
-        } => put_cleaned(line, machine, after, since, due),
-        Standing::Clean { machine } => put_clean(line, machine),
+        } => {
+            put_since(line, since, due);
+            line.put_text(b" ");
+            put_visit(line, after);
+            put_named(line, b"machine ", machine, b" cleaned after job ");
+        }
+        Standing::Clean { machine } => put_named(line, b"machine ", machine, b" is clean"),
     }
 }
 

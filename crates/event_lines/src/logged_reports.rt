@@ -7,7 +7,7 @@ ghost use Rattle.event_lines.specs.Words.{moment, words_before, IsReadAs};
 ghost use Rattle.event_lines.specs.EventLines.{end_words, logged_words};
 
 use crate::words::{number_first, short_last};
-use shop_base::{JobNo, MachineNo, Moment, Report};
+use shop_base::{JobNo, Moment, Report};
 use text_lines::after_prefix;
 
 /// Writes `report T`, the word of what has ended, with a space on each side, and the number of its job or machine.
@@ -29,25 +29,6 @@ fn put_ended<const ROOM: usize>(
     line.put_text(b"report ");
 }
 
-#[inline(always)]
-fn put_finish<const ROOM: usize>(
-    line: &mut text_lines::LineText<ROOM>,
-    job: JobNo,
-    machine: MachineNo,
-    at: Moment,
-)
-    requires { 56 + length line.old ≤ ROOM }
-    ensures written { line.new ≡ words_before (logged_words (Report.Finish job machine at)) line.old }
-    ensures length { length line.new ≤ 56 + length line.old }
-{
-    line.put_short_number(machine);
-    line.put_text(b" ");
-    line.put_short_number(job);
-    line.put_text(b" finish ");
-    line.put_number(at);
-    line.put_text(b"report ");
-}
-
 /// Writes the words of an accepted report before what there is.
 #[inline(always)]
 pub(crate) fn put_report_words<const ROOM: usize>(
@@ -60,7 +41,11 @@ pub(crate) fn put_report_words<const ROOM: usize>(
 {
     match report {
         Report::Arrive { job, at } => put_ended(line, b" arrive ", job, at),
-        Report::Finish { job, machine, at } => put_finish(line, job, machine, at),
+        Report::Finish { job, machine, at } => {
+            line.put_short_number(machine);
+            line.put_text(b" ");
+            put_ended(line, b" finish ", job, at);
+        }
         Report::Clean { machine, at } => put_ended(line, b" clean ", machine, at),
     }
 }

@@ -1,9 +1,0 @@
-use Rattle.std.proofs.Common.{List, ℕ, ◌++◌, codes, decimal, ap, ◌∙◌}
-use Rattle.event_lines.proofs.details.put_outside.Goals as goal
-
-pub returns-clause-written : goal.returns-clause-written
-returns-clause-written g c =
-    c.put_text-2.ensures.written
-    ∙ ap (λ (l : List ℕ). codes "job " ++ l) (c.put_short_number.ensures.written
-    ∙ ap (λ (l : List ℕ). decimal c.args.job ++ l) (c.put_text.ensures.written
-    ∙ ap (λ (l : List ℕ). codes " waits outside " ++ l) (c.put_target.ensures.written)))
