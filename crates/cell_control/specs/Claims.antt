@@ -1,9 +1,10 @@
 -- What is claimed to have ended: when that is possible, and the first reason for which it isn't.
-use Rattle.std.specs.Prelude.{◌≡◌, ℕ, ◌<◌, ◌≤◌}
+use Rattle.std.specs.Prelude.{◌≡◌, ℕ, ◌<◌, ◌≤◌, ◌↔◌, Result, IsOk, IfOk, IfErr}
 use Rattle.shop_base.specs.{declared.limits.TheConstants.MAX_MOMENT, Plan.PlannedShop, Plan.jobs, Plan.machines, Plan.steps}
 use Rattle.shop_base.specs.{Cell.Cell, Activity.IsAwaited, Activity.IsWorked, Report.CanReport, Report.IsNextMoment}
-use Rattle.cell_tables.specs.{declared.claim.Claim.Claim, Readings.IsCleanedAfterStep}
+use Rattle.cell_tables.specs.{declared.claim.Claim.Claim, Claims.claimed, Readings.IsCleanedAfterStep}
 use Rattle.cell_tables.specs.declared.claim.Claim.TheVariants.{Report, CleanAfter, FinishStep, CleanAfterStep}
+use Rattle.cell_control.specs.{declared.ack.Ack.Ack, Control.Control, Control.IsAnswered}
 use Rattle.cell_control.specs.declared.report_fault.ReportFault.{ReportFault}
 use Rattle.cell_control.specs.declared.report_fault.ReportFault.TheVariants.{JobOutOfRange, MachineOutOfRange, StepOutOfRange, MomentTooLarge, Backwards, NotExpected, WrongKind}
 use Rattle.cell_control.specs.Reports.{IsFirstReason, CanCleanAfter, IsFirstCleanReason, AreOfShop}
@@ -71,3 +72,11 @@ IsClaimReason p c (CleanAfterStep machine job step moment) reason = IsFirstStepC
 -- no fault but this one is a first reason against it, its fields included
 abbrev pub IsOnlyClaimReason : PlannedShop → Cell → Claim → ReportFault → Type 0
 IsOnlyClaimReason p c claim reason = (other : ReportFault) → IsClaimReason p c claim other → other ≡ reason
+
+-- what a controller answers to what is claimed: where that is possible it is accepted, as its report; else the first reason is answered, which is the only one, and nothing changes
+pub record AnswersClaim (old : Control) (claim : Claim) (answer : Result Ack ReportFault) (new : Control) : Type 0 where
+  pub possible : IsOk answer ↔ CanClaim old.planned old.cell claim
+  pub answered : IfOk answer (λ ack. IsAnswered old (claimed old.planned claim) ack new)
+  pub first_reason : IfErr answer (IsClaimReason old.planned old.cell claim)
+  pub only_reason : IfErr answer (IsOnlyClaimReason old.planned old.cell claim)
+  pub unchanged : IfErr answer (λ fault. new ≡ old)

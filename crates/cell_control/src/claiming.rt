@@ -1,9 +1,9 @@
 //! What is claimed to have ended, by a report or in words that tell it apart from what ends elsewhere or later.
 
-ghost use Rattle.std.specs.Prelude.{◌≡◌, ◌↔◌, OnOk, IfOk, IfErr, IsOk};
+ghost use Rattle.std.specs.Prelude.{OnOk, IfOk, IfErr};
 ghost use Rattle.cell_tables.specs.Claims.{claimed};
-ghost use Rattle.cell_control.specs.{Control.IsAnswered, Judged.IsJudged};
-ghost use Rattle.cell_control.specs.Claims.{CanClaim, IsClaimReason, IsOnlyClaimReason};
+ghost use Rattle.cell_control.specs.Judged.{IsJudged};
+ghost use Rattle.cell_control.specs.Claims.{CanClaim, IsClaimReason, AnswersClaim};
 
 use crate::ack::Ack;
 use crate::checking::check_claim;
@@ -36,11 +36,7 @@ impl<P: Timed, D: Dues> Core<P, D> {
     /// isn't accepted twice in a run, at whatever moments; nor is an arrival, nor what is named by its machine and its
     /// job where the job visits the machine once (`no_claim_is_accepted_twice` of [`crate::laws`]).
     pub fn claim(&mut self, claim: Claim) -> Result<Ack, ReportFault>
-        ensures possible { IsOk result ↔ CanClaim self.old.planned self.old.cell claim }
-        ensures answered { IfOk result (λ ack. IsAnswered self.old (claimed self.old.planned claim) ack self.new) }
-        ensures first_reason { IfErr result (IsClaimReason self.old.planned self.old.cell claim) }
-        ensures only_reason { IfErr result (IsOnlyClaimReason self.old.planned self.old.cell claim) }
-        ensures unchanged { IfErr result (λ fault. self.new ≡ self.old) }
+        ensures { AnswersClaim self.old claim result self.new }
     {
         // Called for its clause alone: the cell is sound.
         let _plan = self.shaped();
@@ -56,14 +52,7 @@ impl<P: Timed, D: Dues> Core<P, D> {
         job: JobNo,
         at: Moment,
     ) -> Result<Ack, ReportFault>
-        ensures possible { IsOk result ↔ CanClaim self.old.planned self.old.cell (Claim.CleanAfter machine job at) }
-        ensures answered { IfOk result
-            (λ ack. IsAnswered self.old (claimed self.old.planned (Claim.CleanAfter machine job at)) ack self.new) }
-        ensures first_reason { IfErr result
-            (IsClaimReason self.old.planned self.old.cell (Claim.CleanAfter machine job at)) }
-        ensures only_reason { IfErr result
-            (IsOnlyClaimReason self.old.planned self.old.cell (Claim.CleanAfter machine job at)) }
-        ensures unchanged { IfErr result (λ fault. self.new ≡ self.old) }
+        ensures { AnswersClaim self.old (Claim.CleanAfter machine job at) result self.new }
     {
         self.claim(Claim::CleanAfter { machine, job, at })
     }
@@ -71,14 +60,7 @@ impl<P: Timed, D: Dues> Core<P, D> {
     /// Takes the claim that the operation of this step of the job has ended, as [`Core::claim`] does. It is expected
     /// only while the job is at work on just that step.
     pub fn finish_step(&mut self, job: JobNo, step: u32, at: Moment) -> Result<Ack, ReportFault>
-        ensures possible { IsOk result ↔ CanClaim self.old.planned self.old.cell (Claim.FinishStep job step at) }
-        ensures answered { IfOk result
-            (λ ack. IsAnswered self.old (claimed self.old.planned (Claim.FinishStep job step at)) ack self.new) }
-        ensures first_reason { IfErr result
-            (IsClaimReason self.old.planned self.old.cell (Claim.FinishStep job step at)) }
-        ensures only_reason { IfErr result
-            (IsOnlyClaimReason self.old.planned self.old.cell (Claim.FinishStep job step at)) }
-        ensures unchanged { IfErr result (λ fault. self.new ≡ self.old) }
+        ensures { AnswersClaim self.old (Claim.FinishStep job step at) result self.new }
     {
         self.claim(Claim::FinishStep { job, step, at })
     }
@@ -92,15 +74,7 @@ impl<P: Timed, D: Dues> Core<P, D> {
         step: u32,
         at: Moment,
     ) -> Result<Ack, ReportFault>
-        ensures possible { IsOk result
-            ↔ CanClaim self.old.planned self.old.cell (Claim.CleanAfterStep machine job step at) }
-        ensures answered { IfOk result
-            (λ ack. IsAnswered self.old (claimed self.old.planned (Claim.CleanAfterStep machine job step at)) ack self.new) }
-        ensures first_reason { IfErr result
-            (IsClaimReason self.old.planned self.old.cell (Claim.CleanAfterStep machine job step at)) }
-        ensures only_reason { IfErr result
-            (IsOnlyClaimReason self.old.planned self.old.cell (Claim.CleanAfterStep machine job step at)) }
-        ensures unchanged { IfErr result (λ fault. self.new ≡ self.old) }
+        ensures { AnswersClaim self.old (Claim.CleanAfterStep machine job step at) result self.new }
     {
         self.claim(Claim::CleanAfterStep {
             machine,

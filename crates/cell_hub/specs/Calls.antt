@@ -1,12 +1,12 @@
 -- The calls on a hub.
-use Rattle.std.specs.Prelude.{◌≡◌, ℕ, ◌+◌, ◌-◌, ◌^◌, ◌<◌, List, [], ◌∷◌, Option, None, Some, Result}
+use Rattle.std.specs.Prelude.{◌≡◌, ℕ, ◌+◌, ◌-◌, ◌^◌, ◌<◌, ◌↔◌, List, [], ◌∷◌, Option, None, Some, IfSome, Result, IsOk, IfOk, IfErr, OnErr}
 use Rattle.std.specs.declared.result.Result.TheVariants.{Ok, Err}
 use Rattle.shop_base.specs.declared.report.Report as reports
 use Rattle.shop_base.specs.{Activity.GoesOn, Report.ended, Report.at}
 use Rattle.cell_tables.specs.{declared.claim.Claim.Claim, declared.claim.Claim.TheVariants.Report, Claims.claimed}
 use Rattle.plan_verifier.specs.Accepted.{VerifiedPlan}
 use Rattle.cell_control.specs.{declared.ack.Ack.Ack, Control.Control, Control.at_start, Control.IsAnswered}
-use Rattle.cell_control.specs.Claims.{IsClaimReason}
+use Rattle.cell_control.specs.Claims.{CanClaim, IsClaimReason}
 use Rattle.cell_control.specs.Judged.{JudgedReport, IsPossible}
 use Rattle.cell_hub.specs.{declared.slots.Ticket.Ticket, declared.hub_fault.HubFault.HubFault}
 use Rattle.cell_hub.specs.declared.hub_fault.HubFault.TheVariants.{NoSuchCell, SerialsSpent, Memory, Cell}
@@ -98,6 +98,16 @@ IsCall old (Dismissed t (Err fault)) new = (fault ≡ NoSuchCell) × (cell_at ol
 abbrev pub IsClaimCall : HubState → Ticket → Claim → Result Ack HubFault → HubState → Type 0
 IsClaimCall old t claim (Ok ack) new = (c : Control) × (cell_at old t ≡ Some c) × IsCall old (Reported t (claimed c.planned claim) (Ok ack)) new
 IsClaimCall old t claim (Err fault) new = IsCall old (Shown t (cell_at old t)) new
+
+-- what a hub answers to what is claimed of a ticket's cell: what its controller alone would, and the other cells stay as they are
+pub record AnswersOnTicket (old : HubState) (t : Ticket) (claim : Claim) (answer : Result Ack HubFault) (new : HubState) : Type 0 where
+  pub claimed : IfOk answer (λ ack. IsClaimed old t claim ack new)
+  pub possible : IfSome (cell_at old t) (λ c. IsOk answer ↔ CanClaim c.planned c.cell claim)
+  pub refused : IfErr answer (IsNotClaimed old t claim)
+  pub only_reason : IfErr answer (IsOnlyRefusal old t claim)
+  pub unchanged : OnErr answer (new ≡ old)
+  pub no_such_cell : (answer ≡ Err NoSuchCell) ↔ (cell_at old t ≡ None)
+  pub called : IsClaimCall old t claim answer new
 
 -- calls on a hub, one after another
 pub data AreCalls : HubState → List HubCall → HubState → Type 0 where

@@ -1,10 +1,8 @@
 ghost use Rattle.std.specs.Prelude.{◌≡◌, ◌↔◌, None, option_copied, Ok, IfOk, IfErr, IfSome, IsOk, OnErr};
 ghost use Rattle.shop_base.specs.Report.{CanReport};
-ghost use Rattle.cell_control.specs.Claims.{CanClaim};
 ghost use Rattle.cell_hub.specs.Hub.{hub_from, cell_at, AreSerialsBelow};
-ghost use Rattle.cell_hub.specs.Calls.{IsAdmitted, IsPossibleAt, IsSeated, IsNotAdmitted, IsReported, IsNotClaimed, IsClaimed};
-ghost use Rattle.cell_hub.specs.Calls.{IsOnlyRefusal, EndsNow, IsDismissed, IsCall};
-ghost use Rattle.cell_hub.specs.Calls.{IsClaimCall, Admitted, Reported, Shown, Dismissed};
+ghost use Rattle.cell_hub.specs.Calls.{IsAdmitted, IsPossibleAt, IsSeated, IsNotAdmitted, IsReported, IsNotClaimed, IsOnlyRefusal};
+ghost use Rattle.cell_hub.specs.Calls.{AnswersOnTicket, EndsNow, IsDismissed, IsCall, Admitted, Reported, Shown, Dismissed};
 
 use crate::hub_fault::HubFault;
 use crate::slots::{Placed, Ticket, accept_in, cell_in, report_in, reserve_slot, take_from};
@@ -110,14 +108,7 @@ impl<P: Timed, D: Dues> HubOf<P, D> {
     /// Takes what is claimed to have ended in the ticket's cell, which answers it as a controller alone does: it is
     /// accepted, as its report, exactly if it is possible in that cell.
     pub fn claim(&mut self, ticket: Ticket, claim: Claim) -> Result<Ack, HubFault>
-        ensures claimed { IfOk result (λ ack. IsClaimed self.old ticket claim ack self.new) }
-        ensures possible { IfSome (cell_at self.old ticket)
-            (λ c. IsOk result ↔ CanClaim c.planned c.cell claim) }
-        ensures refused { IfErr result (IsNotClaimed self.old ticket claim) }
-        ensures only_reason { IfErr result (IsOnlyRefusal self.old ticket claim) }
-        ensures unchanged { OnErr result (self.new ≡ self.old) }
-        ensures no_such_cell { (result ≡ Err HubFault.NoSuchCell) ↔ (cell_at self.old ticket ≡ None) }
-        ensures called { IsClaimCall self.old ticket claim result self.new }
+        ensures { AnswersOnTicket self.old ticket claim result self.new }
     {
         let Some(cell) = self.cell(ticket) else {
             return Err(HubFault::NoSuchCell);
@@ -138,14 +129,7 @@ impl<P: Timed, D: Dues> HubOf<P, D> {
         job: JobNo,
         at: Moment,
     ) -> Result<Ack, HubFault>
-        ensures claimed { IfOk result (λ ack. IsClaimed self.old ticket (Claim.CleanAfter machine job at) ack self.new) }
-        ensures possible { IfSome (cell_at self.old ticket)
-            (λ c. IsOk result ↔ CanClaim c.planned c.cell (Claim.CleanAfter machine job at)) }
-        ensures refused { IfErr result (IsNotClaimed self.old ticket (Claim.CleanAfter machine job at)) }
-        ensures only_reason { IfErr result (IsOnlyRefusal self.old ticket (Claim.CleanAfter machine job at)) }
-        ensures unchanged { OnErr result (self.new ≡ self.old) }
-        ensures no_such_cell { (result ≡ Err HubFault.NoSuchCell) ↔ (cell_at self.old ticket ≡ None) }
-        ensures called { IsClaimCall self.old ticket (Claim.CleanAfter machine job at) result self.new }
+        ensures { AnswersOnTicket self.old ticket (Claim.CleanAfter machine job at) result self.new }
     {
         self.claim(ticket, Claim::CleanAfter { machine, job, at })
     }
@@ -158,14 +142,7 @@ impl<P: Timed, D: Dues> HubOf<P, D> {
         step: u32,
         at: Moment,
     ) -> Result<Ack, HubFault>
-        ensures claimed { IfOk result (λ ack. IsClaimed self.old ticket (Claim.FinishStep job step at) ack self.new) }
-        ensures possible { IfSome (cell_at self.old ticket)
-            (λ c. IsOk result ↔ CanClaim c.planned c.cell (Claim.FinishStep job step at)) }
-        ensures refused { IfErr result (IsNotClaimed self.old ticket (Claim.FinishStep job step at)) }
-        ensures only_reason { IfErr result (IsOnlyRefusal self.old ticket (Claim.FinishStep job step at)) }
-        ensures unchanged { OnErr result (self.new ≡ self.old) }
-        ensures no_such_cell { (result ≡ Err HubFault.NoSuchCell) ↔ (cell_at self.old ticket ≡ None) }
-        ensures called { IsClaimCall self.old ticket (Claim.FinishStep job step at) result self.new }
+        ensures { AnswersOnTicket self.old ticket (Claim.FinishStep job step at) result self.new }
     {
         self.claim(ticket, Claim::FinishStep { job, step, at })
     }
@@ -179,14 +156,7 @@ impl<P: Timed, D: Dues> HubOf<P, D> {
         step: u32,
         at: Moment,
     ) -> Result<Ack, HubFault>
-        ensures claimed { IfOk result (λ ack. IsClaimed self.old ticket (Claim.CleanAfterStep machine job step at) ack self.new) }
-        ensures possible { IfSome (cell_at self.old ticket)
-            (λ c. IsOk result ↔ CanClaim c.planned c.cell (Claim.CleanAfterStep machine job step at)) }
-        ensures refused { IfErr result (IsNotClaimed self.old ticket (Claim.CleanAfterStep machine job step at)) }
-        ensures only_reason { IfErr result (IsOnlyRefusal self.old ticket (Claim.CleanAfterStep machine job step at)) }
-        ensures unchanged { OnErr result (self.new ≡ self.old) }
-        ensures no_such_cell { (result ≡ Err HubFault.NoSuchCell) ↔ (cell_at self.old ticket ≡ None) }
-        ensures called { IsClaimCall self.old ticket (Claim.CleanAfterStep machine job step at) result self.new }
+        ensures { AnswersOnTicket self.old ticket (Claim.CleanAfterStep machine job step at) result self.new }
     {
         self.claim(
             ticket,

@@ -1,4 +1,4 @@
-use Rattle.std.proofs.Common.{sym}
+use Rattle.std.proofs.Common.{refl, sym}
 use Rattle.std.specs.declared.result.Result.TheVariants.{Ok}
 use Rattle.cell_control.proofs.ClaimReasons.{claim_reason-cannot}
 use Rattle.cell_hub.specs.{Hub.cell_at}
@@ -9,26 +9,33 @@ use Rattle.cell_hub.proofs.hub.HubOf.claim.Goals as goal
 pub accept-requires : goal.accept-requires
 accept-requires g c = record { control = c.in-Some.cell.now; cell = sym c.in-Some.ensures.cell; possible = c.in-Ok.ensures.judged.1 }
 
-pub returns-in-Ok-clause-claimed : goal.returns-in-Ok-clause-claimed
-returns-in-Ok-clause-claimed g c =
-    report_claimed c.args.self.now c.accept.new.self c.args.ticket c.args.claim c.in-Some.cell.now c.in-Ok.possible.report c.accept.result (sym c.in-Some.ensures.cell) c.in-Ok.ensures.judged.0 c.accept.ensures.reported
+pub returns-in-Ok : goal.returns-in-Ok
+returns-in-Ok g c =
+    let there = sym c.in-Some.ensures.cell in
+    let claimed = report_claimed c.args.self.now c.accept.new.self c.args.ticket c.args.claim c.in-Some.cell.now c.in-Ok.possible.report c.accept.result there c.in-Ok.ensures.judged.0 c.accept.ensures.reported in
+    record {
+      claimed = claimed;
+      possible = possible_there (cell_at c.args.self.now c.args.ticket) c.in-Some.cell.now there c.args.claim c.in-Ok.ensures.possible;
+      refused = tt;
+      only_reason = tt;
+      unchanged = tt;
+      no_such_cell = (λ same. absurd (cc), λ none. absurd (cc));
+      called = claimed;
+    }
 
-pub returns-in-Ok-clause-called : goal.returns-in-Ok-clause-called
-returns-in-Ok-clause-called g c = returns-in-Ok-clause-claimed g c
-
-pub returns-in-Ok-clause-possible : goal.returns-in-Ok-clause-possible
-returns-in-Ok-clause-possible g c = possible_there (cell_at c.args.self.now c.args.ticket) c.in-Some.cell.now (sym c.in-Some.ensures.cell) c.args.claim c.in-Ok.ensures.possible
-
-pub returns-in-Err-clause-possible : goal.returns-in-Err-clause-possible
-returns-in-Err-clause-possible g c =
+pub returns-in-Err : goal.returns-in-Err
+returns-in-Err g c =
     let v = c.in-Some.cell.now in
+    let there = sym c.in-Some.ensures.cell in
+    let first = c.in-Err.ensures.first_reason in
     let control = c.shaped-plan.ensures.control in
-    not_possible_there (cell_at c.args.self.now c.args.ticket) v (sym c.in-Some.ensures.cell) c.args.claim
-    (claim_reason-cannot v.planned v.cell c.args.claim c.in-Err.reason control.ranks.shaped control.sound c.in-Err.ensures.first_reason)
-
-pub returns-in-Err-clause-only_reason : goal.returns-in-Err-clause-only_reason
-returns-in-Err-clause-only_reason g c =
-    only_refusal c.args.self.now c.args.ticket c.args.claim (Cell c.in-Err.reason) (c.in-Some.cell.now, sym c.in-Some.ensures.cell, c.in-Err.ensures.first_reason)
-
-pub returns-in-Err-clause-refused : goal.returns-in-Err-clause-refused
-returns-in-Err-clause-refused g c = (c.in-Some.cell.now, sym c.in-Some.ensures.cell, c.in-Err.ensures.first_reason)
+    record {
+      claimed = tt;
+      possible = not_possible_there (cell_at c.args.self.now c.args.ticket) v there c.args.claim
+          (claim_reason-cannot v.planned v.cell c.args.claim c.in-Err.reason control.ranks.shaped control.sound first);
+      refused = (v, there, first);
+      only_reason = only_refusal c.args.self.now c.args.ticket c.args.claim (Cell c.in-Err.reason) (v, there, first);
+      unchanged = refl;
+      no_such_cell = (λ same. absurd (cc), λ none. absurd (cc));
+      called = (refl, refl);
+    }
