@@ -3,6 +3,7 @@
 //! plan keeps all that was done.
 #![tactic(auto)]
 
+mod alternating_improver;
 mod annealing_improver;
 mod beginning;
 mod best;
@@ -17,12 +18,14 @@ mod judging;
 pub mod laws;
 mod left;
 mod not_improved;
+mod opening_improver;
 mod plan_out;
 mod rest_improving;
 mod rounds;
 mod searching;
 mod watch;
 
+pub use alternating_improver::AlternatingImprover;
 pub use annealing_improver::AnnealingImprover;
 pub use cost::Cost;
 pub use improve_fault::ImproveFault;
@@ -30,6 +33,7 @@ pub use improved::Improved;
 pub use improver::Improver;
 pub use improving::improve;
 pub use not_improved::NotImproved;
+pub use opening_improver::OpeningImprover;
 pub use plan_annealing::{JobRest, Rest};
 pub use plan_seek::{MAX_ROUNDS, Proposed};
 pub use rest_improving::better_rest;

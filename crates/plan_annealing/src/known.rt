@@ -1,0 +1,29 @@
+//! What the search knows at the end of a round.
+
+use crate::opening::FIRST_SIZE;
+use crate::standing::Lateness;
+use std::alloc::{AllocError, Global};
+
+/// What the search knows at the end of a round: the plan at hand, how late that and the best one that it has met were, and
+/// how many jobs it opens, in 1/16.
+#[derive(Drop)]
+pub struct Known {
+    pub(crate) places: Vec<u32>,
+    pub(crate) order: Vec<u32>,
+    pub(crate) lateness: Lateness,
+    pub(crate) least: Lateness,
+    pub(crate) size: u32,
+}
+
+impl Known {
+    /// Nothing is known yet.
+    pub fn new(alloc: Global) -> Known {
+        Known {
+            places: Vec::new(alloc),
+            order: Vec::new(alloc),
+            lateness: Lateness::NONE,
+            least: Lateness::NONE,
+            size: FIRST_SIZE,
+        }
+    }
+}
