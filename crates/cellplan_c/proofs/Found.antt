@@ -1,5 +1,8 @@
 -- What is said of a cell and a report, where they are there and where they aren't.
-use Rattle.std.proofs.Common.{◌≡◌, ◌≢◌, ℕ, Option, None, Some, IfSome, sym, subst}
+use Rattle.std.proofs.Common.{◌≡◌, ◌≢◌, ℕ, List, Option, None, Some, IfSome, refl, sym, subst}
+use Rattle.cellplan_c.specs.declared.cell.Cell.{Cell}
+use Rattle.cellplan_c.specs.declared.numbers.Order.{Order}
+use Rattle.cellplan_c.specs.Cells.{WritesOrders}
 
 pub of_both : {A B : Type 0} (P : A → B → Type 0) (held : Option A) (reported : Option B) (a : A) (b : B)
     → held ≡ Some a → reported ≡ Some b → P a b → IfSome held (λ old. IfSome reported (λ report. P old report))
@@ -26,6 +29,11 @@ pub of_none : {A B : Type 0} (P : A → A → B → Type 0) (held after : Option
 of_none P held after None is = of_each _ held (λ old. of_each _ after (λ new. tt))
 of_none P held after (Some report) is = absurd (cc is)
 
--- and at another status than 0 nothing of what is said at 0
-pub unless_good : {A : Type 0} (P : A → Type 0) (status : ℕ) (held : Option A) → status ≢ 0 → IfSome held (λ a. status ≡ 0 → P a)
-unless_good P status held bad = of_each (λ a. status ≡ 0 → P a) held (λ a good. absurd (bad good))
+-- and at another status than 0 no order is written
+pub unwritten : (cell : Cell) (status first : ℕ) (room : List Order) → status ≢ 0 → WritesOrders cell status first room room 0
+unwritten cell status first room bad = record {
+  no_orders = λ _. (refl, refl);
+  count = of_each _ cell.slot.held (λ held good. absurd (bad good));
+  orders = of_each _ cell.slot.held (λ held good. absurd (bad good));
+  kept = of_each _ cell.slot.held (λ held good. absurd (bad good));
+}

@@ -5,6 +5,5 @@ mod Found
 mod HandingOver
 mod Judging
 mod Laying
-mod Reading
 mod Slots
 mod Answering

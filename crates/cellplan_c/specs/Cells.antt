@@ -1,5 +1,5 @@
 -- What is said of the controller that a cell holds, and what the calls that report to it or ask for its orders answer.
-use Rattle.std.specs.Prelude.{◌≡◌, ◌≢◌, ℕ, ◌+◌, ◌<◌, ◌≤◌, ◌↔◌, Bool, List, Option, IfSome, length, slice_get, option_map}
+use Rattle.std.specs.Prelude.{◌≡◌, ◌≢◌, ℕ, ◌+◌, ◌<◌, ◌≤◌, ◌↔◌, Bool, false, List, Option, None, IsSome, IfSome, length, slice_get, option_map}
 use Rattle.shop_base.specs.declared.move_order.MoveOrder.{MoveOrder}
 use Rattle.cell_control.specs.declared.report_fault.ReportFault.{ReportFault}
 use Rattle.cell_control.specs.Control.{Control, IsAnswered}
@@ -49,3 +49,23 @@ AreOrdersPut orders first old new =
 -- behind the orders from a first one on the room stays as it was
 abbrev pub IsKeptBehind : List MoveOrder → ℕ → List Order → List Order → Type 0
 IsKeptBehind orders first old new = (i : ℕ) → length orders ≤ first + i → slice_get new i ≡ slice_get old i
+
+-- what a call of status 0 writes of the orders of the controller that the cell then holds: from a first one on as many as there is room for, and the number of them all; else none
+pub record WritesOrders (cell : Cell) (status first : ℕ) (before after : List Order) (written : ℕ) : Type 0 where
+  pub no_orders : status ≢ 0 → (written ≡ 0) × (after ≡ before)
+  pub count : Holding cell (λ held. status ≡ 0 → written ≡ length held.orders)
+  pub orders : Holding cell (λ held. status ≡ 0 → AreOrdersPut held.orders first before after)
+  pub kept : Holding cell (λ held. status ≡ 0 → IsKeptBehind held.orders first before after)
+
+-- a report to the cell of what is claimed to have ended: at status 9 it is of no kind, and at 8 the cell holds no controller
+pub record Reports (old new : Cell) (claim : Option Claim) (status : ℕ) (late : Bool) (detail : ℕ) : Type 0 where
+  pub full : IsSome old.slot.held → IsSome new.slot.held
+  pub no_kind : (claim ≡ None) ↔ (status ≡ 9)
+  pub no_cell : IfSome claim (λ claim. (old.slot.held ≡ None) ↔ (status ≡ 8))
+  -- what it comes to, by the controllers before and after
+  pub reported : Claiming old new claim (IsReportAnswered status late detail)
+  pub unchanged : status ≢ 0 → new.slot.held ≡ old.slot.held
+  pub never_wrong : status ≢ 9 → Holding new GoesAsPromised
+  -- refused, it isn't late; and only a reason, from 16 on, names something
+  pub not_late : status ≢ 0 → late ≡ false
+  pub no_detail : status < 16 → detail ≡ 0

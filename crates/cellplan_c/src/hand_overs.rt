@@ -1,12 +1,12 @@
 //! A cell handed over to another plan in mid-run, called from C.
 
-ghost use Rattle.std.specs.Prelude.{◌≡◌, ◌≢◌, ◌≤◌, ◌↔◌, None, IsSome, length};
+ghost use Rattle.std.specs.Prelude.{◌≡◌, ◌≢◌, ◌≤◌, ◌↔◌, None, IsSome};
 ghost use Rattle.shop_base.specs.declared.limits.TheConstants.{MAX_MOMENT};
 ghost use Rattle.shop_base.specs.Plan.{PlannedShop};
 ghost use Rattle.command_answers.specs.Shapes.{IsShapedOrNot};
 ghost use Rattle.cell_control.specs.HandedOver.{IsHandedOver};
 ghost use Rattle.cellplan_c.specs.Numbers.{named};
-ghost use Rattle.cellplan_c.specs.Cells.{Holding, GoesAsPromised, Handing, AreOrdersPut, IsKeptBehind};
+ghost use Rattle.cellplan_c.specs.Cells.{Holding, GoesAsPromised, Handing, WritesOrders};
 ghost use Rattle.cellplan_c.specs.HandOvers.{IsHandOver, IsHandOverStatus, hand_over_status};
 
 use crate::cell::Cell;
@@ -14,7 +14,7 @@ use crate::inner::Inner;
 use crate::instances::name_in;
 use crate::numbers::Order;
 use crate::promised::is_as_promised;
-use crate::rooms::put_orders;
+use crate::rooms::put_back;
 use crate::statuses::{BACKWARDS, GOOD, KEEPS_NOT, MOMENT_TOO_LARGE, NO_CELL, REFUSED};
 use cell_control::HandOverFault;
 use cell_tables::PresentFault;
@@ -42,10 +42,7 @@ pub extern "C" fn cellplan_cell_hand_over(
     ensures handed_over { Handing cell.old cell.new (IsHandOver instance.now (named name.now) plan.now at result) }
     ensures unchanged { result ≢ 0 → cell.new.slot.held ≡ cell.old.slot.held }
     ensures never_wrong { Holding cell.new GoesAsPromised }
-    ensures no_orders { result ≢ 0 → (count.new ≡ 0) × (orders.new ≡ orders.old) }
-    ensures count { Holding cell.new (λ new. result ≡ 0 → count.new ≡ length new.orders) }
-    ensures orders { Holding cell.new (λ new. result ≡ 0 → AreOrdersPut new.orders 0 orders.old orders.new) }
-    ensures kept { Holding cell.new (λ new. result ≡ 0 → IsKeptBehind new.orders 0 orders.old orders.new) }
+    ensures orders { WritesOrders cell.new result 0 orders.old orders.new count.new }
 {
     *count = 0;
     let Some(mut inner) = cell.take(alloc) else {
@@ -53,12 +50,7 @@ pub extern "C" fn cellplan_cell_hand_over(
     };
     let status = hand_over_to(alloc, &mut inner, instance, name, plan, at);
     is_as_promised(&inner.controller);
-    if status == GOOD {
-        let released = inner.controller.orders();
-        *count = released.len();
-        put_orders(released, 0, orders);
-    }
-    cell.put(inner);
+    put_back(cell, inner, status, 0, orders, count);
     status
 }
 

@@ -1,5 +1,6 @@
 //! What C reads of a cell.
 
+ghost use Rattle.std.specs.Fn.{FnOnceReturnsAt};
 ghost use Rattle.std.specs.Prelude.{◌≡◌, ◌↔◌, IsTrue};
 ghost use Rattle.shop_base.specs.Plan.{jobs, machines};
 ghost use Rattle.shop_base.specs.Ends.{HasEnded};
@@ -10,7 +11,8 @@ ghost use Rattle.cellplan_c.specs.Readings.{Finds, Reads, IsPhaseFound, IsLeaveO
 use crate::cell::Cell;
 use crate::numbers::{Phase, phase_numbers};
 use crate::rooms::put_found;
-use crate::statuses::{GOOD, NO_CELL, NONE};
+use crate::statuses::{GOOD, NO_CELL};
+use cell_control::{RestController, TourneyDues};
 use std::alloc::Global;
 
 /// Where the job is; `NONE` for a number that is no job's.
@@ -23,18 +25,7 @@ pub extern "C" fn cellplan_cell_phase(
 ) -> u32
     ensures { Finds cell.old cell.new result phase.old phase.new (λ held. IsPhaseFound held job) }
 {
-    let Some(inner) = cell.take(alloc) else {
-        return NO_CELL;
-    };
-    let found = inner.controller.phase(job);
-    cell.put(inner);
-    match found {
-        Some(place) => {
-            *phase = phase_numbers(place);
-            GOOD
-        }
-        None => NONE,
-    }
+    find(alloc, cell, phase, |held| held.phase(job).map(phase_numbers))
 }
 
 /// The job that is on the machine; `NONE` if there is none, or if the number is no machine's.
@@ -47,12 +38,7 @@ pub extern "C" fn cellplan_cell_holder(
 ) -> u32
     ensures { Finds cell.old cell.new result job.old job.new (λ held. IsJobOn held.planned held.cell machine) }
 {
-    let Some(inner) = cell.take(alloc) else {
-        return NO_CELL;
-    };
-    let found = inner.controller.holder(machine);
-    cell.put(inner);
-    put_found(found, job)
+    find(alloc, cell, job, |held| held.holder(machine))
 }
 
 /// When the job's activity is due; `NONE` if it has none, since it is ready or gone or no job.
@@ -60,12 +46,7 @@ pub extern "C" fn cellplan_cell_holder(
 pub extern "C" fn cellplan_cell_due(alloc: Global, cell: &mut Cell, job: u32, at: &mut u64) -> u32
     ensures { Finds cell.old cell.new result at.old at.new (λ held. IsDueOf held.planned held.cell job) }
 {
-    let Some(inner) = cell.take(alloc) else {
-        return NO_CELL;
-    };
-    let found = inner.controller.due(job);
-    cell.put(inner);
-    put_found(found, at)
+    find(alloc, cell, at, |held| held.due(job))
 }
 
 /// When the machine's cleaning is due; `NONE` if it isn't being cleaned.
@@ -78,12 +59,7 @@ pub extern "C" fn cellplan_cell_clean_due(
 ) -> u32
     ensures { Finds cell.old cell.new result at.old at.new (λ held. IsDueOfCleaning held.planned held.cell machine) }
 {
-    let Some(inner) = cell.take(alloc) else {
-        return NO_CELL;
-    };
-    let found = inner.controller.clean_due(machine);
-    cell.put(inner);
-    put_found(found, at)
+    find(alloc, cell, at, |held| held.clean_due(machine))
 }
 
 /// The job after which the machine is being cleaned; `NONE` if it isn't being cleaned.
@@ -96,12 +72,7 @@ pub extern "C" fn cellplan_cell_cleaned_after(
 ) -> u32
     ensures { Finds cell.old cell.new result job.old job.new (λ held. IsCleanedFor held.planned held.cell machine) }
 {
-    let Some(inner) = cell.take(alloc) else {
-        return NO_CELL;
-    };
-    let found = inner.controller.cleaned_after(machine);
-    cell.put(inner);
-    put_found(found, job)
+    find(alloc, cell, job, |held| held.cleaned_after(machine))
 }
 
 /// The step of the job that is on a machine; `NONE` if it is outside or gone, or no job.
@@ -114,12 +85,7 @@ pub extern "C" fn cellplan_cell_step(
 ) -> u32
     ensures { Finds cell.old cell.new result step.old step.new (λ held. IsCurrentStep held.planned held.cell job) }
 {
-    let Some(inner) = cell.take(alloc) else {
-        return NO_CELL;
-    };
-    let found = inner.controller.current_step(job);
-    cell.put(inner);
-    put_found(found, step)
+    find(alloc, cell, step, |held| held.current_step(job))
 }
 
 /// The job, and its step, after which the machine is being cleaned; `NONE` if it isn't being cleaned.
@@ -134,13 +100,8 @@ pub extern "C" fn cellplan_cell_cleaned_after_step(
     ensures { Finds cell.old cell.new result (job.old, step.old) (job.new, step.new)
         (λ held. IsCleanedForStep held.planned held.cell machine) }
 {
-    let Some(inner) = cell.take(alloc) else {
-        return NO_CELL;
-    };
-    let found = inner.controller.cleaned_after_step(machine);
-    cell.put(inner);
     let mut both = (*job, *step);
-    let status = put_found(found, &mut both);
+    let status = find(alloc, cell, &mut both, |held| held.cleaned_after_step(machine));
     (*job, *step) = both;
     status
 }
@@ -150,12 +111,7 @@ pub extern "C" fn cellplan_cell_cleaned_after_step(
 pub extern "C" fn cellplan_cell_now(alloc: Global, cell: &mut Cell, at: &mut u64) -> u32
     ensures { Reads cell.old cell.new result at.old at.new (λ held at. at ≡ held.cell.last) }
 {
-    let Some(inner) = cell.take(alloc) else {
-        return NO_CELL;
-    };
-    *at = inner.controller.now();
-    cell.put(inner);
-    GOOD
+    read(alloc, cell, at, |held| held.now())
 }
 
 /// Whether no accepted report was late since its plan began or took over, but that what was overdue then has ended
@@ -164,12 +120,7 @@ pub extern "C" fn cellplan_cell_now(alloc: Global, cell: &mut Cell, at: &mut u64
 pub extern "C" fn cellplan_cell_punctual(alloc: Global, cell: &mut Cell, punctual: &mut bool) -> u32
     ensures { Reads cell.old cell.new result punctual.old punctual.new (λ held punctual. punctual ≡ held.punctual) }
 {
-    let Some(inner) = cell.take(alloc) else {
-        return NO_CELL;
-    };
-    *punctual = inner.controller.punctual();
-    cell.put(inner);
-    GOOD
+    read(alloc, cell, punctual, |held| held.punctual())
 }
 
 /// How many reports are still to come.
@@ -177,12 +128,7 @@ pub extern "C" fn cellplan_cell_punctual(alloc: Global, cell: &mut Cell, punctua
 pub extern "C" fn cellplan_cell_reports_left(alloc: Global, cell: &mut Cell, left: &mut u64) -> u32
     ensures { Reads cell.old cell.new result left.old left.new AreReportsLeft }
 {
-    let Some(inner) = cell.take(alloc) else {
-        return NO_CELL;
-    };
-    *left = inner.controller.reports_left();
-    cell.put(inner);
-    GOOD
+    read(alloc, cell, left, |held| held.reports_left())
 }
 
 /// Whether the run has ended: all jobs are gone, and no machine is being cleaned.
@@ -191,12 +137,7 @@ pub extern "C" fn cellplan_cell_is_done(alloc: Global, cell: &mut Cell, done: &m
     ensures { Reads cell.old cell.new result done.old done.new
         (λ held done. IsTrue done ↔ HasEnded held.planned held.cell) }
 {
-    let Some(inner) = cell.take(alloc) else {
-        return NO_CELL;
-    };
-    *done = inner.controller.is_done();
-    cell.put(inner);
-    GOOD
+    read(alloc, cell, done, |held| held.is_done())
 }
 
 /// How many jobs the shop has.
@@ -204,12 +145,7 @@ pub extern "C" fn cellplan_cell_is_done(alloc: Global, cell: &mut Cell, done: &m
 pub extern "C" fn cellplan_cell_jobs(alloc: Global, cell: &mut Cell, count: &mut u32) -> u32
     ensures { Reads cell.old cell.new result count.old count.new (λ held count. count ≡ jobs held.planned) }
 {
-    let Some(inner) = cell.take(alloc) else {
-        return NO_CELL;
-    };
-    *count = inner.controller.shaped().shop().jobs();
-    cell.put(inner);
-    GOOD
+    read(alloc, cell, count, |held| held.shaped().shop().jobs())
 }
 
 /// How many machines the shop has.
@@ -217,12 +153,7 @@ pub extern "C" fn cellplan_cell_jobs(alloc: Global, cell: &mut Cell, count: &mut
 pub extern "C" fn cellplan_cell_machines(alloc: Global, cell: &mut Cell, count: &mut u32) -> u32
     ensures { Reads cell.old cell.new result count.old count.new (λ held count. count ≡ machines held.planned) }
 {
-    let Some(inner) = cell.take(alloc) else {
-        return NO_CELL;
-    };
-    *count = inner.controller.shaped().shop().machines();
-    cell.put(inner);
-    GOOD
+    read(alloc, cell, count, |held| held.shaped().shop().machines())
 }
 
 /// The moment kept for the job's leaving, by which it is out while no report is late: the earliest, from where its plan
@@ -236,10 +167,41 @@ pub extern "C" fn cellplan_cell_leaves(
 ) -> u32
     ensures { Finds cell.old cell.new result at.old at.new (λ held. IsLeaveOf held job) }
 {
+    find(alloc, cell, at, |held| held.leave_by(job))
+}
+
+/// Writes what is found in the controller that the cell holds, if it is.
+fn find<T: Copy, F: FnOnce(&RestController<TourneyDues>) -> Option<T>>(
+    alloc: Global,
+    cell: &mut Cell,
+    room: &mut T,
+    look: F,
+) -> u32
+    requires { F.IsAlwaysCallable look }
+    ensures { Finds cell.old cell.new result room.old room.new (FnOnceReturnsAt F.FnOnce look) }
+{
     let Some(inner) = cell.take(alloc) else {
         return NO_CELL;
     };
-    let found = inner.controller.leave_by(job);
+    let found = look(&inner.controller);
     cell.put(inner);
-    put_found(found, at)
+    put_found(found, room)
+}
+
+/// Writes what is read of the controller that the cell holds.
+fn read<T: Copy, F: FnOnce(&RestController<TourneyDues>) -> T>(
+    alloc: Global,
+    cell: &mut Cell,
+    room: &mut T,
+    look: F,
+) -> u32
+    requires { F.IsAlwaysCallable look }
+    ensures { Reads cell.old cell.new result room.old room.new (FnOnceReturnsAt F.FnOnce look) }
+{
+    let Some(inner) = cell.take(alloc) else {
+        return NO_CELL;
+    };
+    *room = look(&inner.controller);
+    cell.put(inner);
+    GOOD
 }

@@ -1,19 +1,18 @@
 //! Reports and their orders, called from C.
 
-ghost use Rattle.std.specs.Prelude.{◌≡◌, ◌≢◌, ◌<◌, ◌≤◌, ◌↔◌, None, IsSome, IfSome, IfOk, IfErr, IsOk, length, false};
+ghost use Rattle.std.specs.Prelude.{◌≡◌, ◌≢◌, ◌≤◌, ◌↔◌, None, IsSome, IfOk, IfErr, IsOk};
 ghost use Rattle.cell_control.specs.Control.{IsAnswered};
 ghost use Rattle.cell_tables.specs.Claims.{claimed};
 ghost use Rattle.cell_control.specs.Claims.{CanClaim, IsClaimReason, IsOnlyClaimReason};
 ghost use Rattle.cellplan_c.specs.Numbers.{report_by, step_report_by};
 ghost use Rattle.cellplan_c.specs.Claimed.{IfGoesOnNow, Calls};
-ghost use Rattle.cellplan_c.specs.Cells.{Holding, GoesAsPromised, Claiming, IsReportAnswered};
-ghost use Rattle.cellplan_c.specs.Cells.{AreOrdersPut, IsKeptBehind};
+ghost use Rattle.cellplan_c.specs.Cells.{GoesAsPromised, IsReportAnswered, WritesOrders, Reports};
 
 use crate::cell::Cell;
 use crate::inner::Inner;
 use crate::numbers::{Order, fault_detail, fault_number, report_by, step_report_by};
 use crate::promised::is_as_promised;
-use crate::rooms::put_orders;
+use crate::rooms::put_back;
 use crate::statuses::{GOOD, NO_CELL, NO_KIND};
 use cell_control::{Ack, Claim, ReportFault, RestController, TourneyDues};
 use std::alloc::Global;
@@ -35,18 +34,8 @@ pub extern "C" fn cellplan_cell_report(
     late: &mut bool,
     detail: &mut u64,
 ) -> u32
-    ensures full { IsSome cell.old.slot.held → IsSome cell.new.slot.held }
-    ensures no_kind { (report_by kind job machine at ≡ None) ↔ (result ≡ 9) }
-    ensures no_cell { IfSome (report_by kind job machine at) (λ claim. (cell.old.slot.held ≡ None) ↔ (result ≡ 8)) }
-    ensures reported { Claiming cell.old cell.new (report_by kind job machine at) (IsReportAnswered result late.new detail.new) }
-    ensures unchanged { result ≢ 0 → cell.new.slot.held ≡ cell.old.slot.held }
-    ensures never_wrong { result ≢ 9 → Holding cell.new GoesAsPromised }
-    ensures not_late { result ≢ 0 → late.new ≡ false }
-    ensures no_detail { result < 16 → detail.new ≡ 0 }
-    ensures no_orders { result ≢ 0 → (count.new ≡ 0) × (orders.new ≡ orders.old) }
-    ensures count { Holding cell.new (λ new. result ≡ 0 → count.new ≡ length new.orders) }
-    ensures orders { Holding cell.new (λ new. result ≡ 0 → AreOrdersPut new.orders 0 orders.old orders.new) }
-    ensures kept { Holding cell.new (λ new. result ≡ 0 → IsKeptBehind new.orders 0 orders.old orders.new) }
+    ensures reported { Reports cell.old cell.new (report_by kind job machine at) result late.new detail.new }
+    ensures orders { WritesOrders cell.new result 0 orders.old orders.new count.new }
 {
     let claim = report_by(kind, job, machine, at);
     report_claim(alloc, cell, claim, orders, count, late, detail)
@@ -68,18 +57,8 @@ pub extern "C" fn cellplan_cell_report_step(
     late: &mut bool,
     detail: &mut u64,
 ) -> u32
-    ensures full { IsSome cell.old.slot.held → IsSome cell.new.slot.held }
-    ensures no_kind { (step_report_by kind job step machine at ≡ None) ↔ (result ≡ 9) }
-    ensures no_cell { IfSome (step_report_by kind job step machine at) (λ claim. (cell.old.slot.held ≡ None) ↔ (result ≡ 8)) }
-    ensures reported { Claiming cell.old cell.new (step_report_by kind job step machine at) (IsReportAnswered result late.new detail.new) }
-    ensures unchanged { result ≢ 0 → cell.new.slot.held ≡ cell.old.slot.held }
-    ensures never_wrong { result ≢ 9 → Holding cell.new GoesAsPromised }
-    ensures not_late { result ≢ 0 → late.new ≡ false }
-    ensures no_detail { result < 16 → detail.new ≡ 0 }
-    ensures no_orders { result ≢ 0 → (count.new ≡ 0) × (orders.new ≡ orders.old) }
-    ensures count { Holding cell.new (λ new. result ≡ 0 → count.new ≡ length new.orders) }
-    ensures orders { Holding cell.new (λ new. result ≡ 0 → AreOrdersPut new.orders 0 orders.old orders.new) }
-    ensures kept { Holding cell.new (λ new. result ≡ 0 → IsKeptBehind new.orders 0 orders.old orders.new) }
+    ensures reported { Reports cell.old cell.new (step_report_by kind job step machine at) result late.new detail.new }
+    ensures orders { WritesOrders cell.new result 0 orders.old orders.new count.new }
 {
     let claim = step_report_by(kind, job, step, machine, at);
     report_claim(alloc, cell, claim, orders, count, late, detail)
@@ -95,18 +74,8 @@ fn report_claim(
     late: &mut bool,
     detail: &mut u64,
 ) -> u32
-    ensures full { IsSome cell.old.slot.held → IsSome cell.new.slot.held }
-    ensures no_kind { (claim ≡ None) ↔ (result ≡ 9) }
-    ensures no_cell { IfSome claim (λ claim. (cell.old.slot.held ≡ None) ↔ (result ≡ 8)) }
-    ensures reported { Claiming cell.old cell.new claim (IsReportAnswered result late.new detail.new) }
-    ensures unchanged { result ≢ 0 → cell.new.slot.held ≡ cell.old.slot.held }
-    ensures never_wrong { result ≢ 9 → Holding cell.new GoesAsPromised }
-    ensures not_late { result ≢ 0 → late.new ≡ false }
-    ensures no_detail { result < 16 → detail.new ≡ 0 }
-    ensures no_orders { result ≢ 0 → (count.new ≡ 0) × (orders.new ≡ orders.old) }
-    ensures count { Holding cell.new (λ new. result ≡ 0 → count.new ≡ length new.orders) }
-    ensures orders { Holding cell.new (λ new. result ≡ 0 → AreOrdersPut new.orders 0 orders.old orders.new) }
-    ensures kept { Holding cell.new (λ new. result ≡ 0 → IsKeptBehind new.orders 0 orders.old orders.new) }
+    ensures reported { Reports cell.old cell.new claim result late.new detail.new }
+    ensures orders { WritesOrders cell.new result 0 orders.old orders.new count.new }
 {
     *count = 0;
     *late = false;
@@ -118,12 +87,7 @@ fn report_claim(
         return NO_CELL;
     };
     let status = report_to(&mut inner, claim, late, detail);
-    if status == GOOD {
-        let released = inner.controller.orders();
-        *count = released.len();
-        put_orders(released, 0, orders);
-    }
-    cell.put(inner);
+    put_back(cell, inner, status, 0, orders, count);
     status
 }
 
@@ -140,19 +104,13 @@ pub extern "C" fn cellplan_cell_orders(
     ensures good { IsSome cell.old.slot.held → result ≡ 0 }
     ensures no_cell { (cell.old.slot.held ≡ None) ↔ (result ≡ 8) }
     ensures unchanged { cell.new.slot.held ≡ cell.old.slot.held }
-    ensures no_orders { result ≢ 0 → (count.new ≡ 0) × (orders.new ≡ orders.old) }
-    ensures count { Holding cell.old (λ old. count.new ≡ length old.orders) }
-    ensures orders { Holding cell.old (λ old. AreOrdersPut old.orders first orders.old orders.new) }
-    ensures kept { Holding cell.old (λ old. IsKeptBehind old.orders first orders.old orders.new) }
+    ensures orders { WritesOrders cell.new result first orders.old orders.new count.new }
 {
     *count = 0;
     let Some(inner) = cell.take(alloc) else {
         return NO_CELL;
     };
-    let released = inner.controller.orders();
-    *count = released.len();
-    put_orders(released, first, orders);
-    cell.put(inner);
+    put_back(cell, inner, GOOD, first, orders, count);
     GOOD
 }
 

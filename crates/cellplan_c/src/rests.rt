@@ -1,10 +1,9 @@
 //! What is answered of the rest of a cell's run, called from C.
 
-ghost use Rattle.std.specs.Prelude.{◌≡◌, ◌≢◌, ◌≤◌, ◌↔◌, None};
+ghost use Rattle.std.specs.Prelude.{◌≡◌, ◌≢◌, ◌≤◌, None};
 ghost use Rattle.command_answers.specs.declared.rests.PlanAnswer.TheVariants.{Verdict, Moments};
 ghost use Rattle.command_answers.specs.Rests.{job_asked};
-ghost use Rattle.cellplan_c.specs.Cells.{Holding};
-ghost use Rattle.cellplan_c.specs.RestsAsked.{IsRestAsked};
+ghost use Rattle.cellplan_c.specs.RestsAsked.{IsRestAsked, AsksRest};
 
 use crate::cell::Cell;
 use crate::hand_overs::hand_over_status;
@@ -24,19 +23,9 @@ pub extern "C" fn cellplan_cell_check(
     line: &mut [u8],
     length: &mut usize,
 ) -> u32
-    ensures asked { Holding cell.old (IsRestAsked Verdict at result line.old line.new length.new) }
-    ensures no_cell { (cell.old.slot.held ≡ None) ↔ (result ≡ 8) }
-    ensures unchanged { cell.new.slot.held ≡ cell.old.slot.held }
-    ensures unwritten { 8 ≤ result → (length.new ≡ 0) × (line.new ≡ line.old) }
+    ensures { AsksRest cell.old cell.new Verdict at result line.old line.new length.new }
 {
-    *length = 0;
-    let Some(inner) = cell.take(alloc) else {
-        return NO_CELL;
-    };
-    let wanted = PlanAnswer::Verdict;
-    let status = put_rest(alloc, &inner.controller, at, wanted, line, length);
-    cell.put(inner);
-    status
+    ask_rest(alloc, cell, at, PlanAnswer::Verdict, line, length)
 }
 
 /// When what is left of the cell's run begins and ends by its plan, from a moment on, as the command `schedule` answers
@@ -49,17 +38,28 @@ pub extern "C" fn cellplan_cell_schedule(
     text: &mut [u8],
     length: &mut usize,
 ) -> u32
-    ensures asked { Holding cell.old (IsRestAsked Moments at result text.old text.new length.new) }
-    ensures no_cell { (cell.old.slot.held ≡ None) ↔ (result ≡ 8) }
-    ensures unchanged { cell.new.slot.held ≡ cell.old.slot.held }
-    ensures unwritten { 8 ≤ result → (length.new ≡ 0) × (text.new ≡ text.old) }
+    ensures { AsksRest cell.old cell.new Moments at result text.old text.new length.new }
 {
-    *length = 0;
+    ask_rest(alloc, cell, at, PlanAnswer::Moments, text, length)
+}
+
+/// Answers what is asked of the rest of the cell's run.
+fn ask_rest(
+    alloc: Global,
+    cell: &mut Cell,
+    at: u64,
+    wanted: PlanAnswer,
+    room: &mut [u8],
+    needed: &mut usize,
+) -> u32
+    requires { job_asked wanted ≡ None }
+    ensures { AsksRest cell.old cell.new wanted at result room.old room.new needed.new }
+{
+    *needed = 0;
     let Some(inner) = cell.take(alloc) else {
         return NO_CELL;
     };
-    let wanted = PlanAnswer::Moments;
-    let status = put_rest(alloc, &inner.controller, at, wanted, text, length);
+    let status = put_rest(alloc, &inner.controller, at, wanted, room, needed);
     cell.put(inner);
     status
 }

@@ -1,18 +1,43 @@
 //! What is written into the caller's room.
 
-ghost use Rattle.std.specs.Prelude.{◌≡◌, ◌≢◌, ◌⊎◌, IfOk, IfErr, length};
+ghost use Rattle.std.specs.Prelude.{◌≡◌, ◌≢◌, ◌⊎◌, None, Some, IfOk, IfErr, length};
 ghost use Rattle.command_answers.specs.Statuses.{status_of};
 ghost use Rattle.cellplan_c.specs.Numbers.{answer_of};
 ghost use Rattle.cellplan_c.specs.Calls.{IsPut};
-ghost use Rattle.cellplan_c.specs.Cells.{AreOrdersPut, IsKeptBehind};
+ghost use Rattle.cellplan_c.specs.Cells.{AreOrdersPut, IsKeptBehind, WritesOrders};
 
+use crate::cell::Cell;
+use crate::inner::Inner;
 use crate::numbers::{Order, order_numbers};
 use crate::statuses::{GOOD, NO_ROOM, NONE};
 use cell_control::MoveOrder;
 use command_answers::{Answer, CommandFault};
 
+/// Puts a controller back into the cell, which holds none. At the status 0 its orders are written from a first one on, as
+/// many as there is room for, and the number of them all.
+pub fn put_back(
+    cell: &mut Cell,
+    inner: Box<Inner>,
+    status: u32,
+    first: usize,
+    orders: &mut [Order],
+    count: &mut usize,
+)
+    requires empty { cell.old.slot.held ≡ None }
+    requires none { count.old ≡ 0 }
+    ensures held { cell.new.slot.held ≡ Some inner.value }
+    ensures orders { WritesOrders cell.new status first orders.old orders.new count.new }
+{
+    if status == GOOD {
+        let released = inner.controller.orders();
+        *count = released.len();
+        put_orders(released, first, orders);
+    }
+    cell.put(inner);
+}
+
 /// Writes as many of the orders from a first one on as there is room for.
-pub fn put_orders(orders: &[MoveOrder], first: usize, room: &mut [Order])
+fn put_orders(orders: &[MoveOrder], first: usize, room: &mut [Order])
     ensures room { length room.new ≡ length room.old }
     ensures put { AreOrdersPut orders.now first room.old room.new }
     ensures kept { IsKeptBehind orders.now first room.old room.new }
