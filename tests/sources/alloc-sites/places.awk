@@ -182,9 +182,10 @@ function is_memory_number(word) {
   return word ~ /^(0*4|0x0*4|0o0*4|0b0*100)$/
 }
 
-# whether a sign or a word makes a number of another one
+# whether a sign or a word makes a number of another one; the bar behind a closure's parameters doesn't
 function computes(i, word) {
   if (word ~ /^[-+\/%^]$/) return 1
+  if (word == "|" && bars) return 0
   if (word ~ /^[*&|]$/) return !in_pattern() && !(word == "|" && (token[i - 1] == word || token[i + 1] == word)) && token[i - 1] ~ /^([A-Za-z_0-9]+|[)\]])$/ && token[i - 1] !~ /^(return|in|if|match|else|mut|move|let)$/
   if (word == "!") return token[i + 1] ~ /^[0-9(A-Z]/ && token[i - 1] !~ /^[a-z]/
   if (word ~ /^[<>]$/) return token[i + 1] == word
