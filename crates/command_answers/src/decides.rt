@@ -71,21 +71,29 @@ fn parsed_decided<T: Texts, C: Choose, W: Watch>(
 {
     match run.log {
         Some(_) => match with_orders(alloc, parsed)?.shaped() {
-            Ok(shaped) => {
-                let none = Vec::new(alloc);
-                fit_decided(
-                    alloc, texts, shaped, &none, run, aim, choices, chooser, watch,
-                )
-            }
+            Ok(shaped) => fit_decided(
+                alloc,
+                texts,
+                shaped,
+                Vec::new(alloc),
+                run,
+                aim,
+                choices,
+                chooser,
+                watch,
+            ),
             Err(fault) => Ok(unfit_answer(alloc, fault)?),
         },
         None => {
             let (serial, given) = serially_beside(alloc, parsed)?;
             match serial.shaped() {
                 Ok(shaped) => fit_decided(
-                    alloc, texts, shaped, &given, run, aim, choices, chooser, watch,
+                    alloc, texts, shaped, given, run, aim, choices, chooser, watch,
                 ),
-                Err(fault) => Ok(bad_numbers_answer(alloc, fault)?),
+                Err(fault) => {
+                    drop(given);
+                    Ok(bad_numbers_answer(alloc, fault)?)
+                }
             }
         }
     }
@@ -97,7 +105,7 @@ fn fit_decided<T: Texts, C: Choose, W: Watch>(
     alloc: Global,
     texts: &mut T,
     shaped: Shaped,
-    given: &[Vec<JobNo>],
+    given: Vec<Vec<JobNo>>,
     run: &RunFiles<'_>,
     aim: Aim,
     choices: u64,
@@ -109,10 +117,12 @@ fn fit_decided<T: Texts, C: Choose, W: Watch>(
 {
     if let Some(absent) = absent_job(&shaped, job_of(aim)) {
         drop(shaped);
+        drop(given);
         return Ok(no_job_answer(alloc, absent)?);
     }
     match run.log {
         Some(log) => {
+            drop(given);
             let (names, at) = (run.files.names, run.at);
             logged_decided(
                 alloc, texts, shaped, names, log, at, aim, choices, chooser, watch,
@@ -132,7 +142,7 @@ fn whole_decided<T: Texts, C: Choose, W: Watch>(
     alloc: Global,
     texts: &mut T,
     shaped: Shaped,
-    given: &[Vec<JobNo>],
+    given: Vec<Vec<JobNo>>,
     names: Option<&str>,
     aim: Aim,
     choices: u64,
@@ -152,6 +162,7 @@ fn whole_decided<T: Texts, C: Choose, W: Watch>(
         }
         Err(fault) => {
             drop(shaped);
+            drop(given);
             Err(fault)
         }
     }
@@ -162,7 +173,7 @@ fn shaped_decided<C: Choose, W: Watch>(
     alloc: Global,
     names: &Names,
     shaped: Shaped,
-    given: &[Vec<JobNo>],
+    given: Vec<Vec<JobNo>>,
     aim: Aim,
     choices: u64,
     chooser: &mut C,
@@ -171,8 +182,9 @@ fn shaped_decided<C: Choose, W: Watch>(
     requires { IsInRange (whole_case shaped) aim }
     ensures { IsDecisionAnswer names.now (whole_case shaped) aim result }
 {
-    let decided = decide(alloc, &shaped, given, aim, choices, chooser, watch);
+    let decided = decide(alloc, &shaped, &given, aim, choices, chooser, watch);
     drop(shaped);
+    drop(given);
     match decided {
         Ok(decided) => {
             let answer = decided_answer(alloc, names, &decided);
