@@ -25,7 +25,12 @@ pub extern "C" fn cellplan_cell_phase(
 ) -> u32
     ensures { Finds cell.old cell.new result phase.old phase.new (λ held. IsPhaseFound held job) }
 {
-    find(alloc, cell, phase, |held| held.phase(job).map(phase_numbers))
+    find(
+        alloc,
+        cell,
+        phase,
+        |held| held.phase(job).map(phase_numbers),
+    )
 }
 
 /// The job that is on the machine; `NONE` if there is none, or if the number is no machine's.
@@ -101,7 +106,12 @@ pub extern "C" fn cellplan_cell_cleaned_after_step(
         (λ held. IsCleanedForStep held.planned held.cell machine) }
 {
     let mut both = (*job, *step);
-    let status = find(alloc, cell, &mut both, |held| held.cleaned_after_step(machine));
+    let status = find(
+        alloc,
+        cell,
+        &mut both,
+        |held| held.cleaned_after_step(machine),
+    );
     (*job, *step) = both;
     status
 }

@@ -7,10 +7,10 @@ returns-clause-orders c =
     let after = c.put.ensures in
     elim c.if-status-eq-GOOD.branch [
       | then-status-eq-GOOD w ↦ record {
-          no_orders = λ bad. absurd (bad w.if-status-eq-GOOD.true);
-          count = rw after (λ good. rw (w.orders-released.ensures, w.deref.ensures) at w.count-is);
-          orders = rw after (λ good. rw w.orders-is (rw (w.orders-released.ensures, w.deref.ensures) at w.put_orders.ensures.put));
-          kept = rw after (λ good. rw w.orders-is (rw (w.orders-released.ensures, w.deref.ensures) at w.put_orders.ensures.kept));
-        }
+        no_orders = λ bad. absurd (bad w.if-status-eq-GOOD.true);
+        count = rw after (λ good. rw (w.orders-released.ensures, w.deref.ensures) at w.count-is);
+        orders = rw after (λ good. rw w.orders-is (rw (w.orders-released.ensures, w.deref.ensures) at w.put_orders.ensures.put));
+        kept = rw after (λ good. rw w.orders-is (rw (w.orders-released.ensures, w.deref.ensures) at w.put_orders.ensures.kept));
+      }
       | else-status-eq-GOOD w ↦ rw (w.count-is, w.orders-is, c.requires.none) (unwritten _ _ _ _ w.if-status-eq-GOOD.false)
     ]
