@@ -26,4 +26,9 @@ impl Known {
             size: FIRST_SIZE,
         }
     }
+
+    /// Whether a job is late in the best plan that the search has met, or it has met none.
+    pub fn is_late(&self) -> bool {
+        self.least.total > 0
+    }
 }

@@ -6,7 +6,10 @@ use crate::visits::{has_bit, set_bit, word_at};
 use shop_base::Moment;
 use std::alloc::{AllocError, Global};
 
-/// How many words may be written before they are taken back.
+/// How many words may be written for each node before they are taken back.
+const TRAIL_A_NODE: usize = 256;
+
+/// How many may be written at most.
 const TRAIL: usize = 0x4_0000;
 
 /// A word, and what it was.
@@ -15,6 +18,9 @@ struct Change {
     place: u32,
     word: u64,
 }
+
+/// The change of no word.
+const NO_CHANGE: Change = Change { place: 0, word: 0 };
 
 /// The words of all nodes: the earliest and the latest moment of each, the visits that are decided to be later than the
 /// one that ends there and sooner than the one that begins there, and the nodes after it and before it, itself too.
@@ -44,7 +50,7 @@ impl State {
             span,
             width,
             words: vec![in alloc; 0; nodes.wrapping_mul(row)]?,
-            trail: vec![in alloc; Change { place: 0, word: 0 }; TRAIL]?,
+            trail: vec![in alloc; NO_CHANGE; nodes.wrapping_mul(TRAIL_A_NODE).min(TRAIL)]?,
             height: 0,
             is_full: false,
         })

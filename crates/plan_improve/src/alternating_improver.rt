@@ -6,8 +6,9 @@ use plan_seek::Proposed;
 use shop_base::Shaped;
 use std::alloc::Global;
 
-/// Two searches by turns: an annealing in every fourth round (0, 4, ..), and a large neighbourhood search in the others.
-/// Where the shop is too large for that one, the annealing has all rounds. By its clause it may answer anything.
+/// Two searches by turns: an annealing in every fourth round (0, 4, ..) or, as long as a job is late, in every other one
+/// (0, 2, ..), and a large neighbourhood search in the others. Where the shop is too large for that one, the annealing
+/// has all rounds. By its clause it may answer anything.
 #[derive(Drop)]
 pub struct AlternatingImprover {
     annealing: AnnealingImprover,
@@ -31,8 +32,9 @@ impl Improver for AlternatingImprover {
         if !can_open(shaped) {
             return self.annealing.improve(alloc, shaped, rest, round);
         }
-        if round & 3 == 0 {
-            self.annealing.improve(alloc, shaped, rest, round / 4)
+        let turns = if self.opening.is_late() { 2 } else { 4 };
+        if round % turns == 0 {
+            self.annealing.improve(alloc, shaped, rest, round / turns)
         } else {
             self.opening.improve(alloc, shaped, rest, round)
         }

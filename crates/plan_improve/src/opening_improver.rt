@@ -23,6 +23,14 @@ impl OpeningImprover {
             known: RefCell::new(Known::new(alloc)),
         }
     }
+
+    /// Whether a job is late in the best plan that it has met, or it has met none.
+    pub(crate) fn is_late(&self) -> bool {
+        match self.known.try_borrow() {
+            Ok(known) => known.is_late(),
+            Err(_) => false,
+        }
+    }
 }
 
 impl Improver for OpeningImprover {
