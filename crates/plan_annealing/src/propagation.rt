@@ -372,7 +372,7 @@ impl Propagation {
     fn add_after(&mut self, visits: &Visits, node: u32) {
         let machine = visits.node(node).enters;
         let row = self.state.after(node);
-        self.work = self.work.wrapping_add(1);
+        self.work = self.work.wrapping_add(visits.words as u64 / 8 + 1);
         for word in 0..visits.words {
             let new = self
                 .state
@@ -391,7 +391,7 @@ impl Propagation {
     fn add_before(&mut self, visits: &Visits, node: u32) {
         let machine = visits.node(node).leaves;
         let row = self.state.before(node);
-        self.work = self.work.wrapping_add(1);
+        self.work = self.work.wrapping_add(visits.words as u64 / 8 + 1);
         for word in 0..visits.words {
             let new = self
                 .state

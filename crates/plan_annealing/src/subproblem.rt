@@ -6,7 +6,7 @@ use crate::standing::ORIGIN;
 use crate::visits::{Visits, number_at, number_of, take_bit};
 use shop_base::Moment;
 
-/// What it takes to begin, for each node.
+/// What it takes to begin, for each node, besides what its rows take.
 const BEGINNING: u64 = 10;
 
 impl Search {
@@ -26,7 +26,8 @@ impl Search {
         for node in order {
             self.reach_from_before(visits, *node);
         }
-        let work = (order.len() as u64).wrapping_mul(BEGINNING);
+        let node_work = BEGINNING.wrapping_add(visits.words as u64);
+        let work = (order.len() as u64).wrapping_mul(node_work);
         self.known.work = self.known.work.wrapping_add(work);
         let is_left = self.reach_back(visits, order, latest);
         self.known.state.commit();
@@ -110,7 +111,9 @@ impl Search {
                 let visit = number_of(word, take_bit(&mut left));
                 let exit = visits.exit(node.enters, visit);
                 early = early.max(state.early(exit).wrapping_add(clean));
-                state.join(state.before(exit), row);
+                if !state.has(row, exit) {
+                    state.join(state.before(exit), row);
+                }
             }
         }
         state.write(state.early_place(at), early);
@@ -138,7 +141,9 @@ impl Search {
                 let visit = number_of(word, take_bit(&mut left));
                 let entry = visits.entry(node.leaves, visit);
                 late = late.min(state.late(entry).wrapping_sub(clean));
-                state.join(state.after(entry), row);
+                if !state.has(row, entry) {
+                    state.join(state.after(entry), row);
+                }
             }
         }
         state.write(state.late_place(at), late);
