@@ -155,8 +155,7 @@ fn whole_decided<T: Texts, C: Choose, W: Watch>(
 {
     match names_of(alloc, texts, names, &shaped) {
         Ok(names) => {
-            let answer =
-                shaped_decided(alloc, &names, shaped, given, aim, choices, chooser, watch);
+            let answer = shaped_decided(alloc, &names, shaped, given, aim, choices, chooser, watch);
             drop(names);
             answer
         }
